@@ -1,0 +1,34 @@
+ghost use Rattle.std.specs.Prelude.{◌≡◌, IfOk};
+
+use crate::memory::NoMemory;
+use std::alloc::Global;
+use std::marker::Model;
+
+/// UTF-8 text that a contract sees as its bytes.
+#[derive(Debug, Drop)]
+pub struct Text {
+    inside: String,
+}
+
+impl Model for Text {
+    ghost use Rattle.std.specs.Prelude.{ℕ, List, string_bytes};
+
+    ghost Value = { List ℕ };
+
+    ghost view = { λ t. string_bytes t.inside };
+}
+
+impl Text {
+    pub fn of(alloc: Global, s: &str) -> Result<Text, NoMemory>
+        ensures { IfOk result (λ text. text ≡ s.now) }
+    {
+        let inside = String::from_str(alloc, s)?;
+        Ok(Text { inside })
+    }
+
+    pub fn bytes(&self) -> &[u8]
+        ensures { result.now ≡ self.now }
+    {
+        self.inside.as_bytes()
+    }
+}
