@@ -1,0 +1,5 @@
+pub mod Apply
+pub mod Change
+pub mod Image
+pub mod PageSize
+pub mod Steps
