@@ -1,2 +1,3 @@
 pub mod Applying
 pub mod Changes
+pub mod Tables

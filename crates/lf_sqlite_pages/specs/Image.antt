@@ -25,3 +25,7 @@ page_at image n = slice_get image.pages (n - 1)
 -- the bytes of the database: its pages, one after another
 abbrev pub image_bytes : DatabaseImage → List ℕ
 image_bytes image = concat image.pages
+
+-- two images are the same where their pages are; without pages the page size is of no account
+abbrev pub SameImage : DatabaseImage → DatabaseImage → Type 0
+SameImage one other = one.pages ≡ other.pages
