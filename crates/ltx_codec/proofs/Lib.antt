@@ -1,0 +1,5 @@
+pub mod HeaderLemmas
+pub mod BlockLemmas
+pub mod TextLemmas
+pub mod ReadLemmas
+pub mod DecodeLemmas
