@@ -14,7 +14,7 @@ use Rattle.ltx_codec.specs.HeaderRules.{IsThere}
 use Rattle.ltx_codec.specs.Block.{HasHeader, IsRead, IsNextNumber}
 use Rattle.ltx_codec.specs.Trailer.{HasTrailer}
 use Rattle.ltx_codec.specs.declared.file.Ltx.{Ltx}
-use Rattle.ltx_codec.proofs.TextLemmas.{four_spelled, eight_spelled}
+use Rattle.ltx_codec.proofs.TextLemmas.{four_spelled, eight_spelled, four_below, eight_below}
 
 -- the front of the bytes up to a field's end is the front before it and the field's text
 four_more : (at : ℕ) (bytes front : List ℕ) (n : ℕ) → AreBytes bytes → at + 4 ≤ length bytes → n ≡ four_at at bytes → take at bytes ≡ front
@@ -58,7 +58,21 @@ header_sound : (bytes : List ℕ) → HasHeader bytes → IsHeader (header_in by
 header_sound bytes h =
     let whole = h.whole in
     let there : (e : ℕ) → e ≤ 100 → IsThere bytes 103 e = λ (e : ℕ) (le : e ≤ 100). record { within = omega arith; there = omega arith } in
+    let fits = h.octets in
     record {
+      widths = record {
+        page_size = four_below 8 bytes fits;
+        commit = four_below 12 bytes fits;
+        min = eight_below 16 bytes fits;
+        max = eight_below 24 bytes fits;
+        stamp = eight_below 32 bytes fits;
+        pre = eight_below 40 bytes fits;
+        wal_offset = eight_below 48 bytes fits;
+        wal_size = eight_below 56 bytes fits;
+        wal_salt1 = four_below 64 bytes fits;
+        wal_salt2 = four_below 68 bytes fits;
+        node = eight_below 72 bytes fits;
+      };
       page_size = h.fields.page_size (there 12 (omega arith));
       commit = h.fields.commit (there 16 (omega arith));
       min = h.fields.min (there 24 (omega arith));
@@ -113,6 +127,7 @@ module _ (bytes : List ℕ) (change : PageChange) (sum : ℕ) (read : IsRead byt
 
   sum_sound : IsPostSum (header_in bytes) change sum
   sum_sound = record {
+    width = rw trailer.sum_is (eight_below (number_place bytes (length change.pages) + 4) bytes read.header.octets);
     flagged = elim (cases_lt sum (2 ^ 63)) [ inl low ↦ absurd (trailer.right (inl low)) | inr high ↦ high ];
     empty = λ none. elim (cases_eq sum (2 ^ 63)) [ inl same ↦ same | inr other ↦ absurd (trailer.right (inr (inl (none, other)))) ];
     snapshot = λ snapshot.

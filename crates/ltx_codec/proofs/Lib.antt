@@ -3,3 +3,4 @@ pub mod BlockLemmas
 pub mod TextLemmas
 pub mod ReadLemmas
 pub mod DecodeLemmas
+pub mod LawLemmas

@@ -1,5 +1,5 @@
 -- Bytes that were read are the text of what they say.
-use Rattle.std.proofs.Common.{◌≡◌, ◌≢◌, ℕ, ◌+◌, ◌≤◌, List, [], ◌∷◌, ◌++◌, length, take, drop, map, arith, refl, sym, ap, inl, inr, ◌∙◌, add-one, append_assoc}
+use Rattle.std.proofs.Common.{◌<◌, ◌^◌, ◌≡◌, ◌≢◌, ℕ, ◌+◌, ◌≤◌, List, [], ◌∷◌, ◌++◌, length, take, drop, map, arith, refl, sym, ap, inl, inr, ◌∙◌, add-one, append_assoc}
 use Rattle.std.specs.List.{range_with_len}
 use Rattle.std.specs.Int.{w32, w64, to_be_bytes}
 use Rattle.std.proofs.lemmas.Bool.{cases_lt}
@@ -40,6 +40,19 @@ eight_spelled place bytes fits room =
     be_bytes_8 (take 8 (drop place bytes)) (eight_at place bytes)
     (omega (arith, length-take 8 (drop place bytes), length-drop place bytes))
     (AreBytes-take 8 (drop place bytes) (AreBytes-drop place bytes fits)) refl
+
+-- a number of four or eight bytes has that width
+pub four_below : (place : ℕ) (bytes : List ℕ) → AreBytes bytes → four_at place bytes < 2 ^ 32
+unfolding four_at
+four_below place bytes fits =
+    let few = AreBytes-take 4 (drop place bytes) (AreBytes-drop place bytes fits) in
+    omega (arith, few 0, few 1, few 2, few 3)
+
+pub eight_below : (place : ℕ) (bytes : List ℕ) → AreBytes bytes → eight_at place bytes < 2 ^ 64
+unfolding eight_at
+eight_below place bytes fits =
+    let few = AreBytes-take 8 (drop place bytes) (AreBytes-drop place bytes fits) in
+    omega (arith, few 0, few 1, few 2, few 3, few 4, few 5, few 6, few 7)
 
 -- the text of one more page
 pages_text-push : (ws : List PageWrite) (w : PageWrite) → pages_text (ws ++ w ∷ []) ≡ pages_text ws ++ (to_be_bytes w32 w.number ++ w.bytes)

@@ -1,6 +1,6 @@
 -- The LTX file (LTX1, uncompressed): a value, its rules, and its text. The text is a header of 100 bytes, the
 -- page block and a trailer of 16 bytes; all numbers are big-endian.
-use Rattle.std.specs.Prelude.{◌≡◌, ◌≢◌, ℕ, ◌*◌, ◌^◌, ◌≤◌, List, [], ◌∷◌, ◌++◌, length, map, codes}
+use Rattle.std.specs.Prelude.{◌≡◌, ◌≢◌, ℕ, ◌*◌, ◌^◌, ◌<◌, ◌≤◌, List, [], ◌∷◌, ◌++◌, length, map, codes}
 use Rattle.std.specs.List.{range_with_len}
 use Rattle.std.specs.Int.{w32, w64, to_be_bytes}
 use Rattle.page_checksum.specs.Crc.{crc}
@@ -23,8 +23,23 @@ IsDatabaseSize page_size commit = commit * page_size ≤ 1073741824
 abbrev pub IsFlagged : ℕ → Type 0
 IsFlagged sum = 2 ^ 63 ≤ sum
 
+-- each field of the header is a number of its width
+pub record FitsWidths (header : Header) : Type 0 where
+  pub page_size : header.page_size < 2 ^ 32
+  pub commit : header.commit < 2 ^ 32
+  pub min : header.min < 2 ^ 64
+  pub max : header.max < 2 ^ 64
+  pub stamp : header.stamp < 2 ^ 64
+  pub pre : header.pre < 2 ^ 64
+  pub wal_offset : header.wal_offset < 2 ^ 64
+  pub wal_size : header.wal_size < 2 ^ 64
+  pub wal_salt1 : header.wal_salt1 < 2 ^ 32
+  pub wal_salt2 : header.wal_salt2 < 2 ^ 32
+  pub node : header.node < 2 ^ 64
+
 -- the rules of a header's fields; a file whose minimum TXID is 1 is a snapshot
 pub record IsHeader (header : Header) : Type 0 where
+  pub widths : FitsWidths header
   pub page_size : IsPageSize header.page_size
   pub commit : IsDatabaseSize header.page_size header.commit
   pub min : 1 ≤ header.min
@@ -41,6 +56,7 @@ pub record IsBlock (header : Header) (change : PageChange) : Type 0 where
 
 -- the rules of the sum of the pages after the transaction; a snapshot's is that of its pages
 pub record IsPostSum (header : Header) (change : PageChange) (post : ℕ) : Type 0 where
+  pub width : post < 2 ^ 64
   pub flagged : IsFlagged post
   pub empty : header.commit ≡ 0 → post ≡ 2 ^ 63
   pub snapshot : header.min ≡ 1 → post ≡ database_sum (map (λ w. w.bytes) change.pages)
