@@ -1,0 +1,4 @@
+pub mod Steps
+pub mod ScanLemmas
+pub mod CommitLemmas
+pub mod AgreeLemmas

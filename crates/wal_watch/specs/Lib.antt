@@ -1,0 +1,5 @@
+pub mod Words
+pub mod Sums
+pub mod Frames
+pub mod Scanning
+pub mod News

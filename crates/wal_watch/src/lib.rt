@@ -1,0 +1,11 @@
+//! The write-ahead log of a SQLite database, watched from its bytes: which frames are committed,
+//! and what a write commits.
+//!
+//! `Frames` in the specifications says what a valid frame is. Nothing here knows a lock, a page of
+//! the database file or an index of the log.
+#![tactic(auto)]
+
+mod header;
+mod numbers;
+mod scan;
+mod sums;
