@@ -7,7 +7,7 @@ use Rattle.wal_watch.specs.Words.{four_at, little_four_at, word_at}
 use Rattle.wal_watch.specs.Sums.{with_pair, with_pairs, stand_at, no_sums}
 use Rattle.wal_watch.specs.Frames.{is_header, is_little, header_sums, page_size_in, frame_place, frame_sums, sums_after, is_head, is_frame, is_frame_at, are_valid, is_commit, commits_among, committed_count, committed_end, size_in, page_in}
 use Rattle.wal_watch.specs.declared.sums.Sums.{Sums}
-use Rattle.wal_watch.proofs.Steps.{valid_more, valid_none, commits_more, commits_none, sums_more, sums_none, with_pairs_none, with_pairs_more, HasHeader, header_facts}
+use Rattle.wal_watch.proofs.Steps.{valid_more, valid_none, commits_more, commits_none, sums_more, sums_none, with_pairs_none, with_pairs_more}
 use Rattle.wal_watch.proofs.ScanLemmas.{next_place}
 
 -- places further on

@@ -2,7 +2,8 @@
 use Rattle.std.proofs.Common.{◌≡◌, ℕ, zero, suc, ◌+◌, ◌-◌, ◌*◌, ◌≤◌, ◌<◌, Bool, true, false, ◌&&◌, ◌⊎◌, List, length, refl, sym, ap, subst, ◌∙◌, inl, inr, add-one, arith}
 use Rattle.std.proofs.lemmas.Bool.{and_parts, leb-true, cases_lt, cases_eq, cond-true, cond-false, cases_Bool, not_from_true, eq-eqb}
 use Rattle.wal_watch.specs.Frames.{is_header, page_size_in, frame_place, sums_after, is_frame, is_frame_at, are_valid, is_commit, commits_among, committed_count, size_in}
-use Rattle.wal_watch.proofs.Steps.{valid_more, valid_none, commits_more, commits_none, HasHeader, header_facts}
+use Rattle.wal_watch.proofs.Steps.{valid_more, valid_none, commits_more, commits_none, header_facts}
+use Rattle.wal_watch.specs.Scanning.{HasHeader, HasCommitted}
 use Rattle.wal_watch.proofs.ScanLemmas.{next_place, frames_fit}
 
 -- frame k commits, among the first n
@@ -79,15 +80,7 @@ commit_facts text k h =
       | inr some ↦ omega arith
     ] }
 
--- committed frames: valid ones that end with a commit
-pub record HasCommitted (text : List ℕ) (count : ℕ) : Type 0 where
-  pub some : 0 < count
-  pub valid : are_valid text count ≡ true
-  pub commit : is_commit text (count - 1) ≡ true
-  pub header : HasHeader text
-  pub room : frame_place text count ≤ length text
-  pub size : 0 < size_in text (count - 1)
-
+-- committed frames end with a commit
 pub has_committed : (text : List ℕ) (count : ℕ) → count ≡ committed_count text → 0 < count → HasCommitted text count
 unfolding committed_count
 has_committed text count is some = elim (last_commit text (length text)) [

@@ -2,3 +2,4 @@ pub mod Steps
 pub mod ScanLemmas
 pub mod CommitLemmas
 pub mod AgreeLemmas
+pub mod ChangeLemmas

@@ -5,6 +5,7 @@ use Rattle.lf_sqlite_pages.specs.PageSize.{is_page_size}
 use Rattle.wal_watch.specs.Words.{four_at, word_at}
 use Rattle.wal_watch.specs.Sums.{with_pair, with_pairs}
 use Rattle.wal_watch.specs.Frames.{is_header, page_size_in, frame_place, frame_sums, header_sums, sums_after, is_frame, are_valid, is_commit, commits_among}
+use Rattle.wal_watch.specs.Scanning.{HasHeader}
 use Rattle.wal_watch.specs.declared.sums.Sums.{Sums}
 
 pub with_pairs_none : (little : Bool) (s : Sums) (place : ℕ) (text : List ℕ) → with_pairs little s place text 0 ≡ s
@@ -29,10 +30,6 @@ unfolding commits_among
 commits_more text k = ap (λ (m : ℕ). commits_among text m) (add-one k)
 
 -- what a valid header has
-pub record HasHeader (text : List ℕ) : Type 0 where
-  pub room : 32 ≤ length text
-  pub page_size : is_page_size (page_size_in text) ≡ true
-
 pub header_facts : (text : List ℕ) → is_header text ≡ true → HasHeader text
 unfolding is_header
 header_facts text h =

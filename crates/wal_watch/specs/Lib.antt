@@ -3,3 +3,4 @@ pub mod Sums
 pub mod Frames
 pub mod Scanning
 pub mod News
+pub mod Searching

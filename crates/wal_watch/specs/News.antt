@@ -1,9 +1,11 @@
 -- What a write commits: the frames that only the later text commits.
-use Rattle.std.specs.Prelude.{ℕ, suc, zero, ◌+◌, ◌-◌, Bool, ◌&&◌, ◌==◌, nat_le, nat_lt, Option, Some, None, List, [], ◌∷◌, ◌++◌, take, if◌then◌else◌, option_to_list}
+use Rattle.std.specs.Prelude.{◌≡◌, ◌<◌, ℕ, suc, zero, ◌+◌, ◌-◌, Bool, ◌&&◌, ◌==◌, nat_le, nat_lt, Option, Some, None, List, [], ◌∷◌, ◌++◌, take, if◌then◌else◌, option_to_list}
 use Rattle.std.specs.Option.{option_map}
 use Rattle.std.specs.Str.{bytes_eq}
 use Rattle.lf_sqlite_pages.specs.Change.{PageChange}
 use Rattle.lf_sqlite_pages.specs.declared.page_write.PageWrite.{PageWrite}
+use Rattle.wal_watch.specs.declared.news.WalNews.{WalNews}
+use Rattle.wal_watch.specs.declared.news.WalNews.TheVariants.{Stored, Committed}
 use Rattle.wal_watch.specs.Frames.{number_in, size_in, page_in, page_size_in, committed_count}
 
 -- the latest of the frames from first on, among the first n, that holds this page
@@ -37,3 +39,22 @@ change_from first new = if nat_lt first (committed_count new) then Some (change_
 
 abbrev pub change_between : List ℕ → List ℕ → Option PageChange
 change_between old new = change_from (first_new old new) new
+
+-- what a write tells of the change
+abbrev pub news_change : WalNews → Option PageChange
+news_change Stored = None
+news_change (Committed change) = Some change
+
+-- frame k, one of the first ones, holds this page with these bytes
+pub record HoldsAt (text : List ℕ) (count page : ℕ) (bytes : List ℕ) (k : ℕ) : Type 0 where
+  pub among : k < count
+  pub number : number_in text k ≡ page
+  pub same : page_in text k ≡ bytes
+
+-- a committed frame holds this page with these bytes
+abbrev pub HoldsFrame : List ℕ → ℕ → List ℕ → Type 0
+HoldsFrame text page bytes = (k : ℕ) × HoldsAt text (committed_count text) page bytes k
+
+-- the bytes of the latest committed frame of a page
+abbrev pub latest_page : List ℕ → ℕ → Option (List ℕ)
+latest_page text page = option_map (page_in text) (latest_frame text page 0 (committed_count text))

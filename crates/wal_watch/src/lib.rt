@@ -5,7 +5,10 @@
 //! the database file or an index of the log.
 #![tactic(auto)]
 
+mod change;
+mod frames;
 mod header;
+mod news;
 mod numbers;
 mod scan;
 mod sums;
