@@ -3,3 +3,4 @@ pub mod ScanLemmas
 pub mod CommitLemmas
 pub mod AgreeLemmas
 pub mod ChangeLemmas
+pub mod TextLemmas

@@ -4,3 +4,5 @@ pub mod Frames
 pub mod Scanning
 pub mod News
 pub mod Searching
+pub mod File
+pub mod Refusals

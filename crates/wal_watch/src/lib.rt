@@ -9,6 +9,8 @@ mod change;
 mod frames;
 mod header;
 mod news;
+mod fault;
 mod numbers;
 mod scan;
 mod sums;
+mod text;
