@@ -4,3 +4,4 @@ pub mod CommitLemmas
 pub mod AgreeLemmas
 pub mod ChangeLemmas
 pub mod TextLemmas
+pub mod CheckLemmas

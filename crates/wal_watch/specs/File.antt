@@ -1,5 +1,5 @@
 -- A write-ahead log as a file: its bytes, and what may be done without memory.
-use Rattle.std.specs.Prelude.{ℕ, ◌+◌, ◌-◌, ◌≤◌, Option, Some, None, List, [], ◌++◌, length, take, drop, replicate, max, unwrap_or, if◌then◌else◌}
+use Rattle.std.specs.Prelude.{◌≡◌, ℕ, ◌+◌, ◌-◌, ◌≤◌, Option, Some, None, List, [], ◌++◌, length, take, drop, replicate, max, unwrap_or, if◌then◌else◌}
 
 -- the bytes if the file is there, the bytes before the last write while nothing came between, up to which length the
 -- bytes may grow without memory, and how many bytes a write may displace without memory
@@ -45,3 +45,9 @@ undone wal = record wal { text = wal.before; before = None }
 -- the file with these bytes, or with none, and nothing to undo
 abbrev pub with_text : Wal → Option (List ℕ) → Wal
 with_text wal text = record wal { text = text; before = None }
+
+-- the bytes are as before, and no room is lost
+pub record IsUnchanged (old new : Wal) : Type 0 where
+  pub text : new.text ≡ old.text
+  pub room : old.room ≤ new.room
+  pub spare : old.spare ≤ new.spare

@@ -6,3 +6,4 @@ pub mod News
 pub mod Searching
 pub mod File
 pub mod Refusals
+pub mod FileParts

@@ -1,6 +1,6 @@
 //! The frames of a write-ahead log, counted from 0 (SQLite file format, section 4.1).
 ghost use Rattle.std.specs.Prelude.{◌≡◌, ◌+◌, ◌≤◌, length, IsTrue, ◌↔◌};
-ghost use Rattle.wal_watch.specs.Frames.{frame_place, number_in, size_in, page_in, page_size_in, committed_count};
+ghost use Rattle.wal_watch.specs.Frames.{frame_place, number_in, size_in, page_in, page_size_in, committed_count, committed_end};
 ghost use Rattle.wal_watch.specs.News.{latest_frame, HoldsFrame};
 
 use crate::header::HEADER_LENGTH;
@@ -53,4 +53,14 @@ pub fn latest_frame(text: &[u8], page: u32, count: usize) -> Option<usize>
         }
     }
     latest
+}
+
+#[tactic(auto, using(crate::proofs::CommitLemmas::has_committed))]
+/// The byte after the first `count` frames, which are the committed ones; 0 where there are none.
+pub fn end_of(text: &[u8], count: usize) -> usize
+    requires { count ≡ committed_count text.now }
+    ensures end { result ≡ committed_end text.now }
+    ensures there { result ≤ length text.now }
+{
+    if count == 0 { 0 } else { place_of(text, count) }
 }

@@ -6,6 +6,8 @@
 #![tactic(auto)]
 
 mod change;
+mod check;
+mod file;
 mod frames;
 mod header;
 mod news;
@@ -14,3 +16,8 @@ mod numbers;
 mod scan;
 mod sums;
 mod text;
+mod writing;
+
+pub use fault::WalFault;
+pub use file::WalFile;
+pub use news::WalNews;
