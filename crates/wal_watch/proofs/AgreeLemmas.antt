@@ -2,17 +2,14 @@
 use Rattle.std.proofs.Common.{◌≡◌, ℕ, zero, suc, ◌+◌, ◌-◌, ◌*◌, ◌/◌, ◌≤◌, ◌<◌, Bool, true, false, ◌&&◌, List, length, take, drop, refl, sym, ap, subst, ◌∙◌, inl, inr, add-one, arith}
 use Rattle.std.proofs.lemmas.Bool.{cases_lt, cases_eq, le-leb}
 use Rattle.std.proofs.lemmas.List.{take-take, drop-take, length-take}
-use Rattle.std.proofs.Math.Nat.{mul-le-mul_right}
+use Rattle.std.proofs.lemmas.Bool.{cond-true, cond-false, eq-eqb, ne_eqb}
 use Rattle.wal_watch.specs.Words.{four_at, little_four_at, word_at}
 use Rattle.wal_watch.specs.Sums.{with_pair, with_pairs, stand_at, no_sums}
 use Rattle.wal_watch.specs.Frames.{is_header, is_little, header_sums, page_size_in, frame_place, frame_sums, sums_after, is_head, is_frame, is_frame_at, are_valid, is_commit, commits_among, committed_count, committed_end, size_in, page_in}
 use Rattle.wal_watch.specs.declared.sums.Sums.{Sums}
 use Rattle.wal_watch.proofs.Steps.{valid_more, valid_none, commits_more, commits_none, sums_more, sums_none, with_pairs_none, with_pairs_more}
 use Rattle.wal_watch.proofs.ScanLemmas.{next_place}
-
--- places further on
-pub place_up : (text : List ℕ) (j k : ℕ) → j ≤ k → frame_place text j ≤ frame_place text k
-place_up text j k le = let more : j * (24 + page_size_in text) ≤ k * (24 + page_size_in text) = mul-le-mul_right (24 + page_size_in text) le in omega (arith, more)
+use Rattle.wal_watch.proofs.CommitLemmas.{place_up, last_commit, has_committed, commit_facts, valid_room, commit_committed, frame_there}
 
 module _ (a b : List ℕ) (p : ℕ) (same : take p a ≡ take p b) where
   -- the same bytes
@@ -113,3 +110,18 @@ module _ (a b : List ℕ) (p : ℕ) (same : take p a ≡ take p b) where
       pub same_commit : (k : ℕ) → frame_place a (k + 1) ≤ p → is_commit a k ≡ is_commit b k
       unfolding is_commit
       same_commit k le = rw (same_valid (k + 1) le, same_sized k le) refl
+
+-- a text that another begins with has no more committed frames
+pub front_counts : (a b : List ℕ) (p : ℕ) → take p a ≡ take p b → length a ≡ p → p ≤ length b → committed_count a ≤ committed_count b
+front_counts a b p same all room = elim (cases_eq (committed_count a) 0) [
+  | inl none ↦ omega arith
+  | inr some ↦
+      let count = committed_count a in
+      let here = has_committed a count refl (omega arith) in
+      let back : count - 1 + 1 ≡ count = omega (arith, here.some) in
+      let fits : frame_place a (count - 1 + 1) ≤ p = rw (back, ← all) here.room in
+      let head : 32 ≤ p = omega (arith, here.header.room) in
+      let on : is_commit b (count - 1) ≡ true = sym (same_commit a b p same head (omega arith) room (count - 1) fits) ∙ here.commit in
+      omega (arith, commit_committed b (count - 1) on)
+]
+

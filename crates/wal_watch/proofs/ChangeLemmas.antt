@@ -1,10 +1,12 @@
 -- The latest frames of the pages, found one after another.
 use Rattle.std.proofs.Common.{◌≡◌, ℕ, zero, suc, ◌+◌, ◌-◌, ◌*◌, ◌≤◌, ◌<◌, Bool, true, false, ◌&&◌, ◌==◌, ◌⊎◌, Option, Some, None, List, [], ◌∷◌, ◌++◌, length, refl, sym, ap, subst, ◌∙◌, inl, inr, add-one, arith, if◌then◌else◌, nat_le}
-use Rattle.std.proofs.lemmas.Bool.{cases_lt, cases_eq, cond-true, cond-false, le-leb, lt-leb, eq-eqb, ne_eqb, and_from, and_left, and_right}
+use Rattle.std.proofs.lemmas.Bool.{cases_lt, cases_eq, cond-true, cond-false, le-leb, lt-leb, eq-eqb, ne_eqb, and_from, and_left, and_right, cases_Bool}
 use Rattle.std.proofs.lemmas.List.{append-nil}
 use Rattle.lf_sqlite_pages.specs.Change.{PageChange}
 use Rattle.lf_sqlite_pages.specs.declared.page_write.PageWrite.{PageWrite}
-use Rattle.wal_watch.specs.Frames.{number_in, page_in}
+use Rattle.std.specs.Option.{IfSome}
+use Rattle.wal_watch.specs.Frames.{number_in, page_in, frame_place, committed_count}
+use Rattle.wal_watch.proofs.CommitLemmas.{frame_there}
 use Rattle.wal_watch.specs.News.{latest_frame, latest_pages, write_in}
 use Rattle.wal_watch.specs.Searching.{HoldsNone, IsLeast, IsNext, limit_of}
 use Rattle.wal_watch.specs.declared.change.Found.{Found}
@@ -125,3 +127,18 @@ same_change change page_size commit pages size-is commit-is pages-is =
     ap (λ (n : ℕ). record { page_size = n; commit = change.commit; pages = change.pages }) size-is
     ∙ ap (λ (n : ℕ). record { page_size = page_size; commit = n; pages = change.pages }) commit-is
     ∙ ap (λ (ws : List PageWrite). record { page_size = page_size; commit = commit; pages = ws }) pages-is
+
+-- the latest frame is one of them
+pub latest_among : (text : List ℕ) (page first n k : ℕ) → latest_frame text page first n ≡ Some k → k < n
+unfolding latest_frame
+latest_among text page first zero k is = absurd cc
+latest_among text page first (suc n) k is = elim (cases_Bool (nat_le first n && (number_in text n == page))) [
+  | inl here ↦ let same : Some n ≡ Some k = sym (cond-true _ _ _ here) ∙ is in let at_k : n ≡ k = cc in omega (arith, at_k, add-one n)
+  | inr other ↦ omega (arith, latest_among text page first n k (sym (cond-false _ _ _ other) ∙ is), add-one n)
+]
+
+-- so it is there
+pub latest_there : (text : List ℕ) (page count n : ℕ) (frame : Option ℕ) → count ≡ committed_count text → n ≤ count → frame ≡ latest_frame text page 0 n
+    → IfSome frame (λ k. frame_place text (k + 1) ≤ length text)
+latest_there text page count n None is le latest = tt
+latest_there text page count n (Some k) is le latest = frame_there text count k is (omega (arith, le, latest_among text page 0 n k (sym latest)))

@@ -1,6 +1,7 @@
 -- What the committed frames of a text are.
 use Rattle.std.proofs.Common.{◌≡◌, ℕ, zero, suc, ◌+◌, ◌-◌, ◌*◌, ◌≤◌, ◌<◌, Bool, true, false, ◌&&◌, ◌⊎◌, List, length, refl, sym, ap, subst, ◌∙◌, inl, inr, add-one, arith}
 use Rattle.std.proofs.lemmas.Bool.{and_parts, leb-true, cases_lt, cases_eq, cond-true, cond-false, cases_Bool, not_from_true, eq-eqb}
+use Rattle.std.proofs.Math.Nat.{mul-le-mul_right}
 use Rattle.wal_watch.specs.Frames.{is_header, page_size_in, frame_place, sums_after, is_frame, is_frame_at, are_valid, is_commit, commits_among, committed_count, size_in}
 use Rattle.wal_watch.proofs.Steps.{valid_more, valid_none, commits_more, commits_none, header_facts}
 use Rattle.wal_watch.specs.Scanning.{HasHeader, HasCommitted}
@@ -108,3 +109,13 @@ commit_committed text k on =
     let facts = commit_facts text k on in
     let room = valid_room text (k + 1) facts.valid in
     commit_counts text k (length text) on (omega (arith, frames_fit text (k + 1) room))
+
+-- places further on
+pub place_up : (text : List ℕ) (j k : ℕ) → j ≤ k → frame_place text j ≤ frame_place text k
+place_up text j k le = let more : j * (24 + page_size_in text) ≤ k * (24 + page_size_in text) = mul-le-mul_right (24 + page_size_in text) le in omega (arith, more)
+
+-- each committed frame is there
+pub frame_there : (text : List ℕ) (count k : ℕ) → count ≡ committed_count text → k < count → frame_place text (k + 1) ≤ length text
+frame_there text count k is less =
+    let some = has_committed text count is (omega arith) in
+    omega (arith, place_up text (k + 1) count (omega arith), some.room)

@@ -5,3 +5,5 @@ pub mod AgreeLemmas
 pub mod ChangeLemmas
 pub mod TextLemmas
 pub mod CheckLemmas
+pub mod CutLemmas
+pub mod LawLemmas

@@ -4,7 +4,7 @@ use Rattle.std.proofs.lemmas.Bool.{cases_lt}
 use Rattle.std.proofs.lemmas.List.{length-take, length-drop, length-append, length-replicate, get_or_append_left, get_or-append_right, get_or-take, get_or-drop, get_or_past, get_or-replicate, ext_get_or, take-append-le, take-take, take-append-drop, drop_min, drop-drop, take_all}
 use Rattle.wal_watch.specs.File.{resized, written}
 
-length-resized : (len : ℕ) (text : List ℕ) → length (resized len text) ≡ len
+pub length-resized : (len : ℕ) (text : List ℕ) → length (resized len text) ≡ len
 length-resized len text = omega (arith, length-append (take len text) (replicate (len - length text) 0), length-take len text, length-replicate {A = ℕ} (len - length text) 0)
 
 get_or-zeros : (n i : ℕ) → ◌≡◌ {A = ℕ} (get_or (replicate n 0) i 0) 0

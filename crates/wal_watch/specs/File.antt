@@ -51,3 +51,10 @@ pub record IsUnchanged (old new : Wal) : Type 0 where
   pub text : new.text ≡ old.text
   pub room : old.room ≤ new.room
   pub spare : old.spare ≤ new.spare
+
+-- the file was cut to a length or filled up to it, and no room is lost
+pub record IsCut (old : Wal) (len : ℕ) (new : Wal) : Type 0 where
+  pub text : new.text ≡ Some (resized len (text_of old))
+  pub before : new.before ≡ None
+  pub room : old.room ≤ new.room
+  pub spare : old.spare ≤ new.spare

@@ -58,3 +58,12 @@ HoldsFrame text page bytes = (k : ℕ) × HoldsAt text (committed_count text) pa
 -- the bytes of the latest committed frame of a page
 abbrev pub latest_page : List ℕ → ℕ → Option (List ℕ)
 latest_page text page = option_map (page_in text) (latest_frame text page 0 (committed_count text))
+
+-- each committed frame of a text is that frame of another too
+pub record IsSameFrame (old new : List ℕ) (k : ℕ) : Type 0 where
+  pub number : number_in new k ≡ number_in old k
+  pub size : size_in new k ≡ size_in old k
+  pub page : page_in new k ≡ page_in old k
+
+abbrev pub HasSameFrames : List ℕ → List ℕ → Type 0
+HasSameFrames old new = (k : ℕ) → k < committed_count old → IsSameFrame old new k

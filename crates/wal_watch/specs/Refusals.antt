@@ -53,3 +53,9 @@ IsCutFault old len TooLong = wal_limit < len
 IsCutFault old len Header = ⊥
 IsCutFault old len Part = (len ≤ wal_limit) × CutsCommitted old len
 IsCutFault old len NoMemory = (len ≤ wal_limit) × (length old < len)
+
+-- why a file isn't made longer: zeros would complete a transaction, or memory ran out
+abbrev pub IsGrowthFault : List ℕ → ℕ → WalFault → Type 0
+IsGrowthFault old len Part = committed_count old < committed_count (resized len old)
+IsGrowthFault old len NoMemory = length old < len
+IsGrowthFault old len _ = ⊥

@@ -1,5 +1,5 @@
 //! The frames of a write-ahead log, counted from 0 (SQLite file format, section 4.1).
-ghost use Rattle.std.specs.Prelude.{◌≡◌, ◌+◌, ◌≤◌, length, IsTrue, ◌↔◌};
+ghost use Rattle.std.specs.Prelude.{◌≡◌, ◌+◌, ◌≤◌, length, IfSome, IsTrue, ◌↔◌};
 ghost use Rattle.wal_watch.specs.Frames.{frame_place, number_in, size_in, page_in, page_size_in, committed_count, committed_end};
 ghost use Rattle.wal_watch.specs.News.{latest_frame, HoldsFrame};
 
@@ -41,10 +41,11 @@ pub fn page_in(text: &[u8], frame: usize) -> &[u8]
     page
 }
 
-/// The latest of the first `count` frames that holds a page.
+/// The latest of the first `count` frames, the committed ones, that holds a page.
 pub fn latest_frame(text: &[u8], page: u32, count: usize) -> Option<usize>
-    requires { frame_place text.now count ≤ length text.now }
-    ensures { result ≡ latest_frame text.now page 0 count }
+    requires { count ≡ committed_count text.now }
+    ensures latest { result ≡ latest_frame text.now page 0 count }
+    ensures there { IfSome result (λ frame. frame_place text.now (frame + 1) ≤ length text.now) }
 {
     let mut latest = None;
     for frame in 0..count {
@@ -55,7 +56,6 @@ pub fn latest_frame(text: &[u8], page: u32, count: usize) -> Option<usize>
     latest
 }
 
-#[tactic(auto, using(crate::proofs::CommitLemmas::has_committed))]
 /// The byte after the first `count` frames, which are the committed ones; 0 where there are none.
 pub fn end_of(text: &[u8], count: usize) -> usize
     requires { count ≡ committed_count text.now }
@@ -63,4 +63,17 @@ pub fn end_of(text: &[u8], count: usize) -> usize
     ensures there { result ≤ length text.now }
 {
     if count == 0 { 0 } else { place_of(text, count) }
+}
+
+/// Whether one of the first `count` frames, the committed ones, holds a page with these bytes.
+pub fn holds_frame(text: &[u8], count: usize, number: u32, page: &[u8]) -> bool
+    requires { count ≡ committed_count text.now }
+    ensures { IsTrue result ↔ (HoldsFrame text.now number page.now) }
+{
+    for frame in 0..count {
+        if number_in(text, frame) == number && page_in(text, frame) == page {
+            return true;
+        }
+    }
+    false
 }

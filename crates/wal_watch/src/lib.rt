@@ -10,9 +10,12 @@ mod check;
 mod file;
 mod frames;
 mod header;
+mod laws;
 mod news;
+mod cutting;
 mod fault;
 mod numbers;
+mod reading;
 mod scan;
 mod sums;
 mod text;
@@ -20,4 +23,5 @@ mod writing;
 
 pub use fault::WalFault;
 pub use file::WalFile;
+pub use laws::keep_committed_frames;
 pub use news::WalNews;
