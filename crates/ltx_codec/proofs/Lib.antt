@@ -4,3 +4,4 @@ pub mod TextLemmas
 pub mod ReadLemmas
 pub mod DecodeLemmas
 pub mod LawLemmas
+pub mod SoundLemmas
