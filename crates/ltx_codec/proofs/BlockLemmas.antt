@@ -44,7 +44,7 @@ not_left_out bytes k number rule = elim rule.1 [
 
 module _ (bytes : List ℕ) (k : ℕ) (pages : HasPages bytes k) where
   -- a rule that is broken behind the k-th number's place is one of these
-  next : (f : LtxFault) (q : ℕ) → IsBroken bytes f q → number_place bytes k < q → Next bytes k q f
+  pub next : (f : LtxFault) (q : ℕ) → IsBroken bytes f q → number_place bytes k < q → Next bytes k q f
   next fault.Magic q b far = absurd (omega (arith, b.breaks.0))
   next fault.Compressed q b far = absurd (omega (arith, b.breaks.0))
   next fault.UnknownFlags q b far = absurd (omega (arith, b.breaks.0))

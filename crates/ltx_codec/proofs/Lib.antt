@@ -5,3 +5,4 @@ pub mod ReadLemmas
 pub mod DecodeLemmas
 pub mod LawLemmas
 pub mod SoundLemmas
+pub mod OneFault

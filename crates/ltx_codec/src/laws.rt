@@ -2,7 +2,7 @@
 ghost use Rattle.std.specs.Prelude.{◌≡◌, ◌<◌, List, ℕ, ◌++◌, length};
 ghost use Rattle.ltx_codec.specs.Fields.{AreBytes};
 ghost use Rattle.ltx_codec.specs.Format.{IsLtx};
-ghost use Rattle.ltx_codec.specs.Places.{IsBroken};
+ghost use Rattle.ltx_codec.specs.Places.{IsBroken, IsEarliest};
 ghost use Rattle.ltx_codec.specs.declared.file.Ltx.{Ltx};
 ghost use Rattle.ltx_codec.specs.declared.fault.LtxFault.{LtxFault};
 
@@ -18,5 +18,11 @@ pub fn one_reading()
 pub fn text_breaks_no_rule()
     ensures { (text rest : List ℕ) (file : Ltx) (fault : LtxFault) (place : ℕ) → AreBytes (text ++ rest)
         → IsLtx text file → IsBroken (text ++ rest) fault place → (fault ≡ LtxFault.Tail) × (length text < place) }
+{
+}
+
+/// The fault that stands earliest is one.
+pub fn one_earliest_fault()
+    ensures { (bytes : List ℕ) (fault other : LtxFault) → IsEarliest bytes fault → IsEarliest bytes other → fault ≡ other }
 {
 }

@@ -18,5 +18,5 @@ mod trailer;
 pub use fault::LtxFault;
 pub use file::Ltx;
 pub use header::Header;
-pub use laws::{one_reading, text_breaks_no_rule};
+pub use laws::{one_earliest_fault, one_reading, text_breaks_no_rule};
 pub use reading::{decode, decode_first};
