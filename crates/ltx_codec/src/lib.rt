@@ -4,7 +4,9 @@
 //! where bytes break a rule. Reading and writing both stand on these two and not on each other.
 #![tactic(auto)]
 
+mod appending;
 mod block;
+mod encoder;
 mod fault;
 mod file;
 mod head_rules;
@@ -15,6 +17,7 @@ mod reading;
 mod rules;
 mod trailer;
 
+pub use encoder::Encoder;
 pub use fault::LtxFault;
 pub use file::Ltx;
 pub use header::Header;

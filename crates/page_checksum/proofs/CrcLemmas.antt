@@ -1,5 +1,5 @@
 -- Steps of the checksum as the loops take them, and its width.
-use Rattle.std.proofs.Common.{◌≡◌, ℕ, zero, suc, ◌+◌, ◌-◌, ◌<◌, ◌^◌, ◌/◌, ◌%◌, List, [], ◌∷◌, get_or, Bool, true, false, cond, arith, refl}
+use Rattle.std.proofs.Common.{◌≡◌, ℕ, zero, suc, ◌+◌, ◌-◌, ◌<◌, ◌^◌, ◌/◌, ◌%◌, List, [], ◌∷◌, ◌++◌, get_or, Bool, true, false, cond, arith, refl}
 use Rattle.std.proofs.lemmas.Nat.{xor_lt, or_lt}
 use Rattle.std.specs.Prelude.{◌==◌, bit_xor}
 use Rattle.page_checksum.specs.Crc.{after_bit, after_bits, after_byte, after_bytes, all_ones, crc}
@@ -41,3 +41,8 @@ crc_fits bytes fits = xor_lt 64 (after_bytes all_ones bytes) all_ones (after_byt
 -- and so has a sum
 pub flagged_fits : (sum : ℕ) → sum < 2 ^ 64 → flagged sum < 2 ^ 64
 flagged_fits sum small = or_lt 64 sum 0x8000_0000_0000_0000 small (omega arith)
+
+-- two pieces one after another are the pieces joined
+pub after_bytes-append : (register : ℕ) (front back : List ℕ) → after_bytes register (front ++ back) ≡ after_bytes (after_bytes register front) back
+after_bytes-append register [] back = refl
+after_bytes-append register (byte ∷ front) back = after_bytes-append (after_byte register byte) front back
