@@ -44,7 +44,7 @@ not_left_out bytes k number rule = elim rule.1 [
 
 module _ (bytes : List ℕ) (k : ℕ) (pages : HasPages bytes k) where
   -- a rule that is broken behind the k-th number's place is one of these
-  next : (f : LtxFault) (q : ℕ) → IsBroken bytes f q → number_place bytes k < q → Next bytes k q f
+  pub next : (f : LtxFault) (q : ℕ) → IsBroken bytes f q → number_place bytes k < q → Next bytes k q f
   next fault.Magic q b far = absurd (omega (arith, b.breaks.0))
   next fault.Compressed q b far = absurd (omega (arith, b.breaks.0))
   next fault.UnknownFlags q b far = absurd (omega (arith, b.breaks.0))
@@ -334,3 +334,20 @@ module _ (bytes : List ℕ) (k : ℕ) (pages : HasPages bytes k) where
             at_least f q b (tail block at) = omega arith
             at_least f q b (later not_zero far) = absurd (not_zero ends)
             at_least f q b (end at) = omega arith
+
+        -- behind a sound file only its tail may be broken
+        pub only_tail : number_place bytes k + 20 ≤ length bytes → eight_at (number_place bytes k + 12) bytes ≡ file_sum (take (number_place bytes k + 12) bytes)
+            → (f : LtxFault) (q : ℕ) → IsBroken bytes f q → (f ≡ fault.Tail) × (number_place bytes k + 20 < q)
+        only_tail room file_sum_right f q b =
+            let behind : number_place bytes k < q = omega (arith, sound f q b) in
+            by_next f q b (next f q b behind)
+          where
+            by_next : (f : LtxFault) (q : ℕ) → IsBroken bytes f q → Next bytes k q f → (f ≡ fault.Tail) × (number_place bytes k + 20 < q)
+            by_next f q b (order at rule) = absurd (rule.0 ends)
+            by_next f q b (range at rule) = absurd (omega (arith, number.within, rule.1))
+            by_next f q b (left_out at rule) = absurd (not_left_out bytes k number rule)
+            by_next f q b (sum block at rule) = absurd (right rule)
+            by_next f q b (file_sum_wrong block at want-is got-is differs) = absurd (differs (want-is ∙ sym file_sum_right ∙ sym got-is))
+            by_next f q b (tail block at) = (refl, omega arith)
+            by_next f q b (later not_zero far) = absurd (not_zero ends)
+            by_next f q b (end at) = absurd (omega (arith, b.breaks.1 k block_ends))

@@ -19,7 +19,7 @@ splits_alike a b x y len same =
     (front, append_cancel_left a x y (same ∙ ap (λ (l : List ℕ). l ++ y) (sym front)))
 
 -- the fields of a header's text are the header
-header_again : (h : Header) (reserved rest : List ℕ) → FitsWidths h → header_in (header_text h reserved ++ rest) ≡ h
+pub header_again : (h : Header) (reserved rest : List ℕ) → FitsWidths h → header_in (header_text h reserved ++ rest) ≡ h
 unfolding four_at eight_at
 header_again h reserved rest fits = rw (
     from_be_bytes-to_be_bytes_4 h.page_size fits.page_size,
@@ -44,7 +44,7 @@ pub record AreWhole (size prev : ℕ) (ws : List PageWrite) : Type 0 where
   pub small : All (λ (w : PageWrite). w.number < 2 ^ 32) ws
   pub whole : All (λ (w : PageWrite). length w.bytes ≡ size) ws
 
-tail_whole : (size prev : ℕ) (w : PageWrite) (ws : List PageWrite) → AreWhole size prev (w ∷ ws) → AreWhole size w.number ws
+pub tail_whole : (size prev : ℕ) (w : PageWrite) (ws : List PageWrite) → AreWhole size prev (w ∷ ws) → AreWhole size w.number ws
 tail_whole size prev w ws h = record {
   ascends = h.ascends.1;
   small = All-tail (λ (v : PageWrite). v.number < 2 ^ 32) w ws h.small;

@@ -4,3 +4,6 @@ pub mod TextLemmas
 pub mod ReadLemmas
 pub mod DecodeLemmas
 pub mod LawLemmas
+pub mod SoundLemmas
+pub mod OneFault
+pub mod WriteLemmas

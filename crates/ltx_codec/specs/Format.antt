@@ -1,9 +1,9 @@
 -- The LTX file (LTX1, uncompressed): a value, its rules, and its text. The text is a header of 100 bytes, the
 -- page block and a trailer of 16 bytes; all numbers are big-endian.
-use Rattle.std.specs.Prelude.{◌≡◌, ◌≢◌, ℕ, ◌*◌, ◌^◌, ◌<◌, ◌≤◌, List, [], ◌∷◌, ◌++◌, length, map, codes}
+use Rattle.std.specs.Prelude.{◌≡◌, ◌≢◌, ℕ, ◌*◌, ◌^◌, ◌<◌, ◌≤◌, List, [], ◌∷◌, ◌++◌, length, map, replicate, bit_xor, codes}
 use Rattle.std.specs.List.{range_with_len}
 use Rattle.std.specs.Int.{w32, w64, to_be_bytes}
-use Rattle.page_checksum.specs.Crc.{crc}
+use Rattle.page_checksum.specs.Crc.{crc, all_ones}
 use Rattle.page_checksum.specs.Sums.{flagged, database_sum}
 use Rattle.lf_sqlite_pages.specs.PageSize.{IsPageSize}
 use Rattle.lf_sqlite_pages.specs.Change.{PageChange, IsChange}
@@ -98,3 +98,19 @@ pub record IsLtx (bytes : List ℕ) (file : Ltx) : Type 0 where
   pub reserved : List ℕ
   pub room : length reserved ≡ 20
   pub text : bytes ≡ file_text file reserved
+
+-- 20 reserved bytes as they are written
+abbrev pub no_meaning : List ℕ
+no_meaning = replicate 20 0
+
+-- the text of a page: its number and its bytes
+abbrev pub page_text : ℕ → List ℕ → List ℕ
+page_text number page = to_be_bytes w32 number ++ page
+
+-- what ends the page block, and the sum of the pages
+abbrev pub end_text : ℕ → List ℕ
+end_text post = to_be_bytes w32 0 ++ to_be_bytes w64 post
+
+-- the file sum where the register is this after the bytes before it
+abbrev pub sealed : ℕ → ℕ
+sealed register = flagged (bit_xor register all_ones)

@@ -4,7 +4,9 @@
 //! where bytes break a rule. Reading and writing both stand on these two and not on each other.
 #![tactic(auto)]
 
+mod appending;
 mod block;
+mod encoder;
 mod fault;
 mod file;
 mod head_rules;
@@ -14,9 +16,12 @@ mod numbers;
 mod reading;
 mod rules;
 mod trailer;
+mod writing;
 
+pub use encoder::Encoder;
 pub use fault::LtxFault;
 pub use file::Ltx;
 pub use header::Header;
-pub use laws::one_reading;
+pub use laws::{one_earliest_fault, one_reading, text_breaks_no_rule};
 pub use reading::{decode, decode_first};
+pub use writing::encode;
