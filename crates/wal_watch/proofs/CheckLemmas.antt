@@ -6,7 +6,7 @@ use Rattle.std.proofs.lemmas.List.{length-take, get_or-take, ext_get_or, take-ta
 use Rattle.std.proofs.lemmas.Slice.Eq.{bytes_eq-Decides}
 use Rattle.wal_watch.specs.Frames.{is_header, page_size_in, committed_count, committed_end}
 use Rattle.wal_watch.specs.News.{first_new}
-use Rattle.wal_watch.specs.Refusals.{ChangesCommitted}
+use Rattle.wal_watch.specs.Refusals.{ChangesCommitted, BreaksHeader}
 use Rattle.wal_watch.proofs.Steps.{header_facts}
 use Rattle.wal_watch.proofs.ScanLemmas.{none_committed}
 use Rattle.wal_watch.proofs.AgreeLemmas.{same_header, same_size}
@@ -53,3 +53,10 @@ none_changed old new (inl other) changed = other changed.0
 none_changed old new (inr none) changed =
     let end : committed_end old ≡ 0 = cond-true _ _ _ (eq-eqb _ _ none) in
     changed.1 (rw end refl)
+
+-- where a write begins makes no difference to what it breaks
+pub breaks_at : (page_size start at : ℕ) (bytes new other : List ℕ) → (0 < length bytes → start ≡ at) → new ≡ other → BreaksHeader page_size start bytes new
+    → BreaksHeader page_size at bytes other
+breaks_at page_size start at bytes new other same is (inl touches) =
+    inl (let at_is : start ≡ at = same touches.0.1 in ((omega arith, touches.0.1), rw (← is) touches.1))
+breaks_at page_size start at bytes new other same is (inr states) = inr (states.0, rw (← is) states.1, rw (← is) states.2)

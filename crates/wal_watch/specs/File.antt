@@ -1,5 +1,5 @@
 -- A write-ahead log as a file: its bytes, and what may be done without memory.
-use Rattle.std.specs.Prelude.{◌≡◌, ℕ, ◌+◌, ◌-◌, ◌≤◌, Option, Some, None, List, [], ◌++◌, length, take, drop, replicate, max, unwrap_or, if◌then◌else◌}
+use Rattle.std.specs.Prelude.{◌≡◌, ℕ, ◌+◌, ◌-◌, ◌≤◌, Option, Some, None, List, [], ◌∷◌, ◌++◌, length, take, drop, replicate, max, unwrap_or, if◌then◌else◌}
 
 -- the bytes if the file is there, the bytes before the last write while nothing came between, up to which length the
 -- bytes may grow without memory, and how many bytes a write may displace without memory
@@ -21,9 +21,14 @@ text_of wal = unwrap_or wal.text []
 abbrev pub resized : ℕ → List ℕ → List ℕ
 resized len text = take len text ++ replicate (len - length text) 0
 
--- a text after others bytes were written over it at a place; a gap holds zeros
+-- a text with bytes in place of those from a place on; a gap holds zeros
+abbrev pub overwritten : ℕ → List ℕ → List ℕ → List ℕ
+overwritten at bytes text = resized at text ++ bytes ++ drop (at + length bytes) text
+
+-- a text after a write; a write of nothing changes nothing
 abbrev pub written : ℕ → List ℕ → List ℕ → List ℕ
-written at bytes text = resized at text ++ bytes ++ drop (at + length bytes) text
+written at [] text = text
+written at (b ∷ bs) text = overwritten at (b ∷ bs) text
 
 -- a write of so many bytes at a place takes no memory
 pub record HasRoom (wal : Wal) (at count : ℕ) : Type 0 where

@@ -2,7 +2,7 @@
 ghost use Rattle.std.specs.Prelude.{◌≡◌, ◌≢◌, ◌+◌, ◌≤◌, ◌<◌, ◌↔◌, ◌⊎◌, true, false, length, take, IsTrue, IfNone, IfSome, OnSome, IfOk, OnOk, IfErr};
 ghost use Rattle.std.specs.Bool.{OnTrue, OnFalse};
 ghost use Rattle.wal_watch.specs.Frames.{is_header, page_size_in, committed_count, committed_end};
-ghost use Rattle.wal_watch.specs.File.{written};
+ghost use Rattle.wal_watch.specs.File.{written, overwritten};
 ghost use Rattle.wal_watch.specs.News.{first_new};
 ghost use Rattle.wal_watch.specs.Refusals.{wal_limit, BreaksHeader, IsSoundWrite, IsWriteFault};
 
@@ -10,7 +10,7 @@ use crate::fault::WalFault;
 use crate::frames::end_of;
 use crate::header::{HEADER_LENGTH, is_header};
 use crate::numbers::u32_at;
-use crate::text::{byte_after, keeps};
+use crate::text::{byte_after, keeps, start_of};
 
 /// The greatest length of the file in bytes.
 pub const LIMIT: u64 = 268_435_456;
@@ -18,8 +18,8 @@ pub const LIMIT: u64 = 268_435_456;
 /// Puts the first 32 bytes after a write into `header`.
 fn fill_header(text: &[u8], at: usize, bytes: &[u8], header: &mut [u8])
     requires size { length header.old ≡ 32 }
-    requires there { 32 ≤ length (written at bytes.now text.now) }
-    ensures { header.new ≡ take 32 (written at bytes.now text.now) }
+    requires there { 32 ≤ length (overwritten at bytes.now text.now) }
+    ensures { header.new ≡ take 32 (overwritten at bytes.now text.now) }
 {
     for place in 0..header.len() {
         header[place] = byte_after(text, at, bytes, place);
@@ -29,9 +29,9 @@ fn fill_header(text: &[u8], at: usize, bytes: &[u8], header: &mut [u8])
 /// The page size that the header states after a write, if it is a valid one.
 fn page_size_after(text: &[u8], at: usize, bytes: &[u8]) -> Option<u32>
     requires { at + length bytes.now ≤ wal_limit }
-    ensures none { IfNone result (is_header (written at bytes.now text.now) ≡ false) }
-    ensures valid { OnSome result (is_header (written at bytes.now text.now) ≡ true) }
-    ensures size { IfSome result (λ size. size ≡ page_size_in (written at bytes.now text.now)) }
+    ensures none { IfNone result (is_header (overwritten at bytes.now text.now) ≡ false) }
+    ensures valid { OnSome result (is_header (overwritten at bytes.now text.now) ≡ true) }
+    ensures size { IfSome result (λ size. size ≡ page_size_in (overwritten at bytes.now text.now)) }
 {
     if text.len().max(at + bytes.len()) < HEADER_LENGTH {
         return None;
@@ -47,7 +47,7 @@ fn page_size_after(text: &[u8], at: usize, bytes: &[u8]) -> Option<u32>
 /// Whether a write touches the header and leaves no valid one, or leaves one of another page size.
 fn breaks_header(page_size: u32, text: &[u8], at: usize, bytes: &[u8]) -> bool
     requires { at + length bytes.now ≤ wal_limit }
-    ensures { IsTrue result ↔ (BreaksHeader page_size at bytes.now (written at bytes.now text.now)) }
+    ensures { IsTrue result ↔ (BreaksHeader page_size at bytes.now (overwritten at bytes.now text.now)) }
 {
     match page_size_after(text, at, bytes) {
         None => at < HEADER_LENGTH && !bytes.is_empty(),
@@ -57,8 +57,8 @@ fn breaks_header(page_size: u32, text: &[u8], at: usize, bytes: &[u8]) -> bool
 
 /// Whether a write leaves the header as it is. Without a header there are no frames to keep.
 fn keeps_header(text: &[u8], at: usize, bytes: &[u8]) -> bool
-    ensures same { OnTrue result (take 32 (written at bytes.now text.now) ≡ take 32 text.now) }
-    ensures other { OnFalse result ((take 32 (written at bytes.now text.now) ≢ take 32 text.now) ⊎ (committed_count text.now ≡ 0)) }
+    ensures same { OnTrue result (take 32 (overwritten at bytes.now text.now) ≡ take 32 text.now) }
+    ensures other { OnFalse result ((take 32 (overwritten at bytes.now text.now) ≢ take 32 text.now) ⊎ (committed_count text.now ≡ 0)) }
 {
     text.len() >= HEADER_LENGTH && keeps(text, at, bytes, HEADER_LENGTH)
 }
@@ -73,7 +73,7 @@ pub fn check_write(text: &[u8], committed: usize, page_size: u32, at: u64, bytes
     if at > LIMIT || bytes.len() as u64 > LIMIT - at {
         return Err(WalFault::TooLong);
     }
-    let at = at as usize;
+    let at = start_of(text, at as usize, bytes);
     if breaks_header(page_size, text, at, bytes) {
         return Err(WalFault::Header);
     }

@@ -5,7 +5,7 @@ ghost use Rattle.wal_watch.specs.Frames.{committed_count, committed_end};
 ghost use Rattle.wal_watch.specs.Refusals.{wal_limit};
 
 use crate::scan::committed_count;
-use crate::text::{make_room, put, take_back};
+use crate::text::{make_room, put, start_of, take_back};
 use lf_base::NoMemory;
 use std::alloc::Global;
 use std::marker::Model;
@@ -89,12 +89,12 @@ impl WalFile {
     }
 
     /// Writes within the reserved room, whatever the bytes. It takes no memory.
-    pub fn write_reserved(&mut self, at: u64, bytes: &[u8])
+    pub fn write_within(&mut self, at: u64, bytes: &[u8])
         requires there { IsSome self.old.text }
         requires room { HasRoom self.old at (length bytes.now) }
         ensures { self.new ≡ after_write self.old at bytes.now }
     {
-        let at = at as usize;
+        let at = start_of(self.text.as_slice(), at as usize, bytes);
         self.saved_at = at.min(self.text.len());
         put(&mut self.text, &mut self.saved, at, bytes);
         self.committed = committed_count(self.text.as_slice());

@@ -1,6 +1,6 @@
 //! The bytes of the file: written over, and taken back.
 ghost use Rattle.std.specs.Prelude.{◌≡◌, ◌+◌, ◌-◌, ◌≤◌, ◌<◌, ◌^◌, ◌↔◌, ◌++◌, length, take, drop, slice_index, IsTrue, OnOk, vec_len, vec_capacity};
-ghost use Rattle.wal_watch.specs.File.{written};
+ghost use Rattle.wal_watch.specs.File.{written, overwritten};
 
 use lf_base::NoMemory;
 
@@ -11,10 +11,25 @@ fn byte_at(text: &[u8], place: usize) -> u8
     if place < text.len() { text[place] } else { 0 }
 }
 
+/// Where a write begins: a write of nothing behind the end begins there.
+#[tactic(auto, using(crate::proofs::TextLemmas::written_nothing, crate::proofs::TextLemmas::written_some))]
+pub fn start_of(text: &[u8], at: usize, bytes: &[u8]) -> usize
+    ensures written { overwritten result bytes.now text.now ≡ written at bytes.now text.now }
+    ensures some { 0 < length bytes.now → result ≡ at }
+    ensures before { result ≤ at }
+    ensures behind { length text.now - result ≡ length text.now - at }
+{
+    if bytes.is_empty() {
+        at.min(text.len())
+    } else {
+        at
+    }
+}
+
 /// The byte at a place after a write, 0 past the end.
 #[tactic(auto, using(crate::proofs::TextLemmas::written_before, crate::proofs::TextLemmas::written_within, crate::proofs::TextLemmas::written_behind))]
 pub fn byte_after(text: &[u8], at: usize, bytes: &[u8], place: usize) -> u8
-    ensures { result ≡ slice_index (written at bytes.now text.now) place }
+    ensures { result ≡ slice_index (overwritten at bytes.now text.now) place }
 {
     if place < at {
         return byte_at(text, place);
@@ -28,7 +43,7 @@ pub fn byte_after(text: &[u8], at: usize, bytes: &[u8], place: usize) -> u8
 /// Whether a write leaves the bytes before `end` as they are.
 pub fn keeps(text: &[u8], at: usize, bytes: &[u8], end: usize) -> bool
     requires { end ≤ length text.now }
-    ensures { IsTrue result ↔ (take end (written at bytes.now text.now) ≡ take end text.now) }
+    ensures { IsTrue result ↔ (take end (overwritten at bytes.now text.now) ≡ take end text.now) }
 {
     if end <= at {
         return true;
@@ -58,7 +73,7 @@ pub fn make_room(text: &mut Vec<u8>, saved: &mut Vec<u8>, at: usize, count: usiz
 pub fn put(text: &mut Vec<u8>, saved: &mut Vec<u8>, at: usize, bytes: &[u8])
     requires room { at + length bytes.now ≤ vec_capacity text.old }
     requires spare { vec_len text.old - at ≤ vec_capacity saved.old }
-    ensures text { text.new.items ≡ written at bytes.now text.old.items }
+    ensures text { text.new.items ≡ overwritten at bytes.now text.old.items }
     ensures saved { saved.new.items ≡ drop at text.old.items }
     ensures grown { (vec_capacity text.old ≤ vec_capacity text.new) × (vec_capacity saved.old ≤ vec_capacity saved.new) }
 {

@@ -43,7 +43,7 @@ impl WalFile {
     {
         let first = self.check(page_size, at, bytes)?;
         self.reserve(at, bytes.len() as u64)?;
-        self.write_reserved(at, bytes);
+        self.write_within(at, bytes);
         match self.news(first) {
             Ok(news) => Ok(news),
             Err(NoMemory) => {

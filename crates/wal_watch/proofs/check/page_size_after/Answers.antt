@@ -1,6 +1,6 @@
 use Rattle.std.proofs.Common.{◌≡◌, ◌≤◌, List, ℕ, length, take, arith, sym, ◌∙◌}
 use Rattle.wal_watch.specs.Frames.{is_header}
-use Rattle.wal_watch.specs.File.{written}
+use Rattle.wal_watch.specs.File.{overwritten}
 use Rattle.wal_watch.proofs.CheckLemmas.{short_header, front_header, front_size}
 use Rattle.wal_watch.proofs.TextLemmas.{length-written}
 use Rattle.wal_watch.proofs.check.page_size_after.Goals as goal
@@ -11,13 +11,13 @@ returns-then-max-lt-HEADER_LENGTH-clause-none c =
 
 pub returns-then-not-is_header-clause-none : goal.returns-then-not-is_header-clause-none
 returns-then-not-is_header-clause-none c =
-    let there : 32 ≤ length (written c.args.at c.args.bytes.now c.args.text.now) =
+    let there : 32 ≤ length (overwritten c.args.at c.args.bytes.now c.args.text.now) =
     omega (arith, c.max.ensures, length-written c.args.at c.args.bytes.now c.args.text.now) in
     sym (front_header _ _ c.fill_header.ensures there) ∙ sym c.if-not-is_header.ensures.value
 
 pub returns-clause-valid : goal.returns-clause-valid
 returns-clause-valid c =
-    let there : 32 ≤ length (written c.args.at c.args.bytes.now c.args.text.now) =
+    let there : 32 ≤ length (overwritten c.args.at c.args.bytes.now c.args.text.now) =
     omega (arith, c.max.ensures, length-written c.args.at c.args.bytes.now c.args.text.now) in
     sym (front_header _ _ c.fill_header.ensures there) ∙ sym c.if-not-is_header.ensures.value
 
