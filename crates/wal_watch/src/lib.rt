@@ -7,17 +7,19 @@
 
 mod change;
 mod check;
+mod cutting;
+mod fault;
 mod file;
 mod frames;
 mod header;
 mod laws;
 mod news;
-mod cutting;
-mod fault;
 mod numbers;
 mod reading;
 mod scan;
 mod sums;
+#[cfg(test)]
+mod tests;
 mod text;
 mod writing;
 
