@@ -1,4 +1,4 @@
-ghost use Rattle.std.specs.Prelude.{IfOk, IsSome, vec_len, ◌≡◌};
+ghost use Rattle.std.specs.Prelude.{IsSome};
 
 mod logs;
 mod rows;
@@ -45,11 +45,11 @@ fn reads_back(rt: &impl Abort, alloc: Global, log: &Log) -> Result<(), Fail> {
         (2, 2)
     );
     assert_eq!(rt; wal.committed_end(), log.length as u64);
-    for (number, runs) in [1, 2].into_iter().zip(log.pages) {
+    for (number, other, runs) in [(1, 2, log.pages[0]), (2, 1, log.pages[1])] {
         let page = text_of(alloc, log.page_size as usize, runs)?;
         assert!(rt; wal.latest(number) == Some(page.as_slice()));
         assert!(rt; wal.has_frame(number, page.as_slice()));
-        assert!(rt; !wal.has_frame(3 - number, page.as_slice()));
+        assert!(rt; !wal.has_frame(other, page.as_slice()));
     }
     assert!(rt; wal.latest(3).is_none());
     Ok(())

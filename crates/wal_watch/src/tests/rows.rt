@@ -4,7 +4,7 @@ ghost use Rattle.std.specs.Prelude.{IfOk, IsSome};
 
 use crate::tests::{empty, told};
 use crate::{WalFault, WalFile};
-use std::alloc::Global;
+use std::alloc::{AllocError, Global};
 use std::test::Fail;
 
 /// Page size 4,096, salts 11223344 and 55667788.
@@ -79,41 +79,55 @@ const ALONE: [u8; 24] = [
     0xa9, 0x8f, 0x09, 0xd4, 0xd9, 0xa2, 0x6e, 0x72,
 ];
 
+/// A page that repeats a byte.
+fn page_of(alloc: Global, byte: u8) -> Result<Vec<u8>, AllocError> {
+    let mut page = Vec::new(alloc);
+    page.resize(4096, byte)?;
+    Ok(page)
+}
+
 /// A file with the header and the two frames of one transaction.
-fn committed(alloc: Global) -> Result<WalFile, WalFault>
+fn committed(alloc: Global) -> Result<WalFile, Fail>
     ensures { IfOk result (λ wal. IsSome wal.text) }
 {
+    let threes = page_of(alloc, 3)?;
+    let fours = page_of(alloc, 4)?;
     let mut wal = empty(alloc);
     wal.write(4096, 0, &HEADER)?;
     wal.write(4096, 32, &THIRD)?;
-    wal.write(4096, 56, &[3; 4096])?;
+    wal.write(4096, 56, threes.as_slice())?;
     wal.write(4096, 4152, &FOURTH)?;
-    wal.write(4096, 4176, &[4; 4096])?;
+    wal.write(4096, 4176, fours.as_slice())?;
     Ok(wal)
 }
 
 /// What each write tells, and the committed end after it.
 #[test]
 fn frames_commit_in_pieces(rt: HostRuntime) -> Result<(), Fail> {
+    let threes = page_of(rt.alloc(), 3)?;
+    let fours = page_of(rt.alloc(), 4)?;
+    let fives = page_of(rt.alloc(), 5)?;
+    let sixes = page_of(rt.alloc(), 6)?;
+    let nines = page_of(rt.alloc(), 9)?;
     let mut wal = empty(rt.alloc());
     for (at, bytes, want, end) in [
         (0, &HEADER[..], (0, 0), 0),
         (32, &THIRD[..], (0, 0), 0),
-        (56, &[3; 4096][..], (0, 0), 0),
+        (56, threes.as_slice(), (0, 0), 0),
         (4152, &FOURTH[..], (0, 0), 0),
-        (4176, &[4; 4096][..], (100, 2), 8272),
+        (4176, fours.as_slice(), (100, 2), 8272),
         // The same bytes again, over themselves and behind the end, commit nothing.
-        (4176, &[4; 4096][..], (0, 0), 8272),
+        (4176, fours.as_slice(), (0, 0), 8272),
         (8272, &FOURTH[..], (0, 0), 8272),
-        (8296, &[4; 4096][..], (0, 0), 8272),
+        (8296, fours.as_slice(), (0, 0), 8272),
         // A frame that isn't committed may be written over.
         (8272, &AGAIN[..], (0, 0), 8272),
-        (8296, &[5; 4096][..], (0, 0), 8272),
-        (8296, &[9; 4096][..], (0, 0), 8272),
-        (8296, &[5; 4096][..], (0, 0), 8272),
+        (8296, fives.as_slice(), (0, 0), 8272),
+        (8296, nines.as_slice(), (0, 0), 8272),
+        (8296, fives.as_slice(), (0, 0), 8272),
         // Pages 4 and 5 are past the 3 pages that this commit leaves.
         (12392, &SHRINK[..], (0, 0), 8272),
-        (12416, &[6; 4096][..], (3, 0), 16512),
+        (12416, sixes.as_slice(), (3, 0), 16512),
         // A header with other salts begins anew.
         (0, &NEXT_HEADER[..], (0, 0), 0),
     ] {
@@ -158,18 +172,20 @@ fn writes_are_refused(rt: HostRuntime) -> Result<(), Fail> {
 #[test]
 fn invalid_frames_commit_nothing(rt: HostRuntime) -> Result<(), Fail> {
     let alloc = rt.alloc();
+    let threes = page_of(alloc, 3)?;
+    let fours = page_of(alloc, 4)?;
     for head in [&NONE, &SALTED] {
         let mut wal = empty(alloc);
         wal.write(4096, 0, &HEADER)?;
         wal.write(4096, 32, head)?;
-        assert_eq!(rt; told(&wal.write(4096, 56, &[3; 4096])?), (0, 0));
+        assert_eq!(rt; told(&wal.write(4096, 56, threes.as_slice())?), (0, 0));
     }
     let mut wal = empty(alloc);
     wal.write(4096, 0, &HEADER)?;
     wal.write(4096, 32, &THIRD)?;
-    wal.write(4096, 56, &[3; 4096])?;
+    wal.write(4096, 56, threes.as_slice())?;
     wal.write(4096, 4152, &ALONE)?;
-    assert_eq!(rt; told(&wal.write(4096, 4176, &[4; 4096])?), (0, 0));
+    assert_eq!(rt; told(&wal.write(4096, 4176, fours.as_slice())?), (0, 0));
     Ok(())
 }
 
@@ -204,14 +220,16 @@ fn zeros_complete_no_frame(rt: HostRuntime) -> Result<(), Fail> {
 /// A write that was prepared and taken back is made again within the room that it left.
 #[test]
 fn a_prepared_write_is_made_again(rt: HostRuntime) -> Result<(), Fail> {
+    let fives = page_of(rt.alloc(), 5)?;
+    let sixes = page_of(rt.alloc(), 6)?;
     let mut wal = committed(rt.alloc())?;
     wal.write(4096, 8272, &AGAIN)?;
-    wal.write(4096, 8296, &[5; 4096])?;
+    wal.write(4096, 8296, fives.as_slice())?;
     wal.write(4096, 12392, &SHRINK)?;
-    assert_eq!(rt; told(&wal.write(4096, 12416, &[6; 4096])?), (3, 0));
+    assert_eq!(rt; told(&wal.write(4096, 12416, sixes.as_slice())?), (3, 0));
     wal.undo();
     assert_eq!(rt; wal.committed_end(), 8272);
-    wal.write_within(12416, &[6; 4096]);
+    wal.write_within(12416, sixes.as_slice());
     assert_eq!(rt; wal.committed_end(), 16512);
     Ok(())
 }
@@ -220,11 +238,15 @@ fn a_prepared_write_is_made_again(rt: HostRuntime) -> Result<(), Fail> {
 fn bytes_are_read_and_the_file_goes(rt: HostRuntime) -> Result<(), Fail> {
     let mut wal = committed(rt.alloc())?;
     let mut out = [9; 4];
+    assert_eq!(rt; wal.len(), Some(8272));
     assert_eq!(rt; wal.read(8270, &mut out), 2);
     assert_eq!(rt; out, [4, 4, 9, 9]);
     assert_eq!(rt; wal.read(u64::MAX, &mut out), 0);
     wal.reserve(0, 100_000)?;
     wal.remove();
-    assert_eq!(rt; (wal.committed_end(), wal.read(0, &mut out)), (0, 0));
+    assert_eq!(rt;
+        (wal.committed_end(), wal.len(), wal.read(0, &mut out)),
+        (0, None, 0)
+    );
     Ok(())
 }
