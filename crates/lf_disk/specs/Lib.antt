@@ -1,0 +1,4 @@
+pub mod Change
+pub mod Folder
+pub mod History
+pub mod Publish
