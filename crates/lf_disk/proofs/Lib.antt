@@ -1,3 +1,6 @@
+mod Bytes
 pub mod Folders
 pub mod Moments
+pub mod Names
 mod Publishing
+mod SlotLemmas

@@ -1,13 +1,18 @@
 //! The files of a node on a disk, and what a crash may leave of them.
 //!
 //! `Disk` is the contract: its history says what every file read as at each moment, and which
-//! folders a crash at that moment may leave. `publish` shows that the contract is enough to replace
-//! a file whole.
+//! folders a crash at that moment may leave. `MemDisk` keeps its history as data, so a test can
+//! meet every crash; `DirDisk` is a folder of the system. `publish` shows that the contract is
+//! enough to put a file into place whole.
 #![tactic(auto)]
 
 mod disk;
+mod file;
 mod name;
+mod plan;
 mod publication;
+mod record;
+mod slots;
 
 pub use disk::{Disk, ListFault};
 pub use name::FileName;

@@ -1,0 +1,53 @@
+-- What a record of calls makes of a folder.
+use Rattle.std.specs.Prelude.{◌≡◌, ℕ, Bool, true, false, List, [], ◌∷◌, length, Option, None, Some, if◌then◌else◌}
+use Rattle.lf_disk.specs.declared.name.FileName.{FileName}
+use Rattle.lf_disk.specs.declared.record.Call.{Call}
+use Rattle.lf_disk.specs.declared.record.Change.{Change}
+use Rattle.lf_disk.specs.declared.record.Change.TheVariants.{Write, Cut, Sync, Rename, Remove}
+use Rattle.lf_disk.specs.Folder.{Folder, bytes_of, with_file, renamed, resized, overwritten, Same}
+use Rattle.lf_disk.specs.Change.{Step, OnFile, Perhaps, Becomes, Renames, Torn, Cropped, Stands}
+
+-- the folder after a change
+abbrev pub changed : Change → Folder → Folder
+changed (Write name at piece) f = with_file name (Some (overwritten at piece (bytes_of (f name)))) f
+changed (Cut name len) f = with_file name (Some (resized len (bytes_of (f name)))) f
+changed (Sync name) f = f
+changed (Rename from to) f = renamed from to f
+changed (Remove name) f = with_file name None f
+
+-- the step was taken where the call was done, and else perhaps
+abbrev pub TakenIf : Bool → Step → Step
+TakenIf true step = step
+TakenIf false step = Perhaps step
+
+-- what a crash makes of a folder that it could leave before the call, where the files read so
+abbrev pub CrashStep : Call → Folder → Step
+CrashStep call seen = crash call.change
+  where
+    crash : Change → Step
+    crash (Write name at piece) = OnFile name (Stands (Torn at (length piece)))
+    crash (Cut name len) = OnFile name (Stands (Cropped len))
+    crash (Sync name) = TakenIf call.done (OnFile name (Becomes (seen name)))
+    crash (Rename from to) = TakenIf call.done (Renames from to)
+    crash (Remove name) = TakenIf call.done (OnFile name (Becomes None))
+
+-- what the files read as, and what a crash may leave
+pub record State : Type 1 where
+  pub seen : Folder
+  pub leaves : Folder → Type 0
+
+-- nothing is pending
+abbrev pub at_rest : Folder → State
+at_rest f = record { seen = f; leaves = Same f }
+
+-- a call that failed is not seen, but a crash may show it
+abbrev pub after : State → Call → State
+after s call = record {
+  seen = if call.done then changed call.change s.seen else s.seen;
+  leaves = λ c. (d : Folder) × s.leaves d × CrashStep call s.seen d c;
+}
+
+-- the state after these calls, the oldest first
+abbrev pub replay : State → List Call → State
+replay s [] = s
+replay s (call ∷ calls) = replay (after s call) calls
