@@ -1,6 +1,7 @@
 mod Bytes
 pub mod Folders
+mod Histories
 pub mod Moments
-pub mod Names
 mod Publishing
+mod Records
 mod SlotLemmas

@@ -8,7 +8,7 @@ use Rattle.lf_disk.specs.declared.name.FileName.{FileName}
 use Rattle.lf_disk.specs.declared.slots.Slot.{Slot}
 use Rattle.lf_disk.specs.Folder.{same_name, with_file, Same}
 use Rattle.lf_disk.specs.Slots.{folder_of, IsAbsent, IsStanding, IsOrderly, KeepsNames}
-use Rattle.lf_disk.proofs.Names.{same_name-refl, same_name-sym, same_name-one, same_name-trans, differs, differs_as}
+use Rattle.lf_disk.specs.Names.{same_name-refl, same_name-sym, same_name-one, same_name-trans, differs, differs_as}
 
 -- the test that the search for a name makes
 abbrev pub has : FileName → Slot → Bool

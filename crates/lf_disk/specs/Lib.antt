@@ -1,8 +1,11 @@
 pub mod Change
 pub mod Folder
 pub mod History
+pub mod Laws
 pub mod MemDisk
+pub mod Names
 pub mod Plan
 pub mod Publish
 pub mod Replay
 pub mod Slots
+pub mod Tears

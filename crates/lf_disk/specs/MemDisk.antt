@@ -2,7 +2,8 @@
 use Rattle.std.specs.Prelude.{◌≡◌, ℕ, ◌≤◌, List, [], length, take, Option, None, IsTrue, true}
 use Rattle.lf_disk.specs.declared.record.Call.{Call}
 use Rattle.lf_disk.specs.declared.slots.Slot.{Slot}
-use Rattle.lf_disk.specs.Slots.{folder_of}
+use Rattle.lf_disk.specs.Folder.{Same}
+use Rattle.lf_disk.specs.Slots.{folder_of, IsOrderly}
 use Rattle.lf_disk.specs.Plan.{Plan}
 use Rattle.lf_disk.specs.Replay.{State, at_rest, replay}
 use Rattle.lf_disk.specs.History.{History}
@@ -24,3 +25,8 @@ history_of r = record { moment = length r.calls; seen = λ t. (state_at r t).see
 -- a disk with these files, on which nothing is pending and no call is to fail
 abbrev pub fresh : List Slot → Recording
 fresh first = record { first = first; calls = []; plan = record { failing = []; stop_after = None; calls = 0; faults = 0 } }
+
+-- the files in memory are those that the record gives, and no name stands twice
+pub record IsCurrent (first : List Slot) (calls : List Call) (now : List Slot) : Type 0 where
+  pub shows : Same (replay (at_rest (folder_of first)) calls).seen (folder_of now)
+  pub orderly : IsOrderly now

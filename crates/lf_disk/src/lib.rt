@@ -8,6 +8,7 @@
 
 mod disk;
 mod file;
+mod mem_disk;
 mod name;
 mod plan;
 mod publication;
@@ -15,5 +16,6 @@ mod record;
 mod slots;
 
 pub use disk::{Disk, ListFault};
+pub use mem_disk::MemDisk;
 pub use name::FileName;
 pub use publication::{publish, publish_two};

@@ -1,6 +1,6 @@
 //! Which calls of a disk in memory fail.
 ghost use Rattle.std.specs.Prelude.{◌≡◌, ◌+◌, min, is_err, IsErr, OnOk, OnErr, []};
-ghost use Rattle.lf_base.specs.Faults.{one_more, CountsFaults};
+ghost use Rattle.lf_base.specs.Faults.{one_more, Rose};
 ghost use Rattle.lf_disk.specs.Plan.{fails_next, earlier, Follows};
 
 use lf_base::Failed;
@@ -51,7 +51,8 @@ impl Schedule {
 
     /// Counts a fault.
     pub fn fail(&mut self) -> Failed
-        ensures { self.new ≡ record self.old { faults = one_more self.old.faults } }
+        ensures counted { self.new ≡ record self.old { faults = one_more self.old.faults } }
+        ensures rose { Rose self.old.faults self.new.faults }
     {
         self.faults = self.faults.saturating_add(1);
         Failed
