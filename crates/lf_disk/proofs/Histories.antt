@@ -99,3 +99,61 @@ nothing (Cut name len) seen d = kept name (Stands (Cropped len)) d d (λ n. refl
 nothing (Sync name) seen d = inl (λ n. refl)
 nothing (Rename from to) seen d = inl (λ n. refl)
 nothing (Remove name) seen d = inl (λ n. refl)
+
+-- a changing call as its clauses tell it
+module _ (first first' : List Slot) (calls calls' : List Call) (change : Change) (same : first' ≡ first) where
+  abbrev Noted : Bool → Type 0
+  Noted done = calls' ≡ calls ++ record { change = change; done = done } ∷ []
+
+  -- a fact of the history with the call, told of the new record
+  told-as : (P : History → Type 0) (done : Bool) → Noted done → P (told first (calls ++ record { change = change; done = done } ∷ [])) → P (told first' calls')
+  told-as P done noted fact = subst (λ (f : List Slot). P (told f calls')) (sym same) (subst (λ (l : List Call). P (told first l)) (sym noted) fact)
+
+  one_more : (done : Bool) → Noted done → length calls' ≡ length calls + 1
+  one_more done noted = ap length noted ∙ length-append calls (record { change = change; done = done } ∷ [])
+
+  pub done : {E : Type 0} (result : Result (Unit {0}) E) → OnOk result (Noted true)
+      → OnOk result (Moves (ShowsDone change) (CrashStep (record { change = change; done = true }) (now (told first calls))) (told first calls) (told first' calls'))
+  done (Ok _) noted =
+      told-as (λ h. Moves (ShowsDone change) (CrashStep (record { change = change; done = true }) (now (told first calls))) (told first calls) h) true noted
+          (moves first calls (record { change = change; done = true }) (ShowsDone change) (shows-done change (now (told first calls))))
+  done (Err e) noted = tt
+
+  pub failed : {E : Type 0} (result : Result (Unit {0}) E) → OnErr result ((calls' ≡ calls) ⊎ Noted false)
+      → OnErr result (Moves (ShowsFailed change) (CrashStep (record { change = change; done = false }) (now (told first calls))) (told first calls) (told first' calls'))
+  failed (Ok _) noted = tt
+  failed (Err e) (inl none) =
+      subst (λ (f : List Slot). Moves (ShowsFailed change) (CrashStep (record { change = change; done = false }) (now (told first calls))) (told first calls) (told f calls')) (sym same)
+          (subst (λ (l : List Call). Moves (ShowsFailed change) (CrashStep (record { change = change; done = false }) (now (told first calls))) (told first calls) (told first l)) (sym none)
+              (record { seen = shows-failed change (now (told first calls)); left = λ c may. (c, may, nothing change (now (told first calls)) c) }))
+  failed (Err e) (inr noted) =
+      told-as (λ h. Moves (ShowsFailed change) (CrashStep (record { change = change; done = false }) (now (told first calls))) (told first calls) h) false noted
+          (moves first calls (record { change = change; done = false }) (ShowsFailed change) (shows-failed change (now (told first calls))))
+
+  pub ticks : {E : Type 0} (result : Result (Unit {0}) E) → OnOk result (Noted true) → OnErr result ((calls' ≡ calls) ⊎ Noted false)
+      → (2 ^ 62 ≤ length calls → IsErr result × (calls' ≡ calls)) → Ticks result (told first calls) (told first' calls')
+  ticks (Ok u) noted none last = record {
+    ok = one_more true noted;
+    later = omega (arith, one_more true noted);
+    by_one = omega (arith, one_more true noted);
+    last = λ top. let at_end = last top in (at_end.0, ap length at_end.1);
+    past = told-as (λ h. KeepsPast (told first calls) h) true noted (past first calls (record { change = change; done = true }));
+  }
+  ticks (Err e) noted (inl none) last = record {
+    ok = tt;
+    later = omega (arith, ap length none);
+    by_one = omega (arith, ap length none);
+    last = λ top. let at_end = last top in (at_end.0, ap length at_end.1);
+    past = (told-same first first' calls calls' same none).past;
+  }
+  ticks (Err e) noted (inr more) last = record {
+    ok = tt;
+    later = omega (arith, one_more false more);
+    by_one = omega (arith, one_more false more);
+    last = λ top. let at_end = last top in (at_end.0, ap length at_end.1);
+    past = told-as (λ h. KeepsPast (told first calls) h) false more (past first calls (record { change = change; done = false }));
+  }
+
+pub on_err : {T E : Type 0} {P : Type 0} (result : Result T E) → P → OnErr result P
+on_err (Ok _) fact = tt
+on_err (Err e) fact = fact

@@ -2,6 +2,7 @@ mod Bytes
 pub mod Folders
 mod Histories
 pub mod Moments
+mod NameList
 mod Publishing
 mod Records
 mod SlotLemmas

@@ -1,5 +1,6 @@
 -- A record with one call more.
 use Rattle.std.proofs.Common.{◌≡◌, ℕ, ◌+◌, ◌≤◌, Bool, true, false, List, [], ◌∷◌, ◌++◌, length, take, cond, Option, Some, None, refl, sym, ◌∙◌, ap, subst, arith}
+use Rattle.std.proofs.Math.Seq.{take-length}
 use Rattle.lf_disk.specs.declared.record.Call.{Call}
 use Rattle.lf_disk.specs.declared.record.Change.{Change}
 use Rattle.lf_disk.specs.declared.record.Change.TheVariants.{Write, Cut, Sync, Rename, Remove}
@@ -39,3 +40,7 @@ current-failed first calls now change current = record {
 
 pub current-same : (first : List Slot) (calls : List Call) (now new : List Slot) → IsCurrent first calls now → Same (folder_of now) (folder_of new) → IsOrderly new → IsCurrent first calls new
 current-same first calls now new current same orderly = record { shows = λ n. same n ∙ current.shows n; orderly = orderly }
+
+-- as its history tells
+pub current-told : (first : List Slot) (calls : List Call) (now : List Slot) → IsCurrent first calls now → Same (replay (at_rest (folder_of first)) (take (length calls) calls)).seen (folder_of now)
+current-told first calls now current n = current.shows n ∙ sym (λ i. (replay (at_rest (folder_of first)) (take-length calls i)).seen n)

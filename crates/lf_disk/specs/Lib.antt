@@ -2,6 +2,7 @@ pub mod Change
 pub mod Folder
 pub mod History
 pub mod Laws
+pub mod ListFault
 pub mod MemDisk
 pub mod Names
 pub mod Plan

@@ -1,26 +1,22 @@
 //! A disk as a node sees it. The history is told in full where the disk is honest; of a disk that
 //! isn't, the moment alone.
 ghost use Rattle.std.specs.Prelude.{◌≡◌, ◌⊎◌, ◌≤◌, ◌↔◌, ℕ, Bool, List, length, is_some, IsTrue, IsSome, IsErrOf, IfOk, OnOk, OnErr, Contains, option_map};
+ghost use Rattle.std.specs.List.{IsDistinct};
 ghost use Rattle.lf_base.specs.Faults.{CountsFaults};
-ghost use Rattle.lf_disk.specs.Folder.{Folder, Same, bytes_of, Reads};
+ghost use Rattle.lf_disk.specs.Folder.{Folder, same_name, Same, bytes_of, Reads};
 ghost use Rattle.lf_disk.specs.Change.{OnFile, Perhaps, Becomes, Writes, Cuts, Renames, Torn, Cropped, Stands};
 ghost use Rattle.lf_disk.specs.History.{History, now, may_leave, Rests, Ticks, Moves};
 
+use crate::list_fault::ListFault;
 use crate::name::FileName;
 use lf_base::Failed;
-
-/// Why the names were not listed.
-#[derive(Clone, Copy, Debug, PartialEq, Eq)]
-pub enum ListFault {
-    /// The disk failed.
-    Failed,
-    /// There was no memory for the list.
-    NoMemory,
-}
 
 /// The files of a node. Over an honest disk each call does what its clauses say of the history.
 /// A call that changes something may fail with all of its effect, none of it or a part.
 pub trait Disk {
+    ghost use Rattle.lf_disk.specs.declared.name.FileName.{FileName as Name};
+    ghost use Rattle.lf_disk.specs.ListFault.{CountsListFaults};
+
     /// Whether its history is true. No call changes it.
     ghost honest: { Self → Bool };
 
@@ -100,10 +96,11 @@ pub trait Disk {
 
     /// The name of every file, in any order.
     fn list(&mut self) -> Result<Vec<FileName>, ListFault>
-        ensures names { IsTrue (honest self.old) → IfOk result (λ names. (n : FileName) → Contains names.items n ↔ IsSome (now (history self.old) n)) }
+        ensures names { IsTrue (honest self.old) → IfOk result (λ names. (n : Name) → Contains names.items n ↔ IsSome (now (history self.old) n)) }
+        ensures distinct { IsTrue (honest self.old) → IfOk result (λ names. IsDistinct same_name names.items) }
         ensures rests { Rests (history self.old) (history self.new) }
         ensures honest { honest self.new ≡ honest self.old }
-        ensures cause { CountsFaults (faults self.old) (faults self.new) result };
+        ensures cause { CountsListFaults (faults self.old) (faults self.new) result };
 
     /// The number of changing calls so far.
     fn moment(&self) -> u64

@@ -8,6 +8,7 @@
 
 mod disk;
 mod file;
+mod list_fault;
 mod mem_disk;
 mod name;
 mod plan;
@@ -15,7 +16,8 @@ mod publication;
 mod record;
 mod slots;
 
-pub use disk::{Disk, ListFault};
+pub use disk::Disk;
+pub use list_fault::ListFault;
 pub use mem_disk::MemDisk;
 pub use name::FileName;
 pub use publication::{publish, publish_two};

@@ -1,20 +1,15 @@
 //! A disk in memory. It keeps the files that it had at first and each changing call, so that all
 //! that a crash may leave at any moment is known.
-ghost use Rattle.std.specs.Prelude.{◌≡◌, ◌⊎◌, ◌≤◌, ◌↔◌, ◌+◌, ◌^◌, ◌++◌, ◌∷◌, [], true, false, None, min, length, is_some, option_map, IsTrue, IsSome, IsErr, IsErrOf, IfOk, IsOk, OnOk, OnErr, Contains};
-ghost use Rattle.std.specs.List.{IsDistinct};
+ghost use Rattle.std.specs.Prelude.{◌≡◌, ◌⊎◌, ◌≤◌, ◌+◌, ◌^◌, ◌++◌, ◌∷◌, [], true, false, min, length, IsErr, IfOk, IsOk, OnOk, OnErr};
 ghost use Rattle.lf_base.specs.Faults.{CountsFaults};
-ghost use Rattle.lf_disk.specs.declared.name.FileName.{FileName as Name};
-ghost use Rattle.lf_disk.specs.Folder.{same_name, Same, bytes_of, Reads};
-ghost use Rattle.lf_disk.specs.Slots.{folder_of};
-ghost use Rattle.lf_disk.specs.Change.{OnFile, Perhaps, Becomes, Writes, Cuts, Renames, Torn, Cropped, Stands};
-ghost use Rattle.lf_disk.specs.History.{now, Rests, Ticks, Moves};
 ghost use Rattle.lf_disk.specs.Plan.{earlier, Follows};
 
-use crate::name::FileName;
+mod as_disk;
+
 use crate::plan::Schedule;
 use crate::record::{Call, Change, enact, note_failed};
-use crate::slots::{self, Slot};
-use lf_base::{Bytes, Failed, NoMemory};
+use crate::slots::Slot;
+use lf_base::{Failed, NoMemory};
 use std::alloc::Global;
 use std::marker::Model;
 
@@ -84,5 +79,16 @@ impl MemDisk {
             Ok(()) => Ok(()),
             Err(_) => Err(self.schedule.fail()),
         }
+    }
+
+    /// A changing call that found no memory.
+    fn refuse(&mut self) -> Result<(), Failed>
+        ensures failed { IsErr result }
+        ensures same { (self.new.first ≡ self.old.first) × (self.new.calls ≡ self.old.calls) }
+        ensures plan { Follows result self.old.plan self.new.plan }
+        ensures cause { CountsFaults self.old.plan.faults self.new.plan.faults result }
+    {
+        let _ = self.schedule.begin();
+        Err(self.schedule.fail())
     }
 }
