@@ -1,4 +1,5 @@
 mod Bytes
+mod Choices
 pub mod Folders
 mod Histories
 pub mod Moments

@@ -30,16 +30,15 @@ current-done first calls now new change current same orderly =
     record {
       shows = λ n. same n ∙ changed-same change s.seen (folder_of now) current.shows n ∙ sym (λ i. (replay-push (at_rest (folder_of first)) calls (record { change = change; done = true }) i).seen n);
       orderly = orderly;
+      began = current.began;
     }
 
 pub current-failed : (first : List Slot) (calls : List Call) (now : List Slot) (change : Change) → IsCurrent first calls now → IsCurrent first (calls ++ record { change = change; done = false } ∷ []) now
 current-failed first calls now change current = record {
   shows = λ n. current.shows n ∙ sym (λ i. (replay-push (at_rest (folder_of first)) calls (record { change = change; done = false }) i).seen n);
   orderly = current.orderly;
+  began = current.began;
 }
-
-pub current-same : (first : List Slot) (calls : List Call) (now new : List Slot) → IsCurrent first calls now → Same (folder_of now) (folder_of new) → IsOrderly new → IsCurrent first calls new
-current-same first calls now new current same orderly = record { shows = λ n. same n ∙ current.shows n; orderly = orderly }
 
 -- as its history tells
 pub current-told : (first : List Slot) (calls : List Call) (now : List Slot) → IsCurrent first calls now → Same (replay (at_rest (folder_of first)) (take (length calls) calls)).seen (folder_of now)

@@ -30,3 +30,4 @@ fresh first = record { first = first; calls = []; plan = record { failing = []; 
 pub record IsCurrent (first : List Slot) (calls : List Call) (now : List Slot) : Type 0 where
   pub shows : Same (replay (at_rest (folder_of first)) calls).seen (folder_of now)
   pub orderly : IsOrderly now
+  pub began : IsOrderly first

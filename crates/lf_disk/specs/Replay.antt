@@ -40,10 +40,14 @@ pub record State : Type 1 where
 abbrev pub at_rest : Folder → State
 at_rest f = record { seen = f; leaves = Same f }
 
--- a call that failed is not seen, but a crash may show it
+-- what the files read as after a call; one that failed is not seen
+abbrev pub shown_after : Call → Folder → Folder
+shown_after call f = if call.done then changed call.change f else f
+
+-- the state after a call; a crash may show one that failed
 abbrev pub after : State → Call → State
 after s call = record {
-  seen = if call.done then changed call.change s.seen else s.seen;
+  seen = shown_after call s.seen;
   leaves = λ c. (d : Folder) × s.leaves d × CrashStep call s.seen d c;
 }
 

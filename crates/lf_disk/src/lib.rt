@@ -6,6 +6,7 @@
 //! enough to put a file into place whole.
 #![tactic(auto)]
 
+mod choice;
 mod disk;
 mod file;
 mod list_fault;

@@ -5,6 +5,7 @@ ghost use Rattle.lf_base.specs.Faults.{CountsFaults};
 ghost use Rattle.lf_disk.specs.Plan.{earlier, Follows};
 
 mod as_disk;
+mod reopen;
 
 use crate::plan::Schedule;
 use crate::record::{Call, Change, enact, note_failed};
@@ -19,7 +20,7 @@ pub struct MemDisk {
     alloc: Global,
     first: Vec<Slot>,
     calls: Vec<Call>,
-    now: Vec<Slot>,
+    files: Vec<Slot>,
     schedule: Schedule,
 }
 
@@ -30,7 +31,7 @@ impl Model for MemDisk {
 
     ghost view = { λ d. record { first = d.first.items; calls = d.calls.items; plan = d.schedule } };
 
-    ghost invariant = { λ d. IsCurrent d.first.items d.calls.items d.now.items };
+    ghost invariant = { λ d. IsCurrent d.first.items d.calls.items d.files.items };
 }
 
 impl MemDisk {
@@ -50,7 +51,7 @@ impl MemDisk {
             alloc,
             first: Vec::new(alloc),
             calls: Vec::new(alloc),
-            now: Vec::new(alloc),
+            files: Vec::new(alloc),
             schedule: Schedule::new(failing, stop_after),
         })
     }
@@ -75,7 +76,7 @@ impl MemDisk {
             note_failed(&mut self.calls, change);
             return Err(self.schedule.fail());
         }
-        match enact(self.alloc, &mut self.calls, &mut self.now, change) {
+        match enact(self.alloc, &mut self.calls, &mut self.files, change) {
             Ok(()) => Ok(()),
             Err(_) => Err(self.schedule.fail()),
         }

@@ -37,7 +37,7 @@ impl Disk for MemDisk {
         if self.schedule.begin() {
             return Err(self.schedule.fail());
         }
-        Ok(slots::find(&self.now, name).map(|bytes| bytes.len() as u64))
+        Ok(slots::find(&self.files, name).map(|bytes| bytes.len() as u64))
     }
 
     fn read(&mut self, name: FileName, at: u64, out: &mut [u8]) -> Result<usize, Failed>
@@ -51,7 +51,7 @@ impl Disk for MemDisk {
             return Err(self.schedule.fail());
         }
         Ok(read_from(
-            slots::find(&self.now, name).unwrap_or(&[]),
+            slots::find(&self.files, name).unwrap_or(&[]),
             at as usize,
             out,
         ))
@@ -128,7 +128,7 @@ impl Disk for MemDisk {
             let _ = self.schedule.fail();
             return Err(ListFault::Failed);
         }
-        Ok(slots::names(self.alloc, &self.now)?)
+        Ok(slots::names(self.alloc, &self.files)?)
     }
 
     fn moment(&self) -> u64 {

@@ -8,12 +8,12 @@ pub invariant_of-self : goal.invariant_of-self
 invariant_of-self c =
     let d = c.self.inside in
     elim c.note_failed.ensures.noted [
-      | inl same ↦ subst (λ (l : List Call). IsCurrent d.first.items l d.now.items) (sym same) c.self.invariant
-      | inr noted ↦ subst (λ (l : List Call). IsCurrent d.first.items l d.now.items) (sym noted) (current-failed d.first.items d.calls.items d.now.items c.args.change c.self.invariant)
+      | inl same ↦ subst (λ (l : List Call). IsCurrent d.first.items l d.files.items) (sym same) c.self.invariant
+      | inr noted ↦ subst (λ (l : List Call). IsCurrent d.first.items l d.files.items) (sym noted) (current-failed d.first.items d.calls.items d.files.items c.args.change c.self.invariant)
     ]
 
 pub invariant_of-self-in-Ok : goal.invariant_of-self-in-Ok
 invariant_of-self-in-Ok c =
     let d = c.self.inside in
     subst (λ (l : List Call). IsCurrent d.first.items l c.enact.new.slots.items) (sym c.in-Ok.ensures.ok)
-        (current-done d.first.items d.calls.items d.now.items c.enact.new.slots.items c.args.change c.self.invariant c.in-Ok.ensures.folder (c.enact.ensures.orderly c.self.invariant.orderly))
+        (current-done d.first.items d.calls.items d.files.items c.enact.new.slots.items c.args.change c.self.invariant c.in-Ok.ensures.folder (c.enact.ensures.orderly c.self.invariant.orderly))
