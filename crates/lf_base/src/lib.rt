@@ -8,6 +8,7 @@
 mod bytes;
 mod errno;
 mod memory;
+mod pos;
 mod sink;
 mod slice_source;
 mod source;
@@ -19,6 +20,7 @@ mod vec_sink;
 pub use bytes::Bytes;
 pub use errno::Errno;
 pub use memory::NoMemory;
+pub use pos::Pos;
 pub use sink::Sink;
 pub use slice_source::SliceSource;
 pub use source::{Failed, Source};
