@@ -1,5 +1,5 @@
 -- A disk over time.
-use Rattle.std.specs.Prelude.{◌≡◌, ℕ, ◌+◌, ◌^◌, ◌<◌, ◌≤◌, Bool, IsTrue, Result, IsErr, OnOk, MatchResult}
+use Rattle.std.specs.Prelude.{◌≡◌, ℕ, ◌+◌, ◌^◌, ◌<◌, ◌≤◌, Result, IsErr, OnOk, None}
 use Rattle.lf_disk.specs.declared.name.FileName.{FileName}
 use Rattle.lf_disk.specs.Folder.{Folder, Same, SameBut}
 use Rattle.lf_disk.specs.Change.{Step}
@@ -54,3 +54,7 @@ pub record EachMoment (old new : History) (P : Folder → Type 0) : Type 0 where
 -- nothing is pending but on one file: a crash leaves every other file as it reads
 abbrev pub IsSettledBut : FileName → History → Type 0
 IsSettledBut name h = (c : Folder) → may_leave h c → SameBut name (now h) c
+
+-- the history of a disk that tells its moment alone
+abbrev pub untold : ℕ → History
+untold moment = record { moment = moment; seen = λ _ _. None; leaves = λ _ _. ⊥ }

@@ -7,6 +7,7 @@
 #![tactic(auto)]
 
 mod choice;
+mod dir_disk;
 mod disk;
 mod file;
 mod list_fault;
@@ -16,7 +17,10 @@ mod plan;
 mod publication;
 mod record;
 mod slots;
+#[cfg(test)]
+mod tests;
 
+pub use dir_disk::DirDisk;
 pub use disk::Disk;
 pub use list_fault::ListFault;
 pub use mem_disk::MemDisk;
