@@ -53,3 +53,15 @@ pub record Cropped (len : ℕ) (old new : List ℕ) : Type 0 where
 pub record Stands (change : List ℕ → List ℕ → Type 0) (old new : Option (List ℕ)) : Type 0 where
   pub stays : IsSome old → IsSome new
   pub bytes : change (bytes_of old) (bytes_of new)
+
+-- a write into a file, of which a crash leaves anything in its range
+abbrev pub TearsFile : FileName → ℕ → ℕ → Step
+TearsFile name at n = OnFile name (Stands (Torn at n))
+
+-- a change of a file's length, which a crash stops half way
+abbrev pub CropsFile : FileName → ℕ → Step
+CropsFile name len = OnFile name (Stands (Cropped len))
+
+-- a file becomes this one
+abbrev pub SetsFile : FileName → Option (List ℕ) → Step
+SetsFile name file = OnFile name (Becomes file)

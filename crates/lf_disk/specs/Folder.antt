@@ -44,6 +44,14 @@ resized len bytes = take len bytes ++ replicate (len - length bytes) 0
 abbrev pub overwritten : ℕ → List ℕ → List ℕ → List ℕ
 overwritten at piece bytes = resized at bytes ++ piece ++ drop (at + length piece) bytes
 
+-- the folder after a write into a file
+abbrev pub with_write : FileName → ℕ → List ℕ → Folder → Folder
+with_write name at piece folder = with_file name (Some (overwritten at piece (bytes_of (folder name)))) folder
+
+-- the folder after a file got a length
+abbrev pub with_length : FileName → ℕ → Folder → Folder
+with_length name len folder = with_file name (Some (resized len (bytes_of (folder name)))) folder
+
 -- a read at an offset put the bytes that there are in front of out, and n says how many
 pub record Reads (bytes : List ℕ) (at : ℕ) (out out' : List ℕ) (n : ℕ) : Type 0 where
   pub count : n ≡ min (length out) (length bytes - at)

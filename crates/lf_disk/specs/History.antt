@@ -45,10 +45,14 @@ pub record Moves (sees leaves : Step) (old new : History) : Type 0 where
   pub seen : sees (now old) (now new)
   pub left : (c : Folder) → may_leave new c → (d : Folder) × may_leave old d × leaves d c
 
--- at each moment from old to new a crash leaves a folder of which P holds
+-- at each moment from that one on a crash leaves a folder of which P holds
+abbrev pub Since : ℕ → History → (Folder → Type 0) → Type 0
+Since start h P = (t : ℕ) (c : Folder) → start ≤ t → t ≤ h.moment → h.leaves t c → P c
+
+-- at each moment from old to new a crash leaves a folder of which P holds, and the past stays
 pub record EachMoment (old new : History) (P : Folder → Type 0) : Type 0 where
   pub later : old.moment ≤ new.moment
-  pub each : (t : ℕ) (c : Folder) → old.moment ≤ t → t ≤ new.moment → new.leaves t c → P c
+  pub each : Since old.moment new P
   pub past : KeepsPast old new
 
 -- nothing is pending but on one file: a crash leaves every other file as it reads

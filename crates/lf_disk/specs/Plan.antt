@@ -24,6 +24,10 @@ abbrev pub earlier : Option ℕ → ℕ → Option ℕ
 earlier None stop = Some stop
 earlier (Some other) stop = Some (min other stop)
 
+-- the plan by which every call after the next ones fails
+abbrev pub stopped_in : ℕ → Plan → Plan
+stopped_in calls plan = record plan { stop_after = earlier plan.stop_after (min (plan.calls + calls) 18446744073709551615) }
+
 -- the call is counted, and fails where it is to
 pub record Follows {T E : Type 0} (result : Result T E) (old new : Plan) : Type 0 where
   pub told : IsTrue (fails_next old) → IsErr result

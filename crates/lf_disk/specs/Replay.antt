@@ -4,13 +4,13 @@ use Rattle.lf_disk.specs.declared.name.FileName.{FileName}
 use Rattle.lf_disk.specs.declared.record.Call.{Call}
 use Rattle.lf_disk.specs.declared.record.Change.{Change}
 use Rattle.lf_disk.specs.declared.record.Change.TheVariants.{Write, Cut, Sync, Rename, Remove}
-use Rattle.lf_disk.specs.Folder.{Folder, bytes_of, with_file, renamed, resized, overwritten, Same}
-use Rattle.lf_disk.specs.Change.{Step, OnFile, Perhaps, Becomes, Renames, Torn, Cropped, Stands}
+use Rattle.lf_disk.specs.Folder.{Folder, with_file, with_write, with_length, renamed, Same}
+use Rattle.lf_disk.specs.Change.{Step, Perhaps, Renames, TearsFile, CropsFile, SetsFile}
 
 -- the folder after a change
 abbrev pub changed : Change → Folder → Folder
-changed (Write name at piece) f = with_file name (Some (overwritten at piece (bytes_of (f name)))) f
-changed (Cut name len) f = with_file name (Some (resized len (bytes_of (f name)))) f
+changed (Write name at piece) f = with_write name at piece f
+changed (Cut name len) f = with_length name len f
 changed (Sync name) f = f
 changed (Rename from to) f = renamed from to f
 changed (Remove name) f = with_file name None f
@@ -25,11 +25,11 @@ abbrev pub CrashStep : Call → Folder → Step
 CrashStep call seen = crash call.change
   where
     crash : Change → Step
-    crash (Write name at piece) = OnFile name (Stands (Torn at (length piece)))
-    crash (Cut name len) = OnFile name (Stands (Cropped len))
-    crash (Sync name) = TakenIf call.done (OnFile name (Becomes (seen name)))
+    crash (Write name at piece) = TearsFile name at (length piece)
+    crash (Cut name len) = CropsFile name len
+    crash (Sync name) = TakenIf call.done (SetsFile name (seen name))
     crash (Rename from to) = TakenIf call.done (Renames from to)
-    crash (Remove name) = TakenIf call.done (OnFile name (Becomes None))
+    crash (Remove name) = TakenIf call.done (SetsFile name None)
 
 -- what the files read as, and what a crash may leave
 pub record State : Type 1 where

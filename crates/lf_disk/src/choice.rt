@@ -2,7 +2,7 @@
 ghost use Rattle.std.specs.Prelude.{◌≡◌, ◌≤◌, min, max, length, IfOk, OnOk};
 ghost use Rattle.lf_disk.specs.Folder.{Same, bytes_of};
 ghost use Rattle.lf_disk.specs.Slots.{folder_of, IsOrderly};
-ghost use Rattle.lf_disk.specs.Change.{OnFile, Torn, Cropped, Stands};
+ghost use Rattle.lf_disk.specs.Change.{TearsFile, CropsFile};
 ghost use Rattle.lf_disk.specs.Replay.{CrashStep, shown_after, replay, at_rest};
 
 use crate::name::FileName;
@@ -36,7 +36,8 @@ fn leave_write(
     piece: &[u8],
     choice: Choice,
 ) -> Result<(), AllocError>
-    ensures step { OnOk result (OnFile name (Stands (Torn at (length piece.now))) (folder_of image.old.items) (folder_of image.new.items)) }
+    ensures step { OnOk result (TearsFile name at (length piece.now)
+        (folder_of image.old.items) (folder_of image.new.items)) }
     ensures orderly { IsOrderly image.old.items → IsOrderly image.new.items }
 {
     match choice {
@@ -69,7 +70,8 @@ fn leave_cut(
     len: usize,
     choice: Choice,
 ) -> Result<(), AllocError>
-    ensures step { OnOk result (OnFile name (Stands (Cropped len)) (folder_of image.old.items) (folder_of image.new.items)) }
+    ensures step { OnOk result (CropsFile name len
+        (folder_of image.old.items) (folder_of image.new.items)) }
     ensures orderly { IsOrderly image.old.items → IsOrderly image.new.items }
 {
     match choice {
@@ -99,7 +101,8 @@ fn leave(
     seen: &[Slot],
     choice: Choice,
 ) -> Result<(), AllocError>
-    ensures step { OnOk result (CrashStep call.now (folder_of seen.now) (folder_of image.old.items) (folder_of image.new.items)) }
+    ensures step { OnOk result (CrashStep call.now (folder_of seen.now)
+        (folder_of image.old.items) (folder_of image.new.items)) }
     ensures orderly { IsOrderly image.old.items → IsOrderly image.new.items }
 {
     let is_taken = call.done || matches!(choice, Choice::Whole);
@@ -117,7 +120,8 @@ fn leave(
 
 /// What the files read as after a call.
 fn follow(alloc: Global, seen: &mut Vec<Slot>, call: &Call) -> Result<(), AllocError>
-    ensures { OnOk result (Same (shown_after call.now (folder_of seen.old.items)) (folder_of seen.new.items)) }
+    ensures { OnOk result
+        (Same (shown_after call.now (folder_of seen.old.items)) (folder_of seen.new.items)) }
 {
     if call.done {
         apply(alloc, seen, &call.change)
@@ -135,7 +139,8 @@ pub fn crashed(
     number: u64,
 ) -> Result<Vec<Slot>, AllocError>
     requires { IsOrderly first.now }
-    ensures left { IfOk result (λ image. (replay (at_rest (folder_of first.now)) calls.now).leaves (folder_of image.items)) }
+    ensures left { IfOk result
+        (λ image. (replay (at_rest (folder_of first.now)) calls.now).leaves (folder_of image.items)) }
     ensures orderly { IfOk result (λ image. IsOrderly image.items) }
 {
     let mut seen = slots::copied(alloc, first)?;

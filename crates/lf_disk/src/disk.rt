@@ -1,11 +1,11 @@
 //! A disk as a node sees it. The history is told in full where the disk is honest; of a disk that
 //! isn't, the moment alone.
-ghost use Rattle.std.specs.Prelude.{◌≡◌, ◌⊎◌, ◌≤◌, ◌↔◌, ℕ, Bool, List, length, is_some, IsTrue, IsSome, IsErrOf, IfOk, OnOk, OnErr, Contains, option_map};
+ghost use Rattle.std.specs.Prelude.{◌≡◌, ◌≤◌, ◌↔◌, ℕ, Bool, length, IsTrue, IsSome, IfOk, OnOk, OnErr, Contains, option_map};
 ghost use Rattle.std.specs.List.{IsDistinct};
 ghost use Rattle.lf_base.specs.Faults.{CountsFaults};
-ghost use Rattle.lf_disk.specs.Folder.{Folder, same_name, Same, bytes_of, Reads};
-ghost use Rattle.lf_disk.specs.Change.{OnFile, Perhaps, Becomes, Writes, Cuts, Renames, Torn, Cropped, Stands};
-ghost use Rattle.lf_disk.specs.History.{History, now, may_leave, Rests, Ticks, Moves};
+ghost use Rattle.lf_disk.specs.Folder.{same_name, Same, bytes_of, Reads};
+ghost use Rattle.lf_disk.specs.Change.{OnFile, Perhaps, Writes, Cuts, Renames, TearsFile, CropsFile, SetsFile};
+ghost use Rattle.lf_disk.specs.History.{History, now, Rests, Ticks, Moves};
 
 use crate::list_fault::ListFault;
 use crate::name::FileName;
@@ -28,7 +28,8 @@ pub trait Disk {
 
     /// The length of a file in bytes, None where it is absent.
     fn size(&mut self, name: FileName) -> Result<Option<u64>, Failed>
-        ensures size { IsTrue (honest self.old) → IfOk result (λ size. size ≡ option_map length (now (history self.old) name)) }
+        ensures size { IsTrue (honest self.old) → IfOk result
+            (λ size. size ≡ option_map length (now (history self.old) name)) }
         ensures rests { Rests (history self.old) (history self.new) }
         ensures honest { honest self.new ≡ honest self.old }
         ensures cause { CountsFaults (faults self.old) (faults self.new) result };
@@ -36,7 +37,8 @@ pub trait Disk {
     /// Puts the bytes from an offset on in front of `out`, as many as there are, and answers how
     /// many. An absent file has none.
     fn read(&mut self, name: FileName, at: u64, out: &mut [u8]) -> Result<usize, Failed>
-        ensures read { IsTrue (honest self.old) → IfOk result (Reads (bytes_of (now (history self.old) name)) at out.old out.new) }
+        ensures read { IsTrue (honest self.old) → IfOk result
+            (Reads (bytes_of (now (history self.old) name)) at out.old out.new) }
         ensures count { IfOk result (λ n. n ≤ length out.new) }
         ensures rests { Rests (history self.old) (history self.new) }
         ensures honest { honest self.new ≡ honest self.old }
@@ -44,30 +46,36 @@ pub trait Disk {
 
     /// Writes bytes at an offset. It makes a file that is absent, and fills a gap with zeros.
     fn write(&mut self, name: FileName, at: u64, bytes: &[u8]) -> Result<(), Failed>
-        ensures done { IsTrue (honest self.old) → OnOk result (Moves (OnFile name (Writes at bytes.now))
-            (OnFile name (Stands (Torn at (length bytes.now)))) (history self.old) (history self.new)) }
-        ensures failed { IsTrue (honest self.old) → OnErr result (Moves (OnFile name (Stands (Torn at (length bytes.now))))
-            (OnFile name (Stands (Torn at (length bytes.now)))) (history self.old) (history self.new)) }
+        ensures done { IsTrue (honest self.old) → OnOk result
+            (Moves (OnFile name (Writes at bytes.now)) (TearsFile name at (length bytes.now))
+                (history self.old) (history self.new)) }
+        ensures failed { IsTrue (honest self.old) → OnErr result
+            (Moves (TearsFile name at (length bytes.now)) (TearsFile name at (length bytes.now))
+                (history self.old) (history self.new)) }
         ensures ticks { Ticks result (history self.old) (history self.new) }
         ensures honest { honest self.new ≡ honest self.old }
         ensures cause { CountsFaults (faults self.old) (faults self.new) result };
 
     /// Gives a file this length. It makes one that is absent, and what is new is zeros.
     fn cut(&mut self, name: FileName, len: u64) -> Result<(), Failed>
-        ensures done { IsTrue (honest self.old) → OnOk result (Moves (OnFile name (Cuts len))
-            (OnFile name (Stands (Cropped len))) (history self.old) (history self.new)) }
-        ensures failed { IsTrue (honest self.old) → OnErr result (Moves (OnFile name (Stands (Cropped len)))
-            (OnFile name (Stands (Cropped len))) (history self.old) (history self.new)) }
+        ensures done { IsTrue (honest self.old) → OnOk result
+            (Moves (OnFile name (Cuts len)) (CropsFile name len)
+                (history self.old) (history self.new)) }
+        ensures failed { IsTrue (honest self.old) → OnErr result
+            (Moves (CropsFile name len) (CropsFile name len)
+                (history self.old) (history self.new)) }
         ensures ticks { Ticks result (history self.old) (history self.new) }
         ensures honest { honest self.new ≡ honest self.old }
         ensures cause { CountsFaults (faults self.old) (faults self.new) result };
 
     /// After Ok a crash leaves of this file what a read gives.
     fn sync(&mut self, name: FileName) -> Result<(), Failed>
-        ensures done { IsTrue (honest self.old) → OnOk result (Moves Same
-            (OnFile name (Becomes (now (history self.old) name))) (history self.old) (history self.new)) }
-        ensures failed { IsTrue (honest self.old) → OnErr result (Moves Same
-            (Perhaps (OnFile name (Becomes (now (history self.old) name)))) (history self.old) (history self.new)) }
+        ensures done { IsTrue (honest self.old) → OnOk result
+            (Moves Same (SetsFile name (now (history self.old) name))
+                (history self.old) (history self.new)) }
+        ensures failed { IsTrue (honest self.old) → OnErr result
+            (Moves Same (Perhaps (SetsFile name (now (history self.old) name)))
+                (history self.old) (history self.new)) }
         ensures ticks { Ticks result (history self.old) (history self.new) }
         ensures honest { honest self.new ≡ honest self.old }
         ensures cause { CountsFaults (faults self.old) (faults self.new) result };
@@ -76,28 +84,34 @@ pub trait Disk {
     /// and stays after Ok.
     fn rename(&mut self, from: FileName, to: FileName) -> Result<(), Failed>
         requires { IsTrue (honest self.old) → IsSome (now (history self.old) from) }
-        ensures done { IsTrue (honest self.old) → OnOk result (Moves (Renames from to) (Renames from to)
-            (history self.old) (history self.new)) }
-        ensures failed { IsTrue (honest self.old) → OnErr result (Moves (Perhaps (Renames from to))
-            (Perhaps (Renames from to)) (history self.old) (history self.new)) }
+        ensures done { IsTrue (honest self.old) → OnOk result
+            (Moves (Renames from to) (Renames from to)
+                (history self.old) (history self.new)) }
+        ensures failed { IsTrue (honest self.old) → OnErr result
+            (Moves (Perhaps (Renames from to)) (Perhaps (Renames from to))
+                (history self.old) (history self.new)) }
         ensures ticks { Ticks result (history self.old) (history self.new) }
         ensures honest { honest self.new ≡ honest self.old }
         ensures cause { CountsFaults (faults self.old) (faults self.new) result };
 
     /// Removes a file, which may be absent. It is done at once and stays after Ok.
     fn remove(&mut self, name: FileName) -> Result<(), Failed>
-        ensures done { IsTrue (honest self.old) → OnOk result (Moves (OnFile name (Becomes None))
-            (OnFile name (Becomes None)) (history self.old) (history self.new)) }
-        ensures failed { IsTrue (honest self.old) → OnErr result (Moves (Perhaps (OnFile name (Becomes None)))
-            (Perhaps (OnFile name (Becomes None))) (history self.old) (history self.new)) }
+        ensures done { IsTrue (honest self.old) → OnOk result
+            (Moves (SetsFile name None) (SetsFile name None)
+                (history self.old) (history self.new)) }
+        ensures failed { IsTrue (honest self.old) → OnErr result
+            (Moves (Perhaps (SetsFile name None)) (Perhaps (SetsFile name None))
+                (history self.old) (history self.new)) }
         ensures ticks { Ticks result (history self.old) (history self.new) }
         ensures honest { honest self.new ≡ honest self.old }
         ensures cause { CountsFaults (faults self.old) (faults self.new) result };
 
     /// The name of every file, in any order.
     fn list(&mut self) -> Result<Vec<FileName>, ListFault>
-        ensures names { IsTrue (honest self.old) → IfOk result (λ names. (n : Name) → Contains names.items n ↔ IsSome (now (history self.old) n)) }
-        ensures distinct { IsTrue (honest self.old) → IfOk result (λ names. IsDistinct same_name names.items) }
+        ensures names { IsTrue (honest self.old) → IfOk result
+            (λ names. (n : Name) → Contains names.items n ↔ IsSome (now (history self.old) n)) }
+        ensures distinct { IsTrue (honest self.old) → IfOk result
+            (λ names. IsDistinct same_name names.items) }
         ensures rests { Rests (history self.old) (history self.new) }
         ensures honest { honest self.new ≡ honest self.old }
         ensures cause { CountsListFaults (faults self.old) (faults self.new) result };
@@ -107,5 +121,6 @@ pub trait Disk {
         ensures { result ≡ (history self.now).moment };
 
     /// At each moment, a disk as it read is what a crash may have left.
-    ghost as_it_read: { (disk : Self) (t : ℕ) → IsTrue (honest disk) → t ≤ (history disk).moment → (history disk).leaves t ((history disk).seen t) };
+    ghost as_it_read: { (disk : Self) (t : ℕ) → IsTrue (honest disk) → t ≤ (history disk).moment
+        → (history disk).leaves t ((history disk).seen t) };
 }

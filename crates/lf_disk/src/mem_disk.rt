@@ -1,8 +1,8 @@
 //! A disk in memory. It keeps the files that it had at first and each changing call, so that all
 //! that a crash may leave at any moment is known.
-ghost use Rattle.std.specs.Prelude.{◌≡◌, ◌⊎◌, ◌≤◌, ◌+◌, ◌^◌, ◌++◌, ◌∷◌, [], true, false, min, length, IsErr, IfOk, IsOk, OnOk, OnErr};
+ghost use Rattle.std.specs.Prelude.{◌≡◌, ◌⊎◌, ◌≤◌, ◌^◌, ◌++◌, ◌∷◌, [], true, false, length, IsErr, IfOk, IsOk, OnOk, OnErr};
 ghost use Rattle.lf_base.specs.Faults.{CountsFaults};
-ghost use Rattle.lf_disk.specs.Plan.{earlier, Follows};
+ghost use Rattle.lf_disk.specs.Plan.{stopped_in, Follows};
 
 mod as_disk;
 mod reopen;
@@ -44,7 +44,8 @@ impl MemDisk {
         failing: Vec<u64>,
         stop_after: Option<u64>,
     ) -> Result<MemDisk, NoMemory>
-        ensures empty { IfOk result (λ disk. disk ≡ record (fresh []) { plan = record { failing = failing.items; stop_after = stop_after; calls = 0; faults = 0 } }) }
+        ensures empty { IfOk result (λ disk. disk ≡ record (fresh []) {
+            plan = record { failing = failing.items; stop_after = stop_after; calls = 0; faults = 0 } }) }
         ensures made { IsOk result }
     {
         Ok(MemDisk {
@@ -58,15 +59,17 @@ impl MemDisk {
 
     /// Lets every call after the next `calls` ones fail.
     pub fn stop_in(&mut self, calls: u64)
-        ensures { self.new ≡ record self.old { plan = record self.old.plan { stop_after = earlier self.old.plan.stop_after (min (self.old.plan.calls + calls) 18446744073709551615) } } }
+        ensures { self.new ≡ record self.old { plan = stopped_in calls self.old.plan } }
     {
         self.schedule.stop_in(calls);
     }
 
     /// A changing call.
     fn change(&mut self, change: Change) -> Result<(), Failed>
-        ensures done { OnOk result (self.new.calls ≡ self.old.calls ++ record { change = change; done = true } ∷ []) }
-        ensures failed { OnErr result ((self.new.calls ≡ self.old.calls) ⊎ (self.new.calls ≡ self.old.calls ++ record { change = change; done = false } ∷ [])) }
+        ensures done { OnOk result
+            (self.new.calls ≡ self.old.calls ++ record { change = change; done = true } ∷ []) }
+        ensures failed { OnErr result ((self.new.calls ≡ self.old.calls)
+            ⊎ (self.new.calls ≡ self.old.calls ++ record { change = change; done = false } ∷ [])) }
         ensures first { self.new.first ≡ self.old.first }
         ensures last { 2 ^ 62 ≤ length self.old.calls → IsErr result × (self.new.calls ≡ self.old.calls) }
         ensures plan { Follows result self.old.plan self.new.plan }

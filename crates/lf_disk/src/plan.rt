@@ -1,7 +1,7 @@
 //! Which calls of a disk in memory fail.
-ghost use Rattle.std.specs.Prelude.{◌≡◌, ◌+◌, min, is_err, IsErr, OnOk, OnErr, []};
+ghost use Rattle.std.specs.Prelude.{◌≡◌};
 ghost use Rattle.lf_base.specs.Faults.{one_more, Rose};
-ghost use Rattle.lf_disk.specs.Plan.{fails_next, earlier, Follows};
+ghost use Rattle.lf_disk.specs.Plan.{fails_next, stopped_in};
 
 use lf_base::Failed;
 use std::marker::Model;
@@ -60,7 +60,7 @@ impl Schedule {
 
     /// Lets every call after the next ones fail.
     pub fn stop_in(&mut self, calls: u64)
-        ensures { self.new ≡ record self.old { stop_after = earlier self.old.stop_after (min (self.old.calls + calls) 18446744073709551615) } }
+        ensures { self.new ≡ stopped_in calls self.old }
     {
         let stop = self.calls.saturating_add(calls);
         self.stop_after = match self.stop_after {

@@ -45,7 +45,8 @@ pub struct Call {
 
 /// Makes a change.
 pub fn apply(alloc: Global, slots: &mut Vec<Slot>, change: &Change) -> Result<(), AllocError>
-    ensures ok { OnOk result (Same (changed change.now (folder_of slots.old.items)) (folder_of slots.new.items)) }
+    ensures ok { OnOk result
+        (Same (changed change.now (folder_of slots.old.items)) (folder_of slots.new.items)) }
     ensures err { OnErr result (Same (folder_of slots.old.items) (folder_of slots.new.items)) }
     ensures orderly { IsOrderly slots.old.items → IsOrderly slots.new.items }
 {
@@ -67,9 +68,12 @@ pub fn enact(
     slots: &mut Vec<Slot>,
     change: Change,
 ) -> Result<(), AllocError>
-    ensures ok { OnOk result (calls.new.items ≡ calls.old.items ++ record { change = change; done = true } ∷ []) }
-    ensures folder { OnOk result (Same (changed change (folder_of slots.old.items)) (folder_of slots.new.items)) }
-    ensures err { OnErr result ((calls.new.items ≡ calls.old.items) × Same (folder_of slots.old.items) (folder_of slots.new.items)) }
+    ensures ok { OnOk result
+        (calls.new.items ≡ calls.old.items ++ record { change = change; done = true } ∷ []) }
+    ensures folder { OnOk result
+        (Same (changed change (folder_of slots.old.items)) (folder_of slots.new.items)) }
+    ensures err { OnErr result ((calls.new.items ≡ calls.old.items)
+        × Same (folder_of slots.old.items) (folder_of slots.new.items)) }
     ensures orderly { IsOrderly slots.old.items → IsOrderly slots.new.items }
     ensures last { 2 ^ 62 ≤ length calls.old.items → IsErr result }
 {
@@ -86,7 +90,8 @@ pub fn enact(
 
 /// Records a call that failed, as far as there is memory.
 pub fn note_failed(calls: &mut Vec<Call>, change: Change)
-    ensures noted { (calls.new.items ≡ calls.old.items) ⊎ (calls.new.items ≡ calls.old.items ++ record { change = change; done = false } ∷ []) }
+    ensures noted { (calls.new.items ≡ calls.old.items)
+        ⊎ (calls.new.items ≡ calls.old.items ++ record { change = change; done = false } ∷ []) }
     ensures last { 2 ^ 62 ≤ length calls.old.items → calls.new.items ≡ calls.old.items }
 {
     if calls.len() < LAST_MOMENT {

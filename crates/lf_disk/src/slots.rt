@@ -1,6 +1,6 @@
 //! A folder in memory.
-ghost use Rattle.std.specs.Prelude.{◌≡◌, ◌<◌, ℕ, ◌++◌, ◌∷◌, [], length, position, option_map, Some, None, IfOk, OnOk, OnErr, IfSome, IfNone};
-ghost use Rattle.lf_disk.specs.Folder.{same_name, Same, with_file, renamed, bytes_of, overwritten, resized};
+ghost use Rattle.std.specs.Prelude.{◌≡◌, position, option_map, None, IfOk, OnOk, OnErr};
+ghost use Rattle.lf_disk.specs.Folder.{same_name, Same, with_file, with_write, with_length, renamed};
 ghost use Rattle.lf_disk.specs.Slots.{folder_of, names_of, IsOrderly, IsStanding, KeepsNames};
 
 use crate::file;
@@ -66,7 +66,8 @@ pub fn write(
     at: usize,
     piece: &[u8],
 ) -> Result<(), AllocError>
-    ensures ok { OnOk result (Same (with_file name (Some (overwritten at piece.now (bytes_of (folder_of slots.old.items name)))) (folder_of slots.old.items)) (folder_of slots.new.items)) }
+    ensures ok { OnOk result
+        (Same (with_write name at piece.now (folder_of slots.old.items)) (folder_of slots.new.items)) }
     ensures err { OnErr result (Same (folder_of slots.old.items) (folder_of slots.new.items)) }
     ensures orderly { IsOrderly slots.old.items → IsOrderly slots.new.items }
 {
@@ -84,7 +85,8 @@ pub fn cut(
     name: FileName,
     len: usize,
 ) -> Result<(), AllocError>
-    ensures ok { OnOk result (Same (with_file name (Some (resized len (bytes_of (folder_of slots.old.items name)))) (folder_of slots.old.items)) (folder_of slots.new.items)) }
+    ensures ok { OnOk result
+        (Same (with_length name len (folder_of slots.old.items)) (folder_of slots.new.items)) }
     ensures err { OnErr result (Same (folder_of slots.old.items) (folder_of slots.new.items)) }
     ensures orderly { IsOrderly slots.old.items → IsOrderly slots.new.items }
 {
@@ -97,7 +99,8 @@ pub fn cut(
 
 /// Gives what has one name the other.
 pub fn rename(slots: &mut Vec<Slot>, from: FileName, to: FileName) -> Result<(), AllocError>
-    ensures ok { OnOk result (Same (renamed from to (folder_of slots.old.items)) (folder_of slots.new.items)) }
+    ensures ok { OnOk result
+        (Same (renamed from to (folder_of slots.old.items)) (folder_of slots.new.items)) }
     ensures err { OnErr result (Same (folder_of slots.old.items) (folder_of slots.new.items)) }
     ensures orderly { IsOrderly slots.old.items → IsOrderly slots.new.items }
 {
@@ -122,7 +125,9 @@ pub fn copy(
     name: FileName,
     from: &[Slot],
 ) -> Result<(), AllocError>
-    ensures ok { OnOk result (Same (with_file name (folder_of from.now name) (folder_of slots.old.items)) (folder_of slots.new.items)) }
+    ensures ok { OnOk result
+        (Same (with_file name (folder_of from.now name) (folder_of slots.old.items))
+            (folder_of slots.new.items)) }
     ensures err { OnErr result (Same (folder_of slots.old.items) (folder_of slots.new.items)) }
     ensures orderly { IsOrderly slots.old.items → IsOrderly slots.new.items }
 {

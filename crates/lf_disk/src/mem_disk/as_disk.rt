@@ -1,14 +1,14 @@
 //! A disk in memory meets the contract of a disk, and fails the calls that it was told to fail.
-ghost use Rattle.std.specs.Prelude.{◌≡◌, ◌↔◌, ◌≤◌, length, true, refl, None, option_map, is_some, IsTrue, IsSome, IsErr, IsErrOf, IfOk, OnOk, OnErr, Contains};
+ghost use Rattle.std.specs.Prelude.{◌≡◌, ◌↔◌, ◌≤◌, length, true, None, option_map, IsTrue, IsSome, IsErr, IfOk, OnOk, OnErr, Contains};
 ghost use Rattle.std.specs.List.{IsDistinct};
 ghost use Rattle.lf_base.specs.Faults.{CountsFaults};
 ghost use Rattle.lf_disk.specs.ListFault.{CountsListFaults};
 ghost use Rattle.lf_disk.specs.declared.name.FileName.{FileName as Name};
 ghost use Rattle.lf_disk.specs.Folder.{same_name, Same, bytes_of, Reads};
-ghost use Rattle.lf_disk.specs.Change.{OnFile, Perhaps, Becomes, Writes, Cuts, Renames, Torn, Cropped, Stands};
+ghost use Rattle.lf_disk.specs.Change.{OnFile, Perhaps, Writes, Cuts, Renames, TearsFile, CropsFile, SetsFile};
 ghost use Rattle.lf_disk.specs.History.{now, Rests, Ticks, Moves};
 ghost use Rattle.lf_disk.specs.MemDisk.{history_of};
-ghost use Rattle.lf_disk.specs.Plan.{Follows};
+ghost use Rattle.lf_disk.specs.Plan.{fails_next, Follows};
 ghost use Rattle.lf_disk.specs.Laws.{as_it_read};
 
 use crate::disk::Disk;
@@ -33,6 +33,7 @@ impl Disk for MemDisk {
         ensures rests { Rests (history_of self.old) (history_of self.new) }
         ensures cause { CountsFaults self.old.plan.faults self.new.plan.faults result }
         ensures plan { Follows result self.old.plan self.new.plan }
+        ensures only { IsErr result → IsTrue (fails_next self.old.plan) }
     {
         if self.schedule.begin() {
             return Err(self.schedule.fail());
@@ -46,6 +47,7 @@ impl Disk for MemDisk {
         ensures rests { Rests (history_of self.old) (history_of self.new) }
         ensures cause { CountsFaults self.old.plan.faults self.new.plan.faults result }
         ensures plan { Follows result self.old.plan self.new.plan }
+        ensures only { IsErr result → IsTrue (fails_next self.old.plan) }
     {
         if self.schedule.begin() {
             return Err(self.schedule.fail());
@@ -58,10 +60,10 @@ impl Disk for MemDisk {
     }
 
     fn write(&mut self, name: FileName, at: u64, bytes: &[u8]) -> Result<(), Failed>
-        ensures done { OnOk result (Moves (OnFile name (Writes at bytes.now))
-            (OnFile name (Stands (Torn at (length bytes.now)))) (history_of self.old) (history_of self.new)) }
-        ensures failed { OnErr result (Moves (OnFile name (Stands (Torn at (length bytes.now))))
-            (OnFile name (Stands (Torn at (length bytes.now)))) (history_of self.old) (history_of self.new)) }
+        ensures done { OnOk result (Moves (OnFile name (Writes at bytes.now)) (TearsFile name at (length bytes.now))
+            (history_of self.old) (history_of self.new)) }
+        ensures failed { OnErr result (Moves (TearsFile name at (length bytes.now)) (TearsFile name at (length bytes.now))
+            (history_of self.old) (history_of self.new)) }
         ensures ticks { Ticks result (history_of self.old) (history_of self.new) }
         ensures cause { CountsFaults self.old.plan.faults self.new.plan.faults result }
         ensures plan { Follows result self.old.plan self.new.plan }
@@ -77,8 +79,10 @@ impl Disk for MemDisk {
     }
 
     fn cut(&mut self, name: FileName, len: u64) -> Result<(), Failed>
-        ensures done { OnOk result (Moves (OnFile name (Cuts len)) (OnFile name (Stands (Cropped len))) (history_of self.old) (history_of self.new)) }
-        ensures failed { OnErr result (Moves (OnFile name (Stands (Cropped len))) (OnFile name (Stands (Cropped len))) (history_of self.old) (history_of self.new)) }
+        ensures done { OnOk result (Moves (OnFile name (Cuts len)) (CropsFile name len)
+            (history_of self.old) (history_of self.new)) }
+        ensures failed { OnErr result (Moves (CropsFile name len) (CropsFile name len)
+            (history_of self.old) (history_of self.new)) }
         ensures ticks { Ticks result (history_of self.old) (history_of self.new) }
         ensures cause { CountsFaults self.old.plan.faults self.new.plan.faults result }
         ensures plan { Follows result self.old.plan self.new.plan }
@@ -87,8 +91,10 @@ impl Disk for MemDisk {
     }
 
     fn sync(&mut self, name: FileName) -> Result<(), Failed>
-        ensures done { OnOk result (Moves Same (OnFile name (Becomes (now (history_of self.old) name))) (history_of self.old) (history_of self.new)) }
-        ensures failed { OnErr result (Moves Same (Perhaps (OnFile name (Becomes (now (history_of self.old) name)))) (history_of self.old) (history_of self.new)) }
+        ensures done { OnOk result (Moves Same (SetsFile name (now (history_of self.old) name))
+            (history_of self.old) (history_of self.new)) }
+        ensures failed { OnErr result (Moves Same (Perhaps (SetsFile name (now (history_of self.old) name)))
+            (history_of self.old) (history_of self.new)) }
         ensures ticks { Ticks result (history_of self.old) (history_of self.new) }
         ensures cause { CountsFaults self.old.plan.faults self.new.plan.faults result }
         ensures plan { Follows result self.old.plan self.new.plan }
@@ -98,8 +104,10 @@ impl Disk for MemDisk {
 
     fn rename(&mut self, from: FileName, to: FileName) -> Result<(), Failed>
         requires { IsTrue true → IsSome (now (history_of self.old) from) }
-        ensures done { OnOk result (Moves (Renames from to) (Renames from to) (history_of self.old) (history_of self.new)) }
-        ensures failed { OnErr result (Moves (Perhaps (Renames from to)) (Perhaps (Renames from to)) (history_of self.old) (history_of self.new)) }
+        ensures done { OnOk result (Moves (Renames from to) (Renames from to)
+            (history_of self.old) (history_of self.new)) }
+        ensures failed { OnErr result (Moves (Perhaps (Renames from to)) (Perhaps (Renames from to))
+            (history_of self.old) (history_of self.new)) }
         ensures ticks { Ticks result (history_of self.old) (history_of self.new) }
         ensures cause { CountsFaults self.old.plan.faults self.new.plan.faults result }
         ensures plan { Follows result self.old.plan self.new.plan }
@@ -108,8 +116,10 @@ impl Disk for MemDisk {
     }
 
     fn remove(&mut self, name: FileName) -> Result<(), Failed>
-        ensures done { OnOk result (Moves (OnFile name (Becomes None)) (OnFile name (Becomes None)) (history_of self.old) (history_of self.new)) }
-        ensures failed { OnErr result (Moves (Perhaps (OnFile name (Becomes None))) (Perhaps (OnFile name (Becomes None))) (history_of self.old) (history_of self.new)) }
+        ensures done { OnOk result (Moves (SetsFile name None) (SetsFile name None)
+            (history_of self.old) (history_of self.new)) }
+        ensures failed { OnErr result (Moves (Perhaps (SetsFile name None)) (Perhaps (SetsFile name None))
+            (history_of self.old) (history_of self.new)) }
         ensures ticks { Ticks result (history_of self.old) (history_of self.new) }
         ensures cause { CountsFaults self.old.plan.faults self.new.plan.faults result }
         ensures plan { Follows result self.old.plan self.new.plan }
@@ -118,7 +128,8 @@ impl Disk for MemDisk {
     }
 
     fn list(&mut self) -> Result<Vec<FileName>, ListFault>
-        ensures names { IfOk result (λ names. (n : Name) → Contains names.items n ↔ IsSome (now (history_of self.old) n)) }
+        ensures names { IfOk result
+            (λ names. (n : Name) → Contains names.items n ↔ IsSome (now (history_of self.old) n)) }
         ensures distinct { IfOk result (λ names. IsDistinct same_name names.items) }
         ensures rests { Rests (history_of self.old) (history_of self.new) }
         ensures cause { CountsListFaults self.old.plan.faults self.new.plan.faults result }
