@@ -1,12 +1,12 @@
 -- What a crash leaves by choice is what it may leave.
-use Rattle.std.proofs.Common.{◌≡◌, ◌⊎◌, inl, inr, ℕ, ◌+◌, ◌≤◌, min, max, Bool, true, false, List, [], ◌∷◌, ◌++◌, length, take, cond, Option, Some, None, Result, Ok, Err, OnOk, refl, sym, ◌∙◌, ap, subst, arith}
+use Rattle.std.proofs.Common.{◌≡◌, inl, inr, ℕ, ◌≤◌, min, max, Bool, true, false, List, [], ◌∷◌, ◌++◌, length, cond, Some, Result, Ok, Err, OnOk, sym, ◌∙◌, subst}
 use Rattle.lf_disk.specs.declared.name.FileName.{FileName}
 use Rattle.lf_disk.specs.declared.record.Call.{Call}
 use Rattle.lf_disk.specs.declared.record.Change.{Change}
 use Rattle.lf_disk.specs.declared.record.Change.TheVariants.{Write, Cut, Sync, Rename, Remove}
 use Rattle.lf_disk.specs.Folder.{Folder, Same, bytes_of, with_file, resized, overwritten}
-use Rattle.lf_disk.specs.Change.{Step, OnFile, Perhaps, Becomes, Renames, Torn, Cropped, Stands}
-use Rattle.lf_disk.specs.Replay.{State, CrashStep, TakenIf, changed, shown_after, after, replay}
+use Rattle.lf_disk.specs.Change.{Step, OnFile, Torn, Cropped, Stands}
+use Rattle.lf_disk.specs.Replay.{State, CrashStep, TakenIf, changed, shown_after, replay}
 use Rattle.lf_disk.specs.Tears.{Torn-overwritten, Cropped-resized}
 use Rattle.lf_disk.specs.Laws.{replaced, stands-made}
 use Rattle.lf_disk.proofs.Records.{replay-push, changed-same}
@@ -51,8 +51,7 @@ module _ (s : State) (so_far : List Call) (call : Call) (seen seen' image image'
       → (replay s (so_far ++ call ∷ [])).leaves image' × Same (replay s (so_far ++ call ∷ [])).seen seen'
   goes-on may same step shows =
       let r = replay s so_far in
-      subst (λ (st : State). st.leaves image' × Same st.seen seen') (sym (replay-push s so_far call))
-          (
-            (image, may, seen-same call.change call.done r.seen seen image image' same step),
-            λ n. shows n ∙ shown-same call r.seen seen same n,
-          )
+      subst (λ (st : State). st.leaves image' × Same st.seen seen') (sym (replay-push s so_far call)) (
+        (image, may, seen-same call.change call.done r.seen seen image image' same step),
+        λ n. shows n ∙ shown-same call r.seen seen same n,
+      )

@@ -1,18 +1,18 @@
 -- The history of a record with one call more.
-use Rattle.std.proofs.Common.{◌≡◌, ◌⊎◌, inl, inr, ℕ, ◌+◌, ◌^◌, ◌≤◌, Bool, true, false, List, [], ◌∷◌, ◌++◌, length, take, cond, Option, Some, None, Result, Ok, Err, IsErr, OnOk, OnErr, refl, sym, ◌∙◌, ap, subst, arith, length-append}
+use Rattle.std.proofs.Common.{◌≡◌, ◌⊎◌, inl, inr, ℕ, ◌+◌, ◌^◌, ◌≤◌, Bool, true, false, List, [], ◌∷◌, ◌++◌, length, take, cond, Some, None, Result, Ok, Err, IsErr, OnOk, OnErr, refl, sym, ◌∙◌, ap, subst, arith, length-append}
 use Rattle.std.proofs.lemmas.List.{take-append-le}
 use Rattle.std.proofs.Math.Seq.{take-length}
 use Rattle.lf_disk.specs.declared.record.Call.{Call}
 use Rattle.lf_disk.specs.declared.record.Change.{Change}
 use Rattle.lf_disk.specs.declared.record.Change.TheVariants.{Write, Cut, Sync, Rename, Remove}
 use Rattle.lf_disk.specs.declared.slots.Slot.{Slot}
-use Rattle.lf_disk.specs.Folder.{Folder, Same, SameBut, bytes_of, with_file, resized, overwritten}
-use Rattle.lf_disk.specs.Change.{Step, Edit, OnFile, Perhaps, Becomes, Writes, Cuts, Renames, Torn, Cropped, Stands}
+use Rattle.lf_disk.specs.Folder.{Folder, Same, bytes_of, resized, overwritten}
+use Rattle.lf_disk.specs.Change.{Step, OnFile, Perhaps, Becomes, Writes, Cuts, Renames, Torn, Cropped, Stands}
 use Rattle.lf_disk.specs.Slots.{folder_of}
-use Rattle.lf_disk.specs.Replay.{State, after, replay, at_rest, changed, CrashStep, TakenIf}
-use Rattle.lf_disk.specs.History.{History, now, may_leave, KeepsPast, Rests, Ticks, Moves}
+use Rattle.lf_disk.specs.Replay.{State, after, replay, at_rest, changed, CrashStep}
+use Rattle.lf_disk.specs.History.{History, now, KeepsPast, Rests, Ticks, Moves}
 use Rattle.lf_disk.specs.Tears.{Torn-refl, Cropped-refl}
-use Rattle.lf_disk.specs.Laws.{shown, replaced, kept, stands-still}
+use Rattle.lf_disk.specs.Laws.{replaced, kept, stands-still}
 use Rattle.lf_disk.proofs.Records.{replay-push}
 use Rattle.lf_disk.proofs.Moments.{past_stays}
 
@@ -28,7 +28,7 @@ told first calls = record {
 pub told-same : (first first' : List Slot) (calls calls' : List Call) → first' ≡ first → calls' ≡ calls → Rests (told first calls) (told first' calls')
 told-same first first' calls calls' one two =
     subst (λ (f : List Slot). Rests (told first calls) (told f calls')) (sym one)
-        (subst (λ (l : List Call). Rests (told first calls) (told first l)) (sym two) (record { moment = refl; past = past_stays (told first calls) }))
+    (subst (λ (l : List Call). Rests (told first calls) (told first l)) (sym two) (record { moment = refl; past = past_stays (told first calls) }))
 
 module _ (first : List Slot) (calls : List Call) (call : Call) where
   then : List Call
@@ -116,7 +116,7 @@ module _ (first first' : List Slot) (calls calls' : List Call) (change : Change)
       → OnOk result (Moves (ShowsDone change) (CrashStep (record { change = change; done = true }) (now (told first calls))) (told first calls) (told first' calls'))
   done (Ok _) noted =
       told-as (λ h. Moves (ShowsDone change) (CrashStep (record { change = change; done = true }) (now (told first calls))) (told first calls) h) true noted
-          (moves first calls (record { change = change; done = true }) (ShowsDone change) (shows-done change (now (told first calls))))
+      (moves first calls (record { change = change; done = true }) (ShowsDone change) (shows-done change (now (told first calls))))
   done (Err e) noted = tt
 
   pub failed : {E : Type 0} (result : Result (Unit {0}) E) → OnErr result ((calls' ≡ calls) ⊎ Noted false)
@@ -124,11 +124,11 @@ module _ (first first' : List Slot) (calls calls' : List Call) (change : Change)
   failed (Ok _) noted = tt
   failed (Err e) (inl none) =
       subst (λ (f : List Slot). Moves (ShowsFailed change) (CrashStep (record { change = change; done = false }) (now (told first calls))) (told first calls) (told f calls')) (sym same)
-          (subst (λ (l : List Call). Moves (ShowsFailed change) (CrashStep (record { change = change; done = false }) (now (told first calls))) (told first calls) (told first l)) (sym none)
-              (record { seen = shows-failed change (now (told first calls)); left = λ c may. (c, may, nothing change (now (told first calls)) c) }))
+      (subst (λ (l : List Call). Moves (ShowsFailed change) (CrashStep (record { change = change; done = false }) (now (told first calls))) (told first calls) (told first l)) (sym none)
+      (record { seen = shows-failed change (now (told first calls)); left = λ c may. (c, may, nothing change (now (told first calls)) c) }))
   failed (Err e) (inr noted) =
       told-as (λ h. Moves (ShowsFailed change) (CrashStep (record { change = change; done = false }) (now (told first calls))) (told first calls) h) false noted
-          (moves first calls (record { change = change; done = false }) (ShowsFailed change) (shows-failed change (now (told first calls))))
+      (moves first calls (record { change = change; done = false }) (ShowsFailed change) (shows-failed change (now (told first calls))))
 
   pub ticks : {E : Type 0} (result : Result (Unit {0}) E) → OnOk result (Noted true) → OnErr result ((calls' ≡ calls) ⊎ Noted false)
       → (2 ^ 62 ≤ length calls → IsErr result × (calls' ≡ calls)) → Ticks result (told first calls) (told first' calls')

@@ -1,8 +1,8 @@
 -- The three calls that publish a file.
-use Rattle.std.proofs.Common.{◌≡◌, ◌⊎◌, inl, inr, ℕ, List, [], Option, Some, Result, sym, ◌∙◌, ap}
+use Rattle.std.proofs.Common.{◌≡◌, inl, inr, ℕ, List, [], Some, Result, sym, ◌∙◌, ap}
 use Rattle.lf_disk.specs.declared.name.FileName.TheVariants.{Staged, Ltx}
 use Rattle.lf_disk.specs.Folder.{Folder, bytes_of, Same, SameBut}
-use Rattle.lf_disk.specs.Change.{Step, Edit, OnFile, Perhaps, Becomes, Writes, Renames}
+use Rattle.lf_disk.specs.Change.{Step, OnFile, Perhaps, Becomes, Writes, Renames}
 use Rattle.lf_disk.specs.History.{History, now, may_leave, Ticks, Moves, EachMoment}
 use Rattle.lf_disk.specs.Publish.{IsOldOrPublished, IsPublished, with_ltx}
 use Rattle.lf_disk.proofs.Moments.{started, goes_on}
@@ -47,8 +47,8 @@ module _ (h : History) (min max : ℕ) (bytes : List ℕ) where
       → Renames Staged (Ltx min max) (now synced) (now new) → ((c : Folder) → may_leave new c → SameBut Staged (with_ltx min max bytes (now h)) c) → IsPublished (now h) min max bytes new
   published wrote synced new empty written same renamed left =
       let seen = renamed-whole Staged (Ltx min max) (now h) (now synced) (now new) bytes
-          (λ n other. same n ∙ written.elsewhere n other)
-          (same Staged ∙ written.here ∙ ap (λ (b : List ℕ). Some b) (overwritten-empty bytes (bytes_of (now h Staged)) empty)) renamed in
+      (λ n other. same n ∙ written.elsewhere n other)
+      (same Staged ∙ written.here ∙ ap (λ (b : List ℕ). Some b) (overwritten-empty bytes (bytes_of (now h Staged)) empty)) renamed in
       record {
         seen = seen;
         staged = renamed Staged;

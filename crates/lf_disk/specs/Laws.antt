@@ -1,14 +1,14 @@
 -- What a record of calls shows is what a crash may leave.
-use Rattle.std.specs.Prelude.{◌≡◌, ◌⊎◌, ℕ, ◌≤◌, Bool, true, false, List, [], ◌∷◌, length, take, Option, None, Some, IsSome, refl}
-use Rattle.std.proofs.Common.{inl, inr, cond, sym, ◌∙◌, ap, subst, arith}
+use Rattle.std.specs.Prelude.{ℕ, Bool, true, false, List, [], ◌∷◌, length, take, Option, None, Some, refl}
+use Rattle.std.proofs.Common.{inl, cond, sym, ◌∙◌, ap, subst, arith}
 use Rattle.lf_disk.specs.declared.name.FileName.{FileName}
 use Rattle.lf_disk.specs.declared.record.Call.{Call}
 use Rattle.lf_disk.specs.declared.record.Change.{Change}
 use Rattle.lf_disk.specs.declared.record.Change.TheVariants.{Write, Cut, Sync, Rename, Remove}
-use Rattle.lf_disk.specs.Folder.{Folder, Same, SameBut, same_name, bytes_of, with_file, resized, overwritten}
+use Rattle.lf_disk.specs.Folder.{Folder, Same, bytes_of, with_file, resized, overwritten}
 use Rattle.lf_disk.specs.Names.{same_name-refl}
-use Rattle.lf_disk.specs.Change.{Edit, Step, OnFile, Perhaps, Becomes, Renames, Torn, Cropped, Stands}
-use Rattle.lf_disk.specs.Replay.{State, after, replay, at_rest, changed, CrashStep, TakenIf}
+use Rattle.lf_disk.specs.Change.{Edit, OnFile, Becomes, Torn, Cropped, Stands}
+use Rattle.lf_disk.specs.Replay.{State, after, replay, at_rest, changed, CrashStep}
 use Rattle.lf_disk.specs.MemDisk.{Recording, state_at}
 use Rattle.lf_disk.specs.Slots.{folder_of}
 use Rattle.lf_disk.specs.Tears.{Torn-refl, Torn-overwritten, Cropped-refl, Cropped-resized}
@@ -37,11 +37,11 @@ stands-made bytes file new is = record { stays = λ some. refl; bytes = is }
 pub shown : (change : Change) (done : Bool) (s : Folder) → CrashStep (record { change = change; done = done }) s s (cond done (changed change s) s)
 shown (Write name at piece) true s =
     replaced name (Some (overwritten at piece (bytes_of (s name)))) (Stands (Torn at (length piece))) s _ (λ n. refl)
-        (stands-made (Torn at (length piece)) (s name) _ (Torn-overwritten at (length piece) piece (bytes_of (s name)) (omega arith)))
+    (stands-made (Torn at (length piece)) (s name) _ (Torn-overwritten at (length piece) piece (bytes_of (s name)) (omega arith)))
 shown (Write name at piece) false s = kept name (Stands (Torn at (length piece))) s s (λ n. refl) (stands-still (Torn at (length piece)) (s name) (Torn-refl at (length piece) (bytes_of (s name))))
 shown (Cut name len) true s =
     replaced name (Some (resized len (bytes_of (s name)))) (Stands (Cropped len)) s _ (λ n. refl)
-        (stands-made (Cropped len) (s name) _ (Cropped-resized len len (bytes_of (s name)) (omega arith) (omega arith)))
+    (stands-made (Cropped len) (s name) _ (Cropped-resized len len (bytes_of (s name)) (omega arith) (omega arith)))
 shown (Cut name len) false s = kept name (Stands (Cropped len)) s s (λ n. refl) (stands-still (Cropped len) (s name) (Cropped-refl len (bytes_of (s name))))
 shown (Sync name) true s = kept name (Becomes (s name)) s s (λ n. refl) refl
 shown (Sync name) false s = inl (λ n. refl)
