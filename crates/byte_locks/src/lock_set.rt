@@ -1,0 +1,52 @@
+ghost use Rattle.std.specs.Prelude.{◌≡◌, ◌↔◌, IsTrue};
+ghost use Rattle.byte_locks.specs.LockId.{same_lock};
+ghost use Rattle.byte_locks.specs.LockBytes.{touches, Touches};
+ghost use Rattle.byte_locks.specs.LockSet.{has, set_of};
+
+use crate::lock_bytes::has_byte_in;
+use crate::lock_id::{LOCKS, all};
+use crate::{FileKind, LockId};
+use std::marker::Model;
+
+/// A set of locks.
+#[derive(Clone, Copy, Debug, PartialEq, Eq)]
+pub struct LockSet {
+    marks: [bool; LOCKS],
+}
+
+impl Model for LockSet {
+    ghost use Rattle.std.specs.Prelude.{List, Bool};
+
+    ghost Value = { List Bool };
+
+    ghost view = { λ s. s.marks };
+
+    ghost inverse = { λ marks. record { marks = marks } };
+}
+
+impl LockSet {
+    /// The set of one lock.
+    pub fn one(lock: LockId) -> LockSet
+        ensures { result ≡ set_of (same_lock lock) }
+    {
+        LockSet {
+            marks: all().map(|other| lock == other),
+        }
+    }
+
+    /// Whether the lock is in the set.
+    pub fn has(&self, lock: LockId) -> bool
+        ensures { result ≡ has self.now lock }
+    {
+        self.marks[lock.place()]
+    }
+}
+
+/// The locks of a file with a byte in the range from `start` to `end`, both included.
+pub fn locks_of(file: FileKind, start: u64, end: u64) -> LockSet
+    ensures { result ≡ set_of (touches file start end) }
+{
+    LockSet {
+        marks: all().map(|lock| has_byte_in(lock, file, start, end)),
+    }
+}
