@@ -1,5 +1,6 @@
 -- Counts, filters and searches of lists.
-use Rattle.std.proofs.Common.{◌≡◌, ℕ, ◌≤◌, Bool, true, false, cond, List, [], ◌∷◌, Option, None, Some, map, arith, refl, sym, ◌∙◌, ⊎_elim, subst}
+use Rattle.std.proofs.Common.{◌≡◌, ℕ, ◌+◌, ◌≤◌, Bool, true, false, cond, ◌&&◌, List, [], ◌∷◌, Option, None, Some, map, arith, refl, ap, sym, ◌∙◌, ⊎_elim, subst}
+use Rattle.std.specs.Option.{option_map}
 use Rattle.std.specs.List.{sum_by, count_by, filter, find, All}
 use Rattle.std.proofs.lemmas.Bool.{cases_Bool, cond-true, cond-false}
 use Rattle.std.proofs.lemmas.List.Sums.{sum_by-cons}
@@ -70,3 +71,25 @@ passes_from_find {X} p (x ∷ xs) y h =
 pub sum_by-agree : {X : Type 0} (f g : X → ℕ) → ((x : X) → f x ≡ g x) → (xs : List X) → sum_by f xs ≡ sum_by g xs
 sum_by-agree f g same [] = refl
 sum_by-agree f g same (x ∷ xs) = omega (arith, sum_by-agree f g same xs, same x, sum_by-cons f x xs, sum_by-cons g x xs)
+
+-- a search in a mapped list
+pub find-map : {X Y : Type 0} (p : Y → Bool) (f : X → Y) (xs : List X) → find p (map f xs) ≡ option_map f (find (λ x. p (f x)) xs)
+find-map p f [] = refl
+find-map {X} {Y} p f (x ∷ xs) =
+    ⊎_elim
+    (λ yes. cond-true (p (f x)) (Some (f x)) (find p (map f xs)) yes
+      ∙ sym (ap (option_map f) (cond-true (p (f x)) (Some x) (find (λ z. p (f z)) xs) yes)))
+    (λ no. cond-false (p (f x)) (Some (f x)) (find p (map f xs)) no ∙ find-map p f xs
+      ∙ sym (ap (option_map f) (cond-false (p (f x)) (Some x) (find (λ z. p (f z)) xs) no)))
+    (cases_Bool (p (f x)))
+
+-- a search in a filtered list
+pub find-filter : {X : Type 0} (p q : X → Bool) (xs : List X) → find p (filter q xs) ≡ find (λ x. q x && p x) xs
+find-filter p q [] = refl
+find-filter {X} p q (x ∷ xs) =
+    let rest = find-filter p q xs in
+    let Goal : Bool → Bool → Type 0 = λ a b. find p (cond a (x ∷ filter q xs) (filter q xs)) ≡ cond (a && b) (Some x) (find (λ z. q z && p z) xs) in
+    ⊎_elim
+    (λ yes. rw (cond-true (q x) (x ∷ filter q xs) (filter q xs) yes, yes) (ap (cond (p x) (Some x)) rest))
+    (λ no. rw (cond-false (q x) (x ∷ filter q xs) (filter q xs) no, no) rest)
+    (cases_Bool (q x))

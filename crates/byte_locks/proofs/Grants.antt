@@ -12,7 +12,7 @@ use Rattle.byte_locks.specs.declared.lock_kind.LockKind.{LockKind}
 use Rattle.byte_locks.specs.declared.lock_entry.LockEntry.{LockEntry}
 use Rattle.byte_locks.specs.LockId.{every_lock, same_lock}
 use Rattle.byte_locks.specs.LockSet.{Marks, has}
-use Rattle.byte_locks.specs.LockEntry.{same_owner, is_of, opposes, in_kind, MayStandTogether}
+use Rattle.byte_locks.specs.LockEntry.{same_owner, is_of, opposes, in_kind, MayStandTogether, in_set}
 use Rattle.byte_locks.specs.LockList.{LockList, IsLockList, kind_held, most_holders, entries_for, is_missing, missing, granted, holder_count, MayGrant}
 use Rattle.byte_locks.proofs.Counts.{sum_by-map, sum_by-filter, sum_by-agree, count_by-from_find_none}
 use Rattle.byte_locks.proofs.Locks.{sum_by-every_lock, same_owner-true}
@@ -54,7 +54,7 @@ kept_or_asked : (entries : LockList) (owner : Owner) (locks : Marks) (kind : Loc
     → Contains entries e → IsOldOrAskedFor entries owner locks kind (in_kind owner locks kind e)
 kept_or_asked entries owner locks kind e here =
     let changed : LockEntry = record e { kind = kind } in
-    cond_both (same_owner e.owner owner && has locks e.lock) changed e (IsOldOrAskedFor entries owner locks kind)
+    cond_both (in_set owner locks e.owner e.lock) changed e (IsOldOrAskedFor entries owner locks kind)
     (λ yes.
     let parts = and_parts (same_owner e.owner owner) (has locks e.lock) yes in
     inr (record { whose = same_owner-true e.owner owner parts.0; which = parts.1; how = refl }))
@@ -107,7 +107,7 @@ count_by-in_kind test owner locks kind entries blind =
     let f : LockEntry → LockEntry = in_kind owner locks kind in
     let same : (e : LockEntry) → one (f e) ≡ one e = λ e.
     let changed : LockEntry = record e { kind = kind } in
-    cond_both (same_owner e.owner owner && has locks e.lock) changed e (λ x. one x ≡ one e)
+    cond_both (in_set owner locks e.owner e.lock) changed e (λ x. one x ≡ one e)
     (λ _. ap (λ b. cond {A = ℕ} b 1 0) (blind e)) (λ _. refl) in
     sum_by-map one f entries ∙ sum_by-agree (λ e. one (f e)) one same entries
 

@@ -1,6 +1,8 @@
 pub mod Arrays
+pub mod Bytes
 pub mod Counts
 pub mod Grants
+pub mod Held
 pub mod Locks
 pub mod Refusals
 pub mod Releases

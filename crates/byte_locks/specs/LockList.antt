@@ -1,4 +1,4 @@
-use Rattle.std.specs.Prelude.{◌≡◌, ℕ, ◌≤◌, Bool, ◌&&◌, not, nat_eq, nat_le, List, ◌++◌, Option, Some, None, All, find, map, filter, count_by, is_some, is_none, option_and_then}
+use Rattle.std.specs.Prelude.{◌≡◌, ℕ, ◌≤◌, Bool, ◌&&◌, not, nat_eq, nat_le, List, ◌++◌, Option, Some, None, All, find, map, filter, count_by, is_some, is_none, option_and_then, if◌then◌else◌}
 use Rattle.std.specs.List.{list_any}
 use Rattle.std.specs.Option.{option_map}
 use Rattle.byte_locks.specs.declared.owner.Owner.{Owner}
@@ -85,17 +85,15 @@ HasCause entries owner locks kind (Full lock) =
     (conflict entries owner locks kind ≡ None) × (first_full entries owner locks ≡ Some lock)
 HasCause entries owner locks kind NoMemory = MayGrant entries owner locks kind
 
--- without the owner's entries on the locks
-abbrev pub released : LockList → Owner → Marks → LockList
-released entries owner locks = filter (λ e. not (same_owner e.owner owner && has locks e.lock)) entries
+-- without the entries that are picked by their holder and their lock
+abbrev pub without : (Owner → LockId → Bool) → LockList → LockList
+without picked entries = filter (λ e. not (picked e.owner e.lock)) entries
 
--- without the owner's entries on the file
-abbrev pub file_released : LockList → Owner → FileKind → LockList
-file_released entries owner file = filter (λ e. not (same_owner e.owner owner && same_file (file_of e.lock) file)) entries
-
--- without the entries of the session's owners
-abbrev pub session_released : LockList → ℕ → LockList
-session_released entries session = filter (λ e. not (nat_eq e.owner.session session)) entries
+-- what is picked is held so afterwards, and all else as before
+abbrev pub HeldAfter : LockList → LockList → (Owner → LockId → Bool) → Option LockKind → Type 0
+HeldAfter old new picked outcome =
+    (holder : Owner) (lock : LockId)
+    → kind_held new holder lock ≡ (if picked holder lock then outcome else kind_held old holder lock)
 
 -- what is always true of a lock list
 pub record IsLockList (entries : LockList) : Type 0 where

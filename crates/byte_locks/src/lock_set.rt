@@ -1,7 +1,7 @@
 ghost use Rattle.std.specs.Prelude.{◌≡◌, ◌↔◌, IsTrue};
-ghost use Rattle.byte_locks.specs.LockId.{same_lock};
-ghost use Rattle.byte_locks.specs.LockBytes.{touches, Touches};
-ghost use Rattle.byte_locks.specs.LockSet.{has, set_of};
+ghost use Rattle.byte_locks.specs.LockBytes.{Touches};
+ghost use Rattle.byte_locks.specs.declared.lock_id.LockId.{LockId};
+ghost use Rattle.byte_locks.specs.LockSet.{has, one, locks_of};
 
 use crate::lock_bytes::has_byte_in;
 use crate::lock_id::{LOCKS, all};
@@ -27,7 +27,7 @@ impl Model for LockSet {
 impl LockSet {
     /// The set of one lock.
     pub fn one(lock: LockId) -> LockSet
-        ensures { result ≡ set_of (same_lock lock) }
+        ensures { result ≡ one lock }
     {
         LockSet {
             marks: all().map(|other| lock == other),
@@ -44,7 +44,8 @@ impl LockSet {
 
 /// The locks of a file with a byte in the range from `start` to `end`, both included.
 pub fn locks_of(file: FileKind, start: u64, end: u64) -> LockSet
-    ensures { result ≡ set_of (touches file start end) }
+    ensures value { result ≡ locks_of file start end }
+    ensures touched { (lock : LockId) → IsTrue (has result lock) ↔ Touches file start end lock }
 {
     LockSet {
         marks: all().map(|lock| has_byte_in(lock, file, start, end)),

@@ -1,5 +1,6 @@
 ghost use Rattle.std.specs.Prelude.{◌≡◌, [], ℕ, OnOk, OnErr, IfErr, IsErrOf, Err, Some, None, ◌↔◌, IsTrue};
-ghost use Rattle.byte_locks.specs.LockList.{kind_held, is_held, holder_count, opponent, first_contested, conflict, is_full, first_full, MayGrant, HasCause, granted, released, file_released, session_released};
+ghost use Rattle.byte_locks.specs.LockEntry.{in_set, on_file, of_session};
+ghost use Rattle.byte_locks.specs.LockList.{IsLockList, kind_held, is_held, holder_count, opponent, first_contested, conflict, is_full, first_full, MayGrant, HasCause, granted, without, HeldAfter};
 
 use crate::grant::{grant, kind_held};
 use crate::lock_bytes::file_of;
@@ -41,6 +42,7 @@ impl LockTable {
     /// place in the table and changes its kind. After a refusal the table is as before.
     pub fn set(&mut self, owner: Owner, locks: LockSet, kind: LockKind) -> Result<(), SetFault>
         ensures ok { OnOk result (self.new ≡ granted self.old owner locks kind) }
+        ensures held { OnOk result (HeldAfter self.old self.new (in_set owner locks) (Some kind)) }
         ensures only_if_free { OnOk result (MayGrant self.old owner locks kind) }
 
         ensures cause { IfErr result (HasCause self.old owner locks kind) }
@@ -91,7 +93,8 @@ impl LockTable {
 
     /// How the owner holds the lock, if it does.
     pub fn holds(&self, owner: Owner, lock: LockId) -> Option<LockKind>
-        ensures { result ≡ kind_held self.now owner lock }
+        ensures value { result ≡ kind_held self.now owner lock }
+        ensures list { IsLockList self.now }
     {
         kind_held(&self.entries, owner, lock)
     }
@@ -105,7 +108,8 @@ impl LockTable {
 
     /// Releases what the owner holds of the locks.
     pub fn release(&mut self, owner: Owner, locks: LockSet)
-        ensures { self.new ≡ released self.old owner locks }
+        ensures entries { self.new ≡ without (in_set owner locks) self.old }
+        ensures held { HeldAfter self.old self.new (in_set owner locks) None }
     {
         self.entries
             .retain(|entry| !(entry.owner == owner && locks.has(entry.lock)));
@@ -113,14 +117,16 @@ impl LockTable {
 
     /// Releases what the owner holds on the file.
     pub fn release_file(&mut self, owner: Owner, file: FileKind)
-        ensures { self.new ≡ file_released self.old owner file }
+        ensures entries { self.new ≡ without (on_file owner file) self.old }
+        ensures held { HeldAfter self.old self.new (on_file owner file) None }
     {
         self.entries.retain(|entry| !(entry.owner == owner && file_of(entry.lock) == file));
     }
 
     /// Releases what all owners of the session hold.
     pub fn release_session(&mut self, session: u64)
-        ensures { self.new ≡ session_released self.old session }
+        ensures entries { self.new ≡ without (of_session session) self.old }
+        ensures held { HeldAfter self.old self.new (of_session session) None }
     {
         self.entries.retain(|entry| entry.owner.session != session);
     }
