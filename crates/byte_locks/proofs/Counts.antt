@@ -1,5 +1,5 @@
 -- Counts, filters and searches of lists.
-use Rattle.std.proofs.Common.{◌≡◌, ℕ, ◌+◌, ◌≤◌, Bool, true, false, cond, ◌&&◌, List, [], ◌∷◌, Option, None, Some, map, arith, refl, ap, sym, ◌∙◌, ⊎_elim, subst}
+use Rattle.std.proofs.Common.{◌≡◌, ℕ, ◌≤◌, Bool, true, false, cond, ◌&&◌, List, [], ◌∷◌, Option, None, Some, map, arith, refl, ap, sym, ◌∙◌, ⊎_elim, subst}
 use Rattle.std.specs.Option.{option_map}
 use Rattle.std.specs.List.{sum_by, count_by, filter, find, All}
 use Rattle.std.proofs.lemmas.Bool.{cases_Bool, cond-true, cond-false}
@@ -78,9 +78,9 @@ find-map p f [] = refl
 find-map {X} {Y} p f (x ∷ xs) =
     ⊎_elim
     (λ yes. cond-true (p (f x)) (Some (f x)) (find p (map f xs)) yes
-      ∙ sym (ap (option_map f) (cond-true (p (f x)) (Some x) (find (λ z. p (f z)) xs) yes)))
+    ∙ sym (ap (option_map f) (cond-true (p (f x)) (Some x) (find (λ z. p (f z)) xs) yes)))
     (λ no. cond-false (p (f x)) (Some (f x)) (find p (map f xs)) no ∙ find-map p f xs
-      ∙ sym (ap (option_map f) (cond-false (p (f x)) (Some x) (find (λ z. p (f z)) xs) no)))
+    ∙ sym (ap (option_map f) (cond-false (p (f x)) (Some x) (find (λ z. p (f z)) xs) no)))
     (cases_Bool (p (f x)))
 
 -- a search in a filtered list

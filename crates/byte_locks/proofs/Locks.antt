@@ -1,5 +1,5 @@
 -- Facts on the thirteen locks, by cases.
-use Rattle.std.proofs.Common.{◌≡◌, ◌≢◌, ℕ, ◌+◌, ◌<◌, Bool, true, false, cond, ◌&&◌, ◌||◌, not, nat_eq, List, length, Option, Some, None, refl, ap, sym, ◌∙◌, arith, ⊎_elim, subst, lit<, rules}
+use Rattle.std.proofs.Common.{◌≡◌, ℕ, Bool, true, false, cond, nat_eq, Some, None, refl, ap, ◌∙◌, arith, lit<}
 use Rattle.std.specs.List.{sum_by, Contains, find}
 use Rattle.std.proofs.lemmas.Bool.{eq-eqb, eqb-true, and_parts}
 use Rattle.byte_locks.specs.declared.owner.Owner.{Owner}

@@ -1,17 +1,15 @@
-use Rattle.std.specs.Prelude.{◌≡◌, ℕ, ◌≤◌, Bool, ◌&&◌, not, nat_eq, nat_le, List, ◌++◌, Option, Some, None, All, find, map, filter, count_by, is_some, is_none, option_and_then, if◌then◌else◌}
+use Rattle.std.specs.Prelude.{◌≡◌, ℕ, ◌≤◌, Bool, ◌&&◌, not, nat_le, List, ◌++◌, Option, Some, None, All, find, map, filter, count_by, is_some, is_none, option_and_then, if◌then◌else◌}
 use Rattle.std.specs.List.{list_any}
 use Rattle.std.specs.Option.{option_map}
 use Rattle.byte_locks.specs.declared.owner.Owner.{Owner}
 use Rattle.byte_locks.specs.declared.lock_id.LockId.{LockId}
 use Rattle.byte_locks.specs.declared.lock_kind.LockKind.{LockKind}
-use Rattle.byte_locks.specs.declared.lock_bytes.FileKind.{FileKind}
 use Rattle.byte_locks.specs.declared.lock_entry.LockEntry.{LockEntry}
 use Rattle.byte_locks.specs.declared.set_fault.SetFault.{SetFault}
 use Rattle.byte_locks.specs.declared.set_fault.SetFault.TheVariants.{Conflict, Full, NoMemory}
 use Rattle.byte_locks.specs.LockId.{every_lock, same_lock}
-use Rattle.byte_locks.specs.LockBytes.{file_of, same_file}
 use Rattle.byte_locks.specs.LockSet.{Marks, has}
-use Rattle.byte_locks.specs.LockEntry.{same_owner, is_of, opposes, in_kind, MayStandTogether}
+use Rattle.byte_locks.specs.LockEntry.{is_of, opposes, in_kind, MayStandTogether}
 
 -- who holds which lock how, in the order of granting
 abbrev pub LockList : Type 0

@@ -1,9 +1,8 @@
-use Rattle.std.proofs.Common.{◌≡◌, ◌↔◌, IsTrue, Bool, rules, length, ap, sym, ◌∙◌, subst}
+use Rattle.std.proofs.Common.{Bool, rules, length, ap}
 use Rattle.byte_locks.specs.declared.lock_id.LockId.{LockId}
 use Rattle.byte_locks.specs.declared.lock_id.LockId.TheVariants.{Pending}
 use Rattle.byte_locks.specs.LockId.{every_lock}
-use Rattle.byte_locks.specs.LockBytes.{touches, Touches}
-use Rattle.byte_locks.specs.LockSet.{has, set_of}
+use Rattle.byte_locks.specs.LockBytes.{touches}
 use Rattle.byte_locks.proofs.Arrays.{map_from_calls}
 use Rattle.byte_locks.proofs.Bytes.{touches_iff}
 use Rattle.byte_locks.proofs.Locks.{has-set_of}

@@ -1,8 +1,7 @@
-use Rattle.std.proofs.Common.{Bool, not, rules, subst, sym}
+use Rattle.std.proofs.Common.{Bool, not, rules}
 use Rattle.std.proofs.lemmas.Fn.{filter_same}
 use Rattle.byte_locks.specs.declared.lock_entry.LockEntry.{LockEntry}
 use Rattle.byte_locks.specs.LockEntry.{on_file}
-use Rattle.byte_locks.specs.LockList.{without}
 use Rattle.byte_locks.proofs.Held.{HeldAfter-without}
 use Rattle.byte_locks.proofs.Releases.{IsLockList-from_filter}
 use Rattle.byte_locks.proofs.lock_table.LockTable.release_file.Goals as goal
