@@ -15,7 +15,7 @@ use Rattle.byte_locks.proofs.Counts.{find-map, find-filter}
 use Rattle.byte_locks.proofs.Locks.{same_owner-true, same_owner-itself, same_lock-true, same_lock-itself, find-every_lock}
 
 -- an entry that is the owner's on the lock has that owner and that lock
-is_of-true : (owner : Owner) (lock : LockId) (e : LockEntry) → is_of owner lock e ≡ true → (e.owner ≡ owner) × (e.lock ≡ lock)
+pub is_of-true : (owner : Owner) (lock : LockId) (e : LockEntry) → is_of owner lock e ≡ true → (e.owner ≡ owner) × (e.lock ≡ lock)
 is_of-true owner lock e h =
     let parts = and_parts (same_owner e.owner owner) (same_lock e.lock lock) h in
     (same_owner-true e.owner owner parts.0, same_lock-true e.lock lock parts.1)

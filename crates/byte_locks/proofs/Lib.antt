@@ -1,6 +1,7 @@
 pub mod Arrays
 pub mod Bytes
 pub mod Counts
+pub mod Exclusion
 pub mod Grants
 pub mod Held
 pub mod Locks

@@ -1,4 +1,5 @@
-ghost use Rattle.std.specs.Prelude.{◌≡◌, [], ℕ, OnOk, OnErr, IfErr, IsErrOf, Err, Some, None, ◌↔◌, IsTrue};
+ghost use Rattle.std.specs.Prelude.{◌≡◌, [], ℕ, OnOk, OnErr, IfErr, IsErrOf, Err, Some, None, IsSome, ◌↔◌, IsTrue};
+ghost use Rattle.byte_locks.specs.declared.owner.Owner.{Owner};
 ghost use Rattle.byte_locks.specs.LockEntry.{in_set, on_file, of_session};
 ghost use Rattle.byte_locks.specs.LockList.{IsLockList, kind_held, is_held, holder_count, opponent, first_contested, conflict, is_full, first_full, MayGrant, HasCause, granted, without, HeldAfter};
 
@@ -95,6 +96,7 @@ impl LockTable {
     pub fn holds(&self, owner: Owner, lock: LockId) -> Option<LockKind>
         ensures value { result ≡ kind_held self.now owner lock }
         ensures list { IsLockList self.now }
+        ensures alone { result ≡ Some LockKind.Write → (other : Owner) → IsSome (kind_held self.now other lock) → other ≡ owner }
     {
         kind_held(&self.entries, owner, lock)
     }
