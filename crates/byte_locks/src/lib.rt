@@ -1,7 +1,7 @@
 //! The byte-range locks that SQLite takes on the files of a database, and the table that grants them.
 //!
 //! A request names a set of locks. It is granted whole or not at all, and a refusal says which lock
-//! and which holder stood in its way. The table knows nothing of files' contents or of sessions.
+//! and which holder stood in its way. The table knows nothing of what the files hold.
 #![tactic(auto)]
 
 mod grant;
