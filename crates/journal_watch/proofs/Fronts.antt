@@ -50,31 +50,31 @@ take-replaced n file place bytes part long within cut =
     let sizes : (length file ≤ length whole) × (place + length bytes ≤ length whole) = length-grown file (place + length bytes) in
     let left : length (replaced front place part) ≡ n = length-replaced front place part front_fits ∙ front_length in
     let right : length (take n (replaced whole place bytes)) ≡ n =
-      length-take-le n (replaced whole place bytes) (rw (length-replaced whole place bytes sizes.1) (omega arith))
+    length-take-le n (replaced whole place bytes) (rw (length-replaced whole place bytes sizes.1) (omega arith))
     in
     same_lists _ _ (left ∙ sym right)
     (λ k d h.
     let inside : k < n = rw (← left) h in
     let cut_at : get_or (take n (replaced whole place bytes)) k d ≡ get_or (replaced whole place bytes) k d =
-      get_or-take n (replaced whole place bytes) k d inside
+    get_or-take n (replaced whole place bytes) k d inside
     in
     elim (cases_lt k place) [
-      inl before ↦
-        get_or-replaced_before front place part k d front_fits before
-        ∙ get_or-take n file k d inside
-        ∙ sym (cut_at ∙ get_or-replaced_before whole place bytes k d sizes.1 before ∙ get_or-grown file _ k d (omega arith))
-    | inr from ↦
-        elim (cases_lt k (place + length bytes)) [
-          inl here ↦
-            get_or-replaced_in front place part k d front_fits from (omega arith)
-            ∙ ap (λ bs. get_or bs (k - place) d) cut
-            ∙ get_or-take m bytes (k - place) d (omega arith)
-            ∙ sym (cut_at ∙ get_or-replaced_in whole place bytes k d sizes.1 from here)
-        | inr behind ↦
-            get_or-replaced_behind front place part k d front_fits (omega arith)
-            ∙ get_or-take n file k d inside
-            ∙ sym (cut_at ∙ get_or-replaced_behind whole place bytes k d sizes.1 behind ∙ get_or-grown file _ k d (omega arith))
-        ]
+      | inl before ↦
+          get_or-replaced_before front place part k d front_fits before
+          ∙ get_or-take n file k d inside
+          ∙ sym (cut_at ∙ get_or-replaced_before whole place bytes k d sizes.1 before ∙ get_or-grown file _ k d (omega arith))
+      | inr from ↦
+          elim (cases_lt k (place + length bytes)) [
+            | inl here ↦
+                get_or-replaced_in front place part k d front_fits from (omega arith)
+                ∙ ap (λ bs. get_or bs (k - place) d) cut
+                ∙ get_or-take m bytes (k - place) d (omega arith)
+                ∙ sym (cut_at ∙ get_or-replaced_in whole place bytes k d sizes.1 from here)
+            | inr behind ↦
+                get_or-replaced_behind front place part k d front_fits (omega arith)
+                ∙ get_or-take n file k d inside
+                ∙ sym (cut_at ∙ get_or-replaced_behind whole place bytes k d sizes.1 behind ∙ get_or-grown file _ k d (omega arith))
+          ]
     ])
 
 pub take-written : (n : ℕ) (file : List ℕ) (place : ℕ) (bytes : List ℕ) (reached : ℕ) → n ≤ length file → place < n →

@@ -1,10 +1,10 @@
 ghost use Rattle.std.specs.Prelude.{◌≡◌, ◌+◌, ◌-◌, ◌<◌, ◌≤◌, ◌↔◌, [], length, min, max, Some, None, IsSome, IsNone, IfOk, IsOk, OnOk, OnErr};
+ghost use Rattle.std.specs.Option.{option_map};
 ghost use Rattle.journal_watch.specs.Journal.{Journal, is_active, finishes, bytes_of, after_write, after_cut};
 ghost use Rattle.journal_watch.specs.Region.{written, cut_to, read_into};
 
 use crate::fault::JournalFault;
-use crate::header;
-use crate::region;
+use crate::{header, region};
 use std::alloc::Global;
 use std::marker::Model;
 
@@ -51,6 +51,26 @@ impl JournalFile {
         ensures { self.new ≡ record { file = Some []; room = self.old.room } }
     {
         self.exists = true;
+    }
+
+    /// How many bytes the file has, if it exists.
+    pub fn len(&self) -> Option<u64>
+        ensures { result ≡ option_map length self.now.file }
+    {
+        if self.exists {
+            Some(self.bytes.len() as u64)
+        } else {
+            None
+        }
+    }
+
+    /// How many bytes the file may have without taking memory.
+    pub fn room(&self) -> u64
+        ensures value { result ≡ self.now.room }
+        ensures enough { length (bytes_of self.now.file) ≤ result }
+        ensures limited { result ≤ JOURNAL_LIMIT }
+    {
+        self.room
     }
 
     /// Whether the journal is active: it exists and has a whole header.
@@ -102,9 +122,9 @@ impl JournalFile {
         ensures file { self.new ≡ after_write self.old at bytes.now }
         ensures finished { result ≡ finishes self.old.file self.new.file }
     {
-        let was_active = self.is_active();
+        let before = self.is_active();
         region::write(&mut self.bytes, at as usize, bytes);
-        was_active && !self.is_active()
+        before && !self.is_active()
     }
 
     /// Cuts the file to `len` bytes, or grows it with zeros. The answer says whether this finished
@@ -130,9 +150,10 @@ impl JournalFile {
         ensures file { self.new ≡ after_cut self.old len }
         ensures finished { result ≡ finishes self.old.file self.new.file }
     {
-        let was_active = self.is_active();
+        let before = self.is_active();
         region::cut(&mut self.bytes, len as usize);
-        was_active && !self.is_active()
+        let after = self.is_active();
+        before && !after
     }
 
     /// Removes the file, if it is there, with its room. The answer says whether this finished the
@@ -141,12 +162,12 @@ impl JournalFile {
         ensures file { self.new ≡ record { file = None; room = 0 } }
         ensures finished { result ≡ finishes self.old.file self.new.file }
     {
-        let was_active = self.is_active();
+        let finished = self.is_active();
         let alloc = *self.bytes.allocator();
         self.exists = false;
         self.bytes = Vec::new(alloc);
         self.room = 0;
-        was_active
+        finished
     }
 
     /// Whether `write` of these bytes would finish the journal.

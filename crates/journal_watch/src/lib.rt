@@ -10,6 +10,8 @@ mod fault;
 mod file;
 mod header;
 mod region;
+#[cfg(test)]
+mod tests;
 
 pub use fault::JournalFault;
 pub use file::{JOURNAL_LIMIT, JournalFile};
