@@ -1,5 +1,5 @@
 -- What the parts of a journal keep between its calls.
-use Rattle.std.specs.Prelude.{◌≡◌, ℕ, ◌≤◌, Bool, false, Some, None, [], vec_len, if◌then◌else◌}
+use Rattle.std.specs.Prelude.{◌≡◌, ◌≤◌, false, Some, None, [], vec_len, if◌then◌else◌}
 use Rattle.std.specs.Vec.{vec_capacity}
 use Rattle.journal_watch.specs.Journal.{Journal}
 use Rattle.journal_watch.specs.declared.file.JournalFile.TheInside.{Inside}

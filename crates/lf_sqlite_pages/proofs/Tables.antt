@@ -1,5 +1,5 @@
 -- The entries of a hash table, as the finite map that they stand for.
-use Rattle.std.proofs.Common.{◌≡◌, ℕ, ◌+◌, length, false, Bool, cond, Option, Some, None, List, [], ◌∷◌, refl, sym, ap, ◌∙◌, subst, leb, arith}
+use Rattle.std.proofs.Common.{◌≡◌, ℕ, length, false, Bool, cond, Option, Some, None, List, [], ◌∷◌, refl, sym, ap, ◌∙◌, subst, leb, arith}
 use Rattle.std.specs.Prelude.{nat_eq, IsSomeAnd}
 use Rattle.std.specs.List.{filter, IsDistinct, AllByRecursion}
 use Rattle.std.specs.Ordering.{nat_cmp}

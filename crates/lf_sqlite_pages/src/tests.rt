@@ -26,7 +26,10 @@ fn first_byte<S: PageStore>(store: &mut S, n: u32) -> Option<u8> {
 fn changes_give_images(rt: HostRuntime) -> Result<(), Fail> {
     let alloc = rt.alloc();
     let mut image = Image::empty(alloc);
-    assert_eq!(rt; (image.page_size(), image.commit(), image.is_broken()), (0, 0, false));
+    assert_eq!(rt;
+        (image.page_size(), image.commit(), image.is_broken()),
+        (0, 0, false)
+    );
 
     let mut first = Change::new(alloc, 512, 10);
     first.push(1, page(alloc, 11)?.as_slice())?;
@@ -39,7 +42,10 @@ fn changes_give_images(rt: HostRuntime) -> Result<(), Fail> {
     let mut grown = Change::new(alloc, 512, 8);
     grown.push(6, page(alloc, 36)?.as_slice())?;
     grown.push(8, page(alloc, 38)?.as_slice())?;
-    assert_eq!(rt; (grown.page_size(), grown.commit(), grown.pages().len()), (512, 8, 2));
+    assert_eq!(rt;
+        (grown.page_size(), grown.commit(), grown.pages().len()),
+        (512, 8, 2)
+    );
     image.apply(&grown)?;
 
     for (n, byte) in [
@@ -113,7 +119,10 @@ fn overlay_keeps_pages_in_its_room(rt: HostRuntime) -> Result<(), Fail> {
     overlay.put(9, page(alloc, 2)?.as_slice());
     assert!(rt; overlay.has_room(3));
     overlay.put(3, page(alloc, 4)?.as_slice());
-    assert_eq!(rt; (overlay.len(), overlay.has_room(9), overlay.has_room(1)), (2, true, false));
+    assert_eq!(rt;
+        (overlay.len(), overlay.has_room(9), overlay.has_room(1)),
+        (2, true, false)
+    );
     assert_eq!(rt; overlay.get(3), Some(page(alloc, 4)?.as_slice()));
     overlay.cut(8);
     assert_eq!(rt; (overlay.get(9), overlay.len()), (None, 1));

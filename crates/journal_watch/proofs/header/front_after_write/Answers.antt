@@ -1,5 +1,5 @@
 -- The front of the file after the write is the front with the part of the write that lies in it.
-use Rattle.std.proofs.Common.{sym, ap, ◌∙◌, arith, take}
+use Rattle.std.proofs.Common.{ap, ◌∙◌, take}
 use Rattle.journal_watch.specs.Region.{replaced}
 use Rattle.journal_watch.proofs.Fronts.{take-written, take-written_past}
 use Rattle.journal_watch.proofs.header.front_after_write.Goals as goal
