@@ -1,0 +1,4 @@
+pub mod NameText
+pub mod OneReading
+pub mod Refusals
+pub mod Answers
