@@ -2,3 +2,4 @@ pub mod NameText
 pub mod OneReading
 pub mod Refusals
 pub mod Answers
+pub mod Replies

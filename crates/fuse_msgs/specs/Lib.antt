@@ -9,3 +9,4 @@ pub mod Session
 pub mod Body
 pub mod Message
 pub mod Decoding
+pub mod Reply

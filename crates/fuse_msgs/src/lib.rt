@@ -8,17 +8,24 @@
 
 mod attributes;
 mod decoding;
+mod encoding;
 mod fault;
 mod fields;
 mod handles;
 mod header;
+mod init_reply;
 mod io;
 mod locks;
 mod names;
 mod opcode;
+mod reply;
+mod reply_body;
 mod request;
 mod session;
+mod writing;
 
 pub use decoding::decode;
+pub use encoding::encode;
 pub use fault::BadMessage;
+pub use reply::Reply;
 pub use request::{LockWish, Op, Request};
