@@ -3,3 +3,4 @@ pub mod OneReading
 pub mod Refusals
 pub mod Answers
 pub mod Replies
+pub mod Feeding

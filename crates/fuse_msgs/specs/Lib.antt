@@ -10,3 +10,4 @@ pub mod Body
 pub mod Message
 pub mod Decoding
 pub mod Reply
+pub mod Feed
