@@ -74,10 +74,10 @@ pub record Completes (held piece : List ℕ) (n len : ℕ) : Type 0 where
   pub len_is : len ≡ len_of (held ++ take n piece)
 
 -- what is held and a front of the piece are a front of the whole text
-front_then_rest : (held piece : List ℕ) (n : ℕ) → held ++ piece ≡ (held ++ take n piece) ++ drop n piece
+pub front_then_rest : (held piece : List ℕ) (n : ℕ) → held ++ piece ≡ (held ++ take n piece) ++ drop n piece
 front_then_rest held piece n = ap (λ x. held ++ x) (sym (take-append-drop n piece)) ∙ sym (append_assoc held (take n piece) (drop n piece))
 
-length-front : (held piece : List ℕ) (n : ℕ) → n ≤ length piece → length (held ++ take n piece) ≡ length held + n
+pub length-front : (held piece : List ℕ) (n : ℕ) → n ≤ length piece → length (held ++ take n piece) ≡ length held + n
 length-front held piece n h = omega (arith, length-append held (take n piece), length-take n piece)
 
 -- the whole text has the same length field
@@ -96,7 +96,7 @@ two_fronts held piece n m within =
     append_assoc held (take n piece) (take m (drop n piece)) ∙ ap (λ x. held ++ x) (take_two n m piece)
 
 -- a length that a message has is at least a header's
-length_is_40 : (len : ℕ) → is_length len ≡ true → 40 ≤ len
+pub length_is_40 : (len : ℕ) → is_length len ≡ true → 40 ≤ len
 length_is_40 len g = leb-true 40 len (and-true_left (leb 40 len) (leb len 135168) g)
 
 grown : (held piece : List ℕ) (n len : ℕ) → Completes held piece n len → is_length len ≡ true → is_whole held ≡ false → 4 ≤ length held → length held + n < len

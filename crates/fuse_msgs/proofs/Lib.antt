@@ -4,3 +4,5 @@ pub mod Refusals
 pub mod Answers
 pub mod Replies
 pub mod Feeding
+pub mod Texts
+pub mod Run

@@ -50,3 +50,38 @@ feed_answer held piece = answer_at (length held) (front_of (held ++ piece))
 -- what is held after feeding a piece
 abbrev pub fed_on : List ℕ → List ℕ → List ℕ
 fed_on held piece = held ++ take (taken_at (length held) (length piece) (front_of (held ++ piece))) piece
+
+-- ---- a whole run
+
+-- the message that is held, where it is whole
+abbrev pub finished : List ℕ → List (List ℕ)
+finished held = if is_whole held then held ∷ [] else []
+
+-- the bytes that feeding a piece takes
+abbrev pub taken_of : List ℕ → List ℕ → List ℕ
+taken_of held piece = take (taken_at (length held) (length piece) (front_of (held ++ piece))) piece
+
+-- the bytes that feeding the pieces takes, where each whole message is cleared before the next piece
+abbrev pub text_of : List ℕ → List (List ℕ) → List ℕ
+text_of held [] = []
+text_of held (piece ∷ pieces) = taken_of held piece ++ text_of (unfinished (fed_on held piece)) pieces
+
+-- the messages that it gives
+abbrev pub messages_of : List ℕ → List (List ℕ) → List (List ℕ)
+messages_of held [] = []
+messages_of held (piece ∷ pieces) = finished (fed_on held piece) ++ messages_of (unfinished (fed_on held piece)) pieces
+
+-- what it leaves
+abbrev pub left_of : List ℕ → List (List ℕ) → List ℕ
+left_of held [] = held
+left_of held (piece ∷ pieces) = left_of (unfinished (fed_on held piece)) pieces
+
+-- a whole message and no more
+abbrev pub IsWholeMessage : List ℕ → Type 0
+IsWholeMessage text = front_of text ≡ whole (length text)
+
+-- a text is these messages one after another, and a rest that begins with no whole message
+pub record Splits (text : List ℕ) (messages : List (List ℕ)) (rest : List ℕ) : Type 0 where
+  pub text_is : text ≡ flat_map (λ message. message) messages ++ rest
+  pub each : AllByRecursion IsWholeMessage messages
+  pub partial : is_whole rest ≡ false

@@ -11,3 +11,4 @@ pub mod Message
 pub mod Decoding
 pub mod Reply
 pub mod Feed
+pub mod Text
