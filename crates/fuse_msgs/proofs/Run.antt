@@ -10,7 +10,7 @@ use Rattle.fuse_msgs.specs.declared.feed.Fed.TheVariants as fed
 use Rattle.fuse_msgs.specs.declared.fault.BadMessage.{BadMessage}
 use Rattle.fuse_msgs.specs.declared.fault.BadMessage.TheVariants as bad
 use Rattle.fuse_msgs.specs.Message.{len_of, is_length}
-use Rattle.fuse_msgs.specs.Feed.{Front, part, whole, broken, front_of, is_whole, is_whole_front, unfinished, finished, fed_on, feed_answer, answer_at, taken_at, taken_of, text_of, messages_of, left_of, IsWholeMessage, Splits}
+use Rattle.fuse_msgs.specs.Feed.{Front, part, whole, broken, front_of, is_whole, is_whole_front, says_whole, UsesSome, unfinished, finished, fed_on, feed_answer, answer_at, taken_at, taken_of, text_of, messages_of, left_of, IsWholeMessage, Splits}
 use Rattle.fuse_msgs.proofs.Feeding.{len_of-append, front_of-short, front_of-part, front_of-whole, front_of-broken, front_then_rest, length-front, length_is_40, unfinished_below}
 
 clash : {A : Type 0} → true ≡ false → A
@@ -60,9 +60,9 @@ taken_is held piece len four enough below =
 front_len : (held piece : List ℕ) (n : ℕ) → 4 ≤ length (held ++ take n piece) → len_of (held ++ take n piece) ≡ len_of (held ++ piece)
 front_len held piece n four = sym (ap len_of (front_then_rest held piece n) ∙ len_of-append (held ++ take n piece) (drop n piece) four)
 
--- what is held isn't past the message that the text begins with
-held_within : (held piece : List ℕ) → is_whole held ≡ false → is_length (len_of (held ++ piece)) ≡ true → length held ≤ len_of (held ++ piece)
-held_within held piece u g =
+-- what is held ends before the message that the text begins with
+held_before : (held piece : List ℕ) → is_whole held ≡ false → is_length (len_of (held ++ piece)) ≡ true → length held < len_of (held ++ piece)
+held_before held piece u g =
     elim (cases_lt (length held) 4) [
       | inl lt ↦ omega (arith, length_is_40 (len_of (held ++ piece)) g)
       | inr le ↦ let same = len_of-append held piece le in omega (arith, same, unfinished_below held le (sym (ap is_length same) ∙ g) u)
@@ -73,7 +73,7 @@ whole_fed : (held piece : List ℕ) → is_whole held ≡ false → 4 ≤ length
     → IsWholeMessage (held ++ take (len_of (held ++ piece) - length held) piece)
 whole_fed held piece u four g enough =
     let low : 4 ≤ len_of (held ++ piece) = omega (arith, length_is_40 (len_of (held ++ piece)) g) in
-    let size : length (held ++ take (len_of (held ++ piece) - length held) piece) ≡ len_of (held ++ piece) = taken_is held piece (len_of (held ++ piece)) low enough (held_within held piece u g) in
+    let size : length (held ++ take (len_of (held ++ piece) - length held) piece) ≡ len_of (held ++ piece) = taken_is held piece (len_of (held ++ piece)) low enough (omega (arith, held_before held piece u g)) in
     let same : len_of (held ++ take (len_of (held ++ piece) - length held) piece) ≡ len_of (held ++ piece) = front_len held piece (len_of (held ++ piece) - length held) (omega (arith, size)) in
     front_of-whole (held ++ take (len_of (held ++ piece) - length held) piece) (omega (arith, size)) (ap is_length same ∙ g) (omega (arith, size, same)) ∙ ap whole (same ∙ sym size)
 
@@ -96,12 +96,35 @@ fed_message held piece u w =
       | complete four g enough f ↦ rw f (whole_fed held piece u four g enough)
     ]
 
+-- whether a message is whole then is what the answer says
+pub whole_told : (held piece : List ℕ) → is_whole held ≡ false → is_whole (fed_on held piece) ≡ says_whole (feed_answer held piece)
+whole_told held piece u =
+    elim (case_of (held ++ piece)) [
+      | short lt f ↦ rw f (rw (take_all (length piece) piece (omega arith)) (ap is_whole_front f))
+      | partial four g lt f ↦ rw f (rw (take_all (length piece) piece (omega arith)) (ap is_whole_front f))
+      | bad_len four b f ↦ rw f (ap is_whole_front (broken_fed held piece four b))
+      | complete four g enough f ↦ rw f (ap is_whole_front (whole_fed held piece u four g enough))
+    ]
+
+-- a message that becomes whole uses some of the piece
+pub some_used : (held piece : List ℕ) → is_whole held ≡ false → UsesSome (feed_answer held piece) (length piece)
+some_used held piece u =
+    elim (case_of (held ++ piece)) [
+      | short lt f ↦ rw f tt
+      | partial four g lt f ↦ rw f tt
+      | bad_len four b f ↦ rw f tt
+      | complete four g enough f ↦ rw f (omega (arith, held_before held piece u g), omega (arith, length-append held piece, enough))
+    ]
+
 -- ---- the run
+
+pub empty_unfinished : is_whole [] ≡ false
+empty_unfinished = ap is_whole_front (front_of-short [] (omega arith))
 
 pub unfinished_partial : (text : List ℕ) → is_whole (unfinished text) ≡ false
 unfinished_partial text =
     elim (bool_cases (is_whole text)) [
-      | inl w ↦ rw w (ap is_whole_front (front_of-short [] (omega arith)))
+      | inl w ↦ rw w empty_unfinished
       | inr u ↦ rw u u
     ]
 
@@ -220,7 +243,7 @@ one_splitting text ms ns r s p q = split_once ms ns r s p.each q.each p.partial 
 
 -- the pieces of a text give its messages
 pub pieces_split : (pieces : List (List ℕ)) → Splits (text_of [] pieces) (messages_of [] pieces) (left_of [] pieces)
-pieces_split pieces = run_splits [] pieces (ap is_whole_front (front_of-short [] (omega arith)))
+pieces_split pieces = run_splits [] pieces empty_unfinished
 
 -- ---- a length field that no message has
 

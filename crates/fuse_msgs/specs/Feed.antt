@@ -1,5 +1,5 @@
 -- A text of messages that comes in pieces.
-use Rattle.std.specs.Prelude.{◌≡◌, ℕ, ◌-◌, nat_lt, nat_le, ◌==◌, Bool, true, false, List, [], ◌∷◌, ◌++◌, length, take, Result, Ok, Err, if◌then◌else◌}
+use Rattle.std.specs.Prelude.{◌≡◌, ℕ, ◌-◌, ◌<◌, ◌≤◌, nat_lt, nat_le, ◌==◌, Bool, true, false, List, [], ◌∷◌, ◌++◌, length, take, Result, Ok, Err, if◌then◌else◌}
 use Rattle.std.specs.List.{flat_map, AllByRecursion}
 use Rattle.fuse_msgs.specs.declared.feed.Fed.{Fed}
 use Rattle.fuse_msgs.specs.declared.feed.Fed.TheVariants as fed
@@ -50,6 +50,16 @@ feed_answer held piece = answer_at (length held) (front_of (held ++ piece))
 -- what is held after feeding a piece
 abbrev pub fed_on : List ℕ → List ℕ → List ℕ
 fed_on held piece = held ++ take (taken_at (length held) (length piece) (front_of (held ++ piece))) piece
+
+-- whether an answer says that a message is whole
+abbrev pub says_whole : Result Fed BadMessage → Bool
+says_whole (Ok (fed.Whole used)) = true
+says_whole _ = false
+
+-- where a message is whole, some of the piece's bytes were used, and at most all
+abbrev pub UsesSome : Result Fed BadMessage → ℕ → Type 0
+UsesSome (Ok (fed.Whole used)) more = (0 < used) × (used ≤ more)
+UsesSome _ more = Unit {0}
 
 -- ---- a whole run
 

@@ -1,7 +1,7 @@
 //! Messages from a text that comes in pieces.
 
 ghost use Rattle.std.specs.Prelude.{◌≡◌, ◌+◌, ◌-◌, ◌≤◌, ◌++◌, [], true, false, length, take, min, vec_len, vec_capacity, IfOk};
-ghost use Rattle.fuse_msgs.specs.Feed.{is_whole, unfinished, feed_answer, fed_on};
+ghost use Rattle.fuse_msgs.specs.Feed.{is_whole, unfinished, feed_answer, fed_on, says_whole, UsesSome};
 
 use crate::fault::BadMessage;
 use crate::fields::u32_at;
@@ -41,7 +41,8 @@ impl Model for MessageFeed {
 impl MessageFeed {
     /// Holds nothing, with room for one message.
     pub fn new(alloc: Global) -> Result<MessageFeed, NoMemory>
-        ensures { IfOk result (λ feed. feed ≡ []) }
+        ensures empty { IfOk result (λ feed. feed ≡ []) }
+        ensures unfinished { IfOk result (λ feed. is_whole feed ≡ false) }
     {
         let bytes = Vec::with_capacity(alloc, MESSAGE_MAX)?;
         Ok(MessageFeed { bytes })
@@ -53,6 +54,8 @@ impl MessageFeed {
         requires { is_whole self.old ≡ false }
         ensures answer { result ≡ feed_answer self.old piece.now }
         ensures held { self.new ≡ fed_on self.old piece.now }
+        ensures whole { is_whole self.new ≡ says_whole result }
+        ensures used { UsesSome result (length piece.now) }
     {
         feed_into(&mut self.bytes, piece)
     }
@@ -67,7 +70,8 @@ impl MessageFeed {
 
     /// Begins the next message, where one is whole; an unfinished one stays.
     pub fn clear(&mut self)
-        ensures { self.new ≡ unfinished self.old }
+        ensures next { self.new ≡ unfinished self.old }
+        ensures unfinished { is_whole self.new ≡ false }
     {
         if is_whole(self.bytes.as_slice()) {
             self.bytes.clear();
