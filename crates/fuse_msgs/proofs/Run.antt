@@ -40,12 +40,12 @@ case_of text =
     elim (cases_lt (length text) 4) [
       | inl lt ↦ short lt (front_of-short text lt)
       | inr le ↦ elim (bool_cases (is_length (len_of text))) [
-          | inr b ↦ bad_len le b (front_of-broken text le b)
-          | inl g ↦ elim (cases_lt (length text) (len_of text)) [
-              | inl lt ↦ partial le g lt (front_of-part text le g lt)
-              | inr enough ↦ complete le g enough (front_of-whole text le g enough)
-            ]
+        | inr b ↦ bad_len le b (front_of-broken text le b)
+        | inl g ↦ elim (cases_lt (length text) (len_of text)) [
+          | inl lt ↦ partial le g lt (front_of-part text le g lt)
+          | inr enough ↦ complete le g enough (front_of-whole text le g enough)
         ]
+      ]
     ]
 
 -- ---- a whole message

@@ -9,10 +9,12 @@ use crate::request::Op;
 
 /// The sizes of `fuse_getattr_in` and `fuse_setattr_in`.
 const GETATTR_IN: usize = 16;
+
 const SETATTR_IN: usize = 88;
 
 /// The bits of `valid` that say that a field is given: `FATTR_SIZE` and `FATTR_LOCKOWNER`.
 const SIZE: u32 = 3;
+
 const LOCK_OWNER: u32 = 9;
 
 /// The GETATTR of a body: a `fuse_getattr_in`.

@@ -18,12 +18,7 @@ const FIXED_BODY: usize = 144;
 
 /// Appends the reply to the request of this number.
 #[tactic(auto, using(crate::proofs::Replies::fixed_body_short))]
-pub fn encode(
-    alloc: Global,
-    reply: &Reply,
-    unique: u64,
-    out: &mut Vec<u8>,
-) -> Result<(), NoMemory>
+pub fn encode(alloc: Global, reply: &Reply, unique: u64, out: &mut Vec<u8>) -> Result<(), NoMemory>
     requires { IsReply reply.now }
     ensures ok { OnOk result (out.new.items ≡ out.old.items ++ reply_bytes reply.now unique) }
     ensures err { OnErr result (out.new.items ≡ out.old.items) }

@@ -9,7 +9,9 @@ use crate::request::Op;
 
 /// The sizes of `fuse_open_in`, of `fuse_release_in` and `fuse_flush_in`, and of `fuse_fsync_in`.
 const OPEN_IN: usize = 8;
+
 const RELEASE_IN: usize = 24;
+
 const FSYNC_IN: usize = 16;
 
 /// The OPEN of a body: a `fuse_open_in`.

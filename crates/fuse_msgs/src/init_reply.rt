@@ -8,6 +8,7 @@ use lf_base::NoMemory;
 
 /// The version of the protocol.
 const MAJOR: u32 = 7;
+
 const MINOR: u32 = 31;
 
 /// The client need not read ahead.
@@ -18,6 +19,7 @@ const POSIX_LOCKS: u32 = 2;
 
 /// How many requests may wait in the background, and at how many the client slows down.
 const MAX_BACKGROUND: u16 = 16;
+
 const CONGESTION_THRESHOLD: u16 = 12;
 
 /// The most bytes that one WRITE has.

@@ -33,3 +33,6 @@ pub use feed::{Fed, MessageFeed};
 pub use laws::{any_pieces, refused_for_good, request_texts};
 pub use reply::Reply;
 pub use request::{LockWish, Op, Request};
+
+#[cfg(test)]
+mod tests;

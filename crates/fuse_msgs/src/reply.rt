@@ -7,15 +7,27 @@ use lf_base::{Bytes, Errno};
 #[derive(Debug, Drop)]
 pub enum Reply {
     /// The node of a name, to LOOKUP.
-    Entry { node: u64, size: u64 },
+    Entry {
+        node: u64,
+        size: u64,
+    },
     /// The attributes of a node, to GETATTR and SETATTR.
-    Attr { node: u64, size: u64 },
+    Attr {
+        node: u64,
+        size: u64,
+    },
     /// A handle, to OPEN.
-    Opened { fh: u64 },
+    Opened {
+        fh: u64,
+    },
     /// What was read, to READ: at most 4,294,967,279 bytes.
-    Bytes { bytes: Bytes },
+    Bytes {
+        bytes: Bytes,
+    },
     /// How many bytes were written, to WRITE.
-    Written { size: u32 },
+    Written {
+        size: u32,
+    },
     /// The version and the limits of this side, to INIT.
     Init,
     /// The first conflicting lock, to GETLK; where there is none, the range asked for and `Unlock`.
@@ -25,7 +37,11 @@ pub enum Reply {
         kind: LockWish,
     },
     /// A new node and a handle of it, to CREATE.
-    Created { node: u64, size: u64, fh: u64 },
+    Created {
+        node: u64,
+        size: u64,
+        fh: u64,
+    },
     /// Nothing but that it is done.
     Empty,
     /// A refusal; the number is 1 to 4,095.

@@ -13,6 +13,7 @@ const ROOT: u64 = 1;
 
 /// The modes of the root and of a file.
 const ROOT_MODE: u32 = 0o40755;
+
 const FILE_MODE: u32 = 0o100644;
 
 /// The preferred size of a read or a write.

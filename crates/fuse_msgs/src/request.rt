@@ -21,7 +21,9 @@ pub struct Request {
 #[derive(Debug, Drop)]
 pub enum Op {
     /// Looks a name up in the root.
-    Lookup { name: Bytes },
+    Lookup {
+        name: Bytes,
+    },
     /// Forgets a node; it has no reply.
     Forget,
     /// Asks for the attributes of a node.
@@ -32,7 +34,9 @@ pub enum Op {
         owner: Option<u64>,
     },
     /// Removes a name from the root.
-    Unlink { name: Bytes },
+    Unlink {
+        name: Bytes,
+    },
     /// Opens a node.
     Open,
     /// Reads `size` bytes from `at` on.
@@ -50,13 +54,24 @@ pub enum Op {
         bytes: Bytes,
     },
     /// Closes a handle.
-    Release { fh: u64, owner: u64 },
+    Release {
+        fh: u64,
+        owner: u64,
+    },
     /// Makes what was written durable.
-    Fsync { fh: u64 },
+    Fsync {
+        fh: u64,
+    },
     /// Comes before a descriptor of the handle is closed.
-    Flush { fh: u64, owner: u64 },
+    Flush {
+        fh: u64,
+        owner: u64,
+    },
     /// Opens the session, with the client's version of the protocol.
-    Init { major: u32, minor: u32 },
+    Init {
+        major: u32,
+        minor: u32,
+    },
     /// Asks for a lock that conflicts with this one.
     Getlk {
         fh: u64,
@@ -82,7 +97,9 @@ pub enum Op {
         kind: LockWish,
     },
     /// Makes a name in the root, and opens it.
-    Create { name: Bytes },
+    Create {
+        name: Bytes,
+    },
     /// Ends the session.
     Destroy,
 }

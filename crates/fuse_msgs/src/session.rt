@@ -9,6 +9,7 @@ use crate::request::Op;
 
 /// The sizes of `fuse_forget_in` and of what each version has of `fuse_init_in`.
 const FORGET_IN: usize = 8;
+
 const INIT_IN: usize = 16;
 
 /// The INIT of a body: a `fuse_init_in`, and what later versions have behind it.
