@@ -70,6 +70,7 @@ name_has body op.Destroy h = refl
 
 -- a message has no fault
 pub refusal-message : (bytes : List ℕ) (request : Request) → IsMessage bytes request → refusal bytes ≡ None
+unfolding refusal
 refusal-message bytes request h =
     let long : ltb (length bytes) 40 ≡ false = le-ltb _ _ h.header in
     let low : leb 40 (len_of bytes) ≡ true = le-leb _ _ (omega (arith, h.len_is, h.header)) in

@@ -55,7 +55,7 @@ opcode_refusal None bytes = Some (bad.Opcode (opcode_field bytes) (unique_of byt
 opcode_refusal (Some opcode) bytes = body_refusal opcode (unique_of bytes) (body_of bytes)
 
 -- the first thing that is wrong with the bytes
-abbrev pub refusal : List ℕ → Option BadMessage
+unfoldable pub refusal : List ℕ → Option BadMessage
 refusal bytes =
     if nat_lt (length bytes) 40 then Some bad.Short else
     if not (is_length (len_of bytes) && (len_of bytes == length bytes)) then Some (bad.Length (len_of bytes)) else

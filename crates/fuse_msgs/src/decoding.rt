@@ -15,6 +15,7 @@ use crate::{attributes, handles, io, locks, names, session};
 use std::alloc::Global;
 
 /// The request of a message, which is all of the bytes.
+#[tactic(auto, using(crate::proofs::Answers::accepts, crate::proofs::Answers::refuses))]
 pub fn decode(alloc: Global, bytes: &[u8]) -> Result<Request, BadMessage>
     // What is read is a message of that request.
     ensures message { IfOk result (λ request. IsMessage bytes.now request) }
@@ -27,6 +28,7 @@ pub fn decode(alloc: Global, bytes: &[u8]) -> Result<Request, BadMessage>
     request_in(alloc, bytes)
 }
 
+#[tactic(auto, unfolding(crate::specs::Message::refusal))]
 fn request_in(alloc: Global, bytes: &[u8]) -> Result<Request, BadMessage>
     ensures { IsDecoding bytes.now result }
 {
