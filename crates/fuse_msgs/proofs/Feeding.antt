@@ -1,14 +1,12 @@
 -- What a text begins with, as its pieces are taken.
-use Rattle.std.proofs.Common.{◌≡◌, ℕ, zero, suc, ◌+◌, ◌-◌, ◌<◌, ◌≤◌, min, Bool, true, false, cond, ◌&&◌, zero-add, suc-add, ltb, leb, List, [], ◌∷◌, ◌++◌, length, get_or, take, drop, Result, Ok, Err, sym, ap, refl, subst, ◌∙◌, arith, append_assoc, inl, inr}
+use Rattle.std.proofs.Common.{◌≡◌, ℕ, zero, suc, ◌+◌, ◌-◌, ◌<◌, ◌≤◌, min, Bool, true, false, ◌&&◌, zero-add, suc-add, leb, List, [], ◌∷◌, ◌++◌, length, get_or, take, drop, Ok, Err, sym, ap, refl, ◌∙◌, arith, append_assoc, inl, inr}
 use Rattle.std.proofs.lemmas.Bool.{leb-true, le-leb, lt-leb, lt-ltb, le-ltb, cases_lt}
-use Rattle.std.proofs.lemmas.List.{length-append, length-take, length-drop, take_all, take-append-drop, get_or_append_left, take-append-le, drop-append-le}
-use Rattle.fuse_msgs.specs.declared.feed.Fed.{Fed}
+use Rattle.std.proofs.lemmas.List.{length-append, length-take, take-append-drop, get_or_append_left}
 use Rattle.fuse_msgs.specs.declared.feed.Fed.TheVariants as fed
-use Rattle.fuse_msgs.specs.declared.fault.BadMessage.{BadMessage}
 use Rattle.fuse_msgs.specs.declared.fault.BadMessage.TheVariants as bad
 use Rattle.fuse_msgs.specs.Fields.{u32_at}
 use Rattle.fuse_msgs.specs.Message.{len_of, is_length}
-use Rattle.fuse_msgs.specs.Feed.{Front, part, whole, broken, front_of, is_whole, is_whole_front, feed_answer, fed_on, answer_at, taken_at}
+use Rattle.fuse_msgs.specs.Feed.{part, whole, broken, front_of, is_whole, is_whole_front, feed_answer, fed_on}
 
 abbrev no_bytes : List ℕ
 no_bytes = []

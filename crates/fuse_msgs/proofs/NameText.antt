@@ -1,5 +1,5 @@
 -- A text that ends in a zero byte.
-use Rattle.std.proofs.Common.{◌≡◌, ℕ, zero, suc, ◌+◌, ◌-◌, ◌<◌, ◌≤◌, List, [], ◌∷◌, ◌++◌, length, get_or, take, drop, sym, arith, ◌∙◌, ap, refl}
+use Rattle.std.proofs.Common.{◌≡◌, ℕ, ◌+◌, ◌-◌, ◌<◌, List, [], ◌∷◌, ◌++◌, length, get_or, take, sym, arith, ◌∙◌, ap, refl}
 use Rattle.std.proofs.Common.{true}
 use Rattle.std.proofs.lemmas.List.{take_more, take_all, take_at, get_or_at, length-append}
 use Rattle.fuse_msgs.specs.Names.{IsNameText, is_name_text}

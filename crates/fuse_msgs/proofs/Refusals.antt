@@ -1,5 +1,5 @@
 -- A message has no fault.
-use Rattle.std.proofs.Common.{◌≡◌, ℕ, ◌≤◌, Bool, true, false, List, length, drop, Option, Some, None, refl, arith, ◌∙◌, sym, ap, eqb, eq-eqb, leb, ltb}
+use Rattle.std.proofs.Common.{◌≡◌, ℕ, ◌≤◌, true, false, List, length, drop, Option, None, refl, arith, ◌∙◌, ap, eqb, eq-eqb, leb, ltb}
 use Rattle.std.proofs.lemmas.Bool.{le-leb, le-ltb}
 use Rattle.fuse_msgs.specs.declared.request.Op.{Op}
 use Rattle.fuse_msgs.specs.declared.request.Op.TheVariants as op

@@ -1,5 +1,5 @@
 -- The fixed bodies of replies.
-use Rattle.std.proofs.Common.{ℕ, ◌≤◌, length, lit≤, arith}
+use Rattle.std.proofs.Common.{◌≤◌, length, lit≤}
 use Rattle.fuse_msgs.specs.declared.reply.Reply.{Reply}
 use Rattle.fuse_msgs.specs.declared.reply.Reply.TheVariants as reply
 use Rattle.fuse_msgs.specs.Fields.{le16, le32, le64, zeros}

@@ -1,8 +1,8 @@
 -- Whatever the pieces of a text, its messages come whole and in order.
-use Rattle.std.proofs.Common.{◌≡◌, ℕ, ◌+◌, ◌-◌, ◌<◌, ◌≤◌, ◌⊎◌, Bool, true, false, cond, ltb, leb, List, [], ◌∷◌, ◌++◌, length, take, drop, Result, Ok, Err, refl, sym, ap, ◌∙◌, subst, arith, append_assoc, inl, inr}
+use Rattle.std.proofs.Common.{◌≡◌, ℕ, ◌-◌, ◌<◌, ◌≤◌, ◌⊎◌, Bool, true, false, List, [], ◌∷◌, ◌++◌, length, take, drop, Result, Ok, Err, refl, sym, ap, ◌∙◌, arith, append_assoc, inl, inr}
 use Rattle.std.specs.List.{flat_map, AllByRecursion}
-use Rattle.std.proofs.lemmas.Bool.{cases_lt, leb-true, lt-leb, ltb-false, ltb-true}
-use Rattle.std.proofs.lemmas.List.{length-append, length-take, take_at, take_all, append-nil, append_cancel_left}
+use Rattle.std.proofs.lemmas.Bool.{cases_lt}
+use Rattle.std.proofs.lemmas.List.{length-append, take_at, take_all, append-nil, append_cancel_left}
 use Rattle.std.proofs.lemmas.List.Concat.{flat_map-cons}
 use Rattle.std.proofs.lemmas.Grind.{flat_map-append}
 use Rattle.fuse_msgs.specs.declared.feed.Fed.{Fed}
@@ -10,7 +10,7 @@ use Rattle.fuse_msgs.specs.declared.feed.Fed.TheVariants as fed
 use Rattle.fuse_msgs.specs.declared.fault.BadMessage.{BadMessage}
 use Rattle.fuse_msgs.specs.declared.fault.BadMessage.TheVariants as bad
 use Rattle.fuse_msgs.specs.Message.{len_of, is_length}
-use Rattle.fuse_msgs.specs.Feed.{Front, part, whole, broken, front_of, is_whole, is_whole_front, says_whole, UsesSome, unfinished, finished, fed_on, feed_answer, answer_at, taken_at, taken_of, text_of, messages_of, left_of, IsWholeMessage, Splits}
+use Rattle.fuse_msgs.specs.Feed.{part, whole, broken, front_of, is_whole, is_whole_front, says_whole, UsesSome, unfinished, finished, fed_on, feed_answer, answer_at, taken_of, text_of, messages_of, left_of, IsWholeMessage, Splits}
 use Rattle.fuse_msgs.proofs.Feeding.{len_of-append, front_of-short, front_of-part, front_of-whole, front_of-broken, front_then_rest, length-front, length_is_40, unfinished_below}
 
 clash : {A : Type 0} → true ≡ false → A

@@ -1,5 +1,5 @@
 -- The body of a request, by its operation.
-use Rattle.std.specs.Prelude.{ℕ, ◌==◌, nat_le, ◌&&◌, Bool, true, List, length, drop}
+use Rattle.std.specs.Prelude.{ℕ, ◌==◌, nat_le, Bool, true, List, length, drop}
 use Rattle.fuse_msgs.specs.declared.request.Op.{Op}
 use Rattle.fuse_msgs.specs.declared.request.Op.TheVariants as op
 use Rattle.fuse_msgs.specs.declared.opcode.Opcode.{Opcode}

@@ -1,6 +1,5 @@
 -- The bytes of a reply.
-use Rattle.std.specs.Prelude.{◌≡◌, ℕ, ◌+◌, ◌-◌, ◌/◌, ◌^◌, ◌≤◌, ◌==◌, List, [], ◌∷◌, ◌++◌, length, replicate, if◌then◌else◌}
-use Rattle.std.specs.Int.{w16, w32, w64, to_le_bytes}
+use Rattle.std.specs.Prelude.{ℕ, ◌+◌, ◌-◌, ◌/◌, ◌^◌, ◌≤◌, ◌==◌, List, [], ◌++◌, length, if◌then◌else◌}
 use Rattle.fuse_msgs.specs.declared.reply.Reply.{Reply}
 use Rattle.fuse_msgs.specs.declared.reply.Reply.TheVariants as reply
 use Rattle.fuse_msgs.specs.declared.request.LockWish.{LockWish}

@@ -1,5 +1,5 @@
-use Rattle.std.proofs.Common.{◌≡◌, ℕ, ◌+◌, ◌-◌, ◌<◌, ◌≤◌, min, true, false, List, ◌++◌, length, take, drop, sym, ap, ◌∙◌, arith}
-use Rattle.fuse_msgs.specs.Message.{len_of, is_length}
+use Rattle.std.proofs.Common.{ℕ, List, ◌++◌, take, sym, ap, ◌∙◌, arith}
+use Rattle.fuse_msgs.specs.Message.{len_of}
 use Rattle.fuse_msgs.proofs.Feeding.{Completes, ends_short, ends_broken, ends_more, ends_whole}
 use Rattle.fuse_msgs.proofs.feed.feed_into.Goals as goal
 

@@ -1,6 +1,3 @@
-use Rattle.std.proofs.Common.{◌≡◌, sym, subst}
-use Rattle.fuse_msgs.specs.declared.request.Request.{Request}
-use Rattle.fuse_msgs.specs.Message.{IsMessage}
 use Rattle.fuse_msgs.specs.Text.{request_bytes}
 use Rattle.fuse_msgs.proofs.OneReading.{one_request}
 use Rattle.fuse_msgs.proofs.Texts.{text_is_message}

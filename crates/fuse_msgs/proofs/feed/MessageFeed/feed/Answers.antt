@@ -1,5 +1,5 @@
-use Rattle.std.proofs.Common.{◌≡◌, false, sym, ap, ◌∙◌, length}
-use Rattle.fuse_msgs.specs.Feed.{is_whole, says_whole, UsesSome}
+use Rattle.std.proofs.Common.{◌≡◌, false, sym, ap, ◌∙◌}
+use Rattle.fuse_msgs.specs.Feed.{is_whole, says_whole}
 use Rattle.fuse_msgs.proofs.Run.{whole_told, some_used}
 use Rattle.fuse_msgs.proofs.feed.MessageFeed.feed.Goals as goal
 
