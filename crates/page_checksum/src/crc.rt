@@ -1,4 +1,4 @@
-ghost use Rattle.std.specs.Prelude.{◌≡◌};
+ghost use Rattle.std.specs.Prelude.{◌≡◌, ℕ, List, ◌++◌};
 ghost use Rattle.page_checksum.specs.Crc.{after_bit as bit_after, after_bits, after_byte as byte_after, after_bytes, crc};
 
 /// The polynomial x^64 + x^4 + x^3 + x + 1, its bits reflected.
@@ -46,4 +46,10 @@ fn after_bit(register: u64) -> u64
     } else {
         register / 2
     }
+}
+
+/// To feed two pieces one after another is to feed them joined.
+pub fn pieces_join()
+    ensures { (register : ℕ) (front back : List ℕ) → after_bytes register (front ++ back) ≡ after_bytes (after_bytes register front) back }
+{
 }

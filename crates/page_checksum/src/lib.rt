@@ -6,7 +6,7 @@
 mod crc;
 mod sums;
 
-pub use crc::{FIRST_REGISTER, crc_feed, crc64};
+pub use crc::{FIRST_REGISTER, crc_feed, crc64, pieces_join};
 pub use sums::page_sum;
 
 #[cfg(test)]

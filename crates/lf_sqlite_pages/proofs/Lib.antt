@@ -1,0 +1,3 @@
+pub mod Applying
+pub mod Changes
+pub mod Tables

@@ -1,0 +1,31 @@
+-- A database image: whole pages of one size.
+use Rattle.std.specs.Prelude.{◌≡◌, ℕ, ◌-◌, ◌<◌, ◌^◌, Option, List, [], length, All, slice_get}
+use Rattle.std.specs.List.{concat}
+use Rattle.lf_sqlite_pages.specs.PageSize.{IsPageSize}
+
+-- a page size, and the pages in order from page 1
+pub record DatabaseImage : Type 0 where
+  pub page_size : ℕ
+  pub pages : List (List ℕ)
+
+-- each page has the page size, which is one of SQLite's where there are pages
+pub record IsImage (image : DatabaseImage) : Type 0 where
+  pub of_a_page_size : 0 < length image.pages → IsPageSize image.page_size
+  pub whole : All (λ page. length page ≡ image.page_size) image.pages
+  pub numbered : length image.pages < 2 ^ 32
+
+-- the image of a database that was never written
+abbrev pub empty_image : DatabaseImage
+empty_image = record { page_size = 0; pages = [] }
+
+-- page n of an image, counted from 1
+abbrev pub page_at : DatabaseImage → ℕ → Option (List ℕ)
+page_at image n = slice_get image.pages (n - 1)
+
+-- the bytes of the database: its pages, one after another
+abbrev pub image_bytes : DatabaseImage → List ℕ
+image_bytes image = concat image.pages
+
+-- two images are the same where their pages are; without pages the page size is of no account
+abbrev pub SameImage : DatabaseImage → DatabaseImage → Type 0
+SameImage one other = one.pages ≡ other.pages

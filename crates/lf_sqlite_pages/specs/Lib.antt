@@ -1,0 +1,10 @@
+pub mod Apply
+pub mod Change
+pub mod Header
+pub mod Image
+pub mod PageSize
+pub mod Steps
+pub mod Store
+pub mod Table
+pub mod Overlay
+pub mod OverlayParts

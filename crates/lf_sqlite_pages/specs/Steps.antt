@@ -1,0 +1,15 @@
+-- The two steps in which the code applies a change. No public clause cites them.
+use Rattle.std.specs.Prelude.{ℕ, ◌-◌, ◌++◌, ◌==◌, List, [], length, take, replicate, fold, slice_set, if◌then◌else◌}
+use Rattle.lf_sqlite_pages.specs.declared.page_write.PageWrite.{PageWrite}
+
+-- the pages of an image that a change of a page size can keep: all of that size, else none
+abbrev pub kept : ℕ → List (List ℕ) → ℕ → List (List ℕ)
+kept old_size pages size = if old_size == size then pages else []
+
+-- pages cut to a count, or grown to it with zeros
+abbrev pub resized : List (List ℕ) → ℕ → ℕ → List (List ℕ)
+resized pages size count = take count pages ++ replicate (count - length pages) (replicate size 0)
+
+-- pages with those of a change written over them, one after another
+abbrev pub overwritten : List (List ℕ) → List PageWrite → List (List ℕ)
+overwritten pages writes = fold (λ ps w. slice_set ps (w.number - 1) w.bytes) pages writes

@@ -1,0 +1,79 @@
+ghost use Rattle.std.specs.Prelude.{◌≡◌, ◌<◌, ◌≤◌, length, OnOk, OnErr};
+ghost use Rattle.lf_sqlite_pages.specs.PageSize.{IsPageSize};
+ghost use Rattle.lf_sqlite_pages.specs.Change.{IsChange, empty_change, with_page, last_number};
+
+use crate::page_write::PageWrite;
+use lf_base::{Bytes, NoMemory};
+use std::alloc::Global;
+use std::marker::Model;
+
+/// What one transaction does to a database: its new number of pages, and the pages that it writes
+/// in ascending order of their numbers.
+#[derive(Debug, Drop)]
+pub struct Change {
+    page_size: u32,
+    commit: u32,
+    pages: Vec<PageWrite>,
+}
+
+impl Model for Change {
+    ghost use Rattle.lf_sqlite_pages.specs.Change.{PageChange, IsChange};
+
+    ghost Value = { PageChange };
+
+    ghost view = { λ c. record { page_size = c.page_size; commit = c.commit; pages = c.pages.items } };
+
+    ghost invariant = { λ c. IsChange (record { page_size = c.page_size; commit = c.commit; pages = c.pages.items }) };
+}
+
+impl Change {
+    /// A change to `commit` pages that writes none yet.
+    pub fn new(alloc: Global, page_size: u32, commit: u32) -> Change
+        requires { IsPageSize page_size }
+        ensures { result ≡ empty_change page_size commit }
+    {
+        Change {
+            page_size,
+            commit,
+            pages: Vec::new(alloc),
+        }
+    }
+
+    /// Adds a copy of page `n`. Numbers come in ascending order.
+    pub fn push(&mut self, n: u32, bytes: &[u8]) -> Result<(), NoMemory>
+        requires ascending { last_number self.old.pages < n }
+        requires within { n ≤ self.old.commit }
+        requires whole { length bytes.now ≡ self.old.page_size }
+        ensures ok { OnOk result (self.new ≡ with_page self.old n bytes.now) }
+        ensures last { OnOk result (last_number self.new.pages ≡ n) }
+        ensures err { OnErr result (self.new ≡ self.old) }
+    {
+        let alloc = *self.pages.allocator();
+        let bytes = Bytes::of(Vec::from_slice(alloc, bytes)?);
+        self.pages.push(PageWrite { number: n, bytes })?;
+        Ok(())
+    }
+
+    /// The size of each page in bytes.
+    pub fn page_size(&self) -> u32
+        ensures value { result ≡ self.now.page_size }
+        ensures sqlite { IsPageSize result }
+    {
+        self.page_size
+    }
+
+    /// How many pages the database has after this change.
+    pub fn commit(&self) -> u32
+        ensures { result ≡ self.now.commit }
+    {
+        self.commit
+    }
+
+    /// The pages that this change writes, in ascending order of their numbers.
+    pub fn pages(&self) -> &[PageWrite]
+        ensures value { result.now ≡ self.now.pages }
+        ensures valid { IsChange self.now }
+    {
+        self.pages.as_slice()
+    }
+}

@@ -1,0 +1,24 @@
+//! A SQLite database as pages: its image, and the changes that lead from one image to the next.
+//!
+//! An image owns its pages, and a change the pages that it writes. Nothing here knows a file, a
+//! checksum or a transaction number.
+#![tactic(auto)]
+
+mod change;
+mod header;
+mod image;
+mod overlay;
+mod page;
+mod page_size;
+mod page_store;
+mod page_write;
+mod pages;
+mod table;
+
+pub use change::Change;
+pub use header::{is_wal, page_size_of};
+pub use image::Image;
+pub use overlay::Overlay;
+pub use page_size::is_page_size;
+pub use page_store::PageStore;
+pub use page_write::PageWrite;

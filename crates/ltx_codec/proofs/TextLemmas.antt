@@ -1,0 +1,108 @@
+-- Bytes that were read are the text of what they say.
+use Rattle.std.proofs.Common.{◌<◌, ◌^◌, ◌≡◌, ◌≢◌, ℕ, ◌+◌, ◌≤◌, List, [], ◌∷◌, ◌++◌, length, take, drop, map, arith, refl, sym, ap, inl, inr, ◌∙◌, add-one, append_assoc}
+use Rattle.std.specs.List.{range_with_len}
+use Rattle.std.specs.Int.{w32, w64, to_be_bytes}
+use Rattle.std.proofs.lemmas.Bool.{cases_lt}
+use Rattle.std.proofs.lemmas.List.{length-take, length-drop, get_or-drop, get_or-take, get_or_past, map-append, append-nil, drop-drop}
+use Rattle.std.proofs.lemmas.List.FromFn.{map-range_with_len_more}
+use Rattle.std.proofs.lemmas.List.Sums.{fold-append}
+use Rattle.std.proofs.lemmas.Nat.{be_bytes_4, be_bytes_8}
+use Rattle.std.proofs.Math.Seq.{take-add}
+use Rattle.lf_sqlite_pages.specs.declared.page_write.PageWrite.{PageWrite}
+use Rattle.lf_sqlite_pages.specs.Change.{PageChange, with_page}
+use Rattle.ltx_codec.specs.Fields.{AreBytes, four_at, eight_at}
+use Rattle.ltx_codec.specs.Format.{pages_text}
+use Rattle.ltx_codec.specs.Places.{number_place, number_at, number_before, page_in}
+use Rattle.ltx_codec.specs.Block.{HoldsPages, IsNextNumber}
+use Rattle.ltx_codec.proofs.BlockLemmas.{next_place}
+
+AreBytes-drop : (n : ℕ) (bytes : List ℕ) → AreBytes bytes → AreBytes (drop n bytes)
+AreBytes-drop n bytes h i = rw get_or-drop (h (n + i))
+
+AreBytes-take : (n : ℕ) (bytes : List ℕ) → AreBytes bytes → AreBytes (take n bytes)
+AreBytes-take n bytes h i =
+    elim (cases_lt i n) [
+      | inl lt ↦ rw (get_or-take n bytes i 0 lt) (h i)
+      | inr le ↦ rw (get_or_past (take n bytes) i 0 (omega (arith, length-take n bytes))) (omega arith)
+    ]
+
+-- the four bytes at a place spell the number there
+pub four_spelled : (place : ℕ) (bytes : List ℕ) → AreBytes bytes → place + 4 ≤ length bytes → to_be_bytes w32 (four_at place bytes) ≡ take 4 (drop place bytes)
+unfolding four_at
+four_spelled place bytes fits room =
+    be_bytes_4 (take 4 (drop place bytes)) (four_at place bytes)
+    (omega (arith, length-take 4 (drop place bytes), length-drop place bytes))
+    (AreBytes-take 4 (drop place bytes) (AreBytes-drop place bytes fits)) refl
+
+pub eight_spelled : (place : ℕ) (bytes : List ℕ) → AreBytes bytes → place + 8 ≤ length bytes → to_be_bytes w64 (eight_at place bytes) ≡ take 8 (drop place bytes)
+unfolding eight_at
+eight_spelled place bytes fits room =
+    be_bytes_8 (take 8 (drop place bytes)) (eight_at place bytes)
+    (omega (arith, length-take 8 (drop place bytes), length-drop place bytes))
+    (AreBytes-take 8 (drop place bytes) (AreBytes-drop place bytes fits)) refl
+
+-- a number of four or eight bytes has that width
+pub four_below : (place : ℕ) (bytes : List ℕ) → AreBytes bytes → four_at place bytes < 2 ^ 32
+unfolding four_at
+four_below place bytes fits =
+    let few = AreBytes-take 4 (drop place bytes) (AreBytes-drop place bytes fits) in
+    omega (arith, few 0, few 1, few 2, few 3)
+
+pub eight_below : (place : ℕ) (bytes : List ℕ) → AreBytes bytes → eight_at place bytes < 2 ^ 64
+unfolding eight_at
+eight_below place bytes fits =
+    let few = AreBytes-take 8 (drop place bytes) (AreBytes-drop place bytes fits) in
+    omega (arith, few 0, few 1, few 2, few 3, few 4, few 5, few 6, few 7)
+
+-- the text of one more page
+pages_text-push : (ws : List PageWrite) (w : PageWrite) → pages_text (ws ++ w ∷ []) ≡ pages_text ws ++ (to_be_bytes w32 w.number ++ w.bytes)
+pages_text-push [] w = simp append-nil
+pages_text-push (v ∷ vs) w = rw (pages_text-push vs w) (simp append_assoc)
+
+-- the bytes from the k-th number's place to the next are the number and its page
+slot_spelled : (bytes : List ℕ) (k : ℕ) → AreBytes bytes → number_place bytes k + 4 ≤ length bytes
+    → take (number_place bytes (k + 1)) bytes ≡ take (number_place bytes k) bytes ++ (to_be_bytes w32 (number_at bytes k) ++ page_in bytes k)
+slot_spelled bytes k fits room =
+    let at = number_place bytes k in
+    let size = four_at 8 bytes in
+    let number : to_be_bytes w32 (number_at bytes k) ≡ take 4 (drop at bytes) = four_spelled at bytes fits room in
+    let page : page_in bytes k ≡ take size (drop 4 (drop at bytes)) = ap (λ (d : List ℕ). take size d) (sym (drop-drop 4 at bytes)) in
+    ap (λ (n : ℕ). take n bytes) (next_place bytes k)
+    ∙ take-add at (4 + size) bytes
+    ∙ ap (λ (d : List ℕ). take at bytes ++ d) (take-add 4 size (drop at bytes))
+    ∙ ap (λ (d : List ℕ). take at bytes ++ (d ++ take size (drop 4 (drop at bytes)))) (sym number)
+    ∙ ap (λ (d : List ℕ). take at bytes ++ (to_be_bytes w32 (number_at bytes k) ++ d)) (sym page)
+
+pub before_more : (bytes : List ℕ) (k : ℕ) → number_before bytes (k + 1) ≡ number_at bytes k
+before_more bytes k = rw add-one refl
+
+range_more : (a n j : ℕ) → a + n ≡ j → range_with_len a (n + 1) ≡ range_with_len a n ++ j ∷ []
+range_more a n j e = sym (map-id (range_with_len a (n + 1))) ∙ map-range_with_len_more (λ i. i) a n j e ∙ ap (λ (l : List ℕ). l ++ j ∷ []) (map-id (range_with_len a n))
+  where
+    map-id : (l : List ℕ) → map (λ i. i) l ≡ l
+    map-id [] = refl
+    map-id (x ∷ xs) = ap (λ (l : List ℕ). x ∷ l) (map-id xs)
+
+-- one more page is held
+pub holds_next : (bytes : List ℕ) (change : PageChange) (k n : ℕ) (page : List ℕ) → AreBytes bytes → HoldsPages bytes change k → IsNextNumber bytes k
+    → n ≡ number_at bytes k → n ≢ 0 → page ≡ page_in bytes k → (eight_at 16 bytes ≡ 1 → number_before bytes k ≡ k) → HoldsPages bytes (with_page change n page) (k + 1)
+holds_next bytes change k n page fits holds number n-is more page-is consecutive = record {
+  page_size = holds.page_size;
+  commit = holds.commit;
+  last = fold-append (λ _ (w : PageWrite). w.number) 0 change.pages (record { number = n; bytes = page } ∷ []) ∙ n-is ∙ sym (before_more bytes k);
+  contents = map-append (λ (w : PageWrite). w.bytes) change.pages (record { number = n; bytes = page } ∷ [])
+      ∙ ap (λ (l : List (List ℕ)). l ++ page ∷ []) holds.contents
+      ∙ ap (λ (p : List ℕ). map (page_in bytes) (range_with_len 0 k) ++ p ∷ []) page-is
+      ∙ sym (map-range_with_len_more (page_in bytes) 0 k k (omega arith));
+  numbers = λ snapshot.
+      let n-next : n ≡ 1 + k = omega (arith, n-is, consecutive snapshot, number.follows snapshot (λ zero. more (n-is ∙ zero))) in
+      map-append (λ (w : PageWrite). w.number) change.pages (record { number = n; bytes = page } ∷ [])
+      ∙ ap (λ (l : List ℕ). l ++ n ∷ []) (holds.numbers snapshot)
+      ∙ sym (range_more 1 k n (sym n-next));
+  text = slot_spelled bytes k fits number.there
+      ∙ ap (λ (d : List ℕ). d ++ (to_be_bytes w32 (number_at bytes k) ++ page_in bytes k)) holds.text
+      ∙ append_assoc (take 100 bytes) (pages_text change.pages) (to_be_bytes w32 (number_at bytes k) ++ page_in bytes k)
+      ∙ ap (λ (m : ℕ). take 100 bytes ++ (pages_text change.pages ++ (to_be_bytes w32 m ++ page_in bytes k))) (sym n-is)
+      ∙ ap (λ (p : List ℕ). take 100 bytes ++ (pages_text change.pages ++ (to_be_bytes w32 n ++ p))) (sym page-is)
+      ∙ ap (λ (d : List ℕ). take 100 bytes ++ d) (sym (pages_text-push change.pages (record { number = n; bytes = page })));
+}

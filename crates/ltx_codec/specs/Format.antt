@@ -1,0 +1,116 @@
+-- The LTX file (LTX1, uncompressed): a value, its rules, and its text. The text is a header of 100 bytes, the
+-- page block and a trailer of 16 bytes; all numbers are big-endian.
+use Rattle.std.specs.Prelude.{◌≡◌, ◌≢◌, ℕ, ◌*◌, ◌^◌, ◌<◌, ◌≤◌, List, [], ◌∷◌, ◌++◌, length, map, replicate, bit_xor, codes}
+use Rattle.std.specs.List.{range_with_len}
+use Rattle.std.specs.Int.{w32, w64, to_be_bytes}
+use Rattle.page_checksum.specs.Crc.{crc, all_ones}
+use Rattle.page_checksum.specs.Sums.{flagged, database_sum}
+use Rattle.lf_sqlite_pages.specs.PageSize.{IsPageSize}
+use Rattle.lf_sqlite_pages.specs.Change.{PageChange, IsChange}
+use Rattle.lf_sqlite_pages.specs.declared.page_write.PageWrite.{PageWrite}
+use Rattle.ltx_codec.specs.declared.header.Header.{Header}
+use Rattle.ltx_codec.specs.declared.file.Ltx.{Ltx}
+
+-- the bytes LTX1
+abbrev pub magic : List ℕ
+magic = codes "LTX1"
+
+-- a database has at most 2^30 bytes
+abbrev pub IsDatabaseSize : ℕ → ℕ → Type 0
+IsDatabaseSize page_size commit = commit * page_size ≤ 1073741824
+
+-- bit 63 of a number of eight bytes is set
+abbrev pub IsFlagged : ℕ → Type 0
+IsFlagged sum = 2 ^ 63 ≤ sum
+
+-- each field of the header is a number of its width
+pub record FitsWidths (header : Header) : Type 0 where
+  pub page_size : header.page_size < 2 ^ 32
+  pub commit : header.commit < 2 ^ 32
+  pub min : header.min < 2 ^ 64
+  pub max : header.max < 2 ^ 64
+  pub stamp : header.stamp < 2 ^ 64
+  pub pre : header.pre < 2 ^ 64
+  pub wal_offset : header.wal_offset < 2 ^ 64
+  pub wal_size : header.wal_size < 2 ^ 64
+  pub wal_salt1 : header.wal_salt1 < 2 ^ 32
+  pub wal_salt2 : header.wal_salt2 < 2 ^ 32
+  pub node : header.node < 2 ^ 64
+
+-- the rules of a header's fields; a file whose minimum TXID is 1 is a snapshot
+pub record IsHeader (header : Header) : Type 0 where
+  pub widths : FitsWidths header
+  pub page_size : IsPageSize header.page_size
+  pub commit : IsDatabaseSize header.page_size header.commit
+  pub min : 1 ≤ header.min
+  pub max : header.min ≤ header.max
+  pub snapshot_pre : header.min ≡ 1 → header.pre ≡ 0
+  pub delta_pre : header.min ≢ 1 → IsFlagged header.pre
+
+-- the rules of the page block: a snapshot holds every page
+pub record IsBlock (header : Header) (change : PageChange) : Type 0 where
+  pub page_size : change.page_size ≡ header.page_size
+  pub commit : change.commit ≡ header.commit
+  pub pages : IsChange change
+  pub snapshot_pages : header.min ≡ 1 → map (λ w. w.number) change.pages ≡ range_with_len 1 change.commit
+
+-- the rules of the sum of the pages after the transaction; a snapshot's is that of its pages
+pub record IsPostSum (header : Header) (change : PageChange) (post : ℕ) : Type 0 where
+  pub width : post < 2 ^ 64
+  pub flagged : IsFlagged post
+  pub empty : header.commit ≡ 0 → post ≡ 2 ^ 63
+  pub snapshot : header.min ≡ 1 → post ≡ database_sum (map (λ w. w.bytes) change.pages)
+
+-- which values are files
+pub record IsFile (file : Ltx) : Type 0 where
+  pub header : IsHeader file.header
+  pub block : IsBlock file.header file.change
+  pub post : IsPostSum file.header file.change file.post
+
+-- the text of a header: magic, flags of 0, the fields and 20 reserved bytes
+abbrev pub header_text : Header → List ℕ → List ℕ
+header_text header reserved =
+    magic ++ to_be_bytes w32 0 ++ to_be_bytes w32 header.page_size ++ to_be_bytes w32 header.commit
+    ++ to_be_bytes w64 header.min ++ to_be_bytes w64 header.max ++ to_be_bytes w64 header.stamp ++ to_be_bytes w64 header.pre
+    ++ to_be_bytes w64 header.wal_offset ++ to_be_bytes w64 header.wal_size ++ to_be_bytes w32 header.wal_salt1 ++ to_be_bytes w32 header.wal_salt2
+    ++ to_be_bytes w64 header.node ++ reserved
+
+-- the text of pages: each its number of four bytes and its bytes
+abbrev pub pages_text : List PageWrite → List ℕ
+pages_text [] = []
+pages_text (w ∷ ws) = to_be_bytes w32 w.number ++ (w.bytes ++ pages_text ws)
+
+-- what the file sum is taken of: all bytes before it. Four zero bytes end the page block
+abbrev pub summed_text : Ltx → List ℕ → List ℕ
+summed_text file reserved = header_text file.header reserved ++ pages_text file.change.pages ++ to_be_bytes w32 0 ++ to_be_bytes w64 file.post
+
+-- the file sum: the checksum of the bytes before it, with bit 63 set
+abbrev pub file_sum : List ℕ → ℕ
+file_sum bytes = flagged (crc bytes)
+
+-- the text of a file
+abbrev pub file_text : Ltx → List ℕ → List ℕ
+file_text file reserved = summed_text file reserved ++ to_be_bytes w64 (file_sum (summed_text file reserved))
+
+-- The bytes are a text of the file. The reserved bytes have no meaning: any 20 may stand there.
+pub record IsLtx (bytes : List ℕ) (file : Ltx) : Type 0 where
+  pub valid : IsFile file
+  pub reserved : List ℕ
+  pub room : length reserved ≡ 20
+  pub text : bytes ≡ file_text file reserved
+
+-- 20 reserved bytes as they are written
+abbrev pub no_meaning : List ℕ
+no_meaning = replicate 20 0
+
+-- the text of a page: its number and its bytes
+abbrev pub page_text : ℕ → List ℕ → List ℕ
+page_text number page = to_be_bytes w32 number ++ page
+
+-- what ends the page block, and the sum of the pages
+abbrev pub end_text : ℕ → List ℕ
+end_text post = to_be_bytes w32 0 ++ to_be_bytes w64 post
+
+-- the file sum where the register is this after the bytes before it
+abbrev pub sealed : ℕ → ℕ
+sealed register = flagged (bit_xor register all_ones)

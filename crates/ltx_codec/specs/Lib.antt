@@ -1,0 +1,6 @@
+pub mod Fields
+pub mod Format
+pub mod Places
+pub mod HeaderRules
+pub mod Block
+pub mod Trailer

@@ -1,0 +1,59 @@
+ghost use Rattle.std.specs.Prelude.{◌≡◌};
+ghost use Rattle.ltx_codec.specs.declared.fault.LtxFault.TheVariants as variant;
+
+use lf_base::NoMemory;
+use thiserror::Error;
+
+/// Why bytes are no LTX file. The fault that stands earliest in the bytes is answered.
+#[derive(Clone, Copy, Debug, PartialEq, Eq, Error)]
+pub enum LtxFault {
+    /// The bytes end before the file does.
+    #[error("the file is cut short")]
+    Short,
+    #[error("the magic is not LTX1")]
+    Magic,
+    #[error("the file is compressed")]
+    Compressed,
+    #[error("a flag is set that is not known")]
+    UnknownFlags,
+    /// It is none of SQLite's page sizes.
+    #[error("the page size is not one of SQLite's")]
+    PageSize,
+    /// The minimum is 0, or the maximum is less than the minimum.
+    #[error("the transaction numbers are out of order")]
+    Txid,
+    /// The database would be past 2^30 bytes.
+    #[error("the database is past its limit")]
+    Commit,
+    /// It is not 0 in a snapshot, or lacks bit 63 in another file.
+    #[error("the sum before the transactions is malformed")]
+    PreSum,
+    /// A page number is not above the one before.
+    #[error("a page number is not above the one before")]
+    PageOrder,
+    /// A page number is past the number of pages.
+    #[error("a page number is past the number of pages")]
+    PageRange,
+    /// A snapshot leaves out a page.
+    #[error("a snapshot leaves out a page")]
+    NotWhole,
+    /// It lacks bit 63, or is not the sum of the snapshot's pages, or of no pages.
+    #[error("the sum after the transactions is wrong")]
+    PostSum,
+    /// The sum of the file's bytes is `want`, and the file says `got`.
+    #[error("the file sum is {got:016x}, and {want:016x} was computed")]
+    FileSum { want: u64, got: u64 },
+    /// A byte follows the trailer.
+    #[error("bytes follow the file")]
+    Tail,
+    #[error("out of memory")]
+    NoMemory,
+}
+
+impl From<NoMemory> for LtxFault {
+    ghost from_gives = { λ _ fault. fault ≡ variant.NoMemory };
+
+    fn from(_memory: NoMemory) -> LtxFault {
+        LtxFault::NoMemory
+    }
+}

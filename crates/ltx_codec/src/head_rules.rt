@@ -1,0 +1,143 @@
+//! The rules of the header's fields, in the order of the bytes. A field that is not there yet
+//! breaks none.
+ghost use Rattle.std.specs.Prelude.{◌≤◌, length, OnOk, IfErr};
+ghost use Rattle.ltx_codec.specs.HeaderRules.{HasSoundFields};
+ghost use Rattle.ltx_codec.specs.Places.{IsEarliest, StandsInside};
+
+use crate::fault::LtxFault;
+use crate::numbers::{u32_at, u64_at};
+use crate::rules::{is_database_size, is_flagged};
+use lf_sqlite_pages::is_page_size;
+
+const MAGIC: [u8; 4] = *b"LTX1";
+
+fn check_magic(bytes: &[u8]) -> Result<(), LtxFault>
+    ensures ok { OnOk result (HasSoundFields bytes.now 7) }
+    ensures fault { IfErr result (IsEarliest bytes.now) }
+    ensures inside { IfErr result StandsInside }
+{
+    if bytes.len() < 4 {
+        return Ok(());
+    }
+    let (front, _) = bytes.split_at(4);
+    if front == MAGIC.as_slice() {
+        Ok(())
+    } else {
+        Err(LtxFault::Magic)
+    }
+}
+
+fn check_flags(bytes: &[u8]) -> Result<(), LtxFault>
+    requires { HasSoundFields bytes.now 7 }
+    ensures ok { OnOk result (HasSoundFields bytes.now 11) }
+    ensures fault { IfErr result (IsEarliest bytes.now) }
+    ensures inside { IfErr result StandsInside }
+{
+    if bytes.len() < 8 {
+        return Ok(());
+    }
+    match u32_at(bytes, 4) {
+        0 => Ok(()),
+        flags if flags % 2 == 1 => Err(LtxFault::Compressed),
+        _ => Err(LtxFault::UnknownFlags),
+    }
+}
+
+fn check_page_size(bytes: &[u8]) -> Result<(), LtxFault>
+    requires { HasSoundFields bytes.now 11 }
+    ensures ok { OnOk result (HasSoundFields bytes.now 15) }
+    ensures fault { IfErr result (IsEarliest bytes.now) }
+    ensures inside { IfErr result StandsInside }
+{
+    if bytes.len() < 12 {
+        return Ok(());
+    }
+    if is_page_size(u32_at(bytes, 8)) {
+        Ok(())
+    } else {
+        Err(LtxFault::PageSize)
+    }
+}
+
+fn check_commit(bytes: &[u8]) -> Result<(), LtxFault>
+    requires { HasSoundFields bytes.now 15 }
+    ensures ok { OnOk result (HasSoundFields bytes.now 23) }
+    ensures fault { IfErr result (IsEarliest bytes.now) }
+    ensures inside { IfErr result StandsInside }
+{
+    if bytes.len() < 16 {
+        return Ok(());
+    }
+    if is_database_size(u32_at(bytes, 8), u32_at(bytes, 12)) {
+        Ok(())
+    } else {
+        Err(LtxFault::Commit)
+    }
+}
+
+#[tactic(auto, using(crate::proofs::HeaderLemmas::earliest_field))]
+fn check_min(bytes: &[u8]) -> Result<(), LtxFault>
+    requires { HasSoundFields bytes.now 23 }
+    ensures ok { OnOk result (HasSoundFields bytes.now 31) }
+    ensures fault { IfErr result (IsEarliest bytes.now) }
+    ensures inside { IfErr result StandsInside }
+{
+    if bytes.len() < 24 {
+        return Ok(());
+    }
+    if u64_at(bytes, 16) > 0 {
+        Ok(())
+    } else {
+        Err(LtxFault::Txid)
+    }
+}
+
+#[tactic(auto, using(crate::proofs::HeaderLemmas::earliest_field))]
+fn check_max(bytes: &[u8]) -> Result<(), LtxFault>
+    requires { HasSoundFields bytes.now 31 }
+    ensures ok { OnOk result (HasSoundFields bytes.now 47) }
+    ensures fault { IfErr result (IsEarliest bytes.now) }
+    ensures inside { IfErr result StandsInside }
+{
+    if bytes.len() < 32 {
+        return Ok(());
+    }
+    if u64_at(bytes, 16) <= u64_at(bytes, 24) {
+        Ok(())
+    } else {
+        Err(LtxFault::Txid)
+    }
+}
+
+fn check_pre(bytes: &[u8]) -> Result<(), LtxFault>
+    requires { HasSoundFields bytes.now 47 }
+    ensures ok { OnOk result (HasSoundFields bytes.now 103) }
+    ensures fault { IfErr result (IsEarliest bytes.now) }
+    ensures inside { IfErr result StandsInside }
+{
+    if bytes.len() < 48 {
+        return Ok(());
+    }
+    let pre = u64_at(bytes, 40);
+    let meets = if u64_at(bytes, 16) == 1 {
+        pre == 0
+    } else {
+        is_flagged(pre)
+    };
+    if meets { Ok(()) } else { Err(LtxFault::PreSum) }
+}
+
+/// The first rule that the header's fields break, of those that are there.
+pub fn check_header(bytes: &[u8]) -> Result<(), LtxFault>
+    ensures ok { OnOk result (HasSoundFields bytes.now 103) }
+    ensures fault { IfErr result (IsEarliest bytes.now) }
+    ensures inside { IfErr result StandsInside }
+{
+    check_magic(bytes)?;
+    check_flags(bytes)?;
+    check_page_size(bytes)?;
+    check_commit(bytes)?;
+    check_min(bytes)?;
+    check_max(bytes)?;
+    check_pre(bytes)
+}

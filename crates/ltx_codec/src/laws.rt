@@ -1,0 +1,28 @@
+//! Laws of the format, each the contract of a function that does nothing.
+ghost use Rattle.std.specs.Prelude.{◌≡◌, ◌<◌, List, ℕ, ◌++◌, length};
+ghost use Rattle.ltx_codec.specs.Fields.{AreBytes};
+ghost use Rattle.ltx_codec.specs.Format.{IsLtx};
+ghost use Rattle.ltx_codec.specs.Places.{IsBroken, IsEarliest};
+ghost use Rattle.ltx_codec.specs.declared.file.Ltx.{Ltx};
+ghost use Rattle.ltx_codec.specs.declared.fault.LtxFault.{LtxFault};
+
+/// A text has one reading, whatever follows it: so no text is the front of another, and a list of
+/// files splits in one way.
+pub fn one_reading()
+    ensures { (text other rest more : List ℕ) (file second : Ltx) → IsLtx text file → IsLtx other second
+        → text ++ rest ≡ other ++ more → (text ≡ other) × (file ≡ second) }
+{
+}
+
+/// The text of a file breaks no rule: what is broken stands behind it, and is that bytes follow.
+pub fn text_breaks_no_rule()
+    ensures { (text rest : List ℕ) (file : Ltx) (fault : LtxFault) (place : ℕ) → AreBytes (text ++ rest)
+        → IsLtx text file → IsBroken (text ++ rest) fault place → (fault ≡ LtxFault.Tail) × (length text < place) }
+{
+}
+
+/// The fault that stands earliest is one.
+pub fn one_earliest_fault()
+    ensures { (bytes : List ℕ) (fault other : LtxFault) → IsEarliest bytes fault → IsEarliest bytes other → fault ≡ other }
+{
+}

@@ -1,0 +1,27 @@
+//! LTX files: their text read and written.
+//!
+//! `Format` in the specifications says what a file is, its rules and its one text; `Places` says
+//! where bytes break a rule. Reading and writing both stand on these two and not on each other.
+#![tactic(auto)]
+
+mod appending;
+mod block;
+mod encoder;
+mod fault;
+mod file;
+mod head_rules;
+mod header;
+mod laws;
+mod numbers;
+mod reading;
+mod rules;
+mod trailer;
+mod writing;
+
+pub use encoder::Encoder;
+pub use fault::LtxFault;
+pub use file::Ltx;
+pub use header::Header;
+pub use laws::{one_earliest_fault, one_reading, text_breaks_no_rule};
+pub use reading::{decode, decode_first};
+pub use writing::encode;
