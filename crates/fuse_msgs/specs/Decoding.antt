@@ -3,6 +3,7 @@ use Rattle.std.specs.Prelude.{◌≡◌, ◌⊎◌, ℕ, true, false, List, Some
 use Rattle.fuse_msgs.specs.declared.request.Op.{Op}
 use Rattle.fuse_msgs.specs.declared.request.Request.{Request}
 use Rattle.fuse_msgs.specs.declared.opcode.Opcode.{Opcode}
+use Rattle.fuse_msgs.specs.declared.opcode.Opcode.TheVariants as opcode
 use Rattle.fuse_msgs.specs.declared.fault.BadMessage.{BadMessage}
 use Rattle.fuse_msgs.specs.declared.fault.BadMessage.TheVariants as bad
 use Rattle.fuse_msgs.specs.declared.fault.BodyFault.{BodyFault}
@@ -11,12 +12,20 @@ use Rattle.fuse_msgs.specs.Opcodes.{opcode_of}
 use Rattle.fuse_msgs.specs.Body.{IsBody, has_shape, has_name}
 use Rattle.fuse_msgs.specs.Message.{IsMessage, refusal}
 
+-- the opcodes whose request holds bytes, which take memory
+abbrev pub TakesMemory : Opcode → Type 0
+TakesMemory opcode.Lookup = Unit {0}
+TakesMemory opcode.Unlink = Unit {0}
+TakesMemory opcode.Write = Unit {0}
+TakesMemory opcode.Create = Unit {0}
+TakesMemory _ = ⊥
+
 -- what reading a body of an opcode gives: the operation, or the first thing that the body lacks
 abbrev pub IsReading : Opcode → List ℕ → Result Op BodyFault → Type 0
-IsReading opcode body (Ok op) = (opcode_of op ≡ opcode) × IsBody body op
-IsReading opcode body (Err fault.Shape) = has_shape opcode body ≡ false
-IsReading opcode body (Err fault.Name) = (has_shape opcode body ≡ true) × (has_name opcode body ≡ false)
-IsReading opcode body (Err fault.Memory) = Unit {0}
+IsReading kind body (Ok op) = (opcode_of op ≡ kind) × IsBody body op
+IsReading kind body (Err fault.Shape) = has_shape kind body ≡ false
+IsReading kind body (Err fault.Name) = (has_shape kind body ≡ true) × (has_name kind body ≡ false)
+IsReading kind body (Err fault.Memory) = TakesMemory kind
 
 -- the result is that answer, or memory ran out
 abbrev pub IsUnlessMemory : Result Request BadMessage → Result Request BadMessage → Type 0
