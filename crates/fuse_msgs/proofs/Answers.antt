@@ -15,17 +15,20 @@ some_same : (a b : BadMessage) (o : Option BadMessage) → o ≡ Some a → o �
 some_same a b o e g = cc
 
 -- a message of a request is read as that request
-pub accepts : (bytes : List ℕ) (result : Result Request BadMessage) → IsDecoding bytes result → (request : Request) → IsMessage bytes request → IsUnlessMemory result (Ok request)
+pub accepts : (bytes : List ℕ) (result : Result Request BadMessage) → IsDecoding bytes result
+    → (request : Request) → IsMessage bytes request → IsUnlessMemory result (Ok request)
 accepts bytes (Ok r) d request h = inl (ap (λ x. Ok x) (one_request bytes r request d h))
 accepts bytes (Err bad.NoMemory) d request h = inr refl
 accepts bytes (Err bad.Short) d request h = absurd (none_some _ _ (refusal-message bytes request h) d)
 accepts bytes (Err (bad.Length len)) d request h = absurd (none_some _ _ (refusal-message bytes request h) d)
-accepts bytes (Err (bad.Opcode number unique)) d request h = absurd (none_some _ _ (refusal-message bytes request h) d)
+accepts bytes (Err (bad.Opcode number unique)) d request h
+    = absurd (none_some _ _ (refusal-message bytes request h) d)
 accepts bytes (Err (bad.Body unique)) d request h = absurd (none_some _ _ (refusal-message bytes request h) d)
 accepts bytes (Err (bad.NameText unique)) d request h = absurd (none_some _ _ (refusal-message bytes request h) d)
 
 -- the first fault of the bytes is the answer
-pub refuses : (bytes : List ℕ) (result : Result Request BadMessage) → IsDecoding bytes result → (fault : BadMessage) → refusal bytes ≡ Some fault → IsUnlessMemory result (Err fault)
+pub refuses : (bytes : List ℕ) (result : Result Request BadMessage) → IsDecoding bytes result
+    → (fault : BadMessage) → refusal bytes ≡ Some fault → IsUnlessMemory result (Err fault)
 refuses bytes (Ok r) d fault h = absurd (none_some _ _ (refusal-message bytes r d) h)
 refuses bytes (Err bad.NoMemory) d fault h = inr refl
 refuses bytes (Err bad.Short) d fault h = inl (ap (λ x. Err x) (some_same _ _ _ d h))

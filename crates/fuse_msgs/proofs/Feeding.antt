@@ -43,20 +43,24 @@ pub front_of-short : (text : List ℕ) → length text < 4 → front_of text ≡
 unfolding front_of
 front_of-short text h = rw (lt-ltb (length text) 4 h) refl
 
-pub front_of-broken : (text : List ℕ) → 4 ≤ length text → is_length (len_of text) ≡ false → front_of text ≡ broken (len_of text)
+pub front_of-broken : (text : List ℕ) → 4 ≤ length text → is_length (len_of text) ≡ false
+    → front_of text ≡ broken (len_of text)
 unfolding front_of
 front_of-broken text h b = rw (le-ltb (length text) 4 h, b) refl
 
-pub front_of-whole : (text : List ℕ) → 4 ≤ length text → is_length (len_of text) ≡ true → len_of text ≤ length text → front_of text ≡ whole (len_of text)
+pub front_of-whole : (text : List ℕ) → 4 ≤ length text → is_length (len_of text) ≡ true
+    → len_of text ≤ length text → front_of text ≡ whole (len_of text)
 unfolding front_of
 front_of-whole text h g l = rw (le-ltb (length text) 4 h, g, le-leb (len_of text) (length text) l) refl
 
-pub front_of-part : (text : List ℕ) → 4 ≤ length text → is_length (len_of text) ≡ true → length text < len_of text → front_of text ≡ part
+pub front_of-part : (text : List ℕ) → 4 ≤ length text → is_length (len_of text) ≡ true
+    → length text < len_of text → front_of text ≡ part
 unfolding front_of
 front_of-part text h g l = rw (le-ltb (length text) 4 h, g, lt-leb (len_of text) (length text) l) refl
 
 -- a text that isn't whole is shorter than a length field that a message has
-pub unfinished_below : (text : List ℕ) → 4 ≤ length text → is_length (len_of text) ≡ true → is_whole text ≡ false → length text < len_of text
+pub unfinished_below : (text : List ℕ) → 4 ≤ length text → is_length (len_of text) ≡ true
+    → is_whole text ≡ false → length text < len_of text
 unfinished_below text h g u =
     elim (cases_lt (length text) (len_of text)) [
       | inl lt ↦ lt
@@ -73,7 +77,8 @@ pub record Completes (held piece : List ℕ) (n len : ℕ) : Type 0 where
 
 -- what is held and a front of the piece are a front of the whole text
 pub front_then_rest : (held piece : List ℕ) (n : ℕ) → held ++ piece ≡ (held ++ take n piece) ++ drop n piece
-front_then_rest held piece n = ap (λ x. held ++ x) (sym (take-append-drop n piece)) ∙ sym (append_assoc held (take n piece) (drop n piece))
+front_then_rest held piece n = ap (λ x. held ++ x) (sym (take-append-drop n piece))
+    ∙ sym (append_assoc held (take n piece) (drop n piece))
 
 pub length-front : (held piece : List ℕ) (n : ℕ) → n ≤ length piece → length (held ++ take n piece) ≡ length held + n
 length-front held piece n h = omega (arith, length-append held (take n piece), length-take n piece)
@@ -89,7 +94,8 @@ text_long : (held piece : List ℕ) (n len : ℕ) → Completes held piece n len
 text_long held piece n len k = omega (arith, length-append held piece, k.count, k.enough)
 
 -- a front of the piece, and a front of its rest
-pub two_fronts : (held piece : List ℕ) (n m : ℕ) → n ≤ length piece → (held ++ take n piece) ++ take m (drop n piece) ≡ held ++ take (n + m) piece
+pub two_fronts : (held piece : List ℕ) (n m : ℕ) → n ≤ length piece → (held ++ take n piece)
+    ++ take m (drop n piece) ≡ held ++ take (n + m) piece
 two_fronts held piece n m within =
     append_assoc held (take n piece) (take m (drop n piece)) ∙ ap (λ x. held ++ x) (take_two n m piece)
 
@@ -97,14 +103,16 @@ two_fronts held piece n m within =
 pub length_is_40 : (len : ℕ) → is_length len ≡ true → 40 ≤ len
 length_is_40 len g = leb-true 40 len (and-true_left (leb 40 len) (leb len 135168) g)
 
-grown : (held piece : List ℕ) (n len : ℕ) → Completes held piece n len → is_length len ≡ true → is_whole held ≡ false → 4 ≤ length held → length held + n < len
+grown : (held piece : List ℕ) (n len : ℕ) → Completes held piece n len → is_length len ≡ true
+    → is_whole held ≡ false → 4 ≤ length held → length held + n < len
 grown held piece n len k g u le =
     let nothing : n ≡ 0 = omega (arith, k.count) in
     let same : len ≡ len_of held = k.len_is ∙ len_of-append held (take n piece) le in
     omega (arith, nothing, same, unfinished_below held le (sym (ap is_length same) ∙ g) u)
 
 -- what is held and was completed is shorter than the message
-held_below : (held piece : List ℕ) (n len : ℕ) → Completes held piece n len → is_length len ≡ true → is_whole held ≡ false → length held + n < len
+held_below : (held piece : List ℕ) (n len : ℕ) → Completes held piece n len → is_length len ≡ true
+    → is_whole held ≡ false → length held + n < len
 held_below held piece n len k g u =
     elim (cases_lt (length held) 4) [
       | inl lt ↦ omega (arith, k.count, k.enough, length_is_40 len g)
@@ -117,14 +125,17 @@ pub ends_short : (held piece : List ℕ) (n : ℕ) → n ≡ min (4 - length hel
     → (Ok fed.More ≡ feed_answer held piece) × (held ++ take n piece ≡ fed_on held piece)
 ends_short held piece n e short =
     let all : n ≡ length piece = omega (arith, e) in
-    let f : front_of (held ++ piece) ≡ part = front_of-short (held ++ piece) (omega (arith, length-append held piece)) in
+    let f : front_of (held ++ piece) ≡ part
+    = front_of-short (held ++ piece) (omega (arith, length-append held piece)) in
     (rw f refl, rw (f, all) refl)
 
 pub ends_broken : (held piece : List ℕ) (n len : ℕ) → Completes held piece n len → is_length len ≡ false
     → (Err (bad.Length len) ≡ feed_answer held piece) × (held ++ take n piece ≡ fed_on held piece)
 ends_broken held piece n len k b =
     let same : len_of (held ++ piece) ≡ len = text_len held piece n len k in
-    let f : front_of (held ++ piece) ≡ broken len = front_of-broken (held ++ piece) (text_long held piece n len k) (ap is_length same ∙ b) ∙ ap broken same in
+    let f : front_of (held ++ piece) ≡ broken len
+    = front_of-broken (held ++ piece) (text_long held piece n len k) (ap is_length same ∙ b)
+    ∙ ap broken same in
     let count : n ≡ 4 - length held = omega (arith, k.count, k.enough) in
     (rw f refl, rw (f, count) refl)
 
@@ -136,16 +147,21 @@ ends_more held piece n len m k g e short =
     let same : len_of (held ++ piece) ≡ len = text_len held piece n len k in
     let all : n + m ≡ length piece = omega (arith, e) in
     let below : length (held ++ piece) < len_of (held ++ piece) = omega (arith, length-append held piece, same) in
-    let f : front_of (held ++ piece) ≡ part = front_of-part (held ++ piece) (text_long held piece n len k) (ap is_length same ∙ g) below in
+    let f : front_of (held ++ piece) ≡ part
+    = front_of-part (held ++ piece) (text_long held piece n len k) (ap is_length same ∙ g) below in
     (rw f refl, two_fronts held piece n m within ∙ rw (f, all) refl)
 
-pub ends_whole : (held piece : List ℕ) (n len m : ℕ) → Completes held piece n len → is_length len ≡ true → is_whole held ≡ false
+pub ends_whole : (held piece : List ℕ) (n len m : ℕ) → Completes held piece n len → is_length len ≡ true
+    → is_whole held ≡ false
     → m ≡ min (len - (length held + n)) (length piece - n) → len ≤ length held + n + m
-    → (Ok (fed.Whole (n + m)) ≡ feed_answer held piece) × ((held ++ take n piece) ++ take m (drop n piece) ≡ fed_on held piece)
+    → (Ok (fed.Whole (n + m)) ≡ feed_answer held piece)
+    × ((held ++ take n piece) ++ take m (drop n piece) ≡ fed_on held piece)
 ends_whole held piece n len m k g u e enough =
     let within : n ≤ length piece = omega (arith, k.count) in
     let same : len_of (held ++ piece) ≡ len = text_len held piece n len k in
     let long : len_of (held ++ piece) ≤ length (held ++ piece) = omega (arith, length-append held piece, same, e) in
-    let f : front_of (held ++ piece) ≡ whole len = front_of-whole (held ++ piece) (text_long held piece n len k) (ap is_length same ∙ g) long ∙ ap whole same in
+    let f : front_of (held ++ piece) ≡ whole len
+    = front_of-whole (held ++ piece) (text_long held piece n len k) (ap is_length same ∙ g) long
+    ∙ ap whole same in
     let count : n + m ≡ len - length held = omega (arith, e, held_below held piece n len k g u) in
     (rw (f, count) refl, two_fronts held piece n m within ∙ rw (f, count) refl)

@@ -5,7 +5,8 @@ use Rattle.std.proofs.lemmas.List.{take_more, take_all, take_at, get_or_at, leng
 use Rattle.fuse_msgs.specs.Names.{IsNameText, is_name_text}
 
 -- all but the last byte, and a zero byte
-pub name_then_zero : (text : List ℕ) (end : ℕ) → end ≡ length text - 1 → 0 < length text → get_or text end 0 ≡ 0 → text ≡ take end text ++ 0 ∷ []
+pub name_then_zero : (text : List ℕ) (end : ℕ) → end ≡ length text - 1 → 0 < length text
+    → get_or text end 0 ≡ 0 → text ≡ take end text ++ 0 ∷ []
 name_then_zero text end e filled last =
     let lt : end < length text = omega arith in
     let all : take (end + 1) text ≡ text = take_all (end + 1) text (omega arith) in
@@ -22,4 +23,9 @@ pub is_name_text-of : (text name : List ℕ) → IsNameText text name → is_nam
 unfolding is_name_text
 is_name_text-of text name h =
     let len : length name ≡ length (name ++ 0 ∷ []) - 1 = omega (arith, length-append name (0 ∷ [])) in
-    rw (h.1, take_at name (0 ∷ []) (length (name ++ 0 ∷ []) - 1) len, get_or_at name 0 [] 0 (length (name ++ 0 ∷ []) - 1) len) (rw h.0 refl)
+    rw (
+      h.1,
+      take_at name (0 ∷ []) (length (name ++ 0 ∷ []) - 1) len,
+      get_or_at name 0 [] 0
+          (length (name ++ 0 ∷ []) - 1) len,
+    ) (rw h.0 refl)

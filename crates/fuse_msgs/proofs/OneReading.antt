@@ -42,18 +42,24 @@ op_at : Opcode → List ℕ → Op
 op_at opcode.Lookup body = op.Lookup (front body)
 op_at opcode.Forget body = op.Forget
 op_at opcode.Getattr body = op.Getattr
-op_at opcode.Setattr body = op.Setattr (given (is_set (u32_at body 0) 3) (u64_at body 16)) (given (is_set (u32_at body 0) 9) (u64_at body 24))
+op_at opcode.Setattr body = op.Setattr (given (is_set (u32_at body 0) 3) (u64_at body 16))
+    (given (is_set (u32_at body 0) 9) (u64_at body 24))
 op_at opcode.Unlink body = op.Unlink (front body)
 op_at opcode.Open body = op.Open
-op_at opcode.Read body = op.Read (u64_at body 0) (u64_at body 8) (u32_at body 16) (given (is_set (u32_at body 20) 1) (u64_at body 24))
-op_at opcode.Write body = op.Write (u64_at body 0) (u64_at body 8) (given (is_set (u32_at body 20) 1) (u64_at body 24)) (drop 40 body)
+op_at opcode.Read body = op.Read (u64_at body 0) (u64_at body 8) (u32_at body 16)
+    (given (is_set (u32_at body 20) 1) (u64_at body 24))
+op_at opcode.Write body = op.Write (u64_at body 0) (u64_at body 8)
+    (given (is_set (u32_at body 20) 1) (u64_at body 24)) (drop 40 body)
 op_at opcode.Release body = op.Release (u64_at body 0) (u64_at body 16)
 op_at opcode.Fsync body = op.Fsync (u64_at body 0)
 op_at opcode.Flush body = op.Flush (u64_at body 0) (u64_at body 16)
 op_at opcode.Init body = op.Init (u32_at body 0) (u32_at body 4)
-op_at opcode.Getlk body = op.Getlk (u64_at body 0) (u64_at body 8) (u64_at body 16) (u64_at body 24) (wish_at (u32_at body 32))
-op_at opcode.Setlk body = op.Setlk (u64_at body 0) (u64_at body 8) (u64_at body 16) (u64_at body 24) (wish_at (u32_at body 32))
-op_at opcode.Setlkw body = op.Setlkw (u64_at body 0) (u64_at body 8) (u64_at body 16) (u64_at body 24) (wish_at (u32_at body 32))
+op_at opcode.Getlk body = op.Getlk (u64_at body 0) (u64_at body 8) (u64_at body 16) (u64_at body 24)
+    (wish_at (u32_at body 32))
+op_at opcode.Setlk body = op.Setlk (u64_at body 0) (u64_at body 8) (u64_at body 16) (u64_at body 24)
+    (wish_at (u32_at body 32))
+op_at opcode.Setlkw body = op.Setlkw (u64_at body 0) (u64_at body 8) (u64_at body 16) (u64_at body 24)
+    (wish_at (u32_at body 32))
 op_at opcode.Create body = op.Create (front (drop 16 body))
 op_at opcode.Destroy body = op.Destroy
 
@@ -87,11 +93,14 @@ abbrev made : ℕ → ℕ → ℕ → Op → Request
 made unique node pid op = record { unique = unique; node = node; pid = pid; op = op }
 
 same_made : (u v n m p q : ℕ) (a b : Op) → u ≡ v → n ≡ m → p ≡ q → a ≡ b → made u n p a ≡ made v m q b
-same_made u v n m p q a b eu en ep eo = ap (λ x. made x n p a) eu ∙ ap (λ x. made v x p a) en ∙ ap (λ x. made v m x a) ep ∙ ap (λ x. made v m q x) eo
+same_made u v n m p q a b eu en ep eo = ap (λ x. made x n p a) eu ∙ ap (λ x. made v x p a) en
+    ∙ ap (λ x. made v m x a) ep ∙ ap (λ x. made v m q x) eo
 
 -- bytes are a message of one request at most
 pub one_request : (bytes : List ℕ) (a b : Request) → IsMessage bytes a → IsMessage bytes b → a ≡ b
 one_request bytes a b p q =
-    let kinds : opcode_of a.op ≡ opcode_of b.op = some_is (opcode_of a.op) (opcode_of b.op) (sym p.opcode_is ∙ q.opcode_is) in
+    let kinds : opcode_of a.op ≡ opcode_of b.op
+    = some_is (opcode_of a.op) (opcode_of b.op) (sym p.opcode_is ∙ q.opcode_is) in
     let ops : a.op ≡ b.op = same_op (body_of bytes) a.op b.op kinds p.body_is q.body_is in
-    same_made a.unique b.unique a.node b.node a.pid b.pid a.op b.op (p.unique_is ∙ sym q.unique_is) (p.node_is ∙ sym q.node_is) (p.pid_is ∙ sym q.pid_is) ops
+    same_made a.unique b.unique a.node b.node a.pid b.pid a.op b.op (p.unique_is ∙ sym q.unique_is)
+    (p.node_is ∙ sym q.node_is) (p.pid_is ∙ sym q.pid_is) ops

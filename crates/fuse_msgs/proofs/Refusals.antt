@@ -19,12 +19,14 @@ lock_type-below wish.Read = omega arith
 lock_type-below wish.Write = omega arith
 lock_type-below wish.Unlock = omega arith
 
-lock_has : (body : List ℕ) (fh owner start end : ℕ) (kind : LockWish) → IsLkIn body fh owner start end kind → has_lock body ≡ true
+lock_has : (body : List ℕ) (fh owner start end : ℕ) (kind : LockWish) → IsLkIn body fh owner start end kind
+    → has_lock body ≡ true
 lock_has body fh owner start end kind h =
     let low : u32_at body 32 ≤ 2 = omega (arith, h.kind_is, lock_type-below kind) in
     rw (eq-eqb (length body) 48 h.whole, le-leb _ _ low) refl
 
-data_has : (body : List ℕ) (fh at : ℕ) (owner : Option ℕ) (bytes : List ℕ) → IsWriteIn body fh at owner bytes → has_data body ≡ true
+data_has : (body : List ℕ) (fh at : ℕ) (owner : Option ℕ) (bytes : List ℕ)
+    → IsWriteIn body fh at owner bytes → has_data body ≡ true
 data_has body fh at owner bytes h =
     let size : u32_at body 16 ≡ length (drop 40 body) = h.size_is ∙ ap length h.data_is in
     let limit : length (drop 40 body) ≤ 131072 = rw (← h.data_is) h.limit in
@@ -76,4 +78,13 @@ refusal-message bytes request h =
     let low : leb 40 (len_of bytes) ≡ true = le-leb _ _ (omega (arith, h.len_is, h.header)) in
     let high : leb (len_of bytes) 135168 ≡ true = le-leb _ _ (omega (arith, h.len_is, h.limit)) in
     let same : eqb (len_of bytes) (length bytes) ≡ true = eq-eqb _ _ h.len_is in
-    rw (long, low, high, same, h.opcode_is, shape_has (body_of bytes) request.op h.body_is, name_has (body_of bytes) request.op h.body_is) refl
+    rw (
+      long,
+      low,
+      high,
+      same,
+      h.opcode_is,
+      shape_has (body_of bytes) request.op h.body_is,
+      name_has
+          (body_of bytes) request.op h.body_is,
+    ) refl

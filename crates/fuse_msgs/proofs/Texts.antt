@@ -65,7 +65,8 @@ number_fits opcode.Destroy = lit< tt
 
 -- ---- the bodies
 
-read_is : (fh at size : ℕ) (owner : Option ℕ) → ReadFits fh at size owner → IsReadIn (read_in fh at size owner) fh at size owner
+read_is : (fh at size : ℕ) (owner : Option ℕ) → ReadFits fh at size owner
+    → IsReadIn (read_in fh at size owner) fh at size owner
 unfolding le32 le64 zeros u32_at u64_at is_set
 read_is fh at size None h = record {
   whole = refl;
@@ -82,7 +83,8 @@ read_is fh at size (Some owner) h = record {
   owner_is = ap (λ n. Some n) (sym (from_le_bytes-to_le_bytes_8 owner h.owner_fits));
 }
 
-write_is : (fh at : ℕ) (owner : Option ℕ) (bytes : List ℕ) → ReadFits fh at 0 owner → length bytes ≤ 131072 → IsWriteIn (read_in fh at (length bytes) owner ++ bytes) fh at owner bytes
+write_is : (fh at : ℕ) (owner : Option ℕ) (bytes : List ℕ) → ReadFits fh at 0 owner → length bytes ≤ 131072
+    → IsWriteIn (read_in fh at (length bytes) owner ++ bytes) fh at owner bytes
 unfolding le32 le64 zeros u32_at u64_at is_set
 write_is fh at None bytes h l = record {
   whole = omega arith;
@@ -103,11 +105,22 @@ write_is fh at (Some owner) bytes h l = record {
   limit = l;
 }
 
-setattr_is : (size owner : Option ℕ) → IfSome size (λ n. n < 2 ^ 64) → IfSome owner (λ n. n < 2 ^ 64) → IsSetattrIn (setattr_in size owner) size owner
+setattr_is : (size owner : Option ℕ) → IfSome size (λ n. n < 2 ^ 64) → IfSome owner (λ n. n < 2 ^ 64)
+    → IsSetattrIn (setattr_in size owner) size owner
 unfolding le32 le64 zeros u32_at u64_at is_set
 setattr_is None None hs ho = record { whole = refl; size_is = refl; owner_is = refl }
-setattr_is None (Some owner) hs ho = record { whole = refl; size_is = refl; owner_is = ap (λ n. Some n) (sym (from_le_bytes-to_le_bytes_8 owner ho)) }
-setattr_is (Some size) None hs ho = record { whole = refl; size_is = ap (λ n. Some n) (sym (from_le_bytes-to_le_bytes_8 size hs)); owner_is = refl }
+setattr_is None (Some owner) hs ho = record {
+  whole = refl;
+  size_is = refl;
+  owner_is
+      = ap (λ n. Some n) (sym (from_le_bytes-to_le_bytes_8 owner ho));
+}
+setattr_is (Some size) None hs ho = record {
+  whole = refl;
+  size_is
+      = ap (λ n. Some n) (sym (from_le_bytes-to_le_bytes_8 size hs));
+  owner_is = refl;
+}
 setattr_is (Some size) (Some owner) hs ho = record {
   whole = refl;
   size_is = ap (λ n. Some n) (sym (from_le_bytes-to_le_bytes_8 size hs));
@@ -119,7 +132,8 @@ type_fits wish.Read = lit< tt
 type_fits wish.Write = lit< tt
 type_fits wish.Unlock = lit< tt
 
-lk_is : (fh owner start end : ℕ) (kind : LockWish) → LockFits fh owner start end → IsLkIn (lk_in fh owner start end kind) fh owner start end kind
+lk_is : (fh owner start end : ℕ) (kind : LockWish) → LockFits fh owner start end
+    → IsLkIn (lk_in fh owner start end kind) fh owner start end kind
 unfolding le32 le64 zeros u32_at u64_at
 lk_is fh owner start end kind h = record {
   whole = refl;
@@ -140,10 +154,25 @@ body_is (op.Unlink name) h = (h, refl)
 body_is op.Open h = refl
 body_is (op.Read fh at size owner) h = read_is fh at size owner h
 body_is (op.Write fh at owner bytes) h = write_is fh at owner bytes h.0 h.1
-body_is (op.Release fh owner) h = record { whole = refl; fh_is = sym (from_le_bytes-to_le_bytes_8 fh h.0); owner_is = sym (from_le_bytes-to_le_bytes_8 owner h.1) }
+body_is (op.Release fh owner) h = record {
+  whole = refl;
+  fh_is
+      = sym (from_le_bytes-to_le_bytes_8 fh h.0);
+  owner_is = sym (from_le_bytes-to_le_bytes_8 owner h.1);
+}
 body_is (op.Fsync fh) h = record { whole = refl; fh_is = sym (from_le_bytes-to_le_bytes_8 fh h) }
-body_is (op.Flush fh owner) h = record { whole = refl; fh_is = sym (from_le_bytes-to_le_bytes_8 fh h.0); owner_is = sym (from_le_bytes-to_le_bytes_8 owner h.1) }
-body_is (op.Init major minor) h = record { whole = omega arith; major_is = sym (from_le_bytes-to_le_bytes_4 major h.0); minor_is = sym (from_le_bytes-to_le_bytes_4 minor h.1) }
+body_is (op.Flush fh owner) h = record {
+  whole = refl;
+  fh_is
+      = sym (from_le_bytes-to_le_bytes_8 fh h.0);
+  owner_is = sym (from_le_bytes-to_le_bytes_8 owner h.1);
+}
+body_is (op.Init major minor) h = record {
+  whole = omega arith;
+  major_is
+      = sym (from_le_bytes-to_le_bytes_4 major h.0);
+  minor_is = sym (from_le_bytes-to_le_bytes_4 minor h.1);
+}
 body_is (op.Getlk fh owner start end kind) h = lk_is fh owner start end kind h
 body_is (op.Setlk fh owner start end kind) h = lk_is fh owner start end kind h
 body_is (op.Setlkw fh owner start end kind) h = lk_is fh owner start end kind h
@@ -192,7 +221,8 @@ record HasFields (len number unique node pid : ℕ) (body : List ℕ) : Type 0 w
   pid_is : u32_at (in_header len number unique node pid ++ body) 32 ≡ pid
   rest : drop 40 (in_header len number unique node pid ++ body) ≡ body
 
-header_has : (len number unique node pid : ℕ) (body : List ℕ) → len < 2 ^ 32 → number < 2 ^ 32 → unique < 2 ^ 64 → node < 2 ^ 64 → pid < 2 ^ 32 → HasFields len number unique node pid body
+header_has : (len number unique node pid : ℕ) (body : List ℕ) → len < 2 ^ 32 → number < 2 ^ 32
+    → unique < 2 ^ 64 → node < 2 ^ 64 → pid < 2 ^ 32 → HasFields len number unique node pid body
 unfolding le32 le64 zeros u32_at u64_at
 header_has len number unique node pid body hl hn hu hd hp = record {
   long = omega arith;
@@ -208,7 +238,9 @@ header_has len number unique node pid body hl hn hu hd hp = record {
 pub text_is_message : (request : Request) → Fits request → IsMessage (request_bytes request) request
 text_is_message request h =
     let short = body_short request.op h.op_fits in
-    let f = header_has (40 + length (body_bytes request.op)) (number_of (opcode_of request.op)) request.unique request.node request.pid (body_bytes request.op) (omega (arith, short)) (number_fits (opcode_of request.op)) h.unique_fits h.node_fits h.pid_fits in
+    let f = header_has (40 + length (body_bytes request.op)) (number_of (opcode_of request.op))
+    request.unique request.node request.pid (body_bytes request.op) (omega (arith, short))
+    (number_fits (opcode_of request.op)) h.unique_fits h.node_fits h.pid_fits in
     record {
       header = omega (arith, f.long);
       limit = omega (arith, f.long, short);

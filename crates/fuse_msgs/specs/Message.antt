@@ -74,5 +74,6 @@ pub record HasHeader (bytes : List ℕ) (number unique node pid : ℕ) : Type 0 
 -- the bytes have no such header, for this first reason
 abbrev pub LacksHeader : List ℕ → BadMessage → Type 0
 LacksHeader bytes bad.Short = length bytes < 40
-LacksHeader bytes (bad.Length len) = (40 ≤ length bytes) × (len ≡ len_of bytes) × ((is_length len && (len == length bytes)) ≡ false)
+LacksHeader bytes (bad.Length len) = (40 ≤ length bytes) × (len ≡ len_of bytes)
+    × ((is_length len && (len == length bytes)) ≡ false)
 LacksHeader bytes _ = ⊥

@@ -14,7 +14,8 @@ mode_of node = if node == 1 then 0x41ED else 0x81A4
 -- rdev, blksize, padding 4 each. The times, uid, gid and rdev are 0.
 abbrev pub attr : ℕ → ℕ → List ℕ
 attr node size =
-    le64 node ++ le64 size ++ le64 ((size + 511) / 512) ++ zeros 36 ++ le32 (mode_of node) ++ le32 1 ++ zeros 12 ++ le32 4096 ++ zeros 4
+    le64 node ++ le64 size ++ le64 ((size + 511) / 512) ++ zeros 36 ++ le32 (mode_of node) ++ le32 1
+    ++ zeros 12 ++ le32 4096 ++ zeros 4
 
 -- `fuse_entry_out`: nodeid, generation, entry_valid, attr_valid 8 each; two nanosecond fields 4 each, attr. All validity is 0.
 abbrev pub entry_out : ℕ → ℕ → List ℕ

@@ -65,7 +65,8 @@ in_header len number unique node pid =
 -- the text of a request
 abbrev pub request_bytes : Request → List ℕ
 request_bytes request =
-    in_header (40 + length (body_bytes request.op)) (number_of (opcode_of request.op)) request.unique request.node request.pid
+    in_header (40 + length (body_bytes request.op)) (number_of (opcode_of request.op)) request.unique
+    request.node request.pid
     ++ body_bytes request.op
 
 -- the numbers of a lock fit their fields

@@ -18,12 +18,16 @@ pub fn request_texts()
 /// However a text is cut into pieces, feeding them gives its messages in order and leaves its rest,
 /// and a text has no other messages and no other rest.
 pub fn any_pieces()
-    ensures split { (pieces : List (List ℕ)) → Splits (text_of [] pieces) (messages_of [] pieces) (left_of [] pieces) }
-    ensures once { (text : List ℕ) (a b : List (List ℕ)) (r s : List ℕ) → Splits text a r → Splits text b s → (a ≡ b) × (r ≡ s) }
+    ensures split { (pieces : List (List ℕ))
+        → Splits (text_of [] pieces) (messages_of [] pieces) (left_of [] pieces) }
+    ensures once { (text : List ℕ) (a b : List (List ℕ)) (r s : List ℕ)
+        → Splits text a r → Splits text b s → (a ≡ b) × (r ≡ s) }
 {}
 
 /// A length field that no message has is held once it is refused, and refused at each later call.
 pub fn refused_for_good()
-    ensures held { (held piece : List ℕ) (len : ℕ) → feed_answer held piece ≡ Err (bad.Length len) → front_of (fed_on held piece) ≡ broken len }
-    ensures again { (held piece : List ℕ) (len : ℕ) → front_of held ≡ broken len → feed_answer held piece ≡ Err (bad.Length len) }
+    ensures held { (held piece : List ℕ) (len : ℕ) → feed_answer held piece ≡ Err (bad.Length len)
+        → front_of (fed_on held piece) ≡ broken len }
+    ensures again { (held piece : List ℕ) (len : ℕ) → front_of held ≡ broken len
+        → feed_answer held piece ≡ Err (bad.Length len) }
 {}

@@ -10,4 +10,5 @@ pub returns-clause-once : goal.returns-clause-once
 returns-clause-once c = one_request
 
 pub returns-clause-apart : goal.returns-clause-apart
-returns-clause-apart c a b fa fb e = one_request (request_bytes b) a b (rw (← e) (text_is_message a fa)) (text_is_message b fb)
+returns-clause-apart c a b fa fb e = one_request (request_bytes b) a b (rw (← e) (text_is_message a fa))
+    (text_is_message b fb)
