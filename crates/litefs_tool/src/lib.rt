@@ -1,8 +1,23 @@
 //! The commands of the program `litefs`, over sources and sinks that a test can give too.
+//!
+//! `run` reads the words, performs their command and says how it went. What a run may come to is
+//! said in the specifications `Run`; what applying LTX files comes to, in `Files`.
 #![tactic(auto)]
 
+mod command;
+mod database;
+mod files;
+mod host;
 mod input;
 mod output;
+mod position;
+mod refusal;
+mod sums;
+mod whole;
 
+pub use command::{Command, read_words};
+pub use files::apply_files;
+pub use host::Host;
 pub use input::{InputFault, read_whole};
 pub use output::write_whole;
+pub use refusal::Refusal;

@@ -1,0 +1,3 @@
+pub mod FileLemmas
+pub mod PageLemmas
+pub mod WholeChange

@@ -1,0 +1,6 @@
+/// What a run of the program reads from, writes to, and says its failure on.
+pub struct Host<I, O, E> {
+    pub input: I,
+    pub output: O,
+    pub errors: E,
+}
