@@ -1,3 +1,5 @@
 pub mod FileLemmas
+pub mod OutputLemmas
 pub mod PageLemmas
+pub mod PerformLemmas
 pub mod WholeChange

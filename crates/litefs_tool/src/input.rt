@@ -1,7 +1,6 @@
 //! An input read whole, up to a limit.
-ghost use Rattle.std.specs.Prelude.{◌≡◌, ◌≤◌, ◌<◌, length, vec_len, IfOk, IsErrOf};
-ghost use Rattle.std.specs.Io.KnownBytes.{Consumes};
-ghost use Rattle.litefs_tool.specs.Input.{ReadsWhole, ReadsPast, CountsReads};
+ghost use Rattle.std.specs.Prelude.{◌≡◌, ◌<◌, length, vec_len, IfOk, IfErr};
+ghost use Rattle.litefs_tool.specs.Input.{ReadsWhole, LosesBytes, CountsReads};
 ghost use Rattle.litefs_tool.specs.declared.input.InputFault.TheVariants as fault;
 
 use lf_base::{Failed, Source};
@@ -41,7 +40,7 @@ pub fn read_whole<S: Source>(
     limit: usize,
 ) -> Result<Vec<u8>, InputFault>
     ensures whole { IfOk result (λ bytes. ReadsWhole limit (S.left source.old) (S.left source.new) bytes.items) }
-    ensures too_long { IsErrOf result InputFault.TooLong → ReadsPast limit (S.left source.old) (S.left source.new) }
+    ensures lost { IfErr result (LosesBytes limit (S.left source.old) (S.left source.new)) }
     ensures cause { CountsReads (S.faults source.old) (S.faults source.new) result }
 {
     let mut piece = new_piece(alloc)?;
@@ -65,7 +64,7 @@ fn read_pieces<S: Source>(
 ) -> Result<Vec<u8>, InputFault>
     requires { 0 < length piece.old }
     ensures whole { IfOk result (λ bytes. ReadsWhole limit (S.left source.old) (S.left source.new) bytes.items) }
-    ensures too_long { IsErrOf result InputFault.TooLong → ReadsPast limit (S.left source.old) (S.left source.new) }
+    ensures lost { IfErr result (LosesBytes limit (S.left source.old) (S.left source.new)) }
     ensures cause { CountsReads (S.faults source.old) (S.faults source.new) result }
 {
     let mut bytes = Vec::new(alloc);
