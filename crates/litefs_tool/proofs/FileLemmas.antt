@@ -6,7 +6,7 @@ use Rattle.std.proofs.lemmas.List.{take-append-drop}
 use Rattle.std.proofs.lemmas.Grind.{common_steps}
 use Rattle.lf_sqlite_pages.specs.Image.{DatabaseImage}
 use Rattle.ltx_codec.specs.Format.{IsLtx, summed_text, file_sum}
-use Rattle.ltx_codec.specs.Places.{IsEarliest}
+use Rattle.ltx_codec.specs.Places.{IsEarliest, IsRefused, StandsInside}
 use Rattle.ltx_codec.specs.declared.fault.LtxFault.{LtxFault}
 use Rattle.ltx_codec.specs.declared.fault.LtxFault.TheVariants as fault
 use Rattle.ltx_codec.specs.declared.file.Ltx.{Ltx}
@@ -36,13 +36,12 @@ refusal-of_fault bytes f is = refl
 
 -- the rest has no file at its front
 pub MakesOf-broken : (database : Database) (rest bytes : List ℕ) (f : LtxFault) (result : Result DatabaseImage Refusal) →
-    ComesTo database rest bytes → (f ≡ fault.NoMemory) ⊎ (IsEarliest rest f × (f ≢ fault.Tail)) →
-    IsErrAnd result (λ why. why ≡ refusal_of f) → MakesOf bytes result
-MakesOf-broken database rest bytes f (Ok image) so_far cause is = absurd is
-MakesOf-broken database rest bytes f (Err why) so_far cause is =
+    ComesTo database rest bytes → IsRefused rest f → StandsInside f → IsErrAnd result (λ why. why ≡ refusal_of f) → MakesOf bytes result
+MakesOf-broken database rest bytes f (Ok image) so_far cause inside is = absurd is
+MakesOf-broken database rest bytes f (Err why) so_far cause inside is =
     elim cause [
       | inl memory ↦ inl (ap Err (is ∙ ap refusal_of memory))
-      | inr first ↦ inr (so_far (Err why) (rw (is ∙ refusal-of_fault rest f first.0) (broken first.0 first.1)))
+      | inr first ↦ inr (so_far (Err why) (rw (is ∙ refusal-of_fault rest f first) (broken first inside)))
     ]
 
 -- the file at the front of the rest is refused

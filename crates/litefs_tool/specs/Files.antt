@@ -4,9 +4,8 @@ use Rattle.page_checksum.specs.Sums.{database_sum}
 use Rattle.lf_sqlite_pages.specs.Image.{DatabaseImage, empty_image}
 use Rattle.lf_sqlite_pages.specs.Apply.{Fits, apply}
 use Rattle.ltx_codec.specs.Format.{IsLtx}
-use Rattle.ltx_codec.specs.Places.{IsEarliest}
+use Rattle.ltx_codec.specs.Places.{IsEarliest, StandsInside}
 use Rattle.ltx_codec.specs.declared.fault.LtxFault.{LtxFault}
-use Rattle.ltx_codec.specs.declared.fault.LtxFault.TheVariants as fault
 use Rattle.ltx_codec.specs.declared.file.Ltx.{Ltx}
 use Rattle.litefs_tool.specs.Position as position
 use Rattle.litefs_tool.specs.declared.database.Database.{Database}
@@ -45,7 +44,7 @@ Refuses database file refusal.NoMemory = ⊥
 -- text is looked at, then whether it joins. The first fault is the answer, and else the image at the end of the bytes.
 pub data Applies : Database → List ℕ → Result DatabaseImage Refusal → Type 0 where
   broken : {database : Database} {bytes : List ℕ} {broken : LtxFault} →
-    IsEarliest bytes broken → broken ≢ fault.Tail → Applies database bytes (Err (refusal.Ltx broken))
+    IsEarliest bytes broken → StandsInside broken → Applies database bytes (Err (refusal.Ltx broken))
   refused : {database : Database} {bytes : List ℕ} (text rest : List ℕ) {file : Ltx} {why : Refusal} →
     bytes ≡ text ++ rest → IsLtx text file → Refuses database file why → Applies database bytes (Err why)
   last : {database : Database} {bytes : List ℕ} {file : Ltx} →

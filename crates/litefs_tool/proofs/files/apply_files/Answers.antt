@@ -5,7 +5,7 @@ use Rattle.litefs_tool.proofs.files.apply_files.Goals as goal
 
 pub returns-in_err-file : goal.returns-in_err-file
 returns-in_err-file c =
-    MakesOf-broken _ _ _ _ _ c.loop-database.invariant c.in_err-file.ensures.fault c.from_residual.ensures.1
+    MakesOf-broken _ _ _ _ _ c.loop-database.invariant c.in_err-file.ensures.fault c.in_err-file.ensures.inside c.from_residual.ensures.1
 
 pub returns-in_err-apply : goal.returns-in_err-apply
 returns-in_err-apply c =
