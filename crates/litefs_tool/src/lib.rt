@@ -25,3 +25,6 @@ pub use input::{InputFault, read_whole};
 pub use output::{write_image, write_whole};
 pub use refusal::Refusal;
 pub use top_call::run;
+
+#[cfg(test)]
+mod tests;
