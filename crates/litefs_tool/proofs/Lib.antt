@@ -1,3 +1,4 @@
+pub mod AnswerLemmas
 pub mod FileLemmas
 pub mod OutputLemmas
 pub mod PageLemmas
