@@ -1,10 +1,8 @@
 -- What `apply` comes to where it doesn't come to write.
-use Rattle.std.proofs.Common.{◌≡◌, ℕ, List, [], Option, Result, Ok, Err, ◌⊎◌, inl, inr, refl, ap, arith}
+use Rattle.std.proofs.Common.{◌≡◌, ℕ, List, [], Option, Result, Ok, Err, inl, inr, refl}
 use Rattle.std.specs.Result.{IsErrAnd}
-use Rattle.std.proofs.KnownBytes.{Appends-nil, Consumes-nil}
-use Rattle.lf_base.specs.declared.status.Status.{Status}
+use Rattle.std.proofs.KnownBytes.{Appends-nil}
 use Rattle.lf_base.specs.declared.status.Status.TheVariants as status
-use Rattle.lf_sqlite_pages.specs.Image.{DatabaseImage}
 use Rattle.litefs_tool.specs.Failure.{status_of_failure, name_of_failure}
 use Rattle.litefs_tool.specs.Files.{MakesOf, Applies, never_written}
 use Rattle.litefs_tool.specs.Input.{ReadsWhole, LosesBytes, CountsCause}
@@ -45,13 +43,12 @@ refused_as : (input : Stream) (taken : Option (List ℕ)) (count : ℕ) (bytes :
     ReadsWhole input_limit input.bytes input.bytes_after bytes → Holds input → Applies never_written bytes (Err why) →
     status_of_failure (failure.Files why) ≡ status.InputRefused → name_of_failure (failure.Files why) ≡ refusal_name why →
     Performs AppliesInput input (unmoved taken count) (Err (failure.Files why))
-refused_as input taken count bytes why whole holds applies ends names =
-    (
-        bytes,
-        [],
-        rw ends (record { reads = whole.read; writes = Appends-nil taken; rest = whole.to_the_end; cause = (holds, refl) }),
-        rw ends (why, (whole.within, applies), names, refl),
-    )
+refused_as input taken count bytes why whole holds applies ends names = (
+  bytes,
+  [],
+  rw ends (record { reads = whole.read; writes = Appends-nil taken; rest = whole.to_the_end; cause = (holds, refl) }),
+  rw ends (why, (whole.within, applies), names, refl),
+)
 
 fails_to_apply : (input : Stream) (taken : Option (List ℕ)) (count : ℕ) (bytes : List ℕ) (why : Refusal) →
     ReadsWhole input_limit input.bytes input.bytes_after bytes → Holds input → MakesOf bytes (Err why) →

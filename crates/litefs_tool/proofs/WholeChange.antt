@@ -1,5 +1,5 @@
 -- A change writes each page exactly where it writes as many pages as the database has afterwards.
-use Rattle.std.proofs.Common.{◌≡◌, ◌≢◌, ℕ, ◌+◌, ◌-◌, ◌<◌, ◌≤◌, true, false, eqb, Some, None, List, [], ◌∷◌, inl, inr, length, subst, sym, refl, ap, arith}
+use Rattle.std.proofs.Common.{◌≡◌, ℕ, ◌+◌, ◌<◌, ◌≤◌, true, false, eqb, None, List, [], ◌∷◌, inl, inr, length, refl, arith}
 use Rattle.std.specs.List.{All}
 use Rattle.std.specs.Option.{IsSome}
 use Rattle.std.proofs.lemmas.Bool.{cases_eq, cases_lt}
@@ -57,8 +57,8 @@ count-of_all number commit (w ∷ ws) ascending every =
           let first : w.number ≡ number + 1 = first_is_next number commit w ws ascending below every in
           let rest : commit ≤ w.number + length ws =
           count-of_all w.number commit ws ascending.1 (λ n above within.
-              let other : eqb w.number n ≡ false = grind (arith, nat_tests, above) in
-              rw other at (every n (omega (arith, above, ascending.0)) within))
+          let other : eqb w.number n ≡ false = grind (arith, nat_tests, above) in
+          rw other at (every n (omega (arith, above, ascending.0)) within))
           in
           omega (arith, first)
       | inr above ↦ omega arith

@@ -44,14 +44,14 @@ Refuses database file refusal.NoMemory = ⊥
 -- text is looked at, then whether it joins. The first fault is the answer, and else the image at the end of the bytes.
 pub data Applies : Database → List ℕ → Result DatabaseImage Refusal → Type 0 where
   broken : {database : Database} {bytes : List ℕ} {broken : LtxFault} →
-    IsEarliest bytes broken → StandsInside broken → Applies database bytes (Err (refusal.Ltx broken))
+      IsEarliest bytes broken → StandsInside broken → Applies database bytes (Err (refusal.Ltx broken))
   refused : {database : Database} {bytes : List ℕ} (text rest : List ℕ) {file : Ltx} {why : Refusal} →
-    bytes ≡ text ++ rest → IsLtx text file → Refuses database file why → Applies database bytes (Err why)
+      bytes ≡ text ++ rest → IsLtx text file → Refuses database file why → Applies database bytes (Err why)
   last : {database : Database} {bytes : List ℕ} {file : Ltx} →
-    IsLtx bytes file → Joins database file → Applies database bytes (Ok (apply database.image file.change))
+      IsLtx bytes file → Joins database file → Applies database bytes (Ok (apply database.image file.change))
   more : {database : Database} {bytes : List ℕ} (text rest : List ℕ) {file : Ltx} {answer : Result DatabaseImage Refusal} →
-    bytes ≡ text ++ rest → IsLtx text file → Joins database file → 0 < length rest →
-    Applies (after database file) rest answer → Applies database bytes answer
+      bytes ≡ text ++ rest → IsLtx text file → Joins database file → 0 < length rest →
+      Applies (after database file) rest answer → Applies database bytes answer
 
 -- what an input makes of a database that was never written; want of memory may stand in place of it
 abbrev pub MakesOf : List ℕ → Result DatabaseImage Refusal → Type 0

@@ -20,11 +20,9 @@ pub fn perform<I: Source, O: Sink>(
     input: &mut I,
     output: &mut O,
 ) -> Result<(), Failure>
-    ensures {
-        let from : Stream = record { bytes = I.left input.old; bytes_after = I.left input.new; faults = I.faults input.old; faults_after = I.faults input.new } in
+    ensures { let from : Stream = record { bytes = I.left input.old; bytes_after = I.left input.new; faults = I.faults input.old; faults_after = I.faults input.new } in
         let to : Stream = record { bytes = O.taken output.old; bytes_after = O.taken output.new; faults = O.faults output.old; faults_after = O.faults output.new } in
-        Performs (ComesTo words.now) from to result
-    }
+        Performs (ComesTo words.now) from to result }
 {
     match read_words(words) {
         Some(Command::Apply) => apply(alloc, input, output),
@@ -35,11 +33,9 @@ pub fn perform<I: Source, O: Sink>(
 /// LTX files on the input become the database's bytes on the output. All of it is read and decided
 /// before the first byte is written.
 fn apply<I: Source, O: Sink>(alloc: Global, input: &mut I, output: &mut O) -> Result<(), Failure>
-    ensures {
-        let from : Stream = record { bytes = I.left input.old; bytes_after = I.left input.new; faults = I.faults input.old; faults_after = I.faults input.new } in
+    ensures { let from : Stream = record { bytes = I.left input.old; bytes_after = I.left input.new; faults = I.faults input.old; faults_after = I.faults input.new } in
         let to : Stream = record { bytes = O.taken output.old; bytes_after = O.taken output.new; faults = O.faults output.old; faults_after = O.faults output.new } in
-        Performs AppliesInput from to result
-    }
+        Performs AppliesInput from to result }
 {
     let bytes = read_whole(alloc, input, INPUT_LIMIT)?;
     let image = apply_files(alloc, bytes.as_slice())?;

@@ -7,6 +7,7 @@ use std::process::Abort;
 use std::test::Fail;
 
 const START: Pos = Pos { txid: 0, sum: 0 };
+
 const FIRST: Pos = Pos {
     txid: 1,
     sum: ONE_PAGE,
@@ -28,13 +29,23 @@ fn names_what_does_not_join(rt: HostRuntime) -> Result<(), Fail> {
     let sum = ONE_PAGE ^ 1;
     let changed = Fields { pre: sum, ..DELTA };
     let want = Pos { txid: 1, sum };
-    expect(&rt, rt.alloc(), &[SNAPSHOT, changed], Refusal::NotNext { have, want })?;
+    expect(
+        &rt,
+        rt.alloc(),
+        &[SNAPSHOT, changed],
+        Refusal::NotNext { have, want },
+    )?;
     let have = START;
     let want = FIRST;
     expect(&rt, rt.alloc(), &[DELTA], Refusal::NotNext { have, want })?;
     let want = START;
     let have = FIRST;
-    expect(&rt, rt.alloc(), &[SNAPSHOT, SNAPSHOT], Refusal::NotNext { have, want })
+    expect(
+        &rt,
+        rt.alloc(),
+        &[SNAPSHOT, SNAPSHOT],
+        Refusal::NotNext { have, want },
+    )
 }
 
 #[test]
@@ -46,6 +57,14 @@ fn names_what_does_not_fit(rt: HostRuntime) -> Result<(), Fail> {
     expect(&rt, rt.alloc(), &[SNAPSHOT, larger], Refusal::PageSize)?;
     let want = TWO_PAGES ^ 1;
     let got = TWO_PAGES;
-    let other = Fields { post: want, ..DELTA };
-    expect(&rt, rt.alloc(), &[SNAPSHOT, other], Refusal::SumDiffers { want, got })
+    let other = Fields {
+        post: want,
+        ..DELTA
+    };
+    expect(
+        &rt,
+        rt.alloc(),
+        &[SNAPSHOT, other],
+        Refusal::SumDiffers { want, got },
+    )
 }

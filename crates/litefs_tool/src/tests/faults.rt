@@ -13,10 +13,38 @@ type Row = (u64, u64, u64, Status, usize, &'static str);
 const NEVER: u64 = u64::MAX;
 
 const ROWS: [Row; 6] = [
-    (0, NEVER, NEVER, Status::ReadFault, 0, "litefs: cannot read\n"),
-    (1, NEVER, NEVER, Status::ReadFault, 0, "litefs: cannot read\n"),
-    (NEVER, 0, NEVER, Status::WriteFault, 0, "litefs: cannot write\n"),
-    (NEVER, 1, NEVER, Status::WriteFault, 512, "litefs: cannot write\n"),
+    (
+        0,
+        NEVER,
+        NEVER,
+        Status::ReadFault,
+        0,
+        "litefs: cannot read\n",
+    ),
+    (
+        1,
+        NEVER,
+        NEVER,
+        Status::ReadFault,
+        0,
+        "litefs: cannot read\n",
+    ),
+    (
+        NEVER,
+        0,
+        NEVER,
+        Status::WriteFault,
+        0,
+        "litefs: cannot write\n",
+    ),
+    (
+        NEVER,
+        1,
+        NEVER,
+        Status::WriteFault,
+        512,
+        "litefs: cannot write\n",
+    ),
     (NEVER, 1, 1, Status::WriteFault, 512, "litefs: "),
     (NEVER, NEVER, 0, Status::Ok, 1024, ""),
 ];
@@ -32,7 +60,11 @@ fn streams_that_fail(rt: HostRuntime) -> Result<(), Fail> {
             output: VecSink::new(alloc, 1024, vec![in alloc; write]?)?,
             errors: VecSink::new(alloc, 64, vec![in alloc; say]?)?,
         };
-        assert_eq!(rt; run(rt, alloc, words.as_slice(), &mut host), status, "{line}");
+        assert_eq!(rt;
+            run(rt, alloc, words.as_slice(), &mut host),
+            status,
+            "{line}"
+        );
         assert_eq!(rt; host.output.taken().len(), written, "{line}");
         assert_eq!(rt; host.errors.taken(), line.as_bytes());
     }

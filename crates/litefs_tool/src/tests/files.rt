@@ -5,7 +5,9 @@ use std::alloc::Global;
 
 /// The sums of databases of one page of zeros, of two, and of none.
 pub const ONE_PAGE: u64 = 0xefb1_f44f_ecd9_9000;
+
 pub const TWO_PAGES: u64 = 0x80d2_1cd0_0000_0000;
+
 pub const NO_PAGES: u64 = 0x8000_0000_0000_0000;
 
 /// What a file says that isn't 0.
@@ -86,7 +88,9 @@ pub fn texts(alloc: Global, files: &[Fields]) -> Result<Vec<u8>, NoMemory> {
 
 /// The sum that stands at the end of a file's text.
 pub fn file_sum(text: &[u8]) -> Option<u64> {
-    let (sum, _) = text.get(text.len().checked_sub(8)?..)?.split_first_chunk::<8>()?;
+    let (sum, _) = text
+        .get(text.len().checked_sub(8)?..)?
+        .split_first_chunk::<8>()?;
     Some(u64::from_be_bytes(*sum))
 }
 

@@ -27,7 +27,11 @@ fn limit_of_the_input(rt: HostRuntime) -> Result<(), Fail> {
     let alloc = rt.alloc();
     let words = words(alloc, &["apply"])?;
     for (length, status, line) in [
-        (67_108_864, Status::InputRefused, "litefs: input refused: Magic\n"),
+        (
+            67_108_864,
+            Status::InputRefused,
+            "litefs: input refused: Magic\n",
+        ),
         (67_108_865, Status::Limit, "litefs: limit reached\n"),
     ] {
         let mut host = Host {

@@ -32,7 +32,11 @@ fn expect(
         output: VecSink::new(alloc, 4096, Vec::new(alloc))?,
         errors: VecSink::new(alloc, 4096, Vec::new(alloc))?,
     };
-    assert_eq!(rt; run(rt, alloc, words.as_slice(), &mut host), status, "{line}");
+    assert_eq!(rt;
+        run(rt, alloc, words.as_slice(), &mut host),
+        status,
+        "{line}"
+    );
     assert_eq!(rt; host.output.taken().len(), zeros, "{line}");
     assert!(rt; host.output.taken().iter().all(|byte| *byte == 0), "{line}");
     assert_eq!(rt; host.errors.taken(), line.as_bytes());
@@ -43,9 +47,25 @@ fn expect(
 fn applies_files_one_after_another(rt: HostRuntime) -> Result<(), Fail> {
     let alloc = rt.alloc();
     let snapshot = texts(alloc, &[SNAPSHOT])?;
-    expect(&rt, alloc, &["apply"], snapshot.as_slice(), Status::Ok, 512, "")?;
+    expect(
+        &rt,
+        alloc,
+        &["apply"],
+        snapshot.as_slice(),
+        Status::Ok,
+        512,
+        "",
+    )?;
     let both = texts(alloc, &[SNAPSHOT, DELTA])?;
-    expect(&rt, alloc, &["apply"], both.as_slice(), Status::Ok, 1024, "")?;
+    expect(
+        &rt,
+        alloc,
+        &["apply"],
+        both.as_slice(),
+        Status::Ok,
+        1024,
+        "",
+    )?;
     let empty = texts(alloc, &[EMPTY])?;
     expect(&rt, alloc, &["apply"], empty.as_slice(), Status::Ok, 0, "")
 }
@@ -57,14 +77,38 @@ fn refuses_what_makes_no_database(rt: HostRuntime) -> Result<(), Fail> {
     let short = "litefs: input refused: Short\n";
     for length in [0, 99, 630] {
         let input = snapshot.get(..length).ok_or("a file has 636 bytes")?;
-        expect(&rt, alloc, &["apply"], input, Status::InputRefused, 0, short)?;
+        expect(
+            &rt,
+            alloc,
+            &["apply"],
+            input,
+            Status::InputRefused,
+            0,
+            short,
+        )?;
     }
     let not_next = "litefs: input refused: NotNext\n";
     let delta = texts(alloc, &[DELTA])?;
-    expect(&rt, alloc, &["apply"], delta.as_slice(), Status::InputRefused, 0, not_next)?;
+    expect(
+        &rt,
+        alloc,
+        &["apply"],
+        delta.as_slice(),
+        Status::InputRefused,
+        0,
+        not_next,
+    )?;
     let mut longer = snapshot;
     longer.push(0)?;
-    expect(&rt, alloc, &["apply"], longer.as_slice(), Status::InputRefused, 0, short)
+    expect(
+        &rt,
+        alloc,
+        &["apply"],
+        longer.as_slice(),
+        Status::InputRefused,
+        0,
+        short,
+    )
 }
 
 #[test]
@@ -75,6 +119,22 @@ fn refuses_other_words(rt: HostRuntime) -> Result<(), Fail> {
     let input = snapshot.as_slice();
     expect(&rt, alloc, &[], input, Status::WordsRefused, 0, line)?;
     expect(&rt, alloc, &["Apply"], input, Status::WordsRefused, 0, line)?;
-    expect(&rt, alloc, &["--help"], input, Status::WordsRefused, 0, line)?;
-    expect(&rt, alloc, &["apply", "apply"], input, Status::WordsRefused, 0, line)
+    expect(
+        &rt,
+        alloc,
+        &["--help"],
+        input,
+        Status::WordsRefused,
+        0,
+        line,
+    )?;
+    expect(
+        &rt,
+        alloc,
+        &["apply", "apply"],
+        input,
+        Status::WordsRefused,
+        0,
+        line,
+    )
 }

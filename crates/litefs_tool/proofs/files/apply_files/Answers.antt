@@ -1,6 +1,6 @@
 use Rattle.std.proofs.Common.{◌≡◌, ◌<◌, length, arith}
 use Rattle.std.proofs.lemmas.Bool.Decides.{nat_tests}
-use Rattle.litefs_tool.proofs.FileLemmas.{bytes-of_file, MakesOf-broken, MakesOf-refused, MakesOf-last, ComesTo-more}
+use Rattle.litefs_tool.proofs.FileLemmas.{MakesOf-broken, MakesOf-refused, MakesOf-last, ComesTo-more}
 use Rattle.litefs_tool.proofs.files.apply_files.Goals as goal
 
 pub returns-in_err-file : goal.returns-in_err-file

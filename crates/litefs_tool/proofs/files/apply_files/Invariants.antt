@@ -1,4 +1,4 @@
-use Rattle.std.proofs.Common.{ℕ, List, Result, length}
+use Rattle.std.proofs.Common.{Result, length}
 use Rattle.lf_sqlite_pages.specs.Image.{DatabaseImage}
 use Rattle.litefs_tool.specs.Files.{Applies, never_written}
 use Rattle.litefs_tool.specs.declared.refusal.Refusal.{Refusal}

@@ -1,5 +1,4 @@
-use Rattle.std.proofs.Common.{◌≡◌, ◌+◌, ◌-◌, ◌<◌, length, arith, rules, Some}
-use Rattle.std.specs.List.{slice_get}
+use Rattle.std.proofs.Common.{◌≡◌, ◌+◌, ◌-◌, arith, rules}
 use Rattle.std.proofs.KnownBytes.{Appends-trans}
 use Rattle.litefs_tool.proofs.OutputLemmas.{AppendsFront-after, AppendsFront-more, concat-page, concat-take, on_err}
 use Rattle.litefs_tool.proofs.output.write_image.Goals as goal
@@ -13,7 +12,7 @@ loop-number-preserved g c =
     record {
       within = search rules;
       taken = rw (concat-take c.args.image.now.pages before c.page.result.now found)
-        (Appends-trans _ _ _ _ _ c.loop-number.invariant.taken c.in_ok-write_whole.ensures.whole);
+          (Appends-trans _ _ _ _ _ c.loop-number.invariant.taken c.in_ok-write_whole.ensures.whole);
       faults = search rules;
     }
 
@@ -25,4 +24,4 @@ returns-in_err-write_whole-clause-front g c =
     let found = rw same at c.page.ensures.value in
     on_err _ _
     (AppendsFront-after _ _ _ _ _ _ (concat-page c.args.image.now.pages before c.page.result.now found) c.loop-number.invariant.taken
-        (AppendsFront-more _ _ _ _ c.in_err-write_whole.ensures.front))
+    (AppendsFront-more _ _ _ _ c.in_err-write_whole.ensures.front))

@@ -1,6 +1,4 @@
-use Rattle.std.proofs.Common.{◌≡◌}
 use Rattle.litefs_tool.proofs.PerformLemmas.{Performs-unread, Performs-refused}
-use Rattle.litefs_tool.specs.Files.{MakesOf}
 use Rattle.litefs_tool.proofs.perform.apply.Goals as goal
 
 pub returns-in_err-bytes : goal.returns-in_err-bytes

@@ -22,7 +22,7 @@ pub returns-clause-front : goal.returns-clause-front
 returns-clause-front g c =
     let same : line (c.text.result.now ++ c.fault_name.result.now) ≡ line_of (status_of_failure c.args.failure) (name_of_failure c.args.failure) =
     ap line (ap (λ l. l ++ c.fault_name.result.now) (c.text.ensures ∙ ap text_of c.status.ensures)
-        ∙ ap (λ l. text_of (status_of_failure c.args.failure) ++ l) c.fault_name.ensures)
+    ∙ ap (λ l. text_of (status_of_failure c.args.failure) ++ l) c.fault_name.ensures)
     ∙ line-of_failure c.args.failure
     in
     rw (← same) c.write_line.ensures.front

@@ -16,7 +16,7 @@ returns-in_err-write_whole-2-clause-front g c =
     let front = rw c.as_bytes.ensures.value at c.in_err-write_whole-2.ensures.front in
     on_err _ _
     (AppendsFront-middle _ _ _ (codes "litefs: ") c.args.text.now (c.args.name.now ++ 10 ∷ []) _ (pieces c.args.text.now c.args.name.now)
-        c.in_ok-write_whole.ensures.whole front)
+    c.in_ok-write_whole.ensures.whole front)
 
 pub returns-in_err-write_whole-3-clause-front : goal.returns-in_err-write_whole-3-clause-front
 returns-in_err-write_whole-3-clause-front g c =
@@ -24,7 +24,7 @@ returns-in_err-write_whole-3-clause-front g c =
     let front = rw c.as_bytes-2.ensures.value at c.in_err-write_whole-3.ensures.front in
     on_err _ _
     (AppendsFront-middle _ _ _ (codes "litefs: " ++ c.args.text.now) c.args.name.now (10 ∷ []) _ (pieces c.args.text.now c.args.name.now)
-        (Appends-trans _ _ _ (codes "litefs: ") c.args.text.now c.in_ok-write_whole.ensures.whole text) front)
+    (Appends-trans _ _ _ (codes "litefs: ") c.args.text.now c.in_ok-write_whole.ensures.whole text) front)
 
 pub returns-clause-front : goal.returns-clause-front
 returns-clause-front g c =
