@@ -10,7 +10,7 @@ use Rattle.ltx_codec.specs.declared.file.Ltx.{Ltx}
 use Rattle.ltx_codec.specs.declared.fault.LtxFault.{LtxFault}
 use Rattle.ltx_codec.specs.declared.fault.LtxFault.TheVariants as fault
 use Rattle.litefs_tool.specs.Files.{Applies, Refuses, Joins, after, broken, refused, last, more}
-use Rattle.litefs_tool.specs.declared.database.Database.{Database}
+use Rattle.litefs_tool.specs.declared.files.Database.{Database}
 use Rattle.litefs_tool.specs.declared.refusal.Refusal.{Refusal}
 use Rattle.litefs_tool.specs.declared.refusal.Refusal.TheVariants as refusal
 
@@ -86,15 +86,15 @@ module _ (reading : OneReading) (sound : BreaksNoRule) (one_fault : OneFault) wh
 
   pub one_answer-of : (database : Database) (bytes : List ℕ) (answer other : Result DatabaseImage Refusal) → AreBytes bytes →
       Applies database bytes answer → Applies database bytes other → answer ≡ other
-  one_answer-of database bytes _ _ small (broken {broken = f} first inside) (broken {broken = g} second _) =
+  one_answer-of database bytes _ _ small (broken {fault = f} first inside) (broken {fault = g} second _) =
       ap (λ x. Err (refusal.Ltx x)) (one_fault bytes f g first second)
-  one_answer-of database bytes _ _ small (broken {broken = f} first inside) (refused text rest {file = file} is whole why) =
+  one_answer-of database bytes _ _ small (broken {fault = f} first inside) (refused text rest {file = file} is whole why) =
       absurd (no_fault bytes text rest file f small is whole first inside)
-  one_answer-of database bytes _ _ small (broken {broken = f} first inside) (last {file = file} whole joins) =
+  one_answer-of database bytes _ _ small (broken {fault = f} first inside) (last {file = file} whole joins) =
       absurd (no_fault bytes bytes [] file f small (sym (append-nil bytes)) whole first inside)
-  one_answer-of database bytes _ _ small (broken {broken = f} first inside) (more text rest {file = file} is whole joins some applies) =
+  one_answer-of database bytes _ _ small (broken {fault = f} first inside) (more text rest {file = file} is whole joins some applies) =
       absurd (no_fault bytes text rest file f small is whole first inside)
-  one_answer-of database bytes _ _ small (refused text rest {file = file} is whole why) (broken {broken = f} first inside) =
+  one_answer-of database bytes _ _ small (refused text rest {file = file} is whole why) (broken {fault = f} first inside) =
       absurd (no_fault bytes text rest file f small is whole first inside)
   one_answer-of database bytes _ _ small (refused text rest {file = file} {why = one} is whole why) (refused other after_it {file = second} {why = two} is_too front whys) =
       let same : file ≡ second = (reading text other rest after_it file second whole front (sym is ∙ is_too)).1 in
@@ -105,7 +105,7 @@ module _ (reading : OneReading) (sound : BreaksNoRule) (one_fault : OneFault) wh
   one_answer-of database bytes _ _ small (refused text rest {file = file} {why = one} is whole why) (more other after_it {file = second} is_too front joins some applies) =
       let same : file ≡ second = (reading text other rest after_it file second whole front (sym is ∙ is_too)).1 in
       absurd (joins_or_refuses database second one joins (subst (λ x. Refuses database x one) same why))
-  one_answer-of database bytes _ _ small (last {file = file} whole joins) (broken {broken = f} first inside) =
+  one_answer-of database bytes _ _ small (last {file = file} whole joins) (broken {fault = f} first inside) =
       absurd (no_fault bytes bytes [] file f small (sym (append-nil bytes)) whole first inside)
   one_answer-of database bytes _ _ small (last {file = second} front joins) (refused text rest {file = file} {why = one} is whole why) =
       let same : file ≡ second = (reading text bytes rest [] file second whole front (sym is ∙ sym (append-nil bytes))).1 in
@@ -114,7 +114,7 @@ module _ (reading : OneReading) (sound : BreaksNoRule) (one_fault : OneFault) wh
       ap (λ x. Ok (apply database.image x.change)) (reading bytes bytes [] [] file second whole front refl).1
   one_answer-of database bytes _ _ small (last {file = file} whole joins) (more other after_it {file = second} is_too front joins_too some applies) =
       absurd (not_more bytes other after_it file second whole front is_too some)
-  one_answer-of database bytes _ _ small (more text rest {file = file} is whole joins some applies) (broken {broken = f} first inside) =
+  one_answer-of database bytes _ _ small (more text rest {file = file} is whole joins some applies) (broken {fault = f} first inside) =
       absurd (no_fault bytes text rest file f small is whole first inside)
   one_answer-of database bytes _ _ small (more other after_it {file = second} is_too front joins some applies) (refused text rest {file = file} {why = one} is whole why) =
       let same : file ≡ second = (reading text other rest after_it file second whole front (sym is ∙ is_too)).1 in

@@ -8,7 +8,7 @@ use Rattle.ltx_codec.specs.Places.{IsEarliest, StandsInside}
 use Rattle.ltx_codec.specs.declared.fault.LtxFault.{LtxFault}
 use Rattle.ltx_codec.specs.declared.file.Ltx.{Ltx}
 use Rattle.litefs_tool.specs.Position as position
-use Rattle.litefs_tool.specs.declared.database.Database.{Database}
+use Rattle.litefs_tool.specs.declared.files.Database.{Database}
 use Rattle.litefs_tool.specs.declared.refusal.Refusal.{Refusal}
 use Rattle.litefs_tool.specs.declared.refusal.Refusal.TheVariants as refusal
 
@@ -43,12 +43,16 @@ Refuses database file refusal.NoMemory = ⊥
 -- What applying the files in some bytes to a database comes to. The files are taken in order; in each, first its
 -- text is looked at, then whether it joins. The first fault is the answer, and else the image at the end of the bytes.
 pub data Applies : Database → List ℕ → Result DatabaseImage Refusal → Type 0 where
-  broken : {database : Database} {bytes : List ℕ} {broken : LtxFault} →
-      IsEarliest bytes broken → StandsInside broken → Applies database bytes (Err (refusal.Ltx broken))
+  -- there is no file at the front, not even where there are no bytes
+  broken : {database : Database} {bytes : List ℕ} {fault : LtxFault} →
+      IsEarliest bytes fault → StandsInside fault → Applies database bytes (Err (refusal.Ltx fault))
+  -- the file at the front does not join
   refused : {database : Database} {bytes : List ℕ} (text rest : List ℕ) {file : Ltx} {why : Refusal} →
       bytes ≡ text ++ rest → IsLtx text file → Refuses database file why → Applies database bytes (Err why)
+  -- the file at the front is the last
   last : {database : Database} {bytes : List ℕ} {file : Ltx} →
       IsLtx bytes file → Joins database file → Applies database bytes (Ok (apply database.image file.change))
+  -- the file at the front is followed by others
   more : {database : Database} {bytes : List ℕ} (text rest : List ℕ) {file : Ltx} {answer : Result DatabaseImage Refusal} →
       bytes ≡ text ++ rest → IsLtx text file → Joins database file → 0 < length rest →
       Applies (after database file) rest answer → Applies database bytes answer

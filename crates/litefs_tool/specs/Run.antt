@@ -21,6 +21,11 @@ pub record Stream : Type 0 where
   pub faults : ℕ
   pub faults_after : ℕ
 
+-- a source or a sink before a run and after it, by what it tells
+abbrev pub stream : {S : Type 0} → (S → Option (List ℕ)) → (S → ℕ) → S → S → Stream
+stream bytes faults before after =
+    record { bytes = bytes before; bytes_after = bytes after; faults = faults before; faults_after = faults after }
+
 -- a run: its words and its streams
 pub record Run : Type 0 where
   pub words : List (List ℕ)

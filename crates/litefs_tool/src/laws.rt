@@ -3,7 +3,7 @@ ghost use Rattle.std.specs.Prelude.{◌≡◌, List, ℕ, Result};
 ghost use Rattle.lf_sqlite_pages.specs.Image.{DatabaseImage};
 ghost use Rattle.ltx_codec.specs.Fields.{AreBytes};
 ghost use Rattle.litefs_tool.specs.Files.{Applies};
-ghost use Rattle.litefs_tool.specs.declared.database.Database.{Database};
+ghost use Rattle.litefs_tool.specs.declared.files.Database.{Database};
 ghost use Rattle.litefs_tool.specs.declared.refusal.Refusal.{Refusal};
 
 use ltx_codec::{one_earliest_fault, one_reading, text_breaks_no_rule};

@@ -5,26 +5,19 @@
 #![tactic(auto)]
 
 mod command;
-mod database;
 mod failure;
 mod files;
 mod host;
 mod input;
 mod laws;
 mod output;
-mod perform;
-mod position;
 mod refusal;
 mod report;
-mod sums;
 mod top_call;
-mod whole;
 
 pub use files::apply_files;
 pub use host::Host;
-pub use input::{InputFault, read_whole};
 pub use laws::one_answer;
-pub use output::{write_image, write_whole};
 pub use refusal::Refusal;
 pub use top_call::run;
 

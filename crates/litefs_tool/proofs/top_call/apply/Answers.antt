@@ -1,5 +1,5 @@
 use Rattle.litefs_tool.proofs.PerformLemmas.{Performs-unread, Performs-refused}
-use Rattle.litefs_tool.proofs.perform.apply.Goals as goal
+use Rattle.litefs_tool.proofs.top_call.apply.Goals as goal
 
 pub returns-in_err-bytes : goal.returns-in_err-bytes
 returns-in_err-bytes g c = Performs-unread _ _ _ _ _ c.in_err-bytes.ensures.lost c.in_err-bytes.ensures.cause c.from_residual.ensures.1

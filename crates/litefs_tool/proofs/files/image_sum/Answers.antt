@@ -1,6 +1,6 @@
 use Rattle.std.proofs.Common.{arith}
 use Rattle.litefs_tool.proofs.PageLemmas.{joined-page}
-use Rattle.litefs_tool.proofs.sums.image_sum.Goals as goal
+use Rattle.litefs_tool.proofs.files.image_sum.Goals as goal
 
 pub loop-number-preserved : goal.loop-number-preserved
 loop-number-preserved c = record {

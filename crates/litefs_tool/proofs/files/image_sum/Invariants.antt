@@ -1,6 +1,6 @@
 use Rattle.std.proofs.Common.{◌≡◌, ◌+◌, ◌≤◌, length, drop}
 use Rattle.page_checksum.specs.Sums.{joined, page_sums}
-use Rattle.litefs_tool.proofs.sums.image_sum.Given as goal
+use Rattle.litefs_tool.proofs.files.image_sum.Given as goal
 
 -- the sum is that of the pages after the number
 abbrev pub invariant-loop-number : goal.invariant-loop-number

@@ -1,6 +1,6 @@
 use Rattle.std.proofs.Common.{[], inl, refl}
 use Rattle.std.proofs.KnownBytes.{Appends-nil, Consumes-nil}
-use Rattle.litefs_tool.proofs.perform.perform.Goals as goal
+use Rattle.litefs_tool.proofs.top_call.perform.Goals as goal
 
 pub returns-in-None : goal.returns-in-None
 returns-in-None g c = (
