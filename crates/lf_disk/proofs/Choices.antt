@@ -51,8 +51,7 @@ module _ (s : State) (so_far : List Call) (call : Call) (seen seen' image image'
       → (replay s (so_far ++ call ∷ [])).leaves image' × Same (replay s (so_far ++ call ∷ [])).seen seen'
   goes-on may same step shows =
       let r = replay s so_far in
-      subst (λ (st : State). st.leaves image' × Same st.seen seen') (sym (replay-push s so_far call))
-          (
-            (image, may, seen-same call.change call.done r.seen seen image image' same step),
-            λ n. shows n ∙ shown-same call r.seen seen same n,
-          )
+      subst (λ (st : State). st.leaves image' × Same st.seen seen') (sym (replay-push s so_far call)) (
+        (image, may, seen-same call.change call.done r.seen seen image image' same step),
+        λ n. shows n ∙ shown-same call r.seen seen same n,
+      )

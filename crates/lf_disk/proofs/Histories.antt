@@ -28,7 +28,7 @@ told first calls = record {
 pub told-same : (first first' : List Slot) (calls calls' : List Call) → first' ≡ first → calls' ≡ calls → Rests (told first calls) (told first' calls')
 told-same first first' calls calls' one two =
     subst (λ (f : List Slot). Rests (told first calls) (told f calls')) (sym one)
-        (subst (λ (l : List Call). Rests (told first calls) (told first l)) (sym two) (record { moment = refl; past = past_stays (told first calls) }))
+    (subst (λ (l : List Call). Rests (told first calls) (told first l)) (sym two) (record { moment = refl; past = past_stays (told first calls) }))
 
 module _ (first : List Slot) (calls : List Call) (call : Call) where
   then : List Call
@@ -116,7 +116,7 @@ module _ (first first' : List Slot) (calls calls' : List Call) (change : Change)
       → OnOk result (Moves (ShowsDone change) (CrashStep (record { change = change; done = true }) (now (told first calls))) (told first calls) (told first' calls'))
   done (Ok _) noted =
       told-as (λ h. Moves (ShowsDone change) (CrashStep (record { change = change; done = true }) (now (told first calls))) (told first calls) h) true noted
-          (moves first calls (record { change = change; done = true }) (ShowsDone change) (shows-done change (now (told first calls))))
+      (moves first calls (record { change = change; done = true }) (ShowsDone change) (shows-done change (now (told first calls))))
   done (Err e) noted = tt
 
   pub failed : {E : Type 0} (result : Result (Unit {0}) E) → OnErr result ((calls' ≡ calls) ⊎ Noted false)
@@ -124,11 +124,11 @@ module _ (first first' : List Slot) (calls calls' : List Call) (change : Change)
   failed (Ok _) noted = tt
   failed (Err e) (inl none) =
       subst (λ (f : List Slot). Moves (ShowsFailed change) (CrashStep (record { change = change; done = false }) (now (told first calls))) (told first calls) (told f calls')) (sym same)
-          (subst (λ (l : List Call). Moves (ShowsFailed change) (CrashStep (record { change = change; done = false }) (now (told first calls))) (told first calls) (told first l)) (sym none)
-              (record { seen = shows-failed change (now (told first calls)); left = λ c may. (c, may, nothing change (now (told first calls)) c) }))
+      (subst (λ (l : List Call). Moves (ShowsFailed change) (CrashStep (record { change = change; done = false }) (now (told first calls))) (told first calls) (told first l)) (sym none)
+      (record { seen = shows-failed change (now (told first calls)); left = λ c may. (c, may, nothing change (now (told first calls)) c) }))
   failed (Err e) (inr noted) =
       told-as (λ h. Moves (ShowsFailed change) (CrashStep (record { change = change; done = false }) (now (told first calls))) (told first calls) h) false noted
-          (moves first calls (record { change = change; done = false }) (ShowsFailed change) (shows-failed change (now (told first calls))))
+      (moves first calls (record { change = change; done = false }) (ShowsFailed change) (shows-failed change (now (told first calls))))
 
   pub ticks : {E : Type 0} (result : Result (Unit {0}) E) → OnOk result (Noted true) → OnErr result ((calls' ≡ calls) ⊎ Noted false)
       → (2 ^ 62 ≤ length calls → IsErr result × (calls' ≡ calls)) → Ticks result (told first calls) (told first' calls')

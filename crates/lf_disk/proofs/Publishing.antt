@@ -47,8 +47,8 @@ module _ (h : History) (min max : ℕ) (bytes : List ℕ) where
       → Renames Staged (Ltx min max) (now synced) (now new) → ((c : Folder) → may_leave new c → SameBut Staged (with_ltx min max bytes (now h)) c) → IsPublished (now h) min max bytes new
   published wrote synced new empty written same renamed left =
       let seen = renamed-whole Staged (Ltx min max) (now h) (now synced) (now new) bytes
-          (λ n other. same n ∙ written.elsewhere n other)
-          (same Staged ∙ written.here ∙ ap (λ (b : List ℕ). Some b) (overwritten-empty bytes (bytes_of (now h Staged)) empty)) renamed in
+      (λ n other. same n ∙ written.elsewhere n other)
+      (same Staged ∙ written.here ∙ ap (λ (b : List ℕ). Some b) (overwritten-empty bytes (bytes_of (now h Staged)) empty)) renamed in
       record {
         seen = seen;
         staged = renamed Staged;

@@ -37,11 +37,11 @@ stands-made bytes file new is = record { stays = λ some. refl; bytes = is }
 pub shown : (change : Change) (done : Bool) (s : Folder) → CrashStep (record { change = change; done = done }) s s (cond done (changed change s) s)
 shown (Write name at piece) true s =
     replaced name (Some (overwritten at piece (bytes_of (s name)))) (Stands (Torn at (length piece))) s _ (λ n. refl)
-        (stands-made (Torn at (length piece)) (s name) _ (Torn-overwritten at (length piece) piece (bytes_of (s name)) (omega arith)))
+    (stands-made (Torn at (length piece)) (s name) _ (Torn-overwritten at (length piece) piece (bytes_of (s name)) (omega arith)))
 shown (Write name at piece) false s = kept name (Stands (Torn at (length piece))) s s (λ n. refl) (stands-still (Torn at (length piece)) (s name) (Torn-refl at (length piece) (bytes_of (s name))))
 shown (Cut name len) true s =
     replaced name (Some (resized len (bytes_of (s name)))) (Stands (Cropped len)) s _ (λ n. refl)
-        (stands-made (Cropped len) (s name) _ (Cropped-resized len len (bytes_of (s name)) (omega arith) (omega arith)))
+    (stands-made (Cropped len) (s name) _ (Cropped-resized len len (bytes_of (s name)) (omega arith) (omega arith)))
 shown (Cut name len) false s = kept name (Stands (Cropped len)) s s (λ n. refl) (stands-still (Cropped len) (s name) (Cropped-refl len (bytes_of (s name))))
 shown (Sync name) true s = kept name (Becomes (s name)) s s (λ n. refl) refl
 shown (Sync name) false s = inl (λ n. refl)

@@ -48,10 +48,10 @@ pub trait Disk {
     fn write(&mut self, name: FileName, at: u64, bytes: &[u8]) -> Result<(), Failed>
         ensures done { IsTrue (honest self.old) → OnOk result
             (Moves (OnFile name (Writes at bytes.now)) (TearsFile name at (length bytes.now))
-                (history self.old) (history self.new)) }
+            (history self.old) (history self.new)) }
         ensures failed { IsTrue (honest self.old) → OnErr result
             (Moves (TearsFile name at (length bytes.now)) (TearsFile name at (length bytes.now))
-                (history self.old) (history self.new)) }
+            (history self.old) (history self.new)) }
         ensures ticks { Ticks result (history self.old) (history self.new) }
         ensures honest { honest self.new ≡ honest self.old }
         ensures cause { CountsFaults (faults self.old) (faults self.new) result };
@@ -60,10 +60,10 @@ pub trait Disk {
     fn cut(&mut self, name: FileName, len: u64) -> Result<(), Failed>
         ensures done { IsTrue (honest self.old) → OnOk result
             (Moves (OnFile name (Cuts len)) (CropsFile name len)
-                (history self.old) (history self.new)) }
+            (history self.old) (history self.new)) }
         ensures failed { IsTrue (honest self.old) → OnErr result
             (Moves (CropsFile name len) (CropsFile name len)
-                (history self.old) (history self.new)) }
+            (history self.old) (history self.new)) }
         ensures ticks { Ticks result (history self.old) (history self.new) }
         ensures honest { honest self.new ≡ honest self.old }
         ensures cause { CountsFaults (faults self.old) (faults self.new) result };
@@ -72,10 +72,10 @@ pub trait Disk {
     fn sync(&mut self, name: FileName) -> Result<(), Failed>
         ensures done { IsTrue (honest self.old) → OnOk result
             (Moves Same (SetsFile name (now (history self.old) name))
-                (history self.old) (history self.new)) }
+            (history self.old) (history self.new)) }
         ensures failed { IsTrue (honest self.old) → OnErr result
             (Moves Same (Perhaps (SetsFile name (now (history self.old) name)))
-                (history self.old) (history self.new)) }
+            (history self.old) (history self.new)) }
         ensures ticks { Ticks result (history self.old) (history self.new) }
         ensures honest { honest self.new ≡ honest self.old }
         ensures cause { CountsFaults (faults self.old) (faults self.new) result };
@@ -86,10 +86,10 @@ pub trait Disk {
         requires { IsTrue (honest self.old) → IsSome (now (history self.old) from) }
         ensures done { IsTrue (honest self.old) → OnOk result
             (Moves (Renames from to) (Renames from to)
-                (history self.old) (history self.new)) }
+            (history self.old) (history self.new)) }
         ensures failed { IsTrue (honest self.old) → OnErr result
             (Moves (Perhaps (Renames from to)) (Perhaps (Renames from to))
-                (history self.old) (history self.new)) }
+            (history self.old) (history self.new)) }
         ensures ticks { Ticks result (history self.old) (history self.new) }
         ensures honest { honest self.new ≡ honest self.old }
         ensures cause { CountsFaults (faults self.old) (faults self.new) result };
@@ -98,10 +98,10 @@ pub trait Disk {
     fn remove(&mut self, name: FileName) -> Result<(), Failed>
         ensures done { IsTrue (honest self.old) → OnOk result
             (Moves (SetsFile name None) (SetsFile name None)
-                (history self.old) (history self.new)) }
+            (history self.old) (history self.new)) }
         ensures failed { IsTrue (honest self.old) → OnErr result
             (Moves (Perhaps (SetsFile name None)) (Perhaps (SetsFile name None))
-                (history self.old) (history self.new)) }
+            (history self.old) (history self.new)) }
         ensures ticks { Ticks result (history self.old) (history self.new) }
         ensures honest { honest self.new ≡ honest self.old }
         ensures cause { CountsFaults (faults self.old) (faults self.new) result };

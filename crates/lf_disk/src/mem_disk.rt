@@ -45,7 +45,8 @@ impl MemDisk {
         stop_after: Option<u64>,
     ) -> Result<MemDisk, NoMemory>
         ensures empty { IfOk result (λ disk. disk ≡ record (fresh []) {
-            plan = record { failing = failing.items; stop_after = stop_after; calls = 0; faults = 0 } }) }
+          plan = record { failing = failing.items; stop_after = stop_after; calls = 0; faults = 0 };
+        }) }
         ensures made { IsOk result }
     {
         Ok(MemDisk {

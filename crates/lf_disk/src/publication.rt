@@ -19,7 +19,7 @@ pub fn publish<D: Disk>(disk: &mut D, min: u64, max: u64, bytes: &[u8]) -> Resul
     // A crash at each moment leaves every file but the staged one as before, or with the file whole.
     ensures moments { IsTrue (D.honest disk.old)
         → EachMoment (D.history disk.old) (D.history disk.new)
-            (IsOldOrPublished (now (D.history disk.old)) min max bytes.now) }
+        (IsOldOrPublished (now (D.history disk.old)) min max bytes.now) }
     ensures published { IsTrue (D.honest disk.old) → OnOk result
         (IsPublished (now (D.history disk.old)) min max bytes.now (D.history disk.new)) }
     ensures honest { D.honest disk.new ≡ D.honest disk.old }
@@ -47,11 +47,11 @@ pub fn publish_two<D: Disk>(
     // A crash at each moment leaves every file but the staged one as before, with the first file or with both.
     ensures moments { IsTrue (D.honest disk.old)
         → EachMoment (D.history disk.old) (D.history disk.new)
-            (IsOneOfThree (now (D.history disk.old))
-                first first_bytes.now second second_bytes.now) }
+        (IsOneOfThree (now (D.history disk.old))
+        first first_bytes.now second second_bytes.now) }
     ensures published { IsTrue (D.honest disk.old) → OnOk result
         (IsPublished (with_ltx first.0 first.1 first_bytes.now (now (D.history disk.old)))
-            second.0 second.1 second_bytes.now (D.history disk.new)) }
+        second.0 second.1 second_bytes.now (D.history disk.new)) }
     ensures honest { D.honest disk.new ≡ D.honest disk.old }
     ensures cause { CountsFaults (D.faults disk.old) (D.faults disk.new) result }
 {

@@ -127,7 +127,7 @@ pub fn copy(
 ) -> Result<(), AllocError>
     ensures ok { OnOk result
         (Same (with_file name (folder_of from.now name) (folder_of slots.old.items))
-            (folder_of slots.new.items)) }
+        (folder_of slots.new.items)) }
     ensures err { OnErr result (Same (folder_of slots.old.items) (folder_of slots.new.items)) }
     ensures orderly { IsOrderly slots.old.items → IsOrderly slots.new.items }
 {

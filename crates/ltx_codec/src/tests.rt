@@ -4,13 +4,21 @@ use std::alloc::{AllocError, Global};
 use std::test::Fail;
 
 const SUM_1: u64 = 0xefb1_f44f_ecd9_9000;
+
 const SUM_2: u64 = 0x80d2_1cd0_0000_0000;
+
 const FILE_SUM_1: u64 = 0xb8dc_e586_6977_8c30;
+
 const FILE_SUM_2: u64 = 0xe529_06ba_6d3f_4924;
+
 const PAGE: [u8; 512] = [0; 512];
 
 /// WAL fields and node that are not 0, and the file sum of the snapshot with them.
-const STAMPED: [u8; 32] = [0x11, 0x12, 0x13, 0x14, 0x15, 0x16, 0x17, 0x18, 0x21, 0x22, 0x23, 0x24, 0x25, 0x26, 0x27, 0x28, 0x31, 0x32, 0x33, 0x34, 0x41, 0x42, 0x43, 0x44, 0x51, 0x52, 0x53, 0x54, 0x55, 0x56, 0x57, 0x58];
+const STAMPED: [u8; 32] = [
+    0x11, 0x12, 0x13, 0x14, 0x15, 0x16, 0x17, 0x18, 0x21, 0x22, 0x23, 0x24, 0x25, 0x26, 0x27, 0x28,
+    0x31, 0x32, 0x33, 0x34, 0x41, 0x42, 0x43, 0x44, 0x51, 0x52, 0x53, 0x54, 0x55, 0x56, 0x57, 0x58,
+];
+
 const STAMPED_SUM: [u8; 8] = [0xbc, 0x6e, 0x30, 0xf3, 0x86, 0xcc, 0x0b, 0x22];
 
 /// The fields of a file of one page or none, of 512 bytes each.
@@ -105,7 +113,11 @@ fn every_front_of_a_file_is_short(rt: HostRuntime) -> Result<(), Fail> {
     for fields in [SNAPSHOT, DELTA] {
         let bytes = text(rt.alloc(), &fields)?;
         for len in 0..bytes.len() {
-            assert_eq!(rt; refusal(rt.alloc(), &bytes[..len]), Some(LtxFault::Short), "{len}");
+            assert_eq!(rt;
+                refusal(rt.alloc(), &bytes[..len]),
+                Some(LtxFault::Short),
+                "{len}"
+            );
         }
     }
     Ok(())
@@ -115,7 +127,10 @@ fn every_front_of_a_file_is_short(rt: HostRuntime) -> Result<(), Fail> {
 /// refused.
 #[test]
 fn fields_at_their_ends(rt: HostRuntime) -> Result<(), Fail> {
-    let seal = |want: u64| Some(LtxFault::FileSum { want, got: FILE_SUM_1 });
+    let seal = |want: u64| Some(LtxFault::FileSum {
+        want,
+        got: FILE_SUM_1,
+    });
     let table = [
         (0usize, 4usize, Some(LtxFault::Magic), Some(LtxFault::Magic)),
         (4, 4, None, Some(LtxFault::Compressed)),
@@ -174,7 +189,10 @@ fn a_byte_behind_the_file_is_its_tail(rt: HostRuntime) -> Result<(), Fail> {
 /// The fault stands before the end of eight bytes.
 #[test]
 fn compressed_comes_before_short(rt: HostRuntime) {
-    assert_eq!(rt; refusal(rt.alloc(), b"LTX1\0\0\0\x01"), Some(LtxFault::Compressed));
+    assert_eq!(rt;
+        refusal(rt.alloc(), b"LTX1\0\0\0\x01"),
+        Some(LtxFault::Compressed)
+    );
 }
 
 /// A file that was read is written as it was, the time, the WAL fields and the node with it.

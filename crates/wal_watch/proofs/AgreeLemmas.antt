@@ -77,14 +77,27 @@ module _ (a b : List ℕ) (p : ℕ) (same : take p a ≡ take p b) where
       pub same_header : is_header a ≡ is_header b
       unfolding is_header
       same_header =
-          rw (same_four 0 (omega arith), same_four 4 (omega arith), same_size, same_header_sums, same_stand (header_sums b) 24 (omega arith),
-          le-leb 32 (length a) (omega arith), le-leb 32 (length b) (omega arith)) refl
+          rw (
+            same_four 0 (omega arith),
+            same_four 4 (omega arith),
+            same_size,
+            same_header_sums,
+            same_stand (header_sums b) 24 (omega arith),
+            le-leb 32 (length a) (omega arith),
+            le-leb 32 (length b) (omega arith),
+          ) refl
 
       same_frame_at : (place : ℕ) (s : Sums) → place + (24 + page_size_in a) ≤ p → is_frame_at a place s ≡ is_frame_at b place s
       unfolding is_frame_at
       same_frame_at place s le =
-          rw (same_head place (omega arith), same_frame_sums place s le, same_stand (frame_sums b place s) (place + 16) (omega arith),
-          le-leb (place + (24 + page_size_in a)) (length a) (omega arith), ← same_size, le-leb (place + (24 + page_size_in a)) (length b) (omega arith)) refl
+          rw (
+            same_head place (omega arith),
+            same_frame_sums place s le,
+            same_stand (frame_sums b place s) (place + 16) (omega arith),
+            le-leb (place + (24 + page_size_in a)) (length a) (omega arith),
+            ← same_size,
+            le-leb (place + (24 + page_size_in a)) (length b) (omega arith),
+          ) refl
 
       same_frame : (k : ℕ) → frame_place a (k + 1) ≤ p → is_frame a k ≡ is_frame b k
       same_frame k le =
@@ -124,4 +137,3 @@ front_counts a b p same all room = elim (cases_eq (committed_count a) 0) [
       let on : is_commit b (count - 1) ≡ true = sym (same_commit a b p same head (omega arith) room (count - 1) fits) ∙ here.commit in
       omega (arith, commit_committed b (count - 1) on)
 ]
-

@@ -50,7 +50,7 @@ next_same text first k above commit None h far = none_more text first k above (c
     elim (cases_lt commit (number_in text k)) [ inl past ↦ omega (arith, past) | inr near ↦ absurd (far (over, near)) ])
 next_same text first k above commit (Some found) h far =
     let past : above < number_in text k → found.page + 1 ≤ number_in text k = λ over.
-        elim (cases_lt found.page (number_in text k)) [ inl past ↦ omega (arith, past) | inr near ↦ absurd (far (over, near)) ] in
+    elim (cases_lt found.page (number_in text k)) [ inl past ↦ omega (arith, past) | inr near ↦ absurd (far (over, near)) ] in
     record {
       over = h.over;
       within = h.within;

@@ -76,10 +76,13 @@ pub commit_facts : (text : List ℕ) (k : ℕ) → is_commit text k ≡ true →
 unfolding is_commit
 commit_facts text k h =
     let parts = and_parts _ _ h in
-    record { valid = parts.0; size = elim (cases_eq (size_in text k) 0) [
-      | inl zero_is ↦ absurd (let off = not_from_true _ (eq-eqb _ _ zero_is) in cc (off, parts.1))
-      | inr some ↦ omega arith
-    ] }
+    record {
+      valid = parts.0;
+      size = elim (cases_eq (size_in text k) 0) [
+        | inl zero_is ↦ absurd (let off = not_from_true _ (eq-eqb _ _ zero_is) in cc (off, parts.1))
+        | inr some ↦ omega arith
+      ];
+    }
 
 -- committed frames end with a commit
 pub has_committed : (text : List ℕ) (count : ℕ) → count ≡ committed_count text → 0 < count → HasCommitted text count

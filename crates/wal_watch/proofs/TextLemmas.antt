@@ -79,6 +79,7 @@ module _ (at : ℕ) (bytes text : List ℕ) where
           | inr past ↦ written_behind i from past
         ]
       ]
+
       each : (i : ℕ) → i < length (take end (overwritten at bytes text)) → get_or (take end (overwritten at bytes text)) i 0 ≡ get_or (take end text) i 0
       each i under =
           let less : i < end = omega (arith, under, length-take end (overwritten at bytes text)) in

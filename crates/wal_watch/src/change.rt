@@ -63,7 +63,12 @@ fn change_of(alloc: Global, text: &[u8], first: usize, count: usize) -> Result<C
 }
 
 /// What the frames from `first` on commit, where `count` are committed.
-pub fn news_from(alloc: Global, text: &[u8], first: usize, count: usize) -> Result<WalNews, NoMemory>
+pub fn news_from(
+    alloc: Global,
+    text: &[u8],
+    first: usize,
+    count: usize,
+) -> Result<WalNews, NoMemory>
     requires { count ≡ committed_count text.now }
     ensures { IfOk result (λ news. news_change news ≡ change_from first text.now) }
 {

@@ -64,7 +64,13 @@ fn keeps_header(text: &[u8], at: usize, bytes: &[u8]) -> bool
 }
 
 /// The first frame that only the text after a write may commit, or what stands against the write.
-pub fn check_write(text: &[u8], committed: usize, page_size: u32, at: u64, bytes: &[u8]) -> Result<usize, WalFault>
+pub fn check_write(
+    text: &[u8],
+    committed: usize,
+    page_size: u32,
+    at: u64,
+    bytes: &[u8],
+) -> Result<usize, WalFault>
     requires { committed ≡ committed_count text.now }
     ensures first { IfOk result (λ first. first ≡ first_new text.now (written at bytes.now text.now)) }
     ensures sound { OnOk result (IsSoundWrite text.now page_size at bytes.now) }

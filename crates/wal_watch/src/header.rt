@@ -33,7 +33,10 @@ pub fn header_sums(text: &[u8]) -> Sums
     requires { 32 ≤ length text.now }
     ensures { result ≡ header_sums text.now }
 {
-    let start = Sums { first: 0, second: 0 };
+    let start = Sums {
+        first: 0,
+        second: 0,
+    };
     with_pairs(is_little(text), start, 0, text, 3)
 }
 

@@ -10,5 +10,4 @@ pub fn keep_committed_frames(old: &[u8], new: &[u8])
     requires { take (committed_end old.now) new.now ≡ take (committed_end old.now) old.now }
     ensures count { committed_count old.now ≤ committed_count new.now }
     ensures frames { HasSameFrames old.now new.now }
-{
-}
+{}

@@ -7,13 +7,13 @@
 
 mod change;
 mod check;
+mod cutting;
+mod fault;
 mod file;
 mod frames;
 mod header;
 mod laws;
 mod news;
-mod cutting;
-mod fault;
 mod numbers;
 mod reading;
 mod scan;

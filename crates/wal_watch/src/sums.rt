@@ -33,7 +33,11 @@ pub fn with_pairs(little: bool, sums: Sums, place: usize, text: &[u8], count: us
     let mut sums = sums;
     for k in 0..count {
         let at = place + 8 * k;
-        sums = with_pair(sums, word_at(little, text, at), word_at(little, text, at + 4));
+        sums = with_pair(
+            sums,
+            word_at(little, text, at),
+            word_at(little, text, at + 4),
+        );
     }
     sums
 }

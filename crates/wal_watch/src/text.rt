@@ -56,7 +56,12 @@ pub fn keeps(text: &[u8], at: usize, bytes: &[u8], end: usize) -> bool
 }
 
 /// Makes room for a write of `count` bytes at a place, and for the bytes that it displaces.
-pub fn make_room(text: &mut Vec<u8>, saved: &mut Vec<u8>, at: usize, count: usize) -> Result<(), NoMemory>
+pub fn make_room(
+    text: &mut Vec<u8>,
+    saved: &mut Vec<u8>,
+    at: usize,
+    count: usize,
+) -> Result<(), NoMemory>
     requires { at + count < 2 ^ 63 }
     ensures text { text.new.items ≡ text.old.items }
     ensures saved { saved.new.items ≡ saved.old.items }

@@ -53,9 +53,17 @@ fn a_call_is_lost_torn_or_whole(rt: HostRuntime) {
         (2, *b"abbbb...", *b"aa......", *b"........"),
         (3, *b"abbbb...", *b"aa......", *b"........"),
     ] {
-        assert_eq!(&rt; after_write(alloc, choice), Ok((0, write)), "write {choice}");
+        assert_eq!(&rt;
+            after_write(alloc, choice),
+            Ok((0, write)),
+            "write {choice}"
+        );
         assert_eq!(&rt; after_cut(alloc, choice), Ok((0, cut)), "cut {choice}");
-        assert_eq!(&rt; after_failed_remove(alloc, choice), Ok((0, remove)), "remove {choice}");
+        assert_eq!(&rt;
+            after_failed_remove(alloc, choice),
+            Ok((0, remove)),
+            "remove {choice}"
+        );
     }
 }
 
@@ -69,8 +77,10 @@ fn published(alloc: Global, calls: u64, choice: u64) -> Result<(bool, bool), Fai
         return Err(Failed);
     };
     let mut out = [0u8; 3];
-    let first = disk.read(FileName::Ltx { min: 1, max: 1 }, 0, out.as_mut_slice())? == 3 && out == *b"one";
-    let second = disk.read(FileName::Ltx { min: 2, max: 2 }, 0, out.as_mut_slice())? == 3 && out == *b"two";
+    let first = disk.read(FileName::Ltx { min: 1, max: 1 }, 0, out.as_mut_slice())? == 3
+        && out == *b"one";
+    let second = disk.read(FileName::Ltx { min: 2, max: 2 }, 0, out.as_mut_slice())? == 3
+        && out == *b"two";
     Ok((first, second))
 }
 

@@ -25,9 +25,9 @@ loop-call-preserved c =
     let step = subst (λ (l : List Slot). CrashStep call (folder_of l) image image') c.deref.ensures.value c.in_ok-leave.ensures.step in
     let both = goes-on s so_far call (folder_of c.loop-call.seen.items) (folder_of c.follow.new.seen.items) image image' c.loop-call.invariant.left c.loop-call.invariant.shows step c.in_ok-follow.ensures in
     let more : take (c.loop-call.call-index + 1) c.args.calls.now ≡ so_far ++ call ∷ [] =
-        take_more c.args.calls.now c.loop-call.call-index call c.loop-call-test.true ∙ ap (λ (x : Call). so_far ++ x ∷ []) (sym c.call-item.is) in
+    take_more c.args.calls.now c.loop-call.call-index call c.loop-call-test.true ∙ ap (λ (x : Call). so_far ++ x ∷ []) (sym c.call-item.is) in
     subst (λ (l : List Call). record { left : (replay s l).leaves image'; shows : Same (replay s l).seen (folder_of c.follow.new.seen.items); orderly : IsOrderly c.leave.new.image.items }) (sym more)
-        (record { left = both.0; shows = both.1; orderly = c.leave.ensures.orderly c.loop-call.invariant.orderly })
+    (record { left = both.0; shows = both.1; orderly = c.leave.ensures.orderly c.loop-call.invariant.orderly })
 
 pub returns-clause-left : goal.returns-clause-left
 returns-clause-left c =

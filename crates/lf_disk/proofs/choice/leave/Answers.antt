@@ -27,14 +27,14 @@ returns-in-Sync-clause-step c =
     let seen = folder_of c.args.seen.now in
     let name = c.in-Sync.name in
     subst (λ (ch : Change). OnOk c.copy.result (CrashStep (record { change = ch; done = c.args.call.now.done }) seen f g)) (sym c.in-Sync.is)
-        (on_ok c.copy.result (λ same. taken c.args.call.now.done (OnFile name (Becomes (seen name))) f g (replaced name (seen name) (Becomes (seen name)) f g same refl)) c.copy.ensures.ok)
+    (on_ok c.copy.result (λ same. taken c.args.call.now.done (OnFile name (Becomes (seen name))) f g (replaced name (seen name) (Becomes (seen name)) f g same refl)) c.copy.ensures.ok)
 
 pub returns-in-Rename-clause-step : goal.returns-in-Rename-clause-step
 returns-in-Rename-clause-step c =
     let f = folder_of c.args.image.now.items in
     let g = folder_of c.rename.new.slots.items in
     subst (λ (ch : Change). OnOk c.rename.result (CrashStep (record { change = ch; done = c.args.call.now.done }) (folder_of c.args.seen.now) f g)) (sym c.in-Rename.is)
-        (on_ok c.rename.result (λ same. taken c.args.call.now.done (Renames c.in-Rename.from c.in-Rename.to) f g same) c.rename.ensures.ok)
+    (on_ok c.rename.result (λ same. taken c.args.call.now.done (Renames c.in-Rename.from c.in-Rename.to) f g same) c.rename.ensures.ok)
 
 pub returns-in-Remove-clause-step : goal.returns-in-Remove-clause-step
 returns-in-Remove-clause-step c =
@@ -42,4 +42,4 @@ returns-in-Remove-clause-step c =
     let g = folder_of c.remove.new.slots.items in
     let name = c.in-Remove.name in
     subst (λ (ch : Change). CrashStep (record { change = ch; done = c.args.call.now.done }) (folder_of c.args.seen.now) f g) (sym c.in-Remove.is)
-        (taken c.args.call.now.done (OnFile name (Becomes None)) f g (replaced name None (Becomes None) f g c.remove.ensures.folder refl))
+    (taken c.args.call.now.done (OnFile name (Becomes None)) f g (replaced name None (Becomes None) f g c.remove.ensures.folder refl))

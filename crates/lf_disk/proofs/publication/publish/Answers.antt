@@ -63,5 +63,5 @@ returns-clause-published g c honest =
     let whole = staged-whole h c.args.min c.args.max c.args.bytes.now _ _ _ (c.requires.empty honest) (c.in_ok-write.ensures.done honest).seen (c.in_ok-sync.ensures.done still) in
     let done = c.in_ok-rename.ensures.done (c.sync.ensures.honest ∙ still) in
     published h c.args.min c.args.max c.args.bytes.now (g.D.Disk.history c.write.new.self) (g.D.Disk.history c.sync.new.self) (g.D.Disk.history c.rename.new.self)
-        (c.requires.empty honest) (c.in_ok-write.ensures.done honest).seen (c.in_ok-sync.ensures.done still).seen done.seen
-        (renames h c.args.min c.args.max c.args.bytes.now _ _ _ kept whole done)
+    (c.requires.empty honest) (c.in_ok-write.ensures.done honest).seen (c.in_ok-sync.ensures.done still).seen done.seen
+    (renames h c.args.min c.args.max c.args.bytes.now _ _ _ kept whole done)

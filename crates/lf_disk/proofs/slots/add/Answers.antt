@@ -23,4 +23,4 @@ pub returns-in_ok-push-in-None-clause-orderly : goal.returns-in_ok-push-in-None-
 returns-in_ok-push-in-None-clause-orderly c orderly =
     let nowhere = ap (λ (l : List Slot). position (has c.args.name) l) (sym c.deref.ensures.value) ∙ sym c.place.ensures ∙ c.in-None.is in
     subst (λ (l : List Slot). IsOrderly l) (sym c.in_ok-push-in-None.ensures.items)
-        (orderly-push c.args.name c.args.slots.now.items (absent c.args.name c.args.slots.now.items nowhere) orderly)
+    (orderly-push c.args.name c.args.slots.now.items (absent c.args.name c.args.slots.now.items nowhere) orderly)

@@ -16,7 +16,7 @@ returns-in-Some-clause-folder c =
     let here = ap (λ (l : List Slot). position (has c.args.name) l) (sym c.deref.ensures.value) ∙ sym c.place.ensures ∙ c.in-Some.is in
     let set : Option (List ℕ) → List Slot = λ file. slice_set c.args.slots.now.items c.in-Some.place (record { name = c.index_mut.result.now.name; file = file }) in
     subst (λ (file : Option (List ℕ)). Same (with_file c.args.name None (folder_of c.args.slots.now.items)) (folder_of (set file))) (sym c.take.ensures.after)
-        (folder-set c.args.name c.args.slots.now.items c.in-Some.place c.index_mut.result.now None here c.index_mut.ensures.value)
+    (folder-set c.args.name c.args.slots.now.items c.in-Some.place c.index_mut.result.now None here c.index_mut.ensures.value)
 
 pub returns-in-Some-clause-names : goal.returns-in-Some-clause-names
 returns-in-Some-clause-names c =

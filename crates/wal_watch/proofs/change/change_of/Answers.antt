@@ -23,7 +23,7 @@ loop-found-preserved c =
     let before = c.loop-found.change in
     let pushed = c.in_ok-push.ensures.ok in
     let more : before.pages ++ record { number = found.page; bytes = c.page_in.result.now } ∷ []
-      ≡ latest_pages c.args.text.now c.args.first c.args.count found.page =
+    ≡ latest_pages c.args.text.now c.args.first c.args.count found.page =
     ap (λ (bytes : List ℕ). before.pages ++ record { number = found.page; bytes = bytes } ∷ []) c.page_in.ensures.page
     ∙ ap (λ (ws : List PageWrite). ws ++ write_in c.args.text.now found.page found.frame ∷ []) c.loop-found.invariant.pages
     ∙ sym (pages_next c.args.text.now c.args.first c.args.count c.loop-found.above c.size_in-commit.result found c.in-Some.ensures) in

@@ -19,6 +19,6 @@ pub returns-then-breaks_header-clause-fault : goal.returns-then-breaks_header-cl
 returns-then-breaks_header-clause-fault c = (
   omega arith,
   breaks_at c.args.page_size c.start_of-at.result c.args.at c.args.bytes.now (overwritten c.start_of-at.result c.args.bytes.now c.args.text.now)
-  (written c.args.at c.args.bytes.now c.args.text.now) c.start_of-at.ensures.some c.start_of-at.ensures.written
-  (c.breaks_header.ensures.0 c.if-breaks_header.true),
+      (written c.args.at c.args.bytes.now c.args.text.now) c.start_of-at.ensures.some c.start_of-at.ensures.written
+      (c.breaks_header.ensures.0 c.if-breaks_header.true),
 )

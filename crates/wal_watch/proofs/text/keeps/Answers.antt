@@ -15,8 +15,7 @@ returns c =
     let new : c.split_at-3.result.0.now ≡ take count bytes = c.split_at-3.ensures.front in
     let old : c.split_at-2.result.0.now ≡ take count (drop at text) =
     c.split_at-2.ensures.front ∙ ap (λ (t : List ℕ). take count t) c.split_at.ensures.back in
-    let decides = slice_eq-Decides Decides-eqb c.split_at-3.result.0.now c.split_at-2.result.0.now c.eq.result c.eq.ensures in
-    (
+    let decides = slice_eq-Decides Decides-eqb c.split_at-3.result.0.now c.split_at-2.result.0.now c.eq.result c.eq.ensures in (
       λ yes. same_kept at bytes text end count over c.requires c.min-count.ensures (sym new ∙ decides.0 yes ∙ old),
       λ kept. decides.1 (new ∙ kept_same at bytes text end count over c.requires c.min-count.ensures kept ∙ sym old),
     )

@@ -16,4 +16,4 @@ pub invariant_of-self-in-Ok : goal.invariant_of-self-in-Ok
 invariant_of-self-in-Ok c =
     let d = c.self.inside in
     subst (λ (l : List Call). IsCurrent d.first.items l c.enact.new.slots.items) (sym c.in-Ok.ensures.ok)
-        (current-done d.first.items d.calls.items d.files.items c.enact.new.slots.items c.args.change c.self.invariant c.in-Ok.ensures.folder (c.enact.ensures.orderly c.self.invariant.orderly))
+    (current-done d.first.items d.calls.items d.files.items c.enact.new.slots.items c.args.change c.self.invariant c.in-Ok.ensures.folder (c.enact.ensures.orderly c.self.invariant.orderly))

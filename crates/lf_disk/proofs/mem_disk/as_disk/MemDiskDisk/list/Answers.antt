@@ -14,8 +14,7 @@ pub returns-clause-names : goal.returns-clause-names
 returns-clause-names c n =
     let d = c.self.inside in
     let names = c.in_ok-names.ensures ∙ ap (λ (l : List Slot). names_of l) c.deref.ensures.value in
-    let told = subst (λ (r : Recording). Same (now (history_of r)) (folder_of d.files.items)) c.self.view_is (current-told d.first.items d.calls.items d.files.items c.self.invariant) in
-    (
+    let told = subst (λ (r : Recording). Same (now (history_of r)) (folder_of d.files.items)) c.self.view_is (current-told d.first.items d.calls.items d.files.items c.self.invariant) in (
       λ listed. subst (λ (f : Option (List ℕ)). IsSome f) (told n) (listed-stands n d.files.items c.self.invariant.orderly (subst (λ (l : List FileName). Contains l n) names listed)),
       λ stands. subst (λ (l : List FileName). Contains l n) (sym names) (stands-listed n d.files.items (subst (λ (f : Option (List ℕ)). IsSome f) (sym (told n)) stands)),
     )

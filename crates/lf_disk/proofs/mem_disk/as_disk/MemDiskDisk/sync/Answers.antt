@@ -13,4 +13,4 @@ returns-clause-failed c =
 pub returns-clause-ticks : goal.returns-clause-ticks
 returns-clause-ticks c =
     ticks c.args.self.now.first c.change.new.self.first c.args.self.now.calls c.change.new.self.calls (Sync c.args.name) c.change.ensures.first c.change.result
-        c.change.ensures.done c.change.ensures.failed c.change.ensures.last
+    c.change.ensures.done c.change.ensures.failed c.change.ensures.last
