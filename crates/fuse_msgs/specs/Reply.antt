@@ -66,7 +66,7 @@ abbrev pub out_message : ℕ → ℕ → List ℕ → List ℕ
 out_message error unique body = le32 (16 + length body) ++ le32 error ++ le64 unique ++ body
 
 -- the reply to the request of this number
-abbrev pub reply_bytes : Reply → ℕ → List ℕ
+unfoldable pub reply_bytes : Reply → ℕ → List ℕ
 reply_bytes answer unique = out_message (error_field answer) unique (reply_body answer)
 
 -- what has bytes: a length that fits its field, and an error number of Linux

@@ -17,7 +17,7 @@ const HEADER: usize = 16;
 const FIXED_BODY: usize = 144;
 
 /// Appends the reply to the request of this number.
-#[tactic(auto, using(crate::proofs::Replies::fixed_body_short))]
+#[tactic(auto, using(crate::proofs::Replies::fixed_body_short), unfolding(crate::specs::Reply::reply_bytes))]
 pub fn encode(alloc: Global, reply: &Reply, unique: u64, out: &mut Vec<u8>) -> Result<(), NoMemory>
     requires { IsReply reply.now }
     ensures ok { OnOk result (out.new.items ≡ out.old.items ++ reply_bytes reply.now unique) }
