@@ -1,7 +1,7 @@
 -- What a write makes of a file.
-use Rattle.std.proofs.Common.{◌≡◌, inl, inr, ℕ, ◌+◌, ◌-◌, ◌<◌, ◌≤◌, min, max, List, [], ◌++◌, length, take, drop, replicate, refl, sym, ◌∙◌, ap, arith, length-append, length-take, length-drop}
+use Rattle.std.proofs.Common.{◌≡◌, inl, inr, ℕ, ◌+◌, ◌-◌, ◌≤◌, List, ◌++◌, length, take, drop, replicate, sym, ◌∙◌, ap, arith, length-append}
 use Rattle.std.proofs.lemmas.Bool.{cases_lt}
-use Rattle.std.proofs.lemmas.List.{append-nil, take-replicate, take-append-le, drop-append-le, take_all, drop_all, length-replicate}
+use Rattle.std.proofs.lemmas.List.{append-nil, take-replicate, take-append-le, take_all, drop_all, length-replicate}
 use Rattle.std.proofs.Math.Seq.{take-append-add}
 use Rattle.lf_disk.specs.Folder.{resized, overwritten}
 

@@ -1,12 +1,12 @@
 -- What a crash leaves by choice is what it may leave.
-use Rattle.std.proofs.Common.{◌≡◌, ◌⊎◌, inl, inr, ℕ, ◌+◌, ◌≤◌, min, max, Bool, true, false, List, [], ◌∷◌, ◌++◌, length, take, cond, Option, Some, None, Result, Ok, Err, OnOk, refl, sym, ◌∙◌, ap, subst, arith}
+use Rattle.std.proofs.Common.{◌≡◌, inl, inr, ℕ, ◌≤◌, min, max, Bool, true, false, List, [], ◌∷◌, ◌++◌, length, cond, Some, Result, Ok, Err, OnOk, sym, ◌∙◌, subst}
 use Rattle.lf_disk.specs.declared.name.FileName.{FileName}
 use Rattle.lf_disk.specs.declared.record.Call.{Call}
 use Rattle.lf_disk.specs.declared.record.Change.{Change}
 use Rattle.lf_disk.specs.declared.record.Change.TheVariants.{Write, Cut, Sync, Rename, Remove}
 use Rattle.lf_disk.specs.Folder.{Folder, Same, bytes_of, with_file, resized, overwritten}
-use Rattle.lf_disk.specs.Change.{Step, OnFile, Perhaps, Becomes, Renames, Torn, Cropped, Stands}
-use Rattle.lf_disk.specs.Replay.{State, CrashStep, TakenIf, changed, shown_after, after, replay}
+use Rattle.lf_disk.specs.Change.{Step, OnFile, Torn, Cropped, Stands}
+use Rattle.lf_disk.specs.Replay.{State, CrashStep, TakenIf, changed, shown_after, replay}
 use Rattle.lf_disk.specs.Tears.{Torn-overwritten, Cropped-resized}
 use Rattle.lf_disk.specs.Laws.{replaced, stands-made}
 use Rattle.lf_disk.proofs.Records.{replay-push, changed-same}

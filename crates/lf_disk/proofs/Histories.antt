@@ -1,18 +1,18 @@
 -- The history of a record with one call more.
-use Rattle.std.proofs.Common.{◌≡◌, ◌⊎◌, inl, inr, ℕ, ◌+◌, ◌^◌, ◌≤◌, Bool, true, false, List, [], ◌∷◌, ◌++◌, length, take, cond, Option, Some, None, Result, Ok, Err, IsErr, OnOk, OnErr, refl, sym, ◌∙◌, ap, subst, arith, length-append}
+use Rattle.std.proofs.Common.{◌≡◌, ◌⊎◌, inl, inr, ℕ, ◌+◌, ◌^◌, ◌≤◌, Bool, true, false, List, [], ◌∷◌, ◌++◌, length, take, cond, Some, None, Result, Ok, Err, IsErr, OnOk, OnErr, refl, sym, ◌∙◌, ap, subst, arith, length-append}
 use Rattle.std.proofs.lemmas.List.{take-append-le}
 use Rattle.std.proofs.Math.Seq.{take-length}
 use Rattle.lf_disk.specs.declared.record.Call.{Call}
 use Rattle.lf_disk.specs.declared.record.Change.{Change}
 use Rattle.lf_disk.specs.declared.record.Change.TheVariants.{Write, Cut, Sync, Rename, Remove}
 use Rattle.lf_disk.specs.declared.slots.Slot.{Slot}
-use Rattle.lf_disk.specs.Folder.{Folder, Same, SameBut, bytes_of, with_file, resized, overwritten}
-use Rattle.lf_disk.specs.Change.{Step, Edit, OnFile, Perhaps, Becomes, Writes, Cuts, Renames, Torn, Cropped, Stands}
+use Rattle.lf_disk.specs.Folder.{Folder, Same, bytes_of, resized, overwritten}
+use Rattle.lf_disk.specs.Change.{Step, OnFile, Perhaps, Becomes, Writes, Cuts, Renames, Torn, Cropped, Stands}
 use Rattle.lf_disk.specs.Slots.{folder_of}
-use Rattle.lf_disk.specs.Replay.{State, after, replay, at_rest, changed, CrashStep, TakenIf}
-use Rattle.lf_disk.specs.History.{History, now, may_leave, KeepsPast, Rests, Ticks, Moves}
+use Rattle.lf_disk.specs.Replay.{State, after, replay, at_rest, changed, CrashStep}
+use Rattle.lf_disk.specs.History.{History, now, KeepsPast, Rests, Ticks, Moves}
 use Rattle.lf_disk.specs.Tears.{Torn-refl, Cropped-refl}
-use Rattle.lf_disk.specs.Laws.{shown, replaced, kept, stands-still}
+use Rattle.lf_disk.specs.Laws.{replaced, kept, stands-still}
 use Rattle.lf_disk.proofs.Records.{replay-push}
 use Rattle.lf_disk.proofs.Moments.{past_stays}
 

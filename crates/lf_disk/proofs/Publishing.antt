@@ -1,8 +1,8 @@
 -- The three calls that publish a file.
-use Rattle.std.proofs.Common.{◌≡◌, ◌⊎◌, inl, inr, ℕ, List, [], Option, Some, Result, sym, ◌∙◌, ap}
+use Rattle.std.proofs.Common.{◌≡◌, inl, inr, ℕ, List, [], Some, Result, sym, ◌∙◌, ap}
 use Rattle.lf_disk.specs.declared.name.FileName.TheVariants.{Staged, Ltx}
 use Rattle.lf_disk.specs.Folder.{Folder, bytes_of, Same, SameBut}
-use Rattle.lf_disk.specs.Change.{Step, Edit, OnFile, Perhaps, Becomes, Writes, Renames}
+use Rattle.lf_disk.specs.Change.{Step, OnFile, Perhaps, Becomes, Writes, Renames}
 use Rattle.lf_disk.specs.History.{History, now, may_leave, Ticks, Moves, EachMoment}
 use Rattle.lf_disk.specs.Publish.{IsOldOrPublished, IsPublished, with_ltx}
 use Rattle.lf_disk.proofs.Moments.{started, goes_on}

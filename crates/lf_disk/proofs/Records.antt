@@ -1,11 +1,11 @@
 -- A record with one call more.
-use Rattle.std.proofs.Common.{◌≡◌, ℕ, ◌+◌, ◌≤◌, Bool, true, false, List, [], ◌∷◌, ◌++◌, length, take, cond, Option, Some, None, refl, sym, ◌∙◌, ap, subst, arith}
+use Rattle.std.proofs.Common.{◌≡◌, true, false, List, [], ◌∷◌, ◌++◌, length, take, cond, Some, None, refl, sym, ◌∙◌}
 use Rattle.std.proofs.Math.Seq.{take-length}
 use Rattle.lf_disk.specs.declared.record.Call.{Call}
 use Rattle.lf_disk.specs.declared.record.Change.{Change}
 use Rattle.lf_disk.specs.declared.record.Change.TheVariants.{Write, Cut, Sync, Rename, Remove}
 use Rattle.lf_disk.specs.declared.slots.Slot.{Slot}
-use Rattle.lf_disk.specs.Folder.{Folder, Same, bytes_of, with_file, renamed, resized, overwritten, same_name}
+use Rattle.lf_disk.specs.Folder.{Folder, Same, bytes_of, resized, overwritten, same_name}
 use Rattle.lf_disk.specs.Slots.{folder_of, IsOrderly}
 use Rattle.lf_disk.specs.Replay.{State, after, replay, at_rest, changed}
 use Rattle.lf_disk.specs.MemDisk.{IsCurrent}

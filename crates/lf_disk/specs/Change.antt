@@ -1,5 +1,5 @@
 -- What a changing call does to a folder, and what a crash may make of it until the file is synced.
-use Rattle.std.specs.Prelude.{◌≡◌, ◌⊎◌, ℕ, ◌+◌, ◌<◌, ◌≤◌, min, max, List, length, slice_index, Option, None, Some, IsSome}
+use Rattle.std.specs.Prelude.{◌≡◌, ◌⊎◌, ℕ, ◌+◌, ◌<◌, ◌≤◌, min, max, List, length, slice_index, Option, Some, IsSome}
 use Rattle.lf_disk.specs.declared.name.FileName.{FileName}
 use Rattle.lf_disk.specs.Folder.{Folder, bytes_of, resized, overwritten, Same, SameBut, renamed}
 

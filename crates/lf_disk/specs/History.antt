@@ -1,7 +1,7 @@
 -- A disk over time.
-use Rattle.std.specs.Prelude.{◌≡◌, ℕ, ◌+◌, ◌^◌, ◌<◌, ◌≤◌, Result, IsErr, OnOk, None}
+use Rattle.std.specs.Prelude.{◌≡◌, ℕ, ◌+◌, ◌^◌, ◌≤◌, Result, IsErr, OnOk, None}
 use Rattle.lf_disk.specs.declared.name.FileName.{FileName}
-use Rattle.lf_disk.specs.Folder.{Folder, Same, SameBut}
+use Rattle.lf_disk.specs.Folder.{Folder, SameBut}
 use Rattle.lf_disk.specs.Change.{Step}
 
 -- The moment is the number of changing calls so far. At each moment up to it every file read as `seen`

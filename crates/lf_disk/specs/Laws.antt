@@ -1,14 +1,14 @@
 -- What a record of calls shows is what a crash may leave.
-use Rattle.std.specs.Prelude.{◌≡◌, ◌⊎◌, ℕ, ◌≤◌, Bool, true, false, List, [], ◌∷◌, length, take, Option, None, Some, IsSome, refl}
-use Rattle.std.proofs.Common.{inl, inr, cond, sym, ◌∙◌, ap, subst, arith}
+use Rattle.std.specs.Prelude.{ℕ, Bool, true, false, List, [], ◌∷◌, length, take, Option, None, Some, refl}
+use Rattle.std.proofs.Common.{inl, cond, sym, ◌∙◌, ap, subst, arith}
 use Rattle.lf_disk.specs.declared.name.FileName.{FileName}
 use Rattle.lf_disk.specs.declared.record.Call.{Call}
 use Rattle.lf_disk.specs.declared.record.Change.{Change}
 use Rattle.lf_disk.specs.declared.record.Change.TheVariants.{Write, Cut, Sync, Rename, Remove}
-use Rattle.lf_disk.specs.Folder.{Folder, Same, SameBut, same_name, bytes_of, with_file, resized, overwritten}
+use Rattle.lf_disk.specs.Folder.{Folder, Same, bytes_of, with_file, resized, overwritten}
 use Rattle.lf_disk.specs.Names.{same_name-refl}
-use Rattle.lf_disk.specs.Change.{Edit, Step, OnFile, Perhaps, Becomes, Renames, Torn, Cropped, Stands}
-use Rattle.lf_disk.specs.Replay.{State, after, replay, at_rest, changed, CrashStep, TakenIf}
+use Rattle.lf_disk.specs.Change.{Edit, OnFile, Becomes, Torn, Cropped, Stands}
+use Rattle.lf_disk.specs.Replay.{State, after, replay, at_rest, changed, CrashStep}
 use Rattle.lf_disk.specs.MemDisk.{Recording, state_at}
 use Rattle.lf_disk.specs.Slots.{folder_of}
 use Rattle.lf_disk.specs.Tears.{Torn-refl, Torn-overwritten, Cropped-refl, Cropped-resized}

@@ -1,5 +1,5 @@
 -- What contracts see of a disk in memory.
-use Rattle.std.specs.Prelude.{◌≡◌, ℕ, ◌≤◌, List, [], length, take, Option, None, IsTrue, true}
+use Rattle.std.specs.Prelude.{ℕ, List, [], length, take, None}
 use Rattle.lf_disk.specs.declared.record.Call.{Call}
 use Rattle.lf_disk.specs.declared.slots.Slot.{Slot}
 use Rattle.lf_disk.specs.Folder.{Same}

@@ -1,5 +1,5 @@
 -- Which calls of a disk in memory fail.
-use Rattle.std.specs.Prelude.{◌≡◌, ℕ, ◌+◌, min, Bool, false, true, ◌||◌, ◌==◌, nat_le, List, Option, None, Some, IsTrue, Result, IsErr}
+use Rattle.std.specs.Prelude.{◌≡◌, ℕ, ◌+◌, min, Bool, false, ◌||◌, ◌==◌, nat_le, List, Option, None, Some, IsTrue, Result, IsErr}
 use Rattle.std.specs.List.{list_any}
 use Rattle.lf_base.specs.Faults.{one_more}
 

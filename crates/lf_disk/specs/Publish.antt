@@ -1,9 +1,8 @@
 -- The files before and after one is published.
 use Rattle.std.specs.Prelude.{◌≡◌, ◌⊎◌, ℕ, List, Some, None}
-use Rattle.lf_disk.specs.declared.name.FileName.{FileName}
 use Rattle.lf_disk.specs.declared.name.FileName.TheVariants.{Staged, Ltx}
-use Rattle.lf_disk.specs.Folder.{Folder, with_file, Same, SameBut}
-use Rattle.lf_disk.specs.History.{History, now, may_leave, IsSettledBut}
+use Rattle.lf_disk.specs.Folder.{Folder, with_file, SameBut}
+use Rattle.lf_disk.specs.History.{History, now, IsSettledBut}
 
 -- the folder with these bytes as the transaction file min to max
 abbrev pub with_ltx : ℕ → ℕ → List ℕ → Folder → Folder

@@ -1,6 +1,5 @@
 -- What a record of calls makes of a folder.
-use Rattle.std.specs.Prelude.{◌≡◌, ℕ, Bool, true, false, List, [], ◌∷◌, length, Option, None, Some, if◌then◌else◌}
-use Rattle.lf_disk.specs.declared.name.FileName.{FileName}
+use Rattle.std.specs.Prelude.{Bool, true, false, List, [], ◌∷◌, length, None, if◌then◌else◌}
 use Rattle.lf_disk.specs.declared.record.Call.{Call}
 use Rattle.lf_disk.specs.declared.record.Change.{Change}
 use Rattle.lf_disk.specs.declared.record.Change.TheVariants.{Write, Cut, Sync, Rename, Remove}

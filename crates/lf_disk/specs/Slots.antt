@@ -1,5 +1,5 @@
 -- A folder in memory: a list of names, each with the file that it has.
-use Rattle.std.specs.Prelude.{◌≡◌, ℕ, false, List, [], ◌∷◌, map, filter, Option, None, if◌then◌else◌, is_some}
+use Rattle.std.specs.Prelude.{◌≡◌, false, List, [], ◌∷◌, map, filter, None, if◌then◌else◌, is_some}
 use Rattle.lf_disk.specs.declared.name.FileName.{FileName}
 use Rattle.lf_disk.specs.declared.slots.Slot.{Slot}
 use Rattle.lf_disk.specs.Folder.{Folder, same_name}

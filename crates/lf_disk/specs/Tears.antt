@@ -1,9 +1,9 @@
 -- What a whole write or cut, a part of one, or none of it makes of a file is what a crash may.
-use Rattle.std.specs.Prelude.{◌≡◌, ℕ, ◌+◌, ◌-◌, ◌<◌, ◌≤◌, min, max, List, ◌++◌, length, take, drop, replicate, slice_index, Option, Some, IsSome, refl}
+use Rattle.std.specs.Prelude.{◌≡◌, ℕ, ◌+◌, ◌-◌, ◌<◌, ◌≤◌, min, max, List, ◌++◌, length, take, drop, replicate, slice_index, refl}
 use Rattle.std.proofs.Common.{◌∙◌, ap, arith, length-append, length-take, length-drop, get_or-take, get_or-drop}
 use Rattle.std.proofs.lemmas.List.{get_or_append_left, get_or-append_right, length-replicate}
-use Rattle.lf_disk.specs.Folder.{bytes_of, resized, overwritten}
-use Rattle.lf_disk.specs.Change.{Torn, Cropped, Stands}
+use Rattle.lf_disk.specs.Folder.{resized, overwritten}
+use Rattle.lf_disk.specs.Change.{Torn, Cropped}
 
 pub length-resized : (len : ℕ) (bytes : List ℕ) → length (resized len bytes) ≡ len
 length-resized len bytes =

@@ -61,7 +61,7 @@ const FOLDER: &str = "lf_disk_test/dbs/x";
 #[test]
 fn a_folder(rt: HostRuntime) -> Result<(), Fail> {
     let _ = fs::remove_dir_all(&rt, "lf_disk_test");
-    let mut disk = DirDisk::open(rt, FOLDER).unwrap();
+    let mut disk = DirDisk::open(rt, FOLDER).expect(&rt, "a folder");
     assert!(&rt; write_and_read(&rt, &mut disk).is_ok());
     assert!(&rt; name_and_remove(&rt, &mut disk).is_ok());
     assert!(&rt; list_only(&rt, &mut disk, LTX).is_ok());

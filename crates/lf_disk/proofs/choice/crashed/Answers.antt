@@ -1,10 +1,10 @@
-use Rattle.std.proofs.Common.{◌≡◌, ◌+◌, List, [], ◌∷◌, ◌++◌, length, take, sym, ◌∙◌, ap, subst, arith}
+use Rattle.std.proofs.Common.{◌≡◌, ◌+◌, List, [], ◌∷◌, ◌++◌, take, sym, ◌∙◌, ap, subst, arith}
 use Rattle.std.proofs.lemmas.List.{take_all, take_more}
 use Rattle.lf_disk.specs.declared.record.Call.{Call}
 use Rattle.lf_disk.specs.declared.slots.Slot.{Slot}
-use Rattle.lf_disk.specs.Folder.{Folder, Same}
+use Rattle.lf_disk.specs.Folder.{Same}
 use Rattle.lf_disk.specs.Slots.{folder_of, IsOrderly}
-use Rattle.lf_disk.specs.Replay.{State, replay, at_rest, CrashStep}
+use Rattle.lf_disk.specs.Replay.{replay, at_rest, CrashStep}
 use Rattle.lf_disk.proofs.Choices.{goes-on}
 use Rattle.lf_disk.proofs.choice.crashed.Goals as goal
 

@@ -1,4 +1,4 @@
-use Rattle.std.proofs.Common.{◌≡◌, take}
+use Rattle.std.proofs.Common.{take}
 use Rattle.lf_disk.specs.Folder.{Same}
 use Rattle.lf_disk.specs.Slots.{folder_of, IsOrderly}
 use Rattle.lf_disk.specs.Replay.{replay, at_rest}

@@ -1,4 +1,4 @@
-use Rattle.std.proofs.Common.{◌≡◌, ℕ, List, None, length, OnOk, refl, sym, subst}
+use Rattle.std.proofs.Common.{ℕ, List, None, length, OnOk, refl, sym, subst}
 use Rattle.lf_disk.specs.declared.record.Change.{Change}
 use Rattle.lf_disk.specs.Slots.{folder_of}
 use Rattle.lf_disk.specs.Change.{OnFile, Becomes, Renames, Stands, Torn}

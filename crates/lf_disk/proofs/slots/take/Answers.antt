@@ -1,7 +1,7 @@
-use Rattle.std.proofs.Common.{◌≡◌, ℕ, List, Option, None, slice_set, sym, ◌∙◌, ap, subst}
+use Rattle.std.proofs.Common.{ℕ, List, Option, None, slice_set, sym, ◌∙◌, ap, subst}
 use Rattle.std.specs.List.{position}
 use Rattle.lf_disk.specs.declared.slots.Slot.{Slot}
-use Rattle.lf_disk.specs.Slots.{folder_of, KeepsNames}
+use Rattle.lf_disk.specs.Slots.{folder_of}
 use Rattle.lf_disk.specs.Folder.{with_file, Same}
 use Rattle.lf_disk.proofs.SlotLemmas.{has, was, folder-set, names-set, folder-none, folder-absent, absent}
 use Rattle.lf_disk.proofs.slots.take.Goals as goal

@@ -1,7 +1,7 @@
 use Rattle.std.proofs.Common.{ℕ, List, length, inl, OnOk, OnErr, ◌∙◌, subst}
 use Rattle.lf_disk.specs.declared.record.Change.TheVariants.{Write}
 use Rattle.lf_disk.specs.Change.{OnFile, Writes, Stands, Torn}
-use Rattle.lf_disk.specs.History.{Moves, Ticks}
+use Rattle.lf_disk.specs.History.{Moves}
 use Rattle.lf_disk.specs.MemDisk.{history_of}
 use Rattle.lf_disk.proofs.Histories.{done, failed, ticks, on_err}
 use Rattle.lf_disk.proofs.mem_disk.as_disk.MemDiskDisk.write.Goals as goal
