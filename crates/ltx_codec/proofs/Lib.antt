@@ -6,3 +6,4 @@ pub mod DecodeLemmas
 pub mod LawLemmas
 pub mod SoundLemmas
 pub mod OneFault
+pub mod WriteLemmas

@@ -16,6 +16,7 @@ mod numbers;
 mod reading;
 mod rules;
 mod trailer;
+mod writing;
 
 pub use encoder::Encoder;
 pub use fault::LtxFault;
@@ -23,3 +24,7 @@ pub use file::Ltx;
 pub use header::Header;
 pub use laws::{one_earliest_fault, one_reading, text_breaks_no_rule};
 pub use reading::{decode, decode_first};
+pub use writing::encode;
+
+#[cfg(test)]
+mod tests;

@@ -1,0 +1,144 @@
+-- The latest frames of the pages, found one after another.
+use Rattle.std.proofs.Common.{◌≡◌, ℕ, zero, suc, ◌+◌, ◌-◌, ◌*◌, ◌≤◌, ◌<◌, Bool, true, false, ◌&&◌, ◌==◌, ◌⊎◌, Option, Some, None, List, [], ◌∷◌, ◌++◌, length, refl, sym, ap, subst, ◌∙◌, inl, inr, add-one, arith, if◌then◌else◌, nat_le}
+use Rattle.std.proofs.lemmas.Bool.{cases_lt, cases_eq, cond-true, cond-false, le-leb, lt-leb, eq-eqb, ne_eqb, and_from, and_left, and_right, cases_Bool}
+use Rattle.std.proofs.lemmas.List.{append-nil}
+use Rattle.lf_sqlite_pages.specs.Change.{PageChange}
+use Rattle.lf_sqlite_pages.specs.declared.page_write.PageWrite.{PageWrite}
+use Rattle.std.specs.Option.{IfSome}
+use Rattle.wal_watch.specs.Frames.{number_in, page_in, frame_place, committed_count}
+use Rattle.wal_watch.proofs.CommitLemmas.{frame_there}
+use Rattle.wal_watch.specs.News.{latest_frame, latest_pages, write_in}
+use Rattle.wal_watch.specs.Searching.{HoldsNone, IsLeast, IsNext, limit_of}
+use Rattle.wal_watch.specs.declared.change.Found.{Found}
+
+pub latest_more : (text : List ℕ) (page first k : ℕ) → latest_frame text page first (k + 1)
+    ≡ (if nat_le first k && (number_in text k == page) then Some k else latest_frame text page first k)
+unfolding latest_frame
+latest_more text page first k = ap (λ (m : ℕ). latest_frame text page first m) (add-one k)
+
+-- a frame that holds the page is the latest so far
+pub latest_here : (text : List ℕ) (page first k : ℕ) → first ≤ k → number_in text k ≡ page → latest_frame text page first (k + 1) ≡ Some k
+latest_here text page first k le is = latest_more text page first k ∙ cond-true _ _ _ (and_from _ _ (le-leb first k le) (eq-eqb _ _ is))
+
+-- one that holds another changes nothing
+pub latest_other : (text : List ℕ) (page first k : ℕ) → (number_in text k ≡ page → ⊥) → latest_frame text page first (k + 1) ≡ latest_frame text page first k
+latest_other text page first k other = latest_more text page first k ∙ cond-false _ _ _ (and_right _ _ (ne_eqb _ _ other))
+
+-- before the first frame there is none
+pub latest_none : (text : List ℕ) (page first n : ℕ) → n ≤ first → latest_frame text page first n ≡ None
+unfolding latest_frame
+latest_none text page first zero le = refl
+latest_none text page first (suc k) le =
+    cond-false _ _ _ (and_left _ _ (lt-leb first k (omega (arith, add-one k)))) ∙ latest_none text page first k (omega (arith, add-one k))
+
+-- nothing is found yet
+pub next_none : (text : List ℕ) (first above commit : ℕ) → IsNext text first first above commit None
+next_none text first above commit = record { none = λ page over under. latest_none text page first first (omega arith) }
+
+-- a frame that is no closer
+none_more : (text : List ℕ) (first k above below : ℕ) → HoldsNone text first k above below → ((above < number_in text k) → below ≤ number_in text k)
+    → HoldsNone text first (k + 1) above below
+none_more text first k above below h far = record {
+  none = λ page over under.
+      latest_other text page first k (λ is. let at_page : number_in text k ≡ page = is in omega (arith, over, under, far (omega arith)))
+      ∙ h.none page over under;
+}
+
+pub next_same : (text : List ℕ) (first k above commit : ℕ) (found : Option Found) → IsNext text first k above commit found
+    → ((above < number_in text k) × (number_in text k ≤ limit_of commit found) → ⊥) → IsNext text first (k + 1) above commit found
+next_same text first k above commit None h far = none_more text first k above (commit + 1) h (λ over.
+    elim (cases_lt commit (number_in text k)) [ inl past ↦ omega (arith, past) | inr near ↦ absurd (far (over, near)) ])
+next_same text first k above commit (Some found) h far =
+    let past : above < number_in text k → found.page + 1 ≤ number_in text k = λ over.
+    elim (cases_lt found.page (number_in text k)) [ inl past ↦ omega (arith, past) | inr near ↦ absurd (far (over, near)) ] in
+    record {
+      over = h.over;
+      within = h.within;
+      among = omega (arith, h.among);
+      latest = latest_other text found.page first k (λ is. omega (arith, is, h.over, past (omega (arith, is, h.over)))) ∙ h.latest;
+      between = none_more text first k above found.page h.between (λ over. omega (arith, past over));
+    }
+
+-- a frame that is closer
+pub next_closer : (text : List ℕ) (first k above commit : ℕ) (found : Option Found) (page : ℕ) → IsNext text first k above commit found → first ≤ k
+    → page ≡ number_in text k → above < page → page ≤ limit_of commit found → IsNext text first (k + 1) above commit (Some (record { page = page; frame = k }))
+next_closer text first k above commit None page h le is over under = record {
+  over = over;
+  within = under;
+  among = omega arith;
+  latest = latest_here text page first k le (sym is);
+  between = none_more text first k above page (record { none = λ other from to. h.none other from (omega arith) }) (λ from. omega (arith, is));
+}
+next_closer text first k above commit (Some found) page h le is over under = record {
+  over = over;
+  within = omega (arith, h.within);
+  among = omega arith;
+  latest = latest_here text page first k le (sym is);
+  between = none_more text first k above page (record { none = λ other from to. h.between.none other from (omega arith) }) (λ from. omega (arith, is));
+}
+
+pages_none : (text : List ℕ) (first n page : ℕ) → latest_frame text (page + 1) first n ≡ None → latest_pages text first n (page + 1) ≡ latest_pages text first n page
+unfolding latest_pages
+pages_none text first n page none = ap (λ (m : ℕ). latest_pages text first n m) (add-one page) ∙ rw none (append-nil _)
+
+pages_push : (text : List ℕ) (first n page k : ℕ) → latest_frame text (page + 1) first n ≡ Some k
+    → latest_pages text first n (page + 1) ≡ latest_pages text first n page ++ write_in text (page + 1) k ∷ []
+unfolding latest_pages
+pages_push text first n page k some = ap (λ (m : ℕ). latest_pages text first n m) (add-one page) ∙ rw some refl
+
+-- pages that no frame holds change nothing
+pages_skip : (text : List ℕ) (first n above more : ℕ) → HoldsNone text first n above (above + more + 1) → latest_pages text first n (above + more) ≡ latest_pages text first n above
+pages_skip text first n above zero h = ap (λ (m : ℕ). latest_pages text first n m) (omega arith)
+pages_skip text first n above (suc more) h =
+    let page = above + more + 1 in
+    let none : latest_frame text page first n ≡ None = h.none page (omega arith) (omega (arith, add-one more)) in
+    ap (λ (m : ℕ). latest_pages text first n m) (omega (arith, add-one more))
+    ∙ pages_none text first n (above + more) none
+    ∙ pages_skip text first n above more (record { none = λ other from to. h.none other from (omega (arith, add-one more)) })
+
+-- the pages up to the one that was found
+pub pages_next : (text : List ℕ) (first n above commit : ℕ) (found : Found) → IsLeast text first n above commit found
+    → latest_pages text first n found.page ≡ latest_pages text first n above ++ write_in text found.page found.frame ∷ []
+pages_next text first n above commit found h =
+    let more = found.page - 1 - above in
+    let over = h.over in
+    let page_is : above + more + 1 ≡ found.page = omega arith in
+    let skipped : latest_pages text first n (above + more) ≡ latest_pages text first n above = pages_skip text first n above more (rw page_is h.between) in
+    let some : latest_frame text (above + more + 1) first n ≡ Some found.frame = rw page_is h.latest in
+    ap (λ (m : ℕ). latest_pages text first n m) (sym page_is) ∙ pages_push text first n (above + more) found.frame some ∙ rw (skipped, page_is) refl
+
+-- all pages, where nothing more was found
+pub pages_end : (text : List ℕ) (first n above commit : ℕ) → above ≤ commit → HoldsNone text first n above (commit + 1)
+    → latest_pages text first n commit ≡ latest_pages text first n above
+pages_end text first n above commit le h =
+    let more = commit - above in
+    let all : above + more ≡ commit = omega arith in
+    ap (λ (m : ℕ). latest_pages text first n m) (sym all) ∙ pages_skip text first n above more (rw all h)
+
+-- no pages yet
+pub no_pages : (text : List ℕ) (first n : ℕ) → latest_pages text first n 0 ≡ []
+unfolding latest_pages
+no_pages text first n = refl
+
+-- a change is its three parts
+pub same_change : (change : PageChange) (page_size commit : ℕ) (pages : List PageWrite) → change.page_size ≡ page_size → change.commit ≡ commit → change.pages ≡ pages
+    → change ≡ record { page_size = page_size; commit = commit; pages = pages }
+same_change change page_size commit pages size-is commit-is pages-is =
+    ap (λ (n : ℕ). record { page_size = n; commit = change.commit; pages = change.pages }) size-is
+    ∙ ap (λ (n : ℕ). record { page_size = page_size; commit = n; pages = change.pages }) commit-is
+    ∙ ap (λ (ws : List PageWrite). record { page_size = page_size; commit = commit; pages = ws }) pages-is
+
+-- the latest frame is one of them
+pub latest_among : (text : List ℕ) (page first n k : ℕ) → latest_frame text page first n ≡ Some k → k < n
+unfolding latest_frame
+latest_among text page first zero k is = absurd cc
+latest_among text page first (suc n) k is = elim (cases_Bool (nat_le first n && (number_in text n == page))) [
+  | inl here ↦ let same : Some n ≡ Some k = sym (cond-true _ _ _ here) ∙ is in let at_k : n ≡ k = cc in omega (arith, at_k, add-one n)
+  | inr other ↦ omega (arith, latest_among text page first n k (sym (cond-false _ _ _ other) ∙ is), add-one n)
+]
+
+-- so it is there
+pub latest_there : (text : List ℕ) (page count n : ℕ) (frame : Option ℕ) → count ≡ committed_count text → n ≤ count → frame ≡ latest_frame text page 0 n
+    → IfSome frame (λ k. frame_place text (k + 1) ≤ length text)
+latest_there text page count n None is le latest = tt
+latest_there text page count n (Some k) is le latest = frame_there text count k is (omega (arith, le, latest_among text page 0 n k (sym latest)))

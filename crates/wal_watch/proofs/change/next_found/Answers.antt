@@ -1,0 +1,25 @@
+use Rattle.std.proofs.Common.{◌≤◌, arith, ◌∙◌, sym, ap, subst, ◌<◌, ◌≡◌, ◌+◌, Option}
+use Rattle.wal_watch.specs.Searching.{IsNext, limit_of}
+use Rattle.wal_watch.specs.Frames.{number_in}
+use Rattle.wal_watch.specs.declared.change.Found.{Found}
+use Rattle.wal_watch.proofs.ChangeLemmas.{next_none, next_same, next_closer}
+use Rattle.wal_watch.proofs.change.next_found.Goals as goal
+use Rattle.wal_watch.proofs.change.next_found.Goals.{then-is_closer, else-is_closer}
+
+pub loop-frame-init : goal.loop-frame-init
+loop-frame-init c = next_none c.args.text.now c.args.first c.args.above c.args.commit
+
+pub loop-frame-preserved : goal.loop-frame-preserved
+loop-frame-preserved c =
+    let text = c.args.text.now in
+    let k = c.loop-frame.frame in
+    let page_is = c.number_in-page.ensures in
+    let before = c.loop-frame.invariant in
+    elim c.if-is_closer.branch [
+      | then-is_closer w ↦
+          let closer = c.is_closer.ensures.0 w.if-is_closer.true in
+          rw w.found-is (next_closer text c.args.first k c.args.above c.args.commit c.loop-frame.found c.number_in-page.result before c.loop-frame.auto.frame page_is closer.0 closer.1)
+      | else-is_closer w ↦
+          rw w.found-is (next_same text c.args.first k c.args.above c.args.commit c.loop-frame.found before
+          (λ near. let no = c.is_closer.ensures.1 (rw page_is near) in absurd (cc (no, w.if-is_closer.false))))
+    ]
