@@ -8,6 +8,7 @@
 mod bytes;
 mod errno;
 mod memory;
+mod name;
 mod pos;
 mod sink;
 mod slice_source;
@@ -20,7 +21,8 @@ mod vec_sink;
 pub use bytes::Bytes;
 pub use errno::Errno;
 pub use memory::NoMemory;
-pub use pos::Pos;
+pub use name::{Name, NameFault};
+pub use pos::{Pos, pos_text, read_pos};
 pub use sink::Sink;
 pub use slice_source::SliceSource;
 pub use source::{Failed, Source};
@@ -28,3 +30,6 @@ pub use status::Status;
 pub use std_streams::{StdSink, StdSource};
 pub use text::Text;
 pub use vec_sink::VecSink;
+
+#[cfg(test)]
+mod tests;

@@ -1,3 +1,4 @@
 pub mod Applying
 pub mod Changes
+pub mod Laws
 pub mod Tables

@@ -1,7 +1,7 @@
 -- The entries of a hash table, as the finite map that they stand for.
-use Rattle.std.proofs.Common.{◌≡◌, ℕ, Bool, cond, Option, Some, None, List, [], ◌∷◌, refl, sym, ap, ◌∙◌, subst, leb, arith}
+use Rattle.std.proofs.Common.{◌≡◌, ℕ, length, false, Bool, cond, Option, Some, None, List, [], ◌∷◌, refl, sym, ap, ◌∙◌, subst, leb, arith}
 use Rattle.std.specs.Prelude.{nat_eq, IsSomeAnd}
-use Rattle.std.specs.List.{filter}
+use Rattle.std.specs.List.{filter, IsDistinct, AllByRecursion}
 use Rattle.std.specs.Ordering.{nat_cmp}
 use Rattle.std.specs.Cmp.{nat_cmp_total, unsigned_tied}
 use Rattle.std.specs.FinMap as map
@@ -9,7 +9,7 @@ use Rattle.std.specs.declared.cmp.Ordering.TheVariants.{Equal}
 use Rattle.std.proofs.lemmas.Bool.Decides.{nat_tests}
 use Rattle.std.specs.FinMap.{find, get-from_entries, get-insert, get-retain_keys, same_map, nat_cmp-IsAntisymmetric}
 use Rattle.std.specs.FinMap.Entries.{find-where_key}
-use Rattle.std.specs.Map.{lookup}
+use Rattle.std.specs.Map.{lookup, keys_of}
 use Rattle.lf_sqlite_pages.specs.Table.{map_of}
 
 -- an entry of a table of pages
@@ -70,3 +70,16 @@ pub standing_missing : (es : List Entry) (n : ℕ) (P : List ℕ → Type 0) →
 standing_missing es n P known missing =
     let Q : Option (List ℕ) → Type 0 = λ o. IsSomeAnd o P in
     subst Q (get-map_of es n ∙ sym missing) known
+
+-- a number that is no key of a table has no page there
+lookup-no_key : (n : ℕ) (es : List Entry) → AllByRecursion (λ k. nat_eq n k ≡ false) (keys_of es) → lookup (nat_eq n) es ≡ None
+lookup-no_key n [] apart = refl
+lookup-no_key n (e ∷ es) apart = rw apart.0 (lookup-no_key n es apart.1)
+
+-- a table whose keys differ has as many entries as its map has pages
+pub len-map_of : (es : List Entry) → IsDistinct nat_eq (keys_of es) → map.len (map_of es) ≡ length es
+unfolding IsDistinct
+len-map_of [] distinct = map.len-empty nat_cmp (List ℕ)
+len-map_of (e ∷ es) distinct =
+    let absent : map.get (map_of es) e.0 ≡ None = get-map_of es e.0 ∙ lookup-no_key e.0 es distinct.0 in
+    map.len-insert nat_cmp_total (map_of es) e.0 e.1 ∙ rw (absent, len-map_of es distinct.1) (omega arith)

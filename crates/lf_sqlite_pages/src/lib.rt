@@ -14,6 +14,8 @@ mod page_store;
 mod page_write;
 mod pages;
 mod table;
+#[cfg(test)]
+mod tests;
 
 pub use change::Change;
 pub use header::{is_wal, page_size_of};

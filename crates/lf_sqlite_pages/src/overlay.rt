@@ -1,4 +1,4 @@
-ghost use Rattle.std.specs.Prelude.{◌≡◌, length, OnOk, OnErr};
+ghost use Rattle.std.specs.Prelude.{◌≡◌, ◌↔◌, IsTrue, length, OnOk, OnErr};
 ghost use Rattle.std.specs.Option.{option_copied};
 ghost use Rattle.std.specs.FinMap as map;
 ghost use Rattle.lf_sqlite_pages.specs.Overlay.{HasRoom, empty_overlay, reserved, stands_whole, with_page_at, cut_to, cleared};
@@ -74,6 +74,27 @@ impl Overlay {
         ensures { option_copied result ≡ map.get self.now.pages n }
     {
         table::page_at(&self.pages, n)
+    }
+
+    /// How many pages are kept here.
+    pub fn len(&self) -> usize
+        ensures { result ≡ map.len self.now.pages }
+    {
+        table::len(&self.pages)
+    }
+
+    /// Whether none is kept here.
+    pub fn is_empty(&self) -> bool
+        ensures { IsTrue result ↔ (map.len self.now.pages ≡ 0) }
+    {
+        table::len(&self.pages) == 0
+    }
+
+    /// Whether page `n` can be put without memory.
+    pub fn has_room(&self, n: u32) -> bool
+        ensures { IsTrue result ↔ HasRoom self.now n }
+    {
+        self.stands_whole(n) || !self.spare.is_empty()
     }
 
     fn stands_whole(&self, n: u32) -> bool

@@ -21,6 +21,13 @@ pub fn page_at(table: &Table, n: u32) -> Option<&[u8]>
     }
 }
 
+/// How many pages there are.
+pub fn len(table: &Table) -> usize
+    ensures { result ≡ map.len (map_of table.now.entries) }
+{
+    table.len()
+}
+
 /// Reserves room for `count` more pages.
 pub fn reserve(table: &mut Table, count: usize) -> Result<(), NoMemory>
     ensures pages { map_of table.new.entries ≡ map_of table.old.entries }

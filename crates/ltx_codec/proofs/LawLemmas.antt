@@ -22,17 +22,18 @@ splits_alike a b x y len same =
 pub header_again : (h : Header) (reserved rest : List ℕ) → FitsWidths h → header_in (header_text h reserved ++ rest) ≡ h
 unfolding four_at eight_at
 header_again h reserved rest fits = rw (
-    from_be_bytes-to_be_bytes_4 h.page_size fits.page_size,
-    from_be_bytes-to_be_bytes_4 h.commit fits.commit,
-    from_be_bytes-to_be_bytes_8 h.min fits.min,
-    from_be_bytes-to_be_bytes_8 h.max fits.max,
-    from_be_bytes-to_be_bytes_8 h.stamp fits.stamp,
-    from_be_bytes-to_be_bytes_8 h.pre fits.pre,
-    from_be_bytes-to_be_bytes_8 h.wal_offset fits.wal_offset,
-    from_be_bytes-to_be_bytes_8 h.wal_size fits.wal_size,
-    from_be_bytes-to_be_bytes_4 h.wal_salt1 fits.wal_salt1,
-    from_be_bytes-to_be_bytes_4 h.wal_salt2 fits.wal_salt2,
-    from_be_bytes-to_be_bytes_8 h.node fits.node) refl
+  from_be_bytes-to_be_bytes_4 h.page_size fits.page_size,
+  from_be_bytes-to_be_bytes_4 h.commit fits.commit,
+  from_be_bytes-to_be_bytes_8 h.min fits.min,
+  from_be_bytes-to_be_bytes_8 h.max fits.max,
+  from_be_bytes-to_be_bytes_8 h.stamp fits.stamp,
+  from_be_bytes-to_be_bytes_8 h.pre fits.pre,
+  from_be_bytes-to_be_bytes_8 h.wal_offset fits.wal_offset,
+  from_be_bytes-to_be_bytes_8 h.wal_size fits.wal_size,
+  from_be_bytes-to_be_bytes_4 h.wal_salt1 fits.wal_salt1,
+  from_be_bytes-to_be_bytes_4 h.wal_salt2 fits.wal_salt2,
+  from_be_bytes-to_be_bytes_8 h.node fits.node,
+) refl
 
 -- a page's text is longer than nothing: its number isn't the 0 that ends a block
 number_again : (n : ℕ) (rest : List ℕ) → n < 2 ^ 32 → from_be_bytes w32 (take 4 (to_be_bytes w32 n ++ rest)) ≡ n
@@ -57,12 +58,12 @@ pages_alike : (size p q : ℕ) (vs ws : List PageWrite) (x y : List ℕ) → Are
 pages_alike size p q [] [] x y hv hw same = (refl, append_cancel_left (to_be_bytes w32 0) x y same)
 pages_alike size p q [] (w ∷ ws) x y hv hw same =
     let number : from_be_bytes w32 (take 4 (to_be_bytes w32 0 ++ x)) ≡ from_be_bytes w32 (take 4 (to_be_bytes w32 w.number ++ (w.bytes ++ pages_text ws ++ (to_be_bytes w32 0 ++ y)))) =
-        ap (λ (l : List ℕ). from_be_bytes w32 (take 4 l)) same in
+    ap (λ (l : List ℕ). from_be_bytes w32 (take 4 l)) same in
     let zero-is : 0 ≡ w.number = sym (number_again 0 x (omega arith)) ∙ number ∙ number_again w.number (w.bytes ++ pages_text ws ++ (to_be_bytes w32 0 ++ y)) (All-head (λ (v : PageWrite). v.number < 2 ^ 32) w ws hw.small) in
     absurd (omega (arith, hw.ascends.0, zero-is))
 pages_alike size p q (v ∷ vs) [] x y hv hw same =
     let number : from_be_bytes w32 (take 4 (to_be_bytes w32 v.number ++ (v.bytes ++ pages_text vs ++ (to_be_bytes w32 0 ++ x)))) ≡ from_be_bytes w32 (take 4 (to_be_bytes w32 0 ++ y)) =
-        ap (λ (l : List ℕ). from_be_bytes w32 (take 4 l)) same in
+    ap (λ (l : List ℕ). from_be_bytes w32 (take 4 l)) same in
     let zero-is : v.number ≡ 0 = sym (number_again v.number (v.bytes ++ pages_text vs ++ (to_be_bytes w32 0 ++ x)) (All-head (λ (u : PageWrite). u.number < 2 ^ 32) v vs hv.small)) ∙ number ∙ number_again 0 y (omega arith) in
     absurd (omega (arith, hv.ascends.0, zero-is))
 pages_alike size p q (v ∷ vs) (w ∷ ws) x y hv hw same =
@@ -71,12 +72,12 @@ pages_alike size p q (v ∷ vs) (w ∷ ws) x y hv hw same =
     let numbers : to_be_bytes w32 v.number ++ left ≡ to_be_bytes w32 w.number ++ right = same in
     let number_text = splits_alike (to_be_bytes w32 v.number) (to_be_bytes w32 w.number) left right refl numbers in
     let number : v.number ≡ w.number =
-        sym (from_be_bytes-to_be_bytes_4 v.number (All-head (λ (u : PageWrite). u.number < 2 ^ 32) v vs hv.small))
-        ∙ ap (λ (l : List ℕ). from_be_bytes w32 l) number_text.0
-        ∙ from_be_bytes-to_be_bytes_4 w.number (All-head (λ (u : PageWrite). u.number < 2 ^ 32) w ws hw.small) in
+    sym (from_be_bytes-to_be_bytes_4 v.number (All-head (λ (u : PageWrite). u.number < 2 ^ 32) v vs hv.small))
+    ∙ ap (λ (l : List ℕ). from_be_bytes w32 l) number_text.0
+    ∙ from_be_bytes-to_be_bytes_4 w.number (All-head (λ (u : PageWrite). u.number < 2 ^ 32) w ws hw.small) in
     let len : length v.bytes ≡ length w.bytes = All-head (λ (u : PageWrite). length u.bytes ≡ size) v vs hv.whole ∙ sym (All-head (λ (u : PageWrite). length u.bytes ≡ size) w ws hw.whole) in
     let pages : v.bytes ++ (pages_text vs ++ (to_be_bytes w32 0 ++ x)) ≡ w.bytes ++ (pages_text ws ++ (to_be_bytes w32 0 ++ y)) =
-        sym (append_assoc v.bytes (pages_text vs) (to_be_bytes w32 0 ++ x)) ∙ number_text.1 ∙ append_assoc w.bytes (pages_text ws) (to_be_bytes w32 0 ++ y) in
+    sym (append_assoc v.bytes (pages_text vs) (to_be_bytes w32 0 ++ x)) ∙ number_text.1 ∙ append_assoc w.bytes (pages_text ws) (to_be_bytes w32 0 ++ y) in
     let page = splits_alike v.bytes w.bytes _ _ len pages in
     let more = pages_alike size v.number w.number vs ws x y (tail_whole size p v vs hv) (tail_whole size q w ws hw) page.1 in
     let one : v ≡ w = ap (λ (n : ℕ). record { number = n; bytes = v.bytes }) number ∙ ap (λ (b : List ℕ). record { number = w.number; bytes = b }) page.0 in
@@ -90,9 +91,9 @@ file_whole file valid =
     record {
       ascends = block.pages.ascending;
       small = All-weaker (λ (w : PageWrite). w.number ≤ file.change.commit) (λ (w : PageWrite). w.number < 2 ^ 32)
-        (λ (w : PageWrite) (le : w.number ≤ file.change.commit). omega (arith, le, commit)) file.change.pages block.pages.within;
+          (λ (w : PageWrite) (le : w.number ≤ file.change.commit). omega (arith, le, commit)) file.change.pages block.pages.within;
       whole = All-weaker (λ (w : PageWrite). length w.bytes ≡ file.change.page_size) (λ (w : PageWrite). length w.bytes ≡ file.header.page_size)
-        (λ (w : PageWrite) (len : length w.bytes ≡ file.change.page_size). len ∙ block.page_size) file.change.pages block.pages.whole;
+          (λ (w : PageWrite) (len : length w.bytes ≡ file.change.page_size). len ∙ block.page_size) file.change.pages block.pages.whole;
     }
 
 regroup : (a b c d e x : List ℕ) → ((((a ++ b) ++ c) ++ d) ++ e) ++ x ≡ a ++ (b ++ (c ++ (d ++ (e ++ x))))
@@ -126,19 +127,19 @@ read_alike : (a b : Ltx) (r s x y : List ℕ) → IsFile a → IsFile b → leng
     → file_text a r ++ x ≡ file_text b s ++ y → (a ≡ b) × (r ≡ s)
 read_alike a b r s x y va vb ra sb same =
     let heads = splits_alike (header_text a.header r) (header_text b.header s) _ _ (header_length a.header r ra ∙ sym (header_length b.header s sb))
-        (sym (parts a r x) ∙ same ∙ parts b s y) in
+    (sym (parts a r x) ∙ same ∙ parts b s y) in
     let header : a.header ≡ b.header = sym (header_again a.header r [] va.header.widths)
-        ∙ ap (λ (l : List ℕ). header_in (l ++ [])) heads.0 ∙ header_again b.header s [] vb.header.widths in
+    ∙ ap (λ (l : List ℕ). header_in (l ++ [])) heads.0 ∙ header_again b.header s [] vb.header.widths in
     let reserved : r ≡ s = ap (λ (l : List ℕ). drop 80 l) heads.0 in
     let size : b.header.page_size ≡ a.header.page_size = ap (λ (h : Header). h.page_size) (sym header) in
     let whole : AreWhole a.header.page_size 0 b.change.pages = subst (λ (n : ℕ). AreWhole n 0 b.change.pages) size (file_whole b vb) in
     let blocks = pages_alike a.header.page_size 0 0 a.change.pages b.change.pages _ _ (file_whole a va) whole heads.1 in
     let sums = splits_alike (to_be_bytes w64 a.post) (to_be_bytes w64 b.post) _ _ refl blocks.1 in
     let post : a.post ≡ b.post = sym (from_be_bytes-to_be_bytes_8 a.post va.post.width)
-        ∙ ap (λ (l : List ℕ). from_be_bytes w64 l) sums.0 ∙ from_be_bytes-to_be_bytes_8 b.post vb.post.width in
+    ∙ ap (λ (l : List ℕ). from_be_bytes w64 l) sums.0 ∙ from_be_bytes-to_be_bytes_8 b.post vb.post.width in
     let change = change_alike a.change b.change
-        (va.block.page_size ∙ ap (λ (h : Header). h.page_size) header ∙ sym vb.block.page_size)
-        (va.block.commit ∙ ap (λ (h : Header). h.commit) header ∙ sym vb.block.commit) blocks.0 in
+    (va.block.page_size ∙ ap (λ (h : Header). h.page_size) header ∙ sym vb.block.page_size)
+    (va.block.commit ∙ ap (λ (h : Header). h.commit) header ∙ sym vb.block.commit) blocks.0 in
     (file_alike a b header change post, reserved)
 
 -- a text has one reading
@@ -146,6 +147,6 @@ pub one_reading_lem : (text other rest more : List ℕ) (file second : Ltx) → 
     → text ++ rest ≡ other ++ more → (text ≡ other) × (file ≡ second)
 one_reading_lem text other rest more file second is also same =
     let joined : file_text file is.reserved ++ rest ≡ file_text second also.reserved ++ more =
-        ap (λ (l : List ℕ). l ++ rest) (sym is.text) ∙ same ∙ ap (λ (l : List ℕ). l ++ more) also.text in
+    ap (λ (l : List ℕ). l ++ rest) (sym is.text) ∙ same ∙ ap (λ (l : List ℕ). l ++ more) also.text in
     let both = read_alike file second is.reserved also.reserved rest more is.valid also.valid is.room also.room joined in
     (is.text ∙ ap (λ (f : Ltx). file_text f is.reserved) both.0 ∙ ap (λ (r : List ℕ). file_text second r) both.1 ∙ sym also.text, both.0)

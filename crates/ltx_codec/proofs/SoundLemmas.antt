@@ -68,91 +68,94 @@ pub record IsSoundToEnd (bytes : List ℕ) (k : ℕ) (front more : List ℕ) : T
 module _ (bytes : List ℕ) where
   end_here : (prev k : ℕ) (front more : List ℕ) → IsSoundTo bytes prev k [] front more → IsSoundToEnd bytes k front more
   end_here prev k front more h =
-    let ends : number_at bytes k ≡ 0 = four_here (number_place bytes k) bytes front more 0 h.split h.place (omega arith) in
-    let len : length bytes ≡ length front + length (to_be_bytes w32 0 ++ more) = ap length h.split ∙ length-append front (to_be_bytes w32 0 ++ more) in
-    record {
-      split = h.split;
-      place = h.place;
-      pages = h.pages;
-      sound = h.sound;
-      number = record {
-        there = omega (arith, len, h.place);
-        ascends = λ more_pages. absurd (more_pages ends);
-        within = omega (arith, ends);
-        follows = λ snapshot more_pages. absurd (more_pages ends);
-        complete = λ snapshot zero-is.
-          let c = h.continues snapshot in
-          let none : c.0 ≡ 0 = sym (length-range_with_len (prev + 1) c.0) ∙ ap length (sym c.2) in
-          omega (arith, h.before, c.1, none);
-      };
-      ends = ends;
-    }
+      let ends : number_at bytes k ≡ 0 = four_here (number_place bytes k) bytes front more 0 h.split h.place (omega arith) in
+      let len : length bytes ≡ length front + length (to_be_bytes w32 0 ++ more) = ap length h.split ∙ length-append front (to_be_bytes w32 0 ++ more) in
+      record {
+        split = h.split;
+        place = h.place;
+        pages = h.pages;
+        sound = h.sound;
+        number = record {
+          there = omega (arith, len, h.place);
+          ascends = λ more_pages. absurd (more_pages ends);
+          within = omega (arith, ends);
+          follows = λ snapshot more_pages. absurd (more_pages ends);
+          complete = λ snapshot zero-is.
+              let c = h.continues snapshot in
+              let none : c.0 ≡ 0 = sym (length-range_with_len (prev + 1) c.0) ∙ ap length (sym c.2) in
+              omega (arith, h.before, c.1, none);
+        };
+        ends = ends;
+      }
 
   -- a snapshot's next page is the one that follows
   next_continues : (prev : ℕ) (w : PageWrite) (ws : List PageWrite) → Continues bytes prev (w ∷ ws) → eight_at 16 bytes ≡ 1
-    → (w.number ≡ prev + 1) × ((left : ℕ) × (four_at 12 bytes ≡ w.number + left) × (map (λ (v : PageWrite). v.number) ws ≡ range_with_len (w.number + 1) left))
+      → (w.number ≡ prev + 1) × ((left : ℕ) × (four_at 12 bytes ≡ w.number + left) × (map (λ (v : PageWrite). v.number) ws ≡ range_with_len (w.number + 1) left))
   next_continues prev w ws continues snapshot = by_left (continues snapshot).0 (continues snapshot).1 (continues snapshot).2
     where
       by_left : (left : ℕ) → four_at 12 bytes ≡ prev + left → map (λ (v : PageWrite). v.number) (w ∷ ws) ≡ range_with_len (prev + 1) left
-        → (w.number ≡ prev + 1) × ((rest : ℕ) × (four_at 12 bytes ≡ w.number + rest) × (map (λ (v : PageWrite). v.number) ws ≡ range_with_len (w.number + 1) rest))
+          → (w.number ≡ prev + 1) × ((rest : ℕ) × (four_at 12 bytes ≡ w.number + rest) × (map (λ (v : PageWrite). v.number) ws ≡ range_with_len (w.number + 1) rest))
       by_left zero count same = absurd cc
       by_left (suc left) count same =
-        let first : w.number ≡ prev + 1 = cc in
-        let others : map (λ (v : PageWrite). v.number) ws ≡ range_with_len (prev + 1 + 1) left = cc in
-        (first, (left, omega (arith, count, first), others ∙ ap (λ (n : ℕ). range_with_len (n + 1) left) (sym first)))
+          let first : w.number ≡ prev + 1 = cc in
+          let others : map (λ (v : PageWrite). v.number) ws ≡ range_with_len (prev + 1 + 1) left = cc in
+          (first, (left, omega (arith, count, first), others ∙ ap (λ (n : ℕ). range_with_len (n + 1) left) (sym first)))
 
   page_here : (prev k : ℕ) (w : PageWrite) (ws : List PageWrite) (front more : List ℕ) → IsSoundTo bytes prev k (w ∷ ws) front more
-    → (number_at bytes k ≡ w.number) × (page_in bytes k ≡ w.bytes) × IsSoundTo bytes w.number (k + 1) ws (front ++ to_be_bytes w32 w.number ++ w.bytes) more
+      → (number_at bytes k ≡ w.number) × (page_in bytes k ≡ w.bytes) × IsSoundTo bytes w.number (k + 1) ws (front ++ to_be_bytes w32 w.number ++ w.bytes) more
   page_here prev k w ws front more h =
-    let behind : List ℕ = pages_text ws ++ (to_be_bytes w32 0 ++ more) in
-    let size : length w.bytes ≡ four_at 8 bytes = All-head (λ (v : PageWrite). length v.bytes ≡ four_at 8 bytes) w ws h.whole.whole in
-    let small : w.number < 2 ^ 32 = All-head (λ (v : PageWrite). v.number < 2 ^ 32) w ws h.whole.small in
-    let at_number : bytes ≡ front ++ (to_be_bytes w32 w.number ++ (w.bytes ++ behind)) =
-        h.split ∙ ap (λ (l : List ℕ). front ++ (to_be_bytes w32 w.number ++ l)) (append_assoc w.bytes (pages_text ws) (to_be_bytes w32 0 ++ more)) in
-    let at_page : bytes ≡ (front ++ to_be_bytes w32 w.number) ++ (w.bytes ++ behind) =
-        at_number ∙ sym (append_assoc front (to_be_bytes w32 w.number) (w.bytes ++ behind)) in
-    let after : bytes ≡ (front ++ to_be_bytes w32 w.number ++ w.bytes) ++ behind =
-        at_page ∙ sym (append_assoc (front ++ to_be_bytes w32 w.number) w.bytes behind) in
-    let number : number_at bytes k ≡ w.number = four_here (number_place bytes k) bytes front (w.bytes ++ behind) w.number at_number h.place small in
-    let page_place : length (front ++ to_be_bytes w32 w.number) ≡ number_place bytes k + 4 =
-        length-append front (to_be_bytes w32 w.number) ∙ ap (λ (n : ℕ). n + 4) h.place in
-    let page : page_in bytes k ≡ w.bytes =
-        ap (λ (l : List ℕ). take (four_at 8 bytes) l) (ap (λ (l : List ℕ). drop (number_place bytes k + 4) l) at_page ∙ drop_at (front ++ to_be_bytes w32 w.number) (w.bytes ++ behind) (number_place bytes k + 4) page_place)
-        ∙ take_at w.bytes behind (four_at 8 bytes) size in
-    let next_at : length (front ++ to_be_bytes w32 w.number ++ w.bytes) ≡ number_place bytes (k + 1) =
-        let both = length-append (front ++ to_be_bytes w32 w.number) w.bytes in
-        omega (arith, both, page_place, size, next_place bytes k) in
-    let len : length bytes ≡ length (front ++ to_be_bytes w32 w.number ++ w.bytes) + length behind =
-        ap length after ∙ length-append (front ++ to_be_bytes w32 w.number ++ w.bytes) behind in
-    let room : number_place bytes (k + 1) ≤ length bytes = omega (arith, len, next_at) in
-    let above : prev < w.number = h.whole.ascends.0 in
-    let more_pages : number_at bytes k ≢ 0 = λ zero-is. omega (arith, number, zero-is, above) in
-    let next_number : IsNextNumber bytes k = record {
+      let behind : List ℕ = pages_text ws ++ (to_be_bytes w32 0 ++ more) in
+      let size : length w.bytes ≡ four_at 8 bytes = All-head (λ (v : PageWrite). length v.bytes ≡ four_at 8 bytes) w ws h.whole.whole in
+      let small : w.number < 2 ^ 32 = All-head (λ (v : PageWrite). v.number < 2 ^ 32) w ws h.whole.small in
+      let at_number : bytes ≡ front ++ (to_be_bytes w32 w.number ++ (w.bytes ++ behind)) =
+      h.split ∙ ap (λ (l : List ℕ). front ++ (to_be_bytes w32 w.number ++ l)) (append_assoc w.bytes (pages_text ws) (to_be_bytes w32 0 ++ more)) in
+      let at_page : bytes ≡ (front ++ to_be_bytes w32 w.number) ++ (w.bytes ++ behind) =
+      at_number ∙ sym (append_assoc front (to_be_bytes w32 w.number) (w.bytes ++ behind)) in
+      let after : bytes ≡ (front ++ to_be_bytes w32 w.number ++ w.bytes) ++ behind =
+      at_page ∙ sym (append_assoc (front ++ to_be_bytes w32 w.number) w.bytes behind) in
+      let number : number_at bytes k ≡ w.number = four_here (number_place bytes k) bytes front (w.bytes ++ behind) w.number at_number h.place small in
+      let page_place : length (front ++ to_be_bytes w32 w.number) ≡ number_place bytes k + 4 =
+      length-append front (to_be_bytes w32 w.number) ∙ ap (λ (n : ℕ). n + 4) h.place in
+      let page : page_in bytes k ≡ w.bytes =
+      ap (λ (l : List ℕ). take (four_at 8 bytes) l) (ap (λ (l : List ℕ). drop (number_place bytes k + 4) l) at_page ∙ drop_at (front ++ to_be_bytes w32 w.number) (w.bytes ++ behind) (number_place bytes k + 4) page_place)
+      ∙ take_at w.bytes behind (four_at 8 bytes) size in
+      let next_at : length (front ++ to_be_bytes w32 w.number ++ w.bytes) ≡ number_place bytes (k + 1) =
+      let both = length-append (front ++ to_be_bytes w32 w.number) w.bytes in
+      omega (arith, both, page_place, size, next_place bytes k) in
+      let len : length bytes ≡ length (front ++ to_be_bytes w32 w.number ++ w.bytes) + length behind =
+      ap length after ∙ length-append (front ++ to_be_bytes w32 w.number ++ w.bytes) behind in
+      let room : number_place bytes (k + 1) ≤ length bytes = omega (arith, len, next_at) in
+      let above : prev < w.number = h.whole.ascends.0 in
+      let more_pages : number_at bytes k ≢ 0 = λ zero-is. omega (arith, number, zero-is, above) in
+      let next_number : IsNextNumber bytes k = record {
         there = omega (arith, room, next_place bytes k);
         ascends = λ _. omega (arith, number, h.before, above);
         within = rw number (All-head (λ (v : PageWrite). v.number ≤ four_at 12 bytes) w ws h.within);
         follows = λ snapshot _. omega (arith, number, h.before, (next_continues prev w ws h.continues snapshot).0);
         complete = λ snapshot zero-is. absurd (more_pages zero-is);
-      } in
-    (number, page, record {
-      split = after;
-      place = next_at;
-      before = before_more bytes k ∙ number;
-      pages = below_more (λ j. number_at bytes j ≢ 0) k h.pages more_pages;
-      sound = past_page bytes k h.pages h.sound next_number more_pages room;
-      whole = tail_whole (four_at 8 bytes) prev w ws h.whole;
-      within = All-tail (λ (v : PageWrite). v.number ≤ four_at 12 bytes) w ws h.within;
-      continues = λ snapshot. (next_continues prev w ws h.continues snapshot).1;
-    })
+      } in (
+        number,
+        page,
+        record {
+          split = after;
+          place = next_at;
+          before = before_more bytes k ∙ number;
+          pages = below_more (λ j. number_at bytes j ≢ 0) k h.pages more_pages;
+          sound = past_page bytes k h.pages h.sound next_number more_pages room;
+          whole = tail_whole (four_at 8 bytes) prev w ws h.whole;
+          within = All-tail (λ (v : PageWrite). v.number ≤ four_at 12 bytes) w ws h.within;
+          continues = λ snapshot. (next_continues prev w ws h.continues snapshot).1;
+        },
+      )
 
   -- to the end of the block, and the pages on the way
   walk : (ws : List PageWrite) (prev k : ℕ) (front more : List ℕ) → IsSoundTo bytes prev k ws front more
-    → (end : ℕ) × (end ≡ k + length ws) × (map (page_in bytes) (range_with_len k (length ws)) ≡ map (λ (w : PageWrite). w.bytes) ws) × ((reached : List ℕ) × IsSoundToEnd bytes end reached more)
+      → (end : ℕ) × (end ≡ k + length ws) × (map (page_in bytes) (range_with_len k (length ws)) ≡ map (λ (w : PageWrite). w.bytes) ws) × ((reached : List ℕ) × IsSoundToEnd bytes end reached more)
   walk [] prev k front more h = (k, omega arith, refl, (front, end_here prev k front more h))
   walk (w ∷ ws) prev k front more h =
-    let here = page_here prev k w ws front more h in
-    let there = walk ws w.number (k + 1) (front ++ to_be_bytes w32 w.number ++ w.bytes) more here.2 in
-    (there.0, omega (arith, there.1), ap (λ (p : List ℕ). p ∷ map (page_in bytes) (range_with_len (k + 1) (length ws))) here.1 ∙ ap (λ (l : List (List ℕ)). w.bytes ∷ l) there.2, there.3)
+      let here = page_here prev k w ws front more h in
+      let there = walk ws w.number (k + 1) (front ++ to_be_bytes w32 w.number ++ w.bytes) more here.2 in
+      (there.0, omega (arith, there.1), ap (λ (p : List ℕ). p ∷ map (page_in bytes) (range_with_len (k + 1) (length ws))) here.1 ∙ ap (λ (l : List (List ℕ)). w.bytes ∷ l) there.2, there.3)
 
 AreBytes-front : (front rest : List ℕ) → AreBytes (front ++ rest) → AreBytes front
 AreBytes-front front rest fits i =
@@ -203,68 +206,68 @@ module _ (file : Ltx) (reserved rest bytes : List ℕ) (valid : IsFile file) (re
   -- the text is sound up to the block
   to_block : IsSoundTo bytes 0 0 file.change.pages (header_text file.header reserved) (to_be_bytes w64 file.post ++ (to_be_bytes w64 (file_sum (summed_text file reserved)) ++ rest))
   to_block =
-    let head : length (header_text file.header reserved) ≡ 100 = header_length file.header reserved reserved_room in
-    let first : number_place bytes 0 ≡ 100 = omega arith in
-    let len : length bytes ≡ length (header_text file.header reserved) + length (pages_text file.change.pages ++ (to_be_bytes w32 0 ++ (to_be_bytes w64 file.post ++ (to_be_bytes w64 (file_sum (summed_text file reserved)) ++ rest)))) =
-        ap length split ∙ length-append (header_text file.header reserved) _ in
-    let room : 100 ≤ length bytes = omega (arith, len, head) in
-    let before : IsSoundBefore bytes 101 = sound_fields bytes 100 fields_sound (omega arith) room in
-    let start : 101 ≡ number_place bytes 0 + 1 = omega arith in
-    record {
-      split = split;
-      place = head ∙ sym first;
-      before = refl;
-      pages = λ j below. absurd (omega (arith, below));
-      sound = subst (λ (n : ℕ). IsSoundBefore bytes n) start before;
-      whole = subst (λ (n : ℕ). AreWhole n 0 file.change.pages) (sym page_size_is) (file_whole file valid);
-      within = All-weaker (λ (w : PageWrite). w.number ≤ file.change.commit) (λ (w : PageWrite). w.number ≤ four_at 12 bytes)
-        (λ (w : PageWrite) (le : w.number ≤ file.change.commit). omega (arith, le, commit_is, valid.block.commit)) file.change.pages valid.block.pages.within;
-      continues = λ snapshot. (file.change.commit, omega (arith, commit_is, valid.block.commit), valid.block.snapshot_pages (sym min_is ∙ snapshot));
-    }
+      let head : length (header_text file.header reserved) ≡ 100 = header_length file.header reserved reserved_room in
+      let first : number_place bytes 0 ≡ 100 = omega arith in
+      let len : length bytes ≡ length (header_text file.header reserved) + length (pages_text file.change.pages ++ (to_be_bytes w32 0 ++ (to_be_bytes w64 file.post ++ (to_be_bytes w64 (file_sum (summed_text file reserved)) ++ rest)))) =
+      ap length split ∙ length-append (header_text file.header reserved) _ in
+      let room : 100 ≤ length bytes = omega (arith, len, head) in
+      let before : IsSoundBefore bytes 101 = sound_fields bytes 100 fields_sound (omega arith) room in
+      let start : 101 ≡ number_place bytes 0 + 1 = omega arith in
+      record {
+        split = split;
+        place = head ∙ sym first;
+        before = refl;
+        pages = λ j below. absurd (omega (arith, below));
+        sound = subst (λ (n : ℕ). IsSoundBefore bytes n) start before;
+        whole = subst (λ (n : ℕ). AreWhole n 0 file.change.pages) (sym page_size_is) (file_whole file valid);
+        within = All-weaker (λ (w : PageWrite). w.number ≤ file.change.commit) (λ (w : PageWrite). w.number ≤ four_at 12 bytes)
+            (λ (w : PageWrite) (le : w.number ≤ file.change.commit). omega (arith, le, commit_is, valid.block.commit)) file.change.pages valid.block.pages.within;
+        continues = λ snapshot. (file.change.commit, omega (arith, commit_is, valid.block.commit), valid.block.snapshot_pages (sym min_is ∙ snapshot));
+      }
 
   -- what breaks a rule stands behind the text
   breaks_behind : (f : LtxFault) (q : ℕ) → IsBroken bytes f q → (f ≡ fault.Tail) × (length (file_text file reserved) < q)
   breaks_behind f q broken =
-    let post_text : List ℕ = to_be_bytes w64 file.post in
-    let seal : List ℕ = to_be_bytes w64 (file_sum (summed_text file reserved)) in
-    let front : List ℕ = header_text file.header reserved ++ pages_text file.change.pages in
-    let walked = walk bytes file.change.pages 0 0 (header_text file.header reserved) (to_be_bytes w64 file.post ++ (to_be_bytes w64 (file_sum (summed_text file reserved)) ++ rest)) to_block in
-    let k = walked.0 in
-    let e = walked.3.1 in
-    let place = number_place bytes k in
-    let front_split : bytes ≡ front ++ (to_be_bytes w32 0 ++ (post_text ++ (seal ++ rest))) =
-        split ∙ sym (append_assoc (header_text file.header reserved) (pages_text file.change.pages) (to_be_bytes w32 0 ++ (post_text ++ (seal ++ rest)))) in
-    let same_front : walked.3.0 ≡ front = append_cancel_right walked.3.0 front (to_be_bytes w32 0 ++ (post_text ++ (seal ++ rest))) (sym e.split ∙ front_split) in
-    let front_place : length front ≡ place = ap length (sym same_front) ∙ e.place in
-    let post_place : length (front ++ to_be_bytes w32 0) ≡ place + 4 = length-append front (to_be_bytes w32 0) ∙ ap (λ (n : ℕ). n + 4) front_place in
-    let post_split : bytes ≡ (front ++ to_be_bytes w32 0) ++ (post_text ++ (seal ++ rest)) =
-        front_split ∙ sym (append_assoc front (to_be_bytes w32 0) (post_text ++ (seal ++ rest))) in
-    let post_is : eight_at (place + 4) bytes ≡ file.post = eight_here (place + 4) bytes (front ++ to_be_bytes w32 0) (seal ++ rest) file.post post_split post_place valid.post.width in
-    let seal_place : length (summed_text file reserved) ≡ place + 12 =
-        let both = length-append (front ++ to_be_bytes w32 0) post_text in
-        omega (arith, both, post_place) in
-    let seal_split : bytes ≡ summed_text file reserved ++ (seal ++ rest) =
-        post_split ∙ sym (append_assoc (front ++ to_be_bytes w32 0) post_text (seal ++ rest)) in
-    let summed_fits : AreBytes (summed_text file reserved) = AreBytes-front (summed_text file reserved) (seal ++ rest) (subst AreBytes seal_split fits) in
-    let seal_is : eight_at (place + 12) bytes ≡ file_sum (summed_text file reserved) =
-        eight_here (place + 12) bytes (summed_text file reserved) rest (file_sum (summed_text file reserved)) seal_split seal_place (file_sum_fits (summed_text file reserved) summed_fits) in
-    let summed : take (place + 12) bytes ≡ summed_text file reserved =
-        ap (λ (l : List ℕ). take (place + 12) l) seal_split ∙ take_at (summed_text file reserved) (seal ++ rest) (place + 12) seal_place in
-    let end_is : k ≡ length file.change.pages = omega (arith, walked.1) in
-    let contents : map (page_in bytes) (range_with_len 0 k) ≡ map (λ (w : PageWrite). w.bytes) file.change.pages =
-        ap (λ (n : ℕ). map (page_in bytes) (range_with_len 0 n)) end_is ∙ walked.2 in
-    let right : IsWrongSum bytes k (eight_at (place + 4) bytes) → ⊥ = λ (wrong : IsWrongSum bytes k (eight_at (place + 4) bytes)). elim wrong [
-      | inl low ↦ omega (arith, low, post_is, valid.post.flagged)
-      | inr other ↦ elim other [
-        | inl empty ↦ empty.1 (post_is ∙ valid.post.empty (sym commit_is ∙ empty.0))
-        | inr snapshot ↦ snapshot.1 (post_is ∙ valid.post.snapshot (sym min_is ∙ snapshot.0) ∙ ap database_sum (sym contents))
+      let post_text : List ℕ = to_be_bytes w64 file.post in
+      let seal : List ℕ = to_be_bytes w64 (file_sum (summed_text file reserved)) in
+      let front : List ℕ = header_text file.header reserved ++ pages_text file.change.pages in
+      let walked = walk bytes file.change.pages 0 0 (header_text file.header reserved) (to_be_bytes w64 file.post ++ (to_be_bytes w64 (file_sum (summed_text file reserved)) ++ rest)) to_block in
+      let k = walked.0 in
+      let e = walked.3.1 in
+      let place = number_place bytes k in
+      let front_split : bytes ≡ front ++ (to_be_bytes w32 0 ++ (post_text ++ (seal ++ rest))) =
+      split ∙ sym (append_assoc (header_text file.header reserved) (pages_text file.change.pages) (to_be_bytes w32 0 ++ (post_text ++ (seal ++ rest)))) in
+      let same_front : walked.3.0 ≡ front = append_cancel_right walked.3.0 front (to_be_bytes w32 0 ++ (post_text ++ (seal ++ rest))) (sym e.split ∙ front_split) in
+      let front_place : length front ≡ place = ap length (sym same_front) ∙ e.place in
+      let post_place : length (front ++ to_be_bytes w32 0) ≡ place + 4 = length-append front (to_be_bytes w32 0) ∙ ap (λ (n : ℕ). n + 4) front_place in
+      let post_split : bytes ≡ (front ++ to_be_bytes w32 0) ++ (post_text ++ (seal ++ rest)) =
+      front_split ∙ sym (append_assoc front (to_be_bytes w32 0) (post_text ++ (seal ++ rest))) in
+      let post_is : eight_at (place + 4) bytes ≡ file.post = eight_here (place + 4) bytes (front ++ to_be_bytes w32 0) (seal ++ rest) file.post post_split post_place valid.post.width in
+      let seal_place : length (summed_text file reserved) ≡ place + 12 =
+      let both = length-append (front ++ to_be_bytes w32 0) post_text in
+      omega (arith, both, post_place) in
+      let seal_split : bytes ≡ summed_text file reserved ++ (seal ++ rest) =
+      post_split ∙ sym (append_assoc (front ++ to_be_bytes w32 0) post_text (seal ++ rest)) in
+      let summed_fits : AreBytes (summed_text file reserved) = AreBytes-front (summed_text file reserved) (seal ++ rest) (subst AreBytes seal_split fits) in
+      let seal_is : eight_at (place + 12) bytes ≡ file_sum (summed_text file reserved) =
+      eight_here (place + 12) bytes (summed_text file reserved) rest (file_sum (summed_text file reserved)) seal_split seal_place (file_sum_fits (summed_text file reserved) summed_fits) in
+      let summed : take (place + 12) bytes ≡ summed_text file reserved =
+      ap (λ (l : List ℕ). take (place + 12) l) seal_split ∙ take_at (summed_text file reserved) (seal ++ rest) (place + 12) seal_place in
+      let end_is : k ≡ length file.change.pages = omega (arith, walked.1) in
+      let contents : map (page_in bytes) (range_with_len 0 k) ≡ map (λ (w : PageWrite). w.bytes) file.change.pages =
+      ap (λ (n : ℕ). map (page_in bytes) (range_with_len 0 n)) end_is ∙ walked.2 in
+      let right : IsWrongSum bytes k (eight_at (place + 4) bytes) → ⊥ = λ (wrong : IsWrongSum bytes k (eight_at (place + 4) bytes)). elim wrong [
+        | inl low ↦ omega (arith, low, post_is, valid.post.flagged)
+        | inr other ↦ elim other [
+          | inl empty ↦ empty.1 (post_is ∙ valid.post.empty (sym commit_is ∙ empty.0))
+          | inr snapshot ↦ snapshot.1 (post_is ∙ valid.post.snapshot (sym min_is ∙ snapshot.0) ∙ ap database_sum (sym contents))
         ]
       ] in
-    let len : length bytes ≡ length (summed_text file reserved) + length (seal ++ rest) = ap length seal_split ∙ length-append (summed_text file reserved) (seal ++ rest) in
-    let room : place + 20 ≤ length bytes = omega (arith, len, seal_place) in
-    let found = only_tail bytes k e.pages e.sound e.number e.ends right room (seal_is ∙ ap file_sum (sym summed)) f q broken in
-    let text_length : length (file_text file reserved) ≡ place + 20 = length-append (summed_text file reserved) seal ∙ ap (λ (n : ℕ). n + 8) seal_place ∙ omega arith in
-    (found.0, omega (arith, found.1, text_length))
+      let len : length bytes ≡ length (summed_text file reserved) + length (seal ++ rest) = ap length seal_split ∙ length-append (summed_text file reserved) (seal ++ rest) in
+      let room : place + 20 ≤ length bytes = omega (arith, len, seal_place) in
+      let found = only_tail bytes k e.pages e.sound e.number e.ends right room (seal_is ∙ ap file_sum (sym summed)) f q broken in
+      let text_length : length (file_text file reserved) ≡ place + 20 = length-append (summed_text file reserved) seal ∙ ap (λ (n : ℕ). n + 8) seal_place ∙ omega arith in
+      (found.0, omega (arith, found.1, text_length))
 
 -- the text of a file breaks no rule
 pub text_sound : (text rest : List ℕ) (file : Ltx) (f : LtxFault) (place : ℕ) → AreBytes (text ++ rest) → IsLtx text file

@@ -52,11 +52,11 @@ file_written file old v1 v2 v3 r1 r2 e1 f1 e2 f2 e3 =
     let pages = pages_text file.change.pages in
     let front : List ℕ = head ++ pages in
     let register : after_bytes r2 (end_text file.post) ≡ after_bytes all_ones (front ++ end_text file.post) =
-        ap (λ (n : ℕ). after_bytes n (end_text file.post)) (f2 ∙ ap (λ (n : ℕ). after_bytes n pages) f1 ∙ sym (after_bytes-append all_ones head pages))
-        ∙ sym (after_bytes-append all_ones front (end_text file.post)) in
+    ap (λ (n : ℕ). after_bytes n (end_text file.post)) (f2 ∙ ap (λ (n : ℕ). after_bytes n pages) f1 ∙ sym (after_bytes-append all_ones head pages))
+    ∙ sym (after_bytes-append all_ones front (end_text file.post)) in
     let summed : front ++ end_text file.post ≡ summed_text file no_meaning = sym (append_assoc front (to_be_bytes w32 0) (to_be_bytes w64 file.post)) in
     let seal : sealed (after_bytes r2 (end_text file.post)) ≡ file_sum (summed_text file no_meaning) =
-        ap sealed register ∙ sealed_sum (front ++ end_text file.post) ∙ ap file_sum summed in
+    ap sealed register ∙ sealed_sum (front ++ end_text file.post) ∙ ap file_sum summed in
     let here : v2 ≡ old ++ front = e2 ∙ ap (λ (l : List ℕ). l ++ pages) e1 ∙ append_assoc old head pages in
     e3
     ∙ ap (λ (n : ℕ). v2 ++ end_text file.post ++ to_be_bytes w64 n) seal

@@ -11,18 +11,15 @@ ghost use Rattle.ltx_codec.specs.declared.fault.LtxFault.{LtxFault};
 pub fn one_reading()
     ensures { (text other rest more : List ℕ) (file second : Ltx) → IsLtx text file → IsLtx other second
         → text ++ rest ≡ other ++ more → (text ≡ other) × (file ≡ second) }
-{
-}
+{}
 
 /// The text of a file breaks no rule: what is broken stands behind it, and is that bytes follow.
 pub fn text_breaks_no_rule()
     ensures { (text rest : List ℕ) (file : Ltx) (fault : LtxFault) (place : ℕ) → AreBytes (text ++ rest)
         → IsLtx text file → IsBroken (text ++ rest) fault place → (fault ≡ LtxFault.Tail) × (length text < place) }
-{
-}
+{}
 
 /// The fault that stands earliest is one.
 pub fn one_earliest_fault()
     ensures { (bytes : List ℕ) (fault other : LtxFault) → IsEarliest bytes fault → IsEarliest bytes other → fault ≡ other }
-{
-}
+{}

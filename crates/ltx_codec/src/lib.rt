@@ -25,3 +25,6 @@ pub use header::Header;
 pub use laws::{one_earliest_fault, one_reading, text_breaks_no_rule};
 pub use reading::{decode, decode_first};
 pub use writing::encode;
+
+#[cfg(test)]
+mod tests;

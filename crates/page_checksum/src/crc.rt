@@ -51,5 +51,4 @@ fn after_bit(register: u64) -> u64
 /// To feed two pieces one after another is to feed them joined.
 pub fn pieces_join()
     ensures { (register : ℕ) (front back : List ℕ) → after_bytes register (front ++ back) ≡ after_bytes (after_bytes register front) back }
-{
-}
+{}

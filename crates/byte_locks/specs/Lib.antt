@@ -1,0 +1,5 @@
+pub mod LockId
+pub mod LockBytes
+pub mod LockSet
+pub mod LockEntry
+pub mod LockList

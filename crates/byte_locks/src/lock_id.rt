@@ -1,0 +1,55 @@
+ghost use Rattle.std.specs.Prelude.{◌≡◌};
+ghost use Rattle.byte_locks.specs.LockId.{place_of, every_lock};
+
+/// A lock of SQLite's, in the order of their bytes: three of the database file, nine of the shared
+/// memory, and the lock of a halted primary.
+#[derive(Clone, Copy, Debug, PartialEq, Eq)]
+pub enum LockId {
+    Pending,
+    Reserved,
+    Shared,
+    Write,
+    Ckpt,
+    Recover,
+    Read0,
+    Read1,
+    Read2,
+    Read3,
+    Read4,
+    Dms,
+    Halt,
+}
+
+/// How many locks there are.
+pub(crate) const LOCKS: usize = 13;
+
+/// Every lock, in order.
+#[tactic(auto, unfolding(crate::specs::LockId::every_lock))]
+pub(crate) fn all() -> [LockId; LOCKS]
+    ensures { result ≡ every_lock }
+{
+    [
+        LockId::Pending,
+        LockId::Reserved,
+        LockId::Shared,
+        LockId::Write,
+        LockId::Ckpt,
+        LockId::Recover,
+        LockId::Read0,
+        LockId::Read1,
+        LockId::Read2,
+        LockId::Read3,
+        LockId::Read4,
+        LockId::Dms,
+        LockId::Halt,
+    ]
+}
+
+impl LockId {
+    /// Its place among all locks.
+    pub(crate) fn place(self) -> usize
+        ensures { result ≡ place_of self }
+    {
+        self as usize
+    }
+}

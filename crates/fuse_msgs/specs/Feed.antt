@@ -1,0 +1,97 @@
+-- A text of messages that comes in pieces.
+use Rattle.std.specs.Prelude.{◌≡◌, ℕ, ◌-◌, ◌<◌, ◌≤◌, nat_lt, nat_le, Bool, true, false, List, [], ◌∷◌, ◌++◌, length, take, Result, Ok, Err, if◌then◌else◌}
+use Rattle.std.specs.List.{flat_map, AllByRecursion}
+use Rattle.fuse_msgs.specs.declared.feed.Fed.{Fed}
+use Rattle.fuse_msgs.specs.declared.feed.Fed.TheVariants as fed
+use Rattle.fuse_msgs.specs.declared.fault.BadMessage.{BadMessage}
+use Rattle.fuse_msgs.specs.declared.fault.BadMessage.TheVariants as bad
+use Rattle.fuse_msgs.specs.Message.{len_of, is_length}
+
+-- what a text begins with: less than a message, a message of this length, or a length field that no message has
+pub data Front : Type 0 where
+  part : Front
+  whole broken : ℕ → Front
+
+-- a length field decides as soon as its four bytes are there
+unfoldable pub front_of : List ℕ → Front
+front_of text =
+    if nat_lt (length text) 4 then part else
+    if is_length (len_of text) then (if nat_le (len_of text) (length text) then whole (len_of text) else part) else
+    broken (len_of text)
+
+-- whether a message is whole
+abbrev pub is_whole_front : Front → Bool
+is_whole_front (whole len) = true
+is_whole_front _ = false
+
+abbrev pub is_whole : List ℕ → Bool
+is_whole text = is_whole_front (front_of text)
+
+-- the bytes of the unfinished message
+abbrev pub unfinished : List ℕ → List ℕ
+unfinished held = if is_whole held then [] else held
+
+-- what feeding answers where the text begins so, with so many bytes of it held before
+abbrev pub answer_at : ℕ → Front → Result Fed BadMessage
+answer_at before part = Ok fed.More
+answer_at before (whole len) = Ok (fed.Whole (len - before))
+answer_at before (broken len) = Err (bad.Length len)
+
+-- how many bytes of a piece of this length are taken then: to the end of the message, or of the length field
+abbrev pub taken_at : ℕ → ℕ → Front → ℕ
+taken_at before more part = more
+taken_at before more (whole len) = len - before
+taken_at before more (broken len) = 4 - before
+
+-- what feeding a piece answers behind what is held
+abbrev pub feed_answer : List ℕ → List ℕ → Result Fed BadMessage
+feed_answer held piece = answer_at (length held) (front_of (held ++ piece))
+
+-- what is held after feeding a piece
+abbrev pub fed_on : List ℕ → List ℕ → List ℕ
+fed_on held piece = held ++ take (taken_at (length held) (length piece) (front_of (held ++ piece))) piece
+
+-- whether an answer says that a message is whole
+abbrev pub says_whole : Result Fed BadMessage → Bool
+says_whole (Ok (fed.Whole used)) = true
+says_whole _ = false
+
+-- where a message is whole, some of the piece's bytes were used, and at most all
+abbrev pub UsesSome : Result Fed BadMessage → ℕ → Type 0
+UsesSome (Ok (fed.Whole used)) more = (0 < used) × (used ≤ more)
+UsesSome _ more = Unit {0}
+
+-- ---- a whole run
+
+-- the message that is held, where it is whole
+abbrev pub finished : List ℕ → List (List ℕ)
+finished held = if is_whole held then held ∷ [] else []
+
+-- the bytes that feeding a piece takes
+abbrev pub taken_of : List ℕ → List ℕ → List ℕ
+taken_of held piece = take (taken_at (length held) (length piece) (front_of (held ++ piece))) piece
+
+-- the bytes that feeding the pieces takes, where each whole message is cleared before the next piece
+abbrev pub text_of : List ℕ → List (List ℕ) → List ℕ
+text_of held [] = []
+text_of held (piece ∷ pieces) = taken_of held piece ++ text_of (unfinished (fed_on held piece)) pieces
+
+-- the messages that it gives
+abbrev pub messages_of : List ℕ → List (List ℕ) → List (List ℕ)
+messages_of held [] = []
+messages_of held (piece ∷ pieces) = finished (fed_on held piece) ++ messages_of (unfinished (fed_on held piece)) pieces
+
+-- what it leaves
+abbrev pub left_of : List ℕ → List (List ℕ) → List ℕ
+left_of held [] = held
+left_of held (piece ∷ pieces) = left_of (unfinished (fed_on held piece)) pieces
+
+-- a whole message and no more
+abbrev pub IsWholeMessage : List ℕ → Type 0
+IsWholeMessage text = front_of text ≡ whole (length text)
+
+-- a text is these messages one after another, and a rest that begins with no whole message
+pub record Splits (text : List ℕ) (messages : List (List ℕ)) (rest : List ℕ) : Type 0 where
+  pub text_is : text ≡ flat_map (λ message. message) messages ++ rest
+  pub each : AllByRecursion IsWholeMessage messages
+  pub partial : is_whole rest ≡ false

@@ -1,0 +1,14 @@
+pub mod Fields
+pub mod Opcodes
+pub mod Names
+pub mod Attributes
+pub mod ReadWrite
+pub mod Handles
+pub mod Locks
+pub mod Session
+pub mod Body
+pub mod Message
+pub mod Decoding
+pub mod Reply
+pub mod Feed
+pub mod Text

@@ -1,0 +1,33 @@
+//! Laws of the definitions, each proved as the contract of a function that does nothing.
+
+ghost use Rattle.std.specs.Prelude.{◌≡◌, ℕ, List, [], Err};
+ghost use Rattle.fuse_msgs.specs.declared.request.Request.{Request};
+ghost use Rattle.fuse_msgs.specs.declared.fault.BadMessage.TheVariants as bad;
+ghost use Rattle.fuse_msgs.specs.Message.{IsMessage};
+ghost use Rattle.fuse_msgs.specs.Text.{Fits, request_bytes};
+ghost use Rattle.fuse_msgs.specs.Feed.{broken, front_of, fed_on, feed_answer, text_of, messages_of, left_of, Splits};
+
+/// The text that a plain client writes for a request is a message of that request and of no other,
+/// so no two requests share a text.
+pub fn request_texts()
+    ensures read { (request : Request) → Fits request → IsMessage (request_bytes request) request }
+    ensures once { (bytes : List ℕ) (a b : Request) → IsMessage bytes a → IsMessage bytes b → a ≡ b }
+    ensures apart { (a b : Request) → Fits a → Fits b → request_bytes a ≡ request_bytes b → a ≡ b }
+{}
+
+/// However a text is cut into pieces, feeding them gives its messages in order and leaves its rest,
+/// and a text has no other messages and no other rest.
+pub fn any_pieces()
+    ensures split { (pieces : List (List ℕ))
+        → Splits (text_of [] pieces) (messages_of [] pieces) (left_of [] pieces) }
+    ensures once { (text : List ℕ) (a b : List (List ℕ)) (r s : List ℕ)
+        → Splits text a r → Splits text b s → (a ≡ b) × (r ≡ s) }
+{}
+
+/// A length field that no message has is held once it is refused, and refused at each later call.
+pub fn refused_for_good()
+    ensures held { (held piece : List ℕ) (len : ℕ) → feed_answer held piece ≡ Err (bad.Length len)
+        → front_of (fed_on held piece) ≡ broken len }
+    ensures again { (held piece : List ℕ) (len : ℕ) → front_of held ≡ broken len
+        → feed_answer held piece ≡ Err (bad.Length len) }
+{}

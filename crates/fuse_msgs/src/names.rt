@@ -1,0 +1,68 @@
+//! LOOKUP, UNLINK and CREATE.
+
+ghost use Rattle.std.specs.Prelude.{◌≡◌, length, IfOk, IfErr};
+ghost use Rattle.fuse_msgs.specs.declared.opcode.Opcode.TheVariants as opcode;
+ghost use Rattle.fuse_msgs.specs.Names.{is_name, IsNameText, LacksName};
+ghost use Rattle.fuse_msgs.specs.Decoding.{IsReading};
+
+use crate::fault::BodyFault;
+use crate::request::Op;
+use lf_base::Bytes;
+use std::alloc::Global;
+
+/// The most bytes that a name has.
+const NAME_MAX: usize = 80;
+
+/// The size of `fuse_create_in`.
+const CREATE_IN: usize = 16;
+
+/// The LOOKUP of a body: a name.
+pub fn lookup(alloc: Global, body: &[u8]) -> Result<Op, BodyFault>
+    ensures { IsReading opcode.Lookup body.now result }
+{
+    let name = name_in(alloc, body)?;
+    Ok(Op::Lookup { name })
+}
+
+/// The UNLINK of a body: a name.
+pub fn unlink(alloc: Global, body: &[u8]) -> Result<Op, BodyFault>
+    ensures { IsReading opcode.Unlink body.now result }
+{
+    let name = name_in(alloc, body)?;
+    Ok(Op::Unlink { name })
+}
+
+/// The CREATE of a body: a `fuse_create_in` and a name.
+pub fn create(alloc: Global, body: &[u8]) -> Result<Op, BodyFault>
+    ensures { IsReading opcode.Create body.now result }
+{
+    if body.len() < CREATE_IN {
+        return Err(BodyFault::Shape);
+    }
+    let (_, text) = body.split_at(CREATE_IN);
+    let name = name_in(alloc, text)?;
+    Ok(Op::Create { name })
+}
+
+fn is_name(name: &[u8]) -> bool
+    ensures { result ≡ is_name name.now }
+{
+    1 <= name.len() && name.len() <= NAME_MAX && !name.contains(&0)
+}
+
+/// The name that a zero byte ends.
+#[tactic(auto, unfolding(crate::specs::Names::is_name_text), using(crate::proofs::NameText::name_then_zero))]
+fn name_in(alloc: Global, text: &[u8]) -> Result<Bytes, BodyFault>
+    ensures ok { IfOk result (λ name. IsNameText text.now name) }
+    ensures err { IfErr result (λ fault. LacksName text.now fault) }
+{
+    if text.is_empty() {
+        return Err(BodyFault::Name);
+    }
+    let end = text.len() - 1;
+    let (name, _) = text.split_at(end);
+    if !is_name(name) || text[end] != 0 {
+        return Err(BodyFault::Name);
+    }
+    Ok(Bytes::of(Vec::from_slice(alloc, name)?))
+}

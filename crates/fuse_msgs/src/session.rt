@@ -1,0 +1,34 @@
+//! INIT and FORGET.
+
+ghost use Rattle.fuse_msgs.specs.declared.opcode.Opcode.TheVariants as opcode;
+ghost use Rattle.fuse_msgs.specs.Decoding.{IsReading};
+
+use crate::fault::BodyFault;
+use crate::fields::{sized, u32_at};
+use crate::request::Op;
+
+/// The sizes of `fuse_forget_in` and of what each version has of `fuse_init_in`.
+const FORGET_IN: usize = 8;
+
+const INIT_IN: usize = 16;
+
+/// The INIT of a body: a `fuse_init_in`, and what later versions have behind it.
+pub fn init(body: &[u8]) -> Result<Op, BodyFault>
+    ensures { IsReading opcode.Init body.now result }
+{
+    if body.len() < INIT_IN {
+        return Err(BodyFault::Shape);
+    }
+    Ok(Op::Init {
+        major: u32_at(body, 0),
+        minor: u32_at(body, 4),
+    })
+}
+
+/// The FORGET of a body: a `fuse_forget_in`.
+pub fn forget(body: &[u8]) -> Result<Op, BodyFault>
+    ensures { IsReading opcode.Forget body.now result }
+{
+    sized(body, FORGET_IN)?;
+    Ok(Op::Forget)
+}

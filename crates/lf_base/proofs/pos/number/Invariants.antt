@@ -1,0 +1,7 @@
+use Rattle.std.proofs.Common.{◌≡◌, drop}
+use Rattle.lf_base.specs.Position.{number_after}
+use Rattle.lf_base.proofs.pos.number.Given as goal
+
+-- the bytes left bring the number to that of all bytes
+abbrev pub invariant-loop-byte : goal.invariant-loop-byte
+invariant-loop-byte l = number_after l.number (drop l.byte-index l.bytes) ≡ number_after 0 l.bytes

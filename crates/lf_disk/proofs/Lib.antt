@@ -1,0 +1,9 @@
+mod Bytes
+mod Choices
+pub mod Folders
+mod Histories
+pub mod Moments
+mod NameList
+mod Publishing
+mod Records
+mod SlotLemmas

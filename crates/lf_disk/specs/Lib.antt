@@ -1,0 +1,12 @@
+pub mod Change
+pub mod Folder
+pub mod History
+pub mod Laws
+pub mod ListFault
+pub mod MemDisk
+pub mod Names
+pub mod Plan
+pub mod Publish
+pub mod Replay
+pub mod Slots
+pub mod Tears

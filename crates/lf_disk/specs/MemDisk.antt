@@ -1,0 +1,33 @@
+-- What contracts see of a disk in memory.
+use Rattle.std.specs.Prelude.{ℕ, List, [], length, take, None}
+use Rattle.lf_disk.specs.declared.record.Call.{Call}
+use Rattle.lf_disk.specs.declared.slots.Slot.{Slot}
+use Rattle.lf_disk.specs.Folder.{Same}
+use Rattle.lf_disk.specs.Slots.{folder_of, IsOrderly}
+use Rattle.lf_disk.specs.Plan.{Plan}
+use Rattle.lf_disk.specs.Replay.{State, at_rest, replay}
+use Rattle.lf_disk.specs.History.{History}
+
+-- the files at first, the changing calls since, the oldest first, and which calls fail
+pub record Recording : Type 0 where
+  pub first : List Slot
+  pub calls : List Call
+  pub plan : Plan
+
+-- the state at a moment
+abbrev pub state_at : Recording → ℕ → State
+state_at r t = replay (at_rest (folder_of r.first)) (take t r.calls)
+
+-- its history
+abbrev pub history_of : Recording → History
+history_of r = record { moment = length r.calls; seen = λ t. (state_at r t).seen; leaves = λ t. (state_at r t).leaves }
+
+-- a disk with these files, on which nothing is pending and no call is to fail
+abbrev pub fresh : List Slot → Recording
+fresh first = record { first = first; calls = []; plan = record { failing = []; stop_after = None; calls = 0; faults = 0 } }
+
+-- the files in memory are those that the record gives, and no name stands twice
+pub record IsCurrent (first : List Slot) (calls : List Call) (now : List Slot) : Type 0 where
+  pub shows : Same (replay (at_rest (folder_of first)) calls).seen (folder_of now)
+  pub orderly : IsOrderly now
+  pub began : IsOrderly first

@@ -1,0 +1,189 @@
+//! The calls of the system.
+ghost use Rattle.std.specs.Prelude.{◌≤◌, length, IfOk};
+
+use crate::name::FileName;
+use std::alloc::{AllocError, Global};
+use std::fs::{self, File, OpenOptions};
+use std::io::{self, ErrorKind};
+use std::os::unix::fs::FileExt;
+use std::rt::Files;
+
+/// A folder with its path.
+#[derive(Drop)]
+pub struct Folder<R: Files<File = File> + AllocGlobal + Copy> {
+    rt: R,
+    path: String,
+}
+
+impl<R: Files<File = File> + AllocGlobal + Copy> Folder<R> {
+    pub fn open(rt: R, path: &str) -> io::Result<Folder<R>> {
+        let path = String::from_str(rt.alloc(), path)?;
+        let folder = Folder { rt, path };
+        let transactions = folder.path_of("/ltx")?;
+        fs::create_dir_all(&rt, transactions.as_str())?;
+        folder.sync_names("/ltx")?;
+        folder.sync_names("")?;
+        Ok(folder)
+    }
+
+    /// The path of what has this name in the folder, which begins with a slash.
+    fn path_of(&self, name: &str) -> Result<String, AllocError> {
+        let mut path = self.path.clone()?;
+        path.push_str(name)?;
+        Ok(path)
+    }
+
+    fn path_to(&self, name: FileName) -> Result<String, AllocError> {
+        match name {
+            FileName::Database => self.path_of("/database"),
+            FileName::Staged => self.path_of("/staged"),
+            FileName::Snapshot => self.path_of("/snapshot.ltx"),
+            FileName::Ltx { min, max } => {
+                let name = format!(in self.rt.alloc(); "/ltx/{min:016x}-{max:016x}.ltx")?;
+                self.path_of(name.as_str())
+            }
+        }
+    }
+
+    /// Syncs the names in the folder or in a folder of it.
+    fn sync_names(&self, name: &str) -> io::Result<()> {
+        let path = self.path_of(name)?;
+        let folder = fs::open(&self.rt, path.as_str())?;
+        folder.sync_all()
+    }
+
+    /// Syncs the folder that has this name.
+    fn sync_name(&self, name: FileName) -> io::Result<()> {
+        match name {
+            FileName::Ltx { .. } => self.sync_names("/ltx"),
+            _ => self.sync_names(""),
+        }
+    }
+
+    /// The length of a file, None where there is none.
+    pub fn size(&self, name: FileName) -> io::Result<Option<u64>> {
+        let path = self.path_to(name)?;
+        match fs::metadata(&self.rt, path.as_str()) {
+            Ok(metadata) => Ok(Some(metadata.len())),
+            Err(error) if error.kind() == ErrorKind::NotFound => Ok(None),
+            Err(error) => Err(error),
+        }
+    }
+
+    /// Opens a file to write, None where there is none.
+    fn file(&self, name: FileName) -> io::Result<Option<File>> {
+        let path = self.path_to(name)?;
+        let mut options = OpenOptions::new();
+        options.read(true).write(true);
+        match options.open(&self.rt, path.as_str()) {
+            Ok(file) => Ok(Some(file)),
+            Err(error) if error.kind() == ErrorKind::NotFound => Ok(None),
+            Err(error) => Err(error),
+        }
+    }
+
+    /// Opens a file to write, and makes it where there is none.
+    fn file_or_new(&self, name: FileName) -> io::Result<File> {
+        if let Some(file) = self.file(name)? {
+            return Ok(file);
+        }
+        let path = self.path_to(name)?;
+        let mut options = OpenOptions::new();
+        options.read(true).write(true).create(true);
+        let file = options.open(&self.rt, path.as_str())?;
+        self.sync_name(name)?;
+        Ok(file)
+    }
+
+    /// Reads until `out` is full or the file ends. A file that isn't there has no bytes.
+    pub fn read(&self, name: FileName, at: u64, out: &mut [u8]) -> io::Result<usize>
+        ensures { IfOk result (λ n. n ≤ length out.new) }
+    {
+        let Some(file) = self.file(name)? else {
+            return Ok(0);
+        };
+        let mut count = 0;
+        while count < out.len() {
+            let more = file.read_at(&mut out[count..], at.saturating_add(count as u64))?;
+            if more == 0 {
+                break;
+            }
+            count += more;
+        }
+        Ok(count)
+    }
+
+    /// Writes all bytes. Without any, it makes sure that the file is there and as long as `at`.
+    pub fn write(&self, name: FileName, at: u64, bytes: &[u8]) -> io::Result<()> {
+        let file = self.file_or_new(name)?;
+        if bytes.is_empty() && file.metadata()?.len() < at {
+            return file.set_len(at);
+        }
+        file.write_all_at(bytes, at)
+    }
+
+    pub fn cut(&self, name: FileName, len: u64) -> io::Result<()> {
+        self.file_or_new(name)?.set_len(len)
+    }
+
+    pub fn sync(&self, name: FileName) -> io::Result<()> {
+        match self.file(name)? {
+            Some(file) => file.sync_all(),
+            None => Ok(()),
+        }
+    }
+
+    pub fn rename(&self, from: FileName, to: FileName) -> io::Result<()> {
+        let old = self.path_to(from)?;
+        let new = self.path_to(to)?;
+        fs::rename(&self.rt, old.as_str(), new.as_str())?;
+        self.sync_name(to)?;
+        self.sync_name(from)
+    }
+
+    pub fn remove(&self, name: FileName) -> io::Result<()> {
+        let path = self.path_to(name)?;
+        match fs::remove_file(&self.rt, path.as_str()) {
+            Ok(()) => self.sync_name(name),
+            Err(error) if error.kind() == ErrorKind::NotFound => Ok(()),
+            Err(error) => Err(error),
+        }
+    }
+
+    /// The names of its files.
+    pub fn list(&self) -> io::Result<Vec<FileName>> {
+        let mut names = Vec::new(self.rt.alloc());
+        for name in [FileName::Database, FileName::Staged, FileName::Snapshot] {
+            if self.size(name)?.is_some() {
+                names.push(name)?;
+            }
+        }
+        let transactions = self.path_of("/ltx")?;
+        for entry in fs::read_dir(&self.rt, transactions.as_str())? {
+            if let Some(name) = transaction_name(entry?.file_name()) {
+                names.push(name)?;
+            }
+        }
+        Ok(names)
+    }
+}
+
+/// The name of a transaction file, None where the text is none.
+fn transaction_name(text: &str) -> Option<FileName> {
+    let (min, max) = text.strip_suffix(".ltx")?.split_once('-')?;
+    Some(FileName::Ltx {
+        min: transaction_number(min)?,
+        max: transaction_number(max)?,
+    })
+}
+
+/// The number that 16 lower-case digits in base 16 write.
+fn transaction_number(text: &str) -> Option<u64> {
+    let is_digits = text
+        .bytes()
+        .all(|b| b.is_ascii_digit() || (b'a'..=b'f').contains(&b));
+    if text.len() != 16 || !is_digits {
+        return None;
+    }
+    u64::from_str_radix(text, 16).ok()
+}

@@ -1,0 +1,71 @@
+//! Which calls of a disk in memory fail.
+ghost use Rattle.std.specs.Prelude.{◌≡◌};
+ghost use Rattle.lf_base.specs.Faults.{one_more, Rose};
+ghost use Rattle.lf_disk.specs.Plan.{fails_next, stopped_in};
+
+use lf_base::Failed;
+use std::marker::Model;
+
+/// The numbers of the calls that fail, and the calls and faults so far.
+#[derive(Drop)]
+pub struct Schedule {
+    failing: Vec<u64>,
+    stop_after: Option<u64>,
+    calls: u64,
+    faults: u64,
+}
+
+impl Model for Schedule {
+    ghost use Rattle.lf_disk.specs.Plan.{Plan};
+
+    ghost Value = { Plan };
+
+    ghost view = { λ s. record { failing = s.failing.items; stop_after = s.stop_after; calls = s.calls; faults = s.faults } };
+}
+
+impl Schedule {
+    pub fn new(failing: Vec<u64>, stop_after: Option<u64>) -> Schedule
+        ensures { result ≡ record { failing = failing.items; stop_after = stop_after; calls = 0; faults = 0 } }
+    {
+        Schedule {
+            failing,
+            stop_after,
+            calls: 0,
+            faults: 0,
+        }
+    }
+
+    /// Counts a call, and answers whether it is to fail.
+    pub fn begin(&mut self) -> bool
+        ensures fails { result ≡ fails_next self.old }
+        ensures counted { self.new ≡ record self.old { calls = one_more self.old.calls } }
+    {
+        let call = self.calls;
+        self.calls = self.calls.saturating_add(1);
+        let is_stopped = match self.stop_after {
+            Some(stop) => stop <= call,
+            None => false,
+        };
+        self.failing.contains(&call) || is_stopped
+    }
+
+    /// Counts a fault.
+    pub fn fail(&mut self) -> Failed
+        ensures counted { self.new ≡ record self.old { faults = one_more self.old.faults } }
+        ensures rose { Rose self.old.faults self.new.faults }
+    {
+        self.faults = self.faults.saturating_add(1);
+        Failed
+    }
+
+    /// Lets every call after the next ones fail.
+    pub fn stop_in(&mut self, calls: u64)
+        ensures { self.new ≡ stopped_in calls self.old }
+    {
+        let stop = self.calls.saturating_add(calls);
+        self.stop_after = match self.stop_after {
+            Some(other) => Some(other.min(stop)),
+            None => Some(stop),
+        };
+    }
+}

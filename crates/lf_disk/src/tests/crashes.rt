@@ -1,0 +1,105 @@
+//! What a disk in memory has after a crash.
+use crate::{Disk, FileName, MemDisk, publish_two};
+use lf_base::Failed;
+use std::alloc::Global;
+
+const DATABASE: FileName = FileName::Database;
+
+/// A disk with four bytes in a file that is synced.
+fn settled(alloc: Global, failing: Vec<u64>) -> Result<MemDisk, Failed> {
+    let mut disk = MemDisk::new(alloc, failing, None).unwrap();
+    disk.write(DATABASE, 0, b"aaaa")?;
+    disk.sync(DATABASE)?;
+    Ok(disk)
+}
+
+/// What the file has after a crash that leaves this much of the third call. There was memory.
+fn left(disk: MemDisk, choice: u64) -> Result<(u64, [u8; 8]), Failed> {
+    let Ok(mut disk) = disk.reopen_as(choice << 4) else {
+        return Err(Failed);
+    };
+    let mut out = [b'.'; 8];
+    disk.read(DATABASE, 0, out.as_mut_slice())?;
+    Ok((disk.moment(), out))
+}
+
+fn after_write(alloc: Global, choice: u64) -> Result<(u64, [u8; 8]), Failed> {
+    let mut disk = settled(alloc, Vec::new(alloc))?;
+    disk.write(DATABASE, 1, b"bbbb")?;
+    left(disk, choice)
+}
+
+fn after_cut(alloc: Global, choice: u64) -> Result<(u64, [u8; 8]), Failed> {
+    let mut disk = settled(alloc, Vec::new(alloc))?;
+    disk.cut(DATABASE, 2)?;
+    left(disk, choice)
+}
+
+fn after_failed_remove(alloc: Global, choice: u64) -> Result<(u64, [u8; 8]), Failed> {
+    let failing = Vec::from_slice(alloc, &[2]).unwrap_or(Vec::new(alloc));
+    let mut disk = settled(alloc, failing)?;
+    match disk.remove(DATABASE) {
+        Ok(()) => Err(Failed),
+        Err(_) => left(disk, choice),
+    }
+}
+
+#[test]
+fn a_call_is_lost_torn_or_whole(rt: HostRuntime) {
+    let alloc = rt.alloc();
+    for (choice, write, cut, remove) in [
+        (0, *b"aaaa....", *b"aaaa....", *b"aaaa...."),
+        (1, *b"abba....", *b"aaa.....", *b"aaaa...."),
+        (2, *b"abbbb...", *b"aa......", *b"........"),
+        (3, *b"abbbb...", *b"aa......", *b"........"),
+    ] {
+        assert_eq!(&rt;
+            after_write(alloc, choice),
+            Ok((0, write)),
+            "write {choice}"
+        );
+        assert_eq!(&rt; after_cut(alloc, choice), Ok((0, cut)), "cut {choice}");
+        assert_eq!(&rt;
+            after_failed_remove(alloc, choice),
+            Ok((0, remove)),
+            "remove {choice}"
+        );
+    }
+}
+
+/// Which of two published files are there, each whole, on a disk that stopped after some calls and
+/// crashed.
+fn published(alloc: Global, calls: u64, choice: u64) -> Result<(bool, bool), Failed> {
+    let mut disk = MemDisk::new(alloc, Vec::new(alloc), Some(9)).unwrap();
+    disk.stop_in(calls);
+    let _ = publish_two(&mut disk, (1, 1), b"one", (2, 2), b"two");
+    let Ok(mut disk) = disk.reopen_as(choice) else {
+        return Err(Failed);
+    };
+    let mut out = [0u8; 3];
+    let first = disk.read(FileName::Ltx { min: 1, max: 1 }, 0, out.as_mut_slice())? == 3
+        && out == *b"one";
+    let second = disk.read(FileName::Ltx { min: 2, max: 2 }, 0, out.as_mut_slice())? == 3
+        && out == *b"two";
+    Ok((first, second))
+}
+
+const ALL: u64 = u64::MAX;
+
+#[test]
+fn a_stop_leaves_one_of_three(rt: HostRuntime) {
+    let alloc = rt.alloc();
+    for (calls, lost, whole) in [
+        (0, (false, false), (false, false)),
+        (1, (false, false), (false, false)),
+        (2, (false, false), (true, false)),
+        (3, (true, false), (true, false)),
+        (4, (true, false), (true, false)),
+        (5, (true, false), (true, true)),
+        (6, (true, true), (true, true)),
+    ] {
+        assert_eq!(&rt; published(alloc, calls, 0), Ok(lost), "lost {calls}");
+        assert_eq!(&rt; published(alloc, calls, ALL / 3), Ok(lost), "torn {calls}");
+        assert_eq!(&rt; published(alloc, calls, ALL), Ok(whole), "whole {calls}");
+    }
+}

@@ -1,0 +1,6 @@
+pub mod AnswerLemmas
+pub mod FileLemmas
+pub mod OutputLemmas
+pub mod PageLemmas
+pub mod PerformLemmas
+pub mod WholeChange

@@ -1,0 +1,65 @@
+-- What `apply` comes to where it doesn't come to write.
+use Rattle.std.proofs.Common.{◌≡◌, ℕ, List, [], Option, Result, Ok, Err, inl, inr, refl}
+use Rattle.std.specs.Result.{IsErrAnd}
+use Rattle.std.proofs.KnownBytes.{Appends-nil}
+use Rattle.lf_base.specs.declared.status.Status.TheVariants as status
+use Rattle.litefs_tool.specs.Failure.{status_of_failure, name_of_failure}
+use Rattle.litefs_tool.specs.Files.{MakesOf, Applies, never_written}
+use Rattle.litefs_tool.specs.Input.{ReadsWhole, LosesBytes, CountsCause}
+use Rattle.litefs_tool.specs.Performing.{Performs}
+use Rattle.litefs_tool.specs.Refusal.{refusal_name}
+use Rattle.litefs_tool.specs.Run.{Stream, Holds, AppliesInput, input_limit}
+use Rattle.litefs_tool.specs.declared.input.InputFault.{InputFault}
+use Rattle.litefs_tool.specs.declared.input.InputFault.TheVariants as fault
+use Rattle.litefs_tool.specs.declared.refusal.Refusal.{Refusal}
+use Rattle.litefs_tool.specs.declared.refusal.Refusal.TheVariants as refusal
+use Rattle.litefs_tool.specs.declared.failure.Failure.{Failure}
+use Rattle.litefs_tool.specs.declared.failure.Failure.TheVariants as failure
+
+-- a stream that nothing moved
+abbrev pub unmoved : Option (List ℕ) → ℕ → Stream
+unmoved known count = record { bytes = known; bytes_after = known; faults = count; faults_after = count }
+
+-- the input was not read whole
+fails_to_read : (input : Stream) (taken : Option (List ℕ)) (count : ℕ) (why : InputFault) →
+    LosesBytes input_limit input.bytes input.bytes_after why → CountsCause input.faults input.faults_after why →
+    Performs AppliesInput input (unmoved taken count) (Err (failure.Input why))
+fails_to_read input taken count fault.Failed lost counts =
+    (lost.bytes, [], record { reads = lost.read; writes = Appends-nil taken; rest = tt; cause = (counts, refl) }, refl)
+fails_to_read input taken count fault.TooLong lost counts =
+    (lost.bytes, [], record { reads = lost.read; writes = Appends-nil taken; rest = tt; cause = (counts, refl) }, (lost.past refl, refl))
+fails_to_read input taken count fault.NoMemory lost counts =
+    (lost.bytes, [], record { reads = lost.read; writes = Appends-nil taken; rest = tt; cause = (counts, refl) }, refl)
+
+pub Performs-unread : (input : Stream) (taken : Option (List ℕ)) (count : ℕ) (why : InputFault) (result : Result (Unit {0}) Failure) →
+    LosesBytes input_limit input.bytes input.bytes_after why → CountsCause input.faults input.faults_after why →
+    IsErrAnd result (λ f. f ≡ failure.Input why) → Performs AppliesInput input (unmoved taken count) result
+Performs-unread input taken count why (Ok done) lost counts is = absurd is
+Performs-unread input taken count why (Err f) lost counts is =
+    rw is (fails_to_read input taken count why lost counts)
+
+-- the files were refused
+refused_as : (input : Stream) (taken : Option (List ℕ)) (count : ℕ) (bytes : List ℕ) (why : Refusal) →
+    ReadsWhole input_limit input.bytes input.bytes_after bytes → Holds input → Applies never_written bytes (Err why) →
+    status_of_failure (failure.Files why) ≡ status.InputRefused → name_of_failure (failure.Files why) ≡ refusal_name why →
+    Performs AppliesInput input (unmoved taken count) (Err (failure.Files why))
+refused_as input taken count bytes why whole holds applies ends names = (
+  bytes,
+  [],
+  rw ends (record { reads = whole.read; writes = Appends-nil taken; rest = whole.to_the_end; cause = (holds, refl) }),
+  rw ends (why, (whole.within, applies), names, refl),
+)
+
+fails_to_apply : (input : Stream) (taken : Option (List ℕ)) (count : ℕ) (bytes : List ℕ) (why : Refusal) →
+    ReadsWhole input_limit input.bytes input.bytes_after bytes → Holds input → MakesOf bytes (Err why) →
+    Performs AppliesInput input (unmoved taken count) (Err (failure.Files why))
+fails_to_apply input taken count bytes refusal.NoMemory whole holds makes =
+    (bytes, [], record { reads = whole.read; writes = Appends-nil taken; rest = tt; cause = (holds, refl) }, refl)
+fails_to_apply input taken count bytes why whole holds makes =
+    elim makes [ inl memory ↦ cc | inr applies ↦ refused_as input taken count bytes why whole holds applies refl refl ]
+
+pub Performs-refused : (input : Stream) (taken : Option (List ℕ)) (count : ℕ) (bytes : List ℕ) (why : Refusal) (result : Result (Unit {0}) Failure) →
+    ReadsWhole input_limit input.bytes input.bytes_after bytes → Holds input → MakesOf bytes (Err why) →
+    IsErrAnd result (λ f. f ≡ failure.Files why) → Performs AppliesInput input (unmoved taken count) result
+Performs-refused input taken count bytes why (Ok done) whole holds makes is = absurd is
+Performs-refused input taken count bytes why (Err f) whole holds makes is = rw is (fails_to_apply input taken count bytes why whole holds makes)

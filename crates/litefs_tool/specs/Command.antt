@@ -1,0 +1,8 @@
+-- The words of the command line.
+use Rattle.std.specs.Prelude.{ℕ, List, [], ◌∷◌, codes}
+use Rattle.litefs_tool.specs.declared.command.Command.{Command}
+use Rattle.litefs_tool.specs.declared.command.Command.TheVariants.{Apply}
+
+-- the words of a command
+abbrev pub words_of : Command → List (List ℕ)
+words_of Apply = codes "apply" ∷ []

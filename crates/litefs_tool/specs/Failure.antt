@@ -1,0 +1,35 @@
+-- The status of a run that fails, and the name of the fault that it tells.
+use Rattle.std.specs.Prelude.{ℕ, List, [], Result, Ok, Err}
+use Rattle.lf_base.specs.declared.status.Status.{Status}
+use Rattle.lf_base.specs.declared.status.Status.TheVariants as status
+use Rattle.litefs_tool.specs.Refusal.{refusal_name}
+use Rattle.litefs_tool.specs.declared.input.InputFault.TheVariants as fault
+use Rattle.litefs_tool.specs.declared.refusal.Refusal.TheVariants as refusal
+use Rattle.litefs_tool.specs.declared.failure.Failure.{Failure}
+use Rattle.litefs_tool.specs.declared.failure.Failure.TheVariants as failure
+
+-- the status that a failure ends a run with
+abbrev pub status_of_failure : Failure → Status
+status_of_failure failure.Words = status.WordsRefused
+status_of_failure (failure.Input fault.Failed) = status.ReadFault
+status_of_failure (failure.Input fault.TooLong) = status.Limit
+status_of_failure (failure.Input fault.NoMemory) = status.NoMemory
+status_of_failure (failure.Files refusal.NoMemory) = status.NoMemory
+status_of_failure (failure.Files why) = status.InputRefused
+status_of_failure failure.Output = status.WriteFault
+
+-- the name of the fault where the input is refused
+abbrev pub name_of_failure : Failure → List ℕ
+name_of_failure (failure.Files refusal.NoMemory) = []
+name_of_failure (failure.Files why) = refusal_name why
+name_of_failure other = []
+
+-- the status of a run with this result
+abbrev pub status_of : Result (Unit {0}) Failure → Status
+status_of (Ok done) = status.Ok
+status_of (Err why) = status_of_failure why
+
+-- the name of the fault that a run with this result tells
+abbrev pub name_of : Result (Unit {0}) Failure → List ℕ
+name_of (Ok done) = []
+name_of (Err why) = name_of_failure why

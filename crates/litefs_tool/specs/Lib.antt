@@ -1,0 +1,9 @@
+pub mod Command
+pub mod Failure
+pub mod Files
+pub mod Input
+pub mod Output
+pub mod Performing
+pub mod Position
+pub mod Refusal
+pub mod Run

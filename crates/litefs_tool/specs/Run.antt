@@ -1,0 +1,127 @@
+-- How a run of the program goes: what it reads, writes and says, and how it ends.
+use Rattle.std.specs.Prelude.{◌≡◌, ◌≢◌, ℕ, ◌<◌, ◌≤◌, List, [], ◌∷◌, ◌++◌, length, codes, Option, Result, Ok, Err, ◌⊎◌}
+use Rattle.std.specs.Io.KnownBytes.{Consumes, Appends, IsAtEnd}
+use Rattle.lf_base.specs.Faults.{Rose}
+use Rattle.lf_base.specs.Status.{text_of}
+use Rattle.lf_base.specs.declared.status.Status.{Status}
+use Rattle.lf_base.specs.declared.status.Status.TheVariants as status
+use Rattle.lf_sqlite_pages.specs.Image.{DatabaseImage, image_bytes}
+use Rattle.litefs_tool.specs.Command.{words_of}
+use Rattle.litefs_tool.specs.Files.{Applies, never_written}
+use Rattle.litefs_tool.specs.Output.{IsFront, AppendsFront}
+use Rattle.litefs_tool.specs.Refusal.{refusal_name}
+use Rattle.litefs_tool.specs.declared.command.Command.{Command}
+use Rattle.litefs_tool.specs.declared.command.Command.TheVariants.{Apply}
+use Rattle.litefs_tool.specs.declared.refusal.Refusal.{Refusal}
+
+-- a stream over a run: the bytes left to read, or those taken, where it tells them, and its count of faults
+pub record Stream : Type 0 where
+  pub bytes : Option (List ℕ)
+  pub bytes_after : Option (List ℕ)
+  pub faults : ℕ
+  pub faults_after : ℕ
+
+-- a source or a sink before a run and after it, by what it tells
+abbrev pub stream : {S : Type 0} → (S → Option (List ℕ)) → (S → ℕ) → S → S → Stream
+stream bytes faults before after =
+    record { bytes = bytes before; bytes_after = bytes after; faults = faults before; faults_after = faults after }
+
+-- a run: its words and its streams
+pub record Run : Type 0 where
+  pub words : List (List ℕ)
+  pub input : Stream
+  pub output : Stream
+  pub errors : Stream
+
+-- the run read these bytes
+abbrev pub Gives : Stream → List ℕ → Type 0
+Gives stream bytes = Consumes stream.bytes stream.bytes_after bytes
+
+-- the run wrote these bytes
+abbrev pub Takes : Stream → List ℕ → Type 0
+Takes stream bytes = Appends stream.bytes stream.bytes_after bytes
+
+-- the stream's count of faults rose
+abbrev pub Fails : Stream → Type 0
+Fails stream = Rose stream.faults stream.faults_after
+
+-- the stream's count of faults stayed
+abbrev pub Holds : Stream → Type 0
+Holds stream = stream.faults_after ≡ stream.faults
+
+-- the longest input that is read
+abbrev pub input_limit : ℕ
+input_limit = 67108864
+
+-- the input is within the limit, and applying its files comes to this
+abbrev pub Decides : List ℕ → Result DatabaseImage Refusal → Type 0
+Decides input answer = (length input ≤ input_limit) × Applies never_written input answer
+
+-- What `apply` comes to: the bytes that it read, its status, the bytes that it wrote, and the name of the fault that it
+-- tells. Each status has its own case; a fault of a stream or want of memory alone may come in place of another.
+abbrev pub AppliesInput : List ℕ → Status → List ℕ → List ℕ → Type 0
+AppliesInput input status.Ok written name = (image : DatabaseImage) × Decides input (Ok image) × (written ≡ image_bytes image)
+AppliesInput input status.WriteFault written name = (image : DatabaseImage) × Decides input (Ok image) × IsFront written (image_bytes image)
+AppliesInput input status.InputRefused written name = (why : Refusal) × Decides input (Err why) × (name ≡ refusal_name why) × (written ≡ [])
+AppliesInput input status.Limit written name = (input_limit < length input) × (written ≡ [])
+AppliesInput input status.ReadFault written name = written ≡ []
+AppliesInput input status.NoMemory written name = written ≡ []
+AppliesInput input status.WordsRefused written name = ⊥
+AppliesInput input status.DiskFault written name = ⊥
+AppliesInput input status.NetworkFault written name = ⊥
+AppliesInput input status.NoThread written name = ⊥
+
+-- no command has these words, and the run reads and writes nothing
+pub record RefusesWords (words : List (List ℕ)) (input : List ℕ) (ended : Status) (written : List ℕ) : Type 0 where
+  pub no_command : (command : Command) → words ≢ words_of command
+  pub refused : ended ≡ status.WordsRefused
+  pub unread : input ≡ []
+  pub unwritten : written ≡ []
+
+-- what words and the bytes that were read come to
+abbrev pub ComesTo : List (List ℕ) → List ℕ → Status → List ℕ → List ℕ → Type 0
+ComesTo words input status written name =
+    RefusesWords words input status written ⊎ (words ≡ words_of Apply) × AppliesInput input status written name
+
+-- with these statuses the input was read to its end
+abbrev pub LeavesNothing : Stream → Status → Type 0
+LeavesNothing input status.Ok = IsAtEnd input.bytes_after
+LeavesNothing input status.InputRefused = IsAtEnd input.bytes_after
+LeavesNothing input status.WriteFault = IsAtEnd input.bytes_after
+LeavesNothing input other = Unit {0}
+
+-- the count of the input rose with ReadFault alone, and that of the output with WriteFault alone
+abbrev pub HasCause : Stream → Stream → Status → Type 0
+HasCause input output status.ReadFault = Fails input × Holds output
+HasCause input output status.WriteFault = Holds input × Fails output
+HasCause input output other = Holds input × Holds output
+
+-- what a run that ends with this status read and wrote
+pub record Moves (input output : Stream) (status : Status) (read written : List ℕ) : Type 0 where
+  pub reads : Gives input read
+  pub writes : Takes output written
+  pub rest : LeavesNothing input status
+  pub cause : HasCause input output status
+
+-- a line of standard error
+abbrev pub line : List ℕ → List ℕ
+line text = codes "litefs: " ++ text ++ 10 ∷ []
+
+-- what standard error says of a status; the fault's name where the input is refused
+abbrev pub line_of : Status → List ℕ → List ℕ
+line_of status.Ok name = []
+line_of status.InputRefused name = line (text_of status.InputRefused ++ name)
+line_of other name = line (text_of other)
+
+-- standard error took these bytes; where it failed, a front of them
+abbrev pub Says : Stream → List ℕ → Type 0
+Says errors bytes = Holds errors × Takes errors bytes ⊎ Fails errors × AppendsFront errors.bytes errors.bytes_after bytes
+
+-- how a run went that ended with this status: what it read and wrote, and the name of the fault that it told
+pub record Went (run : Run) (status : Status) : Type 0 where
+  pub read : List ℕ
+  pub written : List ℕ
+  pub name : List ℕ
+  pub moves : Moves run.input run.output status read written
+  pub outcome : ComesTo run.words read status written name
+  pub says : Says run.errors (line_of status name)

@@ -1,0 +1,72 @@
+ghost use Rattle.std.specs.Prelude.{◌≡◌};
+ghost use Rattle.litefs_tool.specs.Failure.{status_of_failure, name_of_failure};
+ghost use Rattle.litefs_tool.specs.declared.failure.Failure.TheVariants as failure;
+
+use crate::input::InputFault;
+use crate::refusal::Refusal;
+use lf_base::{Failed, Status};
+
+/// Why a run ends before its output is whole.
+#[derive(Clone, Copy, Debug, PartialEq, Eq)]
+pub enum Failure {
+    /// The words are no command's.
+    Words,
+    /// The input was not read whole.
+    Input(InputFault),
+    /// The files in the input do not make a database.
+    Files(Refusal),
+    /// The output failed.
+    Output,
+}
+
+impl From<InputFault> for Failure {
+    ghost from_gives = { λ fault f. f ≡ failure.Input fault };
+
+    fn from(fault: InputFault) -> Failure {
+        Failure::Input(fault)
+    }
+}
+
+impl From<Refusal> for Failure {
+    ghost from_gives = { λ why f. f ≡ failure.Files why };
+
+    fn from(refusal: Refusal) -> Failure {
+        Failure::Files(refusal)
+    }
+}
+
+impl From<Failed> for Failure {
+    ghost from_gives = { λ _ f. f ≡ failure.Output };
+
+    fn from(_failed: Failed) -> Failure {
+        Failure::Output
+    }
+}
+
+impl Failure {
+    /// The status that the run ends with.
+    pub fn status(self) -> Status
+        ensures { result ≡ status_of_failure self }
+    {
+        match self {
+            Failure::Words => Status::WordsRefused,
+            Failure::Input(InputFault::Failed) => Status::ReadFault,
+            Failure::Input(InputFault::TooLong) => Status::Limit,
+            Failure::Input(InputFault::NoMemory) => Status::NoMemory,
+            Failure::Files(Refusal::NoMemory) => Status::NoMemory,
+            Failure::Files(_) => Status::InputRefused,
+            Failure::Output => Status::WriteFault,
+        }
+    }
+
+    /// The name of the fault where the input is refused, and else nothing.
+    pub fn fault_name(self) -> &'static str
+        ensures { result.now ≡ name_of_failure self }
+    {
+        match self {
+            Failure::Files(Refusal::NoMemory) => "",
+            Failure::Files(refusal) => refusal.name(),
+            _ => "",
+        }
+    }
+}

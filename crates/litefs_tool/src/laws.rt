@@ -1,0 +1,19 @@
+//! Laws of the definitions, each the contract of a function that does nothing else.
+ghost use Rattle.std.specs.Prelude.{◌≡◌, List, ℕ, Result};
+ghost use Rattle.lf_sqlite_pages.specs.Image.{DatabaseImage};
+ghost use Rattle.ltx_codec.specs.Fields.{AreBytes};
+ghost use Rattle.litefs_tool.specs.Files.{Applies};
+ghost use Rattle.litefs_tool.specs.declared.files.Database.{Database};
+ghost use Rattle.litefs_tool.specs.declared.refusal.Refusal.{Refusal};
+
+use ltx_codec::{one_earliest_fault, one_reading, text_breaks_no_rule};
+
+/// Applying the files in some bytes to a database comes to one image, or to one refusal.
+pub fn one_answer()
+    ensures { (database : Database) (bytes : List ℕ) (answer other : Result DatabaseImage Refusal) → AreBytes bytes
+        → Applies database bytes answer → Applies database bytes other → answer ≡ other }
+{
+    one_reading();
+    text_breaks_no_rule();
+    one_earliest_fault();
+}

@@ -1,0 +1,25 @@
+//! The commands of the program `litefs`, over sources and sinks that a test can give too.
+//!
+//! `run` reads the words, performs their command and says how it went. What a run may come to is
+//! said in the specifications `Run`; what applying LTX files comes to, in `Files`.
+#![tactic(auto)]
+
+mod command;
+mod failure;
+mod files;
+mod host;
+mod input;
+mod laws;
+mod output;
+mod refusal;
+mod report;
+mod top_call;
+
+pub use files::apply_files;
+pub use host::Host;
+pub use laws::one_answer;
+pub use refusal::Refusal;
+pub use top_call::run;
+
+#[cfg(test)]
+mod tests;

@@ -1,0 +1,76 @@
+ghost use Rattle.std.specs.Prelude.{◌≡◌};
+ghost use Rattle.litefs_tool.specs.Refusal.{ltx_name, refusal_name, refusal_of};
+ghost use Rattle.litefs_tool.specs.declared.refusal.Refusal.TheVariants as refusal;
+
+use lf_base::{NoMemory, Pos};
+use ltx_codec::LtxFault;
+
+/// Why LTX files do not make a database. Of the files the first that has a fault is refused.
+#[derive(Clone, Copy, Debug, PartialEq, Eq)]
+pub enum Refusal {
+    /// The bytes are no LTX file.
+    Ltx(LtxFault),
+    /// The file follows the position `want`, and the database is at `have`.
+    NotNext { have: Pos, want: Pos },
+    /// The file has another page size than the database, and leaves out a page.
+    PageSize,
+    /// After the file the database has the sum `got`, and the file says `want`.
+    SumDiffers { want: u64, got: u64 },
+    NoMemory,
+}
+
+impl From<LtxFault> for Refusal {
+    ghost from_gives = { λ fault r. r ≡ refusal_of fault };
+
+    fn from(fault: LtxFault) -> Refusal {
+        match fault {
+            LtxFault::NoMemory => Refusal::NoMemory,
+            _ => Refusal::Ltx(fault),
+        }
+    }
+}
+
+impl From<NoMemory> for Refusal {
+    ghost from_gives = { λ _ r. r ≡ refusal.NoMemory };
+
+    fn from(_want: NoMemory) -> Refusal {
+        Refusal::NoMemory
+    }
+}
+
+impl Refusal {
+    /// The name of the fault, without what it found.
+    pub fn name(self) -> &'static str
+        ensures { result.now ≡ refusal_name self }
+    {
+        match self {
+            Refusal::Ltx(fault) => name_of_ltx(fault),
+            Refusal::NotNext { .. } => "NotNext",
+            Refusal::PageSize => "PageSize",
+            Refusal::SumDiffers { .. } => "SumDiffers",
+            Refusal::NoMemory => "NoMemory",
+        }
+    }
+}
+
+fn name_of_ltx(fault: LtxFault) -> &'static str
+    ensures { result.now ≡ ltx_name fault }
+{
+    match fault {
+        LtxFault::Short => "Short",
+        LtxFault::Magic => "Magic",
+        LtxFault::Compressed => "Compressed",
+        LtxFault::UnknownFlags => "UnknownFlags",
+        LtxFault::PageSize => "PageSize",
+        LtxFault::Txid => "Txid",
+        LtxFault::Commit => "Commit",
+        LtxFault::PreSum => "PreSum",
+        LtxFault::PageOrder => "PageOrder",
+        LtxFault::PageRange => "PageRange",
+        LtxFault::NotWhole => "NotWhole",
+        LtxFault::PostSum => "PostSum",
+        LtxFault::FileSum { .. } => "FileSum",
+        LtxFault::Tail => "Tail",
+        LtxFault::NoMemory => "NoMemory",
+    }
+}

@@ -1,0 +1,72 @@
+//! Streams that fail in mid-stream.
+use crate::tests::files::{DELTA, SNAPSHOT, texts};
+use crate::tests::runs::words;
+use crate::{Host, run};
+use lf_base::{SliceSource, Status, VecSink};
+use std::test::Fail;
+
+/// The calls that fail of input, output and errors; and then the status, how many bytes were
+/// written, and what was said.
+type Row = (u64, u64, u64, Status, usize, &'static str);
+
+/// No call has this number.
+const NEVER: u64 = u64::MAX;
+
+const ROWS: [Row; 6] = [
+    (
+        0,
+        NEVER,
+        NEVER,
+        Status::ReadFault,
+        0,
+        "litefs: cannot read\n",
+    ),
+    (
+        1,
+        NEVER,
+        NEVER,
+        Status::ReadFault,
+        0,
+        "litefs: cannot read\n",
+    ),
+    (
+        NEVER,
+        0,
+        NEVER,
+        Status::WriteFault,
+        0,
+        "litefs: cannot write\n",
+    ),
+    (
+        NEVER,
+        1,
+        NEVER,
+        Status::WriteFault,
+        512,
+        "litefs: cannot write\n",
+    ),
+    (NEVER, 1, 1, Status::WriteFault, 512, "litefs: "),
+    (NEVER, NEVER, 0, Status::Ok, 1024, ""),
+];
+
+#[test]
+fn streams_that_fail(rt: HostRuntime) -> Result<(), Fail> {
+    let alloc = rt.alloc();
+    let text = texts(alloc, &[SNAPSHOT, DELTA])?;
+    let words = words(alloc, &["apply"])?;
+    for (read, write, say, status, written, line) in ROWS {
+        let mut host = Host {
+            input: SliceSource::new(text.as_slice(), vec![in alloc; read]?)?,
+            output: VecSink::new(alloc, 1024, vec![in alloc; write]?)?,
+            errors: VecSink::new(alloc, 64, vec![in alloc; say]?)?,
+        };
+        assert_eq!(rt;
+            run(rt, alloc, words.as_slice(), &mut host),
+            status,
+            "{line}"
+        );
+        assert_eq!(rt; host.output.taken().len(), written, "{line}");
+        assert_eq!(rt; host.errors.taken(), line.as_bytes());
+    }
+    Ok(())
+}

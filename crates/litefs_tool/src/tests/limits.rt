@@ -1,0 +1,46 @@
+//! Inputs at the limit and past it.
+ghost use Rattle.std.specs.Prelude.{None};
+
+use crate::tests::runs::words;
+use crate::{Host, run};
+use lf_base::{Failed, Source, Status, VecSink};
+use std::test::Fail;
+
+/// So many bytes, whatever they are: those that stand in the buffer.
+#[derive(Drop)]
+struct Bytes(usize);
+
+impl Source for Bytes {
+    ghost left = { λ _. None };
+
+    ghost faults = { λ _. 0 };
+
+    fn read(&mut self, out: &mut [u8]) -> Result<usize, Failed> {
+        let count = self.0.min(out.len());
+        self.0 -= count;
+        Ok(count)
+    }
+}
+
+#[test]
+fn limit_of_the_input(rt: HostRuntime) -> Result<(), Fail> {
+    let alloc = rt.alloc();
+    let words = words(alloc, &["apply"])?;
+    for (length, status, line) in [
+        (
+            67_108_864,
+            Status::InputRefused,
+            "litefs: input refused: Magic\n",
+        ),
+        (67_108_865, Status::Limit, "litefs: limit reached\n"),
+    ] {
+        let mut host = Host {
+            input: Bytes(length),
+            output: VecSink::new(alloc, 0, Vec::new(alloc))?,
+            errors: VecSink::new(alloc, 64, Vec::new(alloc))?,
+        };
+        assert_eq!(rt; run(rt, alloc, words.as_slice(), &mut host), status);
+        assert_eq!(rt; host.errors.taken(), line.as_bytes());
+    }
+    Ok(())
+}

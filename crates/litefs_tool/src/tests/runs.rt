@@ -1,0 +1,140 @@
+//! Whole runs of the program over memory.
+use crate::tests::files::{DELTA, EMPTY, SNAPSHOT, texts};
+use crate::{Host, run};
+use lf_base::{NoMemory, SliceSource, Status, Text, VecSink};
+use std::alloc::Global;
+use std::process::Abort;
+use std::test::Fail;
+
+/// The words of a command line.
+pub fn words(alloc: Global, given: &[&str]) -> Result<Vec<Text>, NoMemory> {
+    let mut words = Vec::new(alloc);
+    for word in given {
+        words.push(Text::of(alloc, word)?)?;
+    }
+    Ok(words)
+}
+
+/// Runs `litefs` with these words over this input, and looks at how it ends, how many zeros it
+/// writes and what it says.
+fn expect(
+    rt: &impl Abort,
+    alloc: Global,
+    given: &[&str],
+    input: &[u8],
+    status: Status,
+    zeros: usize,
+    line: &str,
+) -> Result<(), Fail> {
+    let words = words(alloc, given)?;
+    let mut host = Host {
+        input: SliceSource::new(input, Vec::new(alloc))?,
+        output: VecSink::new(alloc, 4096, Vec::new(alloc))?,
+        errors: VecSink::new(alloc, 4096, Vec::new(alloc))?,
+    };
+    assert_eq!(rt;
+        run(rt, alloc, words.as_slice(), &mut host),
+        status,
+        "{line}"
+    );
+    assert_eq!(rt; host.output.taken().len(), zeros, "{line}");
+    assert!(rt; host.output.taken().iter().all(|byte| *byte == 0), "{line}");
+    assert_eq!(rt; host.errors.taken(), line.as_bytes());
+    Ok(())
+}
+
+#[test]
+fn applies_files_one_after_another(rt: HostRuntime) -> Result<(), Fail> {
+    let alloc = rt.alloc();
+    let snapshot = texts(alloc, &[SNAPSHOT])?;
+    expect(
+        &rt,
+        alloc,
+        &["apply"],
+        snapshot.as_slice(),
+        Status::Ok,
+        512,
+        "",
+    )?;
+    let both = texts(alloc, &[SNAPSHOT, DELTA])?;
+    expect(
+        &rt,
+        alloc,
+        &["apply"],
+        both.as_slice(),
+        Status::Ok,
+        1024,
+        "",
+    )?;
+    let empty = texts(alloc, &[EMPTY])?;
+    expect(&rt, alloc, &["apply"], empty.as_slice(), Status::Ok, 0, "")
+}
+
+#[test]
+fn refuses_what_makes_no_database(rt: HostRuntime) -> Result<(), Fail> {
+    let alloc = rt.alloc();
+    let snapshot = texts(alloc, &[SNAPSHOT])?;
+    let short = "litefs: input refused: Short\n";
+    for length in [0, 99, 630] {
+        let input = snapshot.get(..length).ok_or("a file has 636 bytes")?;
+        expect(
+            &rt,
+            alloc,
+            &["apply"],
+            input,
+            Status::InputRefused,
+            0,
+            short,
+        )?;
+    }
+    let not_next = "litefs: input refused: NotNext\n";
+    let delta = texts(alloc, &[DELTA])?;
+    expect(
+        &rt,
+        alloc,
+        &["apply"],
+        delta.as_slice(),
+        Status::InputRefused,
+        0,
+        not_next,
+    )?;
+    let mut longer = snapshot;
+    longer.push(0)?;
+    expect(
+        &rt,
+        alloc,
+        &["apply"],
+        longer.as_slice(),
+        Status::InputRefused,
+        0,
+        short,
+    )
+}
+
+#[test]
+fn refuses_other_words(rt: HostRuntime) -> Result<(), Fail> {
+    let alloc = rt.alloc();
+    let snapshot = texts(alloc, &[SNAPSHOT])?;
+    let line = "litefs: words refused\n";
+    let input = snapshot.as_slice();
+    expect(&rt, alloc, &[], input, Status::WordsRefused, 0, line)?;
+    expect(&rt, alloc, &["Apply"], input, Status::WordsRefused, 0, line)?;
+    expect(
+        &rt,
+        alloc,
+        &["--help"],
+        input,
+        Status::WordsRefused,
+        0,
+        line,
+    )?;
+    expect(
+        &rt,
+        alloc,
+        &["apply", "apply"],
+        input,
+        Status::WordsRefused,
+        0,
+        line,
+    )
+}

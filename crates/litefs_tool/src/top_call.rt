@@ -1,0 +1,65 @@
+//! The top call.
+ghost use Rattle.litefs_tool.specs.Run.{Run, AppliesInput, ComesTo, Went, stream};
+ghost use Rattle.litefs_tool.specs.Performing.{Performs};
+
+use crate::command::{Command, read_words};
+use crate::failure::Failure;
+use crate::files::apply_files;
+use crate::host::Host;
+use crate::input::read_whole;
+use crate::output::write_image;
+use crate::report::report;
+use lf_base::{Sink, Source, Status, Text};
+use std::alloc::Global;
+
+/// The longest input that is read, in bytes.
+const INPUT_LIMIT: usize = 67_108_864;
+
+/// Runs the command of these words, and says on standard error why it failed, if it did.
+pub fn run<Rt: Copy, I: Source, O: Sink, E: Sink>(
+    _rt: Rt,
+    alloc: Global,
+    words: &[Text],
+    host: &mut Host<I, O, E>,
+) -> Status
+    ensures { let run : Run = record {
+      words = words.now;
+      input = stream I.left I.faults host.old.input host.new.input;
+      output = stream O.taken O.faults host.old.output host.new.output;
+      errors = stream E.taken E.faults host.old.errors host.new.errors;
+    } in Went run result }
+{
+    match perform(alloc, words, &mut host.input, &mut host.output) {
+        Ok(()) => Status::Ok,
+        Err(failure) => {
+            // A fault of standard error changes nothing.
+            let _ = report(&mut host.errors, failure);
+            failure.status()
+        }
+    }
+}
+
+fn perform<I: Source, O: Sink>(
+    alloc: Global,
+    words: &[Text],
+    input: &mut I,
+    output: &mut O,
+) -> Result<(), Failure>
+    ensures { Performs (ComesTo words.now) (stream I.left I.faults input.old input.new) (stream O.taken O.faults output.old output.new) result }
+{
+    match read_words(words) {
+        Some(Command::Apply) => apply(alloc, input, output),
+        None => Err(Failure::Words),
+    }
+}
+
+/// LTX files on the input become the database's bytes on the output. All of it is read and decided
+/// before the first byte is written.
+fn apply<I: Source, O: Sink>(alloc: Global, input: &mut I, output: &mut O) -> Result<(), Failure>
+    ensures { Performs AppliesInput (stream I.left I.faults input.old input.new) (stream O.taken O.faults output.old output.new) result }
+{
+    let bytes = read_whole(alloc, input, INPUT_LIMIT)?;
+    let image = apply_files(alloc, bytes.as_slice())?;
+    write_image(output, &image)?;
+    Ok(())
+}
