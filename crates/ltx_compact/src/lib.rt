@@ -12,3 +12,6 @@ mod page;
 
 pub use compacting::compact;
 pub use fault::CompactFault;
+
+#[cfg(test)]
+mod tests;
