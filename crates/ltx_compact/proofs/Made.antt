@@ -138,7 +138,7 @@ module _ (files : List Ltx) (joined : AllJoin files) (sound : All IsFile files) 
 
     -- it is a file, where a snapshot says the sum of its pages
     pub encodes : IsChange file.change → IsFileButSum file
-    encodes valid sum =
+    encodes valid =
         let P : Header → Type 0 = IsHeader in
         let head : IsHeader file.header = subst P (sym made.header) header_sound in
         let min : file.header.min ≡ made.first.header.min = ap (λ (h : Header). h.min) made.header in
@@ -155,7 +155,7 @@ module _ (files : List Ltx) (joined : AllJoin files) (sound : All IsFile files) 
             snapshot_pages = λ snapshot. subst N (sym made.change)
                 (numbers-pages_of files made.last.header.commit (λ n first last. every_page (sym min ∙ snapshot) n first));
           };
-          post = record {
+          post = λ sum. record {
             width = subst W (sym made.post) last_sound.post.width;
             flagged = subst IsFlagged (sym made.post) last_sound.post.flagged;
             empty = λ none. made.post ∙ last_sound.post.empty (sym commit ∙ none);

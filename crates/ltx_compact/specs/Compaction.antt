@@ -5,7 +5,7 @@ use Rattle.std.specs.Option.{option_map, option_or}
 use Rattle.page_checksum.specs.Sums.{database_sum}
 use Rattle.lf_sqlite_pages.specs.Change.{PageChange, written}
 use Rattle.lf_sqlite_pages.specs.declared.page_write.PageWrite.{PageWrite}
-use Rattle.ltx_codec.specs.Format.{IsFile}
+use Rattle.ltx_codec.specs.Format.{IsHeader, IsBlock, IsPostSum}
 use Rattle.ltx_codec.specs.declared.header.Header.{Header}
 use Rattle.ltx_codec.specs.declared.file.Ltx.{Ltx}
 
@@ -70,5 +70,7 @@ abbrev pub HasSnapshotSum : Ltx → Type 0
 HasSnapshotSum file = file.header.min ≡ 1 → file.post ≡ database_sum (map (λ w. w.bytes) file.change.pages)
 
 -- a file, but that a snapshot may say another sum than that of its pages
-abbrev pub IsFileButSum : Ltx → Type 0
-IsFileButSum file = HasSnapshotSum file → IsFile file
+pub record IsFileButSum (file : Ltx) : Type 0 where
+  pub header : IsHeader file.header
+  pub block : IsBlock file.header file.change
+  pub post : HasSnapshotSum file → IsPostSum file.header file.change file.post
