@@ -1,0 +1,5 @@
+pub mod Joined
+pub mod Left
+pub mod Written
+pub mod Applied
+pub mod Made

@@ -1,0 +1,3 @@
+pub mod Compaction
+pub mod Joining
+pub mod Application

@@ -1,0 +1,244 @@
+//! Lists of files, what becomes of their pages, and why some do not become one. The sums of the first
+//! test were computed by another program.
+ghost use Rattle.std.specs.Prelude.{All, IfOk};
+ghost use Rattle.ltx_codec.specs.Format.{IsFile};
+
+use super::*;
+use lf_base::NoMemory;
+use ltx_codec::{Encoder, Header, Ltx, decode};
+use std::alloc::{AllocError, Global};
+use std::process::Abort;
+use std::test::Fail;
+
+/// The sum of a database without pages. Files that are no snapshots may say it of any database.
+const NO_PAGES: u64 = 1 << 63;
+
+const ONE_PAGE: u64 = 0xefb1_f44f_ecd9_9000;
+
+const TWO_PAGES: u64 = 0x80d2_1cd0_0000_0000;
+
+const FILE_SUM: u64 = 0x9e66_a912_50ad_8a38;
+
+/// A page that a file holds: its number, 0 for none, and the byte that it is full of.
+type Filled = (u32, u8);
+
+const NONE: Filled = (0, 0);
+
+#[derive(Clone, Copy)]
+struct Sample {
+    page_size: u32,
+    commit: u32,
+    txid: u64,
+    pre: u64,
+    pages: [Filled; 3],
+    post: u64,
+    /// The time and the node.
+    stamp: u64,
+}
+
+const SNAPSHOT: Sample = Sample {
+    page_size: 512,
+    commit: 1,
+    txid: 1,
+    pre: 0,
+    pages: [(1, 0), NONE, NONE],
+    post: ONE_PAGE,
+    stamp: 0,
+};
+
+const DELTA: Sample = Sample {
+    page_size: 512,
+    commit: 2,
+    txid: 2,
+    pre: ONE_PAGE,
+    pages: [(2, 0), NONE, NONE],
+    post: TWO_PAGES,
+    stamp: 0,
+};
+
+fn delta(txid: u64, commit: u32, pages: [Filled; 3]) -> Sample {
+    Sample {
+        page_size: 512,
+        commit,
+        txid,
+        pre: NO_PAGES,
+        pages,
+        post: NO_PAGES,
+        stamp: txid ^ 1024,
+    }
+}
+
+fn page_of(alloc: Global, size: u32, byte: u8) -> Result<Vec<u8>, AllocError> {
+    vec![in alloc; byte; size as usize]
+}
+
+fn header_of(sample: &Sample) -> Header {
+    Header {
+        page_size: sample.page_size,
+        commit: sample.commit,
+        min: sample.txid,
+        max: sample.txid,
+        stamp: sample.stamp,
+        pre: sample.pre,
+        wal_offset: 1,
+        wal_size: 2,
+        wal_salt1: 3,
+        wal_salt2: 4,
+        node: sample.stamp,
+    }
+}
+
+fn text_of(alloc: Global, sample: &Sample) -> Result<Vec<u8>, NoMemory> {
+    let mut out = Vec::new(alloc);
+    let mut encoder = Encoder::start(&header_of(sample), &mut out)?;
+    for (number, byte) in sample.pages {
+        if number != 0 {
+            let page = page_of(alloc, sample.page_size, byte)?;
+            encoder.page(number, page.as_slice(), &mut out)?;
+        }
+    }
+    match encoder.finish(sample.post, &mut out) {
+        Ok(()) => Ok(out),
+        Err((error, _)) => Err(error),
+    }
+}
+
+fn file_of(alloc: Global, sample: &Sample) -> Result<Ltx, Fail>
+    ensures { IfOk result IsFile }
+{
+    let text = text_of(alloc, sample)?;
+    Ok(decode(alloc, text.as_slice())?)
+}
+
+fn files_of(alloc: Global, samples: &[Sample]) -> Result<Vec<Ltx>, Fail>
+    ensures { IfOk result (λ files. All IsFile files.items) }
+{
+    let mut files = Vec::new(alloc);
+    for sample in samples {
+        files.push(file_of(alloc, sample)?)?;
+    }
+    Ok(files)
+}
+
+fn one_of(alloc: Global, samples: &[Sample]) -> Result<Result<Ltx, CompactFault>, Fail> {
+    let files = files_of(alloc, samples)?;
+    Ok(compact(alloc, files.as_slice()))
+}
+
+/// Whether a file holds these pages and no others.
+fn holds(file: &Ltx, pages: &[Filled]) -> bool {
+    let held = file.change.pages();
+    held.len() == pages.len()
+        && held.iter().zip(pages).all(|(page, filled)| {
+            page.number == filled.0 && page.bytes.as_slice().iter().all(|byte| *byte == filled.1)
+        })
+}
+
+/// Looks at the header and the pages of what files become.
+fn expect(
+    rt: &impl Abort,
+    alloc: Global,
+    samples: &[Sample],
+    ends: (u64, u64, u32),
+    pages: &[Filled],
+) -> Result<(), Fail> {
+    let file = one_of(alloc, samples)?.ok().ok_or("one file")?;
+    let last = samples.last().ok_or("a last file")?;
+    let header = file.header;
+    assert_eq!(rt; (header.min, header.max, header.commit), ends);
+    assert_eq!(rt; (header.stamp, header.node), (last.stamp, last.stamp));
+    assert_eq!(rt; (header.wal_offset, header.wal_size), (0, 0));
+    assert_eq!(rt; (header.wal_salt1, header.wal_salt2), (0, 0));
+    assert!(rt; holds(&file, pages));
+    Ok(())
+}
+
+/// The length of a file's text, and its last sum.
+fn written(alloc: Global, file: &Ltx) -> Result<(usize, Option<[u8; 8]>), Fail> {
+    let mut out = Vec::new(alloc);
+    let mut encoder = Encoder::start(&file.header, &mut out)?;
+    for page in file.change.pages() {
+        encoder.page(page.number, page.bytes.as_slice(), &mut out)?;
+    }
+    encoder.finish(file.post, &mut out).ok().ok_or("memory")?;
+    Ok((out.len(), out.as_slice().last_chunk::<8>().copied()))
+}
+
+#[test]
+fn a_snapshot_and_a_delta_become_a_snapshot(rt: HostRuntime) -> Result<(), Fail> {
+    let file = one_of(rt.alloc(), &[SNAPSHOT, DELTA])?
+        .ok()
+        .ok_or("one file")?;
+    assert_eq!(rt; (file.header.pre, file.post), (0, TWO_PAGES));
+    assert!(rt; holds(&file, &[(1, 0), (2, 0)]));
+    let sum = FILE_SUM.to_be_bytes();
+    assert_eq!(rt; written(rt.alloc(), &file)?, (1152, Some(sum)));
+    Ok(())
+}
+
+#[test]
+fn one_file_stays(rt: HostRuntime) -> Result<(), Fail> {
+    expect(&rt, rt.alloc(), &[DELTA], (2, 2, 2), &[(2, 0)])
+}
+
+#[test]
+fn a_page_that_was_cut_off_comes_back_as_zeros(rt: HostRuntime) -> Result<(), Fail> {
+    let shrink = delta(5, 5, [(1, 1), NONE, NONE]);
+    let growth = delta(6, 8, [(1, 2), (6, 3), (8, 4)]);
+    let pages = [(1, 2), (6, 3), (7, 0), (8, 4)];
+    expect(&rt, rt.alloc(), &[shrink, growth], (5, 6, 8), &pages)
+}
+
+#[test]
+fn a_database_that_was_emptied_grows_again(rt: HostRuntime) -> Result<(), Fail> {
+    let full = delta(5, 3, [(1, 1), (2, 1), NONE]);
+    let empty = delta(6, 0, [NONE; 3]);
+    let growth = delta(7, 2, [(1, 7), NONE, NONE]);
+    let pages = [(1, 7), (2, 0)];
+    expect(&rt, rt.alloc(), &[full, empty], (5, 6, 0), &[])?;
+    expect(&rt, rt.alloc(), &[full, empty, growth], (5, 7, 2), &pages)
+}
+
+#[test]
+fn a_page_is_cut_off_twice(rt: HostRuntime) -> Result<(), Fail> {
+    let files = [
+        delta(5, 4, [(3, 9), NONE, NONE]),
+        delta(6, 2, [NONE; 3]),
+        delta(7, 4, [(4, 8), NONE, NONE]),
+        delta(8, 3, [NONE; 3]),
+        delta(9, 4, [NONE; 3]),
+    ];
+    expect(&rt, rt.alloc(), &files, (5, 9, 4), &[(3, 0), (4, 0)])
+}
+
+fn fault_of(alloc: Global, samples: &[Sample]) -> Result<Option<CompactFault>, Fail> {
+    Ok(one_of(alloc, samples)?.err())
+}
+
+#[test]
+fn the_first_file_that_does_not_join_is_named(rt: HostRuntime) -> Result<(), Fail> {
+    let five = delta(5, 1, [NONE; 3]);
+    let six = delta(6, 1, [NONE; 3]);
+    let got = NO_PAGES + 1;
+    let other = Sample { pre: got, ..six };
+    let larger = Sample {
+        page_size: 1024,
+        ..six
+    };
+    let late = Sample { txid: 8, ..other };
+    let want = NO_PAGES;
+    for (files, fault) in [
+        ([DELTA, SNAPSHOT, SNAPSHOT], CompactFault::Gap { at: 2 }),
+        ([five, six, six], CompactFault::Gap { at: 3 }),
+        ([five, late, late], CompactFault::Gap { at: 2 }),
+        (
+            [five, other, late],
+            CompactFault::SumGap { at: 2, want, got },
+        ),
+        ([five, larger, late], CompactFault::PageSize { at: 2 }),
+    ] {
+        assert_eq!(rt; fault_of(rt.alloc(), &files)?, Some(fault));
+    }
+    assert_eq!(rt; fault_of(rt.alloc(), &[])?, Some(CompactFault::Empty));
+    Ok(())
+}
