@@ -7,3 +7,4 @@ pub mod LawLemmas
 pub mod SoundLemmas
 pub mod OneFault
 pub mod WriteLemmas
+pub mod AgreeLemmas

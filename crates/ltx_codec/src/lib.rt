@@ -22,7 +22,7 @@ pub use encoder::Encoder;
 pub use fault::LtxFault;
 pub use file::Ltx;
 pub use header::Header;
-pub use laws::{one_earliest_fault, one_reading, text_breaks_no_rule};
+pub use laws::{fault_stays, one_earliest_fault, one_reading, text_breaks_no_rule};
 pub use reading::{decode, decode_first};
 pub use writing::encode;
 
