@@ -2,7 +2,7 @@
 //! breaks none.
 ghost use Rattle.std.specs.Prelude.{◌≤◌, length, OnOk, IfErr};
 ghost use Rattle.ltx_codec.specs.HeaderRules.{HasSoundFields};
-ghost use Rattle.ltx_codec.specs.Places.{IsEarliest, StandsInside};
+ghost use Rattle.ltx_codec.specs.Places.{IsEarliest, IsFound, StandsInside};
 
 use crate::fault::LtxFault;
 use crate::numbers::{u32_at, u64_at};
@@ -15,6 +15,7 @@ fn check_magic(bytes: &[u8]) -> Result<(), LtxFault>
     ensures ok { OnOk result (HasSoundFields bytes.now 7) }
     ensures fault { IfErr result (IsEarliest bytes.now) }
     ensures inside { IfErr result StandsInside }
+    ensures found { IfErr result IsFound }
 {
     if bytes.len() < 4 {
         return Ok(());
@@ -32,6 +33,7 @@ fn check_flags(bytes: &[u8]) -> Result<(), LtxFault>
     ensures ok { OnOk result (HasSoundFields bytes.now 11) }
     ensures fault { IfErr result (IsEarliest bytes.now) }
     ensures inside { IfErr result StandsInside }
+    ensures found { IfErr result IsFound }
 {
     if bytes.len() < 8 {
         return Ok(());
@@ -48,6 +50,7 @@ fn check_page_size(bytes: &[u8]) -> Result<(), LtxFault>
     ensures ok { OnOk result (HasSoundFields bytes.now 15) }
     ensures fault { IfErr result (IsEarliest bytes.now) }
     ensures inside { IfErr result StandsInside }
+    ensures found { IfErr result IsFound }
 {
     if bytes.len() < 12 {
         return Ok(());
@@ -64,6 +67,7 @@ fn check_commit(bytes: &[u8]) -> Result<(), LtxFault>
     ensures ok { OnOk result (HasSoundFields bytes.now 23) }
     ensures fault { IfErr result (IsEarliest bytes.now) }
     ensures inside { IfErr result StandsInside }
+    ensures found { IfErr result IsFound }
 {
     if bytes.len() < 16 {
         return Ok(());
@@ -81,6 +85,7 @@ fn check_min(bytes: &[u8]) -> Result<(), LtxFault>
     ensures ok { OnOk result (HasSoundFields bytes.now 31) }
     ensures fault { IfErr result (IsEarliest bytes.now) }
     ensures inside { IfErr result StandsInside }
+    ensures found { IfErr result IsFound }
 {
     if bytes.len() < 24 {
         return Ok(());
@@ -98,6 +103,7 @@ fn check_max(bytes: &[u8]) -> Result<(), LtxFault>
     ensures ok { OnOk result (HasSoundFields bytes.now 47) }
     ensures fault { IfErr result (IsEarliest bytes.now) }
     ensures inside { IfErr result StandsInside }
+    ensures found { IfErr result IsFound }
 {
     if bytes.len() < 32 {
         return Ok(());
@@ -114,6 +120,7 @@ fn check_pre(bytes: &[u8]) -> Result<(), LtxFault>
     ensures ok { OnOk result (HasSoundFields bytes.now 103) }
     ensures fault { IfErr result (IsEarliest bytes.now) }
     ensures inside { IfErr result StandsInside }
+    ensures found { IfErr result IsFound }
 {
     if bytes.len() < 48 {
         return Ok(());
@@ -132,6 +139,7 @@ pub fn check_header(bytes: &[u8]) -> Result<(), LtxFault>
     ensures ok { OnOk result (HasSoundFields bytes.now 103) }
     ensures fault { IfErr result (IsEarliest bytes.now) }
     ensures inside { IfErr result StandsInside }
+    ensures found { IfErr result IsFound }
 {
     check_magic(bytes)?;
     check_flags(bytes)?;

@@ -12,6 +12,7 @@ mod file;
 mod head_rules;
 mod header;
 mod laws;
+mod numbering;
 mod numbers;
 mod reading;
 mod rules;
