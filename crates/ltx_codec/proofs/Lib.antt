@@ -9,3 +9,4 @@ pub mod SoundLemmas
 pub mod OneFault
 pub mod WriteLemmas
 pub mod AgreeLemmas
+pub mod FeedLemmas

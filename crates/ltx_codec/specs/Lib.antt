@@ -5,3 +5,4 @@ pub mod HeaderRules
 pub mod Numbering
 pub mod Block
 pub mod Trailer
+pub mod Decoding

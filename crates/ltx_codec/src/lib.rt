@@ -6,6 +6,8 @@
 
 mod appending;
 mod block;
+mod decoder;
+mod decoder_header;
 mod encoder;
 mod fault;
 mod file;
@@ -16,15 +18,18 @@ mod numbering;
 mod numbers;
 mod reading;
 mod rules;
+mod seen;
 mod trailer;
 mod writing;
 
+pub use decoder::Decoder;
 pub use encoder::Encoder;
 pub use fault::LtxFault;
 pub use file::Ltx;
 pub use header::Header;
 pub use laws::{fault_stays, one_earliest_fault, one_reading, text_breaks_no_rule};
 pub use reading::{decode, decode_first};
+pub use seen::Seen;
 pub use writing::encode;
 
 #[cfg(test)]
