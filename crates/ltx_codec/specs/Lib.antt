@@ -6,3 +6,4 @@ pub mod Numbering
 pub mod Block
 pub mod Trailer
 pub mod Decoding
+pub mod Feeding

@@ -7,7 +7,9 @@
 mod appending;
 mod block;
 mod decoder;
+mod decoder_block;
 mod decoder_header;
+mod decoder_trailer;
 mod encoder;
 mod fault;
 mod file;
