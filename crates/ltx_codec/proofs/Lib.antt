@@ -10,3 +10,6 @@ pub mod OneFault
 pub mod WriteLemmas
 pub mod AgreeLemmas
 pub mod FeedLemmas
+pub mod PieceLemmas
+pub mod PageLemmas
+pub mod TrailerLemmas

@@ -17,6 +17,7 @@ pub fn fill(held: &mut Vec<u8>, target: usize, piece: &[u8]) -> usize
     ensures count { result ≡ min (target - vec_len held.old) (length piece.now) }
     ensures items { held.new.items ≡ held.old.items ++ take result piece.now }
     ensures len { vec_len held.new ≡ vec_len held.old + result }
+    ensures size { vec_len held.new ≡ length held.new.items }
     ensures capacity { vec_capacity held.old ≤ vec_capacity held.new }
 {
     let count = target.saturating_sub(held.len()).min(piece.len());
