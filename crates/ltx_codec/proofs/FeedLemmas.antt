@@ -9,7 +9,7 @@ use Rattle.ltx_codec.specs.Fields.{AreBytes, four_at, eight_at, header_in}
 use Rattle.ltx_codec.specs.Places.{IsEarliest, IsSoundBefore, number_place}
 use Rattle.ltx_codec.specs.HeaderRules.{IsThere, HasSoundFields}
 use Rattle.ltx_codec.specs.Block.{HasHeader, IsRead}
-use Rattle.ltx_codec.specs.Decoding.{HasFed, IsInHeader, IsInBlock, IsWithin, IsPastLimit, IsRefusedWithin, ShowsHeader}
+use Rattle.ltx_codec.specs.Decoding.{HasFed, IsInHeader, IsInBlock, IsPart, held_part, IsWithin, IsPastLimit, IsRefusedWithin, ShowsHeader}
 use Rattle.ltx_codec.specs.declared.decoder.Decoder.{Decoder}
 use Rattle.ltx_codec.specs.declared.header.Header.{Header}
 use Rattle.ltx_codec.specs.declared.fault.LtxFault.{LtxFault}
@@ -109,6 +109,12 @@ held_is d limit text fed stage untold = elim fed.stage [
   | inr block ↦ let other = block.1.stage in absurd cc
 ]
 
+-- where the part was told, nothing is held
+pub told_part : (d : Decoder) (text : List ℕ) (k : ℕ) → d.told ≡ true → IsPart d text k
+told_part d text k told =
+    let none : length (held_part d) ≡ 0 = ap (λ (b : Bool). length (cond b [] d.held.items)) told in
+    record { page = λ there more. omega (arith, none); end = λ there ends. omega (arith, none) }
+
 -- the parts that a piece leaves alone
 pub record Stays (old new : Decoder) : Type 0 where
   pub fault : new.fault ≡ old.fault
@@ -163,7 +169,7 @@ module _ (old new : Decoder) (limit : ℕ) (text more : List ℕ) (fed : HasFed 
             held = ap (λ (b : Bool). cond b [] new.held.items) told ∙ sym (drop_all (number_place (text ++ more) 0) (text ++ more) (omega (arith, long)));
             register = register ∙ ap (after_bytes all_ones) (text-is ∙ sym (take_all (number_place (text ++ more) 0) (text ++ more) (omega (arith, long))));
             sums = λ _. sums;
-          });
+          }, told_part new (text ++ more) 0 told);
         };
       }
 

@@ -3,6 +3,7 @@ use Rattle.std.proofs.Common.{◌≡◌, ◌≢◌, ℕ, suc, ◌+◌, ◌<◌, 
 use Rattle.std.specs.Prelude.{bit_xor}
 use Rattle.std.specs.Int.Bits.{xor_assoc}
 use Rattle.std.proofs.lemmas.Nat.{xor_comm}
+use Rattle.std.proofs.lemmas.Bool.{cases_lt}
 use Rattle.std.proofs.lemmas.List.{take_all, drop_all, length-drop, length-take, length-map, drop-drop, map-append, take-append-drop}
 use Rattle.std.proofs.Math.Seq.{take-add}
 use borrow.Author.Count.{below_more}
@@ -15,16 +16,19 @@ use Rattle.lf_sqlite_pages.proofs.Changes.{IsChange-push, FitsAtEnd}
 use Rattle.ltx_codec.specs.Fields.{AreBytes, four_at, eight_at, header_in}
 use Rattle.ltx_codec.specs.Places.{IsEarliest, IsSoundBefore, HasPages, number_place, number_at, number_before, page_in}
 use Rattle.ltx_codec.specs.Block.{IsRead, IsNextNumber}
-use Rattle.ltx_codec.specs.Decoding.{HasFed, IsInBlock, ShowsPage, page_shown}
+use Rattle.ltx_codec.specs.Decoding.{HasFed, IsInBlock, IsPart, held_part, ShowsPage, page_shown, IsRefusedWithin}
 use Rattle.ltx_codec.specs.Feeding.{HasPagesOf, HasNumber}
 use Rattle.ltx_codec.specs.declared.decoder.Decoder.{Decoder}
 use Rattle.ltx_codec.specs.declared.header.Header.{Header}
+use Rattle.ltx_codec.specs.declared.fault.LtxFault.{LtxFault}
 use Rattle.ltx_codec.specs.declared.fault.LtxFault.TheVariants as fault
+use Rattle.ltx_codec.specs.Numbering.{MayFollow, BreaksNumbering}
+use Rattle.ltx_codec.proofs.NumberLemmas.{IsKth, number_sound, number_refused, numbering_found}
 use Rattle.ltx_codec.proofs.BlockLemmas.{next_place, short_number, short_page}
 use Rattle.ltx_codec.proofs.TextLemmas.{before_more, AreBytes-drop}
 use Rattle.ltx_codec.proofs.ReadLemmas.{read_next}
-use Rattle.ltx_codec.proofs.FeedLemmas.{Stays, piece_rest}
-use Rattle.ltx_codec.proofs.PieceLemmas.{Grows, pages_longer, pages_of, fed_of, held_length, held_is_rest, next_longer, number_kept, two_taken}
+use Rattle.ltx_codec.proofs.FeedLemmas.{Stays, piece_rest, told_part}
+use Rattle.ltx_codec.proofs.PieceLemmas.{Grows, held_untold, pages_longer, pages_of, fed_of, held_length, held_is_rest, next_longer, number_kept, size_kept, two_taken, four_rest}
 
 -- less than a number is held
 pub number_goes_on : (old new : Decoder) (limit : ℕ) (text more : List ℕ) → HasFed old limit text → old.in_block ≡ true → Grows old new more → AreBytes more
@@ -35,7 +39,9 @@ number_goes_on old new limit text more fed stage grows fits few =
     let k = length p.0.pages in
     let read = has.block.read in
     let len = held_length new limit (text ++ more) p.0 has (grows.told ∙ grows.untold) in
-    fed_of new limit (text ++ more) p.0 has (short_number (text ++ more) k read.pages read.sound (omega (arith, len, few)) read.there)
+    fed_of new limit (text ++ more) p.0 has
+    (record { page = λ there more. absurd (omega (arith, there, len, few)); end = λ there ends. absurd (omega (arith, there, len, few)) })
+    (short_number (text ++ more) k read.pages read.sound (omega (arith, len, few)) read.there)
 
 -- the number is held, and more of its part comes
 pub number_longer : (old new : Decoder) (limit : ℕ) (text more : List ℕ) (change : PageChange) (number : ℕ) → HasNumber old limit text change number → Grows old new more → AreBytes more
@@ -56,7 +62,10 @@ page_goes_on d limit text change number has some untold few =
     let read = has.feeding.block.read in
     let size : d.header.page_size ≡ four_at 8 text = ap (λ (h : Header). h.page_size) has.feeding.block.header in
     let len = held_length d limit text change has.feeding untold in
-    fed_of d limit text change has.feeding (short_page text k read.pages read.sound has.sound (λ zero. some (has.number_is ∙ zero)) (omega (arith, len, few, size, next_place text k)))
+    let held : length (held_part d) ≡ length d.held.items = ap length (held_untold d untold) in
+    fed_of d limit text change has.feeding
+    (record { page = λ there more. omega (arith, held, few, size); end = λ there ends. absurd (some (has.number_is ∙ ends)) })
+    (short_page text k read.pages read.sound has.sound (λ zero. some (has.number_is ∙ zero)) (omega (arith, len, few, size, next_place text k)))
 
 -- the sums of pages and of one more
 sums_more : (n : ℕ) (pages : List (List ℕ)) (page : List ℕ) → joined (page_sums n (pages ++ page ∷ [])) ≡ bit_xor (joined (page_sums n pages)) (page_sum_of (n + length pages) page)
@@ -163,7 +172,7 @@ module _ (old new : Decoder) (limit : ℕ) (text : List ℕ) (change : PageChang
             register = register_is ∙ ap (after_bytes all_ones) (sym (ap (λ (j : ℕ). take (number_place text j) text) count ∙ take_all (number_place text (length change.pages + 1)) text (omega (arith, end))));
             sums = sums_is;
           };
-        }) (short_number text (length change.pages + 1) read.pages read.sound (omega (arith, end)) (omega (arith, end)));
+        }) (told_part new text (length (with_page change number (drop 4 old.held.items)).pages) takes.told) (short_number text (length change.pages + 1) read.pages read.sound (omega (arith, end)) (omega (arith, end)));
       }
 
 -- the piece ends in a page
@@ -173,3 +182,67 @@ page_more old new limit text piece first change number has some grows fits few =
     let longer = number_longer old new limit (text ++ take first piece) (drop first piece) change number has grows (AreBytes-drop first piece fits) in
     subst (λ (t : List ℕ). HasFed new limit t) (piece_rest text piece first)
     (page_goes_on new limit ((text ++ take first piece) ++ drop first piece) change number longer some (grows.told ∙ grows.untold) few)
+
+-- a number that is held
+module _ (old new : Decoder) (limit : ℕ) (text more : List ℕ) (number : ℕ) (fed : HasFed old limit text) (stage : old.in_block ≡ true) (grows : Grows old new more) (fits : AreBytes more)
+    (held : 4 ≤ length new.held.items) (number_is : number ≡ four_at 0 new.held.items) where
+  has_pages : HasPagesOf new limit (text ++ more) (pages_of old limit text fed stage).0
+  has_pages = pages_longer old new limit text more (pages_of old limit text fed stage).0 (pages_of old limit text fed stage).1 grows fits
+
+  pub kth : IsKth (text ++ more) (length (pages_of old limit text fed stage).0.pages) new.header new.number number
+  kth =
+      let has = has_pages in
+      let at = number_place (text ++ more) (length (pages_of old limit text fed stage).0.pages) in
+      record {
+        header_is = has.block.header;
+        before_is = has.block.number;
+        number_is = number_is ∙ ap (four_at 0) (held_is_rest new limit (text ++ more) (pages_of old limit text fed stage).0 has (grows.told ∙ grows.untold))
+            ∙ four_rest at 0 (text ++ more) ∙ ap (λ (p : ℕ). four_at p (text ++ more)) (add-zero at);
+        there = omega (arith, held_length new limit (text ++ more) (pages_of old limit text fed stage).0 has (grows.told ∙ grows.untold), held);
+      }
+
+  pub number_held : MayFollow new.header new.number number → HasNumber new limit (text ++ more) (pages_of old limit text fed stage).0 number
+  number_held may = record {
+    feeding = has_pages;
+    sound = number_sound (text ++ more) (length (pages_of old limit text fed stage).0.pages) new.header new.number number kth may;
+    number_is = kth.number_is;
+  }
+
+  pub number_refused_at : (f : LtxFault) → BreaksNumbering new.header new.number number f → IsRefusedWithin limit (text ++ more) f
+  number_refused_at f rule =
+      let read = has_pages.block.read in
+      (numbering_found new.header new.number number f rule,
+       inl (number_refused (text ++ more) (length (pages_of old limit text fed stage).0.pages) new.header new.number number kth read.pages read.sound f rule))
+
+  -- how much is held with the number
+  module _ (short : length old.held.items < 4 → length new.held.items ≤ 4) (none : 4 ≤ length old.held.items → length more ≡ 0) where
+    old_place : 4 ≤ length old.held.items → number_place text (length (pages_of old limit text fed stage).0.pages) + 4 ≤ length text
+    old_place enough = omega (arith, held_length old limit text (pages_of old limit text fed stage).0 (pages_of old limit text fed stage).1 grows.untold, enough)
+
+    old_number : 4 ≤ length old.held.items → number_at text (length (pages_of old limit text fed stage).0.pages) ≡ number
+    old_number enough =
+        number_kept text more (pages_of old limit text fed stage).1.block.read.header (length (pages_of old limit text fed stage).0.pages) (old_place enough) ∙ sym kth.number_is
+
+    old_held : length (held_part old) ≡ length old.held.items
+    old_held = ap length (held_untold old grows.untold)
+
+    new_held : length new.held.items ≡ length old.held.items + length more
+    new_held = ap length grows.held ∙ length-append old.held.items more
+
+    pub number_in_page : number ≢ 0 → length new.held.items ≤ 4 + new.header.page_size
+    number_in_page some = elim (cases_lt (length old.held.items) 4) [
+      | inl few ↦ omega (arith, short few)
+      | inr enough ↦
+        let size : old.header.page_size ≡ four_at 8 text = ap (λ (h : Header). h.page_size) (pages_of old limit text fed stage).1.block.header in
+        let size-new : new.header.page_size ≡ old.header.page_size = ap (λ (h : Header). h.page_size) grows.header in
+        let part = (pages_of old limit text fed stage).2.page (old_place enough) (λ zero. some (sym (old_number enough) ∙ zero)) in
+        omega (arith, part, old_held, new_held, none enough, size, size-new)
+    ]
+
+    pub number_in_trailer : number ≡ 0 → length new.held.items ≤ 20
+    number_in_trailer ends = elim (cases_lt (length old.held.items) 4) [
+      | inl few ↦ omega (arith, short few)
+      | inr enough ↦
+        let part = (pages_of old limit text fed stage).2.end (old_place enough) (old_number enough ∙ ends) in
+        omega (arith, part, old_held, new_held, none enough)
+    ]

@@ -11,7 +11,7 @@ use Rattle.ltx_codec.specs.Format.{IsDatabaseSize, pages_text}
 use Rattle.ltx_codec.specs.Places.{IsEarliest, IsSoundBefore, number_place, number_at, number_before, page_in}
 use Rattle.ltx_codec.specs.HeaderRules.{IsThere, HasSoundFields}
 use Rattle.ltx_codec.specs.Block.{HasHeader, IsRead, IsNextNumber}
-use Rattle.ltx_codec.specs.Decoding.{HasFed, IsInHeader, IsInBlock, IsWithin, held_part}
+use Rattle.ltx_codec.specs.Decoding.{HasFed, IsInHeader, IsInBlock, IsPart, IsWithin, held_part}
 use Rattle.ltx_codec.specs.Feeding.{HasPagesOf, HasNumber}
 use Rattle.ltx_codec.specs.declared.decoder.Decoder.{Decoder}
 use Rattle.ltx_codec.specs.declared.header.Header.{Header}
@@ -169,20 +169,20 @@ pages_longer old new limit text more change has grows fits =
       };
     }
 
-pub fed_of : (d : Decoder) (limit : ℕ) (text : List ℕ) (change : PageChange) → HasPagesOf d limit text change → IsEarliest text fault.Short → HasFed d limit text
-fed_of d limit text change has short = record {
+pub fed_of : (d : Decoder) (limit : ℕ) (text : List ℕ) (change : PageChange) → HasPagesOf d limit text change → IsPart d text (length change.pages) → IsEarliest text fault.Short → HasFed d limit text
+fed_of d limit text change has part short = record {
   unfinished = short;
   octets = has.octets;
   sound = has.sound;
   limit_is = has.limit_is;
   within = has.within;
-  stage = inr (change, has.block);
+  stage = inr (change, has.block, part);
 }
 
-pub pages_of : (d : Decoder) (limit : ℕ) (text : List ℕ) → HasFed d limit text → d.in_block ≡ true → (change : PageChange) × HasPagesOf d limit text change
+pub pages_of : (d : Decoder) (limit : ℕ) (text : List ℕ) → HasFed d limit text → d.in_block ≡ true → (change : PageChange) × HasPagesOf d limit text change × IsPart d text (length change.pages)
 pages_of d limit text fed stage = elim fed.stage [
   | inl head ↦ let other = head.stage in absurd cc
-  | inr block ↦ (block.0, record { octets = fed.octets; sound = fed.sound; limit_is = fed.limit_is; within = fed.within; block = block.1 })
+  | inr block ↦ (block.0, record { octets = fed.octets; sound = fed.sound; limit_is = fed.limit_is; within = fed.within; block = block.1 }, block.2)
 ]
 
 -- what is held is as long as the text behind the pages

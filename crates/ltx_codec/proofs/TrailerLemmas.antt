@@ -12,7 +12,7 @@ use Rattle.ltx_codec.specs.Fields.{AreBytes, four_at, eight_at, header_in}
 use Rattle.ltx_codec.specs.Format.{file_sum, sealed, IsLtx}
 use Rattle.ltx_codec.specs.Places.{IsEarliest, IsSoundBefore, IsWrongSum, number_place, number_at, page_in}
 use Rattle.ltx_codec.specs.Trailer.{HasTrailer}
-use Rattle.ltx_codec.specs.Decoding.{HasFed, IsRefusedWithin, ShowsFile}
+use Rattle.ltx_codec.specs.Decoding.{HasFed, held_part, IsPart, IsRefusedWithin, ShowsFile}
 use Rattle.ltx_codec.specs.Feeding.{HasPagesOf, HasNumber, IsWrongPost, HasRightSums, BreaksSums}
 use Rattle.ltx_codec.specs.declared.decoder.Decoder.{Decoder}
 use Rattle.ltx_codec.specs.declared.header.Header.{Header}
@@ -21,7 +21,7 @@ use Rattle.ltx_codec.specs.declared.fault.LtxFault.TheVariants as fault
 use Rattle.ltx_codec.proofs.BlockLemmas.{wrong_sum, past_sum, short_trailer, wrong_file_sum}
 use Rattle.ltx_codec.proofs.DecodeLemmas.{is_ltx}
 use Rattle.ltx_codec.proofs.FeedLemmas.{Stays, nothing_read}
-use Rattle.ltx_codec.proofs.PieceLemmas.{fed_of, held_length, held_is_rest, eight_rest}
+use Rattle.ltx_codec.proofs.PieceLemmas.{fed_of, held_untold, held_length, held_is_rest, eight_rest}
 
 sealed_is : (bytes : List ℕ) (register : ℕ) → register ≡ after_bytes all_ones bytes → sealed register ≡ file_sum bytes
 unfolding crc
@@ -113,7 +113,10 @@ module _ (d : Decoder) (limit : ℕ) (text : List ℕ) (change : PageChange) (ha
     trailer_goes_on few =
         let read = has.feeding.block.read in
         let at = long in
-        fed_of d limit text change has.feeding (short_trailer text (length change.pages) read.pages read.sound has.sound ends (omega (arith, at, few))
+        let held : length (held_part d) ≡ length d.held.items = ap length (held_untold d untold) in
+        fed_of d limit text change has.feeding
+        (record { page = λ there more. absurd (more ends); end = λ there end. omega (arith, held, few) })
+        (short_trailer text (length change.pages) read.pages read.sound has.sound ends (omega (arith, at, few))
           (λ room. past_sum text (length change.pages) read.pages read.sound has.sound ends (right_at (right.post (omega (arith, at, room)))) room))
 
     -- the file is whole

@@ -48,6 +48,11 @@ pub record IsInBlock (decoder : Decoder) (text : List ℕ) (change : PageChange)
   pub register : decoder.register ≡ after_bytes all_ones (take (number_place text (length change.pages)) text)
   pub sums : eight_at 16 text ≡ 1 → decoder.sums ≡ joined (page_sums 1 (map (λ w. w.bytes) change.pages))
 
+-- behind a number that is held no more is held than its page, or the trailer
+pub record IsPart (decoder : Decoder) (text : List ℕ) (k : ℕ) : Type 0 where
+  pub page : number_place text k + 4 ≤ length text → number_at text k ≢ 0 → length (held_part decoder) ≤ 4 + four_at 8 text
+  pub end : number_place text k + 4 ≤ length text → number_at text k ≡ 0 → length (held_part decoder) ≤ 20
+
 -- the page size, once it is there, is within the limit
 abbrev pub IsWithin : ℕ → List ℕ → Type 0
 IsWithin limit text = 12 ≤ length text → four_at 8 text ≤ limit
@@ -60,7 +65,7 @@ pub record HasFed (decoder : Decoder) (limit : ℕ) (text : List ℕ) : Type 0 w
   pub sound : decoder.fault ≡ None
   pub limit_is : decoder.limit ≡ limit
   pub within : IsWithin limit text
-  pub stage : IsInHeader decoder text ⊎ ((change : PageChange) × IsInBlock decoder text change)
+  pub stage : IsInHeader decoder text ⊎ ((change : PageChange) × IsInBlock decoder text change × IsPart decoder text (length change.pages))
 
 -- the decoder found this fault, and answers it from then on
 abbrev pub HasFailed : Decoder → LtxFault → Type 0

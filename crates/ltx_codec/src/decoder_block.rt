@@ -44,7 +44,7 @@ impl Decoder {
         requires untold { self.old.told ≡ false }
         requires more { number ≢ 0 }
         requires within { first ≤ length piece.now }
-        ensures gives { (limit : ℕ) (text : List ℕ) (change : PageChange) → HasNumber self.old limit (text ++ take first piece.now) change number → FeedGives self.new limit text piece.now (Ok result) }
+        ensures gives { (limit : ℕ) (text : List ℕ) (change : PageChange) → HasNumber self.old limit (text ++ take first piece.now) change number → length self.old.held.items ≤ 4 + self.old.header.page_size → FeedGives self.new limit text piece.now (Ok result) }
         ensures same { self.new.fault ≡ self.old.fault }
     {
         let (_, rest) = piece.split_at(first);

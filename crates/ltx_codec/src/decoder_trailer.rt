@@ -66,7 +66,7 @@ impl Decoder {
     pub fn feed_trailer(&mut self, first: usize, piece: &[u8]) -> Result<Seen, LtxFault>
         requires untold { self.old.told ≡ false }
         requires within { first ≤ length piece.now }
-        ensures gives { (limit : ℕ) (text : List ℕ) (change : PageChange) → HasNumber self.old limit (text ++ take first piece.now) change 0 → FeedGives self.new limit text piece.now result }
+        ensures gives { (limit : ℕ) (text : List ℕ) (change : PageChange) → HasNumber self.old limit (text ++ take first piece.now) change 0 → length self.old.held.items ≤ 20 → FeedGives self.new limit text piece.now result }
         ensures same { self.new.fault ≡ self.old.fault }
     {
         let (_, rest) = piece.split_at(first);

@@ -4,11 +4,11 @@ use Rattle.ltx_codec.specs.Decoding.{ShowsPage}
 use Rattle.ltx_codec.specs.declared.decoder.Decoder.{Decoder}
 use Rattle.ltx_codec.proofs.TextLemmas.{AreBytes-take, AreBytes-drop}
 use Rattle.ltx_codec.proofs.PieceLemmas.{Grows, two_taken, held_length}
-use Rattle.ltx_codec.proofs.PageLemmas.{page_more, page_ends, number_longer}
+use Rattle.ltx_codec.proofs.PageLemmas.{TakesPage, page_more, page_ends, number_longer}
 use Rattle.ltx_codec.proofs.decoder.Decoder.feed_page.Goals as goal
 
 pub returns-then-len-part-clause-gives : goal.returns-then-len-part-clause-gives
-returns-then-len-part-clause-gives c limit text change has =
+returns-then-len-part-clause-gives c limit text change has part =
     let piece = c.args.piece.now in
     let rest = c.split_at.result.1.now in
     let all : take c.fill.result rest ≡ drop c.args.first piece =
@@ -24,4 +24,37 @@ returns-then-len-part-clause-gives c limit text change has =
     (omega (arith, c.fill.ensures.size, c.len.ensures, c.if-len-part.true))
 
 pub returns-clause-gives : goal.returns-clause-gives
-returns-clause-gives c limit text change has = ?
+returns-clause-gives c limit text change has part =
+    let old = c.args.self.now in
+    let piece = c.args.piece.now in
+    let first = c.args.first in
+    let more = take c.fill.result (drop first piece) in
+    let mid : Decoder = record {
+      limit = old.limit; held = c.fill.new.held; told = old.told; in_block = old.in_block; header = old.header; number = old.number;
+      sums = old.sums; register = old.register; post = old.post; fault = old.fault;
+      room = (omega (arith, old.room.0, c.fill.ensures.capacity), omega (arith, old.room.1, c.fill.ensures.capacity), old.room.2);
+    } in
+    let grows : Grows old mid more = record {
+      stays = record { fault = refl; limit = refl };
+      untold = c.requires.untold;
+      told = refl; stage = refl; header = refl; number = refl; sums = refl; register = refl;
+      held = c.fill.ensures.items ∙ ap (λ (l : List ℕ). old.held.items ++ take c.fill.result l) c.split_at.ensures.back;
+    } in
+    let longer = number_longer old mid limit (text ++ take first piece) more change c.args.number has grows (AreBytes-take c.fill.result (drop first piece) (AreBytes-drop first piece (λ i. omega (arith, c.type_inv.piece i)))) in
+    let grown = ap length c.fill.ensures.items in
+    let whole : length c.fill.new.held.items ≡ 4 + old.header.page_size =
+        omega (arith, part, c.fill.ensures.size, c.fill.ensures.len, c.fill.ensures.count, c.len.ensures, c.if-len-part.false, ap length c.fill.ensures.items,
+          length-append old.held.items (take c.fill.result c.split_at.result.1.now), length-take c.fill.result c.split_at.result.1.now) in
+    let takes : TakesPage mid c.take_page.new.self c.args.number = record {
+      stays = record { fault = c.take_page.ensures.same.1; limit = c.take_page.ensures.same.0 };
+      stage = c.take_page.ensures.same.2;
+      header = c.take_page.ensures.shown.0;
+      held = ap (λ v. v.items) c.take_page.ensures.shown.1;
+      number_is = c.take_page.ensures.number.0;
+      told = c.take_page.ensures.number.1;
+      register = c.take_page.ensures.register;
+      sums = c.take_page.ensures.sums;
+    } in
+    let page = page_ends mid c.take_page.new.self limit ((text ++ take first piece) ++ more) change c.args.number longer c.requires.more c.requires.untold whole takes in
+    (omega (arith, c.fill.ensures.count, c.split_at.ensures.back_len),
+     subst (λ (t : List ℕ). ShowsPage c.take_page.new.self limit c.args.number t) (sym (two_taken text piece first c.fill.result)) page)
