@@ -208,6 +208,9 @@ module _ (old new : Decoder) (limit : ℕ) (text more : List ℕ) (number : ℕ)
     number_is = kth.number_is;
   }
 
+  pub end_held : number ≡ 0 → MayFollow new.header new.number number → HasNumber new limit (text ++ more) (pages_of old limit text fed stage).0 0
+  end_held ends may = subst (λ (n : ℕ). HasNumber new limit (text ++ more) (pages_of old limit text fed stage).0 n) ends (number_held may)
+
   pub number_refused_at : (f : LtxFault) → BreaksNumbering new.header new.number number f → IsRefusedWithin limit (text ++ more) f
   number_refused_at f rule =
       let read = has_pages.block.read in

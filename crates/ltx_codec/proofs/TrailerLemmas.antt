@@ -20,8 +20,10 @@ use Rattle.ltx_codec.specs.declared.fault.LtxFault.{LtxFault}
 use Rattle.ltx_codec.specs.declared.fault.LtxFault.TheVariants as fault
 use Rattle.ltx_codec.proofs.BlockLemmas.{wrong_sum, past_sum, short_trailer, wrong_file_sum}
 use Rattle.ltx_codec.proofs.DecodeLemmas.{is_ltx}
-use Rattle.ltx_codec.proofs.FeedLemmas.{Stays, nothing_read}
-use Rattle.ltx_codec.proofs.PieceLemmas.{fed_of, held_untold, held_length, held_is_rest, eight_rest}
+use Rattle.ltx_codec.proofs.FeedLemmas.{Stays, nothing_read, piece_rest}
+use Rattle.ltx_codec.proofs.TextLemmas.{AreBytes-drop}
+use Rattle.ltx_codec.proofs.PageLemmas.{number_longer}
+use Rattle.ltx_codec.proofs.PieceLemmas.{Grows, fed_of, held_untold, held_length, held_is_rest, eight_rest}
 
 sealed_is : (bytes : List ℕ) (register : ℕ) → register ≡ after_bytes all_ones bytes → sealed register ≡ file_sum bytes
 unfolding crc
@@ -151,3 +153,11 @@ module _ (d : Decoder) (limit : ℕ) (text : List ℕ) (change : PageChange) (ha
             });
           };
         }
+
+-- the piece ends in the trailer
+pub trailer_more : (old new : Decoder) (limit : ℕ) (text piece : List ℕ) (first : ℕ) (change : PageChange) → HasNumber old limit (text ++ take first piece) change 0
+    → Grows old new (drop first piece) → AreBytes piece → HasRightSums new.header new.sums new.register new.held.items → length new.held.items < 20 → HasFed new limit (text ++ piece)
+trailer_more old new limit text piece first change has grows fits right few =
+    let longer = number_longer old new limit (text ++ take first piece) (drop first piece) change 0 has grows (AreBytes-drop first piece fits) in
+    subst (λ (t : List ℕ). HasFed new limit t) (piece_rest text piece first)
+    (trailer_goes_on new limit ((text ++ take first piece) ++ drop first piece) change longer (grows.told ∙ grows.untold) right few)

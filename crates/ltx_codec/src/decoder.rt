@@ -1,4 +1,4 @@
-ghost use Rattle.std.specs.Prelude.{◌≡◌, ◌+◌, ◌≤◌, [], vec_capacity, IfOk};
+ghost use Rattle.std.specs.Prelude.{◌≡◌, ◌≢◌, ◌+◌, ◌≤◌, ℕ, List, [], false, Err, vec_capacity, IfOk, IfErr, IsOk};
 
 use crate::fault::LtxFault;
 use crate::header::Header;
@@ -94,5 +94,63 @@ impl Decoder {
         ensures { result ≡ post_shown self.now }
     {
         self.post
+    }
+
+    /// Takes a piece of the text, up to the end of a part. A fault is answered with the piece in
+    /// which it stands, and again at each later call.
+    pub fn feed(&mut self, piece: &[u8]) -> Result<Seen, LtxFault>
+        ensures gives { (limit : ℕ) (text : List ℕ) → HasFed self.old limit text → FeedGives self.new limit text piece.now result }
+        ensures fails { IfErr result (HasFailed self.new) }
+        ensures again { (f : LtxFault) → HasFailed self.old f → result ≡ Err f }
+    {
+        if let Some(fault) = self.fault {
+            return Err(fault);
+        }
+        self.begin_part();
+        match self.feed_part(piece) {
+            Ok(seen) => Ok(seen),
+            Err(fault) => {
+                self.fault = Some(fault);
+                Err(fault)
+            }
+        }
+    }
+
+    /// Drops a part that was told.
+    fn begin_part(&mut self)
+        ensures fed { (limit : ℕ) (text : List ℕ) → HasFed self.old limit text → HasFed self.new limit text }
+        ensures untold { self.new.told ≡ false }
+    {
+        if !self.told {
+            return;
+        }
+        self.held.clear();
+        self.told = false;
+    }
+
+    fn feed_part(&mut self, piece: &[u8]) -> Result<Seen, LtxFault>
+        requires { self.old.told ≡ false }
+        ensures gives { (limit : ℕ) (text : List ℕ) → HasFed self.old limit text → FeedGives self.new limit text piece.now result }
+    {
+        if self.in_block {
+            self.feed_block(piece)
+        } else {
+            self.feed_header(piece)
+        }
+    }
+
+    /// Says whether the text may end here: `Short` where a file is begun and not whole.
+    pub fn finish(&self) -> Result<(), LtxFault>
+        ensures whole { (limit : ℕ) → HasFed self.now limit [] → IsOk result }
+        ensures short { (limit : ℕ) (text : List ℕ) → HasFed self.now limit text → text ≢ [] → result ≡ Err LtxFault.Short }
+        ensures again { (f : LtxFault) → HasFailed self.now f → result ≡ Err f }
+    {
+        if let Some(fault) = self.fault {
+            return Err(fault);
+        }
+        if self.in_block || !self.told && self.held.len() > 0 {
+            return Err(LtxFault::Short);
+        }
+        Ok(())
     }
 }

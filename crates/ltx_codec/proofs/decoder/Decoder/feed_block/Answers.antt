@@ -1,6 +1,12 @@
-use Rattle.std.proofs.Common.{◌≡◌, ◌<◌, ◌≤◌, ◌+◌, ◌++◌, ℕ, List, length, take, drop, min, refl, sym, ap, arith, ◌∙◌, subst}
-use Rattle.std.proofs.lemmas.List.{take_all}
-use Rattle.ltx_codec.proofs.PageLemmas.{number_goes_on}
+use Rattle.std.proofs.Common.{◌≡◌, ◌≢◌, ◌<◌, ◌≤◌, ◌+◌, ◌++◌, ℕ, List, length, take, drop, min, refl, sym, ap, arith, ◌∙◌, subst, length-append}
+use Rattle.std.proofs.lemmas.List.{take_all, length-take}
+use Rattle.ltx_codec.proofs.PageLemmas.{number_goes_on, number_held, end_held, number_refused_at, number_in_page, number_in_trailer}
+use Rattle.ltx_codec.proofs.PieceLemmas.{Grows, pages_of}
+use Rattle.ltx_codec.proofs.FeedLemmas.{refused_piece}
+use Rattle.ltx_codec.proofs.TextLemmas.{AreBytes-take}
+use Rattle.ltx_codec.specs.Fields.{four_at}
+use Rattle.ltx_codec.specs.Feeding.{HasNumber}
+use Rattle.ltx_codec.specs.declared.decoder.Decoder.{Decoder}
 use Rattle.ltx_codec.proofs.decoder.Decoder.feed_block.Goals as goal
 
 pub returns-then-len-lt-NUMBER-clause-gives : goal.returns-then-len-lt-NUMBER-clause-gives
@@ -19,10 +25,91 @@ returns-then-len-lt-NUMBER-clause-gives c limit text fed =
     (omega (arith, c.fill-first.ensures.size, c.len.ensures, c.if-len-lt-NUMBER.true))
 
 pub returns-in-Err-clause-gives : goal.returns-in-Err-clause-gives
-returns-in-Err-clause-gives c = ?
+returns-in-Err-clause-gives c limit text fed =
+    let old = c.args.self.now in
+    let piece = c.args.piece.now in
+    let more = take c.fill-first.result piece in
+    let fits = AreBytes-take c.fill-first.result piece (λ i. omega (arith, c.type_inv.piece i)) in
+    let held : 4 ≤ length c.fill-first.new.held.items = omega (arith, c.fill-first.ensures.size, c.len.ensures, c.if-len-lt-NUMBER.false) in
+    let number-is : c.u32_at-number.result ≡ four_at 0 c.fill-first.new.held.items = c.u32_at-number.ensures ∙ ap (four_at 0) c.as_slice.ensures.value in
+    let mid : Decoder = record {
+      limit = old.limit; held = c.fill-first.new.held; told = old.told; in_block = old.in_block; header = old.header; number = old.number;
+      sums = old.sums; register = old.register; post = old.post; fault = old.fault;
+      room = (omega (arith, old.room.0, c.fill-first.ensures.capacity), omega (arith, old.room.1, c.fill-first.ensures.capacity), old.room.2);
+    } in
+    let grows : Grows old mid more = record {
+        stays = record { fault = refl; limit = refl };
+        untold = c.requires.untold;
+        told = refl; stage = refl; header = refl; number = refl; sums = refl; register = refl;
+        held = c.fill-first.ensures.items;
+      } in
+    let refused = number_refused_at old mid limit text more c.u32_at-number.result fed c.requires.stage grows fits held number-is c.in-Err.fault c.in-Err.ensures.fault in
+    refused_piece limit text piece c.fill-first.result c.in-Err.fault refused
 
 pub returns-then-number-eq0-clause-gives : goal.returns-then-number-eq0-clause-gives
-returns-then-number-eq0-clause-gives c = ?
+returns-then-number-eq0-clause-gives c limit text fed =
+    let old = c.args.self.now in
+    let piece = c.args.piece.now in
+    let more = take c.fill-first.result piece in
+    let fits = AreBytes-take c.fill-first.result piece (λ i. omega (arith, c.type_inv.piece i)) in
+    let held : 4 ≤ length c.fill-first.new.held.items = omega (arith, c.fill-first.ensures.size, c.len.ensures, c.if-len-lt-NUMBER.false) in
+    let number-is : c.u32_at-number.result ≡ four_at 0 c.fill-first.new.held.items = c.u32_at-number.ensures ∙ ap (four_at 0) c.as_slice.ensures.value in
+    let grown : length c.fill-first.new.held.items ≡ length old.held.items + length more = ap length c.fill-first.ensures.items ∙ length-append old.held.items more in
+    let few : length old.held.items < 4 → length c.fill-first.new.held.items ≤ 4 =
+        λ (less : length old.held.items < 4). omega (arith, grown, c.fill-first.ensures.size, c.fill-first.ensures.len, c.fill-first.ensures.count, length-take c.fill-first.result piece) in
+    let none : 4 ≤ length old.held.items → length more ≡ 0 =
+        λ (enough : 4 ≤ length old.held.items). omega (arith, grown, c.fill-first.ensures.size, c.fill-first.ensures.len, c.fill-first.ensures.count, length-take c.fill-first.result piece) in
+    let mid : Decoder = record {
+      limit = old.limit; held = c.fill-first.new.held; told = old.told; in_block = old.in_block; header = old.header; number = old.number;
+      sums = old.sums; register = old.register; post = old.post; fault = old.fault;
+      room = (omega (arith, old.room.0, c.fill-first.ensures.capacity), omega (arith, old.room.1, c.fill-first.ensures.capacity), old.room.2);
+    } in
+    let grows : Grows old mid more = record {
+        stays = record { fault = refl; limit = refl };
+        untold = c.requires.untold;
+        told = refl; stage = refl; header = refl; number = refl; sums = refl; register = refl;
+        held = c.fill-first.ensures.items;
+      } in
+    let zero : c.u32_at-number.result ≡ 0 = omega arith in
+    let part = number_in_trailer old mid limit text more c.u32_at-number.result fed c.requires.stage grows fits held number-is few none zero in
+    c.feed_trailer.ensures.gives limit text (pages_of old limit text fed c.requires.stage).0
+    (end_held old _ limit text more c.u32_at-number.result fed c.requires.stage (record {
+        stays = record { fault = refl; limit = refl };
+        untold = c.requires.untold;
+        told = refl; stage = refl; header = refl; number = refl; sums = refl; register = refl;
+        held = c.fill-first.ensures.items;
+      }) fits held number-is zero c.in_default.ensures.ok) part
 
 pub returns-clause-gives : goal.returns-clause-gives
-returns-clause-gives c = ?
+returns-clause-gives c limit text fed =
+    let old = c.args.self.now in
+    let piece = c.args.piece.now in
+    let more = take c.fill-first.result piece in
+    let fits = AreBytes-take c.fill-first.result piece (λ i. omega (arith, c.type_inv.piece i)) in
+    let held : 4 ≤ length c.fill-first.new.held.items = omega (arith, c.fill-first.ensures.size, c.len.ensures, c.if-len-lt-NUMBER.false) in
+    let number-is : c.u32_at-number.result ≡ four_at 0 c.fill-first.new.held.items = c.u32_at-number.ensures ∙ ap (four_at 0) c.as_slice.ensures.value in
+    let grown : length c.fill-first.new.held.items ≡ length old.held.items + length more = ap length c.fill-first.ensures.items ∙ length-append old.held.items more in
+    let few : length old.held.items < 4 → length c.fill-first.new.held.items ≤ 4 =
+        λ (less : length old.held.items < 4). omega (arith, grown, c.fill-first.ensures.size, c.fill-first.ensures.len, c.fill-first.ensures.count, length-take c.fill-first.result piece) in
+    let none : 4 ≤ length old.held.items → length more ≡ 0 =
+        λ (enough : 4 ≤ length old.held.items). omega (arith, grown, c.fill-first.ensures.size, c.fill-first.ensures.len, c.fill-first.ensures.count, length-take c.fill-first.result piece) in
+    let mid : Decoder = record {
+      limit = old.limit; held = c.fill-first.new.held; told = old.told; in_block = old.in_block; header = old.header; number = old.number;
+      sums = old.sums; register = old.register; post = old.post; fault = old.fault;
+      room = (omega (arith, old.room.0, c.fill-first.ensures.capacity), omega (arith, old.room.1, c.fill-first.ensures.capacity), old.room.2);
+    } in
+    let grows : Grows old mid more = record {
+        stays = record { fault = refl; limit = refl };
+        untold = c.requires.untold;
+        told = refl; stage = refl; header = refl; number = refl; sums = refl; register = refl;
+        held = c.fill-first.ensures.items;
+      } in
+    let some : c.u32_at-number.result ≢ 0 = c.if-number-eq0.false in
+    let part = number_in_page old mid limit text more c.u32_at-number.result fed c.requires.stage grows fits held number-is few none some in
+    c.feed_page.ensures.gives limit text (pages_of old limit text fed c.requires.stage).0
+    (number_held old _ limit text more c.u32_at-number.result fed c.requires.stage (record {
+        stays = record { fault = refl; limit = refl };
+        untold = c.requires.untold;
+        told = refl; stage = refl; header = refl; number = refl; sums = refl; register = refl;
+        held = c.fill-first.ensures.items;
+      }) fits held number-is c.in_default.ensures.ok) part
