@@ -11,5 +11,6 @@ pub mod WriteLemmas
 pub mod AgreeLemmas
 pub mod FeedLemmas
 pub mod PieceLemmas
+pub mod PartLemmas
 pub mod PageLemmas
 pub mod TrailerLemmas

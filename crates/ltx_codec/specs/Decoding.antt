@@ -81,6 +81,14 @@ pub record IsPastLimit (limit : ℕ) (bytes : List ℕ) : Type 0 where
 abbrev pub IsRefusedWithin : ℕ → List ℕ → LtxFault → Type 0
 IsRefusedWithin limit bytes f = IsFound f × (IsEarliest bytes f ⊎ (f ≡ fault.PageSize) × IsPastLimit limit bytes)
 
+-- the header or a page ends with these bytes
+abbrev pub EndsPart : List ℕ → Type 0
+EndsPart bytes = (length bytes ≡ 100) ⊎ ((k : ℕ) × HasPages bytes (k + 1) × (length bytes ≡ number_place bytes (k + 1)))
+
+-- no part ends with the first bytes of the piece, where they are fewer than n
+abbrev pub NoneEndsBefore : List ℕ → List ℕ → ℕ → Type 0
+NoneEndsBefore text piece n = (m : ℕ) → 1 ≤ m → m < n → EndsPart (text ++ take m piece) → ⊥
+
 -- the header ends with this text, and is shown
 pub record ShowsHeader (decoder : Decoder) (limit : ℕ) (text : List ℕ) : Type 0 where
   pub ends : length text ≡ 100
@@ -107,8 +115,8 @@ pub record ShowsFile (decoder : Decoder) (limit : ℕ) (text : List ℕ) : Type 
 
 -- what feeding a piece behind a text gives
 abbrev pub FeedGives : Decoder → ℕ → List ℕ → List ℕ → Result Seen LtxFault → Type 0
-FeedGives decoder limit text piece (Ok seen.More) = HasFed decoder limit (text ++ piece)
-FeedGives decoder limit text piece (Ok (seen.Header used)) = (used ≤ length piece) × ShowsHeader decoder limit (text ++ take used piece)
-FeedGives decoder limit text piece (Ok (seen.Page used number)) = (used ≤ length piece) × ShowsPage decoder limit number (text ++ take used piece)
-FeedGives decoder limit text piece (Ok (seen.Whole used)) = (used ≤ length piece) × ShowsFile decoder limit (text ++ take used piece)
+FeedGives decoder limit text piece (Ok seen.More) = HasFed decoder limit (text ++ piece) × NoneEndsBefore text piece (length piece + 1)
+FeedGives decoder limit text piece (Ok (seen.Header used)) = (used ≤ length piece) × NoneEndsBefore text piece used × ShowsHeader decoder limit (text ++ take used piece)
+FeedGives decoder limit text piece (Ok (seen.Page used number)) = (used ≤ length piece) × NoneEndsBefore text piece used × ShowsPage decoder limit number (text ++ take used piece)
+FeedGives decoder limit text piece (Ok (seen.Whole used)) = (used ≤ length piece) × NoneEndsBefore text piece used × ShowsFile decoder limit (text ++ take used piece)
 FeedGives decoder limit text piece (Err f) = IsRefusedWithin limit (text ++ piece) f

@@ -3,6 +3,7 @@ ghost use Rattle.std.specs.Prelude.{◌≡◌, ◌+◌, ◌≤◌, ◌↔◌, �
 ghost use Rattle.lf_sqlite_pages.specs.Change.{PageChange};
 ghost use Rattle.ltx_codec.specs.Fields.{eight_at};
 ghost use Rattle.ltx_codec.specs.Format.{sealed as seal_of};
+ghost use Rattle.ltx_codec.specs.Block.{IsRead};
 ghost use Rattle.ltx_codec.specs.Decoding.{FeedGives};
 ghost use Rattle.ltx_codec.specs.Feeding.{HasNumber, HasRightSums, BreaksSums, IsWrongPost};
 
@@ -66,7 +67,7 @@ impl Decoder {
     pub fn feed_trailer(&mut self, first: usize, piece: &[u8]) -> Result<Seen, LtxFault>
         requires untold { self.old.told ≡ false }
         requires within { first ≤ length piece.now }
-        ensures gives { (limit : ℕ) (text : List ℕ) (change : PageChange) → HasNumber self.old limit (text ++ take first piece.now) change 0 → length self.old.held.items ≤ 20 → FeedGives self.new limit text piece.now result }
+        ensures gives { (limit : ℕ) (text : List ℕ) (change : PageChange) → HasNumber self.old limit (text ++ take first piece.now) change 0 → IsRead text change (length change.pages) → length self.old.held.items ≤ 20 → FeedGives self.new limit text piece.now result }
         ensures same { self.new.fault ≡ self.old.fault }
     {
         let (_, rest) = piece.split_at(first);

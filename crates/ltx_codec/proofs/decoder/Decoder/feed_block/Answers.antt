@@ -1,7 +1,10 @@
-use Rattle.std.proofs.Common.{◌≡◌, ◌≢◌, ◌<◌, ◌≤◌, ◌+◌, ◌++◌, ℕ, List, length, take, drop, min, refl, sym, ap, arith, ◌∙◌, subst, length-append}
+use Rattle.std.proofs.Common.{◌≡◌, ◌≢◌, ◌<◌, ◌≤◌, ◌+◌, ◌++◌, ℕ, List, length, take, drop, min, refl, sym, ap, arith, ◌∙◌, subst, inl, length-append}
 use Rattle.std.proofs.lemmas.List.{take_all, length-take}
 use Rattle.ltx_codec.proofs.PageLemmas.{number_goes_on, number_held, end_held, number_refused_at, number_in_page, number_in_trailer}
-use Rattle.ltx_codec.proofs.PieceLemmas.{Grows, pages_of}
+use Rattle.ltx_codec.proofs.PieceLemmas.{Grows, pages_of, held_length}
+use Rattle.ltx_codec.proofs.BlockLemmas.{next_place}
+use Rattle.ltx_codec.proofs.PartLemmas.{none_in_block}
+use Rattle.ltx_codec.specs.Places.{number_place}
 use Rattle.ltx_codec.proofs.FeedLemmas.{refused_piece}
 use Rattle.ltx_codec.proofs.TextLemmas.{AreBytes-take}
 use Rattle.ltx_codec.specs.Fields.{four_at}
@@ -14,7 +17,13 @@ returns-then-len-lt-NUMBER-clause-gives c limit text fed =
     let piece = c.args.piece.now in
     let all : take c.fill-first.result piece ≡ piece =
         take_all c.fill-first.result piece (omega (arith, c.fill-first.ensures.count, c.fill-first.ensures.len, c.len.ensures, c.if-len-lt-NUMBER.true)) in
-    number_goes_on c.args.self.now _ limit text piece fed c.requires.stage
+    let old = c.args.self.now in
+    let p = pages_of old limit text fed c.requires.stage in
+    let grown = ap length c.fill-first.ensures.items in
+    let bound : length text + (length piece + 1) ≤ number_place text (length p.0.pages + 1) =
+        omega (arith, held_length old limit text p.0 p.1 c.requires.untold, next_place text (length p.0.pages), c.fill-first.ensures.size, c.len.ensures, c.if-len-lt-NUMBER.true,
+          grown, length-append old.held.items (take c.fill-first.result piece), ap length all) in
+    (number_goes_on c.args.self.now _ limit text piece fed c.requires.stage
     (record {
       stays = record { fault = refl; limit = refl };
       untold = c.requires.untold;
@@ -22,7 +31,8 @@ returns-then-len-lt-NUMBER-clause-gives c limit text fed =
       held = c.fill-first.ensures.items ∙ ap (λ (l : List ℕ). c.args.self.now.held.items ++ l) all;
     })
     (λ i. omega (arith, c.type_inv.piece i))
-    (omega (arith, c.fill-first.ensures.size, c.len.ensures, c.if-len-lt-NUMBER.true))
+    (omega (arith, c.fill-first.ensures.size, c.len.ensures, c.if-len-lt-NUMBER.true)),
+     none_in_block text piece p.0 (length piece) (length piece + 1) p.1.block.read (λ i. omega (arith, c.type_inv.piece i)) (omega arith) (omega arith) (inl bound))
 
 pub returns-in-Err-clause-gives : goal.returns-in-Err-clause-gives
 returns-in-Err-clause-gives c limit text fed =
@@ -78,7 +88,7 @@ returns-then-number-eq0-clause-gives c limit text fed =
         untold = c.requires.untold;
         told = refl; stage = refl; header = refl; number = refl; sums = refl; register = refl;
         held = c.fill-first.ensures.items;
-      }) fits held number-is zero c.in_default.ensures.ok) part
+      }) fits held number-is zero c.in_default.ensures.ok) (pages_of old limit text fed c.requires.stage).1.block.read part
 
 pub returns-clause-gives : goal.returns-clause-gives
 returns-clause-gives c limit text fed =
@@ -112,4 +122,4 @@ returns-clause-gives c limit text fed =
         untold = c.requires.untold;
         told = refl; stage = refl; header = refl; number = refl; sums = refl; register = refl;
         held = c.fill-first.ensures.items;
-      }) fits held number-is c.in_default.ensures.ok) part
+      }) fits held number-is c.in_default.ensures.ok) (pages_of old limit text fed c.requires.stage).1.block.read part

@@ -1,4 +1,4 @@
-use Rattle.std.proofs.Common.{◌≡◌, ◌<◌, ◌≤◌, ◌+◌, ◌++◌, ℕ, List, length, take, drop, min, refl, sym, ap, arith, ◌∙◌, subst, length-append}
+use Rattle.std.proofs.Common.{◌≡◌, ◌<◌, ◌≤◌, ◌+◌, ◌-◌, ◌++◌, ℕ, List, length, take, drop, min, refl, sym, ap, arith, ◌∙◌, subst, inr, length-append}
 use Rattle.std.proofs.lemmas.List.{length-take, length-drop, take_all}
 use Rattle.ltx_codec.specs.Decoding.{ShowsFile, IsRefusedWithin}
 use Rattle.ltx_codec.specs.Feeding.{HasRightSums, BreaksSums}
@@ -6,12 +6,13 @@ use Rattle.ltx_codec.specs.declared.decoder.Decoder.{Decoder}
 use Rattle.ltx_codec.proofs.TextLemmas.{AreBytes-take, AreBytes-drop}
 use Rattle.ltx_codec.proofs.FeedLemmas.{refused_piece}
 use Rattle.ltx_codec.proofs.PieceLemmas.{Grows, two_taken}
+use Rattle.ltx_codec.proofs.PartLemmas.{none_in_block, end_stays}
 use Rattle.ltx_codec.proofs.PageLemmas.{number_longer}
 use Rattle.ltx_codec.proofs.TrailerLemmas.{trailer_more, trailer_refused, trailer_ends}
 use Rattle.ltx_codec.proofs.decoder.Decoder.feed_trailer.Goals as goal
 
 pub returns-in-Err-clause-gives : goal.returns-in-Err-clause-gives
-returns-in-Err-clause-gives c limit text change has part =
+returns-in-Err-clause-gives c limit text change has read part =
     let old = c.args.self.now in
     let piece = c.args.piece.now in
     let first = c.args.first in
@@ -35,13 +36,13 @@ returns-in-Err-clause-gives c limit text change has part =
     (subst (λ (t : List ℕ). IsRefusedWithin limit t c.in-Err.fault) (sym (two_taken text piece first c.fill.result)) refused)
 
 pub returns-then-held-lt-TRAILER-clause-gives : goal.returns-then-held-lt-TRAILER-clause-gives
-returns-then-held-lt-TRAILER-clause-gives c limit text change has part =
+returns-then-held-lt-TRAILER-clause-gives c limit text change has read part =
     let old = c.args.self.now in
     let piece = c.args.piece.now in
     let rest = c.split_at.result.1.now in
     let all : take c.fill.result rest ≡ drop c.args.first piece =
         take_all c.fill.result rest (omega (arith, c.fill.ensures.count, c.fill.ensures.len, c.as_slice-held.ensures.len, c.if-held-lt-TRAILER.true)) ∙ c.split_at.ensures.back in
-    trailer_more old _ limit text piece c.args.first change has
+    (trailer_more old _ limit text piece c.args.first change has
     (record {
       stays = record { fault = refl; limit = refl };
       untold = c.requires.untold;
@@ -50,10 +51,13 @@ returns-then-held-lt-TRAILER-clause-gives c limit text change has part =
     })
     (λ i. omega (arith, c.type_inv.piece i))
     (subst (λ (l : List ℕ). HasRightSums old.header old.sums old.register l) c.as_slice-held.ensures.value c.in_default.ensures.ok)
-    (omega (arith, c.fill.ensures.size, c.as_slice-held.ensures.len, c.if-held-lt-TRAILER.true))
+    (omega (arith, c.fill.ensures.size, c.as_slice-held.ensures.len, c.if-held-lt-TRAILER.true)),
+     let within = c.requires.within in
+     none_in_block text piece change (c.args.first + (length piece - c.args.first)) (length piece + 1) read (λ i. omega (arith, c.type_inv.piece i)) (omega (arith, within)) (omega (arith, within))
+       (inr (end_stays old limit text piece c.args.first change has (length piece - c.args.first))))
 
 pub returns-clause-gives : goal.returns-clause-gives
-returns-clause-gives c limit text change has part =
+returns-clause-gives c limit text change has read part =
     let old = c.args.self.now in
     let piece = c.args.piece.now in
     let first = c.args.first in
@@ -77,5 +81,8 @@ returns-clause-gives c limit text change has part =
         subst (λ (l : List ℕ). HasRightSums old.header old.sums old.register l) c.as_slice-held.ensures.value c.in_default.ensures.ok in
     let file = trailer_ends mid limit ((text ++ take first piece) ++ more) change longer c.requires.untold right c.end_file.new.self whole
         (record { fault = c.end_file.ensures.same.1; limit = c.end_file.ensures.same.0 }) c.end_file.ensures.post c.end_file.ensures.same.2 c.end_file.ensures.told.0 c.end_file.ensures.told.1 in
-    (omega (arith, c.fill.ensures.count, c.split_at.ensures.back_len),
+    let used : first + c.fill.result ≤ length piece = omega (arith, c.fill.ensures.count, c.split_at.ensures.back_len) in
+    (used,
+     none_in_block text piece change (first + c.fill.result) (first + c.fill.result) read (λ i. omega (arith, c.type_inv.piece i)) used (omega arith)
+       (inr (end_stays old limit text piece first change has c.fill.result)),
      subst (λ (t : List ℕ). ShowsFile c.end_file.new.self limit t) (sym (two_taken text piece first c.fill.result)) file)
