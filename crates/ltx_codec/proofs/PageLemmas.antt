@@ -232,20 +232,20 @@ module _ (old new : Decoder) (limit : ℕ) (text more : List ℕ) (number : ℕ)
     new_held : length new.held.items ≡ length old.held.items + length more
     new_held = ap length grows.held ∙ length-append old.held.items more
 
-    pub number_in_page : number ≢ 0 → length new.held.items ≤ 4 + new.header.page_size
+    pub number_in_page : number ≢ 0 → (length new.held.items ≤ 4 + new.header.page_size) × (length new.held.items < length more + (4 + new.header.page_size))
     number_in_page some = elim (cases_lt (length old.held.items) 4) [
-      | inl few ↦ omega (arith, short few)
+      | inl few ↦ (omega (arith, short few), omega (arith, few, new_held))
       | inr enough ↦
         let size : old.header.page_size ≡ four_at 8 text = ap (λ (h : Header). h.page_size) (pages_of old limit text fed stage).1.block.header in
         let size-new : new.header.page_size ≡ old.header.page_size = ap (λ (h : Header). h.page_size) grows.header in
         let part = (pages_of old limit text fed stage).2.page (old_place enough) (λ zero. some (sym (old_number enough) ∙ zero)) in
-        omega (arith, part, old_held, new_held, none enough, size, size-new)
+        (omega (arith, part, old_held, new_held, none enough, size, size-new), omega (arith, part, old_held, new_held, size, size-new))
     ]
 
-    pub number_in_trailer : number ≡ 0 → length new.held.items ≤ 20
+    pub number_in_trailer : number ≡ 0 → (length new.held.items ≤ 20) × (length new.held.items < length more + (20))
     number_in_trailer ends = elim (cases_lt (length old.held.items) 4) [
-      | inl few ↦ omega (arith, short few)
+      | inl few ↦ (omega (arith, short few), omega (arith, few, new_held))
       | inr enough ↦
         let part = (pages_of old limit text fed stage).2.end (old_place enough) (old_number enough ∙ ends) in
-        omega (arith, part, old_held, new_held, none enough)
+        (omega (arith, part, old_held, new_held, none enough), omega (arith, part, old_held, new_held))
     ]

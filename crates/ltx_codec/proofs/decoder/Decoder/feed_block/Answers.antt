@@ -81,6 +81,7 @@ returns-then-number-eq0-clause-gives c limit text fed =
         held = c.fill-first.ensures.items;
       } in
     let zero : c.u32_at-number.result ≡ 0 = omega arith in
+    let first-is : length more ≡ c.fill-first.result = omega (arith, length-take c.fill-first.result piece, c.fill-first.ensures.count) in
     let part = number_in_trailer old mid limit text more c.u32_at-number.result fed c.requires.stage grows fits held number-is few none zero in
     c.feed_trailer.ensures.gives limit text (pages_of old limit text fed c.requires.stage).0
     (end_held old _ limit text more c.u32_at-number.result fed c.requires.stage (record {
@@ -88,7 +89,7 @@ returns-then-number-eq0-clause-gives c limit text fed =
         untold = c.requires.untold;
         told = refl; stage = refl; header = refl; number = refl; sums = refl; register = refl;
         held = c.fill-first.ensures.items;
-      }) fits held number-is zero c.in_default.ensures.ok) (pages_of old limit text fed c.requires.stage).1.block.read part
+      }) fits held number-is zero c.in_default.ensures.ok) (pages_of old limit text fed c.requires.stage).1.block.read part.0 (omega (arith, part.1, first-is))
 
 pub returns-clause-gives : goal.returns-clause-gives
 returns-clause-gives c limit text fed =
@@ -115,6 +116,7 @@ returns-clause-gives c limit text fed =
         held = c.fill-first.ensures.items;
       } in
     let some : c.u32_at-number.result ≢ 0 = c.if-number-eq0.false in
+    let first-is : length more ≡ c.fill-first.result = omega (arith, length-take c.fill-first.result piece, c.fill-first.ensures.count) in
     let part = number_in_page old mid limit text more c.u32_at-number.result fed c.requires.stage grows fits held number-is few none some in
     c.feed_page.ensures.gives limit text (pages_of old limit text fed c.requires.stage).0
     (number_held old _ limit text more c.u32_at-number.result fed c.requires.stage (record {
@@ -122,4 +124,4 @@ returns-clause-gives c limit text fed =
         untold = c.requires.untold;
         told = refl; stage = refl; header = refl; number = refl; sums = refl; register = refl;
         held = c.fill-first.ensures.items;
-      }) fits held number-is c.in_default.ensures.ok) (pages_of old limit text fed c.requires.stage).1.block.read part
+      }) fits held number-is c.in_default.ensures.ok) (pages_of old limit text fed c.requires.stage).1.block.read part.0 (omega (arith, part.1, first-is))

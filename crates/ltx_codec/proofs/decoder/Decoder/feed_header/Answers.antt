@@ -32,7 +32,7 @@ returns-clause-gives c limit text fed =
         omega (arith, ap length same, c.as_slice.ensures.len, ap length grown, length-append c.args.self.now.held.items front, length-take c.fill-used.result piece, before) in
     let header : c.start_block.new.self.header ≡ header_in now = c.start_block.ensures.header ∙ ap header_in (sym c.as_slice.ensures.value ∙ same) in
     let register : c.start_block.new.self.register ≡ after_bytes all_ones now = c.start_block.ensures.register ∙ ap (after_bytes all_ones) (sym c.as_slice.ensures.value ∙ same) in
-    (used, none_in_header text piece c.fill-used.result (omega (arith, length-is, ap length grown, length-append c.args.self.now.held.items front, length-take c.fill-used.result piece,
+    (omega (arith, before, length-is, ap length grown, length-append c.args.self.now.held.items front, length-take c.fill-used.result piece, used), used, none_in_header text piece c.fill-used.result (omega (arith, length-is, ap length grown, length-append c.args.self.now.held.items front, length-take c.fill-used.result piece,
         ap length (held_is c.args.self.now limit text fed c.requires.stage c.requires.untold))), header_ends c.args.self.now c.start_block.new.self limit text front fed
       (record { fault = c.start_block.ensures.same.1; limit = c.start_block.ensures.same.0 })
       (AreBytes-take c.fill-used.result piece (λ i. omega (arith, c.type_inv.piece i))) c.requires.stage c.requires.untold grown sound within length-is header register

@@ -9,7 +9,7 @@ use Rattle.ltx_codec.proofs.PageLemmas.{TakesPage, page_more, page_ends, number_
 use Rattle.ltx_codec.proofs.decoder.Decoder.feed_page.Goals as goal
 
 pub returns-then-len-part-clause-gives : goal.returns-then-len-part-clause-gives
-returns-then-len-part-clause-gives c limit text change has read part =
+returns-then-len-part-clause-gives c limit text change has read part less =
     let piece = c.args.piece.now in
     let rest = c.split_at.result.1.now in
     let all : take c.fill.result rest ≡ drop c.args.first piece =
@@ -32,7 +32,7 @@ returns-then-len-part-clause-gives c limit text change has read part =
        (inl (let within = c.requires.within in omega (arith, bound, within))))
 
 pub returns-clause-gives : goal.returns-clause-gives
-returns-clause-gives c limit text change has read part =
+returns-clause-gives c limit text change has read part less =
     let old = c.args.self.now in
     let piece = c.args.piece.now in
     let first = c.args.first in
@@ -67,7 +67,7 @@ returns-clause-gives c limit text change has read part =
     let used : first + c.fill.result ≤ length piece = omega (arith, c.fill.ensures.count, c.split_at.ensures.back_len) in
     let few : length old.held.items + c.fill.result ≤ 4 + old.header.page_size =
         omega (arith, whole, grown, length-append old.held.items (take c.fill.result c.split_at.result.1.now), length-take c.fill.result c.split_at.result.1.now, c.fill.ensures.count) in
-    (used,
+    (omega (arith, less, whole, grown, length-append old.held.items (take c.fill.result c.split_at.result.1.now), length-take c.fill.result c.split_at.result.1.now, c.fill.ensures.count), used,
      none_in_block text piece change (first + c.fill.result) (first + c.fill.result) read (λ i. omega (arith, c.type_inv.piece i)) used (omega arith)
        (inl (page_bound old limit text piece first change has.feeding c.requires.untold read c.requires.within c.fill.result few)),
      subst (λ (t : List ℕ). ShowsPage c.take_page.new.self limit c.args.number t) (sym (two_taken text piece first c.fill.result)) page)

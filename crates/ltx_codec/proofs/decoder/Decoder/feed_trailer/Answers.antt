@@ -12,7 +12,7 @@ use Rattle.ltx_codec.proofs.TrailerLemmas.{trailer_more, trailer_refused, traile
 use Rattle.ltx_codec.proofs.decoder.Decoder.feed_trailer.Goals as goal
 
 pub returns-in-Err-clause-gives : goal.returns-in-Err-clause-gives
-returns-in-Err-clause-gives c limit text change has read part =
+returns-in-Err-clause-gives c limit text change has read part less =
     let old = c.args.self.now in
     let piece = c.args.piece.now in
     let first = c.args.first in
@@ -36,7 +36,7 @@ returns-in-Err-clause-gives c limit text change has read part =
     (subst (λ (t : List ℕ). IsRefusedWithin limit t c.in-Err.fault) (sym (two_taken text piece first c.fill.result)) refused)
 
 pub returns-then-held-lt-TRAILER-clause-gives : goal.returns-then-held-lt-TRAILER-clause-gives
-returns-then-held-lt-TRAILER-clause-gives c limit text change has read part =
+returns-then-held-lt-TRAILER-clause-gives c limit text change has read part less =
     let old = c.args.self.now in
     let piece = c.args.piece.now in
     let rest = c.split_at.result.1.now in
@@ -57,7 +57,7 @@ returns-then-held-lt-TRAILER-clause-gives c limit text change has read part =
        (inr (end_stays old limit text piece c.args.first change has (length piece - c.args.first))))
 
 pub returns-clause-gives : goal.returns-clause-gives
-returns-clause-gives c limit text change has read part =
+returns-clause-gives c limit text change has read part less =
     let old = c.args.self.now in
     let piece = c.args.piece.now in
     let first = c.args.first in
@@ -82,7 +82,7 @@ returns-clause-gives c limit text change has read part =
     let file = trailer_ends mid limit ((text ++ take first piece) ++ more) change longer c.requires.untold right c.end_file.new.self whole
         (record { fault = c.end_file.ensures.same.1; limit = c.end_file.ensures.same.0 }) c.end_file.ensures.post c.end_file.ensures.same.2 c.end_file.ensures.told.0 c.end_file.ensures.told.1 in
     let used : first + c.fill.result ≤ length piece = omega (arith, c.fill.ensures.count, c.split_at.ensures.back_len) in
-    (used,
+    (omega (arith, less, whole, ap length c.fill.ensures.items, length-append old.held.items (take c.fill.result c.split_at.result.1.now), length-take c.fill.result c.split_at.result.1.now, c.fill.ensures.count), used,
      none_in_block text piece change (first + c.fill.result) (first + c.fill.result) read (λ i. omega (arith, c.type_inv.piece i)) used (omega arith)
        (inr (end_stays old limit text piece first change has c.fill.result)),
      subst (λ (t : List ℕ). ShowsFile c.end_file.new.self limit t) (sym (two_taken text piece first c.fill.result)) file)
