@@ -6,10 +6,9 @@ use Rattle.std.proofs.lemmas.List.{drop-take, take-append-le}
 use Rattle.std.proofs.lemmas.Bool.{cases_order, cases_lt}
 use Rattle.page_checksum.specs.Sums.{database_sum}
 use Rattle.lf_sqlite_pages.specs.PageSize.{IsPageSize}
-use Rattle.ltx_codec.specs.Fields.{four_at, eight_at, header_in}
+use Rattle.ltx_codec.specs.Fields.{four_at, eight_at}
 use Rattle.ltx_codec.specs.Format.{magic, file_sum, IsDatabaseSize}
 use Rattle.ltx_codec.specs.Places.{Breaks, IsBroken, IsSoundBefore, IsEarliest, StandsInside, last_place, number_place, number_at, number_before, page_in, HasPages, HasBlock, IsOutOfOrder, IsOutOfRange, LeavesOut, IsWrongSum}
-use Rattle.ltx_codec.specs.declared.header.Header.{Header}
 use Rattle.ltx_codec.specs.declared.fault.LtxFault.{LtxFault}
 use Rattle.ltx_codec.specs.declared.fault.LtxFault.TheVariants as fault
 use Rattle.ltx_codec.proofs.BlockLemmas.{later_place, next_place}

@@ -1,17 +1,15 @@
 -- Steps of the decoder over the text so far.
-use Rattle.std.proofs.Common.{◌≡◌, ◌≢◌, ℕ, zero, suc, ◌+◌, ◌<◌, ◌≤◌, ◌⊎◌, Bool, true, false, cond, List, [], ◌∷◌, ◌++◌, length, map, take, drop, arith, refl, sym, ap, subst, inl, inr, ◌∙◌, length-append, append_assoc}
-use Rattle.std.specs.Prelude.{None}
+use Rattle.std.proofs.Common.{◌≡◌, ℕ, zero, suc, ◌+◌, ◌<◌, ◌≤◌, Bool, true, false, cond, List, [], ◌∷◌, ◌++◌, length, take, drop, arith, refl, sym, ap, subst, inl, inr, ◌∙◌, length-append, append_assoc}
 use Rattle.std.proofs.lemmas.List.{take_all, drop_all, take-append-drop, append-nil}
 use Rattle.page_checksum.specs.Crc.{after_bytes, all_ones}
 use Rattle.lf_sqlite_pages.specs.PageSize.{IsPageSize}
-use Rattle.lf_sqlite_pages.specs.Change.{PageChange, IsChange, empty_change}
-use Rattle.ltx_codec.specs.Fields.{AreBytes, four_at, eight_at, header_in}
+use Rattle.lf_sqlite_pages.specs.Change.{IsChange, empty_change}
+use Rattle.ltx_codec.specs.Fields.{AreBytes, four_at, header_in}
 use Rattle.ltx_codec.specs.Places.{IsEarliest, IsSoundBefore, number_place}
 use Rattle.ltx_codec.specs.HeaderRules.{IsThere, HasSoundFields}
 use Rattle.ltx_codec.specs.Block.{HasHeader, IsRead}
-use Rattle.ltx_codec.specs.Decoding.{HasFed, IsInHeader, IsInBlock, IsPart, held_part, IsWithin, IsPastLimit, IsRefusedWithin, ShowsHeader}
+use Rattle.ltx_codec.specs.Decoding.{HasFed, IsPart, held_part, IsWithin, IsRefusedWithin, ShowsHeader}
 use Rattle.ltx_codec.specs.declared.decoder.Decoder.{Decoder}
-use Rattle.ltx_codec.specs.declared.header.Header.{Header}
 use Rattle.ltx_codec.specs.declared.fault.LtxFault.{LtxFault}
 use Rattle.ltx_codec.specs.declared.fault.LtxFault.TheVariants as fault
 use Rattle.ltx_codec.proofs.HeaderLemmas.{short_header, sound_fields}

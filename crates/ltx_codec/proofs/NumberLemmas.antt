@@ -1,5 +1,5 @@
 -- A page number's rules, by the numbers alone and by the bytes.
-use Rattle.std.proofs.Common.{◌≡◌, ◌≢◌, ℕ, ◌+◌, ◌<◌, ◌≤◌, ◌⊎◌, List, length, arith, refl, sym, ap, inl, inr, ◌∙◌}
+use Rattle.std.proofs.Common.{◌≡◌, ◌≢◌, ℕ, ◌+◌, ◌≤◌, List, length, arith, sym, ap, inl, inr, ◌∙◌}
 use Rattle.ltx_codec.specs.Fields.{four_at, eight_at, header_in}
 use Rattle.ltx_codec.specs.Places.{IsSoundBefore, IsEarliest, IsFound, StandsInside, number_place, number_at, number_before, HasPages}
 use Rattle.ltx_codec.specs.Block.{IsNextNumber}

@@ -1,34 +1,31 @@
 -- A page number, and a page, that come in pieces.
-use Rattle.std.proofs.Common.{◌≡◌, ◌≢◌, ℕ, suc, ◌+◌, ◌<◌, ◌≤◌, ◌⊎◌, Bool, true, false, cond, List, [], ◌∷◌, ◌++◌, length, map, take, drop, arith, refl, sym, ap, subst, inl, inr, ◌∙◌, length-append, add-zero}
+use Rattle.std.proofs.Common.{◌≡◌, ◌≢◌, ℕ, suc, ◌+◌, ◌<◌, ◌≤◌, Bool, true, false, cond, List, [], ◌∷◌, ◌++◌, length, map, take, drop, arith, refl, sym, ap, subst, inl, inr, ◌∙◌, length-append, add-zero}
 use Rattle.std.specs.Prelude.{bit_xor}
 use Rattle.std.specs.Int.Bits.{xor_assoc}
 use Rattle.std.proofs.lemmas.Nat.{xor_comm}
 use Rattle.std.proofs.lemmas.Bool.{cases_lt}
-use Rattle.std.proofs.lemmas.List.{take_all, drop_all, length-drop, length-take, length-map, drop-drop, map-append, take-append-drop}
-use Rattle.std.proofs.Math.Seq.{take-add}
-use borrow.Author.Count.{below_more}
+use Rattle.std.proofs.lemmas.List.{take_all, drop_all, length-drop, length-map, drop-drop, map-append, take-append-drop}
 use Rattle.page_checksum.specs.Crc.{after_bytes, all_ones}
 use Rattle.page_checksum.specs.Sums.{joined, page_sums, page_sum_of}
 use Rattle.page_checksum.proofs.CrcLemmas.{after_bytes-append}
 use Rattle.lf_sqlite_pages.specs.Change.{PageChange, IsChange, with_page}
 use Rattle.lf_sqlite_pages.specs.declared.page_write.PageWrite.{PageWrite}
 use Rattle.lf_sqlite_pages.proofs.Changes.{IsChange-push, FitsAtEnd}
-use Rattle.ltx_codec.specs.Fields.{AreBytes, four_at, eight_at, header_in}
-use Rattle.ltx_codec.specs.Places.{IsEarliest, IsSoundBefore, HasPages, number_place, number_at, number_before, page_in}
-use Rattle.ltx_codec.specs.Block.{IsRead, IsNextNumber}
-use Rattle.ltx_codec.specs.Decoding.{HasFed, IsInBlock, IsPart, held_part, ShowsPage, page_shown, IsRefusedWithin}
+use Rattle.ltx_codec.specs.Fields.{AreBytes, four_at, eight_at}
+use Rattle.ltx_codec.specs.Places.{number_place, number_at, number_before, page_in}
+use Rattle.ltx_codec.specs.Block.{IsRead}
+use Rattle.ltx_codec.specs.Decoding.{HasFed, held_part, ShowsPage, IsRefusedWithin}
 use Rattle.ltx_codec.specs.Feeding.{HasPagesOf, HasNumber}
 use Rattle.ltx_codec.specs.declared.decoder.Decoder.{Decoder}
 use Rattle.ltx_codec.specs.declared.header.Header.{Header}
 use Rattle.ltx_codec.specs.declared.fault.LtxFault.{LtxFault}
-use Rattle.ltx_codec.specs.declared.fault.LtxFault.TheVariants as fault
 use Rattle.ltx_codec.specs.Numbering.{MayFollow, BreaksNumbering}
 use Rattle.ltx_codec.proofs.NumberLemmas.{IsKth, number_sound, number_refused, numbering_found}
 use Rattle.ltx_codec.proofs.BlockLemmas.{next_place, short_number, short_page}
 use Rattle.ltx_codec.proofs.TextLemmas.{before_more, AreBytes-drop}
 use Rattle.ltx_codec.proofs.ReadLemmas.{read_next}
 use Rattle.ltx_codec.proofs.FeedLemmas.{Stays, piece_rest, told_part}
-use Rattle.ltx_codec.proofs.PieceLemmas.{Grows, held_untold, pages_longer, pages_of, fed_of, held_length, held_is_rest, next_longer, number_kept, size_kept, two_taken, four_rest}
+use Rattle.ltx_codec.proofs.PieceLemmas.{Grows, held_untold, pages_longer, pages_of, fed_of, held_length, held_is_rest, next_longer, number_kept, four_rest}
 
 -- less than a number is held
 pub number_goes_on : (old new : Decoder) (limit : ℕ) (text more : List ℕ) → HasFed old limit text → old.in_block ≡ true → Grows old new more → AreBytes more

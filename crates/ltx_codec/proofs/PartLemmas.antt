@@ -1,12 +1,12 @@
 -- Which bytes of a piece end a part.
-use Rattle.std.proofs.Common.{◌≡◌, ◌≢◌, ℕ, ◌+◌, ◌-◌, ◌<◌, ◌≤◌, ◌⊎◌, false, List, ◌++◌, length, take, drop, arith, refl, sym, ap, subst, inl, inr, ◌∙◌, length-append}
+use Rattle.std.proofs.Common.{◌≡◌, ℕ, ◌+◌, ◌-◌, ◌<◌, ◌≤◌, ◌⊎◌, false, List, ◌++◌, length, take, drop, arith, sym, ap, subst, inl, inr, ◌∙◌, length-append}
 use Rattle.std.proofs.lemmas.Bool.{cases_lt, cases_order}
 use Rattle.std.proofs.lemmas.List.{length-take}
 use Rattle.lf_sqlite_pages.specs.Change.{PageChange}
 use Rattle.ltx_codec.specs.Fields.{AreBytes, four_at}
-use Rattle.ltx_codec.specs.Places.{number_place, number_at, HasPages}
+use Rattle.ltx_codec.specs.Places.{number_place, number_at}
 use Rattle.ltx_codec.specs.Block.{HasHeader, IsRead}
-use Rattle.ltx_codec.specs.Decoding.{EndsPart, NoneEndsBefore}
+use Rattle.ltx_codec.specs.Decoding.{NoneEndsBefore}
 use Rattle.ltx_codec.specs.Feeding.{HasPagesOf, HasNumber}
 use Rattle.ltx_codec.specs.declared.decoder.Decoder.{Decoder}
 use Rattle.ltx_codec.specs.declared.header.Header.{Header}

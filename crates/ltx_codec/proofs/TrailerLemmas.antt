@@ -1,19 +1,19 @@
 -- A trailer that comes in pieces.
-use Rattle.std.proofs.Common.{◌≡◌, ◌≢◌, ℕ, ◌+◌, ◌<◌, ◌≤◌, ◌^◌, ◌⊎◌, Bool, true, false, cond, List, [], ◌∷◌, ◌++◌, length, map, take, drop, get_or, arith, refl, sym, ap, subst, inl, inr, ◌∙◌}
+use Rattle.std.proofs.Common.{◌≡◌, ℕ, ◌+◌, ◌<◌, Bool, true, false, cond, List, [], ◌++◌, length, map, take, drop, arith, refl, sym, ap, subst, inl, inr, ◌∙◌}
 use Rattle.std.specs.Prelude.{bit_xor}
 use Rattle.std.specs.List.{range_with_len}
 use Rattle.std.proofs.lemmas.List.{take_all}
 use Rattle.std.proofs.Math.Seq.{take-add}
 use Rattle.page_checksum.specs.Crc.{after_bytes, all_ones, crc}
-use Rattle.page_checksum.specs.Sums.{flagged, joined, page_sums, database_sum}
+use Rattle.page_checksum.specs.Sums.{flagged, database_sum}
 use Rattle.page_checksum.proofs.CrcLemmas.{after_bytes-append}
 use Rattle.lf_sqlite_pages.specs.Change.{PageChange}
 use Rattle.ltx_codec.specs.Fields.{AreBytes, four_at, eight_at, header_in}
 use Rattle.ltx_codec.specs.Format.{file_sum, sealed, IsLtx}
-use Rattle.ltx_codec.specs.Places.{IsEarliest, IsSoundBefore, IsWrongSum, number_place, number_at, page_in}
+use Rattle.ltx_codec.specs.Places.{IsWrongSum, number_place, number_at, page_in}
 use Rattle.ltx_codec.specs.Trailer.{HasTrailer}
-use Rattle.ltx_codec.specs.Decoding.{HasFed, held_part, IsPart, IsRefusedWithin, ShowsFile}
-use Rattle.ltx_codec.specs.Feeding.{HasPagesOf, HasNumber, IsWrongPost, HasRightSums, BreaksSums}
+use Rattle.ltx_codec.specs.Decoding.{HasFed, held_part, IsRefusedWithin, ShowsFile}
+use Rattle.ltx_codec.specs.Feeding.{HasNumber, IsWrongPost, HasRightSums, BreaksSums}
 use Rattle.ltx_codec.specs.declared.decoder.Decoder.{Decoder}
 use Rattle.ltx_codec.specs.declared.header.Header.{Header}
 use Rattle.ltx_codec.specs.declared.fault.LtxFault.{LtxFault}

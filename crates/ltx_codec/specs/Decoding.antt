@@ -1,14 +1,12 @@
 -- A file's text that comes in pieces. The text so far is that of the current file alone.
-use Rattle.std.specs.Prelude.{◌≡◌, ◌≢◌, ℕ, ◌+◌, ◌<◌, ◌≤◌, ◌⊎◌, Bool, true, false, cond, Option, Some, None, Result, Ok, Err, List, [], ◌++◌, length, map, take, drop}
-use Rattle.lf_sqlite_pages.specs.PageSize.{IsPageSize}
+use Rattle.std.specs.Prelude.{◌≡◌, ◌≢◌, ℕ, ◌+◌, ◌<◌, ◌≤◌, ◌⊎◌, true, false, cond, Some, None, Result, Ok, Err, List, [], ◌++◌, length, map, take, drop}
 use Rattle.lf_sqlite_pages.specs.Change.{PageChange, IsChange}
 use Rattle.page_checksum.specs.Crc.{after_bytes, all_ones}
 use Rattle.page_checksum.specs.Sums.{joined, page_sums}
 use Rattle.ltx_codec.specs.Fields.{AreBytes, four_at, eight_at, header_in}
 use Rattle.ltx_codec.specs.Format.{IsLtx}
 use Rattle.ltx_codec.specs.Places.{IsEarliest, IsFound, IsSoundBefore, HasPages, number_place, number_at, number_before, page_in}
-use Rattle.ltx_codec.specs.HeaderRules.{HasSoundFields}
-use Rattle.ltx_codec.specs.Block.{IsRead, IsNextNumber}
+use Rattle.ltx_codec.specs.Block.{IsRead}
 use Rattle.ltx_codec.specs.declared.header.Header.{Header}
 use Rattle.ltx_codec.specs.declared.file.Ltx.{Ltx}
 use Rattle.ltx_codec.specs.declared.fault.LtxFault.{LtxFault}

@@ -1,4 +1,4 @@
-use Rattle.std.proofs.Common.{◌≡◌, ◌+◌, length, arith, ap, ◌∙◌}
+use Rattle.std.proofs.Common.{◌≡◌, length, arith, ap, ◌∙◌}
 use Rattle.std.proofs.lemmas.Result.{err_from_is_err_and}
 use Rattle.ltx_codec.specs.Fields.{four_at}
 use Rattle.ltx_codec.specs.Places.{number_at}

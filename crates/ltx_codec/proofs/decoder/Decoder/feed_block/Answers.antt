@@ -1,4 +1,4 @@
-use Rattle.std.proofs.Common.{◌≡◌, ◌≢◌, ◌<◌, ◌≤◌, ◌+◌, ◌++◌, ℕ, List, length, take, drop, min, refl, sym, ap, arith, ◌∙◌, subst, inl, length-append}
+use Rattle.std.proofs.Common.{◌≡◌, ◌≢◌, ◌<◌, ◌≤◌, ◌+◌, ◌++◌, ℕ, List, length, take, refl, ap, arith, ◌∙◌, inl, length-append}
 use Rattle.std.proofs.lemmas.List.{take_all, length-take}
 use Rattle.ltx_codec.proofs.PageLemmas.{number_goes_on, number_held, end_held, number_refused_at, number_in_page, number_in_trailer}
 use Rattle.ltx_codec.proofs.PieceLemmas.{Grows, pages_of, held_length}
@@ -8,7 +8,6 @@ use Rattle.ltx_codec.specs.Places.{number_place}
 use Rattle.ltx_codec.proofs.FeedLemmas.{refused_piece}
 use Rattle.ltx_codec.proofs.TextLemmas.{AreBytes-take}
 use Rattle.ltx_codec.specs.Fields.{four_at}
-use Rattle.ltx_codec.specs.Feeding.{HasNumber}
 use Rattle.ltx_codec.specs.declared.decoder.Decoder.{Decoder}
 use Rattle.ltx_codec.proofs.decoder.Decoder.feed_block.Goals as goal
 

@@ -1,9 +1,9 @@
-use Rattle.std.proofs.Common.{◌≡◌, ◌<◌, ◌≤◌, ◌+◌, ◌++◌, ℕ, List, length, take, min, refl, sym, ap, arith, ◌∙◌, subst, length-append}
+use Rattle.std.proofs.Common.{◌≡◌, ◌<◌, ◌≤◌, ◌+◌, ◌++◌, ℕ, List, length, take, refl, sym, ap, arith, ◌∙◌, subst, length-append}
 use Rattle.std.proofs.lemmas.List.{length-take, take_all}
 use Rattle.page_checksum.specs.Crc.{after_bytes, all_ones}
 use Rattle.ltx_codec.specs.HeaderRules.{HasSoundFields}
 use Rattle.ltx_codec.specs.Fields.{header_in}
-use Rattle.ltx_codec.specs.Decoding.{HasFed, IsRefusedWithin, IsWithin}
+use Rattle.ltx_codec.specs.Decoding.{IsRefusedWithin, IsWithin}
 use Rattle.ltx_codec.proofs.FeedLemmas.{held_is, header_short, refused_piece, header_goes_on, header_ends}
 use Rattle.ltx_codec.proofs.PartLemmas.{none_in_header}
 use Rattle.ltx_codec.proofs.TextLemmas.{AreBytes-take}

@@ -1,9 +1,9 @@
-use Rattle.std.proofs.Common.{◌≡◌, ◌<◌, ◌≤◌, ◌+◌, ◌-◌, ◌++◌, ℕ, List, length, take, drop, min, refl, sym, ap, arith, ◌∙◌, subst, inl, length-append}
-use Rattle.std.proofs.lemmas.List.{length-take, length-drop, take_all}
+use Rattle.std.proofs.Common.{◌≡◌, ◌≤◌, ◌+◌, ◌-◌, ◌++◌, ℕ, List, length, take, drop, refl, sym, ap, arith, ◌∙◌, subst, inl, length-append}
+use Rattle.std.proofs.lemmas.List.{length-take, take_all}
 use Rattle.ltx_codec.specs.Decoding.{ShowsPage}
 use Rattle.ltx_codec.specs.declared.decoder.Decoder.{Decoder}
 use Rattle.ltx_codec.proofs.TextLemmas.{AreBytes-take, AreBytes-drop}
-use Rattle.ltx_codec.proofs.PieceLemmas.{Grows, two_taken, held_length}
+use Rattle.ltx_codec.proofs.PieceLemmas.{Grows, two_taken}
 use Rattle.ltx_codec.proofs.PartLemmas.{none_in_block, page_bound}
 use Rattle.ltx_codec.proofs.PageLemmas.{TakesPage, page_more, page_ends, number_longer}
 use Rattle.ltx_codec.proofs.decoder.Decoder.feed_page.Goals as goal
