@@ -20,7 +20,7 @@ const NUMBER: usize = 4;
 
 impl Decoder {
     /// Takes a piece of the page block or the trailer.
-    pub fn feed_block(&mut self, piece: &[u8]) -> Result<Seen, LtxFault>
+    pub(crate) fn feed_block(&mut self, piece: &[u8]) -> Result<Seen, LtxFault>
         requires stage { self.old.in_block ≡ true }
         requires untold { self.old.told ≡ false }
         ensures gives { (limit : ℕ) (text : List ℕ) → HasFed self.old limit text → FeedGives self.new limit text piece.now result }
