@@ -1,17 +1,15 @@
 -- Steps of the decoder over the text so far.
-use Rattle.std.proofs.Common.{◌≡◌, ◌≢◌, ℕ, zero, suc, ◌+◌, ◌<◌, ◌≤◌, ◌⊎◌, Bool, true, false, cond, List, [], ◌∷◌, ◌++◌, length, map, take, drop, arith, refl, sym, ap, subst, inl, inr, ◌∙◌, length-append, append_assoc}
-use Rattle.std.specs.Prelude.{None}
+use Rattle.std.proofs.Common.{◌≡◌, ℕ, zero, suc, ◌+◌, ◌<◌, ◌≤◌, Bool, true, false, cond, List, [], ◌∷◌, ◌++◌, length, take, drop, arith, refl, sym, ap, subst, inl, inr, ◌∙◌, length-append, append_assoc}
 use Rattle.std.proofs.lemmas.List.{take_all, drop_all, take-append-drop, append-nil}
 use Rattle.page_checksum.specs.Crc.{after_bytes, all_ones}
 use Rattle.lf_sqlite_pages.specs.PageSize.{IsPageSize}
-use Rattle.lf_sqlite_pages.specs.Change.{PageChange, IsChange, empty_change}
-use Rattle.ltx_codec.specs.Fields.{AreBytes, four_at, eight_at, header_in}
+use Rattle.lf_sqlite_pages.specs.Change.{IsChange, empty_change}
+use Rattle.ltx_codec.specs.Fields.{AreBytes, four_at, header_in}
 use Rattle.ltx_codec.specs.Places.{IsEarliest, IsSoundBefore, number_place}
 use Rattle.ltx_codec.specs.HeaderRules.{IsThere, HasSoundFields}
 use Rattle.ltx_codec.specs.Block.{HasHeader, IsRead}
-use Rattle.ltx_codec.specs.Decoding.{HasFed, IsInHeader, IsInBlock, IsPart, held_part, IsWithin, IsPastLimit, IsRefusedWithin, ShowsHeader}
+use Rattle.ltx_codec.specs.Decoding.{HasFed, IsPart, held_part, IsWithin, IsRefusedWithin, ShowsHeader}
 use Rattle.ltx_codec.specs.declared.decoder.Decoder.{Decoder}
-use Rattle.ltx_codec.specs.declared.header.Header.{Header}
 use Rattle.ltx_codec.specs.declared.fault.LtxFault.{LtxFault}
 use Rattle.ltx_codec.specs.declared.fault.LtxFault.TheVariants as fault
 use Rattle.ltx_codec.proofs.HeaderLemmas.{short_header, sound_fields}
@@ -80,20 +78,14 @@ none_valid size count is = record { of_a_page_size = is; ascending = tt; within 
 
 -- what is refused stays so whatever follows
 pub refused_longer : (limit : ℕ) (bytes more : List ℕ) (f : LtxFault) → IsRefusedWithin limit bytes f → IsRefusedWithin limit (bytes ++ more) f
-refused_longer limit bytes more f refused = (
-  refused.0,
-  elim refused.1 [
-    | inl earliest ↦ inl (fault_stays_lem bytes more f earliest (found_there f refused.0) (found_inside f refused.0))
-    | inr past ↦ inr (
-      past.0,
-      record {
-        there = let there = past.1.there in omega (arith, length-append bytes more);
-        sound = sound_longer bytes more 13 (let there = past.1.there in omega arith) past.1.sound;
-        past = let there = past.1.there in omega (arith, past.1.past, four_same 8 (length bytes) bytes (bytes ++ more) (longer bytes more) (omega (arith, there)));
-      },
-    )
-  ],
-)
+refused_longer limit bytes more f refused = (refused.0, elim refused.1 [
+  | inl earliest ↦ inl (fault_stays_lem bytes more f earliest (found_there f refused.0) (found_inside f refused.0))
+  | inr past ↦ inr (past.0, record {
+      there = let there = past.1.there in omega (arith, length-append bytes more);
+      sound = sound_longer bytes more 13 (let there = past.1.there in omega arith) past.1.sound;
+      past = let there = past.1.there in omega (arith, past.1.past, four_same 8 (length bytes) bytes (bytes ++ more) (longer bytes more) (omega (arith, there)));
+    })
+  ])
 
 -- a text with some of a piece, and the rest of the piece
 pub piece_rest : (text piece : List ℕ) (used : ℕ) → (text ++ take used piece) ++ drop used piece ≡ text ++ piece
@@ -166,20 +158,16 @@ module _ (old new : Decoder) (limit : ℕ) (text more : List ℕ) (fed : HasFed 
           sound = stays.fault ∙ fed.sound;
           limit_is = stays.limit ∙ fed.limit_is;
           within = rw (← text-is, ← fed.limit_is) within;
-          stage = inr (
-            empty_change (four_at 8 (text ++ more)) (four_at 12 (text ++ more)),
-            record {
-              stage = block;
-              valid = none_valid _ _ (head.fields.page_size (record { within = omega arith; there = omega (arith, long) }));
-              read = read;
-              header = header ∙ ap header_in text-is;
-              number = number;
-              held = ap (λ (b : Bool). cond b [] new.held.items) told ∙ sym (drop_all (number_place (text ++ more) 0) (text ++ more) (omega (arith, long)));
-              register = register ∙ ap (after_bytes all_ones) (text-is ∙ sym (take_all (number_place (text ++ more) 0) (text ++ more) (omega (arith, long))));
-              sums = λ _. sums;
-            },
-            told_part new (text ++ more) 0 told,
-          );
+          stage = inr (empty_change (four_at 8 (text ++ more)) (four_at 12 (text ++ more)), record {
+            stage = block;
+            valid = none_valid _ _ (head.fields.page_size (record { within = omega arith; there = omega (arith, long) }));
+            read = read;
+            header = header ∙ ap header_in text-is;
+            number = number;
+            held = ap (λ (b : Bool). cond b [] new.held.items) told ∙ sym (drop_all (number_place (text ++ more) 0) (text ++ more) (omega (arith, long)));
+            register = register ∙ ap (after_bytes all_ones) (text-is ∙ sym (take_all (number_place (text ++ more) 0) (text ++ more) (omega (arith, long))));
+            sums = λ _. sums;
+          }, told_part new (text ++ more) 0 told);
         };
       }
 

@@ -1,5 +1,5 @@
 -- A page number's rules, by the numbers alone and by the bytes.
-use Rattle.std.proofs.Common.{◌≡◌, ◌≢◌, ℕ, ◌+◌, ◌<◌, ◌≤◌, ◌⊎◌, List, length, arith, refl, sym, ap, inl, inr, ◌∙◌}
+use Rattle.std.proofs.Common.{◌≡◌, ◌≢◌, ℕ, ◌+◌, ◌≤◌, List, length, arith, sym, ap, inl, inr, ◌∙◌}
 use Rattle.ltx_codec.specs.Fields.{four_at, eight_at, header_in}
 use Rattle.ltx_codec.specs.Places.{IsSoundBefore, IsEarliest, IsFound, StandsInside, number_place, number_at, number_before, HasPages}
 use Rattle.ltx_codec.specs.Block.{IsNextNumber}
@@ -39,13 +39,10 @@ module _ (bytes : List ℕ) (k : ℕ) (header : Header) (before number : ℕ) (i
         (λ zero. rule.0 (is.number_is ∙ zero), omega (arith, is.before_is, is.number_is, rule.1))
     number_refused fault.PageRange rule = range_first bytes k pages sound is.there
         (omega (arith, is.before_is, is.number_is, rule.0), omega (arith, is.number_is, commit_is, rule.1))
-    number_refused fault.NotWhole rule = left_out_first bytes k pages sound is.there (
-      sym min_is ∙ rule.0,
-      elim rule.1 [
-        | inl skips ↦ inl (omega (arith, is.before_is, is.number_is, skips.0), omega (arith, is.number_is, commit_is, skips.1))
-        | inr stops ↦ inr (sym is.number_is ∙ stops.0, λ same. stops.1 (is.before_is ∙ same ∙ sym commit_is))
-      ],
-    )
+    number_refused fault.NotWhole rule = left_out_first bytes k pages sound is.there (sym min_is ∙ rule.0, elim rule.1 [
+      | inl skips ↦ inl (omega (arith, is.before_is, is.number_is, skips.0), omega (arith, is.number_is, commit_is, skips.1))
+      | inr stops ↦ inr (sym is.number_is ∙ stops.0, λ same. stops.1 (is.before_is ∙ same ∙ sym commit_is))
+    ])
     number_refused fault.Short rule = absurd rule
     number_refused fault.Magic rule = absurd rule
     number_refused fault.Compressed rule = absurd rule

@@ -1,8 +1,8 @@
 -- At one place at most one rule is broken.
-use Rattle.std.proofs.Common.{◌≡◌, ◌≢◌, ℕ, ◌+◌, ◌*◌, ◌%◌, ◌<◌, ◌≤◌, List, length, take, arith, refl, sym, ap, subst, inl, inr, ◌∙◌, ◌⊎◌}
+use Rattle.std.proofs.Common.{◌≡◌, ◌≢◌, ℕ, ◌+◌, ◌<◌, ◌≤◌, List, length, take, arith, refl, sym, ap, subst, inl, inr, ◌∙◌}
 use Rattle.ltx_codec.specs.Fields.{four_at, eight_at}
 use Rattle.ltx_codec.specs.Format.{file_sum}
-use Rattle.ltx_codec.specs.Places.{Breaks, IsBroken, IsEarliest, IsSoundBefore, LeavesOut, number_place, number_at, number_before, HasPages, HasBlock}
+use Rattle.ltx_codec.specs.Places.{IsBroken, IsEarliest, LeavesOut, number_place, number_at, number_before, HasBlock}
 use Rattle.ltx_codec.specs.declared.fault.LtxFault.{LtxFault}
 use Rattle.ltx_codec.specs.declared.fault.LtxFault.TheVariants as fault
 use Rattle.ltx_codec.proofs.BlockLemmas.{Next, order, range, left_out, sum, file_sum_wrong, tail, later, end, next}

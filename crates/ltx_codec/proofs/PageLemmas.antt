@@ -1,34 +1,31 @@
 -- A page number, and a page, that come in pieces.
-use Rattle.std.proofs.Common.{◌≡◌, ◌≢◌, ℕ, suc, ◌+◌, ◌<◌, ◌≤◌, ◌⊎◌, Bool, true, false, cond, List, [], ◌∷◌, ◌++◌, length, map, take, drop, arith, refl, sym, ap, subst, inl, inr, ◌∙◌, length-append, add-zero}
+use Rattle.std.proofs.Common.{◌≡◌, ◌≢◌, ℕ, suc, ◌+◌, ◌<◌, ◌≤◌, Bool, true, false, cond, List, [], ◌∷◌, ◌++◌, length, map, take, drop, arith, refl, sym, ap, subst, inl, inr, ◌∙◌, length-append, add-zero}
 use Rattle.std.specs.Prelude.{bit_xor}
 use Rattle.std.specs.Int.Bits.{xor_assoc}
 use Rattle.std.proofs.lemmas.Nat.{xor_comm}
 use Rattle.std.proofs.lemmas.Bool.{cases_lt}
-use Rattle.std.proofs.lemmas.List.{take_all, drop_all, length-drop, length-take, length-map, drop-drop, map-append, take-append-drop}
-use Rattle.std.proofs.Math.Seq.{take-add}
-use borrow.Author.Count.{below_more}
+use Rattle.std.proofs.lemmas.List.{take_all, drop_all, length-drop, length-map, drop-drop, map-append, take-append-drop}
 use Rattle.page_checksum.specs.Crc.{after_bytes, all_ones}
 use Rattle.page_checksum.specs.Sums.{joined, page_sums, page_sum_of}
 use Rattle.page_checksum.proofs.CrcLemmas.{after_bytes-append}
 use Rattle.lf_sqlite_pages.specs.Change.{PageChange, IsChange, with_page}
 use Rattle.lf_sqlite_pages.specs.declared.page_write.PageWrite.{PageWrite}
 use Rattle.lf_sqlite_pages.proofs.Changes.{IsChange-push, FitsAtEnd}
-use Rattle.ltx_codec.specs.Fields.{AreBytes, four_at, eight_at, header_in}
-use Rattle.ltx_codec.specs.Places.{IsEarliest, IsSoundBefore, HasPages, number_place, number_at, number_before, page_in}
-use Rattle.ltx_codec.specs.Block.{IsRead, IsNextNumber}
-use Rattle.ltx_codec.specs.Decoding.{HasFed, IsInBlock, IsPart, held_part, ShowsPage, page_shown, IsRefusedWithin}
+use Rattle.ltx_codec.specs.Fields.{AreBytes, four_at, eight_at}
+use Rattle.ltx_codec.specs.Places.{number_place, number_at, number_before, page_in}
+use Rattle.ltx_codec.specs.Block.{IsRead}
+use Rattle.ltx_codec.specs.Decoding.{HasFed, held_part, ShowsPage, IsRefusedWithin}
 use Rattle.ltx_codec.specs.Feeding.{HasPagesOf, HasNumber}
 use Rattle.ltx_codec.specs.declared.decoder.Decoder.{Decoder}
 use Rattle.ltx_codec.specs.declared.header.Header.{Header}
 use Rattle.ltx_codec.specs.declared.fault.LtxFault.{LtxFault}
-use Rattle.ltx_codec.specs.declared.fault.LtxFault.TheVariants as fault
 use Rattle.ltx_codec.specs.Numbering.{MayFollow, BreaksNumbering}
 use Rattle.ltx_codec.proofs.NumberLemmas.{IsKth, number_sound, number_refused, numbering_found}
 use Rattle.ltx_codec.proofs.BlockLemmas.{next_place, short_number, short_page}
 use Rattle.ltx_codec.proofs.TextLemmas.{before_more, AreBytes-drop}
 use Rattle.ltx_codec.proofs.ReadLemmas.{read_next}
 use Rattle.ltx_codec.proofs.FeedLemmas.{Stays, piece_rest, told_part}
-use Rattle.ltx_codec.proofs.PieceLemmas.{Grows, held_untold, pages_longer, pages_of, fed_of, held_length, held_is_rest, next_longer, number_kept, size_kept, two_taken, four_rest}
+use Rattle.ltx_codec.proofs.PieceLemmas.{Grows, held_untold, pages_longer, pages_of, fed_of, held_length, held_is_rest, next_longer, number_kept, four_rest}
 
 -- less than a number is held
 pub number_goes_on : (old new : Decoder) (limit : ℕ) (text more : List ℕ) → HasFed old limit text → old.in_block ≡ true → Grows old new more → AreBytes more
@@ -93,6 +90,7 @@ pub record TakesPage (old new : Decoder) (number : ℕ) : Type 0 where
 
 module _ (old new : Decoder) (limit : ℕ) (text : List ℕ) (change : PageChange) (number : ℕ) (has : HasNumber old limit text change number) (some : number ≢ 0)
     (untold : old.told ≡ false) (whole : length old.held.items ≡ 4 + old.header.page_size) (takes : TakesPage old new number) where
+
   size_is : old.header.page_size ≡ four_at 8 text
   size_is = ap (λ (h : Header). h.page_size) has.feeding.block.header
 
@@ -107,6 +105,7 @@ module _ (old new : Decoder) (limit : ℕ) (text : List ℕ) (change : PageChang
 
   page_length : length (drop 4 old.held.items) ≡ four_at 8 text
   page_length = omega (arith, length-drop 4 old.held.items, whole, size_is)
+
 
   count : length (with_page change number (drop 4 old.held.items)).pages ≡ length change.pages + 1
   count = length-append change.pages (record { number = number; bytes = drop 4 old.held.items } ∷ [])
@@ -126,7 +125,7 @@ module _ (old new : Decoder) (limit : ℕ) (text : List ℕ) (change : PageChang
   sums_is : eight_at 16 text ≡ 1 → new.sums ≡ joined (page_sums 1 (map (λ (w : PageWrite). w.bytes) (with_page change number (drop 4 old.held.items)).pages))
   sums_is snapshot =
       let n-is : number ≡ 1 + length (map (λ (w : PageWrite). w.bytes) change.pages) =
-      omega (arith, has.number_is, has.sound.follows snapshot (λ zero. some (has.number_is ∙ zero)), has.feeding.block.read.consecutive snapshot, length-map change.pages (λ (w : PageWrite). w.bytes)) in
+          omega (arith, has.number_is, has.sound.follows snapshot (λ zero. some (has.number_is ∙ zero)), has.feeding.block.read.consecutive snapshot, length-map change.pages (λ (w : PageWrite). w.bytes)) in
       takes.sums
       ∙ ap (λ (s : ℕ). bit_xor s (page_sum_of number (drop 4 old.held.items))) (has.feeding.block.sums snapshot)
       ∙ ap (λ (n : ℕ). bit_xor (joined (page_sums 1 (map (λ (w : PageWrite). w.bytes) change.pages))) (page_sum_of n (drop 4 old.held.items))) n-is
@@ -211,10 +210,9 @@ module _ (old new : Decoder) (limit : ℕ) (text more : List ℕ) (number : ℕ)
 
   pub number_refused_at : (f : LtxFault) → BreaksNumbering new.header new.number number f → IsRefusedWithin limit (text ++ more) f
   number_refused_at f rule =
-      let read = has_pages.block.read in (
-        numbering_found new.header new.number number f rule,
-        inl (number_refused (text ++ more) (length (pages_of old limit text fed stage).0.pages) new.header new.number number kth read.pages read.sound f rule),
-      )
+      let read = has_pages.block.read in
+      (numbering_found new.header new.number number f rule,
+       inl (number_refused (text ++ more) (length (pages_of old limit text fed stage).0.pages) new.header new.number number kth read.pages read.sound f rule))
 
   -- how much is held with the number
   module _ (short : length old.held.items < 4 → length new.held.items ≤ 4) (none : 4 ≤ length old.held.items → length more ≡ 0) where
@@ -231,20 +229,20 @@ module _ (old new : Decoder) (limit : ℕ) (text more : List ℕ) (number : ℕ)
     new_held : length new.held.items ≡ length old.held.items + length more
     new_held = ap length grows.held ∙ length-append old.held.items more
 
-    pub number_in_page : number ≢ 0 → length new.held.items ≤ 4 + new.header.page_size
+    pub number_in_page : number ≢ 0 → (length new.held.items ≤ 4 + new.header.page_size) × (length new.held.items < length more + (4 + new.header.page_size))
     number_in_page some = elim (cases_lt (length old.held.items) 4) [
-      | inl few ↦ omega (arith, short few)
+      | inl few ↦ (omega (arith, short few), omega (arith, few, new_held))
       | inr enough ↦
-          let size : old.header.page_size ≡ four_at 8 text = ap (λ (h : Header). h.page_size) (pages_of old limit text fed stage).1.block.header in
-          let size-new : new.header.page_size ≡ old.header.page_size = ap (λ (h : Header). h.page_size) grows.header in
-          let part = (pages_of old limit text fed stage).2.page (old_place enough) (λ zero. some (sym (old_number enough) ∙ zero)) in
-          omega (arith, part, old_held, new_held, none enough, size, size-new)
+        let size : old.header.page_size ≡ four_at 8 text = ap (λ (h : Header). h.page_size) (pages_of old limit text fed stage).1.block.header in
+        let size-new : new.header.page_size ≡ old.header.page_size = ap (λ (h : Header). h.page_size) grows.header in
+        let part = (pages_of old limit text fed stage).2.page (old_place enough) (λ zero. some (sym (old_number enough) ∙ zero)) in
+        (omega (arith, part, old_held, new_held, none enough, size, size-new), omega (arith, part, old_held, new_held, size, size-new))
     ]
 
-    pub number_in_trailer : number ≡ 0 → length new.held.items ≤ 20
+    pub number_in_trailer : number ≡ 0 → (length new.held.items ≤ 20) × (length new.held.items < length more + (20))
     number_in_trailer ends = elim (cases_lt (length old.held.items) 4) [
-      | inl few ↦ omega (arith, short few)
+      | inl few ↦ (omega (arith, short few), omega (arith, few, new_held))
       | inr enough ↦
-          let part = (pages_of old limit text fed stage).2.end (old_place enough) (old_number enough ∙ ends) in
-          omega (arith, part, old_held, new_held, none enough)
+        let part = (pages_of old limit text fed stage).2.end (old_place enough) (old_number enough ∙ ends) in
+        (omega (arith, part, old_held, new_held, none enough), omega (arith, part, old_held, new_held))
     ]

@@ -1,22 +1,20 @@
 -- What was read of a block stays read when the text goes on.
-use Rattle.std.proofs.Common.{◌≡◌, ◌≢◌, ℕ, ◌+◌, ◌<◌, ◌≤◌, ◌⊎◌, Bool, true, false, cond, List, [], ◌∷◌, ◌++◌, length, map, take, drop, arith, refl, sym, ap, subst, inl, inr, ◌∙◌, length-append, append_assoc}
-use Rattle.std.specs.List.{range_with_len}
-use Rattle.std.proofs.lemmas.List.{drop-append-le, take-append-le, take_all, length-drop, drop-drop}
+use Rattle.std.proofs.Common.{◌≡◌, ℕ, ◌+◌, ◌≤◌, Bool, true, false, cond, List, [], ◌++◌, length, take, drop, arith, refl, sym, ap, subst, inl, inr, ◌∙◌, length-append, append_assoc}
+use Rattle.std.proofs.lemmas.List.{drop-append-le, take-append-le, length-drop, drop-drop}
 use Rattle.std.proofs.Math.Seq.{take-add}
 use Rattle.page_checksum.specs.Crc.{after_bytes, all_ones}
 use Rattle.lf_sqlite_pages.specs.PageSize.{IsPageSize}
-use Rattle.lf_sqlite_pages.specs.Change.{PageChange, IsChange}
+use Rattle.lf_sqlite_pages.specs.Change.{PageChange}
 use Rattle.ltx_codec.specs.Fields.{AreBytes, four_at, eight_at, header_in}
 use Rattle.ltx_codec.specs.Format.{IsDatabaseSize, pages_text}
-use Rattle.ltx_codec.specs.Places.{IsEarliest, IsSoundBefore, number_place, number_at, number_before, page_in}
-use Rattle.ltx_codec.specs.HeaderRules.{IsThere, HasSoundFields}
+use Rattle.ltx_codec.specs.Places.{IsEarliest, IsSoundBefore, number_place, number_at, number_before}
+use Rattle.ltx_codec.specs.HeaderRules.{IsThere}
 use Rattle.ltx_codec.specs.Block.{HasHeader, IsRead, IsNextNumber}
-use Rattle.ltx_codec.specs.Decoding.{HasFed, IsInHeader, IsInBlock, IsPart, IsWithin, held_part}
-use Rattle.ltx_codec.specs.Feeding.{HasPagesOf, HasNumber}
+use Rattle.ltx_codec.specs.Decoding.{HasFed, IsPart, held_part}
+use Rattle.ltx_codec.specs.Feeding.{HasPagesOf}
 use Rattle.ltx_codec.specs.declared.decoder.Decoder.{Decoder}
-use Rattle.ltx_codec.specs.declared.header.Header.{Header}
 use Rattle.ltx_codec.specs.declared.fault.LtxFault.TheVariants as fault
-use Rattle.ltx_codec.proofs.AgreeLemmas.{Agree, longer, front_same, four_same, eight_same, size_same, place_same, number_same, before_same, pages_same, contents_same, sound_longer}
+use Rattle.ltx_codec.proofs.AgreeLemmas.{Agree, longer, front_same, four_same, eight_same, place_same, number_same, before_same, pages_same, contents_same, sound_longer}
 use Rattle.ltx_codec.proofs.FeedLemmas.{AreBytes-append, Stays}
 
 module _ (bytes more : List ℕ) (head : HasHeader bytes) where
@@ -77,19 +75,8 @@ module _ (bytes more : List ℕ) (head : HasHeader bytes) where
   }
 
   pub header_in_longer : header_in bytes ≡ header_in (bytes ++ more)
-  header_in_longer = cc (
-    four_kept 8 (omega arith),
-    four_kept 12 (omega arith),
-    eight_kept 16 (omega arith),
-    eight_kept 24 (omega arith),
-    eight_kept 32 (omega arith),
-    eight_kept 40 (omega arith),
-    eight_kept 48 (omega arith),
-    eight_kept 56 (omega arith),
-    four_kept 64 (omega arith),
-    four_kept 68 (omega arith),
-    eight_kept 72 (omega arith),
-  )
+  header_in_longer = cc (four_kept 8 (omega arith), four_kept 12 (omega arith), eight_kept 16 (omega arith), eight_kept 24 (omega arith), eight_kept 32 (omega arith),
+      eight_kept 40 (omega arith), eight_kept 48 (omega arith), eight_kept 56 (omega arith), four_kept 64 (omega arith), four_kept 68 (omega arith), eight_kept 72 (omega arith))
 
 pub read_longer : (bytes more : List ℕ) (change : PageChange) (k : ℕ) → IsRead bytes change k → AreBytes (bytes ++ more) → IsRead (bytes ++ more) change k
 read_longer bytes more change k read octets =

@@ -1,9 +1,9 @@
 -- The text of a file breaks no rule.
-use Rattle.std.proofs.Common.{get_or, ◌≡◌, ◌≢◌, ℕ, zero, suc, ◌+◌, ◌*◌, ◌<◌, ◌≤◌, ◌^◌, List, [], ◌∷◌, ◌++◌, length, take, drop, map, arith, refl, sym, ap, subst, inl, inr, ◌∙◌, ◌⊎◌, append_assoc, length-append, add-one}
+use Rattle.std.proofs.Common.{◌≡◌, ◌≢◌, ℕ, zero, suc, ◌+◌, ◌<◌, ◌≤◌, ◌^◌, List, [], ◌∷◌, ◌++◌, length, take, drop, map, arith, refl, sym, ap, subst, inl, inr, ◌∙◌, append_assoc, length-append}
 use Rattle.std.specs.Prelude.{All}
 use Rattle.std.specs.List.{range_with_len}
 use Rattle.std.specs.Int.{w32, w64, to_be_bytes, from_be_bytes}
-use Rattle.std.proofs.lemmas.List.{take_at, drop_at, append_cancel_right, get_or_append_left, get_or_past, length-map}
+use Rattle.std.proofs.lemmas.List.{take_at, drop_at, append_cancel_right, get_or_append_left, get_or_past}
 use Rattle.std.proofs.lemmas.Bool.{cases_lt}
 use Rattle.std.proofs.lemmas.List.Elements.{All-head, All-tail, All-weaker}
 use Rattle.std.proofs.lemmas.List.FromFn.{length-range_with_len}
@@ -12,12 +12,11 @@ use borrow.Author.Count.{below_more}
 use Rattle.page_checksum.specs.Crc.{crc}
 use Rattle.page_checksum.specs.Sums.{database_sum}
 use Rattle.page_checksum.proofs.CrcLemmas.{crc_fits, flagged_fits}
-use Rattle.lf_sqlite_pages.specs.Change.{PageChange, IsChange, AscendsAbove}
 use Rattle.lf_sqlite_pages.specs.declared.page_write.PageWrite.{PageWrite}
 use Rattle.ltx_codec.specs.Fields.{AreBytes, four_at, eight_at, header_in}
-use Rattle.ltx_codec.specs.Format.{magic, header_text, pages_text, summed_text, file_text, file_sum, FitsWidths, IsHeader, IsFile, IsLtx}
-use Rattle.ltx_codec.specs.Places.{Breaks, IsBroken, IsSoundBefore, number_place, number_at, number_before, page_in, HasPages, HasBlock, IsWrongSum, IsEarliest, last_place}
-use Rattle.ltx_codec.specs.HeaderRules.{IsThere, HasSoundFields}
+use Rattle.ltx_codec.specs.Format.{header_text, pages_text, summed_text, file_text, file_sum, IsFile, IsLtx}
+use Rattle.ltx_codec.specs.Places.{IsBroken, IsSoundBefore, number_place, number_at, number_before, page_in, HasPages, IsWrongSum}
+use Rattle.ltx_codec.specs.HeaderRules.{HasSoundFields}
 use Rattle.ltx_codec.specs.Block.{IsNextNumber}
 use Rattle.ltx_codec.specs.declared.header.Header.{Header}
 use Rattle.ltx_codec.specs.declared.file.Ltx.{Ltx}

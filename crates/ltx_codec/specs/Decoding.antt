@@ -1,14 +1,12 @@
 -- A file's text that comes in pieces. The text so far is that of the current file alone.
-use Rattle.std.specs.Prelude.{◌≡◌, ◌≢◌, ℕ, ◌+◌, ◌<◌, ◌≤◌, ◌⊎◌, Bool, true, false, cond, Option, Some, None, Result, Ok, Err, List, [], ◌++◌, length, map, take, drop}
-use Rattle.lf_sqlite_pages.specs.PageSize.{IsPageSize}
+use Rattle.std.specs.Prelude.{◌≡◌, ◌≢◌, ℕ, ◌+◌, ◌<◌, ◌≤◌, ◌⊎◌, true, false, cond, Some, None, Result, Ok, Err, List, [], ◌++◌, length, map, take, drop}
 use Rattle.lf_sqlite_pages.specs.Change.{PageChange, IsChange}
 use Rattle.page_checksum.specs.Crc.{after_bytes, all_ones}
 use Rattle.page_checksum.specs.Sums.{joined, page_sums}
 use Rattle.ltx_codec.specs.Fields.{AreBytes, four_at, eight_at, header_in}
 use Rattle.ltx_codec.specs.Format.{IsLtx}
 use Rattle.ltx_codec.specs.Places.{IsEarliest, IsFound, IsSoundBefore, HasPages, number_place, number_at, number_before, page_in}
-use Rattle.ltx_codec.specs.HeaderRules.{HasSoundFields}
-use Rattle.ltx_codec.specs.Block.{IsRead, IsNextNumber}
+use Rattle.ltx_codec.specs.Block.{IsRead}
 use Rattle.ltx_codec.specs.declared.header.Header.{Header}
 use Rattle.ltx_codec.specs.declared.file.Ltx.{Ltx}
 use Rattle.ltx_codec.specs.declared.fault.LtxFault.{LtxFault}
@@ -48,10 +46,10 @@ pub record IsInBlock (decoder : Decoder) (text : List ℕ) (change : PageChange)
   pub register : decoder.register ≡ after_bytes all_ones (take (number_place text (length change.pages)) text)
   pub sums : eight_at 16 text ≡ 1 → decoder.sums ≡ joined (page_sums 1 (map (λ w. w.bytes) change.pages))
 
--- behind a number that is held no more is held than its page, or the trailer
+-- behind a number that is held its page is not whole, or the trailer is not
 pub record IsPart (decoder : Decoder) (text : List ℕ) (k : ℕ) : Type 0 where
-  pub page : number_place text k + 4 ≤ length text → number_at text k ≢ 0 → length (held_part decoder) ≤ 4 + four_at 8 text
-  pub end : number_place text k + 4 ≤ length text → number_at text k ≡ 0 → length (held_part decoder) ≤ 20
+  pub page : number_place text k + 4 ≤ length text → number_at text k ≢ 0 → length (held_part decoder) < 4 + four_at 8 text
+  pub end : number_place text k + 4 ≤ length text → number_at text k ≡ 0 → length (held_part decoder) < 20
 
 -- the page size, once it is there, is within the limit
 abbrev pub IsWithin : ℕ → List ℕ → Type 0
@@ -116,7 +114,7 @@ pub record ShowsFile (decoder : Decoder) (limit : ℕ) (text : List ℕ) : Type 
 -- what feeding a piece behind a text gives
 abbrev pub FeedGives : Decoder → ℕ → List ℕ → List ℕ → Result Seen LtxFault → Type 0
 FeedGives decoder limit text piece (Ok seen.More) = HasFed decoder limit (text ++ piece) × NoneEndsBefore text piece (length piece + 1)
-FeedGives decoder limit text piece (Ok (seen.Header used)) = (used ≤ length piece) × NoneEndsBefore text piece used × ShowsHeader decoder limit (text ++ take used piece)
-FeedGives decoder limit text piece (Ok (seen.Page used number)) = (used ≤ length piece) × NoneEndsBefore text piece used × ShowsPage decoder limit number (text ++ take used piece)
-FeedGives decoder limit text piece (Ok (seen.Whole used)) = (used ≤ length piece) × NoneEndsBefore text piece used × ShowsFile decoder limit (text ++ take used piece)
+FeedGives decoder limit text piece (Ok (seen.Header used)) = (1 ≤ used) × (used ≤ length piece) × NoneEndsBefore text piece used × ShowsHeader decoder limit (text ++ take used piece)
+FeedGives decoder limit text piece (Ok (seen.Page used number)) = (1 ≤ used) × (used ≤ length piece) × NoneEndsBefore text piece used × ShowsPage decoder limit number (text ++ take used piece)
+FeedGives decoder limit text piece (Ok (seen.Whole used)) = (1 ≤ used) × (used ≤ length piece) × NoneEndsBefore text piece used × ShowsFile decoder limit (text ++ take used piece)
 FeedGives decoder limit text piece (Err f) = IsRefusedWithin limit (text ++ piece) f

@@ -1,5 +1,5 @@
 -- The decoder inside the page block.
-use Rattle.std.specs.Prelude.{◌≡◌, ◌≢◌, ℕ, ◌+◌, ◌<◌, ◌≤◌, ◌^◌, ◌⊎◌, Option, None, List, length, take}
+use Rattle.std.specs.Prelude.{◌≡◌, ◌≢◌, ℕ, ◌<◌, ◌≤◌, ◌^◌, ◌⊎◌, None, List, length, take}
 use Rattle.lf_sqlite_pages.specs.Change.{PageChange}
 use Rattle.page_checksum.specs.Crc.{after_bytes}
 use Rattle.page_checksum.specs.Sums.{flagged}

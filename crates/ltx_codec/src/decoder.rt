@@ -8,7 +8,7 @@ use page_checksum::FIRST_REGISTER;
 use std::alloc::Global;
 
 /// The bytes of a header.
-pub const HEADER: usize = 100;
+pub(crate) const HEADER: usize = 100;
 
 /// The header before one was read.
 const NO_HEADER: Header = Header {
@@ -30,23 +30,23 @@ const NO_HEADER: Header = Header {
 /// the one that `decode` reads (`one_reading`).
 #[derive(Drop)]
 pub struct Decoder {
-    pub limit: u32,
+    pub(crate) limit: u32,
     /// The part of the text that comes: the header, a page with its number, or the trailer.
-    pub held: Vec<u8>,
+    pub(crate) held: Vec<u8>,
     /// The part is whole and was told.
-    pub told: bool,
+    pub(crate) told: bool,
     /// The header is whole.
-    pub in_block: bool,
-    pub header: Header,
+    pub(crate) in_block: bool,
+    pub(crate) header: Header,
     /// The page number before, 0 before the first.
-    pub number: u32,
+    pub(crate) number: u32,
     /// The XOR of the sums of the pages.
-    pub sums: u64,
+    pub(crate) sums: u64,
     /// The checksum's register after the parts before.
-    pub register: u64,
+    pub(crate) register: u64,
     /// The sum after the transactions of the last file.
-    pub post: u64,
-    pub fault: Option<LtxFault>,
+    pub(crate) post: u64,
+    pub(crate) fault: Option<LtxFault>,
     ghost room: { (100 ≤ vec_capacity held) × (limit + 4 ≤ vec_capacity held) × (header.page_size ≤ limit) },
 }
 

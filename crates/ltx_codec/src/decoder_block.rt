@@ -1,5 +1,5 @@
 //! The decoder in the page block.
-ghost use Rattle.std.specs.Prelude.{◌≡◌, ◌≢◌, ◌+◌, ◌≤◌, ℕ, List, ◌++◌, length, take, drop, bit_xor, true, false, Ok};
+ghost use Rattle.std.specs.Prelude.{◌≡◌, ◌≢◌, ◌+◌, ◌<◌, ◌≤◌, ℕ, List, ◌++◌, length, take, drop, bit_xor, true, false, Ok};
 ghost use Rattle.page_checksum.specs.Crc.{after_bytes};
 ghost use Rattle.page_checksum.specs.Sums.{page_sum_of};
 ghost use Rattle.lf_sqlite_pages.specs.Change.{PageChange};
@@ -20,7 +20,7 @@ const NUMBER: usize = 4;
 
 impl Decoder {
     /// Takes a piece of the page block or the trailer.
-    pub fn feed_block(&mut self, piece: &[u8]) -> Result<Seen, LtxFault>
+    pub(crate) fn feed_block(&mut self, piece: &[u8]) -> Result<Seen, LtxFault>
         requires stage { self.old.in_block ≡ true }
         requires untold { self.old.told ≡ false }
         ensures gives { (limit : ℕ) (text : List ℕ) → HasFed self.old limit text → FeedGives self.new limit text piece.now result }
@@ -45,7 +45,7 @@ impl Decoder {
         requires untold { self.old.told ≡ false }
         requires more { number ≢ 0 }
         requires within { first ≤ length piece.now }
-        ensures gives { (limit : ℕ) (text : List ℕ) (change : PageChange) → HasNumber self.old limit (text ++ take first piece.now) change number → IsRead text change (length change.pages) → length self.old.held.items ≤ 4 + self.old.header.page_size → FeedGives self.new limit text piece.now (Ok result) }
+        ensures gives { (limit : ℕ) (text : List ℕ) (change : PageChange) → HasNumber self.old limit (text ++ take first piece.now) change number → IsRead text change (length change.pages) → length self.old.held.items ≤ 4 + self.old.header.page_size → length self.old.held.items < first + (4 + self.old.header.page_size) → FeedGives self.new limit text piece.now (Ok result) }
         ensures same { self.new.fault ≡ self.old.fault }
     {
         let (_, rest) = piece.split_at(first);

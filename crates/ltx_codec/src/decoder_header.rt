@@ -28,7 +28,7 @@ pub fn fill(held: &mut Vec<u8>, target: usize, piece: &[u8]) -> usize
 
 impl Decoder {
     /// Takes a piece of the header.
-    pub fn feed_header(&mut self, piece: &[u8]) -> Result<Seen, LtxFault>
+    pub(crate) fn feed_header(&mut self, piece: &[u8]) -> Result<Seen, LtxFault>
         requires stage { self.old.in_block ≡ false }
         requires untold { self.old.told ≡ false }
         ensures gives { (limit : ℕ) (text : List ℕ) → HasFed self.old limit text → FeedGives self.new limit text piece.now result }

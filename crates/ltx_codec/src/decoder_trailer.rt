@@ -1,5 +1,5 @@
 //! The decoder in the trailer.
-ghost use Rattle.std.specs.Prelude.{◌≡◌, ◌+◌, ◌≤◌, ◌↔◌, ℕ, List, ◌++◌, length, take, true, false, IsTrue, OnOk, IfErr};
+ghost use Rattle.std.specs.Prelude.{◌≡◌, ◌+◌, ◌<◌, ◌≤◌, ◌↔◌, ℕ, List, ◌++◌, length, take, true, false, IsTrue, OnOk, IfErr};
 ghost use Rattle.lf_sqlite_pages.specs.Change.{PageChange};
 ghost use Rattle.ltx_codec.specs.Fields.{eight_at};
 ghost use Rattle.ltx_codec.specs.Format.{sealed as seal_of};
@@ -64,10 +64,10 @@ fn check_sums(header: &Header, sums: u64, register: u64, held: &[u8]) -> Result<
 
 impl Decoder {
     /// Takes a piece of the trailer, behind the first bytes of the piece.
-    pub fn feed_trailer(&mut self, first: usize, piece: &[u8]) -> Result<Seen, LtxFault>
+    pub(crate) fn feed_trailer(&mut self, first: usize, piece: &[u8]) -> Result<Seen, LtxFault>
         requires untold { self.old.told ≡ false }
         requires within { first ≤ length piece.now }
-        ensures gives { (limit : ℕ) (text : List ℕ) (change : PageChange) → HasNumber self.old limit (text ++ take first piece.now) change 0 → IsRead text change (length change.pages) → length self.old.held.items ≤ 20 → FeedGives self.new limit text piece.now result }
+        ensures gives { (limit : ℕ) (text : List ℕ) (change : PageChange) → HasNumber self.old limit (text ++ take first piece.now) change 0 → IsRead text change (length change.pages) → length self.old.held.items ≤ 20 → length self.old.held.items < first + 20 → FeedGives self.new limit text piece.now result }
         ensures same { self.new.fault ≡ self.old.fault }
     {
         let (_, rest) = piece.split_at(first);

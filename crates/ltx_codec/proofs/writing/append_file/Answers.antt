@@ -1,4 +1,4 @@
-use Rattle.std.proofs.Common.{◌≡◌, ◌++◌, List, ℕ, ◌∙◌, ap}
+use Rattle.std.proofs.Common.{◌++◌, List, ◌∙◌, ap}
 use Rattle.page_checksum.specs.Crc.{after_bytes}
 use Rattle.lf_sqlite_pages.specs.declared.page_write.PageWrite.{PageWrite}
 use Rattle.ltx_codec.specs.Format.{pages_text}

@@ -1,4 +1,4 @@
-use Rattle.std.proofs.Common.{◌≡◌, ◌++◌, List, ℕ, ◌∙◌, ap, length, arith}
+use Rattle.std.proofs.Common.{◌≡◌, ◌++◌, List, ℕ, ◌∙◌, ap}
 use Rattle.ltx_codec.specs.Format.{page_text}
 use Rattle.ltx_codec.proofs.WriteLemmas.{page_written, page_fed, starts_longer}
 use Rattle.page_checksum.specs.Crc.{after_bytes}
