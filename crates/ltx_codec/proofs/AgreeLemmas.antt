@@ -38,8 +38,8 @@ longer a more = record {
 slice_same : (p m n : ℕ) (a b : List ℕ) → Agree a b n → p + m ≤ n → take m (drop p a) ≡ take m (drop p b)
 slice_same p m n a b g le =
     let one : (l : List ℕ) → take m (drop p l) ≡ take m (drop p (take n l)) = λ (l : List ℕ).
-        let n-is : n ≡ p + (n - p) = omega arith in
-        sym (ap (λ (i : ℕ). take m (drop p (take i l))) n-is ∙ ap (λ (x : List ℕ). take m x) (drop-take p (n - p) l) ∙ take-of_take m (n - p) (drop p l) (omega arith)) in
+    let n-is : n ≡ p + (n - p) = omega arith in
+    sym (ap (λ (i : ℕ). take m (drop p (take i l))) n-is ∙ ap (λ (x : List ℕ). take m x) (drop-take p (n - p) l) ∙ take-of_take m (n - p) (drop p l) (omega arith)) in
     one a ∙ ap (λ (l : List ℕ). take m (drop p l)) g.front ∙ sym (one b)
 
 pub front_same : (m n : ℕ) (a b : List ℕ) → Agree a b n → m ≤ n → take m a ≡ take m b
@@ -89,8 +89,8 @@ module _ (a b : List ℕ) (n : ℕ) (g : Agree a b n) (long : 12 ≤ n) where
         | inr other ↦ elim other [
           | inl before ↦ omega (arith, later_place a j k before)
           | inr after ↦ absurd (omega (arith, after, le))
-          ]
         ]
+      ]
 
   pub block_same : (k : ℕ) → number_place a k + 4 ≤ n → HasBlock a k → HasBlock b k
   block_same k le block = record {
@@ -117,16 +117,18 @@ module _ (a b : List ℕ) (n : ℕ) (g : Agree a b n) (long : 12 ≤ n) where
         let here = number_same k le in
         let before = before_same k (omega (arith, le)) in
         let commit : four_at 12 a ≡ four_at 12 b = four_same 12 n a b g (omega (arith, le)) in
-        let min : eight_at 16 a ≡ eight_at 16 b = eight_same 16 n a b g (omega (arith, le)) in
-        (sym min ∙ rule.0, elim rule.1 [
-          | inl skips ↦ inl (omega (arith, skips.0, here, before), omega (arith, skips.1, here, commit))
-          | inr stops ↦ inr (sym here ∙ stops.0, λ (same : number_before b k ≡ four_at 12 b). stops.1 (before ∙ same ∙ sym commit))
-        ])
+        let min : eight_at 16 a ≡ eight_at 16 b = eight_same 16 n a b g (omega (arith, le)) in (
+          sym min ∙ rule.0,
+          elim rule.1 [
+            | inl skips ↦ inl (omega (arith, skips.0, here, before), omega (arith, skips.1, here, commit))
+            | inr stops ↦ inr (sym here ∙ stops.0, λ (same : number_before b k ≡ four_at 12 b). stops.1 (before ∙ same ∙ sym commit))
+          ],
+        )
 
     wrong_sum_same : (k : ℕ) → number_place a k + 12 ≤ n → IsWrongSum a k (eight_at (number_place a k + 4) a) → IsWrongSum b k (eight_at (number_place b k + 4) b)
     wrong_sum_same k le rule =
         let sum : eight_at (number_place a k + 4) a ≡ eight_at (number_place b k + 4) b =
-            eight_same (number_place a k + 4) n a b g (omega (arith, le)) ∙ ap (λ (p : ℕ). eight_at (p + 4) b) (place_same k) in
+        eight_same (number_place a k + 4) n a b g (omega (arith, le)) ∙ ap (λ (p : ℕ). eight_at (p + 4) b) (place_same k) in
         let commit : four_at 12 a ≡ four_at 12 b = four_same 12 n a b g (omega (arith, le)) in
         let min : eight_at 16 a ≡ eight_at 16 b = eight_same 16 n a b g (omega (arith, le)) in
         let contents = contents_same k 0 k (omega arith) (omega (arith, le)) in
@@ -134,9 +136,11 @@ module _ (a b : List ℕ) (n : ℕ) (g : Agree a b n) (long : 12 ≤ n) where
           | inl low ↦ inl (omega (arith, low, sum))
           | inr other ↦ elim other [
             | inl empty ↦ inr (inl (sym commit ∙ empty.0, λ (same : eight_at (number_place b k + 4) b ≡ 2 ^ 63). empty.1 (sum ∙ same)))
-            | inr snapshot ↦ inr (inr (sym min ∙ snapshot.0,
-                λ (same : eight_at (number_place b k + 4) b ≡ database_sum (map (page_in b) (range_with_len 0 k))). snapshot.1 (sum ∙ same ∙ ap database_sum (sym contents))))
-            ]
+            | inr snapshot ↦ inr (inr (
+              sym min ∙ snapshot.0,
+              λ (same : eight_at (number_place b k + 4) b ≡ database_sum (map (page_in b) (range_with_len 0 k))). snapshot.1 (sum ∙ same ∙ ap database_sum (sym contents)),
+            ))
+          ]
         ]
 
     pub breaks_same : (f : LtxFault) → f ≢ fault.Short → Breaks a f q → Breaks b f q
@@ -152,14 +156,16 @@ module _ (a b : List ℕ) (n : ℕ) (g : Agree a b n) (long : 12 ≤ n) where
     breaks_same fault.Txid inside rule = elim rule [
       | inl low ↦ inl (low.0, sym (eight_same 16 n a b g (omega (arith, low.0))) ∙ low.1)
       | inr less ↦ inr (less.0, omega (arith, less.1, eight_same 24 n a b g (omega (arith, less.0)), eight_same 16 n a b g (omega (arith, less.0))))
-      ]
+    ]
     breaks_same fault.PreSum inside rule =
         let min : eight_at 16 a ≡ eight_at 16 b = eight_same 16 n a b g (omega (arith, rule.0)) in
-        let pre : eight_at 40 a ≡ eight_at 40 b = eight_same 40 n a b g (omega (arith, rule.0)) in
-        (rule.0, elim rule.1 [
-          | inl snapshot ↦ inl (sym min ∙ snapshot.0, λ (zero-is : eight_at 40 b ≡ 0). snapshot.1 (pre ∙ zero-is))
-          | inr delta ↦ inr (λ (one : eight_at 16 b ≡ 1). delta.0 (min ∙ one), omega (arith, delta.1, pre))
-        ])
+        let pre : eight_at 40 a ≡ eight_at 40 b = eight_same 40 n a b g (omega (arith, rule.0)) in (
+          rule.0,
+          elim rule.1 [
+            | inl snapshot ↦ inl (sym min ∙ snapshot.0, λ (zero-is : eight_at 40 b ≡ 0). snapshot.1 (pre ∙ zero-is))
+            | inr delta ↦ inr (λ (one : eight_at 16 b ≡ 1). delta.0 (min ∙ one), omega (arith, delta.1, pre))
+          ],
+        )
     breaks_same fault.PageOrder inside rule = let k = rule.0 in
         (k, pages_same k (omega (arith, rule.2)) rule.1, rule.2 ∙ ap (λ (p : ℕ). p + 4) (place_same k), out_of_order_same k (omega (arith, rule.2)) rule.3)
     breaks_same fault.PageRange inside rule = let k = rule.0 in
@@ -168,10 +174,14 @@ module _ (a b : List ℕ) (n : ℕ) (g : Agree a b n) (long : 12 ≤ n) where
         (k, pages_same k (omega (arith, rule.2)) rule.1, rule.2 ∙ ap (λ (p : ℕ). p + 4) (place_same k), leaves_out_same k (omega (arith, rule.2)) rule.3)
     breaks_same fault.PostSum inside rule = let k = rule.0 in
         (k, block_same k (omega (arith, rule.2)) rule.1, rule.2 ∙ ap (λ (p : ℕ). p + 12) (place_same k), wrong_sum_same k (omega (arith, rule.2)) rule.3)
-    breaks_same (fault.FileSum want got) inside rule = let k = rule.0 in
-        (k, block_same k (omega (arith, rule.2)) rule.1, rule.2 ∙ ap (λ (p : ℕ). p + 20) (place_same k),
-         rule.3 ∙ ap file_sum (front_same (number_place a k + 12) n a b g (omega (arith, rule.2)) ∙ ap (λ (p : ℕ). take (p + 12) b) (place_same k)),
-         rule.4 ∙ eight_same (number_place a k + 12) n a b g (omega (arith, rule.2)) ∙ ap (λ (p : ℕ). eight_at (p + 12) b) (place_same k), rule.5)
+    breaks_same (fault.FileSum want got) inside rule = let k = rule.0 in (
+      k,
+      block_same k (omega (arith, rule.2)) rule.1,
+      rule.2 ∙ ap (λ (p : ℕ). p + 20) (place_same k),
+      rule.3 ∙ ap file_sum (front_same (number_place a k + 12) n a b g (omega (arith, rule.2)) ∙ ap (λ (p : ℕ). take (p + 12) b) (place_same k)),
+      rule.4 ∙ eight_same (number_place a k + 12) n a b g (omega (arith, rule.2)) ∙ ap (λ (p : ℕ). eight_at (p + 12) b) (place_same k),
+      rule.5,
+    )
     breaks_same fault.Tail inside rule = let k = rule.0 in
         (k, block_same k (omega (arith, rule.2)) rule.1, rule.2 ∙ ap (λ (p : ℕ). p + 21) (place_same k))
     breaks_same fault.Short inside rule = absurd (inside refl)
@@ -239,7 +249,7 @@ broken_same a b n q f g within inside broken = record {
   breaks = elim (cases_lt n 12) [
     | inl few ↦ first_same a b n q g within few f inside broken.breaks
     | inr long ↦ breaks_same a b n g long q within f inside broken.breaks
-    ];
+  ];
   there = let right = g.right in omega (arith, there_inside b f inside);
 }
 
@@ -266,13 +276,13 @@ pub sound_longer : (bytes more : List ℕ) (place : ℕ) → place ≤ length by
 sound_longer bytes more place near sound f q broken =
     elim (is_short f) [
       | inl short ↦
-        let b : IsBroken (bytes ++ more) fault.Short q = subst (λ (g : LtxFault). IsBroken (bytes ++ more) g q) short broken in
-        omega (arith, b.breaks.0, length-append bytes more)
+          let b : IsBroken (bytes ++ more) fault.Short q = subst (λ (g : LtxFault). IsBroken (bytes ++ more) g q) short broken in
+          omega (arith, b.breaks.0, length-append bytes more)
       | inr inside ↦ elim (cases_lt (length bytes) q) [
         | inl far ↦ omega (arith, far)
         | inr here ↦ sound f q (broken_same (bytes ++ more) bytes (length bytes) q f (turned bytes (bytes ++ more) (length bytes) (longer bytes more)) here inside broken)
-        ]
       ]
+    ]
 
 -- a fault inside stays the earliest
 pub fault_stays_lem : (bytes more : List ℕ) (f : LtxFault) → IsEarliest bytes f → f ≢ fault.Short → StandsInside f → IsEarliest (bytes ++ more) f

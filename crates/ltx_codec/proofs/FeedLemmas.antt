@@ -78,14 +78,20 @@ none_valid size count is = record { of_a_page_size = is; ascending = tt; within 
 
 -- what is refused stays so whatever follows
 pub refused_longer : (limit : ℕ) (bytes more : List ℕ) (f : LtxFault) → IsRefusedWithin limit bytes f → IsRefusedWithin limit (bytes ++ more) f
-refused_longer limit bytes more f refused = (refused.0, elim refused.1 [
-  | inl earliest ↦ inl (fault_stays_lem bytes more f earliest (found_there f refused.0) (found_inside f refused.0))
-  | inr past ↦ inr (past.0, record {
-      there = let there = past.1.there in omega (arith, length-append bytes more);
-      sound = sound_longer bytes more 13 (let there = past.1.there in omega arith) past.1.sound;
-      past = let there = past.1.there in omega (arith, past.1.past, four_same 8 (length bytes) bytes (bytes ++ more) (longer bytes more) (omega (arith, there)));
-    })
-  ])
+refused_longer limit bytes more f refused = (
+  refused.0,
+  elim refused.1 [
+    | inl earliest ↦ inl (fault_stays_lem bytes more f earliest (found_there f refused.0) (found_inside f refused.0))
+    | inr past ↦ inr (
+      past.0,
+      record {
+        there = let there = past.1.there in omega (arith, length-append bytes more);
+        sound = sound_longer bytes more 13 (let there = past.1.there in omega arith) past.1.sound;
+        past = let there = past.1.there in omega (arith, past.1.past, four_same 8 (length bytes) bytes (bytes ++ more) (longer bytes more) (omega (arith, there)));
+      },
+    )
+  ],
+)
 
 -- a text with some of a piece, and the rest of the piece
 pub piece_rest : (text piece : List ℕ) (used : ℕ) → (text ++ take used piece) ++ drop used piece ≡ text ++ piece
@@ -158,16 +164,20 @@ module _ (old new : Decoder) (limit : ℕ) (text more : List ℕ) (fed : HasFed 
           sound = stays.fault ∙ fed.sound;
           limit_is = stays.limit ∙ fed.limit_is;
           within = rw (← text-is, ← fed.limit_is) within;
-          stage = inr (empty_change (four_at 8 (text ++ more)) (four_at 12 (text ++ more)), record {
-            stage = block;
-            valid = none_valid _ _ (head.fields.page_size (record { within = omega arith; there = omega (arith, long) }));
-            read = read;
-            header = header ∙ ap header_in text-is;
-            number = number;
-            held = ap (λ (b : Bool). cond b [] new.held.items) told ∙ sym (drop_all (number_place (text ++ more) 0) (text ++ more) (omega (arith, long)));
-            register = register ∙ ap (after_bytes all_ones) (text-is ∙ sym (take_all (number_place (text ++ more) 0) (text ++ more) (omega (arith, long))));
-            sums = λ _. sums;
-          }, told_part new (text ++ more) 0 told);
+          stage = inr (
+            empty_change (four_at 8 (text ++ more)) (four_at 12 (text ++ more)),
+            record {
+              stage = block;
+              valid = none_valid _ _ (head.fields.page_size (record { within = omega arith; there = omega (arith, long) }));
+              read = read;
+              header = header ∙ ap header_in text-is;
+              number = number;
+              held = ap (λ (b : Bool). cond b [] new.held.items) told ∙ sym (drop_all (number_place (text ++ more) 0) (text ++ more) (omega (arith, long)));
+              register = register ∙ ap (after_bytes all_ones) (text-is ∙ sym (take_all (number_place (text ++ more) 0) (text ++ more) (omega (arith, long))));
+              sums = λ _. sums;
+            },
+            told_part new (text ++ more) 0 told,
+          );
         };
       }
 

@@ -39,10 +39,13 @@ module _ (bytes : List ℕ) (k : ℕ) (header : Header) (before number : ℕ) (i
         (λ zero. rule.0 (is.number_is ∙ zero), omega (arith, is.before_is, is.number_is, rule.1))
     number_refused fault.PageRange rule = range_first bytes k pages sound is.there
         (omega (arith, is.before_is, is.number_is, rule.0), omega (arith, is.number_is, commit_is, rule.1))
-    number_refused fault.NotWhole rule = left_out_first bytes k pages sound is.there (sym min_is ∙ rule.0, elim rule.1 [
-      | inl skips ↦ inl (omega (arith, is.before_is, is.number_is, skips.0), omega (arith, is.number_is, commit_is, skips.1))
-      | inr stops ↦ inr (sym is.number_is ∙ stops.0, λ same. stops.1 (is.before_is ∙ same ∙ sym commit_is))
-    ])
+    number_refused fault.NotWhole rule = left_out_first bytes k pages sound is.there (
+      sym min_is ∙ rule.0,
+      elim rule.1 [
+        | inl skips ↦ inl (omega (arith, is.before_is, is.number_is, skips.0), omega (arith, is.number_is, commit_is, skips.1))
+        | inr stops ↦ inr (sym is.number_is ∙ stops.0, λ same. stops.1 (is.before_is ∙ same ∙ sym commit_is))
+      ],
+    )
     number_refused fault.Short rule = absurd rule
     number_refused fault.Magic rule = absurd rule
     number_refused fault.Compressed rule = absurd rule

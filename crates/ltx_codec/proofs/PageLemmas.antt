@@ -90,7 +90,6 @@ pub record TakesPage (old new : Decoder) (number : ℕ) : Type 0 where
 
 module _ (old new : Decoder) (limit : ℕ) (text : List ℕ) (change : PageChange) (number : ℕ) (has : HasNumber old limit text change number) (some : number ≢ 0)
     (untold : old.told ≡ false) (whole : length old.held.items ≡ 4 + old.header.page_size) (takes : TakesPage old new number) where
-
   size_is : old.header.page_size ≡ four_at 8 text
   size_is = ap (λ (h : Header). h.page_size) has.feeding.block.header
 
@@ -105,7 +104,6 @@ module _ (old new : Decoder) (limit : ℕ) (text : List ℕ) (change : PageChang
 
   page_length : length (drop 4 old.held.items) ≡ four_at 8 text
   page_length = omega (arith, length-drop 4 old.held.items, whole, size_is)
-
 
   count : length (with_page change number (drop 4 old.held.items)).pages ≡ length change.pages + 1
   count = length-append change.pages (record { number = number; bytes = drop 4 old.held.items } ∷ [])
@@ -125,7 +123,7 @@ module _ (old new : Decoder) (limit : ℕ) (text : List ℕ) (change : PageChang
   sums_is : eight_at 16 text ≡ 1 → new.sums ≡ joined (page_sums 1 (map (λ (w : PageWrite). w.bytes) (with_page change number (drop 4 old.held.items)).pages))
   sums_is snapshot =
       let n-is : number ≡ 1 + length (map (λ (w : PageWrite). w.bytes) change.pages) =
-          omega (arith, has.number_is, has.sound.follows snapshot (λ zero. some (has.number_is ∙ zero)), has.feeding.block.read.consecutive snapshot, length-map change.pages (λ (w : PageWrite). w.bytes)) in
+      omega (arith, has.number_is, has.sound.follows snapshot (λ zero. some (has.number_is ∙ zero)), has.feeding.block.read.consecutive snapshot, length-map change.pages (λ (w : PageWrite). w.bytes)) in
       takes.sums
       ∙ ap (λ (s : ℕ). bit_xor s (page_sum_of number (drop 4 old.held.items))) (has.feeding.block.sums snapshot)
       ∙ ap (λ (n : ℕ). bit_xor (joined (page_sums 1 (map (λ (w : PageWrite). w.bytes) change.pages))) (page_sum_of n (drop 4 old.held.items))) n-is
@@ -210,9 +208,10 @@ module _ (old new : Decoder) (limit : ℕ) (text more : List ℕ) (number : ℕ)
 
   pub number_refused_at : (f : LtxFault) → BreaksNumbering new.header new.number number f → IsRefusedWithin limit (text ++ more) f
   number_refused_at f rule =
-      let read = has_pages.block.read in
-      (numbering_found new.header new.number number f rule,
-       inl (number_refused (text ++ more) (length (pages_of old limit text fed stage).0.pages) new.header new.number number kth read.pages read.sound f rule))
+      let read = has_pages.block.read in (
+        numbering_found new.header new.number number f rule,
+        inl (number_refused (text ++ more) (length (pages_of old limit text fed stage).0.pages) new.header new.number number kth read.pages read.sound f rule),
+      )
 
   -- how much is held with the number
   module _ (short : length old.held.items < 4 → length new.held.items ≤ 4) (none : 4 ≤ length old.held.items → length more ≡ 0) where
@@ -233,16 +232,16 @@ module _ (old new : Decoder) (limit : ℕ) (text more : List ℕ) (number : ℕ)
     number_in_page some = elim (cases_lt (length old.held.items) 4) [
       | inl few ↦ (omega (arith, short few), omega (arith, few, new_held))
       | inr enough ↦
-        let size : old.header.page_size ≡ four_at 8 text = ap (λ (h : Header). h.page_size) (pages_of old limit text fed stage).1.block.header in
-        let size-new : new.header.page_size ≡ old.header.page_size = ap (λ (h : Header). h.page_size) grows.header in
-        let part = (pages_of old limit text fed stage).2.page (old_place enough) (λ zero. some (sym (old_number enough) ∙ zero)) in
-        (omega (arith, part, old_held, new_held, none enough, size, size-new), omega (arith, part, old_held, new_held, size, size-new))
+          let size : old.header.page_size ≡ four_at 8 text = ap (λ (h : Header). h.page_size) (pages_of old limit text fed stage).1.block.header in
+          let size-new : new.header.page_size ≡ old.header.page_size = ap (λ (h : Header). h.page_size) grows.header in
+          let part = (pages_of old limit text fed stage).2.page (old_place enough) (λ zero. some (sym (old_number enough) ∙ zero)) in
+          (omega (arith, part, old_held, new_held, none enough, size, size-new), omega (arith, part, old_held, new_held, size, size-new))
     ]
 
     pub number_in_trailer : number ≡ 0 → (length new.held.items ≤ 20) × (length new.held.items < length more + (20))
     number_in_trailer ends = elim (cases_lt (length old.held.items) 4) [
       | inl few ↦ (omega (arith, short few), omega (arith, few, new_held))
       | inr enough ↦
-        let part = (pages_of old limit text fed stage).2.end (old_place enough) (old_number enough ∙ ends) in
-        (omega (arith, part, old_held, new_held, none enough), omega (arith, part, old_held, new_held))
+          let part = (pages_of old limit text fed stage).2.end (old_place enough) (old_number enough ∙ ends) in
+          (omega (arith, part, old_held, new_held, none enough), omega (arith, part, old_held, new_held))
     ]

@@ -45,17 +45,17 @@ none_in_block text piece change used n read fits within near stays m some less e
     elim ends [
       | inl header ↦ omega (arith, header, long, whole)
       | inr page ↦
-        let at = place_kept text (take m piece) head (page.0 + 1) in
-        elim (cases_lt page.0 k) [
-          | inl before ↦ omega (arith, at, page.2, long, later_place text page.0 k before, next_place text page.0, there)
-          | inr behind ↦
-            let far : number_place text (k + 1) ≤ length (text ++ take m piece) = far_enough text k page.0 (length (text ++ take m piece)) behind (at ∙ sym page.2) in
-            elim stays [
-              | inl next ↦ omega (arith, far, long, next)
-              | inr last ↦ page.1 k (omega (arith, behind)) (number_kept_to text piece k m used head (AreBytes-append text (take m piece) head.octets (AreBytes-take m piece fits)) (omega arith)
-                  (omega (arith, far, next_place text k, place_kept text (take m piece) head k)) ∙ last)
-            ]
-        ]
+          let at = place_kept text (take m piece) head (page.0 + 1) in
+          elim (cases_lt page.0 k) [
+            | inl before ↦ omega (arith, at, page.2, long, later_place text page.0 k before, next_place text page.0, there)
+            | inr behind ↦
+                let far : number_place text (k + 1) ≤ length (text ++ take m piece) = far_enough text k page.0 (length (text ++ take m piece)) behind (at ∙ sym page.2) in
+                elim stays [
+                  | inl next ↦ omega (arith, far, long, next)
+                  | inr last ↦ page.1 k (omega (arith, behind)) (number_kept_to text piece k m used head (AreBytes-append text (take m piece) head.octets (AreBytes-take m piece fits)) (omega arith)
+                      (omega (arith, far, next_place text k, place_kept text (take m piece) head k)) ∙ last)
+                ]
+          ]
     ]
   where
     far_enough : (text : List ℕ) (k j len : ℕ) → k ≤ j → number_place text (j + 1) ≡ len → number_place text (k + 1) ≤ len
@@ -83,8 +83,16 @@ pub page_bound : (old : Decoder) (limit : ℕ) (text piece : List ℕ) (first : 
 page_bound old limit text piece first change has untold read within more few =
     let k = length change.pages in
     let size : old.header.page_size ≡ four_at 8 (text ++ take first piece) = ap (λ (h : Header). h.page_size) has.block.header in
-    omega (arith, held_length old limit (text ++ take first piece) change has untold, grown_length text piece first within, few, size, size_kept text (take first piece) read.header,
-      place_kept text (take first piece) read.header k, next_place text k)
+    omega (
+      arith,
+      held_length old limit (text ++ take first piece) change has untold,
+      grown_length text piece first within,
+      few,
+      size,
+      size_kept text (take first piece) read.header,
+      place_kept text (take first piece) read.header k,
+      next_place text k,
+    )
 
 -- the number that ends the block stays where it is
 pub end_stays : (old : Decoder) (limit : ℕ) (text piece : List ℕ) (first : ℕ) (change : PageChange) → HasNumber old limit (text ++ take first piece) change 0 → (more : ℕ)

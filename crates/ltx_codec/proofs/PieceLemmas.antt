@@ -75,8 +75,19 @@ module _ (bytes more : List ℕ) (head : HasHeader bytes) where
   }
 
   pub header_in_longer : header_in bytes ≡ header_in (bytes ++ more)
-  header_in_longer = cc (four_kept 8 (omega arith), four_kept 12 (omega arith), eight_kept 16 (omega arith), eight_kept 24 (omega arith), eight_kept 32 (omega arith),
-      eight_kept 40 (omega arith), eight_kept 48 (omega arith), eight_kept 56 (omega arith), four_kept 64 (omega arith), four_kept 68 (omega arith), eight_kept 72 (omega arith))
+  header_in_longer = cc (
+    four_kept 8 (omega arith),
+    four_kept 12 (omega arith),
+    eight_kept 16 (omega arith),
+    eight_kept 24 (omega arith),
+    eight_kept 32 (omega arith),
+    eight_kept 40 (omega arith),
+    eight_kept 48 (omega arith),
+    eight_kept 56 (omega arith),
+    four_kept 64 (omega arith),
+    four_kept 68 (omega arith),
+    eight_kept 72 (omega arith),
+  )
 
 pub read_longer : (bytes more : List ℕ) (change : PageChange) (k : ℕ) → IsRead bytes change k → AreBytes (bytes ++ more) → IsRead (bytes ++ more) change k
 read_longer bytes more change k read octets =

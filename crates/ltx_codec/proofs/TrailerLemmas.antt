@@ -51,8 +51,8 @@ module _ (d : Decoder) (limit : ℕ) (text : List ℕ) (change : PageChange) (ha
     | inr other ↦ elim other [
       | inl empty ↦ inr (inl (sym commit_is ∙ empty.0, empty.1))
       | inr snapshot ↦ inr (inr (sym min_is ∙ snapshot.0, λ same. snapshot.1 (same ∙ sym (sums_are (sym min_is ∙ snapshot.0)))))
-      ]
     ]
+  ]
 
   right_is : (s : ℕ) → (IsWrongPost d.header d.sums s → ⊥) → IsWrongSum text (length change.pages) s → ⊥
   right_is s right wrong = elim wrong [
@@ -60,8 +60,8 @@ module _ (d : Decoder) (limit : ℕ) (text : List ℕ) (change : PageChange) (ha
     | inr other ↦ elim other [
       | inl empty ↦ right (inr (inl (commit_is ∙ empty.0, empty.1)))
       | inr snapshot ↦ right (inr (inr (min_is ∙ snapshot.0, λ same. snapshot.1 (same ∙ sums_are snapshot.0))))
-      ]
     ]
+  ]
 
   right_at : (IsWrongPost d.header d.sums (eight_at 4 d.held.items) → ⊥) → IsWrongSum text (length change.pages) (eight_at (number_place text (length change.pages) + 4) text) → ⊥
   right_at right = subst (λ (s : ℕ). IsWrongSum text (length change.pages) s → ⊥) post_at (right_is (eight_at 4 d.held.items) right)
@@ -87,14 +87,18 @@ module _ (d : Decoder) (limit : ℕ) (text : List ℕ) (change : PageChange) (ha
   pub trailer_refused : (f : LtxFault) → BreaksSums d.header d.sums d.register d.held.items f → IsRefusedWithin limit text f
   trailer_refused fault.PostSum rule =
       let read = has.feeding.block.read in
-      let at = long in
-      (tt, inl (wrong_sum text (length change.pages) read.pages read.sound has.sound ends (omega (arith, at, rule.0))
-        (subst (λ (s : ℕ). IsWrongSum text (length change.pages) s) post_at (wrong_is (eight_at 4 d.held.items) rule.1))))
+      let at = long in (
+        tt,
+        inl (wrong_sum text (length change.pages) read.pages read.sound has.sound ends (omega (arith, at, rule.0))
+            (subst (λ (s : ℕ). IsWrongSum text (length change.pages) s) post_at (wrong_is (eight_at 4 d.held.items) rule.1))),
+      )
   trailer_refused (fault.FileSum want got) rule =
       let read = has.feeding.block.read in
-      let at = long in
-      (tt, inl (wrong_file_sum text (length change.pages) read.pages read.sound has.sound ends (right_at rule.1) want got (omega (arith, at, rule.0))
-        (rule.2 ∙ seal_is) (rule.3 ∙ sum_at) rule.4))
+      let at = long in (
+        tt,
+        inl (wrong_file_sum text (length change.pages) read.pages read.sound has.sound ends (right_at rule.1) want got (omega (arith, at, rule.0))
+            (rule.2 ∙ seal_is) (rule.3 ∙ sum_at) rule.4),
+      )
   trailer_refused fault.Short rule = absurd rule
   trailer_refused fault.Magic rule = absurd rule
   trailer_refused fault.Compressed rule = absurd rule
@@ -119,7 +123,7 @@ module _ (d : Decoder) (limit : ℕ) (text : List ℕ) (change : PageChange) (ha
         fed_of d limit text change has.feeding
         (record { page = λ there more. absurd (more ends); end = λ there end. omega (arith, held, few) })
         (short_trailer text (length change.pages) read.pages read.sound has.sound ends (omega (arith, at, few))
-          (λ room. past_sum text (length change.pages) read.pages read.sound has.sound ends (right_at (right.post (omega (arith, at, room)))) room))
+        (λ room. past_sum text (length change.pages) read.pages read.sound has.sound ends (right_at (right.post (omega (arith, at, room)))) room))
 
     -- the file is whole
     pub trailer_ends : (new : Decoder) → length d.held.items ≡ 20 → Stays d new → new.post ≡ eight_at 4 d.held.items → new.header ≡ d.header → new.told ≡ true → new.in_block ≡ false

@@ -29,5 +29,4 @@ pub fn one_earliest_fault()
 pub fn fault_stays()
     ensures { (bytes more : List ℕ) (fault : LtxFault) → IsEarliest bytes fault → fault ≢ LtxFault.Short → StandsInside fault
         → IsEarliest (bytes ++ more) fault }
-{
-}
+{}

@@ -3,15 +3,8 @@
 pub enum Seen {
     /// The whole piece was taken, and none of the others ended in it.
     More,
-    Header {
-        used: usize,
-    },
-    Page {
-        used: usize,
-        number: u32,
-    },
+    Header { used: usize },
+    Page { used: usize, number: u32 },
     /// The file is whole, and the next byte begins another.
-    Whole {
-        used: usize,
-    },
+    Whole { used: usize },
 }

@@ -13,5 +13,5 @@ returns-in_err-check_number-clause-fault c =
     let reading = c.requires in
     let number-is : c.u32_at-number.result ≡ number_at bytes k = c.u32_at-number.ensures ∙ ap (λ (n : _). four_at n bytes) reading.place in
     rw (p.1, p.2) (number_refused bytes k c.args.self.now.header c.args.self.now.prev c.u32_at-number.result
-      (record { header_is = reading.header; before_is = reading.prev; number_is = number-is; there = omega (arith, reading.place) })
-      reading.read.pages reading.read.sound _ c.in_err-check_number.ensures.fault)
+    (record { header_is = reading.header; before_is = reading.prev; number_is = number-is; there = omega (arith, reading.place) })
+    reading.read.pages reading.read.sound _ c.in_err-check_number.ensures.fault)
