@@ -8,6 +8,7 @@ use Rattle.ltx_codec.specs.declared.file.Ltx.{Ltx}
 use Rattle.ltx_compact.specs.Compaction.{Compacts}
 use Rattle.ltx_compact.specs.Joining.{AllJoin, IsWhy}
 use Rattle.ltx_compact.specs.Application.{DoesAsFiles}
+use Rattle.ltx_compact.specs.declared.fault.CompactFault.TheVariants as list
 use Rattle.litefs_tool.specs.declared.compact_refusal.CompactRefusal.{CompactRefusal}
 use Rattle.litefs_tool.specs.declared.compact_refusal.CompactRefusal.TheVariants as refusal
 
@@ -45,6 +46,7 @@ pub record SaysOtherSum (file : Ltx) (want got : ℕ) : Type 0 where
 -- why the files in the bytes do not become one
 abbrev pub RefusesToCompact : List ℕ → CompactRefusal → Type 0
 RefusesToCompact bytes (refusal.Ltx fault) = BreaksOff bytes fault
+RefusesToCompact bytes (refusal.List list.NoMemory) = ⊥
 RefusesToCompact bytes (refusal.List why) = (files : List Ltx) × AreTexts bytes files × IsWhy files why
 RefusesToCompact bytes (refusal.SumDiffers want got) = (file : Ltx) × Become bytes file × SaysOtherSum file want got
 RefusesToCompact bytes refusal.NoMemory = ⊥
