@@ -67,3 +67,22 @@ short_header bytes h cut = record {
       snapshot_pre = λ is. h.snapshot_pre (wider 48 is);
       delta_pre = λ is. h.delta_pre (wider 48 is);
     }
+
+-- a sound page size is sound by itself
+pub start_sound : (bytes : List ℕ) → HasSoundFields bytes 15 → 12 ≤ length bytes → IsSoundBefore bytes 13
+start_sound bytes h long = sound_fields bytes 12 here (omega arith) long
+  where
+    wider : (e : ℕ) → IsThere bytes 12 e → IsThere bytes 15 e
+    wider e is = record { within = omega (arith, is.within); there = is.there }
+
+    here : HasSoundFields bytes 12
+    here = record {
+      magic_is = λ is. h.magic_is (wider 4 is);
+      flags = λ is. h.flags (wider 8 is);
+      page_size = λ is. h.page_size (wider 12 is);
+      commit = λ is. h.commit (wider 16 is);
+      min = λ is. h.min (wider 24 is);
+      max = λ is. h.max (wider 32 is);
+      snapshot_pre = λ is. h.snapshot_pre (wider 48 is);
+      delta_pre = λ is. h.delta_pre (wider 48 is);
+    }

@@ -1,5 +1,6 @@
 pub mod HeaderLemmas
 pub mod BlockLemmas
+pub mod NumberLemmas
 pub mod TextLemmas
 pub mod ReadLemmas
 pub mod DecodeLemmas
@@ -7,3 +8,9 @@ pub mod LawLemmas
 pub mod SoundLemmas
 pub mod OneFault
 pub mod WriteLemmas
+pub mod AgreeLemmas
+pub mod FeedLemmas
+pub mod PieceLemmas
+pub mod PartLemmas
+pub mod PageLemmas
+pub mod TrailerLemmas

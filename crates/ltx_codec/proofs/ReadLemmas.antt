@@ -10,7 +10,7 @@ use Rattle.ltx_codec.proofs.BlockLemmas.{past_page}
 use Rattle.ltx_codec.proofs.TextLemmas.{holds_next, before_more}
 
 -- one more page was read
-read_next : (bytes : List ℕ) (change : PageChange) (k n : ℕ) (page : List ℕ) → IsRead bytes change k → IsNextNumber bytes k
+pub read_next : (bytes : List ℕ) (change : PageChange) (k n : ℕ) (page : List ℕ) → IsRead bytes change k → IsNextNumber bytes k
     → n ≡ number_at bytes k → n ≢ 0 → page ≡ page_in bytes k → number_place bytes (k + 1) ≤ length bytes → IsRead bytes (with_page change n page) (k + 1)
 read_next bytes change k n page read number n-is more page-is room =
     let more_at : number_at bytes k ≢ 0 = λ zero. more (n-is ∙ zero) in

@@ -2,5 +2,8 @@ pub mod Fields
 pub mod Format
 pub mod Places
 pub mod HeaderRules
+pub mod Numbering
 pub mod Block
 pub mod Trailer
+pub mod Decoding
+pub mod Feeding

@@ -103,3 +103,10 @@ IsRefused bytes f = (f ≡ fault.NoMemory) ⊎ IsEarliest bytes f
 abbrev pub StandsInside : LtxFault → Type 0
 StandsInside fault.Tail = ⊥
 StandsInside _ = Unit {0}
+
+-- a rule of the format is broken by bytes that are there, inside the file
+abbrev pub IsFound : LtxFault → Type 0
+IsFound fault.Short = ⊥
+IsFound fault.Tail = ⊥
+IsFound fault.NoMemory = ⊥
+IsFound _ = Unit {0}

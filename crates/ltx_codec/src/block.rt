@@ -7,6 +7,7 @@ ghost use Rattle.ltx_codec.specs.Trailer.{IsAtEnd};
 
 use crate::fault::LtxFault;
 use crate::header::Header;
+use crate::numbering::check_number;
 use crate::numbers::u32_at;
 use lf_sqlite_pages::Change;
 use std::alloc::Global;
@@ -25,47 +26,6 @@ pub struct BlockReader<'a> {
 }
 
 impl<'a> BlockReader<'a> {
-    /// Checks the number that comes.
-    #[tactic(auto, using(crate::proofs::BlockLemmas::order_first, crate::proofs::BlockLemmas::range_first, crate::proofs::BlockLemmas::left_out_first))]
-    fn check(&self, number: u32) -> Result<(), LtxFault>
-        requires reading { IsReading self.now }
-        requires there { self.now.place + 4 ≤ length self.now.bytes.now }
-        requires number { number ≡ number_at self.now.bytes.now (length self.now.change.pages) }
-        ensures ok { OnOk result (IsNextNumber self.now.bytes.now (length self.now.change.pages)) }
-        ensures fault { IfErr result (IsEarliest self.now.bytes.now) }
-        ensures inside { IfErr result StandsInside }
-    {
-        if number == 0 {
-            return self.check_end();
-        }
-        if number <= self.prev {
-            return Err(LtxFault::PageOrder);
-        }
-        if number > self.header.commit {
-            return Err(LtxFault::PageRange);
-        }
-        if self.header.min == 1 && number - self.prev != 1 {
-            return Err(LtxFault::NotWhole);
-        }
-        Ok(())
-    }
-
-    /// Checks that the block may end here.
-    #[tactic(auto, using(crate::proofs::BlockLemmas::left_out_first))]
-    fn check_end(&self) -> Result<(), LtxFault>
-        requires reading { IsReading self.now }
-        requires there { self.now.place + 4 ≤ length self.now.bytes.now }
-        requires number { number_at self.now.bytes.now (length self.now.change.pages) ≡ 0 }
-        ensures ok { OnOk result (IsNextNumber self.now.bytes.now (length self.now.change.pages)) }
-        ensures fault { IfErr result (IsEarliest self.now.bytes.now) }
-        ensures inside { IfErr result StandsInside }
-    {
-        if self.header.min == 1 && self.prev != self.header.commit {
-            return Err(LtxFault::NotWhole);
-        }
-        Ok(())
-    }
-
     /// The number that comes, checked.
     #[tactic(auto, using(crate::proofs::BlockLemmas::short_number))]
     fn number(&self) -> Result<u32, LtxFault>
@@ -79,7 +39,7 @@ impl<'a> BlockReader<'a> {
             return Err(LtxFault::Short);
         }
         let number = u32_at(self.bytes, self.place);
-        self.check(number)?;
+        check_number(&self.header, self.prev, number)?;
         Ok(number)
     }
 

@@ -2,7 +2,8 @@
 //! breaks none.
 ghost use Rattle.std.specs.Prelude.{◌≤◌, length, OnOk, IfErr};
 ghost use Rattle.ltx_codec.specs.HeaderRules.{HasSoundFields};
-ghost use Rattle.ltx_codec.specs.Places.{IsEarliest, StandsInside};
+ghost use Rattle.ltx_codec.specs.Decoding.{IsWithin, IsRefusedWithin};
+ghost use Rattle.ltx_codec.specs.Places.{IsEarliest, IsFound, StandsInside};
 
 use crate::fault::LtxFault;
 use crate::numbers::{u32_at, u64_at};
@@ -15,6 +16,7 @@ fn check_magic(bytes: &[u8]) -> Result<(), LtxFault>
     ensures ok { OnOk result (HasSoundFields bytes.now 7) }
     ensures fault { IfErr result (IsEarliest bytes.now) }
     ensures inside { IfErr result StandsInside }
+    ensures found { IfErr result IsFound }
 {
     if bytes.len() < 4 {
         return Ok(());
@@ -32,6 +34,7 @@ fn check_flags(bytes: &[u8]) -> Result<(), LtxFault>
     ensures ok { OnOk result (HasSoundFields bytes.now 11) }
     ensures fault { IfErr result (IsEarliest bytes.now) }
     ensures inside { IfErr result StandsInside }
+    ensures found { IfErr result IsFound }
 {
     if bytes.len() < 8 {
         return Ok(());
@@ -48,6 +51,7 @@ fn check_page_size(bytes: &[u8]) -> Result<(), LtxFault>
     ensures ok { OnOk result (HasSoundFields bytes.now 15) }
     ensures fault { IfErr result (IsEarliest bytes.now) }
     ensures inside { IfErr result StandsInside }
+    ensures found { IfErr result IsFound }
 {
     if bytes.len() < 12 {
         return Ok(());
@@ -64,6 +68,7 @@ fn check_commit(bytes: &[u8]) -> Result<(), LtxFault>
     ensures ok { OnOk result (HasSoundFields bytes.now 23) }
     ensures fault { IfErr result (IsEarliest bytes.now) }
     ensures inside { IfErr result StandsInside }
+    ensures found { IfErr result IsFound }
 {
     if bytes.len() < 16 {
         return Ok(());
@@ -81,6 +86,7 @@ fn check_min(bytes: &[u8]) -> Result<(), LtxFault>
     ensures ok { OnOk result (HasSoundFields bytes.now 31) }
     ensures fault { IfErr result (IsEarliest bytes.now) }
     ensures inside { IfErr result StandsInside }
+    ensures found { IfErr result IsFound }
 {
     if bytes.len() < 24 {
         return Ok(());
@@ -98,6 +104,7 @@ fn check_max(bytes: &[u8]) -> Result<(), LtxFault>
     ensures ok { OnOk result (HasSoundFields bytes.now 47) }
     ensures fault { IfErr result (IsEarliest bytes.now) }
     ensures inside { IfErr result StandsInside }
+    ensures found { IfErr result IsFound }
 {
     if bytes.len() < 32 {
         return Ok(());
@@ -114,6 +121,7 @@ fn check_pre(bytes: &[u8]) -> Result<(), LtxFault>
     ensures ok { OnOk result (HasSoundFields bytes.now 103) }
     ensures fault { IfErr result (IsEarliest bytes.now) }
     ensures inside { IfErr result StandsInside }
+    ensures found { IfErr result IsFound }
 {
     if bytes.len() < 48 {
         return Ok(());
@@ -127,17 +135,57 @@ fn check_pre(bytes: &[u8]) -> Result<(), LtxFault>
     if meets { Ok(()) } else { Err(LtxFault::PreSum) }
 }
 
+/// Magic, flags and page size.
+fn check_start(bytes: &[u8]) -> Result<(), LtxFault>
+    ensures ok { OnOk result (HasSoundFields bytes.now 15) }
+    ensures fault { IfErr result (IsEarliest bytes.now) }
+    ensures inside { IfErr result StandsInside }
+    ensures found { IfErr result IsFound }
+{
+    check_magic(bytes)?;
+    check_flags(bytes)?;
+    check_page_size(bytes)
+}
+
+/// The fields behind the page size.
+fn check_rest(bytes: &[u8]) -> Result<(), LtxFault>
+    requires { HasSoundFields bytes.now 15 }
+    ensures ok { OnOk result (HasSoundFields bytes.now 103) }
+    ensures fault { IfErr result (IsEarliest bytes.now) }
+    ensures inside { IfErr result StandsInside }
+    ensures found { IfErr result IsFound }
+{
+    check_commit(bytes)?;
+    check_min(bytes)?;
+    check_max(bytes)?;
+    check_pre(bytes)
+}
+
 /// The first rule that the header's fields break, of those that are there.
 pub fn check_header(bytes: &[u8]) -> Result<(), LtxFault>
     ensures ok { OnOk result (HasSoundFields bytes.now 103) }
     ensures fault { IfErr result (IsEarliest bytes.now) }
     ensures inside { IfErr result StandsInside }
 {
-    check_magic(bytes)?;
-    check_flags(bytes)?;
-    check_page_size(bytes)?;
-    check_commit(bytes)?;
-    check_min(bytes)?;
-    check_max(bytes)?;
-    check_pre(bytes)
+    check_start(bytes)?;
+    check_rest(bytes)
+}
+
+/// The same, where a page size past the limit is refused too.
+#[tactic(auto, using(crate::proofs::HeaderLemmas::start_sound))]
+pub fn check_within(bytes: &[u8], limit: u32) -> Result<(), LtxFault>
+    ensures ok { OnOk result (HasSoundFields bytes.now 103) }
+    ensures within { OnOk result (IsWithin limit bytes.now) }
+    ensures fault { IfErr result (IsRefusedWithin limit bytes.now) }
+{
+    if let Err(fault) = check_start(bytes) {
+        return Err(fault);
+    }
+    if bytes.len() >= 12 && u32_at(bytes, 8) > limit {
+        return Err(LtxFault::PageSize);
+    }
+    if let Err(fault) = check_rest(bytes) {
+        return Err(fault);
+    }
+    Ok(())
 }

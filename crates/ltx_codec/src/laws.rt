@@ -1,8 +1,8 @@
 //! Laws of the format, each the contract of a function that does nothing.
-ghost use Rattle.std.specs.Prelude.{◌≡◌, ◌<◌, List, ℕ, ◌++◌, length};
+ghost use Rattle.std.specs.Prelude.{◌≡◌, ◌≢◌, ◌<◌, List, ℕ, ◌++◌, length};
 ghost use Rattle.ltx_codec.specs.Fields.{AreBytes};
 ghost use Rattle.ltx_codec.specs.Format.{IsLtx};
-ghost use Rattle.ltx_codec.specs.Places.{IsBroken, IsEarliest};
+ghost use Rattle.ltx_codec.specs.Places.{IsBroken, IsEarliest, StandsInside};
 ghost use Rattle.ltx_codec.specs.declared.file.Ltx.{Ltx};
 ghost use Rattle.ltx_codec.specs.declared.fault.LtxFault.{LtxFault};
 
@@ -22,4 +22,11 @@ pub fn text_breaks_no_rule()
 /// The fault that stands earliest is one.
 pub fn one_earliest_fault()
     ensures { (bytes : List ℕ) (fault other : LtxFault) → IsEarliest bytes fault → IsEarliest bytes other → fault ≡ other }
+{}
+
+/// A fault inside a file stays the earliest whatever bytes follow; only what is short may be
+/// made whole.
+pub fn fault_stays()
+    ensures { (bytes more : List ℕ) (fault : LtxFault) → IsEarliest bytes fault → fault ≢ LtxFault.Short → StandsInside fault
+        → IsEarliest (bytes ++ more) fault }
 {}

@@ -6,24 +6,32 @@
 
 mod appending;
 mod block;
+mod decoder;
+mod decoder_block;
+mod decoder_header;
+mod decoder_trailer;
 mod encoder;
 mod fault;
 mod file;
 mod head_rules;
 mod header;
 mod laws;
+mod numbering;
 mod numbers;
 mod reading;
 mod rules;
+mod seen;
 mod trailer;
 mod writing;
 
+pub use decoder::Decoder;
 pub use encoder::Encoder;
 pub use fault::LtxFault;
 pub use file::Ltx;
 pub use header::Header;
-pub use laws::{one_earliest_fault, one_reading, text_breaks_no_rule};
+pub use laws::{fault_stays, one_earliest_fault, one_reading, text_breaks_no_rule};
 pub use reading::{decode, decode_first};
+pub use seen::Seen;
 pub use writing::encode;
 
 #[cfg(test)]

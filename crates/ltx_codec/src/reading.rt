@@ -14,7 +14,7 @@ use crate::numbers::{u32_at, u64_at};
 use std::alloc::Global;
 
 /// The header's fields, whatever they say.
-fn header_at(bytes: &[u8]) -> Header
+pub fn header_at(bytes: &[u8]) -> Header
     requires { 100 ≤ length bytes.now }
     ensures { result ≡ header_in bytes.now }
 {

@@ -213,3 +213,38 @@ fn every_field_survives(rt: HostRuntime) -> Result<(), Fail> {
     assert_eq!(rt; out.as_slice(), bytes.as_slice());
     Ok(())
 }
+
+/// Each byte is a piece: the header, the page and the file end with the bytes that they end with.
+#[test]
+fn a_file_comes_byte_by_byte(rt: HostRuntime) -> Result<(), Fail> {
+    let bytes = text(rt.alloc(), &SNAPSHOT)?;
+    let mut decoder = Decoder::new(rt.alloc(), 512).ok().ok_or("memory")?;
+    for (index, byte) in bytes.iter().enumerate() {
+        let expected = match index {
+            99 => Seen::Header { used: 1 },
+            615 => Seen::Page { used: 1, number: 1 },
+            635 => Seen::Whole { used: 1 },
+            _ => Seen::More,
+        };
+        assert_eq!(rt; decoder.feed(&[*byte]), Ok(expected), "{index}");
+        if index == 615 {
+            assert_eq!(rt; decoder.page(), PAGE.as_slice());
+        }
+    }
+    assert_eq!(rt; decoder.post(), SUM_1);
+    assert_eq!(rt; decoder.header().commit, 1);
+    assert_eq!(rt; decoder.finish(), Ok(()));
+    Ok(())
+}
+
+/// A page size past the limit is refused, and so is each piece after it.
+#[test]
+fn a_fault_is_answered_again(rt: HostRuntime) -> Result<(), Fail> {
+    let bytes = text(rt.alloc(), &SNAPSHOT)?;
+    let mut decoder = Decoder::new(rt.alloc(), 511).ok().ok_or("memory")?;
+    for _time in 0..2u8 {
+        assert_eq!(rt; decoder.feed(&bytes), Err(LtxFault::PageSize));
+    }
+    assert_eq!(rt; decoder.finish(), Err(LtxFault::PageSize));
+    Ok(())
+}

@@ -1,15 +1,13 @@
 -- Texts that begin alike have the same frames there.
-use Rattle.std.proofs.Common.{◌≡◌, ℕ, zero, suc, ◌+◌, ◌-◌, ◌*◌, ◌/◌, ◌≤◌, ◌<◌, Bool, true, false, ◌&&◌, List, length, take, drop, refl, sym, ap, subst, ◌∙◌, inl, inr, add-one, arith}
-use Rattle.std.proofs.lemmas.Bool.{cases_lt, cases_eq, le-leb}
-use Rattle.std.proofs.lemmas.List.{take-take, drop-take, length-take}
-use Rattle.std.proofs.lemmas.Bool.{cond-true, cond-false, eq-eqb, ne_eqb}
+use Rattle.std.proofs.Common.{◌≡◌, ℕ, zero, suc, ◌+◌, ◌-◌, ◌*◌, ◌/◌, ◌≤◌, Bool, true, List, length, take, drop, refl, sym, ap, subst, ◌∙◌, inl, inr, add-one, arith}
+use Rattle.std.proofs.lemmas.Bool.{cases_eq, le-leb}
+use Rattle.std.proofs.lemmas.List.{take-take, drop-take}
 use Rattle.wal_watch.specs.Words.{four_at, little_four_at, word_at}
-use Rattle.wal_watch.specs.Sums.{with_pair, with_pairs, stand_at, no_sums}
-use Rattle.wal_watch.specs.Frames.{is_header, is_little, header_sums, page_size_in, frame_place, frame_sums, sums_after, is_head, is_frame, is_frame_at, are_valid, is_commit, commits_among, committed_count, committed_end, size_in, page_in}
+use Rattle.wal_watch.specs.Sums.{with_pairs, stand_at, no_sums}
+use Rattle.wal_watch.specs.Frames.{is_header, is_little, header_sums, page_size_in, frame_place, frame_sums, sums_after, is_head, is_frame, is_frame_at, are_valid, is_commit, committed_count, size_in}
 use Rattle.wal_watch.specs.declared.sums.Sums.{Sums}
-use Rattle.wal_watch.proofs.Steps.{valid_more, valid_none, commits_more, commits_none, sums_more, sums_none, with_pairs_none, with_pairs_more}
 use Rattle.wal_watch.proofs.ScanLemmas.{next_place}
-use Rattle.wal_watch.proofs.CommitLemmas.{place_up, last_commit, has_committed, commit_facts, valid_room, commit_committed, frame_there}
+use Rattle.wal_watch.proofs.CommitLemmas.{has_committed, commit_committed}
 
 module _ (a b : List ℕ) (p : ℕ) (same : take p a ≡ take p b) where
   -- the same bytes

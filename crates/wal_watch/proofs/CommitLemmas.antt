@@ -1,10 +1,10 @@
 -- What the committed frames of a text are.
-use Rattle.std.proofs.Common.{◌≡◌, ℕ, zero, suc, ◌+◌, ◌-◌, ◌*◌, ◌≤◌, ◌<◌, Bool, true, false, ◌&&◌, ◌⊎◌, List, length, refl, sym, ap, subst, ◌∙◌, inl, inr, add-one, arith}
-use Rattle.std.proofs.lemmas.Bool.{and_parts, leb-true, cases_lt, cases_eq, cond-true, cond-false, cases_Bool, not_from_true, eq-eqb}
+use Rattle.std.proofs.Common.{◌≡◌, ℕ, zero, suc, ◌+◌, ◌-◌, ◌*◌, ◌≤◌, ◌<◌, true, ◌⊎◌, List, length, sym, ap, subst, ◌∙◌, inl, inr, add-one, arith}
+use Rattle.std.proofs.lemmas.Bool.{and_parts, leb-true, cases_eq, cond-true, cond-false, cases_Bool, not_from_true, eq-eqb}
 use Rattle.std.proofs.Math.Nat.{mul-le-mul_right}
-use Rattle.wal_watch.specs.Frames.{is_header, page_size_in, frame_place, sums_after, is_frame, is_frame_at, are_valid, is_commit, commits_among, committed_count, size_in}
+use Rattle.wal_watch.specs.Frames.{is_header, page_size_in, frame_place, is_frame, is_frame_at, are_valid, is_commit, commits_among, committed_count, size_in}
 use Rattle.wal_watch.proofs.Steps.{valid_more, valid_none, commits_more, commits_none, header_facts}
-use Rattle.wal_watch.specs.Scanning.{HasHeader, HasCommitted}
+use Rattle.wal_watch.specs.Scanning.{HasCommitted}
 use Rattle.wal_watch.proofs.ScanLemmas.{next_place, frames_fit}
 
 -- frame k commits, among the first n

@@ -3,7 +3,7 @@ use Rattle.std.proofs.Common.{◌≡◌, ℕ, ◌+◌, ◌-◌, ◌≤◌, ◌<�
 use Rattle.std.proofs.lemmas.Bool.{cases_eq, cond-false, ne_eqb}
 use Rattle.std.proofs.lemmas.List.{length-take}
 use Rattle.wal_watch.specs.Words.{four_at}
-use Rattle.wal_watch.specs.Frames.{frame_place, page_size_in, committed_count, committed_end, is_commit, number_in, size_in, page_in}
+use Rattle.wal_watch.specs.Frames.{frame_place, page_size_in, committed_count, committed_end, is_commit}
 use Rattle.wal_watch.specs.News.{IsSameFrame, HasSameFrames}
 use Rattle.wal_watch.proofs.ScanLemmas.{next_place}
 use Rattle.wal_watch.proofs.CommitLemmas.{has_committed, commit_committed, place_up}

@@ -1,9 +1,9 @@
 -- A scan goes on by one frame, or ends.
-use Rattle.std.proofs.Common.{◌≡◌, ℕ, zero, suc, ◌+◌, ◌*◌, ◌≤◌, ◌<◌, Bool, true, false, ◌&&◌, not, List, length, refl, sym, ap, ◌∙◌, inl, inr, add-one, arith, if◌then◌else◌, ◌==◌}
-use Rattle.std.proofs.lemmas.Bool.{and_parts, and_from, leb-true, cases_lt, cases_eq, cond-true, cond-false, cases_Bool, both_ways, and_left, and_right, not_from_true, not_from_false, eqb-true, ne_eqb, eq-eqb}
+use Rattle.std.proofs.Common.{◌≡◌, ℕ, zero, suc, ◌+◌, ◌*◌, ◌≤◌, true, false, List, length, refl, sym, ap, ◌∙◌, inl, inr, add-one, arith, if◌then◌else◌, ◌==◌}
+use Rattle.std.proofs.lemmas.Bool.{and_from, cases_eq, cond-true, cond-false, and_left, and_right, not_from_true, not_from_false, ne_eqb, eq-eqb}
 use Rattle.std.proofs.Math.Nat.{mul-le-mul_left}
 use Rattle.wal_watch.specs.Words.{four_at}
-use Rattle.wal_watch.specs.Frames.{is_header, page_size_in, frame_place, frame_sums, header_sums, sums_after, is_frame, is_frame_at, are_valid, is_commit, commits_among, committed_count, size_in}
+use Rattle.wal_watch.specs.Frames.{is_header, page_size_in, frame_place, frame_sums, header_sums, is_frame, is_frame_at, are_valid, is_commit, commits_among, committed_count, size_in}
 use Rattle.wal_watch.specs.Scanning.{IsScanned}
 use Rattle.wal_watch.specs.declared.scan.Scan.{Scan}
 use Rattle.wal_watch.proofs.Steps.{sums_more, sums_none, valid_more, valid_none, commits_more, commits_none}

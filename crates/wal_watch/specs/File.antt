@@ -1,5 +1,5 @@
 -- A write-ahead log as a file: its bytes, and what may be done without memory.
-use Rattle.std.specs.Prelude.{◌≡◌, ℕ, ◌+◌, ◌-◌, ◌≤◌, Option, Some, None, List, [], ◌∷◌, ◌++◌, length, take, drop, replicate, max, unwrap_or, if◌then◌else◌}
+use Rattle.std.specs.Prelude.{◌≡◌, ℕ, ◌+◌, ◌-◌, ◌≤◌, Option, Some, None, List, [], ◌∷◌, ◌++◌, length, take, drop, replicate, max, unwrap_or}
 
 -- the bytes if the file is there, the bytes before the last write while nothing came between, up to which length the
 -- bytes may grow without memory, and how many bytes a write may displace without memory

@@ -1,7 +1,7 @@
 -- How far a text was scanned.
-use Rattle.std.specs.Prelude.{◌≡◌, ℕ, ◌+◌, ◌-◌, ◌<◌, ◌≤◌, true, List, length}
+use Rattle.std.specs.Prelude.{◌≡◌, ℕ, ◌-◌, ◌<◌, ◌≤◌, true, List, length}
 use Rattle.lf_sqlite_pages.specs.PageSize.{is_page_size}
-use Rattle.wal_watch.specs.Frames.{frame_place, are_valid, sums_after, commits_among, is_header, is_commit, size_in, page_size_in}
+use Rattle.wal_watch.specs.Frames.{frame_place, are_valid, sums_after, commits_among, is_commit, size_in, page_size_in}
 use Rattle.wal_watch.specs.declared.scan.Scan.{Scan}
 
 -- the scan passed valid frames alone, and stands before the next

@@ -38,7 +38,7 @@ impl WalFile {
         ensures err { OnErr result (IsUnchanged self.old self.new) }
         ensures cause { IfErr result (IsGrowthFault (text_of self.old) len) }
     {
-        let had = self.len() as u64;
+        let had = self.text_length() as u64;
         let committed = self.committed();
         self.reserve(len, 0)?;
         self.resize(len);
@@ -63,7 +63,7 @@ impl WalFile {
         if self.ends_below(len) {
             return Err(WalFault::Part);
         }
-        if len > self.len() as u64 {
+        if len > self.text_length() as u64 {
             return self.grow(len);
         }
         self.resize(len);

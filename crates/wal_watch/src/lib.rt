@@ -18,6 +18,8 @@ mod numbers;
 mod reading;
 mod scan;
 mod sums;
+#[cfg(test)]
+mod tests;
 mod text;
 mod writing;
 

@@ -1,6 +1,6 @@
 //! What a file tells: its bytes, and its committed frames. None of these takes memory.
 ghost use Rattle.std.specs.Prelude.{◌≡◌, ◌+◌, ◌-◌, ◌≤◌, ◌↔◌, ◌++◌, length, take, drop, min, IsTrue};
-ghost use Rattle.std.specs.Option.{option_copied};
+ghost use Rattle.std.specs.Option.{option_copied, option_map};
 ghost use Rattle.wal_watch.specs.File.{text_of};
 ghost use Rattle.wal_watch.specs.Frames.{committed_count, committed_end};
 ghost use Rattle.wal_watch.specs.News.{HoldsFrame, latest_page};
@@ -16,12 +16,23 @@ impl WalFile {
         self.committed
     }
 
-    /// How many bytes there are.
-    pub(crate) fn len(&self) -> usize
+    /// How many bytes there are, none where there is no file.
+    pub(crate) fn text_length(&self) -> usize
         ensures len { result ≡ length (text_of self.now) }
         ensures room { result ≤ self.now.room }
     {
         self.text.len()
+    }
+
+    /// How many bytes the file has, if it is there.
+    pub fn len(&self) -> Option<u64>
+        ensures { result ≡ option_map length self.now.text }
+    {
+        if self.present {
+            Some(self.text.len() as u64)
+        } else {
+            None
+        }
     }
 
     /// The byte after the committed frames, 0 where there are none.

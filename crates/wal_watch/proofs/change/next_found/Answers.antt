@@ -1,7 +1,3 @@
-use Rattle.std.proofs.Common.{◌≤◌, arith, ◌∙◌, sym, ap, subst, ◌<◌, ◌≡◌, ◌+◌, Option}
-use Rattle.wal_watch.specs.Searching.{IsNext, limit_of}
-use Rattle.wal_watch.specs.Frames.{number_in}
-use Rattle.wal_watch.specs.declared.change.Found.{Found}
 use Rattle.wal_watch.proofs.ChangeLemmas.{next_none, next_same, next_closer}
 use Rattle.wal_watch.proofs.change.next_found.Goals as goal
 use Rattle.wal_watch.proofs.change.next_found.Goals.{then-is_closer, else-is_closer}

@@ -1,4 +1,4 @@
-use Rattle.std.proofs.Common.{◌≡◌, ◌<◌, ℕ, length, get_or}
+use Rattle.std.proofs.Common.{◌≡◌, ◌<◌, ℕ, get_or}
 use Rattle.wal_watch.specs.File.{overwritten}
 use Rattle.wal_watch.proofs.check.fill_header.Given as goal
 

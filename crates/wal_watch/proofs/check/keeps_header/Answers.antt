@@ -1,5 +1,5 @@
-use Rattle.std.proofs.Common.{◌≡◌, ◌<◌, false, length, arith, inr}
-use Rattle.std.proofs.lemmas.Bool.{OnFalse_from, leb-false}
+use Rattle.std.proofs.Common.{◌<◌, length, inr}
+use Rattle.std.proofs.lemmas.Bool.{OnFalse_from}
 use Rattle.wal_watch.proofs.CheckLemmas.{short_none}
 use Rattle.wal_watch.proofs.check.keeps_header.Goals as goal
 

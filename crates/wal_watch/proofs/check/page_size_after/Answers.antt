@@ -1,5 +1,4 @@
-use Rattle.std.proofs.Common.{◌≡◌, ◌≤◌, List, ℕ, length, take, arith, sym, ◌∙◌}
-use Rattle.wal_watch.specs.Frames.{is_header}
+use Rattle.std.proofs.Common.{◌≤◌, length, arith, sym, ◌∙◌}
 use Rattle.wal_watch.specs.File.{overwritten}
 use Rattle.wal_watch.proofs.CheckLemmas.{short_header, front_header, front_size}
 use Rattle.wal_watch.proofs.TextLemmas.{length-written}

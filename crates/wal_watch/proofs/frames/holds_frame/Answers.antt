@@ -1,4 +1,3 @@
-use Rattle.std.proofs.Common.{arith}
 use Rattle.wal_watch.proofs.CommitLemmas.{frame_there}
 use Rattle.wal_watch.proofs.frames.holds_frame.Goals as goal
 

@@ -1,4 +1,4 @@
-use Rattle.std.proofs.Common.{refl, sym, ◌∙◌, arith}
+use Rattle.std.proofs.Common.{sym, ◌∙◌, arith}
 use Rattle.wal_watch.proofs.ChangeLemmas.{latest_none, latest_here, latest_other, latest_there}
 use Rattle.wal_watch.proofs.CommitLemmas.{frame_there}
 use Rattle.wal_watch.proofs.frames.latest_frame.Goals as goal

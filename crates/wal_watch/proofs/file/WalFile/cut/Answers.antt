@@ -8,6 +8,6 @@ returns-clause-sound c = record {
   short = omega arith;
   part = λ cuts. elim cuts [
     | inl below ↦ let is_below = c.if-ends_below.ensures.1 below in absurd (cc (is_below))
-    | inr more ↦ omega (arith, more, cut_counts (text_of c.args.self.now) c.args.len (omega (arith, c.len.ensures.len, c.if-len.false)))
+    | inr more ↦ omega (arith, more, cut_counts (text_of c.args.self.now) c.args.len (omega (arith, c.text_length.ensures.len, c.if-len-text_length.false)))
   ];
 }

@@ -1,0 +1,191 @@
+-- Steps of the decoder over the text so far.
+use Rattle.std.proofs.Common.{◌≡◌, ◌≢◌, ℕ, zero, suc, ◌+◌, ◌<◌, ◌≤◌, ◌⊎◌, Bool, true, false, cond, List, [], ◌∷◌, ◌++◌, length, map, take, drop, arith, refl, sym, ap, subst, inl, inr, ◌∙◌, length-append, append_assoc}
+use Rattle.std.specs.Prelude.{None}
+use Rattle.std.proofs.lemmas.List.{take_all, drop_all, take-append-drop, append-nil}
+use Rattle.page_checksum.specs.Crc.{after_bytes, all_ones}
+use Rattle.lf_sqlite_pages.specs.PageSize.{IsPageSize}
+use Rattle.lf_sqlite_pages.specs.Change.{PageChange, IsChange, empty_change}
+use Rattle.ltx_codec.specs.Fields.{AreBytes, four_at, eight_at, header_in}
+use Rattle.ltx_codec.specs.Places.{IsEarliest, IsSoundBefore, number_place}
+use Rattle.ltx_codec.specs.HeaderRules.{IsThere, HasSoundFields}
+use Rattle.ltx_codec.specs.Block.{HasHeader, IsRead}
+use Rattle.ltx_codec.specs.Decoding.{HasFed, IsInHeader, IsInBlock, IsPart, held_part, IsWithin, IsPastLimit, IsRefusedWithin, ShowsHeader}
+use Rattle.ltx_codec.specs.declared.decoder.Decoder.{Decoder}
+use Rattle.ltx_codec.specs.declared.header.Header.{Header}
+use Rattle.ltx_codec.specs.declared.fault.LtxFault.{LtxFault}
+use Rattle.ltx_codec.specs.declared.fault.LtxFault.TheVariants as fault
+use Rattle.ltx_codec.proofs.HeaderLemmas.{short_header, sound_fields}
+use Rattle.ltx_codec.proofs.BlockLemmas.{short_number}
+use Rattle.ltx_codec.proofs.AgreeLemmas.{fault_stays_lem, sound_longer, four_same, longer}
+use Rattle.ltx_codec.proofs.NumberLemmas.{found_inside, found_there}
+
+nothing_there : (n e : ℕ) → 1 ≤ e → IsThere [] n e → ⊥
+nothing_there n e some is = omega (arith, is.there)
+
+-- no text breaks no rule
+pub nothing_sound : HasSoundFields [] 103
+nothing_sound = record {
+  magic_is = λ is. absurd (nothing_there 103 4 (omega arith) is);
+  flags = λ is. absurd (nothing_there 103 8 (omega arith) is);
+  page_size = λ is. absurd (nothing_there 103 12 (omega arith) is);
+  commit = λ is. absurd (nothing_there 103 16 (omega arith) is);
+  min = λ is. absurd (nothing_there 103 24 (omega arith) is);
+  max = λ is. absurd (nothing_there 103 32 (omega arith) is);
+  snapshot_pre = λ is. absurd (nothing_there 103 48 (omega arith) is);
+  delta_pre = λ is. absurd (nothing_there 103 48 (omega arith) is);
+}
+
+pub nothing_read : IsEarliest [] fault.Short
+nothing_read = short_header [] nothing_sound (omega arith)
+
+first_place : (bytes : List ℕ) → number_place bytes 0 ≡ 100
+first_place bytes = omega arith
+
+-- the block before its first page
+pub read_none : (bytes : List ℕ) → HasHeader bytes → IsRead bytes (empty_change (four_at 8 bytes) (four_at 12 bytes)) 0
+read_none bytes head = record {
+  header = head;
+  there = let whole = head.whole in omega arith;
+  pages = λ j less. absurd (omega (arith, less));
+  consecutive = λ _. refl;
+  holds = record {
+    page_size = refl;
+    commit = refl;
+    last = refl;
+    contents = refl;
+    numbers = λ _. refl;
+    text = ap (λ (n : ℕ). take n bytes) (first_place bytes) ∙ sym (append-nil (take 100 bytes));
+  };
+  sound = subst (λ (n : ℕ). IsSoundBefore bytes (n + 1)) (sym (first_place bytes)) (sound_fields bytes 100 here (omega arith) head.whole);
+}
+  where
+    wider : (e : ℕ) → IsThere bytes 100 e → IsThere bytes 103 e
+    wider e is = record { within = omega (arith, is.within); there = is.there }
+
+    here : HasSoundFields bytes 100
+    here = let h = head.fields in record {
+      magic_is = λ is. h.magic_is (wider 4 is);
+      flags = λ is. h.flags (wider 8 is);
+      page_size = λ is. h.page_size (wider 12 is);
+      commit = λ is. h.commit (wider 16 is);
+      min = λ is. h.min (wider 24 is);
+      max = λ is. h.max (wider 32 is);
+      snapshot_pre = λ is. h.snapshot_pre (wider 48 is);
+      delta_pre = λ is. h.delta_pre (wider 48 is);
+    }
+
+-- a change with no page yet is one
+none_valid : (size count : ℕ) → IsPageSize size → IsChange (empty_change size count)
+none_valid size count is = record { of_a_page_size = is; ascending = tt; within = λ i w less. absurd (omega (arith, less)); whole = λ i w less. absurd (omega (arith, less)) }
+
+-- what is refused stays so whatever follows
+pub refused_longer : (limit : ℕ) (bytes more : List ℕ) (f : LtxFault) → IsRefusedWithin limit bytes f → IsRefusedWithin limit (bytes ++ more) f
+refused_longer limit bytes more f refused = (
+  refused.0,
+  elim refused.1 [
+    | inl earliest ↦ inl (fault_stays_lem bytes more f earliest (found_there f refused.0) (found_inside f refused.0))
+    | inr past ↦ inr (
+      past.0,
+      record {
+        there = let there = past.1.there in omega (arith, length-append bytes more);
+        sound = sound_longer bytes more 13 (let there = past.1.there in omega arith) past.1.sound;
+        past = let there = past.1.there in omega (arith, past.1.past, four_same 8 (length bytes) bytes (bytes ++ more) (longer bytes more) (omega (arith, there)));
+      },
+    )
+  ],
+)
+
+-- a text with some of a piece, and the rest of the piece
+pub piece_rest : (text piece : List ℕ) (used : ℕ) → (text ++ take used piece) ++ drop used piece ≡ text ++ piece
+piece_rest text piece used = append_assoc text (take used piece) (drop used piece) ∙ ap (λ (l : List ℕ). text ++ l) (take-append-drop used piece)
+
+pub refused_piece : (limit : ℕ) (text piece : List ℕ) (used : ℕ) (f : LtxFault) → IsRefusedWithin limit (text ++ take used piece) f → IsRefusedWithin limit (text ++ piece) f
+refused_piece limit text piece used f refused =
+    subst (λ (l : List ℕ). IsRefusedWithin limit l f) (piece_rest text piece used) (refused_longer limit (text ++ take used piece) (drop used piece) f refused)
+
+pub AreBytes-append : (front back : List ℕ) → AreBytes front → AreBytes back → AreBytes (front ++ back)
+AreBytes-append [] back h k i = k i
+AreBytes-append (x ∷ front) back h k zero = h 0
+AreBytes-append (x ∷ front) back h k (suc i) = AreBytes-append front back (λ j. h (suc j)) k i
+
+-- what is held before the header is whole
+pub held_is : (d : Decoder) (limit : ℕ) (text : List ℕ) → HasFed d limit text → d.in_block ≡ false → d.told ≡ false → d.held.items ≡ text
+held_is d limit text fed stage untold = elim fed.stage [
+  | inl head ↦ subst (λ (b : Bool). cond b [] d.held.items ≡ text) untold head.held
+  | inr block ↦ let other = block.1.stage in absurd cc
+]
+
+-- where the part was told, nothing is held
+pub told_part : (d : Decoder) (text : List ℕ) (k : ℕ) → d.told ≡ true → IsPart d text k
+told_part d text k told =
+    let none : length (held_part d) ≡ 0 = ap (λ (b : Bool). length (cond b [] d.held.items)) told in
+    record { page = λ there more. omega (arith, none); end = λ there ends. omega (arith, none) }
+
+-- the parts that a piece leaves alone
+pub record Stays (old new : Decoder) : Type 0 where
+  pub fault : new.fault ≡ old.fault
+  pub limit : new.limit ≡ old.limit
+
+module _ (old new : Decoder) (limit : ℕ) (text more : List ℕ) (fed : HasFed old limit text) (stays : Stays old new) (fits : AreBytes more) where
+  -- the header goes on
+  pub header_goes_on : old.in_block ≡ false → old.told ≡ false → new.in_block ≡ old.in_block → new.told ≡ old.told
+      → new.held.items ≡ old.held.items ++ more → HasSoundFields new.held.items 103 → IsWithin old.limit new.held.items → length new.held.items < 100
+      → HasFed new limit (text ++ more)
+  header_goes_on stage untold stage-same told-same held sound within short =
+      let text-is : new.held.items ≡ text ++ more = held ∙ ap (λ (l : List ℕ). l ++ more) (held_is old limit text fed stage untold) in
+      record {
+        unfinished = rw (← text-is) (short_header new.held.items sound short);
+        octets = AreBytes-append text more fed.octets fits;
+        sound = stays.fault ∙ fed.sound;
+        limit_is = stays.limit ∙ fed.limit_is;
+        within = rw (← text-is, ← fed.limit_is) within;
+        stage = inl (record {
+          stage = stage-same ∙ stage;
+          short = let len = ap length text-is in omega (arith, short, len);
+          held = subst (λ (b : Bool). cond b [] new.held.items ≡ text ++ more) (sym (told-same ∙ untold)) text-is;
+        });
+      }
+
+  -- the header is whole
+  pub header_ends : old.in_block ≡ false → old.told ≡ false → new.held.items ≡ old.held.items ++ more
+      → HasSoundFields new.held.items 103 → IsWithin old.limit new.held.items → length new.held.items ≡ 100
+      → new.header ≡ header_in new.held.items → new.register ≡ after_bytes all_ones new.held.items → new.number ≡ 0 → new.sums ≡ 0 → new.in_block ≡ true → new.told ≡ true
+      → ShowsHeader new limit (text ++ more)
+  header_ends stage untold held sound within whole header register number sums block told =
+      let text-is : new.held.items ≡ text ++ more = held ∙ ap (λ (l : List ℕ). l ++ more) (held_is old limit text fed stage untold) in
+      let octets = AreBytes-append text more fed.octets fits in
+      let head : HasHeader (text ++ more) = record { fields = rw (← text-is) sound; whole = omega (arith, whole, ap length text-is); octets = octets } in
+      let long : length (text ++ more) ≡ 100 = sym (ap length text-is) ∙ whole in
+      let read = read_none (text ++ more) head in
+      record {
+        ends = long;
+        shown = header ∙ ap header_in text-is;
+        fed = record {
+          unfinished = short_number (text ++ more) 0 read.pages read.sound (omega (arith, long)) (omega (arith, long));
+          octets = octets;
+          sound = stays.fault ∙ fed.sound;
+          limit_is = stays.limit ∙ fed.limit_is;
+          within = rw (← text-is, ← fed.limit_is) within;
+          stage = inr (
+            empty_change (four_at 8 (text ++ more)) (four_at 12 (text ++ more)),
+            record {
+              stage = block;
+              valid = none_valid _ _ (head.fields.page_size (record { within = omega arith; there = omega (arith, long) }));
+              read = read;
+              header = header ∙ ap header_in text-is;
+              number = number;
+              held = ap (λ (b : Bool). cond b [] new.held.items) told ∙ sym (drop_all (number_place (text ++ more) 0) (text ++ more) (omega (arith, long)));
+              register = register ∙ ap (after_bytes all_ones) (text-is ∙ sym (take_all (number_place (text ++ more) 0) (text ++ more) (omega (arith, long))));
+              sums = λ _. sums;
+            },
+            told_part new (text ++ more) 0 told,
+          );
+        };
+      }
+
+-- before the header is whole, less than it was read
+pub header_short : (d : Decoder) (limit : ℕ) (text : List ℕ) → HasFed d limit text → d.in_block ≡ false → length text < 100
+header_short d limit text fed stage = elim fed.stage [
+  | inl head ↦ head.short
+  | inr block ↦ let other = block.1.stage in absurd cc
+]

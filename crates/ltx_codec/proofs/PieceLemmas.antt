@@ -1,0 +1,223 @@
+-- What was read of a block stays read when the text goes on.
+use Rattle.std.proofs.Common.{◌≡◌, ◌≢◌, ℕ, ◌+◌, ◌<◌, ◌≤◌, ◌⊎◌, Bool, true, false, cond, List, [], ◌∷◌, ◌++◌, length, map, take, drop, arith, refl, sym, ap, subst, inl, inr, ◌∙◌, length-append, append_assoc}
+use Rattle.std.specs.List.{range_with_len}
+use Rattle.std.proofs.lemmas.List.{drop-append-le, take-append-le, take_all, length-drop, drop-drop}
+use Rattle.std.proofs.Math.Seq.{take-add}
+use Rattle.page_checksum.specs.Crc.{after_bytes, all_ones}
+use Rattle.lf_sqlite_pages.specs.PageSize.{IsPageSize}
+use Rattle.lf_sqlite_pages.specs.Change.{PageChange, IsChange}
+use Rattle.ltx_codec.specs.Fields.{AreBytes, four_at, eight_at, header_in}
+use Rattle.ltx_codec.specs.Format.{IsDatabaseSize, pages_text}
+use Rattle.ltx_codec.specs.Places.{IsEarliest, IsSoundBefore, number_place, number_at, number_before, page_in}
+use Rattle.ltx_codec.specs.HeaderRules.{IsThere, HasSoundFields}
+use Rattle.ltx_codec.specs.Block.{HasHeader, IsRead, IsNextNumber}
+use Rattle.ltx_codec.specs.Decoding.{HasFed, IsInHeader, IsInBlock, IsPart, IsWithin, held_part}
+use Rattle.ltx_codec.specs.Feeding.{HasPagesOf, HasNumber}
+use Rattle.ltx_codec.specs.declared.decoder.Decoder.{Decoder}
+use Rattle.ltx_codec.specs.declared.header.Header.{Header}
+use Rattle.ltx_codec.specs.declared.fault.LtxFault.TheVariants as fault
+use Rattle.ltx_codec.proofs.AgreeLemmas.{Agree, longer, front_same, four_same, eight_same, size_same, place_same, number_same, before_same, pages_same, contents_same, sound_longer}
+use Rattle.ltx_codec.proofs.FeedLemmas.{AreBytes-append, Stays}
+
+module _ (bytes more : List ℕ) (head : HasHeader bytes) where
+  agree : Agree bytes (bytes ++ more) (length bytes)
+  agree = longer bytes more
+
+  long : 100 ≤ length bytes
+  long = head.whole
+
+  pub min_kept : eight_at 16 bytes ≡ eight_at 16 (bytes ++ more)
+  min_kept = let l = long in eight_same 16 (length bytes) bytes (bytes ++ more) agree (omega arith)
+
+  pub commit_kept : four_at 12 bytes ≡ four_at 12 (bytes ++ more)
+  commit_kept = let l = long in four_same 12 (length bytes) bytes (bytes ++ more) agree (omega arith)
+
+  pub size_kept : four_at 8 bytes ≡ four_at 8 (bytes ++ more)
+  size_kept = let l = long in four_same 8 (length bytes) bytes (bytes ++ more) agree (omega arith)
+
+  max_kept : eight_at 24 bytes ≡ eight_at 24 (bytes ++ more)
+  max_kept = let l = long in eight_same 24 (length bytes) bytes (bytes ++ more) agree (omega arith)
+
+  pre_kept : eight_at 40 bytes ≡ eight_at 40 (bytes ++ more)
+  pre_kept = let l = long in eight_same 40 (length bytes) bytes (bytes ++ more) agree (omega arith)
+
+  pub place_kept : (k : ℕ) → number_place bytes k ≡ number_place (bytes ++ more) k
+  place_kept k = let l = long in place_same bytes (bytes ++ more) (length bytes) agree (omega arith) k
+
+  pub before_kept : (k : ℕ) → number_place bytes k ≤ length bytes → number_before bytes k ≡ number_before (bytes ++ more) k
+  before_kept k le = let l = long in before_same bytes (bytes ++ more) (length bytes) agree (omega arith) k le
+
+  pub number_kept : (k : ℕ) → number_place bytes k + 4 ≤ length bytes → number_at bytes k ≡ number_at (bytes ++ more) k
+  number_kept k le = let l = long in number_same bytes (bytes ++ more) (length bytes) agree (omega arith) k le
+
+  four_kept : (p : ℕ) → p + 4 ≤ 100 → four_at p bytes ≡ four_at p (bytes ++ more)
+  four_kept p le = let l = long in four_same p (length bytes) bytes (bytes ++ more) agree (omega arith)
+
+  eight_kept : (p : ℕ) → p + 8 ≤ 100 → eight_at p bytes ≡ eight_at p (bytes ++ more)
+  eight_kept p le = let l = long in eight_same p (length bytes) bytes (bytes ++ more) agree (omega arith)
+
+  there : (n e : ℕ) → e ≤ 100 → IsThere bytes 103 e
+  there n e le = let l = long in record { within = omega arith; there = omega arith }
+
+  pub header_longer : AreBytes (bytes ++ more) → HasHeader (bytes ++ more)
+  header_longer octets = let f = head.fields in let l = long in record {
+    fields = record {
+      magic_is = λ _. sym (front_same 4 (length bytes) bytes (bytes ++ more) agree (omega arith)) ∙ f.magic_is (there 0 4 (omega arith));
+      flags = λ _. sym (four_kept 4 (omega arith)) ∙ f.flags (there 0 8 (omega arith));
+      page_size = λ _. subst (λ (n : ℕ). IsPageSize n) size_kept (f.page_size (there 0 12 (omega arith)));
+      commit = λ _. subst (λ (n : ℕ). IsDatabaseSize (four_at 8 (bytes ++ more)) n) commit_kept
+          (subst (λ (n : ℕ). IsDatabaseSize n (four_at 12 bytes)) size_kept (f.commit (there 0 16 (omega arith))));
+      min = λ _. omega (arith, min_kept, f.min (there 0 24 (omega arith)));
+      max = λ _. omega (arith, min_kept, max_kept, f.max (there 0 32 (omega arith)));
+      snapshot_pre = λ _ snapshot. sym pre_kept ∙ f.snapshot_pre (there 0 48 (omega arith)) (min_kept ∙ snapshot);
+      delta_pre = λ _ delta. omega (arith, pre_kept, f.delta_pre (there 0 48 (omega arith)) (λ one. delta (sym min_kept ∙ one)));
+    };
+    whole = omega (arith, length-append bytes more);
+    octets = octets;
+  }
+
+  pub header_in_longer : header_in bytes ≡ header_in (bytes ++ more)
+  header_in_longer = cc (
+    four_kept 8 (omega arith),
+    four_kept 12 (omega arith),
+    eight_kept 16 (omega arith),
+    eight_kept 24 (omega arith),
+    eight_kept 32 (omega arith),
+    eight_kept 40 (omega arith),
+    eight_kept 48 (omega arith),
+    eight_kept 56 (omega arith),
+    four_kept 64 (omega arith),
+    four_kept 68 (omega arith),
+    eight_kept 72 (omega arith),
+  )
+
+pub read_longer : (bytes more : List ℕ) (change : PageChange) (k : ℕ) → IsRead bytes change k → AreBytes (bytes ++ more) → IsRead (bytes ++ more) change k
+read_longer bytes more change k read octets =
+    let head = read.header in
+    let l : 100 ≤ length bytes = head.whole in
+    let g : Agree bytes (bytes ++ more) (length bytes) = longer bytes more in
+    let place = place_kept bytes more head k in
+    let before = before_kept bytes more head k read.there in
+    let min = min_kept bytes more head in
+    record {
+      header = header_longer bytes more head octets;
+      there = omega (arith, read.there, place, length-append bytes more);
+      pages = pages_same bytes (bytes ++ more) (length bytes) g (omega arith) k read.there read.pages;
+      consecutive = λ snapshot. sym before ∙ read.consecutive (min ∙ snapshot);
+      holds = record {
+        page_size = read.holds.page_size ∙ size_kept bytes more head;
+        commit = read.holds.commit ∙ commit_kept bytes more head;
+        last = read.holds.last ∙ before;
+        contents = read.holds.contents ∙ contents_same bytes (bytes ++ more) (length bytes) g (omega arith) k 0 k (omega arith) read.there;
+        numbers = λ snapshot. read.holds.numbers (min ∙ snapshot);
+        text = ap (λ (n : ℕ). take n (bytes ++ more)) (sym place)
+            ∙ sym (front_same (number_place bytes k) (length bytes) bytes (bytes ++ more) g read.there)
+            ∙ read.holds.text
+            ∙ ap (λ (d : List ℕ). d ++ pages_text change.pages) (front_same 100 (length bytes) bytes (bytes ++ more) g l);
+      };
+      sound = subst (λ (n : ℕ). IsSoundBefore (bytes ++ more) (n + 1)) place
+          (sound_longer bytes more (number_place bytes k + 1) (let r = read.there in omega arith) read.sound);
+    }
+
+pub next_longer : (bytes more : List ℕ) (change : PageChange) (k : ℕ) → IsRead bytes change k → IsNextNumber bytes k → IsNextNumber (bytes ++ more) k
+next_longer bytes more change k read next =
+    let head = read.header in
+    let place = place_kept bytes more head k in
+    let before = before_kept bytes more head k read.there in
+    let number = number_kept bytes more head k next.there in
+    let commit = commit_kept bytes more head in
+    let min = min_kept bytes more head in
+    record {
+      there = omega (arith, next.there, place, length-append bytes more);
+      ascends = λ some. omega (arith, before, number, next.ascends (λ zero. some (sym number ∙ zero)));
+      within = omega (arith, number, commit, next.within);
+      follows = λ snapshot some. omega (arith, before, number, next.follows (min ∙ snapshot) (λ zero. some (sym number ∙ zero)));
+      complete = λ snapshot ends. sym before ∙ next.complete (min ∙ snapshot) (number ∙ ends) ∙ commit;
+    }
+
+-- what a piece of a part leaves alone, and what it adds to what is held
+pub record Grows (old new : Decoder) (more : List ℕ) : Type 0 where
+  pub stays : Stays old new
+  pub untold : old.told ≡ false
+  pub told : new.told ≡ old.told
+  pub stage : new.in_block ≡ old.in_block
+  pub header : new.header ≡ old.header
+  pub number : new.number ≡ old.number
+  pub sums : new.sums ≡ old.sums
+  pub register : new.register ≡ old.register
+  pub held : new.held.items ≡ old.held.items ++ more
+
+pub held_untold : (d : Decoder) → d.told ≡ false → held_part d ≡ d.held.items
+held_untold d untold = ap (λ (b : Bool). cond b [] d.held.items) untold
+
+pub pages_longer : (old new : Decoder) (limit : ℕ) (text more : List ℕ) (change : PageChange) → HasPagesOf old limit text change → Grows old new more → AreBytes more
+    → HasPagesOf new limit (text ++ more) change
+pages_longer old new limit text more change has grows fits =
+    let block = has.block in
+    let k = length change.pages in
+    let read = block.read in
+    let octets = AreBytes-append text more has.octets fits in
+    let place = place_kept text more read.header k in
+    let l : 100 ≤ length text = read.header.whole in
+    record {
+      octets = octets;
+      sound = grows.stays.fault ∙ has.sound;
+      limit_is = grows.stays.limit ∙ has.limit_is;
+      within = λ _. omega (arith, size_kept text more read.header, has.within (omega arith));
+      block = record {
+        stage = grows.stage ∙ block.stage;
+        valid = block.valid;
+        read = read_longer text more change k read octets;
+        header = grows.header ∙ block.header ∙ header_in_longer text more read.header;
+        number = grows.number ∙ block.number ∙ before_kept text more read.header k read.there;
+        held = held_untold new (grows.told ∙ grows.untold) ∙ grows.held
+            ∙ ap (λ (d : List ℕ). d ++ more) (sym (held_untold old grows.untold) ∙ block.held)
+            ∙ sym (drop-append-le (number_place text k) text more read.there)
+            ∙ ap (λ (n : ℕ). drop n (text ++ more)) place;
+        register = grows.register ∙ block.register
+            ∙ ap (after_bytes all_ones) (sym (take-append-le (number_place text k) text more read.there) ∙ ap (λ (n : ℕ). take n (text ++ more)) place);
+        sums = λ snapshot. grows.sums ∙ block.sums (min_kept text more read.header ∙ snapshot);
+      };
+    }
+
+pub fed_of : (d : Decoder) (limit : ℕ) (text : List ℕ) (change : PageChange) → HasPagesOf d limit text change → IsPart d text (length change.pages) → IsEarliest text fault.Short → HasFed d limit text
+fed_of d limit text change has part short = record {
+  unfinished = short;
+  octets = has.octets;
+  sound = has.sound;
+  limit_is = has.limit_is;
+  within = has.within;
+  stage = inr (change, has.block, part);
+}
+
+pub pages_of : (d : Decoder) (limit : ℕ) (text : List ℕ) → HasFed d limit text → d.in_block ≡ true → (change : PageChange) × HasPagesOf d limit text change × IsPart d text (length change.pages)
+pages_of d limit text fed stage = elim fed.stage [
+  | inl head ↦ let other = head.stage in absurd cc
+  | inr block ↦ (block.0, record { octets = fed.octets; sound = fed.sound; limit_is = fed.limit_is; within = fed.within; block = block.1 }, block.2)
+]
+
+-- what is held is as long as the text behind the pages
+pub held_length : (d : Decoder) (limit : ℕ) (text : List ℕ) (change : PageChange) → HasPagesOf d limit text change → d.told ≡ false
+    → length text ≡ number_place text (length change.pages) + length d.held.items
+held_length d limit text change has untold =
+    let k = length change.pages in
+    let there = has.block.read.there in
+    omega (arith, ap length (sym (held_untold d untold) ∙ has.block.held), length-drop (number_place text k) text, there)
+
+pub held_is_rest : (d : Decoder) (limit : ℕ) (text : List ℕ) (change : PageChange) → HasPagesOf d limit text change → d.told ≡ false
+    → d.held.items ≡ drop (number_place text (length change.pages)) text
+held_is_rest d limit text change has untold = sym (held_untold d untold) ∙ has.block.held
+
+-- a text with two pieces taken one after the other
+pub two_taken : (text piece : List ℕ) (first more : ℕ) → text ++ take (first + more) piece ≡ (text ++ take first piece) ++ take more (drop first piece)
+two_taken text piece first more =
+    ap (λ (l : List ℕ). text ++ l) (take-add first more piece) ∙ sym (append_assoc text (take first piece) (take more (drop first piece)))
+
+-- numbers of a rest are numbers of the text
+pub four_rest : (at place : ℕ) (text : List ℕ) → four_at place (drop at text) ≡ four_at (at + place) text
+unfolding four_at
+four_rest at place text = rw drop-drop refl
+
+pub eight_rest : (at place : ℕ) (text : List ℕ) → eight_at place (drop at text) ≡ eight_at (at + place) text
+unfolding eight_at
+eight_rest at place text = rw drop-drop refl

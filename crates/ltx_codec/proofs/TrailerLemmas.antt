@@ -1,0 +1,167 @@
+-- A trailer that comes in pieces.
+use Rattle.std.proofs.Common.{◌≡◌, ◌≢◌, ℕ, ◌+◌, ◌<◌, ◌≤◌, ◌^◌, ◌⊎◌, Bool, true, false, cond, List, [], ◌∷◌, ◌++◌, length, map, take, drop, get_or, arith, refl, sym, ap, subst, inl, inr, ◌∙◌}
+use Rattle.std.specs.Prelude.{bit_xor}
+use Rattle.std.specs.List.{range_with_len}
+use Rattle.std.proofs.lemmas.List.{take_all}
+use Rattle.std.proofs.Math.Seq.{take-add}
+use Rattle.page_checksum.specs.Crc.{after_bytes, all_ones, crc}
+use Rattle.page_checksum.specs.Sums.{flagged, joined, page_sums, database_sum}
+use Rattle.page_checksum.proofs.CrcLemmas.{after_bytes-append}
+use Rattle.lf_sqlite_pages.specs.Change.{PageChange}
+use Rattle.ltx_codec.specs.Fields.{AreBytes, four_at, eight_at, header_in}
+use Rattle.ltx_codec.specs.Format.{file_sum, sealed, IsLtx}
+use Rattle.ltx_codec.specs.Places.{IsEarliest, IsSoundBefore, IsWrongSum, number_place, number_at, page_in}
+use Rattle.ltx_codec.specs.Trailer.{HasTrailer}
+use Rattle.ltx_codec.specs.Decoding.{HasFed, held_part, IsPart, IsRefusedWithin, ShowsFile}
+use Rattle.ltx_codec.specs.Feeding.{HasPagesOf, HasNumber, IsWrongPost, HasRightSums, BreaksSums}
+use Rattle.ltx_codec.specs.declared.decoder.Decoder.{Decoder}
+use Rattle.ltx_codec.specs.declared.header.Header.{Header}
+use Rattle.ltx_codec.specs.declared.fault.LtxFault.{LtxFault}
+use Rattle.ltx_codec.specs.declared.fault.LtxFault.TheVariants as fault
+use Rattle.ltx_codec.proofs.BlockLemmas.{wrong_sum, past_sum, short_trailer, wrong_file_sum}
+use Rattle.ltx_codec.proofs.DecodeLemmas.{is_ltx}
+use Rattle.ltx_codec.proofs.FeedLemmas.{Stays, nothing_read, piece_rest}
+use Rattle.ltx_codec.proofs.TextLemmas.{AreBytes-drop}
+use Rattle.ltx_codec.proofs.PageLemmas.{number_longer}
+use Rattle.ltx_codec.proofs.PieceLemmas.{Grows, fed_of, held_untold, held_length, held_is_rest, eight_rest}
+
+sealed_is : (bytes : List ℕ) (register : ℕ) → register ≡ after_bytes all_ones bytes → sealed register ≡ file_sum bytes
+unfolding crc
+sealed_is bytes register is = ap (λ (r : ℕ). flagged (bit_xor r all_ones)) is
+
+module _ (d : Decoder) (limit : ℕ) (text : List ℕ) (change : PageChange) (has : HasNumber d limit text change 0) (untold : d.told ≡ false) where
+  post_at : eight_at 4 d.held.items ≡ eight_at (number_place text (length change.pages) + 4) text
+  post_at = ap (eight_at 4) (held_is_rest d limit text change has.feeding untold) ∙ eight_rest (number_place text (length change.pages)) 4 text
+
+  sum_at : eight_at 12 d.held.items ≡ eight_at (number_place text (length change.pages) + 12) text
+  sum_at = ap (eight_at 12) (held_is_rest d limit text change has.feeding untold) ∙ eight_rest (number_place text (length change.pages)) 12 text
+
+  commit_is : d.header.commit ≡ four_at 12 text
+  commit_is = ap (λ (h : Header). h.commit) has.feeding.block.header
+
+  min_is : d.header.min ≡ eight_at 16 text
+  min_is = ap (λ (h : Header). h.min) has.feeding.block.header
+
+  sums_are : eight_at 16 text ≡ 1 → flagged d.sums ≡ database_sum (map (page_in text) (range_with_len 0 (length change.pages)))
+  sums_are snapshot = ap flagged (has.feeding.block.sums snapshot) ∙ ap database_sum has.feeding.block.read.holds.contents
+
+  wrong_is : (s : ℕ) → IsWrongPost d.header d.sums s → IsWrongSum text (length change.pages) s
+  wrong_is s wrong = elim wrong [
+    | inl low ↦ inl low
+    | inr other ↦ elim other [
+      | inl empty ↦ inr (inl (sym commit_is ∙ empty.0, empty.1))
+      | inr snapshot ↦ inr (inr (sym min_is ∙ snapshot.0, λ same. snapshot.1 (same ∙ sym (sums_are (sym min_is ∙ snapshot.0)))))
+    ]
+  ]
+
+  right_is : (s : ℕ) → (IsWrongPost d.header d.sums s → ⊥) → IsWrongSum text (length change.pages) s → ⊥
+  right_is s right wrong = elim wrong [
+    | inl low ↦ right (inl low)
+    | inr other ↦ elim other [
+      | inl empty ↦ right (inr (inl (commit_is ∙ empty.0, empty.1)))
+      | inr snapshot ↦ right (inr (inr (min_is ∙ snapshot.0, λ same. snapshot.1 (same ∙ sums_are snapshot.0))))
+    ]
+  ]
+
+  right_at : (IsWrongPost d.header d.sums (eight_at 4 d.held.items) → ⊥) → IsWrongSum text (length change.pages) (eight_at (number_place text (length change.pages) + 4) text) → ⊥
+  right_at right = subst (λ (s : ℕ). IsWrongSum text (length change.pages) s → ⊥) post_at (right_is (eight_at 4 d.held.items) right)
+
+  register_is : after_bytes d.register (take 12 d.held.items) ≡ after_bytes all_ones (take (number_place text (length change.pages) + 12) text)
+  register_is =
+      let at = number_place text (length change.pages) in
+      ap (λ (r : ℕ). after_bytes r (take 12 d.held.items)) has.feeding.block.register
+      ∙ sym (after_bytes-append all_ones (take at text) (take 12 d.held.items))
+      ∙ ap (λ (l : List ℕ). after_bytes all_ones (take at text ++ take 12 l)) (held_is_rest d limit text change has.feeding untold)
+      ∙ ap (after_bytes all_ones) (sym (take-add at 12 text))
+
+  seal_is : sealed (after_bytes d.register (take 12 d.held.items)) ≡ file_sum (take (number_place text (length change.pages) + 12) text)
+  seal_is = sealed_is (take (number_place text (length change.pages) + 12) text) (after_bytes d.register (take 12 d.held.items)) register_is
+
+  long : length text ≡ number_place text (length change.pages) + length d.held.items
+  long = held_length d limit text change has.feeding untold
+
+  ends : number_at text (length change.pages) ≡ 0
+  ends = sym has.number_is
+
+  -- a wrong sum is refused
+  pub trailer_refused : (f : LtxFault) → BreaksSums d.header d.sums d.register d.held.items f → IsRefusedWithin limit text f
+  trailer_refused fault.PostSum rule =
+      let read = has.feeding.block.read in
+      let at = long in (
+        tt,
+        inl (wrong_sum text (length change.pages) read.pages read.sound has.sound ends (omega (arith, at, rule.0))
+            (subst (λ (s : ℕ). IsWrongSum text (length change.pages) s) post_at (wrong_is (eight_at 4 d.held.items) rule.1))),
+      )
+  trailer_refused (fault.FileSum want got) rule =
+      let read = has.feeding.block.read in
+      let at = long in (
+        tt,
+        inl (wrong_file_sum text (length change.pages) read.pages read.sound has.sound ends (right_at rule.1) want got (omega (arith, at, rule.0))
+            (rule.2 ∙ seal_is) (rule.3 ∙ sum_at) rule.4),
+      )
+  trailer_refused fault.Short rule = absurd rule
+  trailer_refused fault.Magic rule = absurd rule
+  trailer_refused fault.Compressed rule = absurd rule
+  trailer_refused fault.UnknownFlags rule = absurd rule
+  trailer_refused fault.PageSize rule = absurd rule
+  trailer_refused fault.Txid rule = absurd rule
+  trailer_refused fault.Commit rule = absurd rule
+  trailer_refused fault.PreSum rule = absurd rule
+  trailer_refused fault.PageOrder rule = absurd rule
+  trailer_refused fault.PageRange rule = absurd rule
+  trailer_refused fault.NotWhole rule = absurd rule
+  trailer_refused fault.Tail rule = absurd rule
+  trailer_refused fault.NoMemory rule = absurd rule
+
+  module _ (right : HasRightSums d.header d.sums d.register d.held.items) where
+    -- the trailer is not whole
+    pub trailer_goes_on : length d.held.items < 20 → HasFed d limit text
+    trailer_goes_on few =
+        let read = has.feeding.block.read in
+        let at = long in
+        let held : length (held_part d) ≡ length d.held.items = ap length (held_untold d untold) in
+        fed_of d limit text change has.feeding
+        (record { page = λ there more. absurd (more ends); end = λ there end. omega (arith, held, few) })
+        (short_trailer text (length change.pages) read.pages read.sound has.sound ends (omega (arith, at, few))
+        (λ room. past_sum text (length change.pages) read.pages read.sound has.sound ends (right_at (right.post (omega (arith, at, room)))) room))
+
+    -- the file is whole
+    pub trailer_ends : (new : Decoder) → length d.held.items ≡ 20 → Stays d new → new.post ≡ eight_at 4 d.held.items → new.header ≡ d.header → new.told ≡ true → new.in_block ≡ false
+        → ShowsFile new limit text
+    trailer_ends new whole stays post header told stage =
+        let read = has.feeding.block.read in
+        let at = long in
+        let k = length change.pages in
+        let trailer : HasTrailer text k new.post = record {
+          there = omega (arith, at, whole);
+          sum_is = post ∙ post_at;
+          right = subst (λ (s : ℕ). IsWrongSum text k s → ⊥) (sym post) (right_is (eight_at 4 d.held.items) (right.post (omega (arith, whole))));
+          file_sum_is = sym sum_at ∙ right.file_sum (omega (arith, whole)) ∙ seal_is;
+        } in
+        record {
+          file = record { header = header_in text; change = change; post = new.post };
+          is = subst (λ (t : List ℕ). IsLtx t (record { header = header_in text; change = change; post = new.post })) (take_all (number_place text k + 20) text (omega (arith, at, whole)))
+              (is_ltx text change new.post read has.sound ends trailer has.feeding.block.valid);
+          header = header ∙ has.feeding.block.header;
+          post = refl;
+          fed = record {
+            unfinished = nothing_read;
+            octets = λ i. omega arith;
+            sound = stays.fault ∙ has.feeding.sound;
+            limit_is = stays.limit ∙ has.feeding.limit_is;
+            within = λ room. absurd (omega (arith, room));
+            stage = inl (record {
+              stage = stage;
+              short = omega arith;
+              held = ap (λ (b : Bool). cond b [] new.held.items) told;
+            });
+          };
+        }
+
+-- the piece ends in the trailer
+pub trailer_more : (old new : Decoder) (limit : ℕ) (text piece : List ℕ) (first : ℕ) (change : PageChange) → HasNumber old limit (text ++ take first piece) change 0
+    → Grows old new (drop first piece) → AreBytes piece → HasRightSums new.header new.sums new.register new.held.items → length new.held.items < 20 → HasFed new limit (text ++ piece)
+trailer_more old new limit text piece first change has grows fits right few =
+    let longer = number_longer old new limit (text ++ take first piece) (drop first piece) change 0 has grows (AreBytes-drop first piece fits) in
+    subst (λ (t : List ℕ). HasFed new limit t) (piece_rest text piece first)
+    (trailer_goes_on new limit ((text ++ take first piece) ++ drop first piece) change longer (grows.told ∙ grows.untold) right few)

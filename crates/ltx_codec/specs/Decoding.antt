@@ -1,0 +1,122 @@
+-- A file's text that comes in pieces. The text so far is that of the current file alone.
+use Rattle.std.specs.Prelude.{◌≡◌, ◌≢◌, ℕ, ◌+◌, ◌<◌, ◌≤◌, ◌⊎◌, Bool, true, false, cond, Option, Some, None, Result, Ok, Err, List, [], ◌++◌, length, map, take, drop}
+use Rattle.lf_sqlite_pages.specs.PageSize.{IsPageSize}
+use Rattle.lf_sqlite_pages.specs.Change.{PageChange, IsChange}
+use Rattle.page_checksum.specs.Crc.{after_bytes, all_ones}
+use Rattle.page_checksum.specs.Sums.{joined, page_sums}
+use Rattle.ltx_codec.specs.Fields.{AreBytes, four_at, eight_at, header_in}
+use Rattle.ltx_codec.specs.Format.{IsLtx}
+use Rattle.ltx_codec.specs.Places.{IsEarliest, IsFound, IsSoundBefore, HasPages, number_place, number_at, number_before, page_in}
+use Rattle.ltx_codec.specs.HeaderRules.{HasSoundFields}
+use Rattle.ltx_codec.specs.Block.{IsRead, IsNextNumber}
+use Rattle.ltx_codec.specs.declared.header.Header.{Header}
+use Rattle.ltx_codec.specs.declared.file.Ltx.{Ltx}
+use Rattle.ltx_codec.specs.declared.fault.LtxFault.{LtxFault}
+use Rattle.ltx_codec.specs.declared.fault.LtxFault.TheVariants as fault
+use Rattle.ltx_codec.specs.declared.seen.Seen.{Seen}
+use Rattle.ltx_codec.specs.declared.seen.Seen.TheVariants as seen
+use Rattle.ltx_codec.specs.declared.decoder.Decoder.{Decoder}
+
+-- what the decoder shows of what was last seen
+abbrev pub header_shown : Decoder → Header
+header_shown decoder = decoder.header
+
+abbrev pub page_shown : Decoder → List ℕ
+page_shown decoder = drop 4 decoder.held.items
+
+abbrev pub post_shown : Decoder → ℕ
+post_shown decoder = decoder.post
+
+-- the bytes of the part that is not whole yet
+abbrev pub held_part : Decoder → List ℕ
+held_part decoder = cond decoder.told [] decoder.held.items
+
+-- the header is not whole: the text is what is held
+pub record IsInHeader (decoder : Decoder) (text : List ℕ) : Type 0 where
+  pub stage : decoder.in_block ≡ false
+  pub short : length text < 100
+  pub held : held_part decoder ≡ text
+
+-- these pages were read, and what is held stands behind them
+pub record IsInBlock (decoder : Decoder) (text : List ℕ) (change : PageChange) : Type 0 where
+  pub stage : decoder.in_block ≡ true
+  pub valid : IsChange change
+  pub read : IsRead text change (length change.pages)
+  pub header : decoder.header ≡ header_in text
+  pub number : decoder.number ≡ number_before text (length change.pages)
+  pub held : held_part decoder ≡ drop (number_place text (length change.pages)) text
+  pub register : decoder.register ≡ after_bytes all_ones (take (number_place text (length change.pages)) text)
+  pub sums : eight_at 16 text ≡ 1 → decoder.sums ≡ joined (page_sums 1 (map (λ w. w.bytes) change.pages))
+
+-- behind a number that is held no more is held than its page, or the trailer
+pub record IsPart (decoder : Decoder) (text : List ℕ) (k : ℕ) : Type 0 where
+  pub page : number_place text k + 4 ≤ length text → number_at text k ≢ 0 → length (held_part decoder) ≤ 4 + four_at 8 text
+  pub end : number_place text k + 4 ≤ length text → number_at text k ≡ 0 → length (held_part decoder) ≤ 20
+
+-- the page size, once it is there, is within the limit
+abbrev pub IsWithin : ℕ → List ℕ → Type 0
+IsWithin limit text = 12 ≤ length text → four_at 8 text ≤ limit
+
+-- The decoder of this page limit has read exactly this text of a file. The file is not whole, and the text
+-- breaks no rule but that it ends too soon.
+pub record HasFed (decoder : Decoder) (limit : ℕ) (text : List ℕ) : Type 0 where
+  pub unfinished : IsEarliest text fault.Short
+  pub octets : AreBytes text
+  pub sound : decoder.fault ≡ None
+  pub limit_is : decoder.limit ≡ limit
+  pub within : IsWithin limit text
+  pub stage : IsInHeader decoder text ⊎ ((change : PageChange) × IsInBlock decoder text change × IsPart decoder text (length change.pages))
+
+-- the decoder found this fault, and answers it from then on
+abbrev pub HasFailed : Decoder → LtxFault → Type 0
+HasFailed decoder f = decoder.fault ≡ Some f
+
+-- the bytes break no rule up to the page size, which is past the limit
+pub record IsPastLimit (limit : ℕ) (bytes : List ℕ) : Type 0 where
+  pub there : 12 ≤ length bytes
+  pub sound : IsSoundBefore bytes 13
+  pub past : limit < four_at 8 bytes
+
+-- why a text is refused: the fault stands earliest in it, or its pages are past the limit
+abbrev pub IsRefusedWithin : ℕ → List ℕ → LtxFault → Type 0
+IsRefusedWithin limit bytes f = IsFound f × (IsEarliest bytes f ⊎ (f ≡ fault.PageSize) × IsPastLimit limit bytes)
+
+-- the header or a page ends with these bytes
+abbrev pub EndsPart : List ℕ → Type 0
+EndsPart bytes = (length bytes ≡ 100) ⊎ ((k : ℕ) × HasPages bytes (k + 1) × (length bytes ≡ number_place bytes (k + 1)))
+
+-- no part ends with the first bytes of the piece, where they are fewer than n
+abbrev pub NoneEndsBefore : List ℕ → List ℕ → ℕ → Type 0
+NoneEndsBefore text piece n = (m : ℕ) → 1 ≤ m → m < n → EndsPart (text ++ take m piece) → ⊥
+
+-- the header ends with this text, and is shown
+pub record ShowsHeader (decoder : Decoder) (limit : ℕ) (text : List ℕ) : Type 0 where
+  pub ends : length text ≡ 100
+  pub shown : header_shown decoder ≡ header_in text
+  pub fed : HasFed decoder limit text
+
+-- the page of this number ends with this text, and is shown
+pub record ShowsPage (decoder : Decoder) (limit number : ℕ) (text : List ℕ) : Type 0 where
+  pub index : ℕ
+  pub pages : HasPages text (index + 1)
+  pub ends : length text ≡ number_place text (index + 1)
+  pub number_is : number ≡ number_at text index
+  pub shown : page_shown decoder ≡ page_in text index
+  pub header : header_shown decoder ≡ header_in text
+  pub fed : HasFed decoder limit text
+
+-- this is the text of a file, whose header and sum are shown
+pub record ShowsFile (decoder : Decoder) (limit : ℕ) (text : List ℕ) : Type 0 where
+  pub file : Ltx
+  pub is : IsLtx text file
+  pub header : header_shown decoder ≡ file.header
+  pub post : post_shown decoder ≡ file.post
+  pub fed : HasFed decoder limit []
+
+-- what feeding a piece behind a text gives
+abbrev pub FeedGives : Decoder → ℕ → List ℕ → List ℕ → Result Seen LtxFault → Type 0
+FeedGives decoder limit text piece (Ok seen.More) = HasFed decoder limit (text ++ piece) × NoneEndsBefore text piece (length piece + 1)
+FeedGives decoder limit text piece (Ok (seen.Header used)) = (used ≤ length piece) × NoneEndsBefore text piece used × ShowsHeader decoder limit (text ++ take used piece)
+FeedGives decoder limit text piece (Ok (seen.Page used number)) = (used ≤ length piece) × NoneEndsBefore text piece used × ShowsPage decoder limit number (text ++ take used piece)
+FeedGives decoder limit text piece (Ok (seen.Whole used)) = (used ≤ length piece) × NoneEndsBefore text piece used × ShowsFile decoder limit (text ++ take used piece)
+FeedGives decoder limit text piece (Err f) = IsRefusedWithin limit (text ++ piece) f
