@@ -1,4 +1,5 @@
 pub mod AnswerLemmas
+pub mod CompactionLemmas
 pub mod FileLemmas
 pub mod OutputLemmas
 pub mod PageLemmas

@@ -5,6 +5,8 @@ use Rattle.lf_base.specs.declared.status.Status.TheVariants as status
 use Rattle.litefs_tool.specs.Refusal.{refusal_name}
 use Rattle.litefs_tool.specs.declared.input.InputFault.TheVariants as fault
 use Rattle.litefs_tool.specs.declared.refusal.Refusal.TheVariants as refusal
+use Rattle.litefs_tool.specs.CompactRefusal.{compact_refusal_name}
+use Rattle.litefs_tool.specs.declared.compact_refusal.CompactRefusal.TheVariants as compaction
 use Rattle.litefs_tool.specs.declared.failure.Failure.{Failure}
 use Rattle.litefs_tool.specs.declared.failure.Failure.TheVariants as failure
 
@@ -16,12 +18,16 @@ status_of_failure (failure.Input fault.TooLong) = status.Limit
 status_of_failure (failure.Input fault.NoMemory) = status.NoMemory
 status_of_failure (failure.Files refusal.NoMemory) = status.NoMemory
 status_of_failure (failure.Files why) = status.InputRefused
+status_of_failure (failure.Compaction compaction.NoMemory) = status.NoMemory
+status_of_failure (failure.Compaction why) = status.InputRefused
 status_of_failure failure.Output = status.WriteFault
 
 -- the name of the fault where the input is refused
 abbrev pub name_of_failure : Failure → List ℕ
 name_of_failure (failure.Files refusal.NoMemory) = []
 name_of_failure (failure.Files why) = refusal_name why
+name_of_failure (failure.Compaction compaction.NoMemory) = []
+name_of_failure (failure.Compaction why) = compact_refusal_name why
 name_of_failure other = []
 
 -- the status of a run with this result

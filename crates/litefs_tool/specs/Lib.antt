@@ -1,4 +1,6 @@
 pub mod Command
+pub mod CompactRefusal
+pub mod Compaction
 pub mod Failure
 pub mod Files
 pub mod Input

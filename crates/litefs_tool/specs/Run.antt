@@ -7,11 +7,14 @@ use Rattle.lf_base.specs.declared.status.Status.{Status}
 use Rattle.lf_base.specs.declared.status.Status.TheVariants as status
 use Rattle.lf_sqlite_pages.specs.Image.{DatabaseImage, image_bytes}
 use Rattle.litefs_tool.specs.Command.{words_of}
+use Rattle.litefs_tool.specs.Compaction.{BecomesText, RefusesToCompact}
+use Rattle.litefs_tool.specs.CompactRefusal.{compact_refusal_name}
 use Rattle.litefs_tool.specs.Files.{Applies, never_written}
 use Rattle.litefs_tool.specs.Output.{IsFront, AppendsFront}
 use Rattle.litefs_tool.specs.Refusal.{refusal_name}
 use Rattle.litefs_tool.specs.declared.command.Command.{Command}
-use Rattle.litefs_tool.specs.declared.command.Command.TheVariants.{Apply}
+use Rattle.litefs_tool.specs.declared.command.Command.TheVariants.{Apply, Compact}
+use Rattle.litefs_tool.specs.declared.compact_refusal.CompactRefusal.{CompactRefusal}
 use Rattle.litefs_tool.specs.declared.refusal.Refusal.{Refusal}
 
 -- a stream over a run: the bytes left to read, or those taken, where it tells them, and its count of faults
@@ -71,6 +74,24 @@ AppliesInput input status.DiskFault written name = ⊥
 AppliesInput input status.NetworkFault written name = ⊥
 AppliesInput input status.NoThread written name = ⊥
 
+-- the input is within the limit, and its files become the one of this text
+abbrev pub Makes : List ℕ → List ℕ → Type 0
+Makes input out = (length input ≤ input_limit) × BecomesText input out
+
+-- What `compact` comes to, as `AppliesInput` says it of `apply`.
+abbrev pub CompactsInput : List ℕ → Status → List ℕ → List ℕ → Type 0
+CompactsInput input status.Ok written name = Makes input written
+CompactsInput input status.WriteFault written name = (out : List ℕ) × Makes input out × IsFront written out
+CompactsInput input status.InputRefused written name =
+    (why : CompactRefusal) × (length input ≤ input_limit) × RefusesToCompact input why × (name ≡ compact_refusal_name why) × (written ≡ [])
+CompactsInput input status.Limit written name = (input_limit < length input) × (written ≡ [])
+CompactsInput input status.ReadFault written name = written ≡ []
+CompactsInput input status.NoMemory written name = written ≡ []
+CompactsInput input status.WordsRefused written name = ⊥
+CompactsInput input status.DiskFault written name = ⊥
+CompactsInput input status.NetworkFault written name = ⊥
+CompactsInput input status.NoThread written name = ⊥
+
 -- no command has these words, and the run reads and writes nothing
 pub record RefusesWords (words : List (List ℕ)) (input : List ℕ) (ended : Status) (written : List ℕ) : Type 0 where
   pub no_command : (command : Command) → words ≢ words_of command
@@ -81,7 +102,9 @@ pub record RefusesWords (words : List (List ℕ)) (input : List ℕ) (ended : St
 -- what words and the bytes that were read come to
 abbrev pub ComesTo : List (List ℕ) → List ℕ → Status → List ℕ → List ℕ → Type 0
 ComesTo words input status written name =
-    RefusesWords words input status written ⊎ (words ≡ words_of Apply) × AppliesInput input status written name
+    RefusesWords words input status written
+    ⊎ (words ≡ words_of Apply) × AppliesInput input status written name
+    ⊎ (words ≡ words_of Compact) × CompactsInput input status written name
 
 -- with these statuses the input was read to its end
 abbrev pub LeavesNothing : Stream → Status → Type 0

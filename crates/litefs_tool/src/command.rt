@@ -10,6 +10,8 @@ use lf_base::Text;
 pub enum Command {
     /// LTX files become the database's bytes.
     Apply,
+    /// LTX files that join become one.
+    Compact,
 }
 
 /// The command of these words. They are read to the letter: no word more, and none less.
@@ -20,10 +22,12 @@ pub fn read_words(words: &[Text]) -> Option<Command>
         return None;
     };
     if is_word(word, b"apply".as_slice()) {
-        Some(Command::Apply)
-    } else {
-        None
+        return Some(Command::Apply);
     }
+    if is_word(word, b"compact".as_slice()) {
+        return Some(Command::Compact);
+    }
+    None
 }
 
 fn is_word(text: &Text, word: &[u8]) -> bool

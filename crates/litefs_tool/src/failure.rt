@@ -2,6 +2,7 @@ ghost use Rattle.std.specs.Prelude.{◌≡◌};
 ghost use Rattle.litefs_tool.specs.Failure.{status_of_failure, name_of_failure};
 ghost use Rattle.litefs_tool.specs.declared.failure.Failure.TheVariants as failure;
 
+use crate::compact_refusal::CompactRefusal;
 use crate::input::InputFault;
 use crate::refusal::Refusal;
 use lf_base::{Failed, Status};
@@ -15,6 +16,8 @@ pub enum Failure {
     Input(InputFault),
     /// The files in the input do not make a database.
     Files(Refusal),
+    /// The files in the input do not become one.
+    Compaction(CompactRefusal),
     /// The output failed.
     Output,
 }
@@ -32,6 +35,14 @@ impl From<Refusal> for Failure {
 
     fn from(refusal: Refusal) -> Failure {
         Failure::Files(refusal)
+    }
+}
+
+impl From<CompactRefusal> for Failure {
+    ghost from_gives = { λ why f. f ≡ failure.Compaction why };
+
+    fn from(refusal: CompactRefusal) -> Failure {
+        Failure::Compaction(refusal)
     }
 }
 
@@ -55,6 +66,8 @@ impl Failure {
             Failure::Input(InputFault::NoMemory) => Status::NoMemory,
             Failure::Files(Refusal::NoMemory) => Status::NoMemory,
             Failure::Files(_) => Status::InputRefused,
+            Failure::Compaction(CompactRefusal::NoMemory) => Status::NoMemory,
+            Failure::Compaction(_) => Status::InputRefused,
             Failure::Output => Status::WriteFault,
         }
     }
@@ -66,6 +79,8 @@ impl Failure {
         match self {
             Failure::Files(Refusal::NoMemory) => "",
             Failure::Files(refusal) => refusal.name(),
+            Failure::Compaction(CompactRefusal::NoMemory) => "",
+            Failure::Compaction(refusal) => refusal.name(),
             _ => "",
         }
     }

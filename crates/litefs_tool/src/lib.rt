@@ -5,6 +5,8 @@
 #![tactic(auto)]
 
 mod command;
+mod compact_refusal;
+mod compaction;
 mod failure;
 mod files;
 mod host;
@@ -15,6 +17,8 @@ mod refusal;
 mod report;
 mod top_call;
 
+pub use compact_refusal::CompactRefusal;
+pub use compaction::compact_files;
 pub use files::apply_files;
 pub use host::Host;
 pub use laws::one_answer;

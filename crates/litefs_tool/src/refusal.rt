@@ -53,7 +53,7 @@ impl Refusal {
     }
 }
 
-fn name_of_ltx(fault: LtxFault) -> &'static str
+pub fn name_of_ltx(fault: LtxFault) -> &'static str
     ensures { result.now ≡ ltx_name fault }
 {
     match fault {

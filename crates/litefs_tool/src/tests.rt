@@ -1,5 +1,6 @@
 //! Runs and applications with the bytes of files that an independent program made.
 mod apply;
+mod compact;
 mod faults;
 mod files;
 mod limits;

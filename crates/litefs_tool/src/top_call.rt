@@ -1,13 +1,14 @@
 //! The top call.
-ghost use Rattle.litefs_tool.specs.Run.{Run, AppliesInput, ComesTo, Went, stream};
+ghost use Rattle.litefs_tool.specs.Run.{Run, AppliesInput, CompactsInput, ComesTo, Went, stream};
 ghost use Rattle.litefs_tool.specs.Performing.{Performs};
 
 use crate::command::{Command, read_words};
+use crate::compaction::compact_files;
 use crate::failure::Failure;
 use crate::files::apply_files;
 use crate::host::Host;
 use crate::input::read_whole;
-use crate::output::write_image;
+use crate::output::{write_image, write_whole};
 use crate::report::report;
 use lf_base::{Sink, Source, Status, Text};
 use std::alloc::Global;
@@ -49,6 +50,7 @@ fn perform<I: Source, O: Sink>(
 {
     match read_words(words) {
         Some(Command::Apply) => apply(alloc, input, output),
+        Some(Command::Compact) => compact(alloc, input, output),
         None => Err(Failure::Words),
     }
 }
@@ -61,5 +63,16 @@ fn apply<I: Source, O: Sink>(alloc: Global, input: &mut I, output: &mut O) -> Re
     let bytes = read_whole(alloc, input, INPUT_LIMIT)?;
     let image = apply_files(alloc, bytes.as_slice())?;
     write_image(output, &image)?;
+    Ok(())
+}
+
+/// LTX files on the input become one on the output. All of it is read and decided before the first
+/// byte is written.
+fn compact<I: Source, O: Sink>(alloc: Global, input: &mut I, output: &mut O) -> Result<(), Failure>
+    ensures { Performs CompactsInput (stream I.left I.faults input.old input.new) (stream O.taken O.faults output.old output.new) result }
+{
+    let bytes = read_whole(alloc, input, INPUT_LIMIT)?;
+    let text = compact_files(alloc, bytes.as_slice())?;
+    write_whole(output, text.as_slice())?;
     Ok(())
 }

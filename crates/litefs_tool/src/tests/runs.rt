@@ -17,7 +17,7 @@ pub fn words(alloc: Global, given: &[&str]) -> Result<Vec<Text>, NoMemory> {
 
 /// Runs `litefs` with these words over this input, and looks at how it ends, how many zeros it
 /// writes and what it says.
-fn expect(
+pub fn expect(
     rt: &impl Abort,
     alloc: Global,
     given: &[&str],

@@ -4,6 +4,7 @@ use Rattle.litefs_tool.specs.Failure.{status_of_failure, name_of_failure}
 use Rattle.litefs_tool.specs.Run.{line, line_of}
 use Rattle.litefs_tool.specs.declared.input.InputFault.TheVariants as fault
 use Rattle.litefs_tool.specs.declared.refusal.Refusal.TheVariants as refusal
+use Rattle.litefs_tool.specs.declared.compact_refusal.CompactRefusal.TheVariants as compaction
 use Rattle.litefs_tool.specs.declared.failure.Failure.{Failure}
 use Rattle.litefs_tool.specs.declared.failure.Failure.TheVariants as failure
 use Rattle.litefs_tool.proofs.report.report.Goals as goal
@@ -16,6 +17,8 @@ line-of_failure (failure.Input fault.TooLong) = refl
 line-of_failure (failure.Input fault.NoMemory) = refl
 line-of_failure (failure.Files refusal.NoMemory) = refl
 line-of_failure (failure.Files why) = refl
+line-of_failure (failure.Compaction compaction.NoMemory) = refl
+line-of_failure (failure.Compaction why) = refl
 line-of_failure failure.Output = refl
 
 pub returns-clause-front : goal.returns-clause-front

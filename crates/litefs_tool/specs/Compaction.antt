@@ -1,0 +1,63 @@
+-- What compacting the LTX files in some bytes comes to.
+use Rattle.std.specs.Prelude.{◌≡◌, ◌≢◌, ℕ, ◌<◌, ◌⊎◌, List, [], ◌∷◌, ◌++◌, length, map}
+use Rattle.page_checksum.specs.Sums.{database_sum}
+use Rattle.ltx_codec.specs.Format.{IsLtx, file_text, no_meaning}
+use Rattle.ltx_codec.specs.Places.{IsEarliest, StandsInside}
+use Rattle.ltx_codec.specs.declared.fault.LtxFault.{LtxFault}
+use Rattle.ltx_codec.specs.declared.file.Ltx.{Ltx}
+use Rattle.ltx_compact.specs.Compaction.{Compacts}
+use Rattle.ltx_compact.specs.Joining.{AllJoin, IsWhy}
+use Rattle.ltx_compact.specs.Application.{DoesAsFiles}
+use Rattle.ltx_compact.specs.declared.fault.CompactFault.TheVariants as list
+use Rattle.litefs_tool.specs.declared.compact_refusal.CompactRefusal.{CompactRefusal}
+use Rattle.litefs_tool.specs.declared.compact_refusal.CompactRefusal.TheVariants as refusal
+
+-- the bytes are the texts of files, one after another
+abbrev pub AreTexts : List ℕ → List Ltx → Type 0
+AreTexts bytes [] = bytes ≡ []
+AreTexts bytes (file ∷ files) = (text : List ℕ) × (rest : List ℕ) × (bytes ≡ text ++ rest) × IsLtx text file × AreTexts rest files
+
+-- behind the texts of files the bytes go on, and no file stands there
+pub record BreaksOff (bytes : List ℕ) (fault : LtxFault) : Type 0 where
+  pub front : List ℕ
+  pub rest : List ℕ
+  pub files : List Ltx
+  pub split : bytes ≡ front ++ rest
+  pub texts : AreTexts front files
+  pub more : 0 < length rest
+  pub broken : IsEarliest rest fault
+  pub inside : StandsInside fault
+
+-- the files in the bytes join, and become this one
+pub record Become (bytes : List ℕ) (file : Ltx) : Type 0 where
+  pub files : List Ltx
+  pub texts : AreTexts bytes files
+  pub joined : AllJoin files
+  pub one : Compacts files file
+  pub does : DoesAsFiles files file.change
+
+-- the file is a snapshot that says another sum than that of its pages
+pub record SaysOtherSum (file : Ltx) (want got : ℕ) : Type 0 where
+  pub snapshot : file.header.min ≡ 1
+  pub want_is : want ≡ file.post
+  pub got_is : got ≡ database_sum (map (λ w. w.bytes) file.change.pages)
+  pub differ : want ≢ got
+
+-- why the files in the bytes do not become one
+abbrev pub RefusesToCompact : List ℕ → CompactRefusal → Type 0
+RefusesToCompact bytes (refusal.Ltx fault) = BreaksOff bytes fault
+RefusesToCompact bytes (refusal.List list.NoMemory) = ⊥
+RefusesToCompact bytes (refusal.List why) = (files : List Ltx) × AreTexts bytes files × IsWhy files why
+RefusesToCompact bytes (refusal.SumDiffers want got) = (file : Ltx) × Become bytes file × SaysOtherSum file want got
+RefusesToCompact bytes refusal.NoMemory = ⊥
+
+-- the same, or want of memory in its place
+abbrev pub MayRefuse : List ℕ → CompactRefusal → Type 0
+MayRefuse bytes why = (why ≡ refusal.NoMemory) ⊎ RefusesToCompact bytes why
+
+-- the bytes written are the one text of the file that the files in the bytes read become
+pub record BecomesText (bytes out : List ℕ) : Type 0 where
+  pub file : Ltx
+  pub become : Become bytes file
+  pub text : out ≡ file_text file no_meaning
+  pub is_file : IsLtx out file

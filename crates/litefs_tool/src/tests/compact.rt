@@ -1,0 +1,50 @@
+//! Whole runs of `compact`. The sum was computed by another program.
+use crate::tests::files::{DELTA, Fields, SNAPSHOT, TWO_PAGES, texts};
+use crate::tests::runs::{expect, words};
+use crate::{Host, run};
+use lf_base::{SliceSource, Status, VecSink};
+use std::test::Fail;
+
+/// The file sum of what the snapshot and the delta become.
+const FILE_SUM: u64 = 0x9e66_a912_50ad_8a38;
+
+#[test]
+fn a_snapshot_and_a_delta_become_one_file(rt: HostRuntime) -> Result<(), Fail> {
+    let alloc = rt.alloc();
+    let input = texts(alloc, &[SNAPSHOT, DELTA])?;
+    let words = words(alloc, &["compact"])?;
+    let mut host = Host {
+        input: SliceSource::new(input.as_slice(), Vec::new(alloc))?,
+        output: VecSink::new(alloc, 4096, Vec::new(alloc))?,
+        errors: VecSink::new(alloc, 4096, Vec::new(alloc))?,
+    };
+    let status = run(rt, alloc, words.as_slice(), &mut host);
+    assert_eq!(rt; status, Status::Ok);
+    let taken = host.output.taken();
+    let sums = [TWO_PAGES.to_be_bytes(), FILE_SUM.to_be_bytes()];
+    assert_eq!(rt; taken.len(), 1152);
+    assert_eq!(rt; taken.get(1136..1144), Some(sums[0].as_slice()));
+    assert_eq!(rt; taken.get(1144..), Some(sums[1].as_slice()));
+    Ok(())
+}
+
+#[test]
+fn refuses_what_does_not_become_one(rt: HostRuntime) -> Result<(), Fail> {
+    let alloc = rt.alloc();
+    let other = Fields {
+        post: TWO_PAGES ^ 1,
+        ..DELTA
+    };
+    let refused = Status::InputRefused;
+    let turned = texts(alloc, &[DELTA, SNAPSHOT])?;
+    let differs = texts(alloc, &[SNAPSHOT, other])?;
+    for (input, line) in [
+        (turned.as_slice(), "litefs: input refused: Gap\n"),
+        (differs.as_slice(), "litefs: input refused: SumDiffers\n"),
+        (&turned[..700], "litefs: input refused: Short\n"),
+        (&turned[..0], "litefs: input refused: Empty\n"),
+    ] {
+        expect(&rt, alloc, &["compact"], input, refused, 0, line)?;
+    }
+    Ok(())
+}
