@@ -188,7 +188,7 @@ module _ (a b : List ℕ) (n : ℕ) (g : Agree a b n) (long : 12 ≤ n) where
     breaks_same fault.NoMemory inside rule = absurd rule
 
 -- what is there of the bytes
-there_inside : (bytes : List ℕ) (f : LtxFault) → f ≢ fault.Short → last_place bytes f ≡ length bytes
+pub there_inside : (bytes : List ℕ) (f : LtxFault) → f ≢ fault.Short → last_place bytes f ≡ length bytes
 there_inside bytes fault.Magic inside = refl
 there_inside bytes fault.Compressed inside = refl
 there_inside bytes fault.UnknownFlags inside = refl

@@ -5,16 +5,16 @@ use Rattle.page_checksum.specs.Crc.{after_bytes, all_ones}
 use Rattle.lf_sqlite_pages.specs.PageSize.{IsPageSize}
 use Rattle.lf_sqlite_pages.specs.Change.{IsChange, empty_change}
 use Rattle.ltx_codec.specs.Fields.{AreBytes, four_at, header_in}
-use Rattle.ltx_codec.specs.Places.{IsEarliest, IsSoundBefore, number_place}
+use Rattle.ltx_codec.specs.Places.{IsEarliest, IsFound, IsSoundBefore, number_place}
 use Rattle.ltx_codec.specs.HeaderRules.{IsThere, HasSoundFields}
 use Rattle.ltx_codec.specs.Block.{HasHeader, IsRead}
-use Rattle.ltx_codec.specs.Decoding.{HasFed, IsPart, held_part, IsWithin, IsRefusedWithin, ShowsHeader}
+use Rattle.ltx_codec.specs.Decoding.{HasFed, IsPart, held_part, IsWithin, IsPastLimit, IsRefusedWithin, ShowsHeader}
 use Rattle.ltx_codec.specs.declared.decoder.Decoder.{Decoder}
 use Rattle.ltx_codec.specs.declared.fault.LtxFault.{LtxFault}
 use Rattle.ltx_codec.specs.declared.fault.LtxFault.TheVariants as fault
 use Rattle.ltx_codec.proofs.HeaderLemmas.{short_header, sound_fields}
 use Rattle.ltx_codec.proofs.BlockLemmas.{short_number}
-use Rattle.ltx_codec.proofs.AgreeLemmas.{fault_stays_lem, sound_longer, four_same, longer}
+use Rattle.ltx_codec.proofs.AgreeLemmas.{fault_stays_lem, sound_longer, broken_same, there_inside, four_same, longer}
 use Rattle.ltx_codec.proofs.NumberLemmas.{found_inside, found_there}
 
 nothing_there : (n e : ℕ) → 1 ≤ e → IsThere [] n e → ⊥
@@ -76,12 +76,27 @@ read_none bytes head = record {
 none_valid : (size count : ℕ) → IsPageSize size → IsChange (empty_change size count)
 none_valid size count is = record { of_a_page_size = is; ascending = tt; within = λ i w less. absurd (omega (arith, less)); whole = λ i w less. absurd (omega (arith, less)) }
 
+-- pages past the limit were past it where a fault inside was found
+past_shorter : (limit : ℕ) (bytes more : List ℕ) (f : LtxFault) → IsFound f → IsEarliest bytes f → IsPastLimit limit (bytes ++ more) → IsPastLimit limit bytes
+past_shorter limit bytes more f found earliest past =
+    let inside = found_there f found in
+    let here : earliest.place ≤ length bytes = omega (arith, earliest.broken.there, there_inside bytes f inside) in
+    let far : 13 ≤ earliest.place = past.sound f earliest.place (broken_same bytes (bytes ++ more) (length bytes) earliest.place f (longer bytes more) here inside earliest.broken) in
+    record {
+      there = omega (arith, far, here);
+      sound = λ other q broken. omega (arith, far, earliest.earliest other q broken);
+      past = omega (arith, past.past, far, here, four_same 8 (length bytes) bytes (bytes ++ more) (longer bytes more) (omega (arith, far, here)));
+    }
+
 -- what is refused stays so whatever follows
 pub refused_longer : (limit : ℕ) (bytes more : List ℕ) (f : LtxFault) → IsRefusedWithin limit bytes f → IsRefusedWithin limit (bytes ++ more) f
 refused_longer limit bytes more f refused = (
   refused.0,
   elim refused.1 [
-    | inl earliest ↦ inl (fault_stays_lem bytes more f earliest (found_there f refused.0) (found_inside f refused.0))
+    | inl found ↦ inl (
+      fault_stays_lem bytes more f found.0 (found_there f refused.0) (found_inside f refused.0),
+      λ past. found.1 (past_shorter limit bytes more f refused.0 found.0 past),
+    )
     | inr past ↦ inr (
       past.0,
       record {

@@ -1,8 +1,9 @@
 -- Which rule of the header is broken first.
 use Rattle.std.proofs.Common.{◌≡◌, ℕ, ◌+◌, ◌%◌, ◌<◌, ◌≤◌, List, length, arith, refl, subst, inl, inr}
 use Rattle.std.proofs.lemmas.Bool.{cases_lt}
-use Rattle.ltx_codec.specs.Places.{IsBroken, IsSoundBefore, IsEarliest}
-use Rattle.ltx_codec.specs.HeaderRules.{IsThere, HasSoundFields}
+use Rattle.ltx_codec.specs.Places.{Breaks, IsBroken, IsSoundBefore, IsEarliest, IsFound}
+use Rattle.ltx_codec.specs.HeaderRules.{IsThere, HasSoundFields, IsOfStart}
+use Rattle.ltx_codec.specs.Decoding.{IsWithin, IsPastLimit, IsRefusedWithin}
 use Rattle.ltx_codec.specs.declared.fault.LtxFault.{LtxFault}
 use Rattle.ltx_codec.specs.declared.fault.LtxFault.TheVariants as fault
 
@@ -86,3 +87,35 @@ start_sound bytes h long = sound_fields bytes 12 here (omega arith) long
       snapshot_pre = λ is. h.snapshot_pre (wider 48 is);
       delta_pre = λ is. h.delta_pre (wider 48 is);
     }
+
+-- pages within the limit are not past it
+pub within_not_past : (limit : ℕ) (bytes : List ℕ) → IsWithin limit bytes → IsPastLimit limit bytes → ⊥
+within_not_past limit bytes within past = omega (arith, past.past, within past.there)
+
+start_place : (bytes : List ℕ) (f : LtxFault) (q : ℕ) → IsOfStart f → Breaks bytes f q → q ≤ 12
+start_place bytes fault.Magic q start rule = omega (arith, rule.0)
+start_place bytes fault.Compressed q start rule = omega (arith, rule.0)
+start_place bytes fault.UnknownFlags q start rule = omega (arith, rule.0)
+start_place bytes fault.PageSize q start rule = omega (arith, rule.0)
+start_place bytes fault.Commit q start rule = absurd start
+start_place bytes fault.Txid q start rule = absurd start
+start_place bytes fault.PreSum q start rule = absurd start
+start_place bytes fault.PageOrder q start rule = absurd start
+start_place bytes fault.PageRange q start rule = absurd start
+start_place bytes fault.NotWhole q start rule = absurd start
+start_place bytes fault.PostSum q start rule = absurd start
+start_place bytes (fault.FileSum want got) q start rule = absurd start
+start_place bytes fault.Tail q start rule = absurd start
+start_place bytes fault.Short q start rule = absurd start
+start_place bytes fault.NoMemory q start rule = absurd start
+
+-- a fault up to the page size comes before the limit
+pub start_refused : (limit : ℕ) (bytes : List ℕ) (f : LtxFault) → IsOfStart f → IsFound f → IsEarliest bytes f → IsRefusedWithin limit bytes f
+start_refused limit bytes f start found earliest = (
+  found,
+  inl (earliest, λ past. omega (arith, past.sound f earliest.place earliest.broken, start_place bytes f earliest.place start earliest.broken.breaks)),
+)
+
+-- a fault behind the page size stands within the limit
+pub rest_refused : (limit : ℕ) (bytes : List ℕ) (f : LtxFault) → IsWithin limit bytes → IsFound f → IsEarliest bytes f → IsRefusedWithin limit bytes f
+rest_refused limit bytes f within found earliest = (found, inl (earliest, within_not_past limit bytes within))

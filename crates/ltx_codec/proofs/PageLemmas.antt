@@ -26,6 +26,7 @@ use Rattle.ltx_codec.proofs.TextLemmas.{before_more, AreBytes-drop}
 use Rattle.ltx_codec.proofs.ReadLemmas.{read_next}
 use Rattle.ltx_codec.proofs.FeedLemmas.{Stays, piece_rest, told_part}
 use Rattle.ltx_codec.proofs.PieceLemmas.{Grows, held_untold, pages_longer, pages_of, fed_of, held_length, held_is_rest, next_longer, number_kept, four_rest}
+use Rattle.ltx_codec.proofs.HeaderLemmas.{within_not_past}
 
 -- less than a number is held
 pub number_goes_on : (old new : Decoder) (limit : ℕ) (text more : List ℕ) → HasFed old limit text → old.in_block ≡ true → Grows old new more → AreBytes more
@@ -210,7 +211,10 @@ module _ (old new : Decoder) (limit : ℕ) (text more : List ℕ) (number : ℕ)
   number_refused_at f rule =
       let read = has_pages.block.read in (
         numbering_found new.header new.number number f rule,
-        inl (number_refused (text ++ more) (length (pages_of old limit text fed stage).0.pages) new.header new.number number kth read.pages read.sound f rule),
+        inl (
+          number_refused (text ++ more) (length (pages_of old limit text fed stage).0.pages) new.header new.number number kth read.pages read.sound f rule,
+          within_not_past limit (text ++ more) has_pages.within,
+        ),
       )
 
   -- how much is held with the number

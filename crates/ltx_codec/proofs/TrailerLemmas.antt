@@ -24,6 +24,7 @@ use Rattle.ltx_codec.proofs.FeedLemmas.{Stays, nothing_read, piece_rest}
 use Rattle.ltx_codec.proofs.TextLemmas.{AreBytes-drop}
 use Rattle.ltx_codec.proofs.PageLemmas.{number_longer}
 use Rattle.ltx_codec.proofs.PieceLemmas.{Grows, fed_of, held_untold, held_length, held_is_rest, eight_rest}
+use Rattle.ltx_codec.proofs.HeaderLemmas.{within_not_past}
 
 sealed_is : (bytes : List ℕ) (register : ℕ) → register ≡ after_bytes all_ones bytes → sealed register ≡ file_sum bytes
 unfolding crc
@@ -89,15 +90,21 @@ module _ (d : Decoder) (limit : ℕ) (text : List ℕ) (change : PageChange) (ha
       let read = has.feeding.block.read in
       let at = long in (
         tt,
-        inl (wrong_sum text (length change.pages) read.pages read.sound has.sound ends (omega (arith, at, rule.0))
-            (subst (λ (s : ℕ). IsWrongSum text (length change.pages) s) post_at (wrong_is (eight_at 4 d.held.items) rule.1))),
+        inl (
+          wrong_sum text (length change.pages) read.pages read.sound has.sound ends (omega (arith, at, rule.0))
+              (subst (λ (s : ℕ). IsWrongSum text (length change.pages) s) post_at (wrong_is (eight_at 4 d.held.items) rule.1)),
+          within_not_past limit text has.feeding.within,
+        ),
       )
   trailer_refused (fault.FileSum want got) rule =
       let read = has.feeding.block.read in
       let at = long in (
         tt,
-        inl (wrong_file_sum text (length change.pages) read.pages read.sound has.sound ends (right_at rule.1) want got (omega (arith, at, rule.0))
-            (rule.2 ∙ seal_is) (rule.3 ∙ sum_at) rule.4),
+        inl (
+          wrong_file_sum text (length change.pages) read.pages read.sound has.sound ends (right_at rule.1) want got (omega (arith, at, rule.0))
+              (rule.2 ∙ seal_is) (rule.3 ∙ sum_at) rule.4,
+          within_not_past limit text has.feeding.within,
+        ),
       )
   trailer_refused fault.Short rule = absurd rule
   trailer_refused fault.Magic rule = absurd rule

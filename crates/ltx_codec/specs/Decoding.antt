@@ -75,9 +75,9 @@ pub record IsPastLimit (limit : ℕ) (bytes : List ℕ) : Type 0 where
   pub sound : IsSoundBefore bytes 13
   pub past : limit < four_at 8 bytes
 
--- why a text is refused: the fault stands earliest in it, or its pages are past the limit
+-- why a text is refused: its pages are past the limit, or else the fault stands earliest in it
 abbrev pub IsRefusedWithin : ℕ → List ℕ → LtxFault → Type 0
-IsRefusedWithin limit bytes f = IsFound f × (IsEarliest bytes f ⊎ (f ≡ fault.PageSize) × IsPastLimit limit bytes)
+IsRefusedWithin limit bytes f = IsFound f × (IsEarliest bytes f × (IsPastLimit limit bytes → ⊥) ⊎ (f ≡ fault.PageSize) × IsPastLimit limit bytes)
 
 -- the header or a page ends with these bytes
 abbrev pub EndsPart : List ℕ → Type 0

@@ -3,6 +3,8 @@ use Rattle.std.specs.Prelude.{◌≡◌, ◌≢◌, ℕ, ◌≤◌, List, length
 use Rattle.lf_sqlite_pages.specs.PageSize.{IsPageSize}
 use Rattle.ltx_codec.specs.Fields.{four_at, eight_at}
 use Rattle.ltx_codec.specs.Format.{magic, IsDatabaseSize, IsFlagged}
+use Rattle.ltx_codec.specs.declared.fault.LtxFault.{LtxFault}
+use Rattle.ltx_codec.specs.declared.fault.LtxFault.TheVariants as fault
 
 -- a field that ends at this byte is there, and among the first n bytes
 pub record IsThere (bytes : List ℕ) (n field_end : ℕ) : Type 0 where
@@ -19,3 +21,11 @@ pub record HasSoundFields (bytes : List ℕ) (n : ℕ) : Type 0 where
   pub max : IsThere bytes n 32 → eight_at 16 bytes ≤ eight_at 24 bytes
   pub snapshot_pre : IsThere bytes n 48 → eight_at 16 bytes ≡ 1 → eight_at 40 bytes ≡ 0
   pub delta_pre : IsThere bytes n 48 → eight_at 16 bytes ≢ 1 → IsFlagged (eight_at 40 bytes)
+
+-- a fault of the magic, the flags or the page size
+abbrev pub IsOfStart : LtxFault → Type 0
+IsOfStart fault.Magic = Unit {0}
+IsOfStart fault.Compressed = Unit {0}
+IsOfStart fault.UnknownFlags = Unit {0}
+IsOfStart fault.PageSize = Unit {0}
+IsOfStart _ = ⊥

@@ -1,7 +1,7 @@
 //! The rules of the header's fields, in the order of the bytes. A field that is not there yet
 //! breaks none.
 ghost use Rattle.std.specs.Prelude.{◌≤◌, length, OnOk, IfErr};
-ghost use Rattle.ltx_codec.specs.HeaderRules.{HasSoundFields};
+ghost use Rattle.ltx_codec.specs.HeaderRules.{HasSoundFields, IsOfStart};
 ghost use Rattle.ltx_codec.specs.Decoding.{IsWithin, IsRefusedWithin};
 ghost use Rattle.ltx_codec.specs.Places.{IsEarliest, IsFound, StandsInside};
 
@@ -17,6 +17,7 @@ fn check_magic(bytes: &[u8]) -> Result<(), LtxFault>
     ensures fault { IfErr result (IsEarliest bytes.now) }
     ensures inside { IfErr result StandsInside }
     ensures found { IfErr result IsFound }
+    ensures start { IfErr result IsOfStart }
 {
     if bytes.len() < 4 {
         return Ok(());
@@ -35,6 +36,7 @@ fn check_flags(bytes: &[u8]) -> Result<(), LtxFault>
     ensures fault { IfErr result (IsEarliest bytes.now) }
     ensures inside { IfErr result StandsInside }
     ensures found { IfErr result IsFound }
+    ensures start { IfErr result IsOfStart }
 {
     if bytes.len() < 8 {
         return Ok(());
@@ -52,6 +54,7 @@ fn check_page_size(bytes: &[u8]) -> Result<(), LtxFault>
     ensures fault { IfErr result (IsEarliest bytes.now) }
     ensures inside { IfErr result StandsInside }
     ensures found { IfErr result IsFound }
+    ensures start { IfErr result IsOfStart }
 {
     if bytes.len() < 12 {
         return Ok(());
@@ -141,6 +144,7 @@ fn check_start(bytes: &[u8]) -> Result<(), LtxFault>
     ensures fault { IfErr result (IsEarliest bytes.now) }
     ensures inside { IfErr result StandsInside }
     ensures found { IfErr result IsFound }
+    ensures start { IfErr result IsOfStart }
 {
     check_magic(bytes)?;
     check_flags(bytes)?;
@@ -172,7 +176,7 @@ pub fn check_header(bytes: &[u8]) -> Result<(), LtxFault>
 }
 
 /// The same, where a page size past the limit is refused too.
-#[tactic(auto, using(crate::proofs::HeaderLemmas::start_sound))]
+#[tactic(auto, using(crate::proofs::HeaderLemmas::start_sound, crate::proofs::HeaderLemmas::start_refused, crate::proofs::HeaderLemmas::rest_refused))]
 pub fn check_within(bytes: &[u8], limit: u32) -> Result<(), LtxFault>
     ensures ok { OnOk result (HasSoundFields bytes.now 103) }
     ensures within { OnOk result (IsWithin limit bytes.now) }
