@@ -45,7 +45,7 @@ refuses_once database file (refusal.SumDiffers want got) (refusal.SumDiffers wan
     cc
 
 -- what follows some bytes is bytes
-bytes_behind : (bytes text rest : List ℕ) → AreBytes bytes → bytes ≡ text ++ rest → AreBytes rest
+pub bytes_behind : (bytes text rest : List ℕ) → AreBytes bytes → bytes ≡ text ++ rest → AreBytes rest
 bytes_behind bytes text rest small is i =
     subst (λ n. n < 256) (ap (λ bs. get_or bs (length text + i) 0) is ∙ get_or-append-add text rest i 0) (small (length text + i))
 
@@ -65,7 +65,7 @@ OneFault = (bytes : List ℕ) (fault other : LtxFault) → IsEarliest bytes faul
 
 module _ (reading : OneReading) (sound : BreaksNoRule) (one_fault : OneFault) where
   -- bytes with a file at their front have no fault inside it
-  no_fault : (bytes text rest : List ℕ) (file : Ltx) (f : LtxFault) → AreBytes bytes → bytes ≡ text ++ rest → IsLtx text file →
+  pub no_fault : (bytes text rest : List ℕ) (file : Ltx) (f : LtxFault) → AreBytes bytes → bytes ≡ text ++ rest → IsLtx text file →
       IsEarliest bytes f → StandsInside f → ⊥
   no_fault bytes text rest file f small is whole first inside =
       let tail : f ≡ fault.Tail = (sound text rest file f first.place (subst AreBytes is small) whole (subst (λ bs. IsBroken bs f first.place) is first.broken)).0 in

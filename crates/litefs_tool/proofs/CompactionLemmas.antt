@@ -1,6 +1,6 @@
 -- Reading the texts of files one after another, and what they become.
-use Rattle.std.proofs.Common.{◌≡◌, ◌≢◌, ℕ, ◌+◌, ◌-◌, ◌<◌, ◌≤◌, Option, Some, None, suc, Result, Ok, Err, List, [], ◌∷◌, ◌++◌, inl, inr, length, map, take, drop, get_or, refl, sym, ◌∙◌, ap, subst, arith, append_assoc, append-nil}
-use Rattle.std.specs.List.{All, slice_get, range_with_len}
+use Rattle.std.proofs.Common.{◌≡◌, ℕ, ◌<◌, Option, Some, suc, Result, Ok, Err, List, [], ◌∷◌, ◌++◌, inl, inr, length, map, take, drop, get_or, refl, sym, ◌∙◌, ap, subst, arith, append_assoc, append-nil}
+use Rattle.std.specs.List.{All, slice_get}
 use Rattle.std.specs.Result.{IfErr, IsErrAnd}
 use Rattle.std.proofs.lemmas.List.{take-append-drop}
 use Rattle.std.proofs.lemmas.List.Elements.{All-push}
@@ -8,16 +8,16 @@ use Rattle.std.proofs.lemmas.List.FromFn.{length-range_with_len}
 use Rattle.std.specs.Option.{option_map}
 use Rattle.std.proofs.lemmas.Option.{slice_get-map, slice_get_read}
 use Rattle.lf_sqlite_pages.specs.declared.page_write.PageWrite.{PageWrite}
-use Rattle.ltx_codec.specs.Format.{IsFile, IsLtx, file_text, no_meaning}
+use Rattle.ltx_codec.specs.Format.{IsFile, IsLtx}
 use Rattle.ltx_codec.specs.Places.{IsEarliest, IsRefused, StandsInside}
 use Rattle.ltx_codec.specs.declared.fault.LtxFault.{LtxFault}
 use Rattle.ltx_codec.specs.declared.fault.LtxFault.TheVariants as ltx
 use Rattle.ltx_codec.specs.declared.file.Ltx.{Ltx}
-use Rattle.ltx_compact.specs.Compaction.{Compacts, HasSnapshotSum, IsFileButSum}
+use Rattle.ltx_compact.specs.Compaction.{HasSnapshotSum, IsFileButSum}
 use Rattle.ltx_compact.specs.Joining.{IsWhy}
 use Rattle.ltx_compact.specs.declared.fault.CompactFault.{CompactFault}
 use Rattle.ltx_compact.specs.declared.fault.CompactFault.TheVariants as list
-use Rattle.litefs_tool.specs.Compaction.{AreTexts, BreaksOff, MayRefuse}
+use Rattle.litefs_tool.specs.Compaction.{AreTexts, MayRefuse}
 use Rattle.litefs_tool.specs.CompactRefusal.{of_ltx, of_list}
 use Rattle.litefs_tool.specs.declared.compact_refusal.CompactRefusal.{CompactRefusal}
 use Rattle.litefs_tool.specs.declared.compact_refusal.CompactRefusal.TheVariants as refusal

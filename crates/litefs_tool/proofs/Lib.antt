@@ -1,5 +1,6 @@
 pub mod AnswerLemmas
 pub mod CompactionLemmas
+pub mod CompactionOnce
 pub mod FileLemmas
 pub mod OutputLemmas
 pub mod PageLemmas

@@ -1,5 +1,5 @@
 -- What compacting the LTX files in some bytes comes to.
-use Rattle.std.specs.Prelude.{◌≡◌, ◌≢◌, ℕ, ◌<◌, ◌⊎◌, List, [], ◌∷◌, ◌++◌, length, map}
+use Rattle.std.specs.Prelude.{◌≡◌, ◌≢◌, ℕ, ◌<◌, ◌⊎◌, List, [], ◌∷◌, ◌++◌, length, map, Result, Ok, Err}
 use Rattle.page_checksum.specs.Sums.{database_sum}
 use Rattle.ltx_codec.specs.Format.{IsLtx, file_text, no_meaning}
 use Rattle.ltx_codec.specs.Places.{IsEarliest, StandsInside}
@@ -61,3 +61,8 @@ pub record BecomesText (bytes out : List ℕ) : Type 0 where
   pub become : Become bytes file
   pub text : out ≡ file_text file no_meaning
   pub is_file : IsLtx out file
+
+-- what compacting the files in the bytes comes to, where memory lasts
+abbrev pub CompactsTo : List ℕ → Result (List ℕ) CompactRefusal → Type 0
+CompactsTo bytes (Ok out) = BecomesText bytes out
+CompactsTo bytes (Err why) = RefusesToCompact bytes why

@@ -2,7 +2,9 @@
 ghost use Rattle.std.specs.Prelude.{◌≡◌, List, ℕ, Result};
 ghost use Rattle.lf_sqlite_pages.specs.Image.{DatabaseImage};
 ghost use Rattle.ltx_codec.specs.Fields.{AreBytes};
+ghost use Rattle.litefs_tool.specs.Compaction.{CompactsTo};
 ghost use Rattle.litefs_tool.specs.Files.{Applies};
+ghost use Rattle.litefs_tool.specs.declared.compact_refusal.CompactRefusal.{CompactRefusal};
 ghost use Rattle.litefs_tool.specs.declared.files.Database.{Database};
 ghost use Rattle.litefs_tool.specs.declared.refusal.Refusal.{Refusal};
 
@@ -12,6 +14,16 @@ use ltx_codec::{one_earliest_fault, one_reading, text_breaks_no_rule};
 pub fn one_answer()
     ensures { (database : Database) (bytes : List ℕ) (answer other : Result DatabaseImage Refusal) → AreBytes bytes
         → Applies database bytes answer → Applies database bytes other → answer ≡ other }
+{
+    one_reading();
+    text_breaks_no_rule();
+    one_earliest_fault();
+}
+
+/// Compacting the files in some bytes comes to one text, or to one refusal.
+pub fn one_compaction()
+    ensures { (bytes : List ℕ) (answer other : Result (List ℕ) CompactRefusal) → AreBytes bytes
+        → CompactsTo bytes answer → CompactsTo bytes other → answer ≡ other }
 {
     one_reading();
     text_breaks_no_rule();

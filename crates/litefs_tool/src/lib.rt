@@ -21,7 +21,7 @@ pub use compact_refusal::CompactRefusal;
 pub use compaction::compact_files;
 pub use files::apply_files;
 pub use host::Host;
-pub use laws::one_answer;
+pub use laws::{one_answer, one_compaction};
 pub use refusal::Refusal;
 pub use top_call::run;
 

@@ -1,4 +1,4 @@
-use Rattle.std.proofs.Common.{length, map, arith}
+use Rattle.std.proofs.Common.{arith}
 use Rattle.litefs_tool.proofs.CompactionLemmas.{page-read}
 use Rattle.litefs_tool.proofs.PageLemmas.{joined-page}
 use Rattle.litefs_tool.proofs.compaction.pages_sum.Goals as goal
