@@ -7,3 +7,4 @@ pub mod Block
 pub mod Trailer
 pub mod Decoding
 pub mod Feeding
+pub mod Reading
