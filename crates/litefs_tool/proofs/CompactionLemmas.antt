@@ -1,15 +1,18 @@
 -- Reading the texts of files one after another, and what they become.
-use Rattle.std.proofs.Common.{◌≡◌, ℕ, ◌<◌, Option, Some, suc, Result, Ok, Err, List, [], ◌∷◌, ◌++◌, inl, inr, length, map, take, drop, get_or, refl, sym, ◌∙◌, ap, subst, arith, append_assoc, append-nil}
-use Rattle.std.specs.List.{All, slice_get}
+use Rattle.std.proofs.Common.{◌≡◌, ◌≢◌, ℕ, ◌<◌, Option, Some, suc, Result, Ok, Err, List, [], ◌∷◌, ◌++◌, inl, inr, length, map, get_or, refl, sym, ◌∙◌, ap, subst, arith, append_assoc, append-nil, length-append}
+use Rattle.std.specs.List.{slice_get}
 use Rattle.std.specs.Result.{IfErr, IsErrAnd}
-use Rattle.std.proofs.lemmas.List.{take-append-drop}
 use Rattle.std.proofs.lemmas.List.Elements.{All-push}
 use Rattle.std.proofs.lemmas.List.FromFn.{length-range_with_len}
 use Rattle.std.specs.Option.{option_map}
 use Rattle.std.proofs.lemmas.Option.{slice_get-map, slice_get_read}
 use Rattle.lf_sqlite_pages.specs.declared.page_write.PageWrite.{PageWrite}
 use Rattle.ltx_codec.specs.Format.{IsFile, IsLtx}
-use Rattle.ltx_codec.specs.Places.{IsEarliest, IsRefused, StandsInside}
+use Rattle.ltx_codec.specs.Places.{IsEarliest}
+use Rattle.ltx_codec.specs.Reading.{HasBegun, IsRefusedAt}
+use Rattle.ltx_codec.specs.declared.file_reader.FileReader.{FileReader}
+use Rattle.ltx_codec.proofs.AgreeLemmas.{fault_stays_lem}
+use Rattle.ltx_codec.proofs.NumberLemmas.{found_there, found_inside}
 use Rattle.ltx_codec.specs.declared.fault.LtxFault.{LtxFault}
 use Rattle.ltx_codec.specs.declared.fault.LtxFault.TheVariants as ltx
 use Rattle.ltx_codec.specs.declared.file.Ltx.{Ltx}
@@ -17,8 +20,10 @@ use Rattle.ltx_compact.specs.Compaction.{HasSnapshotSum, IsFileButSum}
 use Rattle.ltx_compact.specs.Joining.{IsWhy}
 use Rattle.ltx_compact.specs.declared.fault.CompactFault.{CompactFault}
 use Rattle.ltx_compact.specs.declared.fault.CompactFault.TheVariants as list
-use Rattle.litefs_tool.specs.Compaction.{AreTexts, MayRefuse}
-use Rattle.litefs_tool.specs.CompactRefusal.{of_ltx, of_list}
+use Rattle.litefs_tool.specs.Compaction.{AreTexts, BreaksOff, MayRefuse}
+use Rattle.litefs_tool.specs.Gathering.{HaveTexts, HasGathered}
+use Rattle.litefs_tool.specs.declared.gathering.Gathered.{Gathered}
+use Rattle.litefs_tool.specs.CompactRefusal.{of_list}
 use Rattle.litefs_tool.specs.declared.compact_refusal.CompactRefusal.{CompactRefusal}
 use Rattle.litefs_tool.specs.declared.compact_refusal.CompactRefusal.TheVariants as refusal
 
@@ -35,66 +40,80 @@ AreTexts-more front text file (first ∷ files) texts is = (
   AreTexts-more texts.1 text file files texts.4 is,
 )
 
--- these files were read, and the rest is left
-pub record ReadSoFar (bytes rest : List ℕ) (files : List Ltx) : Type 0 where
-  pub front : List ℕ
-  pub split : bytes ≡ front ++ rest
-  pub texts : AreTexts front files
-  pub valid : All IsFile files
+-- no file ends in the piece
+HaveTexts-more : (files : List Ltx) (text bytes piece : List ℕ) → HaveTexts files text bytes → HaveTexts files (text ++ piece) (bytes ++ piece)
+HaveTexts-more files text bytes piece so_far = record {
+  front = so_far.front;
+  split = ap (λ (l : List ℕ). l ++ piece) so_far.split ∙ append_assoc so_far.front text piece;
+  texts = so_far.texts;
+  valid = so_far.valid;
+}
 
-pub ReadSoFar-none : (bytes : List ℕ) → ReadSoFar bytes bytes []
-ReadSoFar-none bytes = record { front = []; split = refl; texts = refl; valid = λ k d h. absurd (omega arith) }
+pub HasGathered-more : (gathered : Gathered) (reader : FileReader) (bytes piece : List ℕ) (so_far : HasGathered gathered bytes) →
+    HasBegun reader (so_far.text ++ piece) → HasGathered (record { reader = reader; files = gathered.files }) (bytes ++ piece)
+HasGathered-more gathered reader bytes piece so_far begun = record {
+  text = so_far.text ++ piece;
+  begun = begun;
+  have = HaveTexts-more gathered.files.items so_far.text bytes piece so_far.have;
+}
 
-pub ReadSoFar-more : (bytes rest : List ℕ) (files : List Ltx) (file : Ltx) (used : ℕ) → ReadSoFar bytes rest files → IsLtx (take used rest) file →
-    ReadSoFar bytes (drop used rest) (files ++ file ∷ [])
-ReadSoFar-more bytes rest files file used so_far is = record {
-  front = so_far.front ++ take used rest;
-  split = so_far.split ∙ ap (λ (l : List ℕ). so_far.front ++ l) (sym (take-append-drop used rest))
-      ∙ sym (append_assoc so_far.front (take used rest) (drop used rest));
-  texts = AreTexts-more so_far.front (take used rest) file files so_far.texts is;
+-- the file that was begun ends
+pub HaveTexts-file : (files : List Ltx) (text bytes part : List ℕ) (file : Ltx) → HaveTexts files text bytes → IsLtx (text ++ part) file →
+    HaveTexts (files ++ file ∷ []) [] (bytes ++ part)
+HaveTexts-file files text bytes part file so_far is = record {
+  front = so_far.front ++ (text ++ part);
+  split = ap (λ (l : List ℕ). l ++ part) so_far.split ∙ append_assoc so_far.front text part ∙ sym (append-nil (so_far.front ++ (text ++ part)));
+  texts = AreTexts-more so_far.front (text ++ part) file files so_far.texts is;
   valid = All-push IsFile files file so_far.valid is.valid;
 }
 
--- where nothing is left, all was read
-pub AreTexts-whole : (bytes rest : List ℕ) (files : List Ltx) → ReadSoFar bytes rest files → rest ≡ [] → AreTexts bytes files
-AreTexts-whole bytes rest files so_far none =
-    let all : so_far.front ≡ bytes = sym (so_far.split ∙ ap (λ (l : List ℕ). so_far.front ++ l) none ∙ append-nil so_far.front) in
-    let P : List ℕ → Type 0 = λ l. AreTexts l files in
-    subst P all so_far.texts
+-- the text of the file that is begun has a fault, whatever follows
+pub stays-broken : (files : List Ltx) (text bytes piece : List ℕ) (f : LtxFault) → HaveTexts files text bytes → IsRefusedAt (text ++ piece) f →
+    f ≢ ltx.NoMemory → 0 < length piece → (tail : List ℕ) → BreaksOff ((bytes ++ piece) ++ tail) f
+stays-broken files text bytes piece f so_far cause lasts some tail =
+    elim cause [
+      | inl memory ↦ absurd (lasts memory)
+      | inr found ↦
+          let longer = HaveTexts-more files (text ++ piece) (bytes ++ piece) tail (HaveTexts-more files text bytes piece so_far) in
+          record {
+            front = longer.front;
+            rest = (text ++ piece) ++ tail;
+            files = files;
+            split = longer.split;
+            texts = longer.texts;
+            more = omega (arith, some, length-append (text ++ piece) tail, length-append text piece);
+            broken = fault_stays_lem (text ++ piece) tail f found.1 (found_there f found.0) (found_inside f found.0);
+            inside = found_inside f found.0;
+          }
+    ]
+
+-- where nothing follows, a fault that was kept is the answer
+pub MayRefuse-kept : (bytes : List ℕ) (f : LtxFault) → ((tail : List ℕ) → BreaksOff (bytes ++ tail) f) → MayRefuse bytes (refusal.Ltx f)
+MayRefuse-kept bytes f stands = let P : List ℕ → Type 0 = λ l. BreaksOff l f in inr (subst P (append-nil bytes) (stands []))
+
+some-bytes : (text : List ℕ) → text ≢ [] → 0 < length text
+some-bytes [] some = absurd (some refl)
+some-bytes (b ∷ bs) some = omega arith
+
+-- a file is begun at the end
+pub MayRefuse-short : (gathered : Gathered) (bytes : List ℕ) (so_far : HasGathered gathered bytes) → so_far.text ≢ [] → IsEarliest so_far.text ltx.Short →
+    MayRefuse bytes (refusal.Ltx ltx.Short)
+MayRefuse-short gathered bytes so_far some first = inr (record {
+  front = so_far.have.front;
+  rest = so_far.text;
+  files = gathered.files.items;
+  split = so_far.have.split;
+  texts = so_far.have.texts;
+  more = some-bytes so_far.text some;
+  broken = first;
+  inside = tt;
+})
 
 -- an answer that passes on why
 pub passed-on : {T : Type 0} (bytes : List ℕ) (why : CompactRefusal) (result : Result T CompactRefusal) → IsErrAnd result (λ f. f ≡ why) →
     MayRefuse bytes why → IfErr result (MayRefuse bytes)
 passed-on bytes why (Ok done) is known = absurd is
 passed-on bytes why (Err f) is known = let P : CompactRefusal → Type 0 = λ g. MayRefuse bytes g in subst P (sym is) known
-
--- the earliest fault of the rest
-refused-as : (bytes rest : List ℕ) (files : List Ltx) (f : LtxFault) → ReadSoFar bytes rest files → 0 < length rest →
-    IsEarliest rest f → StandsInside f → of_ltx f ≡ refusal.Ltx f → MayRefuse bytes (of_ltx f)
-refused-as bytes rest files f so_far more first inside named =
-    let P : CompactRefusal → Type 0 = λ why. MayRefuse bytes why in
-    subst P (sym named) (inr (record {
-      front = so_far.front;
-      rest = rest;
-      files = files;
-      split = so_far.split;
-      texts = so_far.texts;
-      more = more;
-      broken = first;
-      inside = inside;
-    }))
-
-named-ltx : (rest : List ℕ) (f : LtxFault) → IsEarliest rest f → of_ltx f ≡ refusal.Ltx f
-named-ltx rest ltx.NoMemory first = absurd first.broken.breaks
-named-ltx rest f first = refl
-
-pub MayRefuse-broken : (bytes rest : List ℕ) (files : List Ltx) (f : LtxFault) → ReadSoFar bytes rest files → 0 < length rest →
-    IsRefused rest f → StandsInside f → MayRefuse bytes (of_ltx f)
-MayRefuse-broken bytes rest files f so_far more cause inside =
-    elim cause [
-      | inl memory ↦ inl (ap of_ltx memory)
-      | inr first ↦ refused-as bytes rest files f so_far more first inside (named-ltx rest f first)
-    ]
 
 -- files that do not join
 pub MayRefuse-list : (bytes : List ℕ) (files : List Ltx) (f : CompactFault) → AreTexts bytes files → IsWhy files f → MayRefuse bytes (of_list f)

@@ -1,8 +1,10 @@
 pub mod AnswerLemmas
+pub mod ApplyingLemmas
 pub mod CompactionLemmas
 pub mod CompactionOnce
-pub mod FileLemmas
+pub mod InputLemmas
 pub mod OutputLemmas
 pub mod PageLemmas
 pub mod PerformLemmas
+pub mod TakerLemmas
 pub mod WholeChange

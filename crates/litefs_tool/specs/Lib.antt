@@ -1,8 +1,10 @@
+pub mod Applying
 pub mod Command
 pub mod CompactRefusal
 pub mod Compaction
 pub mod Failure
 pub mod Files
+pub mod Gathering
 pub mod Input
 pub mod Output
 pub mod Performing

@@ -1,14 +1,15 @@
 //! LTX files that become one.
-ghost use Rattle.std.specs.Prelude.{◌≡◌, ◌∷◌, ◌++◌, [], All, IfOk, OnOk, IfErr, MatchOption, length, map};
+ghost use Rattle.std.specs.Prelude.{◌≡◌, List, ℕ, All, IfOk, IfErr, MatchOption, length, map};
 ghost use Rattle.page_checksum.specs.Sums.{database_sum};
 ghost use Rattle.ltx_codec.specs.Format.{IsFile};
 ghost use Rattle.ltx_compact.specs.Compaction.{IsFileButSum};
-ghost use Rattle.litefs_tool.specs.Compaction.{AreTexts, MayRefuse, BecomesText, SaysOtherSum};
+ghost use Rattle.litefs_tool.specs.Compaction.{AreTexts, Become, MayRefuse, BecomesText, SaysOtherSum};
 
 use crate::compact_refusal::CompactRefusal;
-use lf_base::NoMemory;
+use crate::gathering::Gathering;
+use crate::taker::take_all;
 use lf_sqlite_pages::Change;
-use ltx_codec::{Ltx, decode_first, encode};
+use ltx_codec::{Ltx, encode};
 use ltx_compact::compact;
 use page_checksum::page_sum;
 use std::alloc::Global;
@@ -16,14 +17,23 @@ use std::alloc::Global;
 /// Bit 63, which every sum carries.
 const FLAG: u64 = 1 << 63;
 
-/// The text of the one file that LTX files become, one after another. A snapshot's sum is looked at
-/// before anything is encoded.
+/// The text of the one file that LTX files become, one after another.
 pub fn compact_files(alloc: Global, bytes: &[u8]) -> Result<Vec<u8>, CompactRefusal>
     ensures ok { IfOk result (λ out. BecomesText bytes.now out.items) }
     ensures refused { IfErr result (MayRefuse bytes.now) }
 {
-    let files = read_files(alloc, bytes)?;
-    let file = compact(alloc, files.as_slice())?;
+    let files = take_all(Gathering::new(alloc)?, bytes)?.finish()?;
+    text_of_one(alloc, files)
+}
+
+/// The text of the one file that files become. A snapshot's sum is looked at before anything is
+/// encoded.
+pub fn text_of_one(alloc: Global, files: Vec<Ltx>) -> Result<Vec<u8>, CompactRefusal>
+    requires { All IsFile files.items }
+    ensures ok { (bytes : List ℕ) → AreTexts bytes files.items → IfOk result (λ out. BecomesText bytes out.items) }
+    ensures refused { (bytes : List ℕ) → AreTexts bytes files.items → IfErr result (MayRefuse bytes) }
+{
+    let file = one_file(alloc, files)?;
     if let Some((want, got)) = other_sum(&file) {
         return Err(CompactRefusal::SumDiffers { want, got });
     }
@@ -32,28 +42,14 @@ pub fn compact_files(alloc: Global, bytes: &[u8]) -> Result<Vec<u8>, CompactRefu
     Ok(out)
 }
 
-/// The files whose texts the bytes are, one after another.
-fn read_files(alloc: Global, bytes: &[u8]) -> Result<Vec<Ltx>, CompactRefusal>
-    ensures texts { IfOk result (λ files. AreTexts bytes.now files.items) }
-    ensures valid { IfOk result (λ files. All IsFile files.items) }
-    ensures refused { IfErr result (MayRefuse bytes.now) }
+/// The one file that files become, which are not held longer.
+fn one_file(alloc: Global, files: Vec<Ltx>) -> Result<Ltx, CompactRefusal>
+    requires { All IsFile files.items }
+    ensures ok { (bytes : List ℕ) → AreTexts bytes files.items → IfOk result (Become bytes) }
+    ensures sound { IfOk result IsFileButSum }
+    ensures refused { (bytes : List ℕ) → AreTexts bytes files.items → IfErr result (MayRefuse bytes) }
 {
-    let mut files = Vec::new(alloc);
-    let mut rest = bytes;
-    while !rest.is_empty() {
-        let (file, used) = decode_first(alloc, rest)?;
-        add(&mut files, file)?;
-        let (_, others) = rest.split_at(used);
-        rest = others;
-    }
-    Ok(files)
-}
-
-fn add(files: &mut Vec<Ltx>, file: Ltx) -> Result<(), NoMemory>
-    ensures { OnOk result (files.new.items ≡ files.old.items ++ file ∷ []) }
-{
-    files.push(file)?;
-    Ok(())
+    Ok(compact(alloc, files.as_slice())?)
 }
 
 /// The sum that a snapshot says and that of its pages, where they differ.

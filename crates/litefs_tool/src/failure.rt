@@ -5,7 +5,7 @@ ghost use Rattle.litefs_tool.specs.declared.failure.Failure.TheVariants as failu
 use crate::compact_refusal::CompactRefusal;
 use crate::input::InputFault;
 use crate::refusal::Refusal;
-use lf_base::{Failed, Status};
+use lf_base::{Failed, NoMemory, Status};
 
 /// Why a run ends before its output is whole.
 #[derive(Clone, Copy, Debug, PartialEq, Eq)]
@@ -20,6 +20,16 @@ pub enum Failure {
     Compaction(CompactRefusal),
     /// The output failed.
     Output,
+}
+
+impl From<NoMemory> for Failure {
+    ghost use Rattle.litefs_tool.specs.declared.input.InputFault.TheVariants as fault;
+
+    ghost from_gives = { λ _ f. f ≡ failure.Input fault.NoMemory };
+
+    fn from(_want: NoMemory) -> Failure {
+        Failure::Input(InputFault::NoMemory)
+    }
 }
 
 impl From<InputFault> for Failure {

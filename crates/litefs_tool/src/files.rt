@@ -1,5 +1,5 @@
 //! A database while LTX files are applied to it, one after another.
-ghost use Rattle.std.specs.Prelude.{◌≡◌, ◌≤◌, ◌↔◌, ◌⊎◌, IsTrue, OnOk, IfErr};
+ghost use Rattle.std.specs.Prelude.{◌≡◌, ◌≤◌, ◌↔◌, ◌⊎◌, IsTrue, OnOk, IfOk, IfErr};
 ghost use Rattle.page_checksum.specs.Sums.{database_sum};
 ghost use Rattle.lf_sqlite_pages.specs.Change.{HoldsEveryPage};
 ghost use Rattle.lf_sqlite_pages.specs.Apply.{Fits};
@@ -7,10 +7,12 @@ ghost use Rattle.ltx_codec.specs.Format.{IsFile};
 ghost use Rattle.litefs_tool.specs.Position as position;
 ghost use Rattle.litefs_tool.specs.Files.{MakesOf, never_written, Joins, after, Refuses};
 
+use crate::applying::Applying;
 use crate::refusal::Refusal;
+use crate::taker::take_all;
 use lf_base::Pos;
 use lf_sqlite_pages::{Change, Image};
-use ltx_codec::{Ltx, decode_first};
+use ltx_codec::Ltx;
 use page_checksum::page_sum;
 use std::alloc::Global;
 
@@ -29,22 +31,11 @@ pub struct Database {
 pub fn apply_files(alloc: Global, bytes: &[u8]) -> Result<Image, Refusal>
     ensures { MakesOf bytes.now result }
 {
-    let mut database = Database::new(alloc);
-    let mut rest = bytes;
-    loop {
-        let (file, used) = decode_first(alloc, rest)?;
-        database.apply(&file)?;
-        let (_, others) = rest.split_at(used);
-        if others.is_empty() {
-            let Database { image, pos: _ } = database;
-            return Ok(image);
-        }
-        rest = others;
-    }
+    take_all(Applying::new(alloc)?, bytes)?.finish()
 }
 
 impl Database {
-    fn new(alloc: Global) -> Database
+    pub fn new(alloc: Global) -> Database
         ensures { result ≡ never_written }
     {
         Database {
@@ -53,29 +44,32 @@ impl Database {
         }
     }
 
-    /// Applies a file. After a refusal nothing is promised of the database.
-    fn apply(&mut self, file: &Ltx) -> Result<(), Refusal>
-        requires { IsFile file.now }
-        ensures joins { OnOk result (Joins self.old file.now) }
-        ensures ok { OnOk result (self.new ≡ after self.old file.now) }
-        ensures refused { IfErr result (λ why. (why ≡ Refusal.NoMemory) ⊎ Refuses self.old file.now why) }
+    /// The database after a file.
+    pub fn apply(self, file: Ltx) -> Result<Database, Refusal>
+        requires { IsFile file }
+        ensures joins { OnOk result (Joins self file) }
+        ensures ok { IfOk result (λ now. now ≡ after self file) }
+        ensures refused { IfErr result (λ why. (why ≡ Refusal.NoMemory) ⊎ Refuses self file why) }
     {
-        let have = self.pos;
-        let want = position_before(file);
+        let Database {
+            mut image,
+            pos: have,
+        } = self;
+        let want = position_before(&file);
         if want != have {
             return Err(Refusal::NotNext { have, want });
         }
-        if !fits(&self.image, &file.change) {
+        if !fits(&image, &file.change) {
             return Err(Refusal::PageSize);
         }
-        self.image.apply(&file.change)?;
+        image.apply(&file.change)?;
         let want = file.post;
-        let got = image_sum(&self.image);
+        let got = image_sum(&image);
         if want != got {
             return Err(Refusal::SumDiffers { want, got });
         }
-        self.pos = position_after(file);
-        Ok(())
+        let pos = position_after(&file);
+        Ok(Database { image, pos })
     }
 }
 

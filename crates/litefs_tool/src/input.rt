@@ -1,9 +1,10 @@
-//! An input read whole, up to a limit.
-ghost use Rattle.std.specs.Prelude.{◌≡◌, ◌<◌, length, vec_len, IfOk, IfErr};
-ghost use Rattle.litefs_tool.specs.Input.{ReadsWhole, LosesBytes, CountsReads};
+//! An input read to its end, up to a limit.
+ghost use Rattle.std.specs.Prelude.{◌≡◌, ◌<◌, [], length, vec_len, IfOk, IfErr};
+ghost use Rattle.litefs_tool.specs.Input.{HasTakenWhole, LosesBytes, CountsReads};
 ghost use Rattle.litefs_tool.specs.declared.input.InputFault.TheVariants as fault;
 
-use lf_base::{Failed, Source};
+use crate::taker::{Taker, take_all};
+use lf_base::{Failed, NoMemory, Source};
 use std::alloc::{AllocError, Global};
 
 /// Why an input was not read whole.
@@ -32,19 +33,30 @@ impl From<AllocError> for InputFault {
     }
 }
 
-/// Reads a source to its end. A source with more bytes than the limit is read until that is known.
-/// After a fault of the source, or want of memory, what was read is lost.
-pub fn read_whole<S: Source>(
+impl From<NoMemory> for InputFault {
+    ghost from_gives = { λ _ e. e ≡ fault.NoMemory };
+
+    fn from(_want: NoMemory) -> InputFault {
+        InputFault::NoMemory
+    }
+}
+
+/// Reads a source to its end, and gives each piece to the taker as it comes. A source with more
+/// bytes than the limit is read until that is known. After a fault of the source, or want of
+/// memory, what was taken is lost.
+pub fn read_to_end<S: Source, T: Taker>(
     alloc: Global,
     source: &mut S,
     limit: usize,
-) -> Result<Vec<u8>, InputFault>
-    ensures whole { IfOk result (λ bytes. ReadsWhole limit (S.left source.old) (S.left source.new) bytes.items) }
+    taker: T,
+) -> Result<T, InputFault>
+    requires { T.has_taken taker [] }
+    ensures whole { IfOk result (λ after. HasTakenWhole (T.has_taken after) limit (S.left source.old) (S.left source.new)) }
     ensures lost { IfErr result (LosesBytes limit (S.left source.old) (S.left source.new)) }
     ensures cause { CountsReads (S.faults source.old) (S.faults source.new) result }
 {
     let mut piece = new_piece(alloc)?;
-    read_pieces(alloc, source, limit, piece.as_mut_slice())
+    read_pieces(source, limit, piece.as_mut_slice(), taker)
 }
 
 /// How many bytes are asked for at a time.
@@ -56,24 +68,29 @@ fn new_piece(alloc: Global) -> Result<Vec<u8>, AllocError>
     vec![in alloc; 0u8; PIECE]
 }
 
-fn read_pieces<S: Source>(
-    alloc: Global,
+fn read_pieces<S: Source, T: Taker>(
     source: &mut S,
     limit: usize,
     piece: &mut [u8],
-) -> Result<Vec<u8>, InputFault>
-    requires { 0 < length piece.old }
-    ensures whole { IfOk result (λ bytes. ReadsWhole limit (S.left source.old) (S.left source.new) bytes.items) }
+    taker: T,
+) -> Result<T, InputFault>
+    requires some { 0 < length piece.old }
+    requires none { T.has_taken taker [] }
+    ensures whole { IfOk result (λ after. HasTakenWhole (T.has_taken after) limit (S.left source.old) (S.left source.new)) }
     ensures lost { IfErr result (LosesBytes limit (S.left source.old) (S.left source.new)) }
     ensures cause { CountsReads (S.faults source.old) (S.faults source.new) result }
 {
-    let mut bytes = Vec::new(alloc);
-    while bytes.len() <= limit {
+    let mut taker = taker;
+    let mut room = limit;
+    loop {
         let count = source.read(piece)?;
         if count == 0 {
-            return Ok(bytes);
+            return Ok(taker);
         }
-        bytes.extend_from_slice(&piece[..count])?;
+        if room < count {
+            return Err(InputFault::TooLong);
+        }
+        room -= count;
+        taker = take_all(taker, &piece[..count])?;
     }
-    Err(InputFault::TooLong)
 }

@@ -4,17 +4,20 @@
 //! said in the specifications `Run`; what applying LTX files comes to, in `Files`.
 #![tactic(auto)]
 
+mod applying;
 mod command;
 mod compact_refusal;
 mod compaction;
 mod failure;
 mod files;
+mod gathering;
 mod host;
 mod input;
 mod laws;
 mod output;
 mod refusal;
 mod report;
+mod taker;
 mod top_call;
 
 pub use compact_refusal::CompactRefusal;

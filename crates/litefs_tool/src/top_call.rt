@@ -2,12 +2,13 @@
 ghost use Rattle.litefs_tool.specs.Run.{Run, AppliesInput, CompactsInput, ComesTo, Went, stream};
 ghost use Rattle.litefs_tool.specs.Performing.{Performs};
 
+use crate::applying::Applying;
 use crate::command::{Command, read_words};
-use crate::compaction::compact_files;
+use crate::compaction::text_of_one;
 use crate::failure::Failure;
-use crate::files::apply_files;
+use crate::gathering::Gathering;
 use crate::host::Host;
-use crate::input::read_whole;
+use crate::input::read_to_end;
 use crate::output::{write_image, write_whole};
 use crate::report::report;
 use lf_base::{Sink, Source, Status, Text};
@@ -60,8 +61,8 @@ fn perform<I: Source, O: Sink>(
 fn apply<I: Source, O: Sink>(alloc: Global, input: &mut I, output: &mut O) -> Result<(), Failure>
     ensures { Performs AppliesInput (stream I.left I.faults input.old input.new) (stream O.taken O.faults output.old output.new) result }
 {
-    let bytes = read_whole(alloc, input, INPUT_LIMIT)?;
-    let image = apply_files(alloc, bytes.as_slice())?;
+    let applying = read_to_end(alloc, input, INPUT_LIMIT, Applying::new(alloc)?)?;
+    let image = applying.finish()?;
     write_image(output, &image)?;
     Ok(())
 }
@@ -71,8 +72,8 @@ fn apply<I: Source, O: Sink>(alloc: Global, input: &mut I, output: &mut O) -> Re
 fn compact<I: Source, O: Sink>(alloc: Global, input: &mut I, output: &mut O) -> Result<(), Failure>
     ensures { Performs CompactsInput (stream I.left I.faults input.old input.new) (stream O.taken O.faults output.old output.new) result }
 {
-    let bytes = read_whole(alloc, input, INPUT_LIMIT)?;
-    let text = compact_files(alloc, bytes.as_slice())?;
+    let gathering = read_to_end(alloc, input, INPUT_LIMIT, Gathering::new(alloc)?)?;
+    let text = text_of_one(alloc, gathering.finish()?)?;
     write_whole(output, text.as_slice())?;
     Ok(())
 }

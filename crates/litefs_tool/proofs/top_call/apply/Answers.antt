@@ -1,10 +1,17 @@
+use Rattle.std.proofs.Common.{refl}
+use Rattle.litefs_tool.specs.declared.input.InputFault.TheVariants as fault
+use Rattle.litefs_tool.proofs.InputLemmas.{LosesBytes-none}
 use Rattle.litefs_tool.proofs.PerformLemmas.{Performs-unread, Performs-refused}
 use Rattle.litefs_tool.proofs.top_call.apply.Goals as goal
 
-pub returns-in_err-bytes : goal.returns-in_err-bytes
-returns-in_err-bytes g c = Performs-unread _ _ _ _ _ c.in_err-bytes.ensures.lost c.in_err-bytes.ensures.cause c.from_residual.ensures.1
+pub returns-in_err-new : goal.returns-in_err-new
+returns-in_err-new g c = Performs-unread _ _ _ fault.NoMemory _ (LosesBytes-none _ _) refl c.from_residual.ensures.1
+
+pub returns-in_err-applying : goal.returns-in_err-applying
+returns-in_err-applying g c = Performs-unread _ _ _ _ _ c.in_err-applying.ensures.lost c.in_err-applying.ensures.cause
+    c.from_residual-in_err-applying.ensures.1
 
 pub returns-in_err-image : goal.returns-in_err-image
 returns-in_err-image g c =
-    let makes = rw c.as_slice.ensures.value at c.in_err-image.ensures in
-    Performs-refused _ _ _ _ _ _ c.in_ok-bytes.ensures.whole c.in_ok-bytes.ensures.cause makes c.from_residual-in_err-image.ensures.1
+    let took = c.in_ok-applying.ensures.whole in
+    Performs-refused _ _ _ _ _ _ took.1 c.in_ok-applying.ensures.cause (c.in_err-image.ensures took.0 took.2) c.from_residual-in_err-image.ensures.1

@@ -1,17 +1,33 @@
+use Rattle.std.proofs.Common.{refl}
+use Rattle.litefs_tool.specs.declared.input.InputFault.TheVariants as fault
+use Rattle.litefs_tool.proofs.InputLemmas.{LosesBytes-none}
 use Rattle.litefs_tool.proofs.PerformLemmas.{Performs-unread_files, Performs-kept_apart, Performs-unwritten}
 use Rattle.litefs_tool.proofs.top_call.compact.Goals as goal
 
-pub returns-in_err-bytes : goal.returns-in_err-bytes
-returns-in_err-bytes g c = Performs-unread_files _ _ _ _ _ c.in_err-bytes.ensures.lost c.in_err-bytes.ensures.cause c.from_residual.ensures.1
+pub returns-in_err-new : goal.returns-in_err-new
+returns-in_err-new g c = Performs-unread_files _ _ _ fault.NoMemory _ (LosesBytes-none _ _) refl c.from_residual.ensures.1
+
+pub returns-in_err-gathering : goal.returns-in_err-gathering
+returns-in_err-gathering g c = Performs-unread_files _ _ _ _ _ c.in_err-gathering.ensures.lost c.in_err-gathering.ensures.cause
+    c.from_residual-in_err-gathering.ensures.1
+
+pub returns-in_err-finish : goal.returns-in_err-finish
+returns-in_err-finish g c =
+    let took = c.in_ok-gathering.ensures.whole in
+    Performs-kept_apart _ _ _ _ _ _ took.1 c.in_ok-gathering.ensures.cause (c.in_err-finish.ensures.refused took.0 took.2)
+    c.from_residual-in_err-finish.ensures.1
 
 pub returns-in_err-text : goal.returns-in_err-text
 returns-in_err-text g c =
-    let may = rw c.as_slice.ensures.value at c.in_err-text.ensures.refused in
-    Performs-kept_apart _ _ _ _ _ _ c.in_ok-bytes.ensures.whole c.in_ok-bytes.ensures.cause may c.from_residual-in_err-text.ensures.1
+    let took = c.in_ok-gathering.ensures.whole in
+    let texts = c.in_ok-finish.ensures.texts took.0 took.2 in
+    Performs-kept_apart _ _ _ _ _ _ took.1 c.in_ok-gathering.ensures.cause (c.in_err-text.ensures.refused took.0 texts)
+    c.from_residual-in_err-text.ensures.1
 
 pub returns-in_err-write_whole : goal.returns-in_err-write_whole
 returns-in_err-write_whole g c =
-    let becomes = rw c.as_slice.ensures.value at c.in_ok-text.ensures.ok in
-    let front = rw c.as_slice-2.ensures.value at c.in_err-write_whole.ensures.front in
-    Performs-unwritten _ _ _ _ _ c.in_ok-bytes.ensures.whole c.in_ok-bytes.ensures.cause becomes front c.in_err-write_whole.ensures.cause
-    c.from_residual-in_err-write_whole.ensures.1
+    let took = c.in_ok-gathering.ensures.whole in
+    let texts = c.in_ok-finish.ensures.texts took.0 took.2 in
+    let front = rw c.as_slice.ensures.value at c.in_err-write_whole.ensures.front in
+    Performs-unwritten _ _ _ _ _ took.1 c.in_ok-gathering.ensures.cause (c.in_ok-text.ensures.ok took.0 texts) front
+    c.in_err-write_whole.ensures.cause c.from_residual-in_err-write_whole.ensures.1

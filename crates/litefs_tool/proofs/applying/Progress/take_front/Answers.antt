@@ -1,0 +1,26 @@
+use Rattle.std.proofs.Common.{take}
+use Rattle.std.proofs.Math.Seq.{take-length}
+use Rattle.litefs_tool.proofs.ApplyingLemmas.{HasApplied-more, stays-broken, some-taken}
+use Rattle.litefs_tool.proofs.applying.Progress.take_front.Goals as goal
+
+pub returns-in-Ok-None-clause-taken : goal.returns-in-Ok-None-clause-taken
+returns-in-Ok-None-clause-taken c = λ before so_far.
+    let begun = rw c.in-Ok-None.field-0-is at (c.in-Ok-None.ensures.gives so_far.text so_far.begun) in
+    rw take-length (HasApplied-more c.args.self _ before c.args.bytes.now so_far begun c.requires.more)
+
+pub returns-in_ok-apply-in-Ok-Some-clause-taken : goal.returns-in_ok-apply-in-Ok-Some-clause-taken
+returns-in_ok-apply-in-Ok-Some-clause-taken c = λ before so_far.
+    let reads = rw c.in-Ok-Some.field-0-is at (c.in-Ok-Some.ensures.gives so_far.text so_far.begun) in
+    c.in_ok-apply-in-Ok-Some.ensures before (take c.in-Ok-Some.used c.args.bytes.now) (record {
+      text = so_far.text;
+      begun = reads.3;
+      more = so_far.more;
+      some = some-taken c.in-Ok-Some.used c.args.bytes.now reads.0 reads.1;
+      whole = reads.2;
+    })
+
+pub returns-in_ok-kept-in-Err-clause-taken : goal.returns-in_ok-kept-in-Err-clause-taken
+returns-in_ok-kept-in-Err-clause-taken c = λ before so_far.
+    let cause = c.in-Err.ensures.gives so_far.text so_far.begun in
+    rw (c.in_ok-kept-in-Err.ensures.kept, take-length) (stays-broken c.args.self before c.args.bytes.now c.in-Err.fault _ so_far cause
+    c.requires.more c.from.ensures c.in_ok-kept-in-Err.ensures.not_memory)
