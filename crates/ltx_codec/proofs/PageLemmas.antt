@@ -75,7 +75,7 @@ sums_more n (p ∷ pages) page =
     ∙ sym (xor_assoc (page_sum_of n p) (joined (page_sums (n + 1) pages)) (page_sum_of (n + suc (length pages)) page))
 
 -- one more page in the change
-page_valid : (change : PageChange) (number : ℕ) (page : List ℕ) → IsChange change → FitsAtEnd change (record { number = number; bytes = page }) → IsChange (with_page change number page)
+pub page_valid : (change : PageChange) (number : ℕ) (page : List ℕ) → IsChange change → FitsAtEnd change (record { number = number; bytes = page }) → IsChange (with_page change number page)
 page_valid change number page valid fits = IsChange-push change change (record { number = number; bytes = page }) (change.pages ++ record { number = number; bytes = page } ∷ []) valid refl fits refl
 
 -- what is left and what is taken when a page is whole
