@@ -20,7 +20,7 @@ impl<R: Files<File = File> + AllocGlobal + Copy> Folder<R> {
         let path = String::from_str(rt.alloc(), path)?;
         let folder = Folder { rt, path };
         let transactions = folder.path_of("/ltx")?;
-        fs::create_dir_all(&rt, transactions.as_str())?;
+        make_folders(&rt, transactions.as_str())?;
         folder.sync_names("/ltx")?;
         folder.sync_names("")?;
         Ok(folder)
@@ -166,6 +166,28 @@ impl<R: Files<File = File> + AllocGlobal + Copy> Folder<R> {
         }
         Ok(names)
     }
+}
+
+/// Makes the folders of a path that are missing, the outermost first.
+fn make_folders<R: Files<File = File> + AllocGlobal + Copy>(rt: &R, path: &str) -> io::Result<()> {
+    for end in 1..path.len() {
+        if let Some((outer, rest)) = path.split_at_checked(end)
+            && rest.starts_with('/')
+        {
+            make_folder(rt, outer)?;
+        }
+    }
+    make_folder(rt, path)
+}
+
+/// Makes a folder where it is missing, and syncs the folder that has its name.
+fn make_folder<R: Files<File = File> + AllocGlobal + Copy>(rt: &R, path: &str) -> io::Result<()> {
+    if fs::exists(rt, path)? {
+        return Ok(());
+    }
+    fs::create_dir(rt, path)?;
+    let outer = format!(in rt.alloc(); "{path}/..")?;
+    fs::open(rt, outer.as_str())?.sync_all()
 }
 
 /// The name of a transaction file, None where the text is none.
