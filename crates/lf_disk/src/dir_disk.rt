@@ -30,7 +30,8 @@ pub struct DirDisk<R: Files<File = File> + AllocGlobal + Copy> {
 }
 
 impl<R: Files<File = File> + AllocGlobal + Copy> DirDisk<R> {
-    /// Opens a folder, which is made where it is missing.
+    /// Opens a folder, which is made where it is missing. What has the name of a folder that is made
+    /// is synced.
     pub fn open(rt: R, path: &str) -> Result<DirDisk<R>, Failed>
         ensures { IfOk result (λ disk. (disk.moment ≡ 0) × (disk.faults ≡ 0)) }
     {

@@ -214,6 +214,37 @@ fn every_field_survives(rt: HostRuntime) -> Result<(), Fail> {
     Ok(())
 }
 
+fn header_of(fields: &Fields) -> Header {
+    Header {
+        page_size: 512,
+        commit: fields.commit,
+        min: fields.txid,
+        max: fields.txid,
+        stamp: 0,
+        pre: fields.pre,
+        wal_offset: 0,
+        wal_size: 0,
+        wal_salt1: 0,
+        wal_salt2: 0,
+        node: 0,
+    }
+}
+
+#[test]
+fn a_file_is_written_part_by_part(rt: HostRuntime) -> Result<(), Fail> {
+    for fields in [SNAPSHOT, DELTA, EMPTY] {
+        let mut out = Vec::new(rt.alloc());
+        let mut encoder = Encoder::start(&header_of(&fields), &mut out)?;
+        if let Some(number) = fields.page {
+            encoder.page(number, &PAGE, &mut out)?;
+        }
+        encoder.finish(fields.post, &mut out).ok().ok_or("memory")?;
+        let bytes = text(rt.alloc(), &fields)?;
+        assert_eq!(rt; out.as_slice(), bytes.as_slice());
+    }
+    Ok(())
+}
+
 /// Each byte is a piece: the header, the page and the file end with the bytes that they end with.
 #[test]
 fn a_file_comes_byte_by_byte(rt: HostRuntime) -> Result<(), Fail> {

@@ -1,68 +1,97 @@
--- What files leave at a page, file by file and page by page.
-use Rattle.std.proofs.Common.{◌≡◌, ℕ, zero, suc, ◌+◌, ◌<◌, ◌≤◌, Option, Some, None, List, [], ◌++◌, length, take, get_or, refl, sym, ◌∙◌, ap, subst, arith, add-zero}
-use Rattle.std.specs.List.{filter_map, cons_option, range_with_len}
-use Rattle.std.proofs.lemmas.List.Sums.{fold_more}
-use Rattle.lf_sqlite_pages.specs.Change.{PageChange, last_number}
+-- What files leave at a page, from the last file to the first.
+use Rattle.std.proofs.Common.{◌≡◌, ℕ, Bool, true, false, ltb, eqb, cond, Option, Some, None, List, [], ◌∷◌, inl, inr, length, replicate, refl, sym, ◌∙◌, ap, subst, arith}
+use Rattle.std.specs.List.{All, fold}
+use Rattle.std.specs.Option.{IfSome, option_or}
+use Rattle.std.proofs.lemmas.Bool.{cases_eq}
+use Rattle.std.proofs.lemmas.Bool.Decides.{nat_tests}
+use Rattle.std.proofs.lemmas.List.{length-replicate}
+use Rattle.std.proofs.lemmas.List.Elements.{All-head, All-tail}
+use Rattle.lf_sqlite_pages.specs.Change.{IsChange, written}
 use Rattle.lf_sqlite_pages.specs.declared.page_write.PageWrite.{PageWrite}
 use Rattle.ltx_codec.specs.declared.file.Ltx.{Ltx}
-use Rattle.ltx_compact.specs.Compaction.{page_past, page_of, pages_of, write_of}
+use Rattle.ltx_compact.specs.Compaction.{page_past, page_of}
 
--- one more file
-pub page_of-more : (files : List Ltx) (i : ℕ) (file : Ltx) (n : ℕ) → i < length files → file ≡ get_or files i file →
-    page_of (take (i + 1) files) n ≡ page_past n (page_of (take i files) n) file
+-- nothing in place of nothing
+pub option_or-none : (o : Option (List ℕ)) → option_or o None ≡ o
+option_or-none None = refl
+option_or-none (Some x) = refl
+
+-- three pages, of which the first stands
+pub option_or_assoc : (o p q : Option (List ℕ)) → option_or (option_or o p) q ≡ option_or o (option_or p q)
+option_or_assoc None p q = refl
+option_or_assoc (Some x) p q = refl
+
+-- a page that a file leaves as it was
+past-kept : (b : Bool) (zeros : List ℕ) (w o : Option (List ℕ)) →
+    cond b (Some zeros) (option_or w o) ≡ option_or (cond b (Some zeros) (option_or w None)) o
+past-kept true zeros w o = refl
+past-kept false zeros None o = refl
+past-kept false zeros (Some x) o = refl
+
+-- the files decide before what was there
+fold-from : (n : ℕ) (o : Option (List ℕ)) (files : List Ltx) → fold (page_past n) o files ≡ option_or (fold (page_past n) None files) o
+fold-from n o [] = refl
+fold-from n o (file ∷ files) =
+    let left : List Ltx → Option (List ℕ) → Option (List ℕ) = λ fs p. fold (page_past n) p fs in
+    fold-from n (page_past n o file) files
+    ∙ ap (option_or (left files None)) (past-kept (ltb file.change.commit n) (replicate file.change.page_size 0) (written file.change.pages n) o)
+    ∙ sym (option_or_assoc (left files None) (page_past n None file) o)
+    ∙ ap (λ p. option_or p o) (sym (fold-from n (page_past n None file) files))
+
+-- the later files decide before an earlier one
+pub page_of-before : (file : Ltx) (later : List Ltx) (n : ℕ) → page_of (file ∷ later) n ≡ option_or (page_of later n) (page_past n None file)
 unfolding page_of
-page_of-more files i file n within read =
-    fold_more (page_past n) None files i file within ∙ ap (page_past n (page_of (take i files) n)) (sym read)
+page_of-before file later n = fold-from n (page_past n None file) later
 
 -- no file
 pub page_of-none : (n : ℕ) → page_of [] n ≡ None
 unfolding page_of
 page_of-none n = refl
 
--- an item before lists
-cons_option-append : {X : Type 0} (o : Option X) (xs ys : List X) → cons_option o (xs ++ ys) ≡ cons_option o xs ++ ys
-cons_option-append None xs ys = refl
-cons_option-append (Some x) xs ys = refl
+-- a page has a size, where it is there
+abbrev IsWhole : ℕ → Option (List ℕ) → Type 0
+IsWhole size page = IfSome page (λ bytes. length bytes ≡ size)
 
--- one more number at the end of a range
-filter_map-more : (h : ℕ → Option PageWrite) (a n : ℕ) →
-    filter_map h (range_with_len a (n + 1)) ≡ filter_map h (range_with_len a n) ++ cons_option (h (a + n)) []
-filter_map-more h a zero = rw add-zero refl
-filter_map-more h a (suc n) =
-    let more : suc n + 1 ≡ suc (n + 1) = omega arith in
-    let place : a + 1 + n ≡ a + suc n = omega arith in
-    let rest : filter_map h (range_with_len (a + 1) (n + 1)) ≡ filter_map h (range_with_len (a + 1) n) ++ cons_option (h (a + suc n)) [] =
-    filter_map-more h (a + 1) n ∙ ap (λ (k : ℕ). filter_map h (range_with_len (a + 1) n) ++ cons_option (h k) []) place
+-- a page that is written is whole
+written-whole : (size n : ℕ) (pages : List PageWrite) → All (λ w. length w.bytes ≡ size) pages → IsWhole size (written pages n)
+written-whole size n [] whole = tt
+written-whole size n (w ∷ ws) whole =
+    let here : length w.bytes ≡ size = All-head (λ (v : PageWrite). length v.bytes ≡ size) w ws whole in
+    let rest : IsWhole size (written ws n) = written-whole size n ws (All-tail (λ (v : PageWrite). length v.bytes ≡ size) w ws whole) in
+    elim (cases_eq w.number n) [
+      | inl same ↦
+          let test : eqb w.number n ≡ true = grind (arith, nat_tests) in
+          rw test here
+      | inr other ↦
+          let test : eqb w.number n ≡ false = grind (arith, nat_tests) in
+          rw test rest
+    ]
+
+-- so is one that a file leaves
+past-whole : (size : ℕ) (b : Bool) (zeros : List ℕ) (w : Option (List ℕ)) → length zeros ≡ size → IsWhole size w →
+    IsWhole size (cond b (Some zeros) (option_or w None))
+past-whole size true zeros w filled whole = filled
+past-whole size false zeros None filled whole = tt
+past-whole size false zeros (Some x) filled whole = whole
+
+-- and one of two that are
+or-whole : (size : ℕ) (o p : Option (List ℕ)) → IsWhole size o → IsWhole size p → IsWhole size (option_or o p)
+or-whole size None p first second = second
+or-whole size (Some x) p first second = first
+
+-- and a page that files leave
+pub page_of-whole : (files : List Ltx) (size n : ℕ) → All (λ file. file.change.page_size ≡ size) files → All (λ file. IsChange file.change) files →
+    IfSome (page_of files n) (λ bytes. length bytes ≡ size)
+page_of-whole [] size n sized sound = subst (IsWhole size) (sym (page_of-none n)) tt
+page_of-whole (file ∷ files) size n sized sound =
+    let same : file.change.page_size ≡ size = All-head (λ (f : Ltx). f.change.page_size ≡ size) file files sized in
+    let change : IsChange file.change = All-head (λ (f : Ltx). IsChange f.change) file files sound in
+    let P : ℕ → Type 0 = λ s. All (λ (w : PageWrite). length w.bytes ≡ s) file.change.pages in
+    let later : IsWhole size (page_of files n) =
+    page_of-whole files size n (All-tail (λ (f : Ltx). f.change.page_size ≡ size) file files sized) (All-tail (λ (f : Ltx). IsChange f.change) file files sound)
     in
-    rw (more, rest) (cons_option-append (h a) (filter_map h (range_with_len (a + 1) n)) (cons_option (h (a + suc n)) []))
-
--- one more page
-pub pages_of-more : (files : List Ltx) (count : ℕ) →
-    pages_of files (count + 1) ≡ pages_of files count ++ cons_option (write_of files (count + 1)) []
-unfolding pages_of
-pages_of-more files count =
-    let next : 1 + count ≡ count + 1 = omega arith in
-    filter_map-more (write_of files) 1 count ∙ ap (λ (k : ℕ). pages_of files count ++ cons_option (write_of files k) []) next
-
--- no page
-pub pages_of-none : (files : List Ltx) → pages_of files 0 ≡ []
-unfolding pages_of
-pages_of-none files = refl
-
--- a change without pages has those up to 0
-pub pages-begun : (change : PageChange) (files : List Ltx) → change.pages ≡ [] → change ≡ record change { pages = pages_of files 0 }
-pages-begun change files empty =
-    let with_pages : List PageWrite → PageChange = λ ps. record change { pages = ps } in
-    ap with_pages (empty ∙ sym (pages_of-none files))
-
--- and no last number
-pub last_number-begun : (pages : List PageWrite) → pages ≡ [] → last_number pages ≤ 0
-last_number-begun pages empty = let P : List PageWrite → Type 0 = λ ps. last_number ps ≤ 0 in subst P (sym empty) (omega arith)
-
--- a change with one more page
-pub pages-grown : (start now next : PageChange) (files : List Ltx) (n : ℕ) → now ≡ record start { pages = pages_of files n } →
-    next ≡ record now { pages = now.pages ++ cons_option (write_of files (n + 1)) [] } → next ≡ record start { pages = pages_of files (n + 1) }
-pages-grown start now next files n now-is next-is =
-    let grow : PageChange → PageChange = λ c. record c { pages = c.pages ++ cons_option (write_of files (n + 1)) [] } in
-    let with_pages : List PageWrite → PageChange = λ ps. record start { pages = ps } in
-    next-is ∙ ap grow now-is ∙ ap with_pages (sym (pages_of-more files n))
+    let here : IsWhole size (page_past n None file) =
+    past-whole size (ltb file.change.commit n) (replicate file.change.page_size 0) (written file.change.pages n)
+    (length-replicate file.change.page_size 0 ∙ same) (written-whole size n file.change.pages (subst P same change.whole))
+    in
+    subst (IsWhole size) (sym (page_of-before file files n)) (or-whole size (page_of files n) (page_past n None file) later here)

@@ -1,3 +1,4 @@
 pub mod Compaction
 pub mod Joining
 pub mod Application
+pub mod Slots

@@ -1,11 +1,13 @@
 //! The change that files leave.
-ghost use Rattle.std.specs.Prelude.{◌≡◌, ◌<◌, ◌≤◌, ◌++◌, [], All, IfOk, OnOk, replicate, length};
+ghost use Rattle.std.specs.Prelude.{◌≡◌, ◌<◌, ◌≤◌, ◌++◌, [], All, IfOk, OnOk, IfSome, replicate, length};
 ghost use Rattle.std.specs.List.{cons_option};
+ghost use Rattle.std.specs.Option.{option_copied};
 ghost use Rattle.lf_sqlite_pages.specs.PageSize.{IsPageSize};
 ghost use Rattle.lf_sqlite_pages.specs.Change.{IsChange, last_number};
-ghost use Rattle.ltx_compact.specs.Compaction.{pages_of, write_of};
+ghost use Rattle.ltx_compact.specs.Compaction.{pages_of};
+ghost use Rattle.ltx_compact.specs.Slots.{page_to_write, pages_in};
 
-use crate::page::page_of;
+use crate::slots::slots_of;
 use lf_base::NoMemory;
 use lf_sqlite_pages::Change;
 use ltx_codec::Ltx;
@@ -20,12 +22,14 @@ pub fn change_of(
 ) -> Result<Change, NoMemory>
     requires page_size { IsPageSize page_size }
     requires sizes { All (λ file. file.change.page_size ≡ page_size) files.now }
+    requires changes { All (λ file. IsChange file.change) files.now }
     ensures value { IfOk result (λ change. change ≡ record { page_size = page_size; commit = commit; pages = pages_of files.now commit }) }
     ensures valid { IfOk result IsChange }
 {
     let zeros = zero_page(alloc, page_size as usize)?;
+    let slots = slots_of(alloc, files, commit as usize, zeros.as_slice())?;
     let mut change = Change::new(alloc, page_size, commit);
-    add_pages(&mut change, files, commit, zeros.as_slice())?;
+    add_pages(&mut change, slots.as_slice(), commit)?;
     // Its pages ascend and are whole, as those of every change.
     let _ = change.pages();
     Ok(change)
@@ -37,30 +41,29 @@ fn zero_page(alloc: Global, size: usize) -> Result<Vec<u8>, AllocError>
     vec![in alloc; 0u8; size]
 }
 
-/// Adds to an empty change each page up to `commit` that files leave.
-fn add_pages(change: &mut Change, files: &[Ltx], commit: u32, zeros: &[u8]) -> Result<(), NoMemory>
+/// Adds to an empty change each page up to `commit` that stands in its slot.
+fn add_pages(change: &mut Change, slots: &[Option<&[u8]>], commit: u32) -> Result<(), NoMemory>
     requires empty { change.old.pages ≡ [] }
     requires commit { change.old.commit ≡ commit }
-    requires whole { length zeros.now ≡ change.old.page_size }
-    requires zeros { All (λ file. zeros.now ≡ replicate file.change.page_size 0) files.now }
-    ensures { OnOk result (change.new ≡ record change.old { pages = pages_of files.now commit }) }
+    requires count { length slots.now ≡ commit }
+    requires whole { All (λ slot. IfSome slot (λ bytes. length bytes.now ≡ change.old.page_size)) slots.now }
+    ensures { OnOk result (change.new ≡ record change.old { pages = pages_in slots.now commit }) }
 {
     for before in 0..commit {
-        add_page(change, files, before + 1, zeros)?;
+        add_page(change, before + 1, slots[before as usize])?;
     }
     Ok(())
 }
 
-/// Adds page `n` where files leave it.
-fn add_page(change: &mut Change, files: &[Ltx], n: u32, zeros: &[u8]) -> Result<(), NoMemory>
+/// Adds page `n` where its slot holds one.
+fn add_page(change: &mut Change, n: u32, slot: Option<&[u8]>) -> Result<(), NoMemory>
     requires above { last_number change.old.pages < n }
     requires within { n ≤ change.old.commit }
-    requires whole { length zeros.now ≡ change.old.page_size }
-    requires zeros { All (λ file. zeros.now ≡ replicate file.change.page_size 0) files.now }
-    ensures ok { OnOk result (change.new ≡ record change.old { pages = change.old.pages ++ cons_option (write_of files.now n) [] }) }
+    requires whole { IfSome slot (λ bytes. length bytes.now ≡ change.old.page_size) }
+    ensures ok { OnOk result (change.new ≡ record change.old { pages = change.old.pages ++ cons_option (page_to_write n (option_copied slot.entry)) [] }) }
     ensures last { OnOk result (last_number change.new.pages ≤ n) }
 {
-    match page_of(files, n, zeros) {
+    match slot {
         Some(bytes) => change.push(n, bytes),
         None => Ok(()),
     }

@@ -8,7 +8,7 @@ mod compacting;
 mod fault;
 mod joining;
 mod leaving;
-mod page;
+mod slots;
 
 pub use compacting::compact;
 pub use fault::CompactFault;

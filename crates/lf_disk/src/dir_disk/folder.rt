@@ -10,17 +10,17 @@ use std::rt::Files;
 
 /// A folder with its path.
 #[derive(Drop)]
-pub struct Folder<R: Files<File = File> + AllocGlobal + Copy> {
+pub(super) struct Folder<R: Files<File = File> + AllocGlobal + Copy> {
     rt: R,
     path: String,
 }
 
 impl<R: Files<File = File> + AllocGlobal + Copy> Folder<R> {
-    pub fn open(rt: R, path: &str) -> io::Result<Folder<R>> {
+    pub(super) fn open(rt: R, path: &str) -> io::Result<Folder<R>> {
         let path = String::from_str(rt.alloc(), path)?;
         let folder = Folder { rt, path };
         let transactions = folder.path_of("/ltx")?;
-        fs::create_dir_all(&rt, transactions.as_str())?;
+        make_folders(&rt, transactions.as_str())?;
         folder.sync_names("/ltx")?;
         folder.sync_names("")?;
         Ok(folder)
@@ -61,7 +61,7 @@ impl<R: Files<File = File> + AllocGlobal + Copy> Folder<R> {
     }
 
     /// The length of a file, None where there is none.
-    pub fn size(&self, name: FileName) -> io::Result<Option<u64>> {
+    pub(super) fn size(&self, name: FileName) -> io::Result<Option<u64>> {
         let path = self.path_to(name)?;
         match fs::metadata(&self.rt, path.as_str()) {
             Ok(metadata) => Ok(Some(metadata.len())),
@@ -96,7 +96,7 @@ impl<R: Files<File = File> + AllocGlobal + Copy> Folder<R> {
     }
 
     /// Reads until `out` is full or the file ends. A file that isn't there has no bytes.
-    pub fn read(&self, name: FileName, at: u64, out: &mut [u8]) -> io::Result<usize>
+    pub(super) fn read(&self, name: FileName, at: u64, out: &mut [u8]) -> io::Result<usize>
         ensures { IfOk result (λ n. n ≤ length out.new) }
     {
         let Some(file) = self.file(name)? else {
@@ -114,7 +114,7 @@ impl<R: Files<File = File> + AllocGlobal + Copy> Folder<R> {
     }
 
     /// Writes all bytes. Without any, it makes sure that the file is there and as long as `at`.
-    pub fn write(&self, name: FileName, at: u64, bytes: &[u8]) -> io::Result<()> {
+    pub(super) fn write(&self, name: FileName, at: u64, bytes: &[u8]) -> io::Result<()> {
         let file = self.file_or_new(name)?;
         if bytes.is_empty() && file.metadata()?.len() < at {
             return file.set_len(at);
@@ -122,18 +122,18 @@ impl<R: Files<File = File> + AllocGlobal + Copy> Folder<R> {
         file.write_all_at(bytes, at)
     }
 
-    pub fn cut(&self, name: FileName, len: u64) -> io::Result<()> {
+    pub(super) fn cut(&self, name: FileName, len: u64) -> io::Result<()> {
         self.file_or_new(name)?.set_len(len)
     }
 
-    pub fn sync(&self, name: FileName) -> io::Result<()> {
+    pub(super) fn sync(&self, name: FileName) -> io::Result<()> {
         match self.file(name)? {
             Some(file) => file.sync_all(),
             None => Ok(()),
         }
     }
 
-    pub fn rename(&self, from: FileName, to: FileName) -> io::Result<()> {
+    pub(super) fn rename(&self, from: FileName, to: FileName) -> io::Result<()> {
         let old = self.path_to(from)?;
         let new = self.path_to(to)?;
         fs::rename(&self.rt, old.as_str(), new.as_str())?;
@@ -141,7 +141,7 @@ impl<R: Files<File = File> + AllocGlobal + Copy> Folder<R> {
         self.sync_name(from)
     }
 
-    pub fn remove(&self, name: FileName) -> io::Result<()> {
+    pub(super) fn remove(&self, name: FileName) -> io::Result<()> {
         let path = self.path_to(name)?;
         match fs::remove_file(&self.rt, path.as_str()) {
             Ok(()) => self.sync_name(name),
@@ -151,7 +151,7 @@ impl<R: Files<File = File> + AllocGlobal + Copy> Folder<R> {
     }
 
     /// The names of its files.
-    pub fn list(&self) -> io::Result<Vec<FileName>> {
+    pub(super) fn list(&self) -> io::Result<Vec<FileName>> {
         let mut names = Vec::new(self.rt.alloc());
         for name in [FileName::Database, FileName::Staged, FileName::Snapshot] {
             if self.size(name)?.is_some() {
@@ -166,6 +166,28 @@ impl<R: Files<File = File> + AllocGlobal + Copy> Folder<R> {
         }
         Ok(names)
     }
+}
+
+/// Makes the folders of a path that are missing, the outermost first.
+fn make_folders<R: Files<File = File> + AllocGlobal + Copy>(rt: &R, path: &str) -> io::Result<()> {
+    for end in 1..path.len() {
+        if let Some((outer, rest)) = path.split_at_checked(end)
+            && rest.starts_with('/')
+        {
+            make_folder(rt, outer)?;
+        }
+    }
+    make_folder(rt, path)
+}
+
+/// Makes a folder where it is missing, and syncs the folder that has its name.
+fn make_folder<R: Files<File = File> + AllocGlobal + Copy>(rt: &R, path: &str) -> io::Result<()> {
+    if fs::exists(rt, path)? {
+        return Ok(());
+    }
+    fs::create_dir(rt, path)?;
+    let outer = format!(in rt.alloc(); "{path}/..")?;
+    fs::open(rt, outer.as_str())?.sync_all()
 }
 
 /// The name of a transaction file, None where the text is none.

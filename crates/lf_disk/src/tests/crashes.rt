@@ -15,7 +15,11 @@ fn settled(alloc: Global, failing: Vec<u64>) -> Result<MemDisk, Failed> {
 
 /// What the file has after a crash that leaves this much of the third call. There was memory.
 fn left(disk: MemDisk, choice: u64) -> Result<(u64, [u8; 8]), Failed> {
-    let Ok(mut disk) = disk.reopen_as(choice << 4) else {
+    let reopened = match choice {
+        0 => disk.reopen(),
+        _ => disk.reopen_as(choice << 4),
+    };
+    let Ok(mut disk) = reopened else {
         return Err(Failed);
     };
     let mut out = [b'.'; 8];
