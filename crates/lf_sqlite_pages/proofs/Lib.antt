@@ -1,4 +1,5 @@
 pub mod Applying
 pub mod Changes
 pub mod Laws
+pub mod PlacingLemmas
 pub mod Tables

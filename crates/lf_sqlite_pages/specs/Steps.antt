@@ -1,4 +1,4 @@
--- The two steps in which the code applies a change. No public clause cites them.
+-- The steps in which the code applies a change. No public clause cites them.
 use Rattle.std.specs.Prelude.{ℕ, ◌-◌, ◌++◌, ◌==◌, List, [], length, take, replicate, fold, slice_set, if◌then◌else◌}
 use Rattle.lf_sqlite_pages.specs.declared.page_write.PageWrite.{PageWrite}
 
@@ -13,3 +13,11 @@ resized pages size count = take count pages ++ replicate (count - length pages) 
 -- pages with those of a change written over them, one after another
 abbrev pub overwritten : List (List ℕ) → List PageWrite → List (List ℕ)
 overwritten pages writes = fold (λ ps w. slice_set ps (w.number - 1) w.bytes) pages writes
+
+-- pages with pages of zeros behind them, so that there are at least a count
+abbrev pub filled : List (List ℕ) → ℕ → ℕ → List (List ℕ)
+filled pages size count = pages ++ replicate (count - length pages) (replicate size 0)
+
+-- pages with one more in its place, and with zeros in each place before it that was empty
+abbrev pub placed : List (List ℕ) → ℕ → PageWrite → List (List ℕ)
+placed pages size w = slice_set (filled pages size w.number) (w.number - 1) w.bytes

@@ -76,4 +76,16 @@ impl Change {
     {
         self.pages.as_slice()
     }
+    /// The same pages, taken out of the change.
+    pub fn into_pages(self) -> Vec<PageWrite>
+        ensures value { result.items ≡ self.pages }
+        ensures valid { IsChange self }
+    {
+        let Change {
+            page_size: _,
+            commit: _,
+            pages,
+        } = self;
+        pages
+    }
 }

@@ -1,10 +1,11 @@
-ghost use Rattle.std.specs.Prelude.{◌≡◌, ◌≤◌, length, Some, OnOk, OnErr};
+ghost use Rattle.std.specs.Prelude.{◌≡◌, ◌≤◌, length, Some, IfOk, OnOk, OnErr};
 ghost use Rattle.lf_sqlite_pages.specs.Image.{IsImage, empty_image, page_at};
 ghost use Rattle.lf_sqlite_pages.specs.Apply.{Fits, apply};
 
 use crate::change::Change;
 use crate::page::Page;
 use crate::pages::{fit, overwrite};
+use crate::placing::{keep, place_all};
 use lf_base::NoMemory;
 use std::alloc::Global;
 use std::marker::Model;
@@ -56,6 +57,21 @@ impl Image {
         self.page_size = page_size;
         overwrite(&mut self.pages, change);
         Ok(())
+    }
+
+    /// The image after `change`, which is what `apply` makes. The pages of the change are moved into
+    /// it, and memory is taken for pages of zeros and for the list alone.
+    pub fn after(self, change: Change) -> Result<Image, NoMemory>
+        requires { Fits self change }
+        ensures { IfOk result (λ image. image ≡ apply self change) }
+    {
+        let Image {
+            page_size: old_size,
+            pages,
+        } = self;
+        let page_size = change.page_size();
+        let pages = place_all(keep(pages, old_size, page_size), change)?;
+        Ok(Image { page_size, pages })
     }
 
     /// The size of each page in bytes, 0 for a database that was never written.

@@ -13,6 +13,7 @@ mod page_size;
 mod page_store;
 mod page_write;
 mod pages;
+mod placing;
 mod table;
 #[cfg(test)]
 mod tests;

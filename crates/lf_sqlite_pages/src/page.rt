@@ -1,7 +1,7 @@
 //! One page in memory, which its image may write over in place.
 ghost use Rattle.std.specs.Prelude.{◌≡◌, length, replicate, IfOk};
 
-use lf_base::NoMemory;
+use lf_base::{Bytes, NoMemory};
 use std::alloc::Global;
 use std::marker::Model;
 
@@ -19,6 +19,14 @@ impl Model for Page {
 }
 
 impl Page {
+    pub fn of(bytes: Bytes) -> Page
+        ensures { result ≡ bytes }
+    {
+        Page {
+            bytes: bytes.into_vec(),
+        }
+    }
+
     pub fn zeros(alloc: Global, size: usize) -> Result<Page, NoMemory>
         ensures { IfOk result (λ page. page ≡ replicate size 0) }
     {

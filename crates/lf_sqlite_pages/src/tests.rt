@@ -20,6 +20,18 @@ fn first_byte<S: PageStore>(store: &mut S, n: u32) -> Option<u8> {
     Some(out[0])
 }
 
+/// The first byte of each page after the changes of the tests below.
+const PAGES_AFTER: [(u32, Option<u8>); 8] = [
+    (0, None),
+    (1, Some(21)),
+    (2, Some(0)),
+    (5, Some(0)),
+    (6, Some(36)),
+    (7, Some(0)),
+    (8, Some(38)),
+    (9, None),
+];
+
 /// An image of ten pages, page 1 first, under a change that cuts and one that grows.
 #[tactic(auto, unfolding(crate::specs::PageSize::is_page_size))]
 #[test]
@@ -48,18 +60,52 @@ fn changes_give_images(rt: HostRuntime) -> Result<(), Fail> {
     );
     image.apply(&grown)?;
 
-    for (n, byte) in [
-        (0, None),
-        (1, Some(21)),
-        (2, Some(0)),
-        (5, Some(0)),
-        (6, Some(36)),
-        (7, Some(0)),
-        (8, Some(38)),
-        (9, None),
-    ] {
+    for (n, byte) in PAGES_AFTER {
         assert_eq!(rt; first_byte(&mut image, n), byte, "page {n}");
     }
+    Ok(())
+}
+
+/// The same image by changes that are moved into it.
+#[tactic(auto, unfolding(crate::specs::PageSize::is_page_size))]
+#[test]
+fn changes_move_into_images(rt: HostRuntime) -> Result<(), Fail> {
+    let alloc = rt.alloc();
+    let mut first = Change::new(alloc, 512, 10);
+    first.push(1, page(alloc, 11)?.as_slice())?;
+    first.push(7, page(alloc, 17)?.as_slice())?;
+    let image = Image::empty(alloc).after(first)?;
+    let mut cut = Change::new(alloc, 512, 5);
+    cut.push(1, page(alloc, 21)?.as_slice())?;
+    let image = image.after(cut)?;
+    let mut grown = Change::new(alloc, 512, 8);
+    grown.push(6, page(alloc, 36)?.as_slice())?;
+    grown.push(8, page(alloc, 38)?.as_slice())?;
+    let mut image = image.after(grown)?;
+
+    for (n, byte) in PAGES_AFTER {
+        assert_eq!(rt; first_byte(&mut image, n), byte, "page {n}");
+    }
+    let empty = image.after(Change::new(alloc, 512, 0))?;
+    let image = empty.after(Change::new(alloc, 1024, 1))?;
+    assert_eq!(rt; (image.page_size(), image.commit()), (1024, 1));
+    Ok(())
+}
+
+#[tactic(auto, unfolding(crate::specs::PageSize::is_page_size))]
+#[test]
+fn pages_are_taken_out_of_a_change(rt: HostRuntime) -> Result<(), Fail> {
+    let alloc = rt.alloc();
+    let mut change = Change::new(alloc, 512, 9);
+    change.push(3, page(alloc, 1)?.as_slice())?;
+    change.push(7, page(alloc, 2)?.as_slice())?;
+    let pages = change.into_pages();
+    let numbers: [Option<u32>; 3] = [
+        pages.first().map(|w| w.number),
+        pages.get(1).map(|w| w.number),
+        pages.get(2).map(|w| w.number),
+    ];
+    assert_eq!(rt; numbers, [Some(3), Some(7), None]);
     Ok(())
 }
 
