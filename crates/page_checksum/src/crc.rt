@@ -1,8 +1,7 @@
 ghost use Rattle.std.specs.Prelude.{◌≡◌, ℕ, List, ◌++◌};
-ghost use Rattle.page_checksum.specs.Crc.{after_bit as bit_after, after_bits, after_byte as byte_after, after_bytes, crc};
+ghost use Rattle.page_checksum.specs.Crc.{after_bytes, crc};
 
-/// The polynomial x^64 + x^4 + x^3 + x + 1, its bits reflected.
-const POLYNOMIAL: u64 = 0xD800_0000_0000_0000;
+use crate::words::feed_by_words;
 
 /// The register before the first byte of a text. The checksum is the register's complement after
 /// the last.
@@ -17,35 +16,10 @@ pub fn crc64(bytes: &[u8]) -> u64
 }
 
 /// The register after these bytes. To feed two pieces one after another is to feed them joined.
-pub fn crc_feed(mut register: u64, bytes: &[u8]) -> u64
+pub fn crc_feed(register: u64, bytes: &[u8]) -> u64
     ensures { result ≡ after_bytes register bytes.now }
 {
-    for byte in bytes {
-        register = after_byte(register, *byte);
-    }
-    register
-}
-
-#[tactic(auto, unfolding(crate::specs::Crc::after_byte))]
-fn after_byte(mut register: u64, byte: u8) -> u64
-    ensures { result ≡ byte_after register byte }
-{
-    register ^= u64::from(byte);
-    for _bit in 0..8u8 {
-        register = after_bit(register);
-    }
-    register
-}
-
-#[tactic(auto, unfolding(crate::specs::Crc::after_bit))]
-fn after_bit(register: u64) -> u64
-    ensures { result ≡ bit_after register }
-{
-    if register % 2 == 1 {
-        (register / 2) ^ POLYNOMIAL
-    } else {
-        register / 2
-    }
+    feed_by_words(register, bytes)
 }
 
 /// To feed two pieces one after another is to feed them joined.

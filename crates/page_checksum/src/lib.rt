@@ -3,8 +3,11 @@
 //! It knows bytes and page numbers, and nothing of images or files. No call takes memory.
 #![tactic(auto)]
 
+mod bits;
 mod crc;
 mod sums;
+mod tables;
+mod words;
 
 pub use crc::{FIRST_REGISTER, crc_feed, crc64, pieces_join};
 pub use sums::page_sum;

@@ -1,7 +1,7 @@
 use Rattle.std.proofs.Common.{arith, sym, ◌∙◌, ap, ◌-◌, ◌+◌}
 use Rattle.page_checksum.specs.Crc.{after_bits}
 use Rattle.page_checksum.proofs.CrcLemmas.{after_bits-from}
-use Rattle.page_checksum.proofs.crc.after_byte.Goals as goal
+use Rattle.page_checksum.proofs.bits.after_byte.Goals as goal
 
 pub loop-bit-preserved : goal.loop-bit-preserved
 loop-bit-preserved c =

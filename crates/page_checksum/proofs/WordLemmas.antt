@@ -1,0 +1,89 @@
+-- Eight bytes at a time.
+use Rattle.std.proofs.Common.{take-add, ◌≡◌, ℕ, zero, suc, ◌+◌, ◌*◌, ◌<◌, ◌^◌, ◌/◌, ◌%◌, List, [], ◌∷◌, ◌++◌, length, get_or, take, drop, arith, refl, sym, ap, ◌∙◌}
+use Rattle.std.proofs.Math.Nat.{div-div-eq-div-mul, zero-mul, suc-mul, add_comm}
+use Rattle.std.proofs.lemmas.List.{take_more, append-nil, take-append-drop}
+use Rattle.std.proofs.lemmas.List.Folds.{concat-append}
+use Rattle.std.specs.Int.{w64, from_le_bytes, byte_at}
+use Rattle.std.specs.List.{concat}
+use Rattle.std.specs.Prelude.{bit_xor}
+use Rattle.std.specs.Simd.{first_chunks}
+use Rattle.page_checksum.specs.Crc.{after_byte, after_bytes}
+use Rattle.page_checksum.specs.Zeros.{after_zeros}
+use Rattle.page_checksum.proofs.CrcLemmas.{after_bytes-append}
+use Rattle.page_checksum.proofs.ZerosLemmas.{after_byte-is, after_bytes-number, low_first, split_lowest}
+
+-- a byte by the table of one zero byte
+pub byte_by_table : (register byte : ℕ) → bit_xor (after_zeros 1 (bit_xor register byte % 256)) (bit_xor register byte / 256) ≡ after_byte register byte
+unfolding after_zeros
+byte_by_table register byte = sym (after_byte-is register byte ∙ split_lowest 0 (bit_xor register byte))
+
+-- one of the bytes of a register, and those above it
+split_place : (count register place next : ℕ) → place * 256 ≡ next
+    → bit_xor (after_zeros (suc count) (register / place % 256)) (after_zeros count (register / next)) ≡ after_zeros (suc count) (register / place)
+split_place count register place next is =
+    sym (split_lowest count (register / place)
+      ∙ ap (λ (x : ℕ). bit_xor (after_zeros (suc count) (register / place % 256)) (after_zeros count x)) (div-div-eq-div-mul register place 256 ∙ ap (λ (x : ℕ). register / x) is))
+
+-- a register of eight bytes by its bytes
+pub eight_by_tables : (register : ℕ) → register < 2 ^ 64
+    → bit_xor (after_zeros 8 (byte_at 0 register)) (bit_xor (after_zeros 7 (byte_at 1 register)) (bit_xor (after_zeros 6 (byte_at 2 register))
+      (bit_xor (after_zeros 5 (byte_at 3 register)) (bit_xor (after_zeros 4 (byte_at 4 register)) (bit_xor (after_zeros 3 (byte_at 5 register))
+      (bit_xor (after_zeros 2 (byte_at 6 register)) (after_zeros 1 (byte_at 7 register))))))))
+    ≡ after_zeros 8 register
+eight_by_tables register small =
+    let highest : byte_at 7 register ≡ register / 256 ^ 7 = omega arith in
+    let up = λ (count : ℕ) (place : ℕ) (x : ℕ). bit_xor (after_zeros count (byte_at place register)) x in
+    ap (up 8 0) (ap (up 7 1) (ap (up 6 2) (ap (up 5 3) (ap (up 4 4) (ap (up 3 5) (ap (up 2 6) (ap (after_zeros 1) highest)
+      ∙ split_place 1 register (256 ^ 6) (256 ^ 7) refl)
+      ∙ split_place 2 register (256 ^ 5) (256 ^ 6) refl)
+      ∙ split_place 3 register (256 ^ 4) (256 ^ 5) refl)
+      ∙ split_place 4 register (256 ^ 3) (256 ^ 4) refl)
+      ∙ split_place 5 register (256 ^ 2) (256 ^ 3) refl)
+      ∙ split_place 6 register 256 (256 ^ 2) refl)
+    ∙ sym (split_lowest 7 register)
+
+-- the number of a word is that of its bytes
+word_number : (word : List ℕ) → length word ≡ 8 → from_le_bytes w64 word ≡ low_first word
+word_number (b0 ∷ b1 ∷ b2 ∷ b3 ∷ b4 ∷ b5 ∷ b6 ∷ b7 ∷ []) _ = omega arith
+word_number [] is = absurd (omega arith)
+word_number (b0 ∷ []) is = absurd (omega arith)
+word_number (b0 ∷ b1 ∷ []) is = absurd (omega arith)
+word_number (b0 ∷ b1 ∷ b2 ∷ []) is = absurd (omega arith)
+word_number (b0 ∷ b1 ∷ b2 ∷ b3 ∷ []) is = absurd (omega arith)
+word_number (b0 ∷ b1 ∷ b2 ∷ b3 ∷ b4 ∷ []) is = absurd (omega arith)
+word_number (b0 ∷ b1 ∷ b2 ∷ b3 ∷ b4 ∷ b5 ∷ []) is = absurd (omega arith)
+word_number (b0 ∷ b1 ∷ b2 ∷ b3 ∷ b4 ∷ b5 ∷ b6 ∷ []) is = absurd (omega arith)
+word_number (b0 ∷ b1 ∷ b2 ∷ b3 ∷ b4 ∷ b5 ∷ b6 ∷ b7 ∷ b8 ∷ rest) is = absurd (omega arith)
+
+-- a word moves the register as its bytes do
+pub word_is : (register : ℕ) (word : List ℕ) → length word ≡ 8 → ((i : ℕ) → get_or word i 0 < 256)
+    → after_zeros 8 (bit_xor register (from_le_bytes w64 word)) ≡ after_bytes register word
+word_is register word whole fits =
+    ap (λ (x : ℕ). after_zeros 8 (bit_xor register x)) (word_number word whole)
+    ∙ ap (λ (n : ℕ). after_zeros n (bit_xor register (low_first word))) (sym whole)
+    ∙ sym (after_bytes-number register word fits)
+
+-- one more piece
+pub after_piece : (register : ℕ) (pieces : List (List ℕ)) (i : ℕ) → i < length pieces
+    → after_bytes register (concat (take (i + 1) pieces)) ≡ after_bytes (after_bytes register (concat (take i pieces))) (get_or pieces i [])
+after_piece register pieces i below =
+    ap (λ (xs : List (List ℕ)). after_bytes register (concat xs)) (take_more pieces i [] below)
+    ∙ ap (after_bytes register) (concat-append (take i pieces) (get_or pieces i [] ∷ []))
+    ∙ ap (λ (xs : List ℕ). after_bytes register (concat (take i pieces) ++ xs)) (append-nil (get_or pieces i []))
+    ∙ after_bytes-append register (concat (take i pieces)) (get_or pieces i [])
+
+-- the chunks at the front are the front
+concat-first_chunks : (size count : ℕ) (bytes : List ℕ) → concat (first_chunks size count bytes) ≡ take (count * size) bytes
+concat-first_chunks size zero bytes = sym (ap (λ (n : ℕ). take n bytes) (zero-mul size))
+concat-first_chunks size (suc count) bytes =
+    ap (λ (xs : List ℕ). take size bytes ++ xs) (concat-first_chunks size count (drop size bytes))
+    ∙ sym (take-add size (count * size) bytes)
+    ∙ ap (λ (n : ℕ). take n bytes) (add_comm size (count * size) ∙ sym (suc-mul count size))
+
+-- whole chunks and then the bytes that are left are the text
+pub chunks_join : (register size : ℕ) (bytes : List ℕ)
+    → after_bytes (after_bytes register (concat (first_chunks size (length bytes / size) bytes))) (drop (length bytes / size * size) bytes) ≡ after_bytes register bytes
+chunks_join register size bytes =
+    ap (λ (xs : List ℕ). after_bytes (after_bytes register xs) (drop (length bytes / size * size) bytes)) (concat-first_chunks size (length bytes / size) bytes)
+    ∙ sym (after_bytes-append register (take (length bytes / size * size) bytes) (drop (length bytes / size * size) bytes))
+    ∙ ap (after_bytes register) (take-append-drop (length bytes / size * size) bytes)
