@@ -28,7 +28,7 @@ after_byte_fits : (register byte : ℕ) → register < 2 ^ 64 → byte < 256 →
 unfolding after_byte
 after_byte_fits register byte small fits = after_bits_fit 8 (bit_xor register byte) (xor_lt 64 register byte small (omega arith))
 
-after_bytes_fit : (register : ℕ) (bytes : List ℕ) → register < 2 ^ 64 → ((i : ℕ) → get_or bytes i 0 < 256) → after_bytes register bytes < 2 ^ 64
+pub after_bytes_fit : (register : ℕ) (bytes : List ℕ) → register < 2 ^ 64 → ((i : ℕ) → get_or bytes i 0 < 256) → after_bytes register bytes < 2 ^ 64
 after_bytes_fit register [] small fits = small
 after_bytes_fit register (byte ∷ bytes) small fits =
     after_bytes_fit (after_byte register byte) bytes (after_byte_fits register byte small (fits 0)) (λ i. fits (suc i))

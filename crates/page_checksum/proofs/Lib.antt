@@ -1,5 +1,9 @@
+pub mod BlockLemmas
 pub mod CrcLemmas
 pub mod Linear
+pub mod ListLemmas
+pub mod PowerLemmas
+pub mod ProductLemmas
 pub mod TableLemmas
 pub mod WordLemmas
 pub mod ZerosLemmas

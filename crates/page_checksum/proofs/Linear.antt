@@ -36,7 +36,7 @@ feedback-xor zero (suc (suc b)) _ below = absurd (omega arith)
 feedback-xor (suc zero) (suc (suc b)) _ below = absurd (omega arith)
 feedback-xor (suc (suc a)) b below _ = absurd (omega arith)
 
-after_bit-xor : (a b : ℕ) → after_bit (bit_xor a b) ≡ bit_xor (after_bit a) (after_bit b)
+pub after_bit-xor : (a b : ℕ) → after_bit (bit_xor a b) ≡ bit_xor (after_bit a) (after_bit b)
 after_bit-xor a b =
     after_bit-is (bit_xor a b)
     ∙ ap (λ (x : ℕ). bit_xor x (feedback (bit_xor a b % 2))) (xor_shr a b 1)
@@ -61,7 +61,7 @@ after_bits-add (suc front) back register =
     ap (λ (n : ℕ). after_bits n register) (suc-add front back) ∙ after_bits-add front back (after_bit register)
 
 -- an even register loses no bit
-after_bit-double : (register : ℕ) → after_bit (register * 2) ≡ register
+pub after_bit-double : (register : ℕ) → after_bit (register * 2) ≡ register
 unfolding after_bit
 after_bit-double register =
     let even : register * 2 % 2 ≡ 0 = omega arith in

@@ -1,9 +1,11 @@
 -- Eight bytes at a time.
-use Rattle.std.proofs.Common.{take-add, ◌≡◌, ℕ, zero, suc, ◌+◌, ◌*◌, ◌<◌, ◌^◌, ◌/◌, ◌%◌, List, [], ◌∷◌, ◌++◌, length, get_or, take, drop, arith, refl, sym, ap, ◌∙◌}
+use Rattle.std.proofs.Common.{take-add, ◌≡◌, ℕ, zero, suc, ◌+◌, ◌-◌, ◌*◌, ◌<◌, ◌≤◌, ◌^◌, ◌/◌, ◌%◌, List, [], ◌∷◌, ◌++◌, length, get_or, take, drop, arith, refl, sym, ap, ◌∙◌}
 use Rattle.std.proofs.Math.Nat.{div-div-eq-div-mul, zero-mul, suc-mul, add_comm}
+use Rattle.std.proofs.Math.Seq.{take-length}
 use Rattle.std.proofs.lemmas.List.{take_more, append-nil, take-append-drop}
 use Rattle.std.proofs.lemmas.List.Folds.{concat-append}
-use Rattle.std.specs.Int.{w64, from_le_bytes, byte_at}
+use Rattle.std.specs.Int.{w64, from_le_bytes, to_le_bytes, byte_at, bytes_low_first}
+use Rattle.std.proofs.lemmas.Nat.{from_le_bytes-to_le_bytes_8, mod_below, xor_lt}
 use Rattle.std.specs.List.{concat}
 use Rattle.std.specs.Prelude.{bit_xor}
 use Rattle.std.specs.Simd.{first_chunks}
@@ -87,3 +89,51 @@ chunks_join register size bytes =
     ap (λ (xs : List ℕ). after_bytes (after_bytes register xs) (drop (length bytes / size * size) bytes)) (concat-first_chunks size (length bytes / size) bytes)
     ∙ sym (after_bytes-append register (take (length bytes / size * size) bytes) (drop (length bytes / size * size) bytes))
     ∙ ap (after_bytes register) (take-append-drop (length bytes / size * size) bytes)
+
+byte_at-fits : (place number : ℕ) → byte_at place number < 256
+byte_at-fits zero number = mod_below number 256 (omega arith)
+byte_at-fits (suc place) number = mod_below (number / 256 ^ suc place) 256 (omega arith)
+
+bytes-fit : (place count number i : ℕ) → get_or (bytes_low_first place count number) i 0 < 256
+bytes-fit place zero number i = omega arith
+bytes-fit place (suc count) number zero = byte_at-fits place number
+bytes-fit place (suc count) number (suc i) = bytes-fit (suc place) count number i
+
+-- the bytes of the XOR of a register and a word move a register of 0 as the word moves that register
+pub word_entered : (register : ℕ) (word : List ℕ) → register < 2 ^ 64 → from_le_bytes w64 word < 2 ^ 64 → length word ≡ 8 → ((i : ℕ) → get_or word i 0 < 256)
+    → after_bytes 0 (to_le_bytes w64 (bit_xor register (from_le_bytes w64 word))) ≡ after_bytes register word
+word_entered register word small w_small whole fits =
+    let n : ℕ = bit_xor register (from_le_bytes w64 word) in
+    sym (word_is 0 (to_le_bytes w64 n) refl (bytes-fit 0 8 n))
+    ∙ ap (after_zeros 8) (from_le_bytes-to_le_bytes_8 n (xor_lt 64 register (from_le_bytes w64 word) small w_small))
+    ∙ word_is register word whole fits
+
+-- bytes in place of the first ones of a text, which move a register of 0 as those move this one
+pub front_replaced : (register count : ℕ) (front text : List ℕ) → after_bytes 0 front ≡ after_bytes register (take count text)
+    → after_bytes 0 (front ++ drop count text) ≡ after_bytes register text
+front_replaced register count front text same =
+    after_bytes-append 0 front (drop count text)
+    ∙ ap (λ (r : ℕ). after_bytes r (drop count text)) same
+    ∙ sym (after_bytes-append register (take count text) (drop count text))
+    ∙ ap (after_bytes register) (take-append-drop count text)
+
+-- a state that has taken in the pieces before this one, and then this one
+pub piece_joined : (first state new : List ℕ) (pieces : List (List ℕ)) (i : ℕ) → i < length pieces
+    → after_bytes 0 state ≡ after_bytes 0 (first ++ concat (take i pieces)) → after_bytes 0 new ≡ after_bytes 0 (state ++ get_or pieces i [])
+    → after_bytes 0 new ≡ after_bytes 0 (first ++ concat (take (i + 1) pieces))
+piece_joined first state new pieces i below before now =
+    now ∙ after_bytes-append 0 state (get_or pieces i [])
+    ∙ ap (λ (r : ℕ). after_bytes r (get_or pieces i [])) (before ∙ after_bytes-append 0 first (concat (take i pieces)))
+    ∙ sym (after_bytes-append 0 first (concat (take (i + 1) pieces)) ∙ after_piece (after_bytes 0 first) pieces i below)
+
+-- a state that stands for the first piece, and the pieces after it
+pub pieces_after_first : (register : ℕ) (state : List ℕ) (pieces : List (List ℕ)) → 1 ≤ length pieces → after_bytes 0 state ≡ after_bytes register (get_or pieces 0 [])
+    → after_bytes 0 (state ++ concat (take (length pieces - 1) (drop 1 pieces))) ≡ after_bytes register (concat pieces)
+pieces_after_first register state [] some same = absurd (omega arith)
+pieces_after_first register state (piece ∷ pieces) some same =
+    let rest : length (piece ∷ pieces) - 1 ≡ length pieces = omega arith in
+    let all : take (length (piece ∷ pieces) - 1) pieces ≡ pieces = ap (λ (n : ℕ). take n pieces) rest ∙ take-length pieces in
+    ap (λ (xs : List (List ℕ)). after_bytes 0 (state ++ concat xs)) all
+    ∙ after_bytes-append 0 state (concat pieces)
+    ∙ ap (λ (r : ℕ). after_bytes r (concat pieces)) same
+    ∙ sym (after_bytes-append register piece (concat pieces))

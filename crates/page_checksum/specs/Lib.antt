@@ -1,3 +1,4 @@
+pub mod Blocks
 pub mod Crc
 pub mod Sums
 pub mod Zeros

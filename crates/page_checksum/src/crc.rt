@@ -1,6 +1,7 @@
 ghost use Rattle.std.specs.Prelude.{◌≡◌, ℕ, List, ◌++◌};
 ghost use Rattle.page_checksum.specs.Crc.{after_bytes, crc};
 
+use crate::blocks::feed_blocks;
 use crate::words::feed_by_words;
 
 /// The register before the first byte of a text. The checksum is the register's complement after
@@ -19,7 +20,8 @@ pub fn crc64(bytes: &[u8]) -> u64
 pub fn crc_feed(register: u64, bytes: &[u8]) -> u64
     ensures { result ≡ after_bytes register bytes.now }
 {
-    feed_by_words(register, bytes)
+    let (blocks, rest) = bytes.as_chunks::<256>();
+    feed_by_words(feed_blocks(register, blocks), rest)
 }
 
 /// To feed two pieces one after another is to feed them joined.

@@ -4,6 +4,7 @@
 #![tactic(auto)]
 
 mod bits;
+mod blocks;
 mod crc;
 mod sums;
 mod tables;
