@@ -73,7 +73,7 @@ read_none bytes head = record {
     }
 
 -- a change with no page yet is one
-none_valid : (size count : ℕ) → IsPageSize size → IsChange (empty_change size count)
+pub none_valid : (size count : ℕ) → IsPageSize size → IsChange (empty_change size count)
 none_valid size count is = record { of_a_page_size = is; ascending = tt; within = λ i w less. absurd (omega (arith, less)); whole = λ i w less. absurd (omega (arith, less)) }
 
 -- pages past the limit were past it where a fault inside was found

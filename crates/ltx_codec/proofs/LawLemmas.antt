@@ -53,7 +53,7 @@ tail_whole size prev w ws h = record {
 }
 
 -- two blocks that begin alike hold the same pages
-pages_alike : (size p q : ℕ) (vs ws : List PageWrite) (x y : List ℕ) → AreWhole size p vs → AreWhole size q ws
+pub pages_alike : (size p q : ℕ) (vs ws : List PageWrite) (x y : List ℕ) → AreWhole size p vs → AreWhole size q ws
     → pages_text vs ++ (to_be_bytes w32 0 ++ x) ≡ pages_text ws ++ (to_be_bytes w32 0 ++ y) → (vs ≡ ws) × (x ≡ y)
 pages_alike size p q [] [] x y hv hw same = (refl, append_cancel_left (to_be_bytes w32 0) x y same)
 pages_alike size p q [] (w ∷ ws) x y hv hw same =
@@ -109,14 +109,14 @@ pub header_length : (h : Header) (reserved : List ℕ) → length reserved ≡ 2
 header_length h reserved room = rw room refl
 
 -- equal changes
-change_alike : (a b : PageChange) → a.page_size ≡ b.page_size → a.commit ≡ b.commit → a.pages ≡ b.pages → a ≡ b
+pub change_alike : (a b : PageChange) → a.page_size ≡ b.page_size → a.commit ≡ b.commit → a.pages ≡ b.pages → a ≡ b
 change_alike a b size commit pages =
     ap (λ (n : ℕ). record { page_size = n; commit = a.commit; pages = a.pages }) size
     ∙ ap (λ (n : ℕ). record { page_size = b.page_size; commit = n; pages = a.pages }) commit
     ∙ ap (λ (l : List PageWrite). record { page_size = b.page_size; commit = b.commit; pages = l }) pages
 
 -- equal files
-file_alike : (a b : Ltx) → a.header ≡ b.header → a.change ≡ b.change → a.post ≡ b.post → a ≡ b
+pub file_alike : (a b : Ltx) → a.header ≡ b.header → a.change ≡ b.change → a.post ≡ b.post → a ≡ b
 file_alike a b header change post =
     ap (λ (h : Header). record { header = h; change = a.change; post = a.post }) header
     ∙ ap (λ (c : PageChange). record { header = b.header; change = c; post = a.post }) change

@@ -13,4 +13,6 @@ pub mod FeedLemmas
 pub mod PieceLemmas
 pub mod PartLemmas
 pub mod PageLemmas
+pub mod ReaderLemmas
+pub mod FileLemmas
 pub mod TrailerLemmas

@@ -75,7 +75,7 @@ sums_more n (p ∷ pages) page =
     ∙ sym (xor_assoc (page_sum_of n p) (joined (page_sums (n + 1) pages)) (page_sum_of (n + suc (length pages)) page))
 
 -- one more page in the change
-page_valid : (change : PageChange) (number : ℕ) (page : List ℕ) → IsChange change → FitsAtEnd change (record { number = number; bytes = page }) → IsChange (with_page change number page)
+pub page_valid : (change : PageChange) (number : ℕ) (page : List ℕ) → IsChange change → FitsAtEnd change (record { number = number; bytes = page }) → IsChange (with_page change number page)
 page_valid change number page valid fits = IsChange-push change change (record { number = number; bytes = page }) (change.pages ++ record { number = number; bytes = page } ∷ []) valid refl fits refl
 
 -- what is left and what is taken when a page is whole
@@ -87,7 +87,7 @@ pub record TakesPage (old new : Decoder) (number : ℕ) : Type 0 where
   pub number_is : new.number ≡ number
   pub told : new.told ≡ true
   pub register : new.register ≡ after_bytes old.register old.held.items
-  pub sums : new.sums ≡ bit_xor old.sums (page_sum_of number (drop 4 old.held.items))
+  pub sums : old.header.min ≡ 1 → new.sums ≡ bit_xor old.sums (page_sum_of number (drop 4 old.held.items))
 
 module _ (old new : Decoder) (limit : ℕ) (text : List ℕ) (change : PageChange) (number : ℕ) (has : HasNumber old limit text change number) (some : number ≢ 0)
     (untold : old.told ≡ false) (whole : length old.held.items ≡ 4 + old.header.page_size) (takes : TakesPage old new number) where
@@ -125,7 +125,7 @@ module _ (old new : Decoder) (limit : ℕ) (text : List ℕ) (change : PageChang
   sums_is snapshot =
       let n-is : number ≡ 1 + length (map (λ (w : PageWrite). w.bytes) change.pages) =
       omega (arith, has.number_is, has.sound.follows snapshot (λ zero. some (has.number_is ∙ zero)), has.feeding.block.read.consecutive snapshot, length-map change.pages (λ (w : PageWrite). w.bytes)) in
-      takes.sums
+      takes.sums (ap (λ (h : Header). h.min) has.feeding.block.header ∙ snapshot)
       ∙ ap (λ (s : ℕ). bit_xor s (page_sum_of number (drop 4 old.held.items))) (has.feeding.block.sums snapshot)
       ∙ ap (λ (n : ℕ). bit_xor (joined (page_sums 1 (map (λ (w : PageWrite). w.bytes) change.pages))) (page_sum_of n (drop 4 old.held.items))) n-is
       ∙ sym (sums_more 1 (map (λ (w : PageWrite). w.bytes) change.pages) (drop 4 old.held.items))

@@ -15,7 +15,7 @@ use Rattle.ltx_codec.proofs.TextLemmas.{AreBytes-take}
 use Rattle.ltx_codec.proofs.FeedLemmas.{AreBytes-append}
 use Rattle.ltx_codec.proofs.PieceLemmas.{header_longer, place_kept, number_kept, size_kept, two_taken, held_length}
 
-grown_length : (text piece : List ℕ) (m : ℕ) → m ≤ length piece → length (text ++ take m piece) ≡ length text + m
+pub grown_length : (text piece : List ℕ) (m : ℕ) → m ≤ length piece → length (text ++ take m piece) ≡ length text + m
 grown_length text piece m le = omega (arith, length-append text (take m piece), length-take m piece)
 
 -- before the header is whole no part ends

@@ -41,11 +41,11 @@ eight_here place bytes front more n split len small =
     ap (λ (l : List ℕ). from_be_bytes w64 (take 8 l)) behind ∙ from_be_bytes-to_be_bytes_8 n small
 
 -- in a snapshot the pages left are the rest of all pages
-abbrev Continues : List ℕ → ℕ → List PageWrite → Type 0
+abbrev pub Continues : List ℕ → ℕ → List PageWrite → Type 0
 Continues bytes prev ws = eight_at 16 bytes ≡ 1 → (left : ℕ) × (four_at 12 bytes ≡ prev + left) × (map (λ (w : PageWrite). w.number) ws ≡ range_with_len (prev + 1) left)
 
 -- how far a text is sound: up to its k-th number, behind which these pages follow
-record IsSoundTo (bytes : List ℕ) (prev k : ℕ) (ws : List PageWrite) (front more : List ℕ) : Type 0 where
+pub record IsSoundTo (bytes : List ℕ) (prev k : ℕ) (ws : List PageWrite) (front more : List ℕ) : Type 0 where
   pub split : bytes ≡ front ++ (pages_text ws ++ (to_be_bytes w32 0 ++ more))
   pub place : length front ≡ number_place bytes k
   pub before : number_before bytes k ≡ prev
@@ -148,7 +148,7 @@ module _ (bytes : List ℕ) where
       )
 
   -- to the end of the block, and the pages on the way
-  walk : (ws : List PageWrite) (prev k : ℕ) (front more : List ℕ) → IsSoundTo bytes prev k ws front more
+  pub walk : (ws : List PageWrite) (prev k : ℕ) (front more : List ℕ) → IsSoundTo bytes prev k ws front more
       → (end : ℕ) × (end ≡ k + length ws) × (map (page_in bytes) (range_with_len k (length ws)) ≡ map (λ (w : PageWrite). w.bytes) ws) × ((reached : List ℕ) × IsSoundToEnd bytes end reached more)
   walk [] prev k front more h = (k, omega arith, refl, (front, end_here prev k front more h))
   walk (w ∷ ws) prev k front more h =
@@ -170,10 +170,10 @@ file_sum_fits bytes fits = flagged_fits (crc bytes) (crc_fits bytes fits)
 -- a text and what follows it, as bytes
 module _ (file : Ltx) (reserved rest bytes : List ℕ) (valid : IsFile file) (reserved_room : length reserved ≡ 20)
     (whole : bytes ≡ file_text file reserved ++ rest) (fits : AreBytes bytes) where
-  split : bytes ≡ header_text file.header reserved ++ (pages_text file.change.pages ++ (to_be_bytes w32 0 ++ (to_be_bytes w64 file.post ++ (to_be_bytes w64 (file_sum (summed_text file reserved)) ++ rest))))
+  pub split : bytes ≡ header_text file.header reserved ++ (pages_text file.change.pages ++ (to_be_bytes w32 0 ++ (to_be_bytes w64 file.post ++ (to_be_bytes w64 (file_sum (summed_text file reserved)) ++ rest))))
   split = whole ∙ parts file reserved rest
 
-  header_is : header_in bytes ≡ file.header
+  pub header_is : header_in bytes ≡ file.header
   header_is = ap header_in split ∙ header_again file.header reserved
       (pages_text file.change.pages ++ (to_be_bytes w32 0 ++ (to_be_bytes w64 file.post ++ (to_be_bytes w64 (file_sum (summed_text file reserved)) ++ rest)))) valid.header.widths
 
@@ -203,7 +203,7 @@ module _ (file : Ltx) (reserved rest bytes : List ℕ) (valid : IsFile file) (re
   }
 
   -- the text is sound up to the block
-  to_block : IsSoundTo bytes 0 0 file.change.pages (header_text file.header reserved) (to_be_bytes w64 file.post ++ (to_be_bytes w64 (file_sum (summed_text file reserved)) ++ rest))
+  pub to_block : IsSoundTo bytes 0 0 file.change.pages (header_text file.header reserved) (to_be_bytes w64 file.post ++ (to_be_bytes w64 (file_sum (summed_text file reserved)) ++ rest))
   to_block =
       let head : length (header_text file.header reserved) ≡ 100 = header_length file.header reserved reserved_room in
       let first : number_place bytes 0 ≡ 100 = omega arith in

@@ -7,4 +7,5 @@ pub mod Block
 pub mod Trailer
 pub mod Decoding
 pub mod Feeding
+pub mod WholePages
 pub mod Reading

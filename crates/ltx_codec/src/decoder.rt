@@ -40,7 +40,7 @@ pub struct Decoder {
     pub(crate) header: Header,
     /// The page number before, 0 before the first.
     pub(crate) number: u32,
-    /// The XOR of the sums of the pages.
+    /// In a snapshot the XOR of the sums of the pages.
     pub(crate) sums: u64,
     /// The checksum's register after the parts before.
     pub(crate) register: u64,

@@ -58,11 +58,11 @@ impl Decoder {
         Seen::Page { used, number }
     }
 
-    /// The page is whole.
+    /// The page is whole. Only a snapshot's sum is that of its pages.
     fn take_page(&mut self, number: u32)
         requires { 4 ≤ length self.old.held.items }
         ensures register { self.new.register ≡ after_bytes self.old.register self.old.held.items }
-        ensures sums { self.new.sums ≡ bit_xor self.old.sums (page_sum_of number (drop 4 self.old.held.items)) }
+        ensures sums { self.old.header.min ≡ 1 → self.new.sums ≡ bit_xor self.old.sums (page_sum_of number (drop 4 self.old.held.items)) }
         ensures number { (self.new.number ≡ number) × (self.new.told ≡ true) }
         ensures same { (self.new.limit ≡ self.old.limit) × (self.new.fault ≡ self.old.fault) × (self.new.in_block ≡ self.old.in_block) }
         ensures shown { (self.new.header ≡ self.old.header) × (self.new.held ≡ self.old.held) }
@@ -70,7 +70,9 @@ impl Decoder {
         let held = self.held.as_slice();
         let (_, page) = held.split_at(NUMBER);
         self.register = crc_feed(self.register, held);
-        self.sums ^= page_sum(number, page);
+        if self.header.min == 1 {
+            self.sums ^= page_sum(number, page);
+        }
         self.number = number;
         self.told = true;
     }

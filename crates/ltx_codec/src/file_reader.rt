@@ -1,31 +1,44 @@
 //! Files whose texts come in pieces, one after another.
-ghost use Rattle.std.specs.Prelude.{◌≡◌, ◌↔◌, List, ℕ, [], Err, IsTrue, IfOk, IfErr};
+ghost use Rattle.std.specs.Prelude.{◌≡◌, ◌↔◌, List, ℕ, [], None, Err, IsTrue, IfOk, IfErr, OnOk};
 ghost use Rattle.ltx_codec.specs.Places.{IsEarliest};
-ghost use Rattle.ltx_codec.specs.Reading.{HasBegun, HasStopped, Reads};
+ghost use Rattle.ltx_codec.specs.WholePages.{HasTaken, IsBetween, IsTaking};
 
 use crate::decoder::Decoder;
 use crate::fault::LtxFault;
 use crate::file::Ltx;
+use crate::seen::Seen;
+use crate::whole_pages::{no_pages, read_part};
 use lf_base::NoMemory;
+use lf_sqlite_pages::Change;
 use std::alloc::Global;
+use std::mem;
 
 /// The size of SQLite's largest page, in bytes.
 const LARGEST_PAGE: u32 = 65_536;
 
-/// A reader of files that stand one after another in a text that comes in pieces. Of the text it
-/// holds no more than the part that is not whole yet.
+/// A reader of files that stand one after another in a text that comes in pieces. It holds the
+/// pages so far of the file that is begun, and of the text only the part that is not whole yet.
 #[derive(Drop)]
 pub struct FileReader {
+    alloc: Global,
     pub(crate) decoder: Decoder,
+    /// The pages so far of the file that is begun.
+    pub(crate) change: Change,
     pub(crate) fault: Option<LtxFault>,
+    ghost begun: { fault ≡ None → IsTaking decoder change },
 }
 
 impl FileReader {
+    ghost use Rattle.ltx_codec.specs.Decoding.{header_shown, post_shown};
+    ghost use Rattle.ltx_codec.specs.Reading.{HasBegun, HasStopped, Reads, ReadsPart, CountsSome};
+
     pub fn new(alloc: Global) -> Result<FileReader, NoMemory>
         ensures { IfOk result (λ reader. HasBegun reader []) }
     {
         Ok(FileReader {
+            alloc,
             decoder: Decoder::new(alloc, LARGEST_PAGE)?,
+            change: no_pages(alloc),
             fault: None,
         })
     }
@@ -40,8 +53,44 @@ impl FileReader {
         if let Some(fault) = self.fault {
             return Err(fault);
         }
-        self.fault = Some(LtxFault::NoMemory);
-        Err(LtxFault::NoMemory)
+        let mut taken = 0;
+        loop {
+            let (_, rest) = piece.split_at(taken);
+            match self.take_part(rest)? {
+                Seen::More => return Ok(None),
+                Seen::Header { used } | Seen::Page { used, .. } => taken += used,
+                Seen::Whole { used } => return Ok(Some((self.take_file(), taken + used))),
+            }
+        }
+    }
+
+    /// Takes a piece up to the end of a part. A fault is stored.
+    fn take_part(&mut self, piece: &[u8]) -> Result<Seen, LtxFault>
+        requires { self.old.fault ≡ None }
+        ensures gives { (text : List ℕ) → HasTaken self.old.decoder self.old.change text → ReadsPart self.new.decoder self.new.change text piece.now result }
+        ensures some { IfOk result (CountsSome piece.now) }
+        ensures sound { OnOk result (self.new.fault ≡ None) }
+        ensures fails { IfErr result (HasStopped self.new) }
+    {
+        let seen = read_part(self.alloc, &mut self.decoder, &mut self.change, piece);
+        if let Err(fault) = seen {
+            self.fault = Some(fault);
+        }
+        seen
+    }
+
+    /// The file that ended, and no pages are left.
+    fn take_file(&mut self) -> Ltx
+        requires { IsBetween self.old.decoder }
+        ensures file { result ≡ record { header = header_shown self.old.decoder; change = self.old.change; post = post_shown self.old.decoder } }
+        ensures same { (self.new.decoder ≡ self.old.decoder) × (self.new.fault ≡ self.old.fault) }
+    {
+        let change = mem::replace(&mut self.change, no_pages(self.alloc));
+        Ltx {
+            header: self.decoder.header(),
+            change,
+            post: self.decoder.post(),
+        }
     }
 
     /// Whether no file is begun. Where one is, a text that ends here is short.

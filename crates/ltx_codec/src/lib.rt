@@ -23,6 +23,7 @@ mod reading;
 mod rules;
 mod seen;
 mod trailer;
+mod whole_pages;
 mod writing;
 
 pub use decoder::Decoder;

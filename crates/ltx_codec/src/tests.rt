@@ -248,3 +248,41 @@ fn a_fault_is_answered_again(rt: HostRuntime) -> Result<(), Fail> {
     assert_eq!(rt; decoder.finish(), Err(LtxFault::PageSize));
     Ok(())
 }
+
+/// The files that the bytes are, read in pieces of this size.
+fn read_pieces(alloc: Global, bytes: &[u8], size: usize) -> Result<Vec<Ltx>, Fail> {
+    let mut reader = FileReader::new(alloc).ok().ok_or("memory")?;
+    let mut files = Vec::new(alloc);
+    for piece in bytes.chunks(size.max(1)) {
+        let mut rest = piece;
+        for _byte in piece {
+            let Some((file, used)) = reader.feed(rest).ok().ok_or("no fault")? else {
+                break;
+            };
+            files.push(file)?;
+            rest = rest.get(used..).unwrap_or(&[]);
+        }
+    }
+    if !reader.is_between() {
+        return Err("the last file is whole".into());
+    }
+    Ok(files)
+}
+
+/// Two files one after another, in pieces of each size.
+#[test]
+fn files_come_in_pieces(rt: HostRuntime) -> Result<(), Fail> {
+    let mut bytes = text(rt.alloc(), &SNAPSHOT)?;
+    bytes.extend_from_slice(&text(rt.alloc(), &DELTA)?)?;
+    for size in [1usize, 7, 100, bytes.len()] {
+        let files = read_pieces(rt.alloc(), &bytes, size)?;
+        assert_eq!(rt; files.len(), 2, "{size}");
+        for (file, fields) in files.iter().zip([SNAPSHOT, DELTA]) {
+            assert_eq!(rt; file.header.commit, fields.commit, "{size}");
+            assert_eq!(rt; file.header.max, fields.txid, "{size}");
+            assert_eq!(rt; file.change.pages().len(), 1, "{size}");
+            assert_eq!(rt; file.post, fields.post, "{size}");
+        }
+    }
+    Ok(())
+}

@@ -3,7 +3,7 @@ use Rattle.std.specs.Result.{IsOk, is_ok}
 use Rattle.ltx_codec.specs.Decoding.{HasFed}
 use Rattle.ltx_codec.specs.declared.fault.LtxFault.{LtxFault}
 use Rattle.ltx_codec.specs.declared.fault.LtxFault.TheVariants as fault
-use Rattle.ltx_codec.specs.Reading.{largest_page}
+use Rattle.ltx_codec.specs.WholePages.{largest_page}
 use Rattle.ltx_codec.proofs.file_reader.FileReader.is_between.Goals as goal
 
 -- a text may end where it is empty
