@@ -1,7 +1,7 @@
 -- An input that is read piece by piece.
-use Rattle.std.proofs.Common.{◌≡◌, ℕ, ◌+◌, ◌<◌, ◌≤◌, List, [], ◌++◌, length, take, Option, sym, ◌∙◌, arith, length-append}
+use Rattle.std.proofs.Common.{◌≡◌, ℕ, ◌+◌, ◌<◌, ◌≤◌, List, ◌++◌, length, take, Option, sym, ◌∙◌, arith, length-append}
 use Rattle.std.specs.Io.KnownBytes.{Consumes}
-use Rattle.std.proofs.KnownBytes.{Consumes-nil, Consumes-trans}
+use Rattle.std.proofs.KnownBytes.{Consumes-trans}
 use Rattle.std.proofs.lemmas.List.{length-take-le}
 use Rattle.litefs_tool.specs.Input.{LosesBytes}
 use Rattle.litefs_tool.specs.declared.input.InputFault.{InputFault}
@@ -31,7 +31,3 @@ LosesBytes-taken has_taken limit room left left_now left_then piece why so_far r
   read = Consumes-trans left left_now left_then so_far.bytes piece so_far.read read;
   past = λ long. let no : fault.NoMemory ≡ fault.TooLong = sym is ∙ long in cc;
 }
-
--- nothing was read
-pub LosesBytes-none : (limit : ℕ) (left : Option (List ℕ)) → LosesBytes limit left left fault.NoMemory
-LosesBytes-none limit left = record { bytes = []; read = Consumes-nil left; past = λ long. cc }

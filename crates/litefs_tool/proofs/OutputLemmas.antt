@@ -1,5 +1,5 @@
 -- A sink that takes bytes in several calls.
-use Rattle.std.proofs.Common.{◌≡◌, ℕ, ◌+◌, List, [], ◌∷◌, ◌++◌, Option, Some, Result, Ok, Err, OnErr, IfErr, take, drop, sym, ap, ◌∙◌, append_assoc, append-nil}
+use Rattle.std.proofs.Common.{◌≡◌, ℕ, ◌+◌, ◌≤◌, List, [], ◌∷◌, ◌++◌, Option, Some, Result, Ok, Err, OnErr, IfErr, take, drop, arith, sym, ap, ◌∙◌, append_assoc, append-nil}
 use Rattle.std.proofs.Math.Seq.{take-add}
 use Rattle.std.specs.Io.KnownBytes.{Appends}
 use Rattle.std.specs.List.{concat, slice_get}
@@ -7,7 +7,9 @@ use Rattle.std.specs.Result.{IsErrAnd}
 use Rattle.std.proofs.KnownBytes.{Appends-trans}
 use Rattle.std.proofs.lemmas.List.{take-append-drop}
 use Rattle.std.proofs.lemmas.List.Folds.{concat-append}
-use Rattle.litefs_tool.specs.Output.{AppendsFront}
+use Rattle.std.proofs.lemmas.Bool.Decides.{nat_tests}
+use Rattle.lf_sqlite_pages.specs.PageSize.{IsPageSize, is_page_size}
+use Rattle.litefs_tool.specs.Output.{AppendsFront, AppendsAllBut}
 use Rattle.litefs_tool.proofs.PageLemmas.{drop-page}
 
 -- some bytes were taken whole, and then a front of more
@@ -28,13 +30,25 @@ pub AppendsFront-middle : (a b c : Option (List ℕ)) (before piece after all : 
 AppendsFront-middle a b c before piece after all is whole front =
     AppendsFront-after a b c before (piece ++ after) all is whole (AppendsFront-more b c piece after front)
 
+-- one more page behind those that were taken and those that are held
+pub AppendsAllBut-more : (a b c : Option (List ℕ)) (bytes held page held_now : List ℕ) → AppendsAllBut a b bytes held →
+    AppendsAllBut b c (held ++ page) held_now → AppendsAllBut a c (bytes ++ page) held_now
+AppendsAllBut-more a b c bytes held page held_now so_far step = (
+  so_far.0 ++ step.0,
+  ap (λ l. l ++ page) so_far.1 ∙ append_assoc so_far.0 held page ∙ ap (λ l. so_far.0 ++ l) step.1 ∙ sym (append_assoc so_far.0 step.0 held_now),
+  Appends-trans a b c so_far.0 step.0 so_far.2 step.2,
+)
+
+-- a front of those that are held, behind those that were taken
+pub AppendsFront-held : (a b c : Option (List ℕ)) (bytes held more all : List ℕ) → AppendsAllBut a b bytes held → AppendsFront b c held →
+    all ≡ bytes ++ more → AppendsFront a c all
+AppendsFront-held a b c bytes held more all so_far front is =
+    let split : all ≡ so_far.0 ++ (held ++ more) = is ∙ ap (λ l. l ++ more) so_far.1 ∙ append_assoc so_far.0 held more in
+    AppendsFront-middle a b c so_far.0 held more all split so_far.2 front
+
 -- the bytes of the pages up to one, and those after it
-pub concat-page : (pages : List (List ℕ)) (k : ℕ) (page : List ℕ) → slice_get pages k ≡ Some page →
-    concat pages ≡ concat (take k pages) ++ (page ++ concat (drop (k + 1) pages))
-concat-page pages k page found =
-    ap concat (sym (take-append-drop k pages))
-    ∙ concat-append (take k pages) (drop k pages)
-    ∙ ap (λ ps. concat (take k pages) ++ concat ps) (drop-page pages k page found)
+pub concat-split : (pages : List (List ℕ)) (k : ℕ) → concat pages ≡ concat (take k pages) ++ concat (drop k pages)
+concat-split pages k = ap concat (sym (take-append-drop k pages)) ∙ concat-append (take k pages) (drop k pages)
 
 -- the bytes of the pages up to one and with it
 pub concat-take : (pages : List (List ℕ)) (k : ℕ) (page : List ℕ) → slice_get pages k ≡ Some page →
@@ -59,3 +73,8 @@ map_on_err (Err e) P Q step p = step p
 pub if_err : {T E : Type 0} (r : Result T E) (Q P : E → Type 0) → IsErrAnd r Q → ((e : E) → Q e → P e) → IfErr r P
 if_err (Ok x) Q P is step = tt
 if_err (Err e) Q P is step = step e is
+
+-- the largest page
+pub page_size-most : (size : ℕ) → IsPageSize size → size ≤ 65536
+unfolding is_page_size
+page_size-most size is = grind (arith, nat_tests)

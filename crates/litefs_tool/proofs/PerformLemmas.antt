@@ -2,6 +2,7 @@
 use Rattle.std.proofs.Common.{◌≡◌, ℕ, List, [], Option, Result, Ok, Err, inl, inr, refl}
 use Rattle.std.specs.Result.{IsErrAnd}
 use Rattle.std.proofs.KnownBytes.{Appends-nil}
+use Rattle.lf_base.specs.declared.status.Status.{Status}
 use Rattle.lf_base.specs.declared.status.Status.TheVariants as status
 use Rattle.litefs_tool.specs.Compaction.{MayRefuse, RefusesToCompact, BecomesText}
 use Rattle.litefs_tool.specs.CompactRefusal.{compact_refusal_name}
@@ -13,7 +14,7 @@ use Rattle.litefs_tool.specs.Input.{ReadsWhole, LosesBytes, CountsCause}
 use Rattle.litefs_tool.specs.Output.{AppendsFront}
 use Rattle.litefs_tool.specs.Performing.{Performs}
 use Rattle.litefs_tool.specs.Refusal.{refusal_name}
-use Rattle.litefs_tool.specs.Run.{Stream, Holds, Fails, AppliesInput, CompactsInput, input_limit}
+use Rattle.litefs_tool.specs.Run.{Stream, Gives, Holds, Fails, AppliesInput, CompactsInput, input_limit}
 use Rattle.litefs_tool.specs.declared.input.InputFault.{InputFault}
 use Rattle.litefs_tool.specs.declared.input.InputFault.TheVariants as fault
 use Rattle.litefs_tool.specs.declared.refusal.Refusal.{Refusal}
@@ -24,6 +25,18 @@ use Rattle.litefs_tool.specs.declared.failure.Failure.TheVariants as failure
 -- a stream that nothing moved
 abbrev pub unmoved : Option (List ℕ) → ℕ → Stream
 unmoved known count = record { bytes = known; bytes_after = known; faults = count; faults_after = count }
+
+-- memory ran out
+unable : (comes_to : List ℕ → Status → List ℕ → List ℕ → Type 0) (input : Stream) (taken : Option (List ℕ)) (count : ℕ) (bytes : List ℕ) →
+    Gives input bytes → Holds input → comes_to bytes status.NoMemory [] [] → Performs comes_to input (unmoved taken count) (Err failure.NoMemory)
+unable comes_to input taken count bytes gives holds comes =
+    (bytes, [], record { reads = gives; writes = Appends-nil taken; rest = tt; cause = (holds, refl) }, comes)
+
+pub Performs-unable : (comes_to : List ℕ → Status → List ℕ → List ℕ → Type 0) (input : Stream) (taken : Option (List ℕ)) (count : ℕ) (bytes : List ℕ)
+    (result : Result (Unit {0}) Failure) → Gives input bytes → Holds input → comes_to bytes status.NoMemory [] [] →
+    IsErrAnd result (λ f. f ≡ failure.NoMemory) → Performs comes_to input (unmoved taken count) result
+Performs-unable comes_to input taken count bytes (Ok done) gives holds comes is = absurd is
+Performs-unable comes_to input taken count bytes (Err f) gives holds comes is = rw is (unable comes_to input taken count bytes gives holds comes)
 
 -- the input was not read whole
 fails_to_read : (input : Stream) (taken : Option (List ℕ)) (count : ℕ) (why : InputFault) →

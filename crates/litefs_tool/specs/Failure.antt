@@ -21,6 +21,7 @@ status_of_failure (failure.Files why) = status.InputRefused
 status_of_failure (failure.Compaction compaction.NoMemory) = status.NoMemory
 status_of_failure (failure.Compaction why) = status.InputRefused
 status_of_failure failure.Output = status.WriteFault
+status_of_failure failure.NoMemory = status.NoMemory
 
 -- the name of the fault where the input is refused
 abbrev pub name_of_failure : Failure → List ℕ

@@ -20,15 +20,15 @@ pub enum Failure {
     Compaction(CompactRefusal),
     /// The output failed.
     Output,
+    /// Memory ran out before anything was written.
+    NoMemory,
 }
 
 impl From<NoMemory> for Failure {
-    ghost use Rattle.litefs_tool.specs.declared.input.InputFault.TheVariants as fault;
-
-    ghost from_gives = { λ _ f. f ≡ failure.Input fault.NoMemory };
+    ghost from_gives = { λ _ f. f ≡ failure.NoMemory };
 
     fn from(_want: NoMemory) -> Failure {
-        Failure::Input(InputFault::NoMemory)
+        Failure::NoMemory
     }
 }
 
@@ -79,6 +79,7 @@ impl Failure {
             Failure::Compaction(CompactRefusal::NoMemory) => Status::NoMemory,
             Failure::Compaction(_) => Status::InputRefused,
             Failure::Output => Status::WriteFault,
+            Failure::NoMemory => Status::NoMemory,
         }
     }
 

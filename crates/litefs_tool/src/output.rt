@@ -1,12 +1,13 @@
 //! Bytes written whole.
-ghost use Rattle.std.specs.Prelude.{OnOk, OnErr};
+ghost use Rattle.std.specs.Prelude.{◌≡◌, ◌≤◌, ◌++◌, [], length, vec_capacity, IfOk, OnOk, OnErr};
 ghost use Rattle.std.specs.Io.KnownBytes.{Appends};
 ghost use Rattle.lf_base.specs.Faults.{CountsFaults};
 ghost use Rattle.lf_sqlite_pages.specs.Image.{image_bytes};
-ghost use Rattle.litefs_tool.specs.Output.{AppendsFront};
+ghost use Rattle.litefs_tool.specs.Output.{AppendsFront, AppendsAllBut};
 
-use lf_base::{Failed, Sink};
+use lf_base::{Failed, NoMemory, Sink};
 use lf_sqlite_pages::Image;
+use std::alloc::Global;
 
 /// Writes all the bytes, in as many calls as the sink wants. After a fault of the sink, it took a
 /// front of them.
@@ -23,9 +24,22 @@ pub fn write_whole<S: Sink>(sink: &mut S, bytes: &[u8]) -> Result<(), Failed>
     Ok(())
 }
 
-/// Writes the pages of an image, one after another. After a fault of the sink, it took a front of
-/// their bytes.
-pub fn write_image<S: Sink>(sink: &mut S, image: &Image) -> Result<(), Failed>
+/// How many bytes of pages are gathered before they are written.
+const BUFFER: usize = 131_072;
+
+/// An empty buffer for pages.
+pub fn new_buffer(alloc: Global) -> Result<Vec<u8>, NoMemory>
+    ensures empty { IfOk result (λ buffer. buffer.items ≡ []) }
+    ensures room { IfOk result (λ buffer. BUFFER ≤ vec_capacity buffer) }
+{
+    Ok(Vec::with_capacity(alloc, BUFFER)?)
+}
+
+/// Writes the pages of an image, one after another, gathered in the buffer. After a fault of the
+/// sink, it took a front of their bytes.
+pub fn write_image<S: Sink>(sink: &mut S, image: &Image, buffer: &mut Vec<u8>) -> Result<(), Failed>
+    requires empty { buffer.old.items ≡ [] }
+    requires room { BUFFER ≤ vec_capacity buffer.old }
     ensures whole { OnOk result (Appends (S.taken sink.old) (S.taken sink.new) (image_bytes image.now)) }
     ensures front { OnErr result (AppendsFront (S.taken sink.old) (S.taken sink.new) (image_bytes image.now)) }
     ensures cause { CountsFaults (S.faults sink.old) (S.faults sink.new) result }
@@ -33,7 +47,23 @@ pub fn write_image<S: Sink>(sink: &mut S, image: &Image) -> Result<(), Failed>
     let mut number = 0;
     while number < image.commit() {
         number += 1;
-        write_whole(sink, image.page(number))?;
+        add_page(sink, image.page(number), buffer)?;
     }
+    write_whole(sink, buffer.as_slice())
+}
+
+/// Puts a page behind those in the buffer. Where it has no room, they are written first.
+fn add_page<S: Sink>(sink: &mut S, page: &[u8], buffer: &mut Vec<u8>) -> Result<(), Failed>
+    requires fits { length page.now ≤ vec_capacity buffer.old }
+    ensures whole { OnOk result (AppendsAllBut (S.taken sink.old) (S.taken sink.new) (buffer.old.items ++ page.now) buffer.new.items) }
+    ensures front { OnErr result (AppendsFront (S.taken sink.old) (S.taken sink.new) buffer.old.items) }
+    ensures cause { CountsFaults (S.faults sink.old) (S.faults sink.new) result }
+    ensures room { vec_capacity buffer.old ≤ vec_capacity buffer.new }
+{
+    if buffer.capacity() - buffer.len() < page.len() {
+        write_whole(sink, buffer.as_slice())?;
+        buffer.clear();
+    }
+    buffer.extend_from_slice(page).unwrap();
     Ok(())
 }

@@ -9,7 +9,7 @@ use crate::failure::Failure;
 use crate::gathering::Gathering;
 use crate::host::Host;
 use crate::input::read_to_end;
-use crate::output::{write_image, write_whole};
+use crate::output::{new_buffer, write_image, write_whole};
 use crate::report::report;
 use lf_base::{Sink, Source, Status, Text};
 use std::alloc::Global;
@@ -63,7 +63,8 @@ fn apply<I: Source, O: Sink>(alloc: Global, input: &mut I, output: &mut O) -> Re
 {
     let applying = read_to_end(alloc, input, INPUT_LIMIT, Applying::new(alloc)?)?;
     let image = applying.finish()?;
-    write_image(output, &image)?;
+    let mut buffer = new_buffer(alloc)?;
+    write_image(output, &image, &mut buffer)?;
     Ok(())
 }
 

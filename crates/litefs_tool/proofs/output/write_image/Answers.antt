@@ -1,7 +1,13 @@
-use Rattle.std.proofs.Common.{◌≡◌, ◌+◌, ◌-◌, arith, rules}
-use Rattle.std.proofs.KnownBytes.{Appends-trans}
-use Rattle.litefs_tool.proofs.OutputLemmas.{AppendsFront-after, AppendsFront-more, concat-page, concat-take, on_err}
+use Rattle.std.proofs.Common.{◌≡◌, ◌+◌, ◌-◌, ◌<◌, ◌≤◌, length, arith, rules}
+use Rattle.litefs_tool.specs.Output.{AppendsFront}
+use Rattle.litefs_tool.proofs.OutputLemmas.{AppendsAllBut-more, AppendsFront-held, concat-split, concat-take, page_size-most, on_err, map_on_err}
 use Rattle.litefs_tool.proofs.output.write_image.Goals as goal
+
+pub add_page-requires : goal.add_page-requires
+add_page-requires g c =
+    let some : 0 < length c.args.image.now.pages = omega (arith, c.loop-number-test.true, c.commit.ensures.value) in
+    let size : c.args.image.now.page_size ≤ 65536 = page_size-most _ (c.commit.ensures.valid.of_a_page_size some) in
+    record { fits = omega (arith, c.page.ensures.whole, size, c.loop-number.invariant.room) }
 
 -- the pages before, and this one
 pub loop-number-preserved : goal.loop-number-preserved
@@ -12,16 +18,20 @@ loop-number-preserved g c =
     record {
       within = search rules;
       taken = rw (concat-take c.args.image.now.pages before c.page.result.now found)
-          (Appends-trans _ _ _ _ _ c.loop-number.invariant.taken c.in_ok-write_whole.ensures.whole);
+          (AppendsAllBut-more _ _ _ _ _ c.page.result.now _ c.loop-number.invariant.taken c.in_ok-add_page.ensures.whole);
+      room = omega (arith, c.loop-number.invariant.room, c.add_page.ensures.room);
       faults = search rules;
     }
 
--- the pages before, and a front of this one
-pub returns-in_err-write_whole-clause-front : goal.returns-in_err-write_whole-clause-front
-returns-in_err-write_whole-clause-front g c =
-    let before = c.loop-number.number in
-    let same : before + 1 - 1 ≡ before = omega arith in
-    let found = rw same at c.page.ensures.value in
-    on_err _ _
-    (AppendsFront-after _ _ _ _ _ _ (concat-page c.args.image.now.pages before c.page.result.now found) c.loop-number.invariant.taken
-    (AppendsFront-more _ _ _ _ c.in_err-write_whole.ensures.front))
+-- the pages before but for those in the buffer, and a front of these
+pub returns-in_err-add_page-clause-front : goal.returns-in_err-add_page-clause-front
+returns-in_err-add_page-clause-front g c =
+    let pages = c.args.image.now.pages in
+    on_err _ _ (AppendsFront-held _ _ _ _ _ _ _ c.loop-number.invariant.taken c.in_err-add_page.ensures.front (concat-split pages c.loop-number.number))
+
+pub returns-clause-front : goal.returns-clause-front
+returns-clause-front g c =
+    let pages = c.args.image.now.pages in
+    let held = rw c.as_slice.ensures.value at c.write_whole.ensures.front in
+    map_on_err c.write_whole.result (AppendsFront (g.S.Sink.taken c.loop-number.sink) (g.S.Sink.taken c.write_whole.new.sink) c.loop-number.buffer.items) _
+    (λ front. AppendsFront-held _ _ _ _ _ _ _ c.loop-number.invariant.taken front (concat-split pages c.loop-number.number)) held

@@ -20,6 +20,7 @@ line-of_failure (failure.Files why) = refl
 line-of_failure (failure.Compaction compaction.NoMemory) = refl
 line-of_failure (failure.Compaction why) = refl
 line-of_failure failure.Output = refl
+line-of_failure failure.NoMemory = refl
 
 pub returns-clause-front : goal.returns-clause-front
 returns-clause-front g c =

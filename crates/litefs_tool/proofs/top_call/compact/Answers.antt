@@ -1,11 +1,11 @@
-use Rattle.std.proofs.Common.{refl}
-use Rattle.litefs_tool.specs.declared.input.InputFault.TheVariants as fault
-use Rattle.litefs_tool.proofs.InputLemmas.{LosesBytes-none}
-use Rattle.litefs_tool.proofs.PerformLemmas.{Performs-unread_files, Performs-kept_apart, Performs-unwritten}
+use Rattle.std.proofs.Common.{[], refl}
+use Rattle.std.proofs.KnownBytes.{Consumes-nil}
+use Rattle.litefs_tool.specs.Run.{CompactsInput}
+use Rattle.litefs_tool.proofs.PerformLemmas.{Performs-unable, Performs-unread_files, Performs-kept_apart, Performs-unwritten}
 use Rattle.litefs_tool.proofs.top_call.compact.Goals as goal
 
 pub returns-in_err-new : goal.returns-in_err-new
-returns-in_err-new g c = Performs-unread_files _ _ _ fault.NoMemory _ (LosesBytes-none _ _) refl c.from_residual.ensures.1
+returns-in_err-new g c = Performs-unable CompactsInput _ _ _ [] _ (Consumes-nil _) refl refl c.from_residual.ensures.1
 
 pub returns-in_err-gathering : goal.returns-in_err-gathering
 returns-in_err-gathering g c = Performs-unread_files _ _ _ _ _ c.in_err-gathering.ensures.lost c.in_err-gathering.ensures.cause
