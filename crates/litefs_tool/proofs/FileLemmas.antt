@@ -12,7 +12,7 @@ use Rattle.ltx_codec.specs.declared.fault.LtxFault.TheVariants as fault
 use Rattle.ltx_codec.specs.declared.file.Ltx.{Ltx}
 use Rattle.litefs_tool.specs.Files.{Applies, MakesOf, Refuses, Joins, after, never_written, broken, refused, last, more}
 use Rattle.litefs_tool.specs.Refusal.{refusal_of}
-use Rattle.litefs_tool.specs.declared.files.Database.{Database}
+use Rattle.litefs_tool.specs.declared.database.Database.{Database}
 use Rattle.litefs_tool.specs.declared.refusal.Refusal.{Refusal}
 use Rattle.litefs_tool.specs.declared.refusal.Refusal.TheVariants as refusal
 

@@ -5,4 +5,5 @@ pub mod FileLemmas
 pub mod OutputLemmas
 pub mod PageLemmas
 pub mod PerformLemmas
+pub mod SumLemmas
 pub mod WholeChange

@@ -4,9 +4,11 @@
 //! said in the specifications `Run`; what applying LTX files comes to, in `Files`.
 #![tactic(auto)]
 
+mod changed_sum;
 mod command;
 mod compact_refusal;
 mod compaction;
+mod database;
 mod failure;
 mod files;
 mod host;
