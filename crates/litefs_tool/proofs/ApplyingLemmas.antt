@@ -13,11 +13,12 @@ use Rattle.ltx_codec.proofs.NumberLemmas.{found_there, found_inside}
 use Rattle.litefs_tool.specs.Applying.{GoesOn, HasApplied, EndsFile, IsApplying}
 use Rattle.litefs_tool.specs.Files.{Applies, MakesOf, Refuses, Joins, after, never_written, broken, refused, last, more}
 use Rattle.litefs_tool.specs.Refusal.{refusal_of}
+use Rattle.litefs_tool.specs.SumSteps.{HasSum}
 use Rattle.lf_base.specs.declared.memory.NoMemory.{NoMemory}
 use Rattle.litefs_tool.specs.declared.applying.Applying.{Applying}
 use Rattle.litefs_tool.specs.declared.applying.Applying.TheVariants.{Refused}
 use Rattle.litefs_tool.specs.declared.applying.Progress.{Progress}
-use Rattle.litefs_tool.specs.declared.files.Database.{Database}
+use Rattle.litefs_tool.specs.declared.database.Database.{Database}
 use Rattle.litefs_tool.specs.declared.refusal.Refusal.{Refusal}
 use Rattle.litefs_tool.specs.declared.refusal.Refusal.TheVariants as refusal
 
@@ -38,21 +39,23 @@ GoesOn-part database is_first text bytes part tail answer so_far some applies =
 -- no file ends in the piece
 pub HasApplied-more : (progress : Progress) (reader : FileReader) (bytes piece : List ℕ) (so_far : HasApplied progress bytes) →
     HasBegun reader (so_far.text ++ piece) → 0 < length piece →
-    HasApplied (record { reader = reader; database = progress.database; is_first = progress.is_first }) (bytes ++ piece)
+    HasApplied (record progress { reader = reader }) (bytes ++ piece)
 HasApplied-more progress reader bytes piece so_far begun some = record {
   text = so_far.text ++ piece;
   begun = begun;
+  sum = so_far.sum;
   more = λ tail answer why applies. GoesOn-part progress.database progress.is_first so_far.text bytes piece tail answer so_far.more some applies;
   done = λ none _. absurd (omega (arith, some, ap length none, length-append so_far.text piece));
 }
 
 -- the file that ended joins
 pub HasApplied-joins : (progress : Progress) (now : Database) (bytes part : List ℕ) (file : Ltx) → EndsFile progress bytes part file →
-    Joins progress.database file → now ≡ after progress.database file →
-    HasApplied (record { reader = progress.reader; database = now; is_first = false }) (bytes ++ part)
-HasApplied-joins progress now bytes part file ends joins is = record {
+    Joins progress.database file → now ≡ after progress.database file → HasSum now →
+    HasApplied (record progress { database = now; is_first = false }) (bytes ++ part)
+HasApplied-joins progress now bytes part file ends joins is sum = record {
   text = [];
   begun = ends.begun;
+  sum = sum;
   more = λ tail answer why applies.
       let some : 0 < length tail = elim why [ inl never ↦ cc | inr some ↦ some ] in
       let then : Applies (after progress.database file) tail answer = subst (λ d. Applies d tail answer) is applies in

@@ -6,5 +6,6 @@ pub mod InputLemmas
 pub mod OutputLemmas
 pub mod PageLemmas
 pub mod PerformLemmas
+pub mod SumLemmas
 pub mod TakerLemmas
 pub mod WholeChange

@@ -5,10 +5,11 @@ use Rattle.ltx_codec.specs.Format.{IsLtx}
 use Rattle.ltx_codec.specs.Reading.{HasBegun}
 use Rattle.ltx_codec.specs.declared.file.Ltx.{Ltx}
 use Rattle.litefs_tool.specs.Files.{Applies, never_written}
+use Rattle.litefs_tool.specs.SumSteps.{HasSum}
 use Rattle.litefs_tool.specs.declared.applying.Applying.{Applying}
 use Rattle.litefs_tool.specs.declared.applying.Applying.TheVariants.{Sound, Refused}
 use Rattle.litefs_tool.specs.declared.applying.Progress.{Progress}
-use Rattle.litefs_tool.specs.declared.files.Database.{Database}
+use Rattle.litefs_tool.specs.declared.database.Database.{Database}
 use Rattle.litefs_tool.specs.declared.refusal.Refusal.{Refusal}
 
 -- what a text comes to for the database, these bytes and what follows them come to for one never written
@@ -20,6 +21,7 @@ GoesOn database is_first text bytes = (tail : List ℕ) (answer : Result Databas
 pub record HasApplied (progress : Progress) (bytes : List ℕ) : Type 0 where
   pub text : List ℕ
   pub begun : HasBegun progress.reader text
+  pub sum : HasSum progress.database
   pub more : GoesOn progress.database progress.is_first text bytes
   pub done : text ≡ [] → progress.is_first ≡ false → Applies never_written bytes (Ok progress.database.image)
 
@@ -27,6 +29,7 @@ pub record HasApplied (progress : Progress) (bytes : List ℕ) : Type 0 where
 pub record EndsFile (progress : Progress) (bytes part : List ℕ) (file : Ltx) : Type 0 where
   pub text : List ℕ
   pub begun : HasBegun progress.reader []
+  pub sum : HasSum progress.database
   pub more : GoesOn progress.database progress.is_first text bytes
   pub some : 0 < length part
   pub whole : IsLtx (text ++ part) file

@@ -11,3 +11,4 @@ pub mod Performing
 pub mod Position
 pub mod Refusal
 pub mod Run
+pub mod SumSteps

@@ -3,8 +3,9 @@ ghost use Rattle.std.specs.Prelude.{◌≡◌, ◌≢◌, ◌<◌, ◌≤◌, �
 ghost use Rattle.ltx_codec.specs.Format.{IsFile};
 ghost use Rattle.litefs_tool.specs.Applying.{HasApplied, EndsFile, IsApplying};
 ghost use Rattle.litefs_tool.specs.Files.{MakesOf};
+ghost use Rattle.litefs_tool.specs.SumSteps.{HasSum};
 
-use crate::files::Database;
+use crate::database::Database;
 use crate::refusal::Refusal;
 use crate::taker::Taker;
 use lf_base::NoMemory;
@@ -24,6 +25,7 @@ pub enum Applying {
 /// How far the files were applied.
 #[derive(Drop)]
 pub struct Progress {
+    pub alloc: Global,
     pub reader: FileReader,
     pub database: Database,
     /// No file was whole yet.
@@ -46,6 +48,7 @@ impl Applying {
         ensures { IfOk result (λ applying. IsApplying applying []) }
     {
         Ok(Applying::Sound(Progress {
+            alloc,
             reader: FileReader::new(alloc)?,
             database: Database::new(alloc),
             is_first: true,
@@ -81,16 +84,19 @@ impl Progress {
 
     /// Applies the file that ended.
     fn apply(self, file: Ltx) -> Result<Applying, NoMemory>
-        requires { IsFile file }
+        requires valid { IsFile file }
+        requires sum { HasSum self.database }
         ensures { (bytes part : List ℕ) → EndsFile self bytes part file → IfOk result (λ applying. IsApplying applying (bytes ++ part)) }
     {
         let Progress {
+            alloc,
             reader,
             database,
             ..
         } = self;
-        match database.apply(file) {
+        match database.apply(alloc, file) {
             Ok(database) => Ok(Applying::Sound(Progress {
+                alloc,
                 reader,
                 database,
                 is_first: false,

@@ -5,7 +5,7 @@ ghost use Rattle.ltx_codec.specs.Fields.{AreBytes};
 ghost use Rattle.litefs_tool.specs.Compaction.{CompactsTo};
 ghost use Rattle.litefs_tool.specs.Files.{Applies};
 ghost use Rattle.litefs_tool.specs.declared.compact_refusal.CompactRefusal.{CompactRefusal};
-ghost use Rattle.litefs_tool.specs.declared.files.Database.{Database};
+ghost use Rattle.litefs_tool.specs.declared.database.Database.{Database};
 ghost use Rattle.litefs_tool.specs.declared.refusal.Refusal.{Refusal};
 
 use ltx_codec::{one_earliest_fault, one_reading, text_breaks_no_rule};

@@ -5,9 +5,11 @@
 #![tactic(auto)]
 
 mod applying;
+mod changed_sum;
 mod command;
 mod compact_refusal;
 mod compaction;
+mod database;
 mod failure;
 mod files;
 mod gathering;

@@ -14,6 +14,7 @@ returns-in_ok-apply-in-Ok-Some-clause-taken c = λ before so_far.
     c.in_ok-apply-in-Ok-Some.ensures before (take c.in-Ok-Some.used c.args.bytes.now) (record {
       text = so_far.text;
       begun = reads.3;
+      sum = so_far.sum;
       more = so_far.more;
       some = some-taken c.in-Ok-Some.used c.args.bytes.now reads.0 reads.1;
       whole = reads.2;

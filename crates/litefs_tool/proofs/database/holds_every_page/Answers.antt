@@ -1,7 +1,7 @@
 use Rattle.std.proofs.Common.{◌≡◌, length, ap, sym, ◌∙◌}
 use Rattle.std.proofs.lemmas.Bool.{eqb-true, eq-eqb}
 use Rattle.litefs_tool.proofs.WholeChange.{HoldsEveryPage-by_count, count-by_HoldsEveryPage}
-use Rattle.litefs_tool.proofs.files.holds_every_page.Goals as goal
+use Rattle.litefs_tool.proofs.database.holds_every_page.Goals as goal
 
 pub returns : goal.returns
 returns c =
