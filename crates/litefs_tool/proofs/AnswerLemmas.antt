@@ -63,6 +63,10 @@ BreaksNoRule = (text rest : List ℕ) (file : Ltx) (f : LtxFault) (place : ℕ) 
 abbrev pub OneFault : Type 0
 OneFault = (bytes : List ℕ) (fault other : LtxFault) → IsEarliest bytes fault → IsEarliest bytes other → fault ≡ other
 
+-- what follows the file at the front
+pub same_rest : (text other rest after_it : List ℕ) → text ≡ other → text ++ rest ≡ other ++ after_it → rest ≡ after_it
+same_rest text other rest after_it same is = append_cancel_left text rest after_it (is ∙ ap (λ (l : List ℕ). l ++ after_it) (sym same))
+
 module _ (reading : OneReading) (sound : BreaksNoRule) (one_fault : OneFault) where
   -- bytes with a file at their front have no fault inside it
   pub no_fault : (bytes text rest : List ℕ) (file : Ltx) (f : LtxFault) → AreBytes bytes → bytes ≡ text ++ rest → IsLtx text file →
@@ -71,10 +75,6 @@ module _ (reading : OneReading) (sound : BreaksNoRule) (one_fault : OneFault) wh
       let tail : f ≡ fault.Tail = (sound text rest file f first.place (subst AreBytes is small) whole (subst (λ bs. IsBroken bs f first.place) is first.broken)).0 in
       let none : StandsInside fault.Tail = subst StandsInside tail inside in
       none
-
-  -- what follows the file at the front
-  same_rest : (text other rest after_it : List ℕ) → text ≡ other → text ++ rest ≡ other ++ after_it → rest ≡ after_it
-  same_rest text other rest after_it same is = append_cancel_left text rest after_it (is ∙ ap (λ l. l ++ after_it) (sym same))
 
   -- a whole text has no file at its front with bytes behind it
   not_more : (bytes text rest : List ℕ) (file second : Ltx) → IsLtx bytes file → IsLtx text second → bytes ≡ text ++ rest → 0 < length rest → ⊥

@@ -2,7 +2,6 @@
 use Rattle.std.proofs.Common.{◌≡◌, ℕ, ◌-◌, ◌<◌, ◌≤◌, ◌⊎◌, Some, List, [], ◌∷◌, ◌++◌, length, map, Result, Ok, Err, refl, sym, ap, subst, inl, inr, ◌∙◌, arith, length-append, append_assoc}
 use Rattle.std.specs.List.{slice_get}
 use Rattle.std.proofs.lemmas.Bool.{cases_lt}
-use Rattle.std.proofs.lemmas.List.{append_cancel_left}
 use Rattle.std.proofs.lemmas.Option.{slice_get_within}
 use Rattle.page_checksum.specs.Sums.{database_sum}
 use Rattle.lf_sqlite_pages.specs.Change.{PageChange}
@@ -21,7 +20,7 @@ use Rattle.ltx_compact.specs.declared.fault.CompactFault.TheVariants as list
 use Rattle.litefs_tool.specs.Compaction.{AreTexts, BreaksOff, Become, BecomesText, SaysOtherSum, RefusesToCompact, CompactsTo}
 use Rattle.litefs_tool.specs.declared.compact_refusal.CompactRefusal.{CompactRefusal}
 use Rattle.litefs_tool.specs.declared.compact_refusal.CompactRefusal.TheVariants as refusal
-use Rattle.litefs_tool.proofs.AnswerLemmas.{OneReading, BreaksNoRule, OneFault, bytes_behind, no_fault}
+use Rattle.litefs_tool.proofs.AnswerLemmas.{OneReading, BreaksNoRule, OneFault, bytes_behind, no_fault, same_rest}
 
 some_once : {X : Type 0} (x y : X) → Some x ≡ Some y → x ≡ y
 some_once x y same = cc
@@ -138,9 +137,6 @@ compacts_once files one two a b =
     ∙ ap (λ (l : Ltx). made files b.first l) (some_once a.last b.last (sym a.is_last ∙ b.is_last))
     ∙ sym (is_made files two b)
 
-same_behind : (text other rest more : List ℕ) → text ≡ other → text ++ rest ≡ other ++ more → rest ≡ more
-same_behind text other rest more same is = append_cancel_left text rest more (is ∙ ap (λ (l : List ℕ). l ++ more) (sym same))
-
 module _ (reading : OneReading) (sound : BreaksNoRule) (one_fault : OneFault) where
   -- no bytes are no text
   no_text : (bytes text rest : List ℕ) (file : Ltx) → AreBytes bytes → bytes ≡ [] → bytes ≡ text ++ rest → IsLtx text file → ⊥
@@ -159,7 +155,7 @@ module _ (reading : OneReading) (sound : BreaksNoRule) (one_fault : OneFault) wh
       let joined = sym one.2 ∙ two.2 in
       let both = reading one.0 two.0 one.1 two.1 file other one.3 two.3 joined in
       let first : file ≡ other = both.1 in
-      let rests : one.1 ≡ two.1 = same_behind one.0 two.0 one.1 two.1 both.0 joined in
+      let rests : one.1 ≡ two.1 = same_rest one.0 two.0 one.1 two.1 both.0 joined in
       let again : files ≡ others =
       texts_once one.1 files others (bytes_behind bytes one.0 one.1 small one.2) one.4 (subst (λ (bs : List ℕ). AreTexts bs others) (sym rests) two.4)
       in
@@ -177,7 +173,7 @@ module _ (reading : OneReading) (sound : BreaksNoRule) (one_fault : OneFault) wh
       let split : bytes ≡ texts.0 ++ (texts.1 ++ rest) = is ∙ ap (λ (l : List ℕ). l ++ rest) texts.2 ∙ append_assoc texts.0 texts.1 rest in
       let joined = sym split ∙ all.2 in
       let both = reading texts.0 all.0 (texts.1 ++ rest) all.1 file other texts.3 all.3 joined in
-      let rests : texts.1 ++ rest ≡ all.1 = same_behind texts.0 all.0 (texts.1 ++ rest) all.1 both.0 joined in
+      let rests : texts.1 ++ rest ≡ all.1 = same_rest texts.0 all.0 (texts.1 ++ rest) all.1 both.0 joined in
       breaks_or_texts (texts.1 ++ rest) texts.1 rest files others f (bytes_behind bytes texts.0 (texts.1 ++ rest) small split) refl texts.4 some first inside
       (subst (λ (bs : List ℕ). AreTexts bs others) (sym rests) all.4)
 
@@ -201,7 +197,7 @@ module _ (reading : OneReading) (sound : BreaksNoRule) (one_fault : OneFault) wh
       let split_too : bytes ≡ texts_too.0 ++ (texts_too.1 ++ behind) = is_too ∙ ap (λ (l : List ℕ). l ++ behind) texts_too.2 ∙ append_assoc texts_too.0 texts_too.1 behind in
       let joined = sym split ∙ split_too in
       let both = reading texts.0 texts_too.0 (texts.1 ++ rest) (texts_too.1 ++ behind) file second texts.3 texts_too.3 joined in
-      let rests : texts.1 ++ rest ≡ texts_too.1 ++ behind = same_behind texts.0 texts_too.0 (texts.1 ++ rest) (texts_too.1 ++ behind) both.0 joined in
+      let rests : texts.1 ++ rest ≡ texts_too.1 ++ behind = same_rest texts.0 texts_too.0 (texts.1 ++ rest) (texts_too.1 ++ behind) both.0 joined in
       breaks_once (texts.1 ++ rest) texts.1 rest texts_too.1 behind files others f g (bytes_behind bytes texts.0 (texts.1 ++ rest) small split) refl texts.4 first inside rests texts_too.4 first_too inside_too
 
   breaks_or : (bytes : List ℕ) (f : LtxFault) (files : List Ltx) → AreBytes bytes → BreaksOff bytes f → AreTexts bytes files → ⊥
