@@ -1,5 +1,5 @@
 -- A block folded into the one that follows.
-use Rattle.std.proofs.Common.{◌≡◌, ℕ, ◌+◌, ◌-◌, ◌<◌, ◌≤◌, ◌^◌, List, [], ◌++◌, length, get_or, take, drop, inl, inr, arith, refl, sym, ap, subst, take-take, ◌∙◌, append_assoc}
+use Rattle.std.proofs.Common.{◌≡◌, ℕ, ◌+◌, ◌-◌, ◌<◌, ◌≤◌, ◌^◌, List, ◌++◌, length, get_or, take, drop, inl, inr, arith, refl, sym, ap, subst, take-take, ◌∙◌, append_assoc}
 use borrow.Rule.Slice.PartMut.{put_mid}
 use Rattle.std.proofs.Math.Seq.{take-append_seam, drop-append_seam}
 use Rattle.std.proofs.lemmas.Bool.{cases_lt}
@@ -33,12 +33,12 @@ written_end count block carried end whole c_whole e_whole bytes =
     let tail_long : length block ≡ length tail = whole ∙ sym (length-append (zeros count) carried ∙ omega (arith, length-replicate {A = ℕ} count 0)) in
     let long : length (front ++ end) ≡ length block = length-append front end ∙ omega arith in
     same_number_lists (front ++ end) (xors block tail) (long ∙ sym (length-xors block tail tail_long)) (λ k below.
-      sym (get_or-xors block tail k tail_long ∙ elim (cases_lt k count) [
-        | inl early ↦
+    sym (get_or-xors block tail k tail_long ∙ elim (cases_lt k count) [
+      | inl early ↦
           let none : get_or tail k 0 ≡ 0 = get_or-zeros count carried k early in
           ap (bit_xor (get_or block k 0)) none ∙ xor_zero_r (get_or block k 0)
           ∙ sym (get_or_append_left front end 0 k (subst (λ (n : ℕ). k < n) (sym front_long) early) ∙ get_or-take count block k 0 early)
-        | inr late ↦
+      | inr late ↦
           let j : ℕ = k - count in
           let place : count + j ≡ k = omega arith in
           ap (λ (n : ℕ). bit_xor (get_or block n 0) (get_or tail n 0)) (sym place)
@@ -46,7 +46,7 @@ written_end count block carried end whole c_whole e_whole bytes =
           ∙ sym (bytes j (omega arith))
           ∙ sym (get_or-append-add front end j 0)
           ∙ ap (λ (n : ℕ). get_or (front ++ end) n 0) (ap (λ (n : ℕ). n + j) front_long ∙ place)
-      ]))
+    ]))
 
 -- the carry reads no more than the first 16 bytes
 carry_same : (block end : List ℕ) (k : ℕ) → length block ≡ 256 → carry_byte (take 240 block ++ end) k ≡ carry_byte block k
@@ -78,11 +78,11 @@ value-folded block new whole new_whole small is =
     let c : ℕ = after_bytes 0 (carried new) in
     let tail : List ℕ = zeros 240 ++ carried new in
     let tail_long : length block ≡ length tail =
-      whole ∙ sym (length-append (zeros 240) (carried new) ∙ omega (arith, length-replicate {A = ℕ} 240 0, length-take-le 16 (product new) (omega (arith, length-product new)))) in
+    whole ∙ sym (length-append (zeros 240) (carried new) ∙ omega (arith, length-replicate {A = ℕ} 240 0, length-take-le 16 (product new) (omega (arith, length-product new)))) in
     let value : after_bytes 0 new ≡ bit_xor (after_bytes 0 block) c =
-      ap (after_bytes 0) is ∙ after_bytes-xor 0 0 block tail tail_long ∙ ap (bit_xor (after_bytes 0 block)) (zeros-before 240 (carried new)) in
+    ap (after_bytes 0) is ∙ after_bytes-xor 0 0 block tail tail_long ∙ ap (bit_xor (after_bytes 0 block)) (zeros-before 240 (carried new)) in
     xor_cancel (after_zeros 256 (after_bytes 0 block)) (after_bytes 0 (folded new)) (after_zeros 256 c)
-      (sym (after_zeros-xor 256 (after_bytes 0 block) c) ∙ ap (after_zeros 256) (sym value) ∙ sym (value-product new small) ∙ value-parts new new_whole)
+    (sym (after_zeros-xor 256 (after_bytes 0 block) c) ∙ ap (after_zeros 256) (sym value) ∙ sym (value-product new small) ∙ value-parts new new_whole)
 
 fits-joined : (count : ℕ) (block end : List ℕ) → count ≤ length block → ((i : ℕ) → get_or block i 0 < 256) → ((i : ℕ) → get_or end i 0 < 256)
     → (i : ℕ) → get_or (take count block ++ end) i 0 < 256
@@ -110,16 +110,16 @@ fold_is block end next new whole end_whole next_whole new_whole of_block of_end 
     let small : after_bytes 0 joined < 2 ^ 64 = after_bytes_fit 0 joined (omega arith) (fits-joined 240 block end (omega arith) of_block of_end) in
     let carried_whole : length (carried joined) ≡ 16 = length-take-le 16 (product joined) (omega (arith, length-product joined)) in
     let is : joined ≡ xors block (zeros 240 ++ carried joined) =
-      written_end 240 block (carried joined) end whole carried_whole end_whole (λ k below.
-        ends k below ∙ ap (bit_xor (get_or block (240 + k) 0)) (sym (get_or-take 16 (product joined) k 0 below ∙ product_first joined k below ∙ carry_same block end k whole))) in
+    written_end 240 block (carried joined) end whole carried_whole end_whole (λ k below.
+    ends k below ∙ ap (bit_xor (get_or block (240 + k) 0)) (sym (get_or-take 16 (product joined) k 0 below ∙ product_first joined k below ∙ carry_same block end k whole))) in
     let value : after_zeros 256 (after_bytes 0 block) ≡ after_bytes 0 (folded joined) = value-folded block joined whole joined_whole small is in
     let folded_whole : length (folded joined) ≡ 256 = length-drop 16 (product joined) ∙ omega (arith, length-product joined) in
     let same_long : length next ≡ length (folded joined) = next_whole ∙ sym folded_whole in
     let new_is : new ≡ xors next (folded joined) =
-      same_number_lists new (xors next (folded joined)) (new_whole ∙ sym (length-xors next (folded joined) same_long ∙ next_whole)) (λ k below.
-        bytes k (omega arith)
-        ∙ ap (bit_xor (get_or next k 0)) (product-padded joined k ∙ sym (get_or-drop 16 (product joined) k 0 ∙ product_later joined k))
-        ∙ sym (get_or-xors next (folded joined) k same_long)) in
+    same_number_lists new (xors next (folded joined)) (new_whole ∙ sym (length-xors next (folded joined) same_long ∙ next_whole)) (λ k below.
+    bytes k (omega arith)
+    ∙ ap (bit_xor (get_or next k 0)) (product-padded joined k ∙ sym (get_or-drop 16 (product joined) k 0 ∙ product_later joined k))
+    ∙ sym (get_or-xors next (folded joined) k same_long)) in
     ap (after_bytes 0) new_is
     ∙ after_bytes-xor 0 0 next (folded joined) same_long
     ∙ xor_comm (after_bytes 0 next) (after_bytes 0 (folded joined))

@@ -1,5 +1,5 @@
 -- Steps of the checksum as the loops take them, and its width.
-use Rattle.std.proofs.Common.{◌≡◌, ℕ, zero, suc, ◌+◌, ◌-◌, ◌<◌, ◌^◌, ◌/◌, ◌%◌, List, [], ◌∷◌, ◌++◌, get_or, Bool, true, false, cond, arith, refl}
+use Rattle.std.proofs.Common.{◌≡◌, ℕ, zero, suc, ◌+◌, ◌-◌, ◌<◌, ◌^◌, ◌/◌, ◌%◌, List, [], ◌∷◌, ◌++◌, get_or, true, false, cond, arith, refl}
 use Rattle.std.proofs.lemmas.Nat.{xor_lt, or_lt}
 use Rattle.std.specs.Prelude.{◌==◌, bit_xor}
 use Rattle.page_checksum.specs.Crc.{after_bit, after_bits, after_byte, after_bytes, all_ones, crc}

@@ -1,10 +1,10 @@
 -- The register moves linearly: the XOR of two registers goes to the XOR of what each goes to.
-use Rattle.std.proofs.Common.{◌≡◌, ℕ, zero, suc, ◌+◌, ◌-◌, ◌*◌, ◌<◌, ◌≤◌, ◌^◌, ◌/◌, ◌%◌, List, [], ◌∷◌, ◌++◌, Bool, true, false, cond, length, arith, refl, sym, ap, ◌∙◌}
-use Rattle.std.proofs.lemmas.Nat.{xor_comm, xor_shr, xor_mod, xor_lt, mod_below}
+use Rattle.std.proofs.Common.{◌≡◌, ℕ, zero, suc, ◌+◌, ◌*◌, ◌<◌, ◌^◌, ◌/◌, ◌%◌, true, false, cond, arith, refl, sym, ap, ◌∙◌}
+use Rattle.std.proofs.lemmas.Nat.{xor_comm, xor_shr, xor_mod, mod_below}
 use Rattle.std.specs.Int.Bits.{xor_assoc, xor_zero_r}
 use Rattle.std.proofs.Math.Nat.{pow-suc, mul_assoc, zero-add, suc-add}
 use Rattle.std.specs.Prelude.{◌==◌, bit_xor}
-use Rattle.page_checksum.specs.Crc.{after_bit, after_bits, after_byte, after_bytes}
+use Rattle.page_checksum.specs.Crc.{after_bit, after_bits, after_byte}
 
 -- four XORs in another order
 pub xor_turned : (a b c d : ℕ) → bit_xor (bit_xor a b) (bit_xor c d) ≡ bit_xor (bit_xor a c) (bit_xor b d)

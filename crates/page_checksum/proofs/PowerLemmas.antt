@@ -31,15 +31,20 @@ in_four_places-bit register =
     let z : ℕ → ℕ = λ count. after_zeros count register in
     rw (after_zeros-bit 4 register, after_zeros-bit 12 register, after_zeros-bit 16 register)
     (sym (after_bit-xor (bit_xor (bit_xor register (z 4)) (z 12)) (z 16)
-      ∙ ap (λ (x : ℕ). bit_xor x (after_bit (z 16))) (after_bit-xor (bit_xor register (z 4)) (z 12)
-        ∙ ap (λ (x : ℕ). bit_xor x (after_bit (z 12))) (after_bit-xor register (z 4)))))
+    ∙ ap (λ (x : ℕ). bit_xor x (after_bit (z 16))) (after_bit-xor (bit_xor register (z 4)) (z 12)
+    ∙ ap (λ (x : ℕ). bit_xor x (after_bit (z 12))) (after_bit-xor register (z 4)))))
 
 in_four_places-xor : (a b : ℕ) → in_four_places (bit_xor a b) ≡ bit_xor (in_four_places a) (in_four_places b)
 in_four_places-xor a b =
     let x : ℕ = bit_xor a (after_zeros 4 a) in
     let y : ℕ = bit_xor b (after_zeros 4 b) in
-    rw (after_zeros-xor 4 a b, after_zeros-xor 12 a b, after_zeros-xor 16 a b, xor_turned a b (after_zeros 4 a) (after_zeros 4 b),
-      xor_turned x y (after_zeros 12 a) (after_zeros 12 b))
+    rw (
+      after_zeros-xor 4 a b,
+      after_zeros-xor 12 a b,
+      after_zeros-xor 16 a b,
+      xor_turned a b (after_zeros 4 a) (after_zeros 4 b),
+      xor_turned x y (after_zeros 12 a) (after_zeros 12 b),
+    )
     (xor_turned (bit_xor x (after_zeros 12 a)) (bit_xor y (after_zeros 12 b)) (after_zeros 16 a) (after_zeros 16 b))
 
 -- it holds of the highest bit, of 0, of what a bit leaves, and of an XOR
@@ -71,10 +76,10 @@ folds-below (suc width) within register small =
     elim (cases_lt register (2 ^ width)) [
       | inl below ↦ folds-below width (omega arith) register below
       | inr above ↦
-        let rest : register - 2 ^ width < 2 ^ width = omega (arith, pow-suc 2 width) in
-        let parts : bit_xor (1 * 2 ^ width) (register - 2 ^ width) ≡ register = xor_shifted 1 width (register - 2 ^ width) rest ∙ omega arith in
-        let highest : Folds (1 * 2 ^ width) = subst Folds (omega arith) (folds-power (63 - width) width (omega arith)) in
-        subst Folds parts (folds-xor (1 * 2 ^ width) (register - 2 ^ width) highest (folds-below width (omega arith) (register - 2 ^ width) rest))
+          let rest : register - 2 ^ width < 2 ^ width = omega (arith, pow-suc 2 width) in
+          let parts : bit_xor (1 * 2 ^ width) (register - 2 ^ width) ≡ register = xor_shifted 1 width (register - 2 ^ width) rest ∙ omega arith in
+          let highest : Folds (1 * 2 ^ width) = subst Folds (omega arith) (folds-power (63 - width) width (omega arith)) in
+          subst Folds parts (folds-xor (1 * 2 ^ width) (register - 2 ^ width) highest (folds-below width (omega arith) (register - 2 ^ width) rest))
     ]
 
 pub zeros_fold : (register : ℕ) → register < 2 ^ 64 → Folds register

@@ -6,7 +6,7 @@ use Rattle.std.proofs.lemmas.List.FromFn.{get_or-map-range_with_len}
 use Rattle.page_checksum.specs.Crc.{after_bit, after_byte}
 use Rattle.page_checksum.specs.Zeros.{after_zeros}
 use Rattle.page_checksum.proofs.ZerosLemmas.{after_zeros-add}
-use Rattle.page_checksum.specs.declared.tables.TheConstants.{TABLE_1, TABLE_2, TABLE_3, TABLE_4, TABLE_5, TABLE_6, TABLE_7, TABLE_8}
+use Rattle.page_checksum.specs.declared.entries.TheConstants.{TABLE_1, TABLE_2, TABLE_3, TABLE_4, TABLE_5, TABLE_6, TABLE_7, TABLE_8}
 
 -- a table at each byte holds the register after so many zero bytes
 abbrev pub IsTable : ℕ → List ℕ → Type 0

@@ -24,24 +24,24 @@ split_place : (count register place next : ℕ) → place * 256 ≡ next
     → bit_xor (after_zeros (suc count) (register / place % 256)) (after_zeros count (register / next)) ≡ after_zeros (suc count) (register / place)
 split_place count register place next is =
     sym (split_lowest count (register / place)
-      ∙ ap (λ (x : ℕ). bit_xor (after_zeros (suc count) (register / place % 256)) (after_zeros count x)) (div-div-eq-div-mul register place 256 ∙ ap (λ (x : ℕ). register / x) is))
+    ∙ ap (λ (x : ℕ). bit_xor (after_zeros (suc count) (register / place % 256)) (after_zeros count x)) (div-div-eq-div-mul register place 256 ∙ ap (λ (x : ℕ). register / x) is))
 
 -- a register of eight bytes by its bytes
 pub eight_by_tables : (register : ℕ) → register < 2 ^ 64
     → bit_xor (after_zeros 8 (byte_at 0 register)) (bit_xor (after_zeros 7 (byte_at 1 register)) (bit_xor (after_zeros 6 (byte_at 2 register))
-      (bit_xor (after_zeros 5 (byte_at 3 register)) (bit_xor (after_zeros 4 (byte_at 4 register)) (bit_xor (after_zeros 3 (byte_at 5 register))
-      (bit_xor (after_zeros 2 (byte_at 6 register)) (after_zeros 1 (byte_at 7 register))))))))
+    (bit_xor (after_zeros 5 (byte_at 3 register)) (bit_xor (after_zeros 4 (byte_at 4 register)) (bit_xor (after_zeros 3 (byte_at 5 register))
+    (bit_xor (after_zeros 2 (byte_at 6 register)) (after_zeros 1 (byte_at 7 register))))))))
     ≡ after_zeros 8 register
 eight_by_tables register small =
     let highest : byte_at 7 register ≡ register / 256 ^ 7 = omega arith in
     let up = λ (count : ℕ) (place : ℕ) (x : ℕ). bit_xor (after_zeros count (byte_at place register)) x in
     ap (up 8 0) (ap (up 7 1) (ap (up 6 2) (ap (up 5 3) (ap (up 4 4) (ap (up 3 5) (ap (up 2 6) (ap (after_zeros 1) highest)
-      ∙ split_place 1 register (256 ^ 6) (256 ^ 7) refl)
-      ∙ split_place 2 register (256 ^ 5) (256 ^ 6) refl)
-      ∙ split_place 3 register (256 ^ 4) (256 ^ 5) refl)
-      ∙ split_place 4 register (256 ^ 3) (256 ^ 4) refl)
-      ∙ split_place 5 register (256 ^ 2) (256 ^ 3) refl)
-      ∙ split_place 6 register 256 (256 ^ 2) refl)
+    ∙ split_place 1 register (256 ^ 6) (256 ^ 7) refl)
+    ∙ split_place 2 register (256 ^ 5) (256 ^ 6) refl)
+    ∙ split_place 3 register (256 ^ 4) (256 ^ 5) refl)
+    ∙ split_place 4 register (256 ^ 3) (256 ^ 4) refl)
+    ∙ split_place 5 register (256 ^ 2) (256 ^ 3) refl)
+    ∙ split_place 6 register 256 (256 ^ 2) refl)
     ∙ sym (split_lowest 7 register)
 
 -- the number of a word is that of its bytes

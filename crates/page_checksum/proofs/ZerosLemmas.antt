@@ -1,8 +1,8 @@
 -- Zero bytes move the register linearly, and a text moves it as zero bytes move the XOR of the two.
-use Rattle.std.proofs.Common.{◌≡◌, ℕ, zero, suc, ◌+◌, ◌-◌, ◌*◌, ◌<◌, ◌≤◌, ◌^◌, ◌/◌, ◌%◌, List, [], ◌∷◌, ◌++◌, length, get_or, replicate, arith, refl, sym, ap, ◌∙◌}
+use Rattle.std.proofs.Common.{◌≡◌, ℕ, zero, suc, ◌+◌, ◌*◌, ◌<◌, ◌/◌, ◌%◌, List, [], ◌∷◌, length, get_or, replicate, arith, refl, sym, ap, ◌∙◌}
 use Rattle.std.proofs.Math.Nat.{zero-add, suc-add}
 use Rattle.std.proofs.lemmas.Nat.{mod_below, shr_split, xor_comm}
-use Rattle.std.specs.Int.Bits.{xor_assoc, xor_shifted, xor_zero_r, xor_zero_l}
+use Rattle.std.specs.Int.Bits.{xor_assoc, xor_shifted, xor_zero_r}
 use Rattle.std.specs.Prelude.{bit_xor}
 use Rattle.page_checksum.specs.Crc.{after_bits, after_byte, after_bytes}
 use Rattle.page_checksum.specs.Zeros.{after_zeros}
@@ -62,9 +62,9 @@ after_bytes-number register [] fits = sym (xor_zero_r register)
 after_bytes-number register (byte ∷ bytes) fits =
     let n : ℕ = low_first bytes in
     let step : after_byte (bit_xor register (n * 256 + byte)) 0 ≡ bit_xor (after_byte register byte) n =
-      ap (λ (x : ℕ). after_byte (bit_xor register x) 0) (sym (xor_comm byte (n * 256) ∙ xor_shifted n 8 byte (fits 0)))
-      ∙ ap (λ (x : ℕ). after_byte x 0) (sym (xor_assoc register byte (n * 256)))
-      ∙ after_byte-xor (bit_xor register byte) (n * 256) 0 0
-      ∙ ap (bit_xor (after_byte (bit_xor register byte) 0)) (zeros-shift n)
-      ∙ ap (λ (x : ℕ). bit_xor x n) (sym (after_byte-is register byte)) in
+    ap (λ (x : ℕ). after_byte (bit_xor register x) 0) (sym (xor_comm byte (n * 256) ∙ xor_shifted n 8 byte (fits 0)))
+    ∙ ap (λ (x : ℕ). after_byte x 0) (sym (xor_assoc register byte (n * 256)))
+    ∙ after_byte-xor (bit_xor register byte) (n * 256) 0 0
+    ∙ ap (bit_xor (after_byte (bit_xor register byte) 0)) (zeros-shift n)
+    ∙ ap (λ (x : ℕ). bit_xor x n) (sym (after_byte-is register byte)) in
     after_bytes-number (after_byte register byte) bytes (λ i. fits (suc i)) ∙ ap (after_zeros (length bytes)) (sym step)

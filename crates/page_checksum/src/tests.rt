@@ -1,4 +1,7 @@
 use super::*;
+use crate::bits::feed_by_bits;
+use std::alloc::{AllocError, Global};
+use std::test::Fail;
 
 /// The check values of CRC-64/GO-ISO that its catalogue and Go's tests give.
 #[test]
@@ -16,4 +19,40 @@ fn sums_of_empty_pages(rt: HostRuntime) {
     let page = [0u8; 512];
     assert_eq!(rt; page_sum(1, &page), 0xefb1_f44f_ecd9_9000);
     assert_eq!(rt; page_sum(2, &page), 0xef63_e89f_ecd9_9000);
+}
+
+/// The blocks and tables as they run, beside the definition's plain program.
+#[test]
+fn blocks_and_tables_beside_bits(rt: HostRuntime) -> Result<(), Fail> {
+    let text = mixed_bytes(rt.alloc())?;
+    for (shortest, longest) in [
+        (0usize, 40usize),
+        (255, 260),
+        (511, 530),
+        (767, 770),
+        (4096, 4096),
+    ] {
+        for length in shortest..=longest {
+            let front = text
+                .as_slice()
+                .get(..length)
+                .ok_or("the text is too short")?;
+            for register in [FIRST_REGISTER, 0, 1 << 63] {
+                assert_eq!(rt;
+                    crc_feed(register, front),
+                    feed_by_bits(register, front),
+                    "{length} bytes"
+                );
+            }
+        }
+    }
+    Ok(())
+}
+
+fn mixed_bytes(alloc: Global) -> Result<Vec<u8>, AllocError> {
+    let mut text = Vec::new(alloc);
+    for place in 0..4096u32 {
+        text.push((place * 31 % 251) as u8)?;
+    }
+    Ok(text)
 }

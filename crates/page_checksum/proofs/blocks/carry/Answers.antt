@@ -1,4 +1,4 @@
-use Rattle.std.proofs.Common.{◌≡◌, ℕ, ◌+◌, ◌<◌, ◌≢◌, ◌++◌, List, [], length, get_or, take, set, replicate, arith, ap, ◌∙◌, below_more, get_or-set_other, get_or-set_same, length-set}
+use Rattle.std.proofs.Common.{◌≡◌, ℕ, ◌+◌, ◌<◌, ◌≢◌, ◌++◌, List, [], length, get_or, take, replicate, arith, ap, ◌∙◌, below_more, get_or-set_other, get_or-set_same, length-set}
 use Rattle.std.proofs.lemmas.List.{append-nil}
 use Rattle.std.specs.Prelude.{bit_xor}
 use Rattle.page_checksum.specs.Blocks.{carry_after}
@@ -10,7 +10,7 @@ loop-k-preserved c =
     record {
       long = length-set _ _ _ ∙ c.loop-k.invariant.long;
       made = below_more _ _
-        (λ i below. let other : i ≢ c.loop-k.k = omega arith in rw get_or-set_other (c.loop-k.invariant.made i below))
-        (let within : c.loop-k.k < length c.loop-k.end = omega arith in
-          rw get_or-set_same (ap (λ (xs : List ℕ). bit_xor (get_or c.args.block.now (240 + c.loop-k.k) 0) (carry_after (replicate 12 0 ++ xs) c.loop-k.k)) front))
+          (λ i below. let other : i ≢ c.loop-k.k = omega arith in rw get_or-set_other (c.loop-k.invariant.made i below))
+          (let within : c.loop-k.k < length c.loop-k.end = omega arith in
+          rw get_or-set_same (ap (λ (xs : List ℕ). bit_xor (get_or c.args.block.now (240 + c.loop-k.k) 0) (carry_after (replicate 12 0 ++ xs) c.loop-k.k)) front));
     }

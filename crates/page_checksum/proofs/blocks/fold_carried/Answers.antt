@@ -1,5 +1,3 @@
-use Rattle.std.proofs.Common.{ap, subst}
-use Rattle.page_checksum.specs.Blocks.{IsProductInto}
 use Rattle.page_checksum.proofs.BlockLemmas.{fold_is}
 use Rattle.page_checksum.proofs.blocks.fold_carried.Goals as goal
 

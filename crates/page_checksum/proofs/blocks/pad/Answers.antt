@@ -1,4 +1,4 @@
-use Rattle.std.proofs.Common.{◌≡◌, ◌++◌, List, ℕ, take, replicate, ap, ◌∙◌}
+use Rattle.std.proofs.Common.{◌++◌, List, ℕ, take, replicate, ap, ◌∙◌}
 use Rattle.page_checksum.proofs.BlockLemmas.{end_written}
 use Rattle.page_checksum.proofs.blocks.pad.Goals as goal
 

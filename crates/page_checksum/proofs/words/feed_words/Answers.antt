@@ -1,5 +1,4 @@
-use Rattle.std.proofs.Common.{◌≡◌, sym, ap, ◌∙◌}
-use Rattle.page_checksum.specs.Crc.{after_bytes}
+use Rattle.std.proofs.Common.{sym}
 use Rattle.page_checksum.proofs.WordLemmas.{after_piece}
 use Rattle.page_checksum.proofs.words.feed_words.Goals as goal
 
