@@ -49,7 +49,8 @@ pub fn write_image<S: Sink>(sink: &mut S, image: &Image, buffer: &mut Vec<u8>) -
         number += 1;
         add_page(sink, image.page(number), buffer)?;
     }
-    write_whole(sink, buffer.as_slice())
+    let rest = buffer.as_slice();
+    write_whole(sink, rest)
 }
 
 /// Puts a page behind those in the buffer. Where it has no room, they are written first.

@@ -4,4 +4,5 @@ mod compact;
 mod faults;
 mod files;
 mod limits;
+mod pieces;
 mod runs;

@@ -1,9 +1,26 @@
 //! Streams that fail in mid-stream.
+ghost use Rattle.std.specs.Prelude.{None};
+
 use crate::tests::files::{DELTA, SNAPSHOT, texts};
 use crate::tests::runs::words;
 use crate::{Host, run};
-use lf_base::{SliceSource, Status, VecSink};
+use lf_base::{Failed, Sink, SliceSource, Status, VecSink};
 use std::test::Fail;
+
+/// A sink that takes no more than 512 bytes a call.
+#[derive(Drop)]
+struct Narrow(VecSink);
+
+impl Sink for Narrow {
+    ghost taken = { λ _. None };
+
+    ghost faults = { λ s. s.0.faults };
+
+    fn write(&mut self, piece: &[u8]) -> Result<usize, Failed> {
+        let count = piece.len().min(512);
+        self.0.write(&piece[..count])
+    }
+}
 
 /// The calls that fail of input, output and errors; and then the status, how many bytes were
 /// written, and what was said.
@@ -57,7 +74,7 @@ fn streams_that_fail(rt: HostRuntime) -> Result<(), Fail> {
     for (read, write, say, status, written, line) in ROWS {
         let mut host = Host {
             input: SliceSource::new(text.as_slice(), vec![in alloc; read]?)?,
-            output: VecSink::new(alloc, 1024, vec![in alloc; write]?)?,
+            output: Narrow(VecSink::new(alloc, 1024, vec![in alloc; write]?)?),
             errors: VecSink::new(alloc, 64, vec![in alloc; say]?)?,
         };
         assert_eq!(rt;
@@ -65,7 +82,7 @@ fn streams_that_fail(rt: HostRuntime) -> Result<(), Fail> {
             status,
             "{line}"
         );
-        assert_eq!(rt; host.output.taken().len(), written, "{line}");
+        assert_eq!(rt; host.output.0.taken().len(), written, "{line}");
         assert_eq!(rt; host.errors.taken(), line.as_bytes());
     }
     Ok(())

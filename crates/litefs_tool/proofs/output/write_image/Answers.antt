@@ -32,6 +32,6 @@ returns-in_err-add_page-clause-front g c =
 pub returns-clause-front : goal.returns-clause-front
 returns-clause-front g c =
     let pages = c.args.image.now.pages in
-    let held = rw c.as_slice.ensures.value at c.write_whole.ensures.front in
+    let held = rw c.as_slice-rest.ensures.value at c.write_whole.ensures.front in
     map_on_err c.write_whole.result (AppendsFront (g.S.Sink.taken c.loop-number.sink) (g.S.Sink.taken c.write_whole.new.sink) c.loop-number.buffer.items) _
     (λ front. AppendsFront-held _ _ _ _ _ _ _ c.loop-number.invariant.taken front (concat-split pages c.loop-number.number)) held
