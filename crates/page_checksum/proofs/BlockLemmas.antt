@@ -84,6 +84,7 @@ value-folded block new whole new_whole small is =
     xor_cancel (after_zeros 256 (after_bytes 0 block)) (after_bytes 0 (folded new)) (after_zeros 256 c)
     (sym (after_zeros-xor 256 (after_bytes 0 block) c) ∙ ap (after_zeros 256) (sym value) ∙ sym (value-product new small) ∙ value-parts new new_whole)
 
+-- the bytes of a block with other last bytes fit
 fits-joined : (count : ℕ) (block end : List ℕ) → count ≤ length block → ((i : ℕ) → get_or block i 0 < 256) → ((i : ℕ) → get_or end i 0 < 256)
     → (i : ℕ) → get_or (take count block ++ end) i 0 < 256
 fits-joined count block end within of_block of_end i =

@@ -2,6 +2,7 @@ pub mod BlockLemmas
 pub mod CrcLemmas
 pub mod Linear
 pub mod ListLemmas
+pub mod PieceLemmas
 pub mod PowerLemmas
 pub mod ProductLemmas
 pub mod TableLemmas

@@ -26,6 +26,7 @@ after_bit-is register =
       | false ↦ sym (xor_zero_r (register / 2))
     ]
 
+-- what a bit brings in moves linearly
 feedback-xor : (a b : ℕ) → a < 2 → b < 2 → feedback (bit_xor a b) ≡ bit_xor (feedback a) (feedback b)
 unfolding feedback
 feedback-xor zero zero _ _ = refl
@@ -36,6 +37,7 @@ feedback-xor zero (suc (suc b)) _ below = absurd (omega arith)
 feedback-xor (suc zero) (suc (suc b)) _ below = absurd (omega arith)
 feedback-xor (suc (suc a)) b below _ = absurd (omega arith)
 
+-- and so does the register after a bit, after some bits and after a byte
 pub after_bit-xor : (a b : ℕ) → after_bit (bit_xor a b) ≡ bit_xor (after_bit a) (after_bit b)
 after_bit-xor a b =
     after_bit-is (bit_xor a b)

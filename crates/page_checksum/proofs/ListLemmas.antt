@@ -19,6 +19,7 @@ xors [] back = []
 xors (x ∷ front) [] = []
 xors (x ∷ front) (y ∷ back) = bit_xor x y ∷ xors front back
 
+-- how long it is, and its bytes
 pub length-xors : (front back : List ℕ) → length front ≡ length back → length (xors front back) ≡ length front
 length-xors [] back is = refl
 length-xors (x ∷ front) [] is = absurd (omega arith)
@@ -46,6 +47,7 @@ unfolding after_bit after_byte
 zeros-before zero text = refl
 zeros-before (suc count) text = zeros-before count text
 
+-- zero bytes after a text come after its register
 pub zeros-after : (count register : ℕ) (text : List ℕ) → after_bytes register (text ++ zeros count) ≡ after_zeros count (after_bytes register text)
 zeros-after count register text = after_bytes-append register text (zeros count) ∙ after_zeros-is count (after_bytes register text)
 
@@ -68,6 +70,7 @@ get_or-zeros_after [] (suc count) (suc k) = get_or-zeros_after [] count k
 get_or-zeros_after (x ∷ text) count zero = refl
 get_or-zeros_after (x ∷ text) count (suc k) = get_or-zeros_after text count k
 
+-- a read past the zero bytes before a text
 pub get_or-zeros_before : (count : ℕ) (text : List ℕ) (k : ℕ) → get_or (zeros count ++ text) (count + k) 0 ≡ get_or text k 0
 get_or-zeros_before count text k =
     ap (λ (n : ℕ). get_or (zeros count ++ text) (n + k) 0) (sym (length-replicate count 0)) ∙ get_or-append-add (zeros count) text k 0

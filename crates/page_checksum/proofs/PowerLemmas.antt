@@ -13,6 +13,7 @@ use Rattle.page_checksum.proofs.ZerosLemmas.{after_zeros-xor}
 abbrev pub in_four_places : ℕ → ℕ
 in_four_places register = bit_xor (bit_xor (bit_xor register (after_zeros 4 register)) (after_zeros 12 register)) (after_zeros 16 register)
 
+-- 256 zero bytes are those in four places
 abbrev pub Folds : ℕ → Type 0
 Folds register = after_zeros 256 register ≡ in_four_places register
 
@@ -26,6 +27,7 @@ unfolding after_zeros
 after_zeros-bit zero register = refl
 after_zeros-bit (suc count) register = ap (after_zeros count) (after_byte-bit register) ∙ after_zeros-bit count (after_byte register 0)
 
+-- the four places after a bit, and of an XOR
 in_four_places-bit : (register : ℕ) → in_four_places (after_bit register) ≡ after_bit (in_four_places register)
 in_four_places-bit register =
     let z : ℕ → ℕ = λ count. after_zeros count register in
@@ -82,5 +84,6 @@ folds-below (suc width) within register small =
           subst Folds parts (folds-xor (1 * 2 ^ width) (register - 2 ^ width) highest (folds-below width (omega arith) (register - 2 ^ width) rest))
     ]
 
+-- the rule for a register of 64 bits
 pub zeros_fold : (register : ℕ) → register < 2 ^ 64 → Folds register
 zeros_fold register small = folds-below 64 (omega arith) register small

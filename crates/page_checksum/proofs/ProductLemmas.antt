@@ -22,6 +22,7 @@ three block = xors (two block) (shifted 4 12 block)
 unfoldable pub product : List ℕ → List ℕ
 product block = xors (three block) (shifted 0 16 block)
 
+-- each is 16 bytes longer than the block
 length-shifted : (before after : ℕ) (block : List ℕ) → before + after ≡ 16 → length (shifted before after block) ≡ length block + 16
 length-shifted before after block is =
     length-append (zeros before) (block ++ zeros after)
@@ -38,6 +39,7 @@ pub length-product : (block : List ℕ) → length (product block) ≡ length bl
 unfolding product
 length-product block = length-xors (three block) (shifted 0 16 block) (length-three block ∙ sym (length-shifted 0 16 block refl)) ∙ length-three block
 
+-- zero bytes before the block do nothing to a register of 0
 value-shifted : (before after : ℕ) (block : List ℕ) → after_bytes 0 (shifted before after block) ≡ after_zeros after (after_bytes 0 block)
 value-shifted before after block = zeros-before before (block ++ zeros after) ∙ zeros-after after 0 block
 
@@ -59,6 +61,7 @@ value-product block small =
     ∙ ap (bit_xor (bit_xor (bit_xor v (after_zeros 4 v)) (after_zeros 12 v))) (value-shifted 0 16 block)
     ∙ sym (zeros_fold v small)
 
+-- a byte of the product, and of a shifted block
 get_or-product : (block : List ℕ) (k : ℕ)
     → get_or (product block) k 0 ≡ bit_xor (bit_xor (bit_xor (get_or (shifted 16 0 block) k 0) (get_or (shifted 12 4 block) k 0)) (get_or (shifted 4 12 block) k 0)) (get_or (shifted 0 16 block) k 0)
 unfolding product

@@ -18,6 +18,7 @@ pub zeros-shift : (register : ℕ) → after_byte (register * 256) 0 ≡ registe
 unfolding after_byte
 zeros-shift register = ap (after_bits 8) (xor_zero_r (register * 256)) ∙ after_bits-shift 8 register
 
+-- zero bytes move the register linearly
 pub after_zeros-xor : (count a b : ℕ) → after_zeros count (bit_xor a b) ≡ bit_xor (after_zeros count a) (after_zeros count b)
 unfolding after_zeros
 after_zeros-xor zero a b = refl
@@ -31,6 +32,7 @@ after_zeros-add zero back register = ap (λ (n : ℕ). after_zeros n register) (
 after_zeros-add (suc front) back register =
     ap (λ (n : ℕ). after_zeros n register) (suc-add front back) ∙ after_zeros-add front back (after_byte register 0)
 
+-- they are a text of zero bytes
 pub after_zeros-is : (count register : ℕ) → after_bytes register (replicate count 0) ≡ after_zeros count register
 unfolding after_zeros
 after_zeros-is zero register = refl

@@ -1,7 +1,10 @@
 //! The register over blocks of 256 bytes, by XOR alone.
 //!
-//! The polynomial's 32nd power is x^2048 + x^128 + x^96 + x^32 + 1. So 256 zero bytes do to the
-//! register what 16, 12, 4 and no zero bytes do, taken together by XOR.
+//! The polynomial is p = x^64 + x^4 + x^3 + x + 1, and its coefficients are bits, so to square it
+//! is to double its exponents: p^32 = x^2048 + x^128 + x^96 + x^32 + 1. Hence 256 zero bytes do to
+//! the register what 16, 12, 4 and no zero bytes do, taken together by XOR, and a block may be
+//! XORed into the 256 bytes after it, in four places. The four make 272 bytes, of which the first
+//! 16 stand before those 256. So these 16 are XORed into the end of the block itself first.
 ghost use Rattle.std.specs.Prelude.{◌≡◌, ◌++◌, take, replicate};
 ghost use Rattle.std.specs.List.{concat};
 ghost use Rattle.page_checksum.specs.Blocks.{IsCarried, IsProductInto};
@@ -53,7 +56,7 @@ fn fold(state: &mut [u8; 256], block: &[u8; 256])
     fold_carried(state, &end, block);
 }
 
-/// The last 16 bytes of a block, with what its first 16 bring in.
+/// The last 16 bytes of a block, with the 16 XORed in that would stand before the next block.
 fn carry(block: &[u8; 256]) -> [u8; 16]
     ensures { IsCarried block.now result }
 {

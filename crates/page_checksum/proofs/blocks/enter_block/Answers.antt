@@ -1,7 +1,7 @@
 use Rattle.std.proofs.Common.{◌≡◌, ℕ, ◌/◌, List, [], get_or, take, ap, ◌∙◌}
 use Rattle.std.specs.Simd.{first_chunks}
 use Rattle.page_checksum.specs.Crc.{after_bytes}
-use Rattle.page_checksum.proofs.WordLemmas.{front_replaced}
+use Rattle.page_checksum.proofs.PieceLemmas.{front_replaced}
 use Rattle.page_checksum.proofs.blocks.enter_block.Goals as goal
 
 pub returns : goal.returns

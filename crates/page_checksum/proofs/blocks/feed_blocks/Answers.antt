@@ -1,5 +1,5 @@
 use Rattle.std.proofs.Common.{◌∙◌}
-use Rattle.page_checksum.proofs.WordLemmas.{pieces_after_first}
+use Rattle.page_checksum.proofs.PieceLemmas.{pieces_after_first}
 use Rattle.page_checksum.proofs.blocks.feed_blocks.Goals as goal
 
 pub returns : goal.returns

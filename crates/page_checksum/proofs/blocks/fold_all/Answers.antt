@@ -1,4 +1,4 @@
-use Rattle.page_checksum.proofs.WordLemmas.{piece_joined}
+use Rattle.page_checksum.proofs.PieceLemmas.{piece_joined}
 use Rattle.page_checksum.proofs.blocks.fold_all.Goals as goal
 
 pub loop-block-preserved : goal.loop-block-preserved

@@ -1,4 +1,4 @@
-use Rattle.page_checksum.proofs.WordLemmas.{chunks_join}
+use Rattle.page_checksum.proofs.PieceLemmas.{chunks_join}
 use Rattle.page_checksum.proofs.crc.crc_feed.Goals as goal
 
 pub returns : goal.returns

@@ -1,5 +1,5 @@
 use Rattle.std.proofs.Common.{sym}
-use Rattle.page_checksum.proofs.WordLemmas.{after_piece}
+use Rattle.page_checksum.proofs.PieceLemmas.{after_piece}
 use Rattle.page_checksum.proofs.words.feed_words.Goals as goal
 
 pub loop-word-preserved : goal.loop-word-preserved
