@@ -24,6 +24,7 @@ counts_some d text piece (seen.Header used) gives = (gives.0, gives.1)
 counts_some d text piece (seen.Page used number) gives = (gives.0, gives.1)
 counts_some d text piece (seen.Whole used) gives = (gives.0, gives.1)
 
+-- and that is a proposition
 counts_prop : (piece : List ℕ) (s : Seen) → IsProp (CountsSome piece s)
 counts_prop piece seen.More = hlevel props
 counts_prop piece (seen.Header used) = hlevel le_prop
