@@ -1,4 +1,5 @@
 pub mod AnswerLemmas
+pub mod ChangedSumLemmas
 pub mod CompactionLemmas
 pub mod CompactionOnce
 pub mod FileLemmas

@@ -7,14 +7,7 @@ use Rattle.std.proofs.lemmas.Bool.Decides.{nat_tests}
 use Rattle.std.proofs.lemmas.List.Elements.{All-head, All-tail}
 use Rattle.lf_sqlite_pages.specs.Change.{AscendsAbove, PageChange, IsChange, HoldsEveryPage, written}
 use Rattle.lf_sqlite_pages.specs.declared.page_write.PageWrite.{PageWrite}
-
--- a page at or below a number above which the writes ascend is not written
-written-above : (number : ℕ) (ws : List PageWrite) → AscendsAbove number ws → (n : ℕ) → n ≤ number → written ws n ≡ None
-written-above number [] ascending n h = refl
-written-above number (w ∷ ws) ascending n h =
-    let rest : written ws n ≡ None = written-above w.number ws ascending.1 n (omega (arith, ascending.0)) in
-    let other : eqb w.number n ≡ false = grind (arith, nat_tests, ascending.0) in
-    rw other rest
+use Rattle.lf_sqlite_pages.proofs.Applying.{written-above}
 
 -- there are no more writes than numbers
 count-within : (number commit : ℕ) (ws : List PageWrite) → number ≤ commit → AscendsAbove number ws → All (λ w. w.number ≤ commit) ws →
