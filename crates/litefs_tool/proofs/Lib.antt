@@ -1,5 +1,6 @@
 pub mod AnswerLemmas
 pub mod ApplyingLemmas
+pub mod ChangedSumLemmas
 pub mod CompactionLemmas
 pub mod CompactionOnce
 pub mod InputLemmas

@@ -1,6 +1,6 @@
 -- The sum before with what goes out and what comes in.
 use Rattle.std.proofs.Common.{◌≡◌, ◌∙◌, ap, replicate}
-use Rattle.litefs_tool.proofs.SumLemmas.{database_sum-changed}
+use Rattle.litefs_tool.proofs.ChangedSumLemmas.{database_sum-changed}
 use Rattle.litefs_tool.proofs.changed_sum.changed_sum.Goals as goal
 
 pub returns : goal.returns

@@ -1,7 +1,7 @@
 -- One more write.
 use Rattle.std.proofs.Common.{arith}
 use Rattle.lf_sqlite_pages.proofs.Applying.{WritesWhole, WritesWhole-at}
-use Rattle.litefs_tool.proofs.SumLemmas.{rewriting_sum-more}
+use Rattle.litefs_tool.proofs.ChangedSumLemmas.{rewriting_sum-more}
 use Rattle.litefs_tool.proofs.changed_sum.rewriting.Goals as goal
 
 pub standing_sum-old-requires : goal.standing_sum-old-requires

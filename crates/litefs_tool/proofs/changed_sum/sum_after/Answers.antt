@@ -1,5 +1,5 @@
 -- A snapshot was read only where its sum is right.
-use Rattle.litefs_tool.proofs.SumLemmas.{sum_after-snapshot}
+use Rattle.litefs_tool.proofs.ChangedSumLemmas.{sum_after-snapshot}
 use Rattle.litefs_tool.proofs.changed_sum.sum_after.Goals as goal
 
 pub returns-then-file-eq1 : goal.returns-then-file-eq1

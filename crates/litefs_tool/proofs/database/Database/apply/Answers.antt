@@ -1,7 +1,7 @@
 -- The sum that the file says is that of the pages after it.
 use Rattle.std.proofs.Common.{◌≡◌, ◌∙◌, refl, sym, arith}
 use Rattle.std.proofs.lemmas.Bool.Decides.{nat_tests}
-use Rattle.litefs_tool.proofs.SumLemmas.{HasSum-after}
+use Rattle.litefs_tool.proofs.ChangedSumLemmas.{HasSum-after}
 use Rattle.litefs_tool.proofs.database.Database.apply.Goals as goal
 
 pub returns-clause-sum : goal.returns-clause-sum
