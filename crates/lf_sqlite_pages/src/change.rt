@@ -76,6 +76,7 @@ impl Change {
     {
         self.pages.as_slice()
     }
+
     /// The same pages, taken out of the change.
     pub fn into_pages(self) -> Vec<PageWrite>
         ensures value { result.items ≡ self.pages }
