@@ -1,4 +1,4 @@
-//! What the named call says of files that do not make a database.
+//! What the named call makes of files, and says of those that make no database.
 use crate::tests::files::{DELTA, Fields, ONE_PAGE, SNAPSHOT, TWO_PAGES, texts};
 use crate::{Refusal, apply_files};
 use lf_base::Pos;
@@ -20,6 +20,16 @@ fn expect(rt: &impl Abort, alloc: Global, files: &[Fields], refusal: Refusal) ->
         Ok(_) => assert!(rt; false, "{refusal:?}"),
         Err(found) => assert_eq!(rt; found, refusal),
     }
+    Ok(())
+}
+
+#[test]
+fn makes_a_database(rt: HostRuntime) -> Result<(), Fail> {
+    let text = texts(rt.alloc(), &[SNAPSHOT, DELTA])?;
+    let image = apply_files(rt.alloc(), text.as_slice())
+        .ok()
+        .ok_or("a database")?;
+    assert_eq!(rt; (image.page_size(), image.commit()), (512, 2));
     Ok(())
 }
 

@@ -1,7 +1,7 @@
 //! Whole runs of `compact`. The sum was computed by another program.
-use crate::tests::files::{DELTA, Fields, SNAPSHOT, TWO_PAGES, texts};
+use crate::tests::files::{DELTA, Fields, SNAPSHOT, TWO_PAGES, file_sum, texts};
 use crate::tests::runs::{expect, words};
-use crate::{Host, run};
+use crate::{Host, compact_files, run};
 use lf_base::{SliceSource, Status, VecSink};
 use std::test::Fail;
 
@@ -25,6 +25,17 @@ fn a_snapshot_and_a_delta_become_one_file(rt: HostRuntime) -> Result<(), Fail> {
     assert_eq!(rt; taken.len(), 1152);
     assert_eq!(rt; taken.get(1136..1144), Some(sums[0].as_slice()));
     assert_eq!(rt; taken.get(1144..), Some(sums[1].as_slice()));
+    Ok(())
+}
+
+#[test]
+fn the_named_call_gives_the_same_text(rt: HostRuntime) -> Result<(), Fail> {
+    let input = texts(rt.alloc(), &[SNAPSHOT, DELTA])?;
+    let text = compact_files(rt.alloc(), input.as_slice())
+        .ok()
+        .ok_or("one file")?;
+    assert_eq!(rt; text.len(), 1152);
+    assert_eq!(rt; file_sum(text.as_slice()), Some(FILE_SUM));
     Ok(())
 }
 

@@ -8,7 +8,7 @@ pub const ONE_PAGE: u64 = 0xefb1_f44f_ecd9_9000;
 
 pub const TWO_PAGES: u64 = 0x80d2_1cd0_0000_0000;
 
-pub const NO_PAGES: u64 = 0x8000_0000_0000_0000;
+const NO_PAGES: u64 = 0x8000_0000_0000_0000;
 
 /// What a file says that isn't 0.
 #[derive(Clone, Copy)]
@@ -53,7 +53,7 @@ pub const EMPTY: Fields = Fields {
 };
 
 /// Appends the text of a file, with a file sum that is right.
-pub fn append(alloc: Global, text: &mut Vec<u8>, fields: Fields) -> Result<(), NoMemory> {
+pub(super) fn append(alloc: Global, text: &mut Vec<u8>, fields: Fields) -> Result<(), NoMemory> {
     let mut file = Vec::new(alloc);
     file.extend_from_slice(b"LTX1\0\0\0\0")?;
     file.extend_from_slice(&fields.page_size.to_be_bytes())?;
@@ -78,7 +78,7 @@ pub fn append(alloc: Global, text: &mut Vec<u8>, fields: Fields) -> Result<(), N
 }
 
 /// The texts of files, one after another.
-pub fn texts(alloc: Global, files: &[Fields]) -> Result<Vec<u8>, NoMemory> {
+pub(super) fn texts(alloc: Global, files: &[Fields]) -> Result<Vec<u8>, NoMemory> {
     let mut text = Vec::new(alloc);
     for fields in files {
         append(alloc, &mut text, *fields)?;
@@ -87,7 +87,7 @@ pub fn texts(alloc: Global, files: &[Fields]) -> Result<Vec<u8>, NoMemory> {
 }
 
 /// The sum that stands at the end of a file's text.
-pub fn file_sum(text: &[u8]) -> Option<u64> {
+pub(super) fn file_sum(text: &[u8]) -> Option<u64> {
     let (sum, _) = text
         .get(text.len().checked_sub(8)?..)?
         .split_first_chunk::<8>()?;

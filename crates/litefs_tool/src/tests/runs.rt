@@ -7,7 +7,7 @@ use std::process::Abort;
 use std::test::Fail;
 
 /// The words of a command line.
-pub fn words(alloc: Global, given: &[&str]) -> Result<Vec<Text>, NoMemory> {
+pub(super) fn words(alloc: Global, given: &[&str]) -> Result<Vec<Text>, NoMemory> {
     let mut words = Vec::new(alloc);
     for word in given {
         words.push(Text::of(alloc, word)?)?;
@@ -17,7 +17,7 @@ pub fn words(alloc: Global, given: &[&str]) -> Result<Vec<Text>, NoMemory> {
 
 /// Runs `litefs` with these words over this input, and looks at how it ends, how many zeros it
 /// writes and what it says.
-pub fn expect(
+pub(super) fn expect(
     rt: &impl Abort,
     alloc: Global,
     given: &[&str],
