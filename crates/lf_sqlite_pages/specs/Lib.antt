@@ -2,6 +2,7 @@ pub mod Apply
 pub mod Change
 pub mod Header
 pub mod Image
+pub mod LockPage
 pub mod PageSize
 pub mod Steps
 pub mod Store
