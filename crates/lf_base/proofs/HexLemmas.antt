@@ -1,10 +1,9 @@
 -- Numbers in hexadecimal digits, written and read again.
-use Rattle.std.proofs.Common.{◌≡◌, ℕ, zero, suc, ◌+◌, ◌-◌, ◌*◌, ◌/◌, ◌%◌, ◌^◌, ◌<◌, ◌≤◌, Bool, true, false, cond, List, [], ◌∷◌, ◌++◌, length, take, drop, set, arith, refl, sym, ap, subst, inl, inr, ◌∙◌, append_assoc, length-append, add-one}
-use Rattle.std.specs.Prelude.{nat_lt}
+use Rattle.std.proofs.Common.{◌≡◌, ℕ, zero, suc, ◌+◌, ◌-◌, ◌*◌, ◌/◌, ◌%◌, ◌^◌, ◌<◌, ◌≤◌, List, [], ◌∷◌, ◌++◌, length, take, drop, set, arith, refl, sym, ap, ◌∙◌, append_assoc, length-append, add-one}
 use Rattle.std.proofs.lemmas.List.{drop-set, take_at, drop_at}
-use Rattle.std.proofs.lemmas.Bool.{cases_lt, ltb-false, le-ltb}
 use Rattle.std.proofs.Math.Nat.{pow-suc}
-use Rattle.lf_base.specs.Position.{hex_digit, hex_digits, digit_value, number_after, position_text}
+use Rattle.lf_base.specs.Hex.{hex_digit, hex_digits, digit_value, number_after}
+use Rattle.lf_base.specs.Position.{position_text}
 use Rattle.lf_base.specs.declared.pos.Pos.{Pos}
 
 -- one more digit written in front of those that stand
@@ -54,13 +53,13 @@ number_again (suc k) n below small =
     ∙ ap (λ (d : ℕ). n / 16 % 2 ^ 60 * 16 + d) (digit_again (n % 16) (omega arith))
     ∙ omega (arith, small)
 
-hex_length : (k n : ℕ) → length (hex_digits k n) ≡ k
+pub hex_length : (k n : ℕ) → length (hex_digits k n) ≡ k
 unfolding hex_digits
 hex_length zero n = refl
 hex_length (suc k) n = length-append (hex_digits k (n / 16)) (hex_digit (n % 16) ∷ []) ∙ ap (λ (m : ℕ). m + 1) (hex_length k (n / 16)) ∙ add-one k
 
 -- the number of 16 digits
-sixteen : (n : ℕ) → n < 2 ^ 64 → number_after 0 (hex_digits 16 n) ≡ n
+pub sixteen : (n : ℕ) → n < 2 ^ 64 → number_after 0 (hex_digits 16 n) ≡ n
 sixteen n small = number_again 16 n (omega (arith, small)) small
 
 pub position_length : (pos : Pos) → length (position_text pos) ≡ 33
@@ -70,17 +69,15 @@ position_length pos =
     ∙ ap (λ (m : ℕ). 16 + suc m) (hex_length 16 pos.sum)
 
 -- the two numbers of a position's text
-pub txid_again : (pos : Pos) (bytes : List ℕ) → pos.txid < 2 ^ 64 → bytes ≡ position_text pos → number_after 0 (take 16 bytes) ≡ pos.txid
-txid_again pos bytes small same =
-    ap (λ (l : List ℕ). number_after 0 (take 16 l)) same
-    ∙ ap (λ (l : List ℕ). number_after 0 l) (take_at (hex_digits 16 pos.txid) (47 ∷ hex_digits 16 pos.sum) 16 (hex_length 16 pos.txid))
-    ∙ sixteen pos.txid small
+pub txid_there : (pos : Pos) (bytes : List ℕ) → bytes ≡ position_text pos → take 16 bytes ≡ hex_digits 16 pos.txid
+txid_there pos bytes same =
+    ap (λ (l : List ℕ). take 16 l) same
+    ∙ take_at (hex_digits 16 pos.txid) (47 ∷ hex_digits 16 pos.sum) 16 (hex_length 16 pos.txid)
 
-pub sum_again : (pos : Pos) (bytes : List ℕ) → pos.sum < 2 ^ 64 → bytes ≡ position_text pos → number_after 0 (drop 1 (drop 16 bytes)) ≡ pos.sum
-sum_again pos bytes small same =
-    ap (λ (l : List ℕ). number_after 0 (drop 1 (drop 16 l))) same
-    ∙ ap (λ (l : List ℕ). number_after 0 (drop 1 l)) (drop_at (hex_digits 16 pos.txid) (47 ∷ hex_digits 16 pos.sum) 16 (hex_length 16 pos.txid))
-    ∙ sixteen pos.sum small
+pub sum_there : (pos : Pos) (bytes : List ℕ) → bytes ≡ position_text pos → drop 1 (drop 16 bytes) ≡ hex_digits 16 pos.sum
+sum_there pos bytes same =
+    ap (λ (l : List ℕ). drop 1 (drop 16 l)) same
+    ∙ ap (λ (l : List ℕ). drop 1 l) (drop_at (hex_digits 16 pos.txid) (47 ∷ hex_digits 16 pos.sum) 16 (hex_length 16 pos.txid))
 
 -- at the last turn all digits stand
 pub all_stand : (place n m : ℕ) (text : List ℕ) → 16 ≤ place → hex_digits (16 - place) n ++ drop (16 - place) text ≡ hex_digits 16 m → text ≡ hex_digits 16 m

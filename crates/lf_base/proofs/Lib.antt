@@ -1,1 +1,3 @@
 pub mod HexLemmas
+pub mod FileLemmas
+pub mod EndianLemmas

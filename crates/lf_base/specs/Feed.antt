@@ -1,6 +1,5 @@
 -- A source and a sink in memory.
-use Rattle.std.specs.Prelude.{◌≡◌, ℕ, ◌+◌, ◌≤◌, List, ◌++◌, length, take, drop, min, Contains}
-use Rattle.lf_base.specs.Faults.{one_more}
+use Rattle.std.specs.Prelude.{ℕ, List}
 
 -- a source in memory: the bytes left, the numbers of the calls that fail, the calls and faults so far
 pub record Feed : Type 0 where

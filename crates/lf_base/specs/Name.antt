@@ -1,6 +1,6 @@
 -- The names of databases: 1 to 64 bytes, of ASCII letters, digits, '.', '_' and '-', the first a letter or digit,
 -- and no ending that names a file beside a database.
-use Rattle.std.specs.Prelude.{◌≡◌, ℕ, ◌<◌, ◌≤◌, Bool, ◌||◌, ◌==◌, nat_eq, List, [], ◌∷◌, length, slice_index, IsTrue, IsFalse, codes}
+use Rattle.std.specs.Prelude.{ℕ, ◌<◌, ◌≤◌, Bool, ◌||◌, ◌==◌, nat_eq, List, [], ◌∷◌, length, slice_index, IsTrue, IsFalse, codes}
 use Rattle.std.specs.List.{ends_with, list_any}
 use Rattle.std.specs.Char.{is_ascii_alphanumeric}
 use Rattle.lf_base.specs.declared.name.NameFault.{NameFault}

@@ -1,25 +1,8 @@
 -- A position in print: the transaction number and the sum, each as 16 hexadecimal digits in lower case.
-use Rattle.std.specs.Prelude.{ℕ, zero, suc, ◌+◌, ◌-◌, ◌*◌, ◌/◌, ◌%◌, ◌^◌, nat_lt, if◌then◌else◌, List, [], ◌∷◌, ◌++◌}
+use Rattle.std.specs.Prelude.{List, ℕ, ◌∷◌, ◌++◌}
+use Rattle.lf_base.specs.Hex.{hex_digits}
 use Rattle.lf_base.specs.declared.pos.Pos.{Pos}
-
--- the digit of a number below 16
-unfoldable pub hex_digit : ℕ → ℕ
-hex_digit d = if nat_lt d 10 then 48 + d else 87 + d
-
--- the last digits of a number
-unfoldable pub hex_digits : ℕ → ℕ → List ℕ
-hex_digits zero n = []
-hex_digits (suc count) n = hex_digits count (n / 16) ++ hex_digit (n % 16) ∷ []
 
 -- a position in print
 abbrev pub position_text : Pos → List ℕ
 position_text pos = hex_digits 16 pos.txid ++ 47 ∷ hex_digits 16 pos.sum
-
--- the number that a digit says
-unfoldable pub digit_value : ℕ → ℕ
-digit_value b = (if nat_lt b 58 then b - 48 else b - 87) % 16
-
--- the number that digits behind it say, its last 64 bits
-abbrev pub number_after : ℕ → List ℕ → ℕ
-number_after n [] = n
-number_after n (b ∷ bs) = number_after (n % 2 ^ 60 * 16 + digit_value b) bs

@@ -1,15 +1,18 @@
 //! What every crate of the node stands on: plain values, and the outside as traits with a meaning.
 //!
 //! A source or a sink is a trait whose contract says which bytes it has left or taken, where it
-//! tells them, and how often it has failed. Those in memory tell all; those over the real streams
-//! tell their count of faults alone.
+//! tells them, and how often it has failed. Those in memory tell all; those over std's readers and
+//! writers tell what these tell, and their count of faults.
 #![tactic(auto)]
 
 mod bytes;
+mod digits;
+mod endian;
 mod errno;
 mod memory;
 mod name;
 mod pos;
+mod session_end;
 mod sink;
 mod slice_source;
 mod source;
@@ -19,10 +22,13 @@ mod text;
 mod vec_sink;
 
 pub use bytes::Bytes;
+pub use digits::{hex16, read_hex16};
+pub use endian::{be16_at, be32_at, be64_at, le16_at, le32_at, le64_at};
 pub use errno::Errno;
 pub use memory::NoMemory;
 pub use name::{Name, NameFault};
 pub use pos::{Pos, pos_text, read_pos};
+pub use session_end::SessionEnd;
 pub use sink::Sink;
 pub use slice_source::SliceSource;
 pub use source::{Failed, Source};

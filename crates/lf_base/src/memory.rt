@@ -1,7 +1,7 @@
 use std::alloc::{AllocError, AllocFailed};
 
-/// Memory ran out. It is the one refusal that no contract ties to a cause; the call that answers
-/// it leaves everything as it was.
+/// Memory ran out. It is the one refusal that no contract ties to a cause. What stays as it was is
+/// said by the call that answers it.
 #[derive(Clone, Copy, Debug, PartialEq, Eq)]
 pub struct NoMemory;
 

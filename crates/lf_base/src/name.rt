@@ -76,6 +76,14 @@ impl Name {
     {
         self.inside.as_slice()
     }
+
+    /// The same name once more.
+    pub fn copy(&self) -> Result<Name, NoMemory>
+        ensures { IfOk result (λ name. name ≡ self.now) }
+    {
+        let inside = self.inside.clone()?;
+        Ok(Name { inside })
+    }
 }
 
 /// Where the first byte stands that may not stand in a name.

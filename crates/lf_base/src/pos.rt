@@ -1,5 +1,7 @@
-ghost use Rattle.std.specs.Prelude.{◌≡◌, ◌<◌, ◌^◌, ◌↔◌, IsTrue, IfSome, IfNone};
-ghost use Rattle.lf_base.specs.Position.{position_text, hex_digit, hex_digits, digit_value as value_of, number_after};
+ghost use Rattle.std.specs.Prelude.{◌≡◌, ◌<◌, ◌^◌, IfSome, IfNone};
+ghost use Rattle.lf_base.specs.Position.{position_text};
+
+use crate::digits::{hex16, is_same, read_hex16};
 
 /// A position in the history of a database: the transaction number and the sum of the pages. A
 /// database that was never written is at (0, 0).
@@ -13,8 +15,8 @@ pub struct Pos {
 pub fn pos_text(pos: Pos) -> [u8; 33]
     ensures { result ≡ position_text pos }
 {
-    let txid = hex(pos.txid);
-    let sum = hex(pos.sum);
+    let txid = hex16(pos.txid);
+    let sum = hex16(pos.sum);
     [
         txid[0], txid[1], txid[2], txid[3], txid[4], txid[5], txid[6], txid[7], txid[8], txid[9],
         txid[10], txid[11], txid[12], txid[13], txid[14], txid[15], b'/', sum[0], sum[1], sum[2],
@@ -33,67 +35,16 @@ pub fn read_pos(bytes: &[u8]) -> Option<Pos>
     }
     let (txid, rest) = bytes.split_at(16);
     let (_, sum) = rest.split_at(1);
-    let pos = Pos {
-        txid: number(txid),
-        sum: number(sum),
+    let Some(txid) = read_hex16(txid) else {
+        return None;
     };
+    let Some(sum) = read_hex16(sum) else {
+        return None;
+    };
+    let pos = Pos { txid, sum };
     if is_same(&pos_text(pos), bytes) {
         Some(pos)
     } else {
         None
     }
-}
-
-fn is_same(text: &[u8], bytes: &[u8]) -> bool
-    ensures { IsTrue result ↔ (text.now ≡ bytes.now) }
-{
-    text == bytes
-}
-
-/// The 16 digits of a number.
-fn hex(mut n: u64) -> [u8; 16]
-    ensures { result ≡ hex_digits 16 n }
-{
-    let mut text = [b'0'; 16];
-    for place in 0..16usize {
-        text[15 - place] = digit((n % 16) as u8);
-        n /= 16;
-    }
-    text
-}
-
-#[tactic(auto, unfolding(crate::specs::Position::hex_digit))]
-fn digit(value: u8) -> u8
-    requires { value < 16 }
-    ensures { result ≡ hex_digit value }
-{
-    if value < 10 {
-        b'0' + value
-    } else {
-        b'a' - 10 + value
-    }
-}
-
-/// The number that the bytes say as digits, whatever they are.
-fn number(bytes: &[u8]) -> u64
-    ensures { result ≡ number_after 0 bytes.now }
-{
-    let mut number = 0;
-    for byte in bytes {
-        number = number % (1 << 60) * 16 + digit_value(*byte);
-    }
-    number
-}
-
-#[tactic(auto, unfolding(crate::specs::Position::digit_value))]
-fn digit_value(byte: u8) -> u64
-    ensures value { result ≡ value_of byte }
-    ensures digit { result < 16 }
-{
-    let value = if byte < 58 {
-        byte.saturating_sub(48)
-    } else {
-        byte - 87u8.min(byte)
-    };
-    u64::from(value % 16)
 }

@@ -53,6 +53,7 @@ impl Source for SliceSource<'_> {
         ensures fails { IsErr result ↔ Contains self.old.failing self.old.calls }
         ensures counted { self.new.calls ≡ one_more self.old.calls }
         ensures failing { self.new.failing ≡ self.old.failing }
+        ensures one { IsErr result → self.new.faults ≡ one_more self.old.faults }
     {
         let fails = self.failing.contains(&self.calls);
         self.calls = self.calls.saturating_add(1);

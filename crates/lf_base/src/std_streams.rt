@@ -1,11 +1,12 @@
-//! The real streams. What they give and take is not known to any contract.
-ghost use Rattle.std.specs.Prelude.{◌≡◌, None};
+//! Readers and writers of std as a source and a sink. What they give and take is told where the
+//! reader or writer tells it; of a file or a terminal no contract says it.
+ghost use Rattle.std.specs.Prelude.{◌≡◌};
 
 use crate::sink::Sink;
 use crate::source::{Failed, Source};
 use std::io;
 
-/// A reader as a source that tells its count of faults alone.
+/// A reader as a source. It tells the bytes left where the reader tells them.
 #[derive(Drop)]
 pub struct StdSource<R: io::Read> {
     reader: R,
@@ -21,7 +22,7 @@ impl<R: io::Read> StdSource<R> {
 }
 
 impl<R: io::Read> Source for StdSource<R> {
-    ghost left = { λ _. None };
+    ghost left = { λ s. R.remaining s.reader };
 
     ghost faults = { λ s. s.faults };
 
@@ -36,7 +37,7 @@ impl<R: io::Read> Source for StdSource<R> {
     }
 }
 
-/// A writer as a sink that tells its count of faults alone.
+/// A writer as a sink. It tells the bytes taken where the writer tells them.
 #[derive(Drop)]
 pub struct StdSink<W: io::Write> {
     writer: W,
@@ -52,7 +53,7 @@ impl<W: io::Write> StdSink<W> {
 }
 
 impl<W: io::Write> Sink for StdSink<W> {
-    ghost taken = { λ _. None };
+    ghost taken = { λ s. W.contents s.writer };
 
     ghost faults = { λ s. s.faults };
 

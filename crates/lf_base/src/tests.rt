@@ -24,6 +24,8 @@ fn names(rt: HostRuntime) {
 fn a_name_keeps_its_bytes(rt: HostRuntime) -> Result<(), Fail> {
     let name = Name::read(rt.alloc(), b"app").ok().ok_or("a name")?;
     assert_eq!(rt; name.bytes(), b"app".as_slice());
+    let again = name.copy().ok().ok_or("memory")?;
+    assert_eq!(rt; again.bytes(), b"app".as_slice());
     Ok(())
 }
 
@@ -43,6 +45,39 @@ fn positions(rt: HostRuntime) {
     ] {
         assert_eq!(rt; read_pos(refused), None);
     }
+}
+
+#[test]
+fn digits(rt: HostRuntime) {
+    assert_eq!(rt;
+        hex16(0xefb1_f44f_ecd9_9000).as_slice(),
+        b"efb1f44fecd99000".as_slice()
+    );
+    assert_eq!(rt;
+        read_hex16(b"efb1f44fecd99000"),
+        Some(0xefb1_f44f_ecd9_9000)
+    );
+    for refused in [
+        b"EFB1f44fecd99000".as_slice(),
+        b"efb1f44fecd9900".as_slice(),
+        b"00000000000000001".as_slice(),
+        b"000000000000000g".as_slice(),
+        b"+000000000000001".as_slice(),
+    ] {
+        assert_eq!(rt; read_hex16(refused), None);
+    }
+}
+
+/// The bytes of a number behind another byte, in both byte orders.
+#[test]
+fn numbers_at_places(rt: HostRuntime) {
+    let bytes = [0, 1, 2, 3, 4, 5, 6, 7, 8];
+    assert_eq!(rt; be16_at(&bytes, 1), 0x0102);
+    assert_eq!(rt; be32_at(&bytes, 1), 0x0102_0304);
+    assert_eq!(rt; be64_at(&bytes, 1), 0x0102_0304_0506_0708);
+    assert_eq!(rt; le16_at(&bytes, 1), 0x0201);
+    assert_eq!(rt; le32_at(&bytes, 1), 0x0403_0201);
+    assert_eq!(rt; le64_at(&bytes, 1), 0x0807_0605_0403_0201);
 }
 
 /// The second of three reads fails, and loses nothing.
@@ -74,6 +109,8 @@ fn a_sink_fails_when_told_and_past_its_room(rt: HostRuntime) -> Result<(), Fail>
 fn text_and_statuses(rt: HostRuntime) -> Result<(), Fail> {
     let text = Text::of(rt.alloc(), "apply").ok().ok_or("memory")?;
     assert_eq!(rt; text.bytes(), b"apply".as_slice());
+    let again = text.copy().ok().ok_or("memory")?;
+    assert_eq!(rt; again.bytes(), b"apply".as_slice());
     assert_eq!(rt; Status::InputRefused.number(), 3);
     assert_eq!(rt; Status::WriteFault.text(), "cannot write");
     Ok(())

@@ -31,4 +31,12 @@ impl Text {
     {
         self.inside.as_bytes()
     }
+
+    /// The same text once more.
+    pub fn copy(&self) -> Result<Text, NoMemory>
+        ensures { IfOk result (λ text. text ≡ self.now) }
+    {
+        let inside = self.inside.clone()?;
+        Ok(Text { inside })
+    }
 }

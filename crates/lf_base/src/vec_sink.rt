@@ -66,6 +66,7 @@ impl Sink for VecSink {
         ensures cause { CountsFaults self.old.faults self.new.faults result }
 
         // It fails at the calls that it was told and past its room, and at no other.
+        ensures one { IsErr result → self.new.faults ≡ one_more self.old.faults }
         ensures told { Contains self.old.failing self.old.calls → IsErr result }
         ensures full { self.old.room < length self.old.taken + length piece.now → IsErr result }
         ensures only { IsErr result → Contains self.old.failing self.old.calls ⊎ (self.old.room < length self.old.taken + length piece.now) }

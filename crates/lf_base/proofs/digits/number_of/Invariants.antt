@@ -1,6 +1,6 @@
 use Rattle.std.proofs.Common.{◌≡◌, drop}
-use Rattle.lf_base.specs.Position.{number_after}
-use Rattle.lf_base.proofs.pos.number.Given as goal
+use Rattle.lf_base.specs.Hex.{number_after}
+use Rattle.lf_base.proofs.digits.number_of.Given as goal
 
 -- the bytes left bring the number to that of all bytes
 abbrev pub invariant-loop-byte : goal.invariant-loop-byte
