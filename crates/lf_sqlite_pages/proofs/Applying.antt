@@ -3,7 +3,7 @@ use Rattle.std.proofs.Common.{◌≡◌, ℕ, suc, zero, ◌+◌, ◌-◌, ◌<�
 use Rattle.std.specs.List.{slice_get, All}
 use Rattle.std.specs.Option.{IsSome}
 use Rattle.std.proofs.lemmas.List.{same_lists, length-set, length-replicate, get_or-set_other}
-use Rattle.std.proofs.lemmas.List.Elements.{All-set, All-append, All-take, All-replicate}
+use Rattle.std.proofs.lemmas.List.Elements.{All-set, All-append, All-take, All-replicate, All-head, All-tail}
 use Rattle.std.proofs.lemmas.List.FromFn.{length-map-range_with_len, get_or-map-range_with_len}
 use Rattle.std.proofs.lemmas.List.Sums.{fold_more}
 use Rattle.std.proofs.lemmas.Bool.{cases_eq, cases_lt}
@@ -11,7 +11,9 @@ use Rattle.std.proofs.lemmas.Bool.Decides.{nat_tests}
 use Rattle.std.proofs.lemmas.Grind.{common_steps, get_or-set_at}
 use Rattle.std.proofs.lemmas.Option.{slice_get-get_or, slice_get_past}
 use Rattle.lf_sqlite_pages.specs.Change.{AscendsAbove, PageChange, IsChange, written}
-use Rattle.lf_sqlite_pages.specs.Image.{DatabaseImage}
+use Rattle.lf_sqlite_pages.specs.Image.{DatabaseImage, IsImage, page_at}
+use Rattle.lf_sqlite_pages.specs.LockPage.{lock_page_of, IsDataPage}
+use Rattle.lf_sqlite_pages.proofs.PageNumbers.{page_at-next}
 use Rattle.lf_sqlite_pages.specs.Apply.{Fits, apply, page_after}
 use Rattle.lf_sqlite_pages.specs.Steps.{kept, resized, overwritten}
 use Rattle.lf_sqlite_pages.specs.declared.page_write.PageWrite.{PageWrite}
@@ -134,32 +136,88 @@ unwrap_or-any : (o : Option (List ℕ)) (d e : List ℕ) → IsSome o → unwrap
 unwrap_or-any None d e some = absurd (cc)
 unwrap_or-any (Some x) d e some = refl
 
--- where a change fits, the pages that it can keep give each page as the old image does
-pub kept-page : (image : DatabaseImage) (change : PageChange) → Fits image change → (i : ℕ) → i < change.commit →
-    unwrap_or (written change.pages (i + 1)) (unwrap_or (slice_get (kept image.page_size image.pages change.page_size) i) (replicate change.page_size 0))
-    ≡ page_after image change (i + 1)
-kept-page image change fits i h =
-    let back : i + 1 - 1 ≡ i = omega arith in
+-- a change doesn't write a number that none of its pages has
+pub written-none : (n : ℕ) (ws : List PageWrite) → All (λ w. w.number ≢ n) ws → written ws n ≡ None
+written-none n [] others = refl
+written-none n (w ∷ ws) others =
+    let P : PageWrite → Type 0 = λ v. v.number ≢ n in
+    let here : w.number ≢ n = All-head P w ws others in
+    let test : eqb w.number n ≡ false = grind (arith, nat_tests) in
+    rw test (written-none n ws (All-tail P w ws others))
+
+-- a change doesn't write the lock page
+pub written-lock_page : (change : PageChange) → IsChange change → written change.pages (lock_page_of change.page_size) ≡ None
+written-lock_page change valid = written-none (lock_page_of change.page_size) change.pages valid.data_pages
+
+-- the lock page of an image is zeros, or past its end
+blank-page : (image : DatabaseImage) → IsImage image → (i : ℕ) → i + 1 ≡ lock_page_of image.page_size →
+    unwrap_or (slice_get image.pages i) (replicate image.page_size 0) ≡ replicate image.page_size 0
+blank-page image valid i here =
+    elim (cases_lt i (length image.pages)) [
+      | inl inside ↦
+          let zeros : page_at image (lock_page_of image.page_size) ≡ Some (replicate image.page_size 0) = valid.blank (omega (arith, here)) in
+          let read : slice_get image.pages i ≡ Some (replicate image.page_size 0) =
+          sym (page_at-next image i) ∙ ap (page_at image) here ∙ zeros
+          in
+          rw read refl
+      | inr past ↦
+          let none : slice_get image.pages i ≡ None = slice_get_past image.pages i past in
+          rw none refl
+    ]
+
+-- the lock page is zeros afterwards
+kept-lock_page : (image : DatabaseImage) (change : PageChange) → IsImage image → (i : ℕ) → i + 1 ≡ lock_page_of change.page_size →
+    unwrap_or (slice_get (kept image.page_size image.pages change.page_size) i) (replicate change.page_size 0) ≡ replicate change.page_size 0
+kept-lock_page image change valid i here =
     elim (cases_eq image.page_size change.page_size) [
       | inl same ↦
           let test : eqb image.page_size change.page_size ≡ true = grind (arith, nat_tests) in
-          rw (test, back) refl
+          rw test (rw (← same) (blank-page image valid i (here ∙ ap lock_page_of (sym same))))
+      | inr differ ↦
+          let test : eqb image.page_size change.page_size ≡ false = grind (arith, nat_tests) in
+          rw test refl
+    ]
+
+-- where a change fits, the pages that it can keep give each data page as the old image does
+kept-data_page : (image : DatabaseImage) (change : PageChange) → Fits image change → (i : ℕ) → i < change.commit → IsDataPage change.page_size (i + 1) →
+    unwrap_or (written change.pages (i + 1)) (unwrap_or (slice_get (kept image.page_size image.pages change.page_size) i) (replicate change.page_size 0))
+    ≡ unwrap_or (written change.pages (i + 1)) (unwrap_or (slice_get image.pages i) (replicate change.page_size 0))
+kept-data_page image change fits i h data_page =
+    elim (cases_eq image.page_size change.page_size) [
+      | inl same ↦
+          let test : eqb image.page_size change.page_size ≡ true = grind (arith, nat_tests) in
+          rw test refl
       | inr differ ↦
           let test : eqb image.page_size change.page_size ≡ false = grind (arith, nat_tests) in
           elim fits [
             | inl same ↦ absurd (differ same)
             | inr (inl none) ↦ rw (test, none) refl
             | inr (inr every) ↦
-                let some : IsSome (written change.pages (i + 1)) = every (i + 1) (omega arith) (omega arith) in
+                let some : IsSome (written change.pages (i + 1)) = every (i + 1) (omega arith) (omega arith) data_page in
                 rw test (unwrap_or-any (written change.pages (i + 1)) _ _ some)
           ]
     ]
 
+-- where a change fits, the pages that it can keep give each page as the change says
+pub kept-page : (image : DatabaseImage) (change : PageChange) → IsImage image → IsChange change → Fits image change → (i : ℕ) → i < change.commit →
+    unwrap_or (written change.pages (i + 1)) (unwrap_or (slice_get (kept image.page_size image.pages change.page_size) i) (replicate change.page_size 0))
+    ≡ page_after image change (i + 1)
+kept-page image change whole valid fits i h =
+    elim (cases_eq (i + 1) (lock_page_of change.page_size)) [
+      | inl here ↦
+          let test : eqb (i + 1) (lock_page_of change.page_size) ≡ true = grind (arith, nat_tests) in
+          let none : written change.pages (i + 1) ≡ None = ap (written change.pages) here ∙ written-lock_page change valid in
+          rw (test, none) (kept-lock_page image change whole i here)
+      | inr data_page ↦
+          let test : eqb (i + 1) (lock_page_of change.page_size) ≡ false = grind (arith, nat_tests) in
+          rw (test, page_at-next image i) (kept-data_page image change fits i h data_page)
+    ]
+
 -- the two steps give the pages of the image that the change leads to
-pub apply-by_steps : (image : DatabaseImage) (change : PageChange) → IsChange change → Fits image change →
+pub apply-by_steps : (image : DatabaseImage) (change : PageChange) → IsImage image → IsChange change → Fits image change →
     overwritten (resized (kept image.page_size image.pages change.page_size) change.page_size change.commit) change.pages
     ≡ (apply image change).pages
-apply-by_steps image change valid fits =
+apply-by_steps image change whole valid fits =
     let base : List (List ℕ) = resized (kept image.page_size image.pages change.page_size) change.page_size change.commit in
     let base_length : length base ≡ change.commit = length-resized _ change.page_size change.commit in
     let count : length (overwritten base change.pages) ≡ change.commit = length-overwritten base change.pages ∙ base_length in
@@ -172,18 +230,18 @@ apply-by_steps image change valid fits =
     in
     there
     ∙ ap (λ x. unwrap_or (written change.pages (k + 1)) x) (get_or-resized _ change.page_size change.commit k d inside)
-    ∙ kept-page image change fits k inside
+    ∙ kept-page image change whole valid fits k inside
     ∙ sym (get_or-map-range_with_len (page_after image change) 1 change.commit k (k + 1) d inside (omega arith)))
 
 -- the same of the image that the steps leave
 pub apply-made : (inside seen : DatabaseImage) (change : PageChange) (size count : ℕ) (fitted pages : List (List ℕ)) →
-    IsChange change → inside ≡ seen → Fits seen change → size ≡ change.page_size → count ≡ change.commit →
+    IsImage inside → IsChange change → inside ≡ seen → Fits seen change → size ≡ change.page_size → count ≡ change.commit →
     fitted ≡ resized (kept inside.page_size inside.pages size) size count → pages ≡ overwritten fitted change.pages →
     record { page_size = size; pages = pages } ≡ apply seen change
-apply-made inside seen change size count fitted pages valid same fits sizes counts cut over =
+apply-made inside seen change size count fitted pages whole valid same fits sizes counts cut over =
     let F : DatabaseImage → Type 0 = λ i. Fits i change in
     let made : pages ≡ (apply inside change).pages =
-    rw (over, cut, sizes, counts) (apply-by_steps inside change valid (subst F (sym same) fits))
+    rw (over, cut, sizes, counts) (apply-by_steps inside change whole valid (subst F (sym same) fits))
     in
     let image : record { page_size = size; pages = pages } ≡ apply inside change = rw (sizes, made) refl in
     image ∙ ap (λ i. apply i change) same

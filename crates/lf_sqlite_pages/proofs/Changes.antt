@@ -2,6 +2,7 @@
 use Rattle.std.proofs.Common.{◌≡◌, ℕ, ◌<◌, ◌≤◌, List, [], ◌∷◌, ◌++◌, length, subst, sym}
 use Rattle.std.specs.List.{fold}
 use Rattle.std.proofs.lemmas.List.Elements.{All-push}
+use Rattle.lf_sqlite_pages.specs.LockPage.{IsDataPage}
 use Rattle.lf_sqlite_pages.specs.Change.{AscendsAbove, PageChange, IsChange, last_number}
 use Rattle.lf_sqlite_pages.specs.declared.page_write.PageWrite.{PageWrite}
 
@@ -15,6 +16,7 @@ AscendsAbove-push number w (v ∷ vs) ascending above = (ascending.0, AscendsAbo
 pub record FitsAtEnd (change : PageChange) (w : PageWrite) : Type 0 where
   pub above : last_number change.pages < w.number
   pub within : w.number ≤ change.commit
+  pub holds_data : IsDataPage change.page_size w.number
   pub whole : length w.bytes ≡ change.page_size
 
 -- such a page at the end of a change leaves a change
@@ -29,5 +31,6 @@ IsChange-push change seen w pages valid same fits grown =
       of_a_page_size = valid.of_a_page_size;
       ascending = AscendsAbove-push 0 w change.pages valid.ascending here.above;
       within = All-push (λ v. v.number ≤ change.commit) change.pages w valid.within here.within;
+      data_pages = All-push (λ v. IsDataPage change.page_size v.number) change.pages w valid.data_pages here.holds_data;
       whole = All-push (λ v. length v.bytes ≡ change.page_size) change.pages w valid.whole here.whole;
     }

@@ -1,5 +1,10 @@
 pub mod Applying
 pub mod Changes
+pub mod DataWrites
+pub mod Images
 pub mod Laws
+pub mod LockPages
+pub mod PageNumbers
 pub mod PlacingLemmas
 pub mod Tables
+pub mod Writes

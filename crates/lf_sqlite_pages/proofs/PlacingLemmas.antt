@@ -7,7 +7,6 @@ use Rattle.std.proofs.lemmas.Bool.{cases_eq}
 use Rattle.std.proofs.lemmas.Bool.Decides.{nat_tests}
 use Rattle.std.proofs.lemmas.Grind.{common_steps}
 use Rattle.lf_sqlite_pages.specs.Change.{PageChange, IsChange}
-use Rattle.lf_sqlite_pages.specs.Image.{IsImage}
 use Rattle.lf_sqlite_pages.specs.Steps.{kept, resized, overwritten, filled, placed}
 use Rattle.lf_sqlite_pages.specs.declared.page_write.PageWrite.{PageWrite}
 use Rattle.lf_sqlite_pages.proofs.Applying.{WritesWhole, WritesWhole-at, length-resized, whole-resized, length-overwritten}
@@ -117,22 +116,10 @@ whole-kept old_size size pages whole =
     ]
 
 -- whole pages written over whole pages
-whole-overwritten : (size : ℕ) (pages : List (List ℕ)) (ws : List PageWrite) → All (λ page. length page ≡ size) pages →
+pub whole-overwritten : (size : ℕ) (pages : List (List ℕ)) (ws : List PageWrite) → All (λ page. length page ≡ size) pages →
     All (λ w. length w.bytes ≡ size) ws → All (λ page. length page ≡ size) (overwritten pages ws)
 whole-overwritten size pages [] whole writes = whole
 whole-overwritten size pages (w ∷ ws) whole writes =
     whole-overwritten size (set pages (w.number - 1) w.bytes) ws
     (All-set (λ page. length page ≡ size) pages (w.number - 1) w.bytes (All-head (λ v. length v.bytes ≡ size) w ws writes) whole)
     (All-tail (λ v. length v.bytes ≡ size) w ws writes)
-
--- the pages after a change are those of an image
-pub IsImage-after : (change : PageChange) (pages made : List (List ℕ)) (size : ℕ) → IsChange change → change.commit < 2 ^ 32 → size ≡ change.page_size →
-    All (λ page. length page ≡ change.page_size) pages → made ≡ overwritten (resized pages change.page_size change.commit) change.pages →
-    IsImage (record { page_size = size; pages = made })
-IsImage-after change pages made size valid few sizes whole is =
-    let count : length made ≡ change.commit = ap length is ∙ length-overwritten _ change.pages ∙ length-resized pages change.page_size change.commit in
-    rw (sizes, is) record {
-      of_a_page_size = λ _. valid.of_a_page_size;
-      whole = whole-overwritten change.page_size _ change.pages (whole-resized pages change.page_size change.commit whole) valid.whole;
-      numbered = rw (← is) (rw count few);
-    }

@@ -2,6 +2,7 @@
 use Rattle.std.specs.Prelude.{◌≡◌, ℕ, ◌<◌, ◌≤◌, ◌==◌, Option, List, [], ◌∷◌, ◌++◌, length, All, IsSome, find, fold}
 use Rattle.std.specs.Option.{option_map}
 use Rattle.lf_sqlite_pages.specs.PageSize.{IsPageSize}
+use Rattle.lf_sqlite_pages.specs.LockPage.{IsDataPage}
 use Rattle.lf_sqlite_pages.specs.declared.page_write.PageWrite.{PageWrite}
 
 -- the page size, the number of pages afterwards, and the pages that are written
@@ -15,11 +16,12 @@ abbrev pub AscendsAbove : ℕ → List PageWrite → Type 0
 AscendsAbove number [] = Unit {0}
 AscendsAbove number (w ∷ ws) = (number < w.number) × AscendsAbove w.number ws
 
--- a change of a SQLite page size that writes whole pages, ascending within 1 to commit
+-- a change of a SQLite page size that writes whole data pages, ascending within 1 to commit
 pub record IsChange (change : PageChange) : Type 0 where
   pub of_a_page_size : IsPageSize change.page_size
   pub ascending : AscendsAbove 0 change.pages
   pub within : All (λ w. w.number ≤ change.commit) change.pages
+  pub data_pages : All (λ w. IsDataPage change.page_size w.number) change.pages
   pub whole : All (λ w. length w.bytes ≡ change.page_size) change.pages
 
 -- the number of the last page written, or 0
@@ -38,6 +40,6 @@ with_page change n page = record change { pages = change.pages ++ record { numbe
 abbrev pub written : List PageWrite → ℕ → Option (List ℕ)
 written pages n = option_map (λ w. w.bytes) (find (λ w. w.number == n) pages)
 
--- the change writes each page from 1 to commit
+-- the change writes each data page from 1 to commit
 abbrev pub HoldsEveryPage : PageChange → Type 0
-HoldsEveryPage change = (n : ℕ) → 1 ≤ n → n ≤ change.commit → IsSome (written change.pages n)
+HoldsEveryPage change = (n : ℕ) → 1 ≤ n → n ≤ change.commit → IsDataPage change.page_size n → IsSome (written change.pages n)

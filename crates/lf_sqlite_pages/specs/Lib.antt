@@ -9,3 +9,4 @@ pub mod Store
 pub mod Table
 pub mod Overlay
 pub mod OverlayParts
+pub mod Writes

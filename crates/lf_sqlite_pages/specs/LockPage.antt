@@ -1,6 +1,6 @@
 -- The lock page: the page that contains byte 0x40000000. SQLite takes its locks there and stores nothing in it
 -- (SQLite file format, section 1.2, The Lock-Byte Page). Every other page is a data page.
-use Rattle.std.specs.Prelude.{◌≢◌, ℕ, ◌+◌, ◌*◌, ◌/◌, ◌<◌, ◌≤◌, ◌==◌, if◌then◌else◌}
+use Rattle.std.specs.Prelude.{◌≢◌, ℕ, ◌+◌, ◌*◌, ◌/◌, ◌≤◌, ◌==◌, if◌then◌else◌}
 
 -- the number of the lock page
 unfoldable pub lock_page_of : ℕ → ℕ

@@ -1,5 +1,6 @@
 ghost use Rattle.std.specs.Prelude.{◌≡◌, ◌<◌, ◌≤◌, length, OnOk, OnErr};
 ghost use Rattle.lf_sqlite_pages.specs.PageSize.{IsPageSize};
+ghost use Rattle.lf_sqlite_pages.specs.LockPage.{IsDataPage};
 ghost use Rattle.lf_sqlite_pages.specs.Change.{IsChange, empty_change, with_page, last_number};
 
 use crate::page_write::PageWrite;
@@ -39,10 +40,11 @@ impl Change {
         }
     }
 
-    /// Adds a copy of page `n`. Numbers come in ascending order.
+    /// Adds a copy of data page `n`. Numbers come in ascending order.
     pub fn push(&mut self, n: u32, bytes: &[u8]) -> Result<(), NoMemory>
         requires ascending { last_number self.old.pages < n }
         requires within { n ≤ self.old.commit }
+        requires holds_data { IsDataPage self.old.page_size n }
         requires whole { length bytes.now ≡ self.old.page_size }
         ensures ok { OnOk result (self.new ≡ with_page self.old n bytes.now) }
         ensures last { OnOk result (last_number self.new.pages ≡ n) }

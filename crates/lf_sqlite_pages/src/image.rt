@@ -39,8 +39,8 @@ impl Image {
         }
     }
 
-    /// Makes this the image after `change`: page by page what the change writes, else the old page,
-    /// else zeros. After want of memory nothing changed.
+    /// Makes this the image after `change`: zeros at the lock page; else, page by page, what the
+    /// change writes, else the old page, else zeros. After want of memory nothing changed.
     pub fn apply(&mut self, change: &Change) -> Result<(), NoMemory>
         requires { Fits self.old change.now }
         ensures ok { OnOk result (self.new ≡ apply self.old change.now) }

@@ -7,6 +7,8 @@
 mod change;
 mod header;
 mod image;
+mod image_laws;
+mod limits;
 mod overlay;
 mod page;
 mod page_size;
@@ -21,6 +23,10 @@ mod tests;
 pub use change::Change;
 pub use header::{is_wal, page_size_of};
 pub use image::Image;
+pub use image_laws::{
+    same_images_are_alike, small_image_has_no_lock_page, whole_change_is_the_image,
+};
+pub use limits::{is_within_limit, lock_page};
 pub use overlay::Overlay;
 pub use page_size::is_page_size;
 pub use page_store::PageStore;

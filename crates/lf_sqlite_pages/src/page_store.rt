@@ -1,5 +1,6 @@
-ghost use Rattle.std.specs.Prelude.{◌≡◌, ℕ, ◌≤◌, Bool, false, Option, Some, IfSome, length, IsTrue, IsErr, OnOk};
+ghost use Rattle.std.specs.Prelude.{◌≡◌, ℕ, ◌<◌, ◌≤◌, Bool, false, Option, Some, IfSome, length, IsTrue, IsErr, OnOk};
 ghost use Rattle.lf_base.specs.Faults.{CountsFaults};
+ghost use Rattle.lf_sqlite_pages.specs.PageSize.{IsPageSize};
 ghost use Rattle.lf_sqlite_pages.specs.Image.{DatabaseImage, IsImage};
 ghost use Rattle.lf_sqlite_pages.specs.Header.{image_is_wal};
 ghost use Rattle.lf_sqlite_pages.specs.Store.{TellsPage};
@@ -34,6 +35,7 @@ pub trait PageStore {
     /// How many pages there are.
     fn commit(&self) -> u32
         ensures value { result ≡ commit self.now }
+        ensures sized { 0 < result → IsPageSize (page_size self.now) }
         ensures told { IfSome (image self.now) (λ i. result ≡ length i.pages) }
         ensures valid { IfSome (image self.now) IsImage };
 

@@ -33,7 +33,7 @@ const PAGES_AFTER: [(u32, Option<u8>); 8] = [
 ];
 
 /// An image of ten pages, page 1 first, under a change that cuts and one that grows.
-#[tactic(auto, unfolding(crate::specs::PageSize::is_page_size))]
+#[tactic(auto, unfolding(crate::specs::PageSize::is_page_size, crate::specs::LockPage::lock_page_of))]
 #[test]
 fn changes_give_images(rt: HostRuntime) -> Result<(), Fail> {
     let alloc = rt.alloc();
@@ -67,7 +67,7 @@ fn changes_give_images(rt: HostRuntime) -> Result<(), Fail> {
 }
 
 /// The same image by changes that are moved into it.
-#[tactic(auto, unfolding(crate::specs::PageSize::is_page_size))]
+#[tactic(auto, unfolding(crate::specs::PageSize::is_page_size, crate::specs::LockPage::lock_page_of))]
 #[test]
 fn changes_move_into_images(rt: HostRuntime) -> Result<(), Fail> {
     let alloc = rt.alloc();
@@ -92,7 +92,7 @@ fn changes_move_into_images(rt: HostRuntime) -> Result<(), Fail> {
     Ok(())
 }
 
-#[tactic(auto, unfolding(crate::specs::PageSize::is_page_size))]
+#[tactic(auto, unfolding(crate::specs::PageSize::is_page_size, crate::specs::LockPage::lock_page_of))]
 #[test]
 fn pages_are_taken_out_of_a_change(rt: HostRuntime) -> Result<(), Fail> {
     let alloc = rt.alloc();
@@ -110,7 +110,7 @@ fn pages_are_taken_out_of_a_change(rt: HostRuntime) -> Result<(), Fail> {
 }
 
 /// A database of no pages takes on another page size.
-#[tactic(auto, unfolding(crate::specs::PageSize::is_page_size))]
+#[tactic(auto, unfolding(crate::specs::PageSize::is_page_size, crate::specs::LockPage::lock_page_of))]
 #[test]
 fn page_size_changes_where_no_page_stands(rt: HostRuntime) -> Result<(), Fail> {
     let alloc = rt.alloc();
@@ -150,6 +150,16 @@ fn first_pages_are_read(rt: HostRuntime) -> Result<(), Fail> {
         assert_eq!(rt; is_wal(&bytes[..18]), false);
     }
     assert!(rt; is_page_size(32768) && !is_page_size(131072) && !is_page_size(1));
+    Ok(())
+}
+
+/// The lock page is the one that contains byte 2^30. The limit is that of a file of 2^31 bytes.
+#[test]
+fn lock_page_and_limit(rt: HostRuntime) -> Result<(), Fail> {
+    for (page_size, number) in [(512, 2_097_153), (4096, 262_145), (65_536, 16_385)] {
+        assert_eq!(rt; lock_page(page_size), number);
+    }
+    assert!(rt; is_within_limit(4096, 523_776) && !is_within_limit(4096, 523_777));
     Ok(())
 }
 

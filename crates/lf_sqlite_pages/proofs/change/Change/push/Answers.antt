@@ -15,5 +15,5 @@ invariant_of-self-2 c =
     c.push.new.self.items
     c.self.invariant
     c.self.view_is
-    (record { above = c.requires.ascending; within = c.requires.within; whole = whole })
+    (record { above = c.requires.ascending; within = c.requires.within; holds_data = c.requires.holds_data; whole = whole })
     c.in_ok-push.ensures.items
