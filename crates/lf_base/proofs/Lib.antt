@@ -1,3 +1,4 @@
 pub mod HexLemmas
 pub mod FileLemmas
 pub mod EndianLemmas
+pub mod WireLemmas

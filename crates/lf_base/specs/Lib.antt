@@ -6,3 +6,5 @@ pub mod Hex
 pub mod Status
 pub mod Name
 pub mod Position
+pub mod Moves
+pub mod Wire

@@ -6,11 +6,15 @@
 #![tactic(auto)]
 
 mod bytes;
+mod clock;
 mod digits;
 mod endian;
 mod errno;
+mod link;
+mod mem_link;
 mod memory;
 mod name;
+mod pause;
 mod pos;
 mod session_end;
 mod sink;
@@ -20,13 +24,18 @@ mod status;
 mod std_streams;
 mod text;
 mod vec_sink;
+mod watch;
 
 pub use bytes::Bytes;
+pub use clock::{Clock, FixedClock};
 pub use digits::{hex16, read_hex16};
 pub use endian::{be16_at, be32_at, be64_at, le16_at, le32_at, le64_at};
 pub use errno::Errno;
+pub use link::Link;
+pub use mem_link::MemLink;
 pub use memory::NoMemory;
 pub use name::{Name, NameFault};
+pub use pause::{NoPause, Pause};
 pub use pos::{Pos, pos_text, read_pos};
 pub use session_end::SessionEnd;
 pub use sink::Sink;
@@ -36,6 +45,7 @@ pub use status::Status;
 pub use std_streams::{StdSink, StdSource};
 pub use text::Text;
 pub use vec_sink::VecSink;
+pub use watch::Watch;
 
 #[cfg(test)]
 mod tests;
