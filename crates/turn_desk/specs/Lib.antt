@@ -1,0 +1,5 @@
+pub mod History
+pub mod Rule
+pub mod Moves
+pub mod Calls
+pub mod Seats
