@@ -1,5 +1,5 @@
 -- The sums of pages in LTX files.
-use Rattle.std.specs.Prelude.{ℕ, ◌+◌, List, [], ◌∷◌, ◌++◌, bit_or, bit_xor}
+use Rattle.std.specs.Prelude.{ℕ, List, [], ◌∷◌, ◌++◌, bit_or, bit_xor}
 use Rattle.std.specs.Int.{w32, to_be_bytes}
 use Rattle.page_checksum.specs.Crc.{crc}
 
@@ -7,20 +7,12 @@ use Rattle.page_checksum.specs.Crc.{crc}
 abbrev pub flagged : ℕ → ℕ
 flagged sum = bit_or sum 0x8000_0000_0000_0000
 
--- the sum of a page: of its number as four big-endian bytes, and its bytes
+-- The sum of a page: of its number as four big-endian bytes, and its bytes. It is said for numbers below 2 ^ 32,
+-- which are those that four bytes hold.
 unfoldable pub page_sum_of : ℕ → List ℕ → ℕ
 page_sum_of number page = flagged (crc (to_be_bytes w32 number ++ page))
-
--- the sums of pages that follow one another, the first of this number
-abbrev pub page_sums : ℕ → List (List ℕ) → List ℕ
-page_sums number [] = []
-page_sums number (page ∷ pages) = page_sum_of number page ∷ page_sums (number + 1) pages
 
 -- sums taken together by XOR
 abbrev pub joined : List ℕ → ℕ
 joined [] = 0
 joined (sum ∷ sums) = bit_xor sum (joined sums)
-
--- the sum of a database of these pages
-abbrev pub database_sum : List (List ℕ) → ℕ
-database_sum pages = flagged (joined (page_sums 1 pages))
