@@ -4,14 +4,19 @@ use Rattle.std.specs.List.{range_with_len}
 use Rattle.std.specs.Int.{w32, w64, from_be_bytes}
 use Rattle.std.proofs.lemmas.List.{drop-take, take-append-le}
 use Rattle.std.proofs.lemmas.Bool.{cases_order, cases_lt}
-use Rattle.page_checksum.specs.Sums.{database_sum}
 use Rattle.lf_sqlite_pages.specs.PageSize.{IsPageSize}
-use Rattle.ltx_codec.specs.Fields.{four_at, eight_at}
-use Rattle.ltx_codec.specs.Format.{magic, file_sum, IsDatabaseSize}
-use Rattle.ltx_codec.specs.Places.{Breaks, IsBroken, IsSoundBefore, IsEarliest, StandsInside, last_place, number_place, number_at, number_before, page_in, HasPages, HasBlock, IsOutOfOrder, IsOutOfRange, LeavesOut, IsWrongSum}
+use Rattle.lf_sqlite_pages.specs.LockPage.{IsWithinLimit}
+use Rattle.lf_sqlite_pages.specs.declared.page_write.PageWrite.{PageWrite}
+use Rattle.ltx_codec.specs.Sums.{sum_of_writes}
+use Rattle.ltx_codec.specs.Numbering.{BreaksNumbering}
+use Rattle.ltx_codec.specs.declared.header.Header.{Header}
+use Rattle.ltx_codec.specs.Fields.{stated_flags, stated_page_size, stated_commit, stated_min, stated_pre, header_in}
+use Rattle.ltx_codec.specs.Format.{magic, file_sum}
+use Rattle.ltx_codec.specs.Places.{Breaks, IsBroken, IsSoundBefore, IsEarliest, StandsInside, last_place, number_place, number_at, number_before, page_in, write_in, writes_in, HasPages, HasBlock, IsWrongPost, IsWrongSum}
 use Rattle.ltx_codec.specs.declared.fault.LtxFault.{LtxFault}
 use Rattle.ltx_codec.specs.declared.fault.LtxFault.TheVariants as fault
 use Rattle.ltx_codec.proofs.BlockLemmas.{later_place, next_place}
+use Rattle.lf_base.specs.Endian.{be32_at, be64_at}
 
 take-of_take : (m n : ℕ) (l : List ℕ) → m ≤ n → take m (take n l) ≡ take m l
 take-of_take zero n l le = refl
@@ -45,23 +50,23 @@ slice_same p m n a b g le =
 pub front_same : (m n : ℕ) (a b : List ℕ) → Agree a b n → m ≤ n → take m a ≡ take m b
 front_same m n a b g le = sym (take-of_take m n a le) ∙ ap (λ (l : List ℕ). take m l) g.front ∙ take-of_take m n b le
 
-pub four_same : (p n : ℕ) (a b : List ℕ) → Agree a b n → p + 4 ≤ n → four_at p a ≡ four_at p b
-unfolding four_at
+pub four_same : (p n : ℕ) (a b : List ℕ) → Agree a b n → p + 4 ≤ n → be32_at p a ≡ be32_at p b
+unfolding be32_at
 four_same p n a b g le = ap (λ (l : List ℕ). from_be_bytes w32 l) (slice_same p 4 n a b g le)
 
-pub eight_same : (p n : ℕ) (a b : List ℕ) → Agree a b n → p + 8 ≤ n → eight_at p a ≡ eight_at p b
-unfolding eight_at
+pub eight_same : (p n : ℕ) (a b : List ℕ) → Agree a b n → p + 8 ≤ n → be64_at p a ≡ be64_at p b
+unfolding be64_at
 eight_same p n a b g le = ap (λ (l : List ℕ). from_be_bytes w64 l) (slice_same p 8 n a b g le)
 
 module _ (a b : List ℕ) (n : ℕ) (g : Agree a b n) (long : 12 ≤ n) where
-  pub size_same : four_at 8 a ≡ four_at 8 b
+  pub size_same : stated_page_size a ≡ stated_page_size b
   size_same = four_same 8 n a b g (omega arith)
 
   pub place_same : (k : ℕ) → number_place a k ≡ number_place b k
   place_same k = ap (λ (s : ℕ). 100 + k * (4 + s)) size_same
 
   pub number_same : (k : ℕ) → number_place a k + 4 ≤ n → number_at a k ≡ number_at b k
-  number_same k le = four_same (number_place a k) n a b g le ∙ ap (λ (p : ℕ). four_at p b) (place_same k)
+  number_same k le = four_same (number_place a k) n a b g le ∙ ap (λ (p : ℕ). be32_at p b) (place_same k)
 
   pub before_same : (k : ℕ) → number_place a k ≤ n → number_before a k ≡ number_before b k
   before_same zero le = refl
@@ -72,16 +77,24 @@ module _ (a b : List ℕ) (n : ℕ) (g : Agree a b n) (long : 12 ≤ n) where
 
   pub page_same : (k : ℕ) → number_place a (k + 1) ≤ n → page_in a k ≡ page_in b k
   page_same k le =
-      slice_same (number_place a k + 4) (four_at 8 a) n a b g (omega (arith, next_place a k))
-      ∙ ap (λ (p : ℕ). take (four_at 8 a) (drop (p + 4) b)) (place_same k)
+      slice_same (number_place a k + 4) (stated_page_size a) n a b g (omega (arith, next_place a k))
+      ∙ ap (λ (p : ℕ). take (stated_page_size a) (drop (p + 4) b)) (place_same k)
       ∙ ap (λ (s : ℕ). take s (drop (number_place b k + 4) b)) size_same
 
-  pub contents_same : (k from count : ℕ) → from + count ≡ k → number_place a k ≤ n → map (page_in a) (range_with_len from count) ≡ map (page_in b) (range_with_len from count)
-  contents_same k from zero sum le = refl
-  contents_same k from (suc count) sum le =
+  pub write_same : (k : ℕ) → number_place a (k + 1) ≤ n → write_in a k ≡ write_in b k
+  write_same k le =
+      ap (λ (m : ℕ). write_of m (page_in a k)) (number_same k (omega (arith, le, next_place a k)))
+      ∙ ap (λ (p : List ℕ). write_of (number_at b k) p) (page_same k le)
+    where
+      write_of : ℕ → List ℕ → PageWrite
+      write_of m p = record { number = m; bytes = p }
+
+  pub writes_same : (k from count : ℕ) → from + count ≡ k → number_place a k ≤ n → map (write_in a) (range_with_len from count) ≡ map (write_in b) (range_with_len from count)
+  writes_same k from zero sum le = refl
+  writes_same k from (suc count) sum le =
       let near : number_place a (from + 1) ≤ n = past k (from + 1) (omega arith) le in
-      ap (λ (p : List ℕ). p ∷ map (page_in a) (range_with_len (from + 1) count)) (page_same from near)
-      ∙ ap (λ (l : List (List ℕ)). page_in b from ∷ l) (contents_same k (from + 1) count (omega arith) le)
+      ap (λ (w : PageWrite). w ∷ map (write_in a) (range_with_len (from + 1) count)) (write_same from near)
+      ∙ ap (λ (l : List PageWrite). write_in b from ∷ l) (writes_same k (from + 1) count (omega arith) le)
     where
       past : (k j : ℕ) → j ≤ k → number_place a k ≤ n → number_place a j ≤ n
       past k j le room = elim (cases_order j k) [
@@ -99,79 +112,68 @@ module _ (a b : List ℕ) (n : ℕ) (g : Agree a b n) (long : 12 ≤ n) where
     there = let right = g.right in omega (arith, place_same k);
   }
 
+  pub header_same : 100 ≤ n → header_in a ≡ header_in b
+  header_same whole = cc (
+    four_same 8 n a b g (omega arith),
+    four_same 12 n a b g (omega arith),
+    eight_same 16 n a b g (omega arith),
+    eight_same 24 n a b g (omega arith),
+    eight_same 32 n a b g (omega arith),
+    eight_same 40 n a b g (omega arith),
+    eight_same 48 n a b g (omega arith),
+    eight_same 56 n a b g (omega arith),
+    four_same 64 n a b g (omega arith),
+    four_same 68 n a b g (omega arith),
+    eight_same 72 n a b g (omega arith),
+  )
+
   -- a rule that the one breaks within the front, the other breaks there too
   module _ (q : ℕ) (within : q ≤ n) where
-    out_of_order_same : (k : ℕ) → number_place a k + 4 ≤ n → IsOutOfOrder a k → IsOutOfOrder b k
-    out_of_order_same k le rule =
-        let here = number_same k le in
-        (λ (zero-is : number_at b k ≡ 0). rule.0 (here ∙ zero-is), omega (arith, rule.1, here, before_same k (omega (arith, le))))
+    -- what holds of the header, the k-th number and the one before holds of both
+    pub numbers_same : (P : Header → ℕ → ℕ → Type 0) (k : ℕ) → number_place a k + 4 ≤ n → P (header_in a) (number_before a k) (number_at a k)
+        → P (header_in b) (number_before b k) (number_at b k)
+    numbers_same P k le here =
+        subst (λ (h : Header). P h (number_before b k) (number_at b k)) (header_same (omega (arith, le)))
+        (subst (λ (m : ℕ). P (header_in a) m (number_at b k)) (before_same k (omega (arith, le)))
+        (subst (λ (m : ℕ). P (header_in a) (number_before a k) m) (number_same k le) here))
 
-    out_of_range_same : (k : ℕ) → number_place a k + 4 ≤ n → IsOutOfRange a k → IsOutOfRange b k
-    out_of_range_same k le rule =
-        let here = number_same k le in
-        let commit : four_at 12 a ≡ four_at 12 b = four_same 12 n a b g (omega (arith, le)) in
-        (omega (arith, rule.0, here, before_same k (omega (arith, le))), omega (arith, rule.1, here, commit))
-
-    leaves_out_same : (k : ℕ) → number_place a k + 4 ≤ n → LeavesOut a k → LeavesOut b k
-    leaves_out_same k le rule =
-        let here = number_same k le in
-        let before = before_same k (omega (arith, le)) in
-        let commit : four_at 12 a ≡ four_at 12 b = four_same 12 n a b g (omega (arith, le)) in
-        let min : eight_at 16 a ≡ eight_at 16 b = eight_same 16 n a b g (omega (arith, le)) in (
-          sym min ∙ rule.0,
-          elim rule.1 [
-            | inl skips ↦ inl (omega (arith, skips.0, here, before), omega (arith, skips.1, here, commit))
-            | inr stops ↦ inr (sym here ∙ stops.0, λ (same : number_before b k ≡ four_at 12 b). stops.1 (before ∙ same ∙ sym commit))
-          ],
-        )
-
-    wrong_sum_same : (k : ℕ) → number_place a k + 12 ≤ n → IsWrongSum a k (eight_at (number_place a k + 4) a) → IsWrongSum b k (eight_at (number_place b k + 4) b)
+    wrong_sum_same : (k : ℕ) → number_place a k + 12 ≤ n → IsWrongSum a k (be64_at (number_place a k + 4) a) → IsWrongSum b k (be64_at (number_place b k + 4) b)
     wrong_sum_same k le rule =
-        let sum : eight_at (number_place a k + 4) a ≡ eight_at (number_place b k + 4) b =
-        eight_same (number_place a k + 4) n a b g (omega (arith, le)) ∙ ap (λ (p : ℕ). eight_at (p + 4) b) (place_same k) in
-        let commit : four_at 12 a ≡ four_at 12 b = four_same 12 n a b g (omega (arith, le)) in
-        let min : eight_at 16 a ≡ eight_at 16 b = eight_same 16 n a b g (omega (arith, le)) in
-        let contents = contents_same k 0 k (omega arith) (omega (arith, le)) in
-        elim rule [
-          | inl low ↦ inl (omega (arith, low, sum))
-          | inr other ↦ elim other [
-            | inl empty ↦ inr (inl (sym commit ∙ empty.0, λ (same : eight_at (number_place b k + 4) b ≡ 2 ^ 63). empty.1 (sum ∙ same)))
-            | inr snapshot ↦ inr (inr (
-              sym min ∙ snapshot.0,
-              λ (same : eight_at (number_place b k + 4) b ≡ database_sum (map (page_in b) (range_with_len 0 k))). snapshot.1 (sum ∙ same ∙ ap database_sum (sym contents)),
-            ))
-          ]
-        ]
+        let sum : be64_at (number_place a k + 4) a ≡ be64_at (number_place b k + 4) b =
+        eight_same (number_place a k + 4) n a b g (omega (arith, le)) ∙ ap (λ (p : ℕ). be64_at (p + 4) b) (place_same k) in
+        subst (λ (h : Header). IsWrongPost h (sum_of_writes (writes_in b k)) (be64_at (number_place b k + 4) b)) (header_same (omega (arith, le)))
+        (subst (λ (ws : List PageWrite). IsWrongPost (header_in a) (sum_of_writes ws) (be64_at (number_place b k + 4) b)) (writes_same k 0 k (omega arith) (omega (arith, le)))
+        (subst (λ (s : ℕ). IsWrongPost (header_in a) (sum_of_writes (writes_in a k)) s) sum rule))
 
     pub breaks_same : (f : LtxFault) → f ≢ fault.Short → Breaks a f q → Breaks b f q
     breaks_same fault.Magic inside rule = (rule.0, λ (same : take 4 b ≡ magic). rule.1 (front_same 4 n a b g (omega (arith, rule.0)) ∙ same))
     breaks_same fault.Compressed inside rule = (rule.0, ap (λ (x : ℕ). x % 2) (sym (four_same 4 n a b g (omega (arith, rule.0)))) ∙ rule.1)
     breaks_same fault.UnknownFlags inside rule =
         let flags = four_same 4 n a b g (omega (arith, rule.0)) in
-        (rule.0, ap (λ (x : ℕ). x % 2) (sym flags) ∙ rule.1, λ (zero-is : four_at 4 b ≡ 0). rule.2 (flags ∙ zero-is))
-    breaks_same fault.PageSize inside rule = (rule.0, λ (is : IsPageSize (four_at 8 b)). rule.1 (subst (λ (s : ℕ). IsPageSize s) (sym size_same) is))
+        (rule.0, ap (λ (x : ℕ). x % 2) (sym flags) ∙ rule.1, λ (zero-is : stated_flags b ≡ 0). rule.2 (flags ∙ zero-is))
+    breaks_same fault.PageSize inside rule = (rule.0, λ (is : IsPageSize (stated_page_size b)). rule.1 (subst (λ (s : ℕ). IsPageSize s) (sym size_same) is))
     breaks_same fault.Commit inside rule =
-        let commit : four_at 12 a ≡ four_at 12 b = four_same 12 n a b g (omega (arith, rule.0)) in
-        (rule.0, λ (is : IsDatabaseSize (four_at 8 b) (four_at 12 b)). rule.1 (rw (size_same, commit) is))
+        let commit : stated_commit a ≡ stated_commit b = four_same 12 n a b g (omega (arith, rule.0)) in
+        (rule.0, λ (is : IsWithinLimit (stated_page_size b) (stated_commit b)). rule.1 (rw (size_same, commit) is))
     breaks_same fault.Txid inside rule = elim rule [
       | inl low ↦ inl (low.0, sym (eight_same 16 n a b g (omega (arith, low.0))) ∙ low.1)
       | inr less ↦ inr (less.0, omega (arith, less.1, eight_same 24 n a b g (omega (arith, less.0)), eight_same 16 n a b g (omega (arith, less.0))))
     ]
     breaks_same fault.PreSum inside rule =
-        let min : eight_at 16 a ≡ eight_at 16 b = eight_same 16 n a b g (omega (arith, rule.0)) in
-        let pre : eight_at 40 a ≡ eight_at 40 b = eight_same 40 n a b g (omega (arith, rule.0)) in (
+        let min : stated_min a ≡ stated_min b = eight_same 16 n a b g (omega (arith, rule.0)) in
+        let pre : stated_pre a ≡ stated_pre b = eight_same 40 n a b g (omega (arith, rule.0)) in (
           rule.0,
           elim rule.1 [
-            | inl snapshot ↦ inl (sym min ∙ snapshot.0, λ (zero-is : eight_at 40 b ≡ 0). snapshot.1 (pre ∙ zero-is))
-            | inr delta ↦ inr (λ (one : eight_at 16 b ≡ 1). delta.0 (min ∙ one), omega (arith, delta.1, pre))
+            | inl snapshot ↦ inl (sym min ∙ snapshot.0, λ (zero-is : stated_pre b ≡ 0). snapshot.1 (pre ∙ zero-is))
+            | inr delta ↦ inr (λ (one : stated_min b ≡ 1). delta.0 (min ∙ one), omega (arith, delta.1, pre))
           ],
         )
     breaks_same fault.PageOrder inside rule = let k = rule.0 in
-        (k, pages_same k (omega (arith, rule.2)) rule.1, rule.2 ∙ ap (λ (p : ℕ). p + 4) (place_same k), out_of_order_same k (omega (arith, rule.2)) rule.3)
+        (k, pages_same k (omega (arith, rule.2)) rule.1, rule.2 ∙ ap (λ (p : ℕ). p + 4) (place_same k), numbers_same (λ h m n. BreaksNumbering h m n fault.PageOrder) k (omega (arith, rule.2)) rule.3)
     breaks_same fault.PageRange inside rule = let k = rule.0 in
-        (k, pages_same k (omega (arith, rule.2)) rule.1, rule.2 ∙ ap (λ (p : ℕ). p + 4) (place_same k), out_of_range_same k (omega (arith, rule.2)) rule.3)
+        (k, pages_same k (omega (arith, rule.2)) rule.1, rule.2 ∙ ap (λ (p : ℕ). p + 4) (place_same k), numbers_same (λ h m n. BreaksNumbering h m n fault.PageRange) k (omega (arith, rule.2)) rule.3)
     breaks_same fault.NotWhole inside rule = let k = rule.0 in
-        (k, pages_same k (omega (arith, rule.2)) rule.1, rule.2 ∙ ap (λ (p : ℕ). p + 4) (place_same k), leaves_out_same k (omega (arith, rule.2)) rule.3)
+        (k, pages_same k (omega (arith, rule.2)) rule.1, rule.2 ∙ ap (λ (p : ℕ). p + 4) (place_same k), numbers_same (λ h m n. BreaksNumbering h m n fault.NotWhole) k (omega (arith, rule.2)) rule.3)
     breaks_same fault.PostSum inside rule = let k = rule.0 in
         (k, block_same k (omega (arith, rule.2)) rule.1, rule.2 ∙ ap (λ (p : ℕ). p + 12) (place_same k), wrong_sum_same k (omega (arith, rule.2)) rule.3)
     breaks_same (fault.FileSum want got) inside rule = let k = rule.0 in (
@@ -179,7 +181,7 @@ module _ (a b : List ℕ) (n : ℕ) (g : Agree a b n) (long : 12 ≤ n) where
       block_same k (omega (arith, rule.2)) rule.1,
       rule.2 ∙ ap (λ (p : ℕ). p + 20) (place_same k),
       rule.3 ∙ ap file_sum (front_same (number_place a k + 12) n a b g (omega (arith, rule.2)) ∙ ap (λ (p : ℕ). take (p + 12) b) (place_same k)),
-      rule.4 ∙ eight_same (number_place a k + 12) n a b g (omega (arith, rule.2)) ∙ ap (λ (p : ℕ). eight_at (p + 12) b) (place_same k),
+      rule.4 ∙ eight_same (number_place a k + 12) n a b g (omega (arith, rule.2)) ∙ ap (λ (p : ℕ). be64_at (p + 12) b) (place_same k),
       rule.5,
     )
     breaks_same fault.Tail inside rule = let k = rule.0 in
@@ -229,7 +231,7 @@ first_same a b n q g within few fault.Magic inside rule = (rule.0, λ (same : ta
 first_same a b n q g within few fault.Compressed inside rule = (rule.0, ap (λ (x : ℕ). x % 2) (sym (four_same 4 n a b g (omega (arith, rule.0)))) ∙ rule.1)
 first_same a b n q g within few fault.UnknownFlags inside rule =
     let flags = four_same 4 n a b g (omega (arith, rule.0)) in
-    (rule.0, ap (λ (x : ℕ). x % 2) (sym flags) ∙ rule.1, λ (zero-is : four_at 4 b ≡ 0). rule.2 (flags ∙ zero-is))
+    (rule.0, ap (λ (x : ℕ). x % 2) (sym flags) ∙ rule.1, λ (zero-is : stated_flags b ≡ 0). rule.2 (flags ∙ zero-is))
 first_same a b n q g within few fault.PageSize inside rule = absurd (omega (arith, rule.0))
 first_same a b n q g within few fault.Commit inside rule = absurd (omega (arith, rule.0))
 first_same a b n q g within few fault.PreSum inside rule = absurd (omega (arith, rule.0))

@@ -2,45 +2,37 @@
 use Rattle.std.proofs.Common.{◌≡◌, ◌≢◌, ℕ, ◌+◌, ◌*◌, ◌<◌, ◌≤◌, List, length, take, arith, refl, sym, subst, inl, inr, ◌∙◌}
 use Rattle.std.proofs.lemmas.Bool.{cases_order}
 use Rattle.std.proofs.Math.Nat.{mul-le-mul_right}
-use Rattle.ltx_codec.specs.Fields.{four_at, eight_at}
+use Rattle.ltx_codec.specs.Fields.{stated_page_size}
 use Rattle.ltx_codec.specs.Format.{file_sum}
-use Rattle.ltx_codec.specs.Places.{IsBroken, IsSoundBefore, IsEarliest, number_place, number_at, HasPages, HasBlock, IsOutOfOrder, IsOutOfRange, LeavesOut, IsWrongSum}
+use Rattle.ltx_codec.specs.Places.{IsBroken, IsSoundBefore, IsEarliest, number_place, number_at, HasPages, HasBlock, BreaksAt, IsWrongSum}
 use Rattle.ltx_codec.specs.Block.{IsNextNumber}
 use Rattle.ltx_codec.specs.declared.fault.LtxFault.{LtxFault}
 use Rattle.ltx_codec.specs.declared.fault.LtxFault.TheVariants as fault
+use Rattle.lf_base.specs.Endian.{be64_at}
 
 -- a later number stands a whole slot further on
-pub later_place : (bytes : List ℕ) (j k : ℕ) → j < k → number_place bytes j + (4 + four_at 8 bytes) ≤ number_place bytes k
+pub later_place : (bytes : List ℕ) (j k : ℕ) → j < k → number_place bytes j + (4 + stated_page_size bytes) ≤ number_place bytes k
 later_place bytes j k less =
-    let slot = 4 + four_at 8 bytes in
+    let slot = 4 + stated_page_size bytes in
     let slots : (j + 1) * slot ≤ k * slot = mul-le-mul_right slot (omega arith) in
     omega (arith, slots)
 
 -- the place after one more page
-pub next_place : (bytes : List ℕ) (k : ℕ) → number_place bytes (k + 1) ≡ number_place bytes k + (4 + four_at 8 bytes)
+pub next_place : (bytes : List ℕ) (k : ℕ) → number_place bytes (k + 1) ≡ number_place bytes k + (4 + stated_page_size bytes)
 next_place bytes k = omega arith
 
 -- What may be broken behind the k-th number's place: a rule of the k-th number, one of the trailer if the
 -- block ends there, one of a later number, or the end.
 pub data Next (bytes : List ℕ) (k q : ℕ) : LtxFault → Type 0 where
-  order : q ≡ number_place bytes k + 4 → IsOutOfOrder bytes k → Next bytes k q fault.PageOrder
-  range : q ≡ number_place bytes k + 4 → IsOutOfRange bytes k → Next bytes k q fault.PageRange
-  left_out : q ≡ number_place bytes k + 4 → LeavesOut bytes k → Next bytes k q fault.NotWhole
-  sum : HasBlock bytes k → q ≡ number_place bytes k + 12 → IsWrongSum bytes k (eight_at (number_place bytes k + 4) bytes) → Next bytes k q fault.PostSum
+  order : q ≡ number_place bytes k + 4 → BreaksAt bytes k fault.PageOrder → Next bytes k q fault.PageOrder
+  range : q ≡ number_place bytes k + 4 → BreaksAt bytes k fault.PageRange → Next bytes k q fault.PageRange
+  left_out : q ≡ number_place bytes k + 4 → BreaksAt bytes k fault.NotWhole → Next bytes k q fault.NotWhole
+  sum : HasBlock bytes k → q ≡ number_place bytes k + 12 → IsWrongSum bytes k (be64_at (number_place bytes k + 4) bytes) → Next bytes k q fault.PostSum
   file_sum_wrong : {want got : ℕ} → HasBlock bytes k → q ≡ number_place bytes k + 20
-      → want ≡ file_sum (take (number_place bytes k + 12) bytes) → got ≡ eight_at (number_place bytes k + 12) bytes → want ≢ got → Next bytes k q (fault.FileSum want got)
+      → want ≡ file_sum (take (number_place bytes k + 12) bytes) → got ≡ be64_at (number_place bytes k + 12) bytes → want ≢ got → Next bytes k q (fault.FileSum want got)
   tail : HasBlock bytes k → q ≡ number_place bytes k + 21 → Next bytes k q fault.Tail
-  later : {f : LtxFault} → number_at bytes k ≢ 0 → number_place bytes k + four_at 8 bytes + 8 ≤ q → Next bytes k q f
+  later : {f : LtxFault} → number_at bytes k ≢ 0 → number_place bytes k + stated_page_size bytes + 8 ≤ q → Next bytes k q f
   end : q ≡ length bytes + 1 → Next bytes k q fault.Short
-
--- a number that meets the rules leaves nothing out
-not_left_out : (bytes : List ℕ) (k : ℕ) → IsNextNumber bytes k → LeavesOut bytes k → ⊥
-not_left_out bytes k number rule = elim rule.1 [
-  | inl skips ↦
-      let above : 0 < number_at bytes k = omega (arith, skips.0) in
-      omega (arith, skips.0, number.follows rule.0 (λ zero. omega (arith, zero, above)))
-  | inr stops ↦ stops.1 (number.complete rule.0 stops.0)
-]
 
 module _ (bytes : List ℕ) (k : ℕ) (pages : HasPages bytes k) where
   -- a rule that is broken behind the k-th number's place is one of these
@@ -54,7 +46,7 @@ module _ (bytes : List ℕ) (k : ℕ) (pages : HasPages bytes k) where
   next fault.PreSum q b far = absurd (omega (arith, b.breaks.0))
   next fault.PageOrder q b far = let j = b.breaks.0 in
       elim (cases_order j k) [
-        | inl same ↦ order (subst (λ (i : ℕ). q ≡ number_place bytes i + 4) same b.breaks.2) (subst (λ (i : ℕ). IsOutOfOrder bytes i) same b.breaks.3)
+        | inl same ↦ order (subst (λ (i : ℕ). q ≡ number_place bytes i + 4) same b.breaks.2) (subst (λ (i : ℕ). BreaksAt bytes i fault.PageOrder) same b.breaks.3)
         | inr other ↦ elim other [
           | inl before ↦ absurd (omega (arith, b.breaks.2, later_place bytes j k before))
           | inr after ↦ later (b.breaks.1 k after) (omega (arith, b.breaks.2, later_place bytes k j after))
@@ -62,7 +54,7 @@ module _ (bytes : List ℕ) (k : ℕ) (pages : HasPages bytes k) where
       ]
   next fault.PageRange q b far = let j = b.breaks.0 in
       elim (cases_order j k) [
-        | inl same ↦ range (subst (λ (i : ℕ). q ≡ number_place bytes i + 4) same b.breaks.2) (subst (λ (i : ℕ). IsOutOfRange bytes i) same b.breaks.3)
+        | inl same ↦ range (subst (λ (i : ℕ). q ≡ number_place bytes i + 4) same b.breaks.2) (subst (λ (i : ℕ). BreaksAt bytes i fault.PageRange) same b.breaks.3)
         | inr other ↦ elim other [
           | inl before ↦ absurd (omega (arith, b.breaks.2, later_place bytes j k before))
           | inr after ↦ later (b.breaks.1 k after) (omega (arith, b.breaks.2, later_place bytes k j after))
@@ -70,7 +62,7 @@ module _ (bytes : List ℕ) (k : ℕ) (pages : HasPages bytes k) where
       ]
   next fault.NotWhole q b far = let j = b.breaks.0 in
       elim (cases_order j k) [
-        | inl same ↦ left_out (subst (λ (i : ℕ). q ≡ number_place bytes i + 4) same b.breaks.2) (subst (λ (i : ℕ). LeavesOut bytes i) same b.breaks.3)
+        | inl same ↦ left_out (subst (λ (i : ℕ). q ≡ number_place bytes i + 4) same b.breaks.2) (subst (λ (i : ℕ). BreaksAt bytes i fault.NotWhole) same b.breaks.3)
         | inr other ↦ elim other [
           | inl before ↦ absurd (omega (arith, b.breaks.2, later_place bytes j k before))
           | inr after ↦ later (b.breaks.1 k after) (omega (arith, b.breaks.2, later_place bytes k j after))
@@ -79,7 +71,7 @@ module _ (bytes : List ℕ) (k : ℕ) (pages : HasPages bytes k) where
   next fault.PostSum q b far = let j = b.breaks.0 in
       elim (cases_order j k) [
         | inl same ↦ sum (subst (λ (i : ℕ). HasBlock bytes i) same b.breaks.1) (subst (λ (i : ℕ). q ≡ number_place bytes i + 12) same b.breaks.2)
-            (subst (λ (i : ℕ). IsWrongSum bytes i (eight_at (number_place bytes i + 4) bytes)) same b.breaks.3)
+            (subst (λ (i : ℕ). IsWrongSum bytes i (be64_at (number_place bytes i + 4) bytes)) same b.breaks.3)
         | inr other ↦ elim other [
           | inl before ↦ absurd (pages j before b.breaks.1.ends)
           | inr after ↦ later (b.breaks.1.pages k after) (omega (arith, b.breaks.2, later_place bytes k j after))
@@ -89,7 +81,7 @@ module _ (bytes : List ℕ) (k : ℕ) (pages : HasPages bytes k) where
       elim (cases_order j k) [
         | inl same ↦ file_sum_wrong (subst (λ (i : ℕ). HasBlock bytes i) same b.breaks.1) (subst (λ (i : ℕ). q ≡ number_place bytes i + 20) same b.breaks.2)
             (subst (λ (i : ℕ). want ≡ file_sum (take (number_place bytes i + 12) bytes)) same b.breaks.3)
-            (subst (λ (i : ℕ). got ≡ eight_at (number_place bytes i + 12) bytes) same b.breaks.4) b.breaks.5
+            (subst (λ (i : ℕ). got ≡ be64_at (number_place bytes i + 12) bytes) same b.breaks.4) b.breaks.5
         | inr other ↦ elim other [
           | inl before ↦ absurd (pages j before b.breaks.1.ends)
           | inr after ↦ later (b.breaks.1.pages k after) (omega (arith, b.breaks.2, later_place bytes k j after))
@@ -128,13 +120,13 @@ module _ (bytes : List ℕ) (k : ℕ) (pages : HasPages bytes k) where
         at_least f q b (end at) = omega arith
 
     -- a broken rule of the number stands earliest
-    pub order_first : number_place bytes k + 4 ≤ length bytes → IsOutOfOrder bytes k → IsEarliest bytes fault.PageOrder
+    pub order_first : number_place bytes k + 4 ≤ length bytes → BreaksAt bytes k fault.PageOrder → IsEarliest bytes fault.PageOrder
     order_first there rule = record { place = number_place bytes k + 4; broken = record { breaks = (k, pages, refl, rule); there = there }; earliest = to_number there }
 
-    pub range_first : number_place bytes k + 4 ≤ length bytes → IsOutOfRange bytes k → IsEarliest bytes fault.PageRange
+    pub range_first : number_place bytes k + 4 ≤ length bytes → BreaksAt bytes k fault.PageRange → IsEarliest bytes fault.PageRange
     range_first there rule = record { place = number_place bytes k + 4; broken = record { breaks = (k, pages, refl, rule); there = there }; earliest = to_number there }
 
-    pub left_out_first : number_place bytes k + 4 ≤ length bytes → LeavesOut bytes k → IsEarliest bytes fault.NotWhole
+    pub left_out_first : number_place bytes k + 4 ≤ length bytes → BreaksAt bytes k fault.NotWhole → IsEarliest bytes fault.NotWhole
     left_out_first there rule = record { place = number_place bytes k + 4; broken = record { breaks = (k, pages, refl, rule); there = there }; earliest = to_number there }
 
     -- no rule is broken before a sound number's end
@@ -142,9 +134,9 @@ module _ (bytes : List ℕ) (k : ℕ) (pages : HasPages bytes k) where
     past_number number = from_next (number_place bytes k + 5) at_least
       where
         at_least : (f : LtxFault) (q : ℕ) → IsBroken bytes f q → Next bytes k q f → number_place bytes k + 5 ≤ q
-        at_least f q b (order at rule) = absurd (omega (arith, number.ascends rule.0, rule.1))
-        at_least f q b (range at rule) = absurd (omega (arith, number.within, rule.1))
-        at_least f q b (left_out at rule) = absurd (not_left_out bytes k number rule)
+        at_least f q b (order at rule) = absurd (number.may.in_order rule)
+        at_least f q b (range at rule) = absurd (number.may.in_range rule)
+        at_least f q b (left_out at rule) = absurd (number.may.none_left_out rule)
         at_least f q b (sum block at rule) = omega arith
         at_least f q b (file_sum_wrong block at want-is got-is differ) = omega arith
         at_least f q b (tail block at) = omega arith
@@ -157,9 +149,9 @@ module _ (bytes : List ℕ) (k : ℕ) (pages : HasPages bytes k) where
     past_page number more room = from_next (number_place bytes (k + 1) + 1) at_least
       where
         at_least : (f : LtxFault) (q : ℕ) → IsBroken bytes f q → Next bytes k q f → number_place bytes (k + 1) + 1 ≤ q
-        at_least f q b (order at rule) = absurd (omega (arith, number.ascends rule.0, rule.1))
-        at_least f q b (range at rule) = absurd (omega (arith, number.within, rule.1))
-        at_least f q b (left_out at rule) = absurd (not_left_out bytes k number rule)
+        at_least f q b (order at rule) = absurd (number.may.in_order rule)
+        at_least f q b (range at rule) = absurd (number.may.in_range rule)
+        at_least f q b (left_out at rule) = absurd (number.may.none_left_out rule)
         at_least f q b (sum block at rule) = absurd (more block.ends)
         at_least f q b (file_sum_wrong block at want-is got-is differ) = absurd (more block.ends)
         at_least f q b (tail block at) = absurd (more block.ends)
@@ -217,9 +209,9 @@ module _ (bytes : List ℕ) (k : ℕ) (pages : HasPages bytes k) where
     }
       where
         at_least : (f : LtxFault) (q : ℕ) → IsBroken bytes f q → Next bytes k q f → length bytes + 1 ≤ q
-        at_least f q b (order at rule) = absurd (omega (arith, number.ascends rule.0, rule.1))
-        at_least f q b (range at rule) = absurd (omega (arith, number.within, rule.1))
-        at_least f q b (left_out at rule) = absurd (not_left_out bytes k number rule)
+        at_least f q b (order at rule) = absurd (number.may.in_order rule)
+        at_least f q b (range at rule) = absurd (number.may.in_range rule)
+        at_least f q b (left_out at rule) = absurd (number.may.none_left_out rule)
         at_least f q b (sum block at rule) = absurd (more block.ends)
         at_least f q b (file_sum_wrong block at want-is got-is differ) = absurd (more block.ends)
         at_least f q b (tail block at) = absurd (more block.ends)
@@ -252,8 +244,8 @@ module _ (bytes : List ℕ) (k : ℕ) (pages : HasPages bytes k) where
         where
           at_least : (f : LtxFault) (q : ℕ) → IsBroken bytes f q → Next bytes k q f → length bytes + 1 ≤ q
           at_least f q b (order at rule) = absurd (rule.0 ends)
-          at_least f q b (range at rule) = absurd (omega (arith, number.within, rule.1))
-          at_least f q b (left_out at rule) = absurd (not_left_out bytes k number rule)
+          at_least f q b (range at rule) = absurd (number.may.in_range rule)
+          at_least f q b (left_out at rule) = absurd (number.may.none_left_out rule)
           at_least f q b (sum block at rule) = let room : number_place bytes k + 12 ≤ length bytes = omega (arith, b.there) in absurd (omega (arith, sum_right room fault.PostSum q b))
           at_least f q b (file_sum_wrong block at want-is got-is differ) = absurd (omega (arith, b.there))
           at_least f q b (tail block at) = absurd (omega (arith, b.there))
@@ -266,8 +258,8 @@ module _ (bytes : List ℕ) (k : ℕ) (pages : HasPages bytes k) where
         where
           at_least : (f : LtxFault) (q : ℕ) → IsBroken bytes f q → Next bytes k q f → number_place bytes k + 12 ≤ q
           at_least f q b (order at rule) = absurd (rule.0 ends)
-          at_least f q b (range at rule) = absurd (omega (arith, number.within, rule.1))
-          at_least f q b (left_out at rule) = absurd (not_left_out bytes k number rule)
+          at_least f q b (range at rule) = absurd (number.may.in_range rule)
+          at_least f q b (left_out at rule) = absurd (number.may.none_left_out rule)
           at_least f q b (sum block at rule) = omega arith
           at_least f q b (file_sum_wrong block at want-is got-is differ) = omega arith
           at_least f q b (tail block at) = omega arith
@@ -275,7 +267,7 @@ module _ (bytes : List ℕ) (k : ℕ) (pages : HasPages bytes k) where
           at_least f q b (end at) = omega arith
 
       -- a wrong sum of the pages stands earliest
-      pub wrong_sum : number_place bytes k + 12 ≤ length bytes → IsWrongSum bytes k (eight_at (number_place bytes k + 4) bytes) → IsEarliest bytes fault.PostSum
+      pub wrong_sum : number_place bytes k + 12 ≤ length bytes → IsWrongSum bytes k (be64_at (number_place bytes k + 4) bytes) → IsEarliest bytes fault.PostSum
       wrong_sum room wrong = record {
         place = number_place bytes k + 12;
         broken = record { breaks = (k, block_ends, refl, wrong); there = room };
@@ -283,14 +275,14 @@ module _ (bytes : List ℕ) (k : ℕ) (pages : HasPages bytes k) where
       }
 
       -- a right sum of the pages
-      module _ (right : IsWrongSum bytes k (eight_at (number_place bytes k + 4) bytes) → ⊥) where
+      module _ (right : IsWrongSum bytes k (be64_at (number_place bytes k + 4) bytes) → ⊥) where
         pub past_sum : number_place bytes k + 12 ≤ length bytes → IsSoundBefore bytes (number_place bytes k + 13)
         past_sum room = from_next (number_place bytes k + 13) at_least
           where
             at_least : (f : LtxFault) (q : ℕ) → IsBroken bytes f q → Next bytes k q f → number_place bytes k + 13 ≤ q
             at_least f q b (order at rule) = absurd (rule.0 ends)
-            at_least f q b (range at rule) = absurd (omega (arith, number.within, rule.1))
-            at_least f q b (left_out at rule) = absurd (not_left_out bytes k number rule)
+            at_least f q b (range at rule) = absurd (number.may.in_range rule)
+            at_least f q b (left_out at rule) = absurd (number.may.none_left_out rule)
             at_least f q b (sum block at rule) = absurd (right rule)
             at_least f q b (file_sum_wrong block at want-is got-is differ) = omega arith
             at_least f q b (tail block at) = omega arith
@@ -299,7 +291,7 @@ module _ (bytes : List ℕ) (k : ℕ) (pages : HasPages bytes k) where
 
         -- a wrong file sum stands earliest
         pub wrong_file_sum : (want got : ℕ) → number_place bytes k + 20 ≤ length bytes → want ≡ file_sum (take (number_place bytes k + 12) bytes)
-            → got ≡ eight_at (number_place bytes k + 12) bytes → want ≢ got → IsEarliest bytes (fault.FileSum want got)
+            → got ≡ be64_at (number_place bytes k + 12) bytes → want ≢ got → IsEarliest bytes (fault.FileSum want got)
         wrong_file_sum want got room want-is got-is differ = record {
           place = number_place bytes k + 20;
           broken = record { breaks = (k, block_ends, refl, want-is, got-is, differ); there = room };
@@ -308,8 +300,8 @@ module _ (bytes : List ℕ) (k : ℕ) (pages : HasPages bytes k) where
           where
             at_least : (f : LtxFault) (q : ℕ) → IsBroken bytes f q → Next bytes k q f → number_place bytes k + 20 ≤ q
             at_least f q b (order at rule) = absurd (rule.0 ends)
-            at_least f q b (range at rule) = absurd (omega (arith, number.within, rule.1))
-            at_least f q b (left_out at rule) = absurd (not_left_out bytes k number rule)
+            at_least f q b (range at rule) = absurd (number.may.in_range rule)
+            at_least f q b (left_out at rule) = absurd (number.may.none_left_out rule)
             at_least f q b (sum block at rule) = absurd (right rule)
             at_least f q b (file_sum_wrong block at want'-is got'-is differs) = omega arith
             at_least f q b (tail block at) = omega arith
@@ -317,7 +309,7 @@ module _ (bytes : List ℕ) (k : ℕ) (pages : HasPages bytes k) where
             at_least f q b (end at) = omega arith
 
         -- bytes behind a file without faults stand earliest
-        pub tail_first : number_place bytes k + 21 ≤ length bytes → eight_at (number_place bytes k + 12) bytes ≡ file_sum (take (number_place bytes k + 12) bytes)
+        pub tail_first : number_place bytes k + 21 ≤ length bytes → be64_at (number_place bytes k + 12) bytes ≡ file_sum (take (number_place bytes k + 12) bytes)
             → IsEarliest bytes fault.Tail
         tail_first room file_sum_right = record {
           place = number_place bytes k + 21;
@@ -327,8 +319,8 @@ module _ (bytes : List ℕ) (k : ℕ) (pages : HasPages bytes k) where
           where
             at_least : (f : LtxFault) (q : ℕ) → IsBroken bytes f q → Next bytes k q f → number_place bytes k + 21 ≤ q
             at_least f q b (order at rule) = absurd (rule.0 ends)
-            at_least f q b (range at rule) = absurd (omega (arith, number.within, rule.1))
-            at_least f q b (left_out at rule) = absurd (not_left_out bytes k number rule)
+            at_least f q b (range at rule) = absurd (number.may.in_range rule)
+            at_least f q b (left_out at rule) = absurd (number.may.none_left_out rule)
             at_least f q b (sum block at rule) = absurd (right rule)
             at_least f q b (file_sum_wrong block at want-is got-is differs) = absurd (differs (want-is ∙ sym file_sum_right ∙ sym got-is))
             at_least f q b (tail block at) = omega arith
@@ -336,7 +328,7 @@ module _ (bytes : List ℕ) (k : ℕ) (pages : HasPages bytes k) where
             at_least f q b (end at) = omega arith
 
         -- behind a sound file only its tail may be broken
-        pub only_tail : number_place bytes k + 20 ≤ length bytes → eight_at (number_place bytes k + 12) bytes ≡ file_sum (take (number_place bytes k + 12) bytes)
+        pub only_tail : number_place bytes k + 20 ≤ length bytes → be64_at (number_place bytes k + 12) bytes ≡ file_sum (take (number_place bytes k + 12) bytes)
             → (f : LtxFault) (q : ℕ) → IsBroken bytes f q → (f ≡ fault.Tail) × (number_place bytes k + 20 < q)
         only_tail room file_sum_right f q b =
             let behind : number_place bytes k < q = omega (arith, sound f q b) in
@@ -344,8 +336,8 @@ module _ (bytes : List ℕ) (k : ℕ) (pages : HasPages bytes k) where
           where
             by_next : (f : LtxFault) (q : ℕ) → IsBroken bytes f q → Next bytes k q f → (f ≡ fault.Tail) × (number_place bytes k + 20 < q)
             by_next f q b (order at rule) = absurd (rule.0 ends)
-            by_next f q b (range at rule) = absurd (omega (arith, number.within, rule.1))
-            by_next f q b (left_out at rule) = absurd (not_left_out bytes k number rule)
+            by_next f q b (range at rule) = absurd (number.may.in_range rule)
+            by_next f q b (left_out at rule) = absurd (number.may.none_left_out rule)
             by_next f q b (sum block at rule) = absurd (right rule)
             by_next f q b (file_sum_wrong block at want-is got-is differs) = absurd (differs (want-is ∙ sym file_sum_right ∙ sym got-is))
             by_next f q b (tail block at) = (refl, omega arith)

@@ -1,23 +1,25 @@
 -- What was read is a text of what it says.
-use Rattle.std.proofs.Common.{◌≡◌, ℕ, ◌+◌, ◌≤◌, ◌^◌, List, ◌++◌, length, take, drop, map, arith, refl, sym, ap, inl, inr, ◌∙◌}
-use Rattle.std.specs.List.{range_with_len}
+use Rattle.std.proofs.Common.{◌≡◌, ℕ, ◌+◌, ◌<◌, ◌≤◌, ◌^◌, List, ◌++◌, length, take, drop, arith, refl, sym, ap, subst, inl, inr, ◌∙◌}
 use Rattle.std.specs.Int.{w32, w64, to_be_bytes}
 use Rattle.std.proofs.lemmas.Bool.{cases_lt, cases_eq}
 use Rattle.std.proofs.lemmas.List.{length-take, length-drop}
 use Rattle.std.proofs.Math.Seq.{take-add}
-use Rattle.page_checksum.specs.Sums.{database_sum}
-use Rattle.lf_sqlite_pages.specs.Change.{PageChange, IsChange}
-use Rattle.ltx_codec.specs.Fields.{AreBytes, four_at, eight_at, header_in}
+use Rattle.lf_sqlite_pages.specs.LockPage.{IsDataPage, data_page_after}
+use Rattle.lf_sqlite_pages.specs.Change.{PageChange, IsChange, last_number}
+use Rattle.ltx_codec.specs.Fields.{AreBytes, stated_page_size, stated_commit, stated_min, stated_max, stated_pre, header_in}
 use Rattle.ltx_codec.specs.Format.{header_text, pages_text, summed_text, file_text, file_sum, IsHeader, IsBlock, IsPostSum, IsLtx}
-use Rattle.ltx_codec.specs.Places.{number_place, number_at, page_in}
+use Rattle.ltx_codec.specs.Places.{number_place, number_at, number_before, writes_in}
+use Rattle.ltx_codec.specs.Sums.{sum_of_writes}
 use Rattle.ltx_codec.specs.HeaderRules.{IsThere}
 use Rattle.ltx_codec.specs.Block.{HasHeader, IsRead, IsNextNumber}
 use Rattle.ltx_codec.specs.Trailer.{HasTrailer}
 use Rattle.ltx_codec.specs.declared.file.Ltx.{Ltx}
+use Rattle.ltx_codec.proofs.DataPages.{after-least, follows-end}
 use Rattle.ltx_codec.proofs.TextLemmas.{four_spelled, eight_spelled, four_below, eight_below}
+use Rattle.lf_base.specs.Endian.{be32_at, be64_at}
 
 -- the front of the bytes up to a field's end is the front before it and the field's text
-four_more : (at : ℕ) (bytes front : List ℕ) (n : ℕ) → AreBytes bytes → at + 4 ≤ length bytes → n ≡ four_at at bytes → take at bytes ≡ front
+four_more : (at : ℕ) (bytes front : List ℕ) (n : ℕ) → AreBytes bytes → at + 4 ≤ length bytes → n ≡ be32_at at bytes → take at bytes ≡ front
     → take (at + 4) bytes ≡ front ++ to_be_bytes w32 n
 four_more at bytes front n fits room n-is front-is =
     take-add at 4 bytes
@@ -25,7 +27,7 @@ four_more at bytes front n fits room n-is front-is =
     ∙ ap (λ (d : List ℕ). front ++ d) (sym (four_spelled at bytes fits room))
     ∙ ap (λ (m : ℕ). front ++ to_be_bytes w32 m) (sym n-is)
 
-eight_more : (at : ℕ) (bytes front : List ℕ) (n : ℕ) → AreBytes bytes → at + 8 ≤ length bytes → n ≡ eight_at at bytes → take at bytes ≡ front
+eight_more : (at : ℕ) (bytes front : List ℕ) (n : ℕ) → AreBytes bytes → at + 8 ≤ length bytes → n ≡ be64_at at bytes → take at bytes ≡ front
     → take (at + 8) bytes ≡ front ++ to_be_bytes w64 n
 eight_more at bytes front n fits room n-is front-is =
     take-add at 8 bytes
@@ -40,17 +42,17 @@ header_spelled bytes h =
     let whole = h.whole in
     let e4 = h.fields.magic_is (record { within = omega arith; there = omega arith }) in
     let e8 = four_more 4 bytes _ 0 fits (omega arith) (sym (h.fields.flags (record { within = omega arith; there = omega arith }))) e4 in
-    let e12 = four_more 8 bytes _ (four_at 8 bytes) fits (omega arith) refl e8 in
-    let e16 = four_more 12 bytes _ (four_at 12 bytes) fits (omega arith) refl e12 in
-    let e24 = eight_more 16 bytes _ (eight_at 16 bytes) fits (omega arith) refl e16 in
-    let e32 = eight_more 24 bytes _ (eight_at 24 bytes) fits (omega arith) refl e24 in
-    let e40 = eight_more 32 bytes _ (eight_at 32 bytes) fits (omega arith) refl e32 in
-    let e48 = eight_more 40 bytes _ (eight_at 40 bytes) fits (omega arith) refl e40 in
-    let e56 = eight_more 48 bytes _ (eight_at 48 bytes) fits (omega arith) refl e48 in
-    let e64 = eight_more 56 bytes _ (eight_at 56 bytes) fits (omega arith) refl e56 in
-    let e68 = four_more 64 bytes _ (four_at 64 bytes) fits (omega arith) refl e64 in
-    let e72 = four_more 68 bytes _ (four_at 68 bytes) fits (omega arith) refl e68 in
-    let e80 = eight_more 72 bytes _ (eight_at 72 bytes) fits (omega arith) refl e72 in
+    let e12 = four_more 8 bytes _ (stated_page_size bytes) fits (omega arith) refl e8 in
+    let e16 = four_more 12 bytes _ (stated_commit bytes) fits (omega arith) refl e12 in
+    let e24 = eight_more 16 bytes _ (stated_min bytes) fits (omega arith) refl e16 in
+    let e32 = eight_more 24 bytes _ (stated_max bytes) fits (omega arith) refl e24 in
+    let e40 = eight_more 32 bytes _ (be64_at 32 bytes) fits (omega arith) refl e32 in
+    let e48 = eight_more 40 bytes _ (stated_pre bytes) fits (omega arith) refl e40 in
+    let e56 = eight_more 48 bytes _ (be64_at 48 bytes) fits (omega arith) refl e48 in
+    let e64 = eight_more 56 bytes _ (be64_at 56 bytes) fits (omega arith) refl e56 in
+    let e68 = four_more 64 bytes _ (be32_at 64 bytes) fits (omega arith) refl e64 in
+    let e72 = four_more 68 bytes _ (be32_at 68 bytes) fits (omega arith) refl e68 in
+    let e80 = eight_more 72 bytes _ (be64_at 72 bytes) fits (omega arith) refl e72 in
     take-add 80 20 bytes ∙ ap (λ (d : List ℕ). d ++ take 20 (drop 80 bytes)) e80
 
 -- the fields of a sound header meet the rules
@@ -82,8 +84,8 @@ header_sound bytes h =
     }
 
 -- the file that the bytes spell
-abbrev file_in : List ℕ → PageChange → ℕ → Ltx
-file_in bytes change sum = record { header = header_in bytes; change = change; post = sum }
+abbrev file_of : List ℕ → PageChange → ℕ → Ltx
+file_of bytes change sum = record { header = header_in bytes; change = change; post = sum }
 
 -- the reserved bytes
 abbrev reserved_in : List ℕ → List ℕ
@@ -92,7 +94,7 @@ reserved_in bytes = take 20 (drop 80 bytes)
 module _ (bytes : List ℕ) (change : PageChange) (sum : ℕ) (read : IsRead bytes change (length change.pages)) (number : IsNextNumber bytes (length change.pages))
     (ends : number_at bytes (length change.pages) ≡ 0) (trailer : HasTrailer bytes (length change.pages) sum) where
   -- the text before the file sum
-  summed_spelled : take (number_place bytes (length change.pages) + 12) bytes ≡ summed_text (file_in bytes change sum) (reserved_in bytes)
+  summed_spelled : take (number_place bytes (length change.pages) + 12) bytes ≡ summed_text (file_of bytes change sum) (reserved_in bytes)
   summed_spelled =
       let place = number_place bytes (length change.pages) in
       let fits = read.header.octets in
@@ -105,24 +107,30 @@ module _ (bytes : List ℕ) (change : PageChange) (sum : ℕ) (read : IsRead byt
       ap (λ (n : ℕ). take n bytes) same ∙ sum_spelled
 
   -- the whole text
-  text_spelled : take (number_place bytes (length change.pages) + 20) bytes ≡ file_text (file_in bytes change sum) (reserved_in bytes)
+  text_spelled : take (number_place bytes (length change.pages) + 20) bytes ≡ file_text (file_of bytes change sum) (reserved_in bytes)
   text_spelled =
       let place = number_place bytes (length change.pages) in
       let room = trailer.there in
-      let seal : file_sum (summed_text (file_in bytes change sum) (reserved_in bytes)) ≡ eight_at (place + 12) bytes =
+      let seal : file_sum (summed_text (file_of bytes change sum) (reserved_in bytes)) ≡ be64_at (place + 12) bytes =
       ap file_sum (sym summed_spelled) ∙ sym trailer.file_sum_is in
       let same : place + 20 ≡ (place + 12) + 8 = omega arith in
       ap (λ (n : ℕ). take n bytes) same
-      ∙ eight_more (place + 12) bytes (summed_text (file_in bytes change sum) (reserved_in bytes)) (file_sum (summed_text (file_in bytes change sum) (reserved_in bytes))) read.header.octets (omega (arith, room)) seal summed_spelled
+      ∙ eight_more (place + 12) bytes (summed_text (file_of bytes change sum) (reserved_in bytes)) (file_sum (summed_text (file_of bytes change sum) (reserved_in bytes))) read.header.octets (omega (arith, room)) seal summed_spelled
 
   block_sound : IsChange change → IsBlock (header_in bytes) change
   block_sound valid = record {
     page_size = read.holds.page_size;
     commit = read.holds.commit;
     pages = valid;
-    snapshot_pages = λ snapshot.
-        let count : length change.pages ≡ change.commit = sym (read.consecutive snapshot) ∙ number.complete snapshot ends ∙ sym read.holds.commit in
-        read.holds.numbers snapshot ∙ ap (λ (n : ℕ). range_with_len 1 n) count;
+    snapshot_pages = λ snapshot n first within data_page.
+        let size = stated_page_size bytes in
+        let last = last_number change.pages in
+        let end = follows-end (header_in bytes) (number_before bytes (length change.pages)) (number_at bytes (length change.pages)) number.may ends snapshot in
+        let past : stated_commit bytes < data_page_after size last = subst (λ (m : ℕ). stated_commit bytes < data_page_after size m) (sym read.holds.last) end in
+        elim (cases_lt last n) [
+          | inl behind ↦ absurd (omega (arith, past, within, read.holds.commit, after-least size last n behind (subst (λ (s : ℕ). IsDataPage s n) read.holds.page_size data_page)))
+          | inr before ↦ read.holds.each snapshot n first before data_page
+        ];
   }
 
   sum_sound : IsPostSum (header_in bytes) change sum
@@ -131,15 +139,15 @@ module _ (bytes : List ℕ) (change : PageChange) (sum : ℕ) (read : IsRead byt
     flagged = elim (cases_lt sum (2 ^ 63)) [ inl low ↦ absurd (trailer.right (inl low)) | inr high ↦ high ];
     empty = λ none. elim (cases_eq sum (2 ^ 63)) [ inl same ↦ same | inr other ↦ absurd (trailer.right (inr (inl (none, other)))) ];
     snapshot = λ snapshot.
-        let pages_sum = database_sum (map (page_in bytes) (range_with_len 0 (length change.pages))) in
+        let pages_sum = sum_of_writes (writes_in bytes (length change.pages)) in
         elim (cases_eq sum pages_sum) [
-          | inl same ↦ same ∙ ap database_sum (sym read.holds.contents)
+          | inl same ↦ same ∙ ap sum_of_writes (sym read.holds.writes)
           | inr other ↦ absurd (trailer.right (inr (inr (snapshot, other))))
         ];
   }
 
   -- the front of the bytes is a text of the file
-  pub is_ltx : IsChange change → IsLtx (take (number_place bytes (length change.pages) + 20) bytes) (file_in bytes change sum)
+  pub is_ltx : IsChange change → IsLtx (take (number_place bytes (length change.pages) + 20) bytes) (file_of bytes change sum)
   is_ltx valid = record {
     valid = record { header = header_sound bytes read.header; block = block_sound valid; post = sum_sound };
     reserved = reserved_in bytes;

@@ -4,11 +4,11 @@ use Rattle.std.proofs.lemmas.List.{take_all, drop_all, take-append-drop, append-
 use Rattle.page_checksum.specs.Crc.{after_bytes, all_ones}
 use Rattle.lf_sqlite_pages.specs.PageSize.{IsPageSize}
 use Rattle.lf_sqlite_pages.specs.Change.{IsChange, empty_change}
-use Rattle.ltx_codec.specs.Fields.{AreBytes, four_at, header_in}
+use Rattle.ltx_codec.specs.Fields.{AreBytes, stated_page_size, stated_commit, header_in}
 use Rattle.ltx_codec.specs.Places.{IsEarliest, IsFound, IsSoundBefore, number_place}
 use Rattle.ltx_codec.specs.HeaderRules.{IsThere, HasSoundFields}
 use Rattle.ltx_codec.specs.Block.{HasHeader, IsRead}
-use Rattle.ltx_codec.specs.Decoding.{HasFed, IsPart, held_part, IsWithin, IsPastLimit, IsRefusedWithin, ShowsHeader}
+use Rattle.ltx_codec.specs.Decoding.{HasFed, IsPart, held_part, IsWithin, IsPastLimit, IsRefusedWithin, NoneEndsBefore, StandsFirst, ShowsHeader}
 use Rattle.ltx_codec.specs.declared.decoder.Decoder.{Decoder}
 use Rattle.ltx_codec.specs.declared.fault.LtxFault.{LtxFault}
 use Rattle.ltx_codec.specs.declared.fault.LtxFault.TheVariants as fault
@@ -40,18 +40,17 @@ first_place : (bytes : List ℕ) → number_place bytes 0 ≡ 100
 first_place bytes = omega arith
 
 -- the block before its first page
-pub read_none : (bytes : List ℕ) → HasHeader bytes → IsRead bytes (empty_change (four_at 8 bytes) (four_at 12 bytes)) 0
+pub read_none : (bytes : List ℕ) → HasHeader bytes → IsRead bytes (empty_change (stated_page_size bytes) (stated_commit bytes)) 0
 read_none bytes head = record {
   header = head;
   there = let whole = head.whole in omega arith;
   pages = λ j less. absurd (omega (arith, less));
-  consecutive = λ _. refl;
   holds = record {
     page_size = refl;
     commit = refl;
     last = refl;
-    contents = refl;
-    numbers = λ _. refl;
+    writes = refl;
+    each = λ _ n first last. absurd (omega (arith, first, last));
     text = ap (λ (n : ℕ). take n bytes) (first_place bytes) ∙ sym (append-nil (take 100 bytes));
   };
   sound = subst (λ (n : ℕ). IsSoundBefore bytes (n + 1)) (sym (first_place bytes)) (sound_fields bytes 100 here (omega arith) head.whole);
@@ -74,7 +73,7 @@ read_none bytes head = record {
 
 -- a change with no page yet is one
 pub none_valid : (size count : ℕ) → IsPageSize size → IsChange (empty_change size count)
-none_valid size count is = record { of_a_page_size = is; ascending = tt; within = λ i w less. absurd (omega (arith, less)); whole = λ i w less. absurd (omega (arith, less)) }
+none_valid size count is = record { of_a_page_size = is; ascending = tt; within = λ i w less. absurd (omega (arith, less)); data_pages = λ i w less. absurd (omega (arith, less)); whole = λ i w less. absurd (omega (arith, less)) }
 
 -- pages past the limit were past it where a fault inside was found
 past_shorter : (limit : ℕ) (bytes more : List ℕ) (f : LtxFault) → IsFound f → IsEarliest bytes f → IsPastLimit limit (bytes ++ more) → IsPastLimit limit bytes
@@ -115,6 +114,12 @@ piece_rest text piece used = append_assoc text (take used piece) (drop used piec
 pub refused_piece : (limit : ℕ) (text piece : List ℕ) (used : ℕ) (f : LtxFault) → IsRefusedWithin limit (text ++ take used piece) f → IsRefusedWithin limit (text ++ piece) f
 refused_piece limit text piece used f refused =
     subst (λ (l : List ℕ). IsRefusedWithin limit l f) (piece_rest text piece used) (refused_longer limit (text ++ take used piece) (drop used piece) f refused)
+
+-- what is found with some bytes of a piece, before which no part ends, is found in the piece
+pub refused_first : (limit : ℕ) (text piece : List ℕ) (used : ℕ) (f : LtxFault) → used ≤ length piece → NoneEndsBefore text piece used → IsRefusedWithin limit (text ++ take used piece) f
+    → IsRefusedWithin limit (text ++ piece) f × StandsFirst limit text piece f
+refused_first limit text piece used f within none refused =
+    (refused_piece limit text piece used f refused, record { used = used; within = within; none = none; refused = refused })
 
 pub AreBytes-append : (front back : List ℕ) → AreBytes front → AreBytes back → AreBytes (front ++ back)
 AreBytes-append [] back h k i = k i
@@ -180,7 +185,7 @@ module _ (old new : Decoder) (limit : ℕ) (text more : List ℕ) (fed : HasFed 
           limit_is = stays.limit ∙ fed.limit_is;
           within = rw (← text-is, ← fed.limit_is) within;
           stage = inr (
-            empty_change (four_at 8 (text ++ more)) (four_at 12 (text ++ more)),
+            empty_change (stated_page_size (text ++ more)) (stated_commit (text ++ more)),
             record {
               stage = block;
               valid = none_valid _ _ (head.fields.page_size (record { within = omega arith; there = omega (arith, long) }));

@@ -7,10 +7,11 @@ use Rattle.std.proofs.lemmas.List.Elements.{All-head, All-tail, All-weaker}
 use Rattle.std.proofs.lemmas.Nat.{from_be_bytes-to_be_bytes_4, from_be_bytes-to_be_bytes_8}
 use Rattle.lf_sqlite_pages.specs.Change.{PageChange, AscendsAbove}
 use Rattle.lf_sqlite_pages.specs.declared.page_write.PageWrite.{PageWrite}
-use Rattle.ltx_codec.specs.Fields.{four_at, eight_at, header_in}
+use Rattle.ltx_codec.specs.Fields.{header_in}
 use Rattle.ltx_codec.specs.Format.{header_text, pages_text, summed_text, file_text, file_sum, FitsWidths, IsFile, IsLtx}
 use Rattle.ltx_codec.specs.declared.header.Header.{Header}
 use Rattle.ltx_codec.specs.declared.file.Ltx.{Ltx}
+use Rattle.lf_base.specs.Endian.{be32_at, be64_at}
 
 -- two lists that begin alike split alike
 pub splits_alike : (a b x y : List ℕ) → length a ≡ length b → a ++ x ≡ b ++ y → (a ≡ b) × (x ≡ y)
@@ -20,7 +21,7 @@ splits_alike a b x y len same =
 
 -- the fields of a header's text are the header
 pub header_again : (h : Header) (reserved rest : List ℕ) → FitsWidths h → header_in (header_text h reserved ++ rest) ≡ h
-unfolding four_at eight_at
+unfolding be32_at be64_at
 header_again h reserved rest fits = rw (
   from_be_bytes-to_be_bytes_4 h.page_size fits.page_size,
   from_be_bytes-to_be_bytes_4 h.commit fits.commit,

@@ -1,5 +1,6 @@
 pub mod HeaderLemmas
 pub mod BlockLemmas
+pub mod DataPages
 pub mod NumberLemmas
 pub mod TextLemmas
 pub mod ReadLemmas

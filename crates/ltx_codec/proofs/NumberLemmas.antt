@@ -1,6 +1,6 @@
 -- A page number's rules, by the numbers alone and by the bytes.
-use Rattle.std.proofs.Common.{◌≡◌, ◌≢◌, ℕ, ◌+◌, ◌≤◌, List, length, arith, sym, ap, inl, inr, ◌∙◌}
-use Rattle.ltx_codec.specs.Fields.{four_at, eight_at, header_in}
+use Rattle.std.proofs.Common.{◌≡◌, ◌≢◌, ℕ, ◌+◌, ◌≤◌, List, length, subst}
+use Rattle.ltx_codec.specs.Fields.{header_in}
 use Rattle.ltx_codec.specs.Places.{IsSoundBefore, IsEarliest, IsFound, StandsInside, number_place, number_at, number_before, HasPages}
 use Rattle.ltx_codec.specs.Block.{IsNextNumber}
 use Rattle.ltx_codec.specs.Numbering.{MayFollow, BreaksNumbering}
@@ -17,35 +17,21 @@ pub record IsKth (bytes : List ℕ) (k : ℕ) (header : Header) (before number :
   pub there : number_place bytes k + 4 ≤ length bytes
 
 module _ (bytes : List ℕ) (k : ℕ) (header : Header) (before number : ℕ) (is : IsKth bytes k header before number) where
-  commit_is : header.commit ≡ four_at 12 bytes
-  commit_is = ap (λ (h : Header). h.commit) is.header_is
-
-  min_is : header.min ≡ eight_at 16 bytes
-  min_is = ap (λ (h : Header). h.min) is.header_is
+  -- what holds of the three holds of the bytes
+  by_bytes : (P : Header → ℕ → ℕ → Type 0) → P header before number → P (header_in bytes) (number_before bytes k) (number_at bytes k)
+  by_bytes P here =
+      subst (λ (h : Header). P h (number_before bytes k) (number_at bytes k)) is.header_is
+      (subst (λ (b : ℕ). P header b (number_at bytes k)) is.before_is
+      (subst (λ (n : ℕ). P header before n) is.number_is here))
 
   pub number_sound : MayFollow header before number → IsNextNumber bytes k
-  number_sound may = record {
-    there = is.there;
-    ascends = λ more. omega (arith, is.before_is, is.number_is, may.ascends (λ zero. more (sym is.number_is ∙ zero)));
-    within = omega (arith, is.number_is, may.within, commit_is);
-    follows = λ snapshot more.
-        omega (arith, is.before_is, is.number_is, may.follows (min_is ∙ snapshot) (λ zero. more (sym is.number_is ∙ zero)));
-    complete = λ snapshot ends. sym is.before_is ∙ may.complete (min_is ∙ snapshot) (is.number_is ∙ ends) ∙ commit_is;
-  }
+  number_sound may = record { there = is.there; may = by_bytes MayFollow may }
 
   module _ (pages : HasPages bytes k) (sound : IsSoundBefore bytes (number_place bytes k + 1)) where
     pub number_refused : (f : LtxFault) → BreaksNumbering header before number f → IsEarliest bytes f
-    number_refused fault.PageOrder rule = order_first bytes k pages sound is.there
-        (λ zero. rule.0 (is.number_is ∙ zero), omega (arith, is.before_is, is.number_is, rule.1))
-    number_refused fault.PageRange rule = range_first bytes k pages sound is.there
-        (omega (arith, is.before_is, is.number_is, rule.0), omega (arith, is.number_is, commit_is, rule.1))
-    number_refused fault.NotWhole rule = left_out_first bytes k pages sound is.there (
-      sym min_is ∙ rule.0,
-      elim rule.1 [
-        | inl skips ↦ inl (omega (arith, is.before_is, is.number_is, skips.0), omega (arith, is.number_is, commit_is, skips.1))
-        | inr stops ↦ inr (sym is.number_is ∙ stops.0, λ same. stops.1 (is.before_is ∙ same ∙ sym commit_is))
-      ],
-    )
+    number_refused fault.PageOrder rule = order_first bytes k pages sound is.there (by_bytes (λ h b n. BreaksNumbering h b n fault.PageOrder) rule)
+    number_refused fault.PageRange rule = range_first bytes k pages sound is.there (by_bytes (λ h b n. BreaksNumbering h b n fault.PageRange) rule)
+    number_refused fault.NotWhole rule = left_out_first bytes k pages sound is.there (by_bytes (λ h b n. BreaksNumbering h b n fault.NotWhole) rule)
     number_refused fault.Short rule = absurd rule
     number_refused fault.Magic rule = absurd rule
     number_refused fault.Compressed rule = absurd rule

@@ -1,11 +1,13 @@
 -- At one place at most one rule is broken.
 use Rattle.std.proofs.Common.{◌≡◌, ◌≢◌, ℕ, ◌+◌, ◌<◌, ◌≤◌, List, length, take, arith, refl, sym, ap, subst, inl, inr, ◌∙◌}
-use Rattle.ltx_codec.specs.Fields.{four_at, eight_at}
+use Rattle.lf_sqlite_pages.specs.LockPage.{IsDataPage}
+use Rattle.ltx_codec.specs.Fields.{stated_page_size, stated_commit}
 use Rattle.ltx_codec.specs.Format.{file_sum}
-use Rattle.ltx_codec.specs.Places.{IsBroken, IsEarliest, LeavesOut, number_place, number_at, number_before, HasBlock}
+use Rattle.ltx_codec.specs.Places.{IsBroken, IsEarliest, BreaksAt, number_place, number_at, number_before, HasBlock}
 use Rattle.ltx_codec.specs.declared.fault.LtxFault.{LtxFault}
 use Rattle.ltx_codec.specs.declared.fault.LtxFault.TheVariants as fault
 use Rattle.ltx_codec.proofs.BlockLemmas.{Next, order, range, left_out, sum, file_sum_wrong, tail, later, end, next}
+use Rattle.lf_base.specs.Endian.{be64_at}
 
 module _ (bytes : List ℕ) (p : ℕ) where
   -- a broken field of the header is the only rule broken there
@@ -136,19 +138,23 @@ module _ (bytes : List ℕ) (p : ℕ) where
     order_one g at more rule (later _ far) = absurd (omega (arith, at, far))
     order_one g at more rule (end place) = absurd (omega (arith, here, place))
 
-    range_one : (g : LtxFault) → p ≡ number_place bytes k + 4 → number_before bytes k < number_at bytes k → four_at 12 bytes < number_at bytes k → Next bytes k p g → fault.PageRange ≡ g
-    range_one g at above rule (order _ other) = absurd (omega (arith, above, other.1))
-    range_one g at above rule (range _ _) = refl
-    range_one g at above rule (left_out _ other) = elim other.1 [ inl x ↦ absurd (omega (arith, rule, x.1)) | inr x ↦ absurd (omega (arith, above, x.0)) ]
-    range_one g at above rule (sum _ place _) = absurd (omega (arith, at, place))
-    range_one g at above rule (file_sum_wrong _ place _ _ _) = absurd (omega (arith, at, place))
-    range_one g at above rule (tail _ place) = absurd (omega (arith, at, place))
-    range_one g at above rule (later _ far) = absurd (omega (arith, at, far))
-    range_one g at above rule (end place) = absurd (omega (arith, here, place))
+    -- a number out of range is no data page within the commit
+    out_of_range : BreaksAt bytes k fault.PageRange → number_at bytes k ≤ stated_commit bytes → IsDataPage (stated_page_size bytes) (number_at bytes k) → ⊥
+    out_of_range rule within data_page = elim rule.1 [ inl past ↦ omega (arith, past, within) | inr lock ↦ data_page lock ]
 
-    left_out_one : (g : LtxFault) → p ≡ number_place bytes k + 4 → LeavesOut bytes k → Next bytes k p g → fault.NotWhole ≡ g
+    range_one : (g : LtxFault) → p ≡ number_place bytes k + 4 → BreaksAt bytes k fault.PageRange → Next bytes k p g → fault.PageRange ≡ g
+    range_one g at rule (order _ other) = absurd (omega (arith, rule.0, other.1))
+    range_one g at rule (range _ _) = refl
+    range_one g at rule (left_out _ other) = elim other.1 [ inl x ↦ absurd (out_of_range rule x.1 x.2) | inr x ↦ absurd (omega (arith, rule.0, x.0)) ]
+    range_one g at rule (sum _ place _) = absurd (omega (arith, at, place))
+    range_one g at rule (file_sum_wrong _ place _ _ _) = absurd (omega (arith, at, place))
+    range_one g at rule (tail _ place) = absurd (omega (arith, at, place))
+    range_one g at rule (later _ far) = absurd (omega (arith, at, far))
+    range_one g at rule (end place) = absurd (omega (arith, here, place))
+
+    left_out_one : (g : LtxFault) → p ≡ number_place bytes k + 4 → BreaksAt bytes k fault.NotWhole → Next bytes k p g → fault.NotWhole ≡ g
     left_out_one g at rule (order _ other) = elim rule.1 [ inl x ↦ absurd (omega (arith, other.1, x.0)) | inr x ↦ absurd (other.0 x.0) ]
-    left_out_one g at rule (range _ other) = elim rule.1 [ inl x ↦ absurd (omega (arith, other.1, x.1)) | inr x ↦ absurd (omega (arith, other.0, x.0)) ]
+    left_out_one g at rule (range _ other) = elim rule.1 [ inl x ↦ absurd (out_of_range other x.1 x.2) | inr x ↦ absurd (omega (arith, other.0, x.0)) ]
     left_out_one g at rule (left_out _ _) = refl
     left_out_one g at rule (sum _ place _) = absurd (omega (arith, at, place))
     left_out_one g at rule (file_sum_wrong _ place _ _ _) = absurd (omega (arith, at, place))
@@ -167,7 +173,7 @@ module _ (bytes : List ℕ) (p : ℕ) where
       sum_one g at (later more _) = absurd (more block.ends)
       sum_one g at (end place) = absurd (omega (arith, here, place))
 
-      file_sum_one : (want got : ℕ) (g : LtxFault) → p ≡ number_place bytes k + 20 → want ≡ file_sum (take (number_place bytes k + 12) bytes) → got ≡ eight_at (number_place bytes k + 12) bytes
+      file_sum_one : (want got : ℕ) (g : LtxFault) → p ≡ number_place bytes k + 20 → want ≡ file_sum (take (number_place bytes k + 12) bytes) → got ≡ be64_at (number_place bytes k + 12) bytes
           → Next bytes k p g → fault.FileSum want got ≡ g
       file_sum_one want got g at want-is got-is (order place _) = absurd (omega (arith, at, place))
       file_sum_one want got g at want-is got-is (range place _) = absurd (omega (arith, at, place))
@@ -217,7 +223,7 @@ module _ (bytes : List ℕ) (p : ℕ) where
   one_fault fault.Txid g a b = header_one fault.Txid g (elim a.breaks [ inl x ↦ omega (arith, x.0) | inr x ↦ omega (arith, x.0) ]) a.there a b
   one_fault fault.PreSum g a b = header_one fault.PreSum g (omega (arith, a.breaks.0)) a.there a b
   one_fault fault.PageOrder g a b = order_one a.breaks.0 a.there g a.breaks.2 a.breaks.3.0 a.breaks.3.1 (next bytes a.breaks.0 a.breaks.1 g p b (omega (arith, a.breaks.2)))
-  one_fault fault.PageRange g a b = range_one a.breaks.0 a.there g a.breaks.2 a.breaks.3.0 a.breaks.3.1 (next bytes a.breaks.0 a.breaks.1 g p b (omega (arith, a.breaks.2)))
+  one_fault fault.PageRange g a b = range_one a.breaks.0 a.there g a.breaks.2 a.breaks.3 (next bytes a.breaks.0 a.breaks.1 g p b (omega (arith, a.breaks.2)))
   one_fault fault.NotWhole g a b = left_out_one a.breaks.0 a.there g a.breaks.2 a.breaks.3 (next bytes a.breaks.0 a.breaks.1 g p b (omega (arith, a.breaks.2)))
   one_fault fault.PostSum g a b = sum_one a.breaks.0 a.there a.breaks.1 g a.breaks.2 (next bytes a.breaks.0 a.breaks.1.pages g p b (omega (arith, a.breaks.2)))
   one_fault (fault.FileSum want got) g a b = file_sum_one a.breaks.0 a.there a.breaks.1 want got g a.breaks.2 a.breaks.3 a.breaks.4 (next bytes a.breaks.0 a.breaks.1.pages g p b (omega (arith, a.breaks.2)))

@@ -1,19 +1,21 @@
 -- A page number, and a page, that come in pieces.
-use Rattle.std.proofs.Common.{◌≡◌, ◌≢◌, ℕ, suc, ◌+◌, ◌<◌, ◌≤◌, Bool, true, false, cond, List, [], ◌∷◌, ◌++◌, length, map, take, drop, arith, refl, sym, ap, subst, inl, inr, ◌∙◌, length-append, add-zero}
+use Rattle.std.proofs.Common.{◌≡◌, ◌≢◌, ℕ, suc, ◌+◌, ◌<◌, ◌≤◌, Bool, true, false, cond, List, [], ◌∷◌, ◌++◌, length, take, drop, arith, refl, sym, ap, subst, inl, inr, ◌∙◌, length-append, add-zero}
 use Rattle.std.specs.Prelude.{bit_xor}
 use Rattle.std.specs.Int.Bits.{xor_assoc}
 use Rattle.std.proofs.lemmas.Nat.{xor_comm}
 use Rattle.std.proofs.lemmas.Bool.{cases_lt}
-use Rattle.std.proofs.lemmas.List.{take_all, drop_all, length-drop, length-map, drop-drop, map-append, take-append-drop}
+use Rattle.std.proofs.lemmas.List.{take_all, drop_all, length-drop, drop-drop, take-append-drop}
 use Rattle.page_checksum.specs.Crc.{after_bytes, all_ones}
-use Rattle.page_checksum.specs.Sums.{joined, page_sums, page_sum_of}
+use Rattle.page_checksum.specs.Sums.{page_sum_of}
 use Rattle.page_checksum.proofs.CrcLemmas.{after_bytes-append}
+use Rattle.lf_sqlite_pages.specs.LockPage.{IsDataPage}
 use Rattle.lf_sqlite_pages.specs.Change.{PageChange, IsChange, with_page}
 use Rattle.lf_sqlite_pages.specs.declared.page_write.PageWrite.{PageWrite}
 use Rattle.lf_sqlite_pages.proofs.Changes.{IsChange-push, FitsAtEnd}
-use Rattle.ltx_codec.specs.Fields.{AreBytes, four_at, eight_at}
+use Rattle.ltx_codec.specs.Fields.{AreBytes, stated_page_size, stated_min, header_in}
+use Rattle.ltx_codec.specs.Sums.{joined_sums}
 use Rattle.ltx_codec.specs.Places.{number_place, number_at, number_before, page_in}
-use Rattle.ltx_codec.specs.Block.{IsRead}
+use Rattle.ltx_codec.specs.Block.{HoldsPages, IsRead, IsNextNumber}
 use Rattle.ltx_codec.specs.Decoding.{HasFed, held_part, ShowsPage, IsRefusedWithin}
 use Rattle.ltx_codec.specs.Feeding.{HasPagesOf, HasNumber}
 use Rattle.ltx_codec.specs.declared.decoder.Decoder.{Decoder}
@@ -22,11 +24,13 @@ use Rattle.ltx_codec.specs.declared.fault.LtxFault.{LtxFault}
 use Rattle.ltx_codec.specs.Numbering.{MayFollow, BreaksNumbering}
 use Rattle.ltx_codec.proofs.NumberLemmas.{IsKth, number_sound, number_refused, numbering_found}
 use Rattle.ltx_codec.proofs.BlockLemmas.{next_place, short_number, short_page}
+use Rattle.ltx_codec.proofs.DataPages.{follows-above, follows-within, follows-data}
 use Rattle.ltx_codec.proofs.TextLemmas.{before_more, AreBytes-drop}
 use Rattle.ltx_codec.proofs.ReadLemmas.{read_next}
 use Rattle.ltx_codec.proofs.FeedLemmas.{Stays, piece_rest, told_part}
 use Rattle.ltx_codec.proofs.PieceLemmas.{Grows, held_untold, pages_longer, pages_of, fed_of, held_length, held_is_rest, next_longer, number_kept, four_rest}
 use Rattle.ltx_codec.proofs.HeaderLemmas.{within_not_past}
+use Rattle.lf_base.specs.Endian.{be32_at}
 
 -- less than a number is held
 pub number_goes_on : (old new : Decoder) (limit : ℕ) (text more : List ℕ) → HasFed old limit text → old.in_block ≡ true → Grows old new more → AreBytes more
@@ -58,7 +62,7 @@ pub page_goes_on : (d : Decoder) (limit : ℕ) (text : List ℕ) (change : PageC
 page_goes_on d limit text change number has some untold few =
     let k = length change.pages in
     let read = has.feeding.block.read in
-    let size : d.header.page_size ≡ four_at 8 text = ap (λ (h : Header). h.page_size) has.feeding.block.header in
+    let size : d.header.page_size ≡ stated_page_size text = ap (λ (h : Header). h.page_size) has.feeding.block.header in
     let len = held_length d limit text change has.feeding untold in
     let held : length (held_part d) ≡ length d.held.items = ap length (held_untold d untold) in
     fed_of d limit text change has.feeding
@@ -66,17 +70,29 @@ page_goes_on d limit text change number has some untold few =
     (short_page text k read.pages read.sound has.sound (λ zero. some (has.number_is ∙ zero)) (omega (arith, len, few, size, next_place text k)))
 
 -- the sums of pages and of one more
-sums_more : (n : ℕ) (pages : List (List ℕ)) (page : List ℕ) → joined (page_sums n (pages ++ page ∷ [])) ≡ bit_xor (joined (page_sums n pages)) (page_sum_of (n + length pages) page)
-sums_more n [] page = xor_comm (page_sum_of n page) 0 ∙ ap (λ (m : ℕ). bit_xor 0 (page_sum_of m page)) (sym (add-zero n))
-sums_more n (p ∷ pages) page =
-    let n-is : n + 1 + length pages ≡ n + suc (length pages) = omega arith in
-    ap (λ (s : ℕ). bit_xor (page_sum_of n p) s) (sums_more (n + 1) pages page)
-    ∙ ap (λ (m : ℕ). bit_xor (page_sum_of n p) (bit_xor (joined (page_sums (n + 1) pages)) (page_sum_of m page))) n-is
-    ∙ sym (xor_assoc (page_sum_of n p) (joined (page_sums (n + 1) pages)) (page_sum_of (n + suc (length pages)) page))
+sums_more : (ws : List PageWrite) (w : PageWrite) → joined_sums (ws ++ w ∷ []) ≡ bit_xor (joined_sums ws) (page_sum_of w.number w.bytes)
+sums_more [] w = xor_comm (page_sum_of w.number w.bytes) 0
+sums_more (v ∷ ws) w =
+    ap (λ (s : ℕ). bit_xor (page_sum_of v.number v.bytes) s) (sums_more ws w)
+    ∙ sym (xor_assoc (page_sum_of v.number v.bytes) (joined_sums ws) (page_sum_of w.number w.bytes))
 
 -- one more page in the change
 pub page_valid : (change : PageChange) (number : ℕ) (page : List ℕ) → IsChange change → FitsAtEnd change (record { number = number; bytes = page }) → IsChange (with_page change number page)
 page_valid change number page valid fits = IsChange-push change change (record { number = number; bytes = page }) (change.pages ++ record { number = number; bytes = page } ∷ []) valid refl fits refl
+
+-- the next page of the block goes to the end of the change
+pub fits_next : (text : List ℕ) (change : PageChange) (number : ℕ) (page : List ℕ) → HoldsPages text change (length change.pages) → IsNextNumber text (length change.pages)
+    → number ≡ number_at text (length change.pages) → number ≢ 0 → length page ≡ change.page_size → FitsAtEnd change (record { number = number; bytes = page })
+fits_next text change number page holds next is some whole =
+    let k = length change.pages in
+    let some_at : number_at text k ≢ 0 = λ zero. some (is ∙ zero) in
+    record {
+      above = omega (arith, holds.last, is, follows-above (header_in text) (number_before text k) (number_at text k) next.may some_at);
+      within = omega (arith, holds.commit, is, follows-within (header_in text) (number_before text k) (number_at text k) next.may some_at);
+      holds_data = subst (λ (n : ℕ). IsDataPage change.page_size n) (sym is)
+          (subst (λ (size : ℕ). IsDataPage size (number_at text k)) (sym holds.page_size) (follows-data (header_in text) (number_before text k) (number_at text k) next.may some_at));
+      whole = whole;
+    }
 
 -- what is left and what is taken when a page is whole
 pub record TakesPage (old new : Decoder) (number : ℕ) : Type 0 where
@@ -91,7 +107,7 @@ pub record TakesPage (old new : Decoder) (number : ℕ) : Type 0 where
 
 module _ (old new : Decoder) (limit : ℕ) (text : List ℕ) (change : PageChange) (number : ℕ) (has : HasNumber old limit text change number) (some : number ≢ 0)
     (untold : old.told ≡ false) (whole : length old.held.items ≡ 4 + old.header.page_size) (takes : TakesPage old new number) where
-  size_is : old.header.page_size ≡ four_at 8 text
+  size_is : old.header.page_size ≡ stated_page_size text
   size_is = ap (λ (h : Header). h.page_size) has.feeding.block.header
 
   ends_at : length text ≡ number_place text (length change.pages + 1)
@@ -101,9 +117,9 @@ module _ (old new : Decoder) (limit : ℕ) (text : List ℕ) (change : PageChang
   page_is =
       let at = number_place text (length change.pages) in
       let rest : drop 4 old.held.items ≡ drop (at + 4) text = ap (λ (d : List ℕ). drop 4 d) (held_is_rest old limit text change has.feeding untold) ∙ drop-drop 4 at text in
-      rest ∙ sym (take_all (four_at 8 text) (drop (at + 4) text) (omega (arith, length-drop (at + 4) text, ends_at, next_place text (length change.pages))))
+      rest ∙ sym (take_all (stated_page_size text) (drop (at + 4) text) (omega (arith, length-drop (at + 4) text, ends_at, next_place text (length change.pages))))
 
-  page_length : length (drop 4 old.held.items) ≡ four_at 8 text
+  page_length : length (drop 4 old.held.items) ≡ stated_page_size text
   page_length = omega (arith, length-drop 4 old.held.items, whole, size_is)
 
   count : length (with_page change number (drop 4 old.held.items)).pages ≡ length change.pages + 1
@@ -121,25 +137,17 @@ module _ (old new : Decoder) (limit : ℕ) (text : List ℕ) (change : PageChang
       ∙ ap (λ (d : List ℕ). after_bytes all_ones (take at text ++ d)) (held_is_rest old limit text change has.feeding untold)
       ∙ ap (after_bytes all_ones) (take-append-drop at text)
 
-  sums_is : eight_at 16 text ≡ 1 → new.sums ≡ joined (page_sums 1 (map (λ (w : PageWrite). w.bytes) (with_page change number (drop 4 old.held.items)).pages))
+  sums_is : stated_min text ≡ 1 → new.sums ≡ joined_sums (with_page change number (drop 4 old.held.items)).pages
   sums_is snapshot =
-      let n-is : number ≡ 1 + length (map (λ (w : PageWrite). w.bytes) change.pages) =
-      omega (arith, has.number_is, has.sound.follows snapshot (λ zero. some (has.number_is ∙ zero)), has.feeding.block.read.consecutive snapshot, length-map change.pages (λ (w : PageWrite). w.bytes)) in
       takes.sums (ap (λ (h : Header). h.min) has.feeding.block.header ∙ snapshot)
       ∙ ap (λ (s : ℕ). bit_xor s (page_sum_of number (drop 4 old.held.items))) (has.feeding.block.sums snapshot)
-      ∙ ap (λ (n : ℕ). bit_xor (joined (page_sums 1 (map (λ (w : PageWrite). w.bytes) change.pages))) (page_sum_of n (drop 4 old.held.items))) n-is
-      ∙ sym (sums_more 1 (map (λ (w : PageWrite). w.bytes) change.pages) (drop 4 old.held.items))
-      ∙ ap (λ (l : List (List ℕ)). joined (page_sums 1 l)) (sym (map-append (λ (w : PageWrite). w.bytes) change.pages (record { number = number; bytes = drop 4 old.held.items } ∷ [])))
+      ∙ sym (sums_more change.pages (record { number = number; bytes = drop 4 old.held.items }))
 
   valid_more : IsChange (with_page change number (drop 4 old.held.items))
   valid_more =
-      let sound = has.sound in
       let holds = has.feeding.block.read.holds in
-      page_valid change number (drop 4 old.held.items) has.feeding.block.valid (record {
-        above = omega (arith, holds.last, has.number_is, sound.ascends (λ zero. some (has.number_is ∙ zero)));
-        within = omega (arith, holds.commit, has.number_is, sound.within);
-        whole = page_length ∙ sym holds.page_size;
-      })
+      page_valid change number (drop 4 old.held.items) has.feeding.block.valid
+      (fits_next text change number (drop 4 old.held.items) holds has.sound has.number_is some (page_length ∙ sym holds.page_size))
 
   pub page_ends : ShowsPage new limit number text
   page_ends =
@@ -181,7 +189,7 @@ page_more old new limit text piece first change number has some grows fits few =
 
 -- a number that is held
 module _ (old new : Decoder) (limit : ℕ) (text more : List ℕ) (number : ℕ) (fed : HasFed old limit text) (stage : old.in_block ≡ true) (grows : Grows old new more) (fits : AreBytes more)
-    (held : 4 ≤ length new.held.items) (number_is : number ≡ four_at 0 new.held.items) where
+    (held : 4 ≤ length new.held.items) (number_is : number ≡ be32_at 0 new.held.items) where
   has_pages : HasPagesOf new limit (text ++ more) (pages_of old limit text fed stage).0
   has_pages = pages_longer old new limit text more (pages_of old limit text fed stage).0 (pages_of old limit text fed stage).1 grows fits
 
@@ -192,8 +200,8 @@ module _ (old new : Decoder) (limit : ℕ) (text more : List ℕ) (number : ℕ)
       record {
         header_is = has.block.header;
         before_is = has.block.number;
-        number_is = number_is ∙ ap (four_at 0) (held_is_rest new limit (text ++ more) (pages_of old limit text fed stage).0 has (grows.told ∙ grows.untold))
-            ∙ four_rest at 0 (text ++ more) ∙ ap (λ (p : ℕ). four_at p (text ++ more)) (add-zero at);
+        number_is = number_is ∙ ap (be32_at 0) (held_is_rest new limit (text ++ more) (pages_of old limit text fed stage).0 has (grows.told ∙ grows.untold))
+            ∙ four_rest at 0 (text ++ more) ∙ ap (λ (p : ℕ). be32_at p (text ++ more)) (add-zero at);
         there = omega (arith, held_length new limit (text ++ more) (pages_of old limit text fed stage).0 has (grows.told ∙ grows.untold), held);
       }
 
@@ -236,7 +244,7 @@ module _ (old new : Decoder) (limit : ℕ) (text more : List ℕ) (number : ℕ)
     number_in_page some = elim (cases_lt (length old.held.items) 4) [
       | inl few ↦ (omega (arith, short few), omega (arith, few, new_held))
       | inr enough ↦
-          let size : old.header.page_size ≡ four_at 8 text = ap (λ (h : Header). h.page_size) (pages_of old limit text fed stage).1.block.header in
+          let size : old.header.page_size ≡ stated_page_size text = ap (λ (h : Header). h.page_size) (pages_of old limit text fed stage).1.block.header in
           let size-new : new.header.page_size ≡ old.header.page_size = ap (λ (h : Header). h.page_size) grows.header in
           let part = (pages_of old limit text fed stage).2.page (old_place enough) (λ zero. some (sym (old_number enough) ∙ zero)) in
           (omega (arith, part, old_held, new_held, none enough, size, size-new), omega (arith, part, old_held, new_held, size, size-new))

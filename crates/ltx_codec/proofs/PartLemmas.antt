@@ -3,7 +3,7 @@ use Rattle.std.proofs.Common.{◌≡◌, ℕ, ◌+◌, ◌-◌, ◌<◌, ◌≤�
 use Rattle.std.proofs.lemmas.Bool.{cases_lt, cases_order}
 use Rattle.std.proofs.lemmas.List.{length-take}
 use Rattle.lf_sqlite_pages.specs.Change.{PageChange}
-use Rattle.ltx_codec.specs.Fields.{AreBytes, four_at}
+use Rattle.ltx_codec.specs.Fields.{AreBytes, stated_page_size}
 use Rattle.ltx_codec.specs.Places.{number_place, number_at}
 use Rattle.ltx_codec.specs.Block.{HasHeader, IsRead}
 use Rattle.ltx_codec.specs.Decoding.{NoneEndsBefore}
@@ -82,7 +82,7 @@ pub page_bound : (old : Decoder) (limit : ℕ) (text piece : List ℕ) (first : 
     → length text + (first + more) ≤ number_place text (length change.pages + 1)
 page_bound old limit text piece first change has untold read within more few =
     let k = length change.pages in
-    let size : old.header.page_size ≡ four_at 8 (text ++ take first piece) = ap (λ (h : Header). h.page_size) has.block.header in
+    let size : old.header.page_size ≡ stated_page_size (text ++ take first piece) = ap (λ (h : Header). h.page_size) has.block.header in
     omega (
       arith,
       held_length old limit (text ++ take first piece) change has untold,
@@ -101,3 +101,13 @@ end_stays old limit text piece first change has more =
     ap (λ (t : List ℕ). number_at t (length change.pages)) (two_taken text piece first more)
     ∙ sym (number_kept (text ++ take first piece) (take more (drop first piece)) has.feeding.block.read.header (length change.pages) has.sound.there)
     ∙ sym has.number_is
+
+-- while a number is not whole no part ends
+pub none_in_number : (old : Decoder) (limit : ℕ) (text piece : List ℕ) (change : PageChange) → HasPagesOf old limit text change → old.told ≡ false → AreBytes piece → (first : ℕ)
+    → first ≤ length piece → first ≤ 4 - length old.held.items → NoneEndsBefore text piece first
+none_in_number old limit text piece change has untold fits first within few = elim (cases_lt (length old.held.items) 4) [
+  | inl short ↦
+      none_in_block text piece change first first has.block.read fits within (omega arith)
+      (inl (omega (arith, short, few, held_length old limit text change has untold, next_place text (length change.pages))))
+  | inr enough ↦ λ m some less ends. absurd (omega (arith, enough, few, some, less))
+]

@@ -4,18 +4,21 @@ use Rattle.std.proofs.lemmas.List.{drop-append-le, take-append-le, length-drop, 
 use Rattle.std.proofs.Math.Seq.{take-add}
 use Rattle.page_checksum.specs.Crc.{after_bytes, all_ones}
 use Rattle.lf_sqlite_pages.specs.PageSize.{IsPageSize}
+use Rattle.lf_sqlite_pages.specs.LockPage.{IsWithinLimit}
 use Rattle.lf_sqlite_pages.specs.Change.{PageChange}
-use Rattle.ltx_codec.specs.Fields.{AreBytes, four_at, eight_at, header_in}
-use Rattle.ltx_codec.specs.Format.{IsDatabaseSize, pages_text}
+use Rattle.ltx_codec.specs.Fields.{AreBytes, stated_page_size, stated_commit, stated_min, stated_max, stated_pre, header_in}
+use Rattle.ltx_codec.specs.Format.{pages_text}
 use Rattle.ltx_codec.specs.Places.{IsEarliest, IsSoundBefore, number_place, number_at, number_before}
+use Rattle.ltx_codec.specs.Numbering.{MayFollow}
 use Rattle.ltx_codec.specs.HeaderRules.{IsThere}
 use Rattle.ltx_codec.specs.Block.{HasHeader, IsRead, IsNextNumber}
 use Rattle.ltx_codec.specs.Decoding.{HasFed, IsPart, held_part}
 use Rattle.ltx_codec.specs.Feeding.{HasPagesOf}
 use Rattle.ltx_codec.specs.declared.decoder.Decoder.{Decoder}
 use Rattle.ltx_codec.specs.declared.fault.LtxFault.TheVariants as fault
-use Rattle.ltx_codec.proofs.AgreeLemmas.{Agree, longer, front_same, four_same, eight_same, place_same, number_same, before_same, pages_same, contents_same, sound_longer}
+use Rattle.ltx_codec.proofs.AgreeLemmas.{Agree, longer, front_same, four_same, eight_same, place_same, number_same, before_same, pages_same, writes_same, header_same, numbers_same, sound_longer}
 use Rattle.ltx_codec.proofs.FeedLemmas.{AreBytes-append, Stays}
+use Rattle.lf_base.specs.Endian.{be32_at, be64_at}
 
 module _ (bytes more : List ℕ) (head : HasHeader bytes) where
   agree : Agree bytes (bytes ++ more) (length bytes)
@@ -24,19 +27,19 @@ module _ (bytes more : List ℕ) (head : HasHeader bytes) where
   long : 100 ≤ length bytes
   long = head.whole
 
-  pub min_kept : eight_at 16 bytes ≡ eight_at 16 (bytes ++ more)
+  pub min_kept : stated_min bytes ≡ stated_min (bytes ++ more)
   min_kept = let l = long in eight_same 16 (length bytes) bytes (bytes ++ more) agree (omega arith)
 
-  pub commit_kept : four_at 12 bytes ≡ four_at 12 (bytes ++ more)
+  pub commit_kept : stated_commit bytes ≡ stated_commit (bytes ++ more)
   commit_kept = let l = long in four_same 12 (length bytes) bytes (bytes ++ more) agree (omega arith)
 
-  pub size_kept : four_at 8 bytes ≡ four_at 8 (bytes ++ more)
+  pub size_kept : stated_page_size bytes ≡ stated_page_size (bytes ++ more)
   size_kept = let l = long in four_same 8 (length bytes) bytes (bytes ++ more) agree (omega arith)
 
-  max_kept : eight_at 24 bytes ≡ eight_at 24 (bytes ++ more)
+  max_kept : stated_max bytes ≡ stated_max (bytes ++ more)
   max_kept = let l = long in eight_same 24 (length bytes) bytes (bytes ++ more) agree (omega arith)
 
-  pre_kept : eight_at 40 bytes ≡ eight_at 40 (bytes ++ more)
+  pre_kept : stated_pre bytes ≡ stated_pre (bytes ++ more)
   pre_kept = let l = long in eight_same 40 (length bytes) bytes (bytes ++ more) agree (omega arith)
 
   pub place_kept : (k : ℕ) → number_place bytes k ≡ number_place (bytes ++ more) k
@@ -48,10 +51,10 @@ module _ (bytes more : List ℕ) (head : HasHeader bytes) where
   pub number_kept : (k : ℕ) → number_place bytes k + 4 ≤ length bytes → number_at bytes k ≡ number_at (bytes ++ more) k
   number_kept k le = let l = long in number_same bytes (bytes ++ more) (length bytes) agree (omega arith) k le
 
-  four_kept : (p : ℕ) → p + 4 ≤ 100 → four_at p bytes ≡ four_at p (bytes ++ more)
+  four_kept : (p : ℕ) → p + 4 ≤ 100 → be32_at p bytes ≡ be32_at p (bytes ++ more)
   four_kept p le = let l = long in four_same p (length bytes) bytes (bytes ++ more) agree (omega arith)
 
-  eight_kept : (p : ℕ) → p + 8 ≤ 100 → eight_at p bytes ≡ eight_at p (bytes ++ more)
+  eight_kept : (p : ℕ) → p + 8 ≤ 100 → be64_at p bytes ≡ be64_at p (bytes ++ more)
   eight_kept p le = let l = long in eight_same p (length bytes) bytes (bytes ++ more) agree (omega arith)
 
   there : (n e : ℕ) → e ≤ 100 → IsThere bytes 103 e
@@ -63,8 +66,8 @@ module _ (bytes more : List ℕ) (head : HasHeader bytes) where
       magic_is = λ _. sym (front_same 4 (length bytes) bytes (bytes ++ more) agree (omega arith)) ∙ f.magic_is (there 0 4 (omega arith));
       flags = λ _. sym (four_kept 4 (omega arith)) ∙ f.flags (there 0 8 (omega arith));
       page_size = λ _. subst (λ (n : ℕ). IsPageSize n) size_kept (f.page_size (there 0 12 (omega arith)));
-      commit = λ _. subst (λ (n : ℕ). IsDatabaseSize (four_at 8 (bytes ++ more)) n) commit_kept
-          (subst (λ (n : ℕ). IsDatabaseSize n (four_at 12 bytes)) size_kept (f.commit (there 0 16 (omega arith))));
+      commit = λ _. subst (λ (n : ℕ). IsWithinLimit (stated_page_size (bytes ++ more)) n) commit_kept
+          (subst (λ (n : ℕ). IsWithinLimit n (stated_commit bytes)) size_kept (f.commit (there 0 16 (omega arith))));
       min = λ _. omega (arith, min_kept, f.min (there 0 24 (omega arith)));
       max = λ _. omega (arith, min_kept, max_kept, f.max (there 0 32 (omega arith)));
       snapshot_pre = λ _ snapshot. sym pre_kept ∙ f.snapshot_pre (there 0 48 (omega arith)) (min_kept ∙ snapshot);
@@ -75,19 +78,7 @@ module _ (bytes more : List ℕ) (head : HasHeader bytes) where
   }
 
   pub header_in_longer : header_in bytes ≡ header_in (bytes ++ more)
-  header_in_longer = cc (
-    four_kept 8 (omega arith),
-    four_kept 12 (omega arith),
-    eight_kept 16 (omega arith),
-    eight_kept 24 (omega arith),
-    eight_kept 32 (omega arith),
-    eight_kept 40 (omega arith),
-    eight_kept 48 (omega arith),
-    eight_kept 56 (omega arith),
-    four_kept 64 (omega arith),
-    four_kept 68 (omega arith),
-    eight_kept 72 (omega arith),
-  )
+  header_in_longer = let l = long in header_same bytes (bytes ++ more) (length bytes) agree (omega arith) l
 
 pub read_longer : (bytes more : List ℕ) (change : PageChange) (k : ℕ) → IsRead bytes change k → AreBytes (bytes ++ more) → IsRead (bytes ++ more) change k
 read_longer bytes more change k read octets =
@@ -101,13 +92,12 @@ read_longer bytes more change k read octets =
       header = header_longer bytes more head octets;
       there = omega (arith, read.there, place, length-append bytes more);
       pages = pages_same bytes (bytes ++ more) (length bytes) g (omega arith) k read.there read.pages;
-      consecutive = λ snapshot. sym before ∙ read.consecutive (min ∙ snapshot);
       holds = record {
         page_size = read.holds.page_size ∙ size_kept bytes more head;
         commit = read.holds.commit ∙ commit_kept bytes more head;
         last = read.holds.last ∙ before;
-        contents = read.holds.contents ∙ contents_same bytes (bytes ++ more) (length bytes) g (omega arith) k 0 k (omega arith) read.there;
-        numbers = λ snapshot. read.holds.numbers (min ∙ snapshot);
+        writes = read.holds.writes ∙ writes_same bytes (bytes ++ more) (length bytes) g (omega arith) k 0 k (omega arith) read.there;
+        each = λ snapshot. read.holds.each (min ∙ snapshot);
         text = ap (λ (n : ℕ). take n (bytes ++ more)) (sym place)
             ∙ sym (front_same (number_place bytes k) (length bytes) bytes (bytes ++ more) g read.there)
             ∙ read.holds.text
@@ -120,17 +110,10 @@ read_longer bytes more change k read octets =
 pub next_longer : (bytes more : List ℕ) (change : PageChange) (k : ℕ) → IsRead bytes change k → IsNextNumber bytes k → IsNextNumber (bytes ++ more) k
 next_longer bytes more change k read next =
     let head = read.header in
-    let place = place_kept bytes more head k in
-    let before = before_kept bytes more head k read.there in
-    let number = number_kept bytes more head k next.there in
-    let commit = commit_kept bytes more head in
-    let min = min_kept bytes more head in
+    let whole : 100 ≤ length bytes = head.whole in
     record {
-      there = omega (arith, next.there, place, length-append bytes more);
-      ascends = λ some. omega (arith, before, number, next.ascends (λ zero. some (sym number ∙ zero)));
-      within = omega (arith, number, commit, next.within);
-      follows = λ snapshot some. omega (arith, before, number, next.follows (min ∙ snapshot) (λ zero. some (sym number ∙ zero)));
-      complete = λ snapshot ends. sym before ∙ next.complete (min ∙ snapshot) (number ∙ ends) ∙ commit;
+      there = omega (arith, next.there, place_kept bytes more head k, length-append bytes more);
+      may = numbers_same bytes (bytes ++ more) (length bytes) (longer bytes more) (omega arith) (length bytes) (omega arith) MayFollow k next.there next.may;
     }
 
 -- what a piece of a part leaves alone, and what it adds to what is held
@@ -212,10 +195,10 @@ two_taken text piece first more =
     ap (λ (l : List ℕ). text ++ l) (take-add first more piece) ∙ sym (append_assoc text (take first piece) (take more (drop first piece)))
 
 -- numbers of a rest are numbers of the text
-pub four_rest : (at place : ℕ) (text : List ℕ) → four_at place (drop at text) ≡ four_at (at + place) text
-unfolding four_at
+pub four_rest : (at place : ℕ) (text : List ℕ) → be32_at place (drop at text) ≡ be32_at (at + place) text
+unfolding be32_at
 four_rest at place text = rw drop-drop refl
 
-pub eight_rest : (at place : ℕ) (text : List ℕ) → eight_at place (drop at text) ≡ eight_at (at + place) text
-unfolding eight_at
+pub eight_rest : (at place : ℕ) (text : List ℕ) → be64_at place (drop at text) ≡ be64_at (at + place) text
+unfolding be64_at
 eight_rest at place text = rw drop-drop refl

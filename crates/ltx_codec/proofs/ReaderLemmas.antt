@@ -5,7 +5,7 @@ use Rattle.std.proofs.lemmas.List.{length-take, length-drop, take_all}
 use Rattle.lf_sqlite_pages.specs.PageSize.{IsPageSize, is_page_size}
 use Rattle.lf_sqlite_pages.specs.Change.{PageChange, empty_change, with_page}
 use Rattle.lf_sqlite_pages.proofs.Changes.{FitsAtEnd}
-use Rattle.ltx_codec.specs.Fields.{four_at, eight_at}
+use Rattle.ltx_codec.specs.Fields.{AreBytes, stated_page_size, stated_commit}
 use Rattle.ltx_codec.specs.Places.{IsBroken, IsEarliest, IsFound, HasPages, number_place, number_at, number_before, page_in}
 use Rattle.ltx_codec.specs.Block.{HasHeader, IsRead, IsNextNumber}
 use Rattle.ltx_codec.specs.Decoding.{HasFed, NoneEndsBefore, ShowsHeader, ShowsPage, IsRefusedWithin}
@@ -16,7 +16,7 @@ use Rattle.ltx_codec.specs.declared.fault.LtxFault.TheVariants as fault
 use Rattle.ltx_codec.proofs.AgreeLemmas.{Agree, longer, turned, pages_same}
 use Rattle.ltx_codec.proofs.BlockLemmas.{later_place, next_place}
 use Rattle.ltx_codec.proofs.FeedLemmas.{read_none, none_valid}
-use Rattle.ltx_codec.proofs.PageLemmas.{page_valid}
+use Rattle.ltx_codec.proofs.PageLemmas.{page_valid, fits_next}
 use Rattle.ltx_codec.proofs.PartLemmas.{grown_length}
 use Rattle.ltx_codec.proofs.PieceLemmas.{read_longer, place_kept, two_taken}
 use Rattle.ltx_codec.proofs.ReadLemmas.{read_next}
@@ -28,39 +28,19 @@ whole_header d limit text fed long = elim fed.stage [
   | inr block ↦ block.1.read.header
 ]
 
--- a number that is not 0 meets its rules where bytes are only missing
-next_number : (text : List ℕ) (k : ℕ) → IsEarliest text fault.Short → HasPages text k → number_at text k ≢ 0 → number_place text k + 4 ≤ length text → IsNextNumber text k
-next_number text k short pages some there = record {
+-- a number meets its rules where bytes are only missing
+next_number : (text : List ℕ) (k : ℕ) → IsEarliest text fault.Short → HasPages text k → number_place text k + 4 ≤ length text → IsNextNumber text k
+next_number text k short pages there = record {
   there = there;
-  ascends = λ _. elim (cases_lt (number_before text k) (number_at text k)) [
-    | inl above ↦ above
-    | inr below ↦ absurd (unbroken fault.PageOrder (record { breaks = (k, pages, refl, (some, below)); there = there }))
-  ];
-  within = elim (cases_lt (four_at 12 text) (number_at text k)) [
-    | inl past ↦ elim (cases_lt (number_before text k) (number_at text k)) [
-      | inl above ↦ absurd (unbroken fault.PageRange (record { breaks = (k, pages, refl, (above, past)); there = there }))
-      | inr below ↦ absurd (unbroken fault.PageOrder (record { breaks = (k, pages, refl, (some, below)); there = there }))
-    ]
-    | inr within ↦ within
-  ];
-  follows = λ snapshot _. follows_last snapshot;
-  complete = λ _ ends. absurd (some ends);
+  may = record {
+    in_order = λ rule. unbroken fault.PageOrder (record { breaks = (k, pages, refl, rule); there = there });
+    in_range = λ rule. unbroken fault.PageRange (record { breaks = (k, pages, refl, rule); there = there });
+    none_left_out = λ rule. unbroken fault.NotWhole (record { breaks = (k, pages, refl, rule); there = there });
+  };
 }
   where
     unbroken : (f : LtxFault) → IsBroken text f (number_place text k + 4) → ⊥
     unbroken f broken = omega (arith, short.earliest f (number_place text k + 4) broken, short.broken.breaks.0, there)
-
-    follows_last : eight_at 16 text ≡ 1 → number_at text k ≡ number_before text k + 1
-    follows_last snapshot = elim (cases_order (number_at text k) (number_before text k + 1)) [
-      | inl same ↦ same
-      | inr other ↦ elim other [
-        | inl before ↦ absurd (unbroken fault.PageOrder (record { breaks = (k, pages, refl, (some, omega (arith, before))); there = there }))
-        | inr after ↦ elim (cases_lt (four_at 12 text) (number_at text k)) [
-          | inl past ↦ absurd (unbroken fault.PageRange (record { breaks = (k, pages, refl, (omega (arith, after), past)); there = there }))
-          | inr within ↦ absurd (unbroken fault.NotWhole (record { breaks = (k, pages, refl, (snapshot, inl (omega (arith, after), within))); there = there }))
-        ]
-      ]
-    ]
 
 -- the text with some bytes of a piece begins as the text with fewer of them
 fewer_taken : (text piece : List ℕ) (m n : ℕ) → m ≤ n → Agree (text ++ take n piece) (text ++ take m piece) (length (text ++ take m piece))
@@ -105,6 +85,25 @@ module _ (text piece : List ℕ) (n bound : ℕ) (within : n ≤ length piece) (
       ]
 
 -- the piece ends in a part
+pub whole_more : (change : PageChange) (text piece : List ℕ) → HoldsWholePages text change → AreBytes (text ++ piece) → NoneEndsBefore text piece (length piece + 1)
+    → HoldsWholePages (text ++ piece) change
+whole_more change text piece holds octets none =
+    let all : take (length piece) piece ≡ piece = take_all (length piece) piece (omega arith) in
+    let same : text ++ take (length piece) piece ≡ text ++ piece = ap (λ (l : List ℕ). text ++ l) all in
+    let grown = length-append text piece in
+    let k = length change.pages in
+    record {
+      valid = holds.valid;
+      read = read_longer text piece change k holds.read octets;
+      last = λ pages. elim (cases_lt (length (text ++ piece)) (number_place (text ++ piece) (k + 1))) [
+        | inl less ↦ less
+        | inr room ↦ absurd (none_whole text piece (length piece) (length piece + 1) (omega arith) none change holds
+            (subst (λ (t : List ℕ). HasPages t (k + 1)) (sym same) pages)
+            (subst (λ (t : List ℕ). number_place t (k + 1) ≤ length t) (sym same) room)
+            (subst (λ (t : List ℕ). number_place t (k + 1) < length text + (length piece + 1)) (sym same) (omega (arith, room, grown))))
+      ];
+    }
+
 pub taken_more : (old new : Decoder) (change : PageChange) (text piece : List ℕ) → HasTaken old change text → HasFed new largest_page (text ++ piece) → NoneEndsBefore text piece (length piece + 1)
     → HasTaken new change (text ++ piece)
 taken_more old new change text piece taken fed none =
@@ -113,38 +112,26 @@ taken_more old new change text piece taken fed none =
     let grown = length-append text piece in
     record {
       fed = fed;
-      pages = λ long.
-          let before = header_before text piece (length piece) (length piece + 1) (omega arith) none (omega (arith, ap length same, long)) (omega (arith, grown, long)) in
-          let holds = taken.pages before in
-          let k = length change.pages in
-          record {
-            valid = holds.valid;
-            read = read_longer text piece change k holds.read fed.octets;
-            last = λ pages. elim (cases_lt (length (text ++ piece)) (number_place (text ++ piece) (k + 1))) [
-              | inl less ↦ less
-              | inr room ↦ absurd (none_whole text piece (length piece) (length piece + 1) (omega arith) none change holds
-                  (subst (λ (t : List ℕ). HasPages t (k + 1)) (sym same) pages)
-                  (subst (λ (t : List ℕ). number_place t (k + 1) ≤ length t) (sym same) room)
-                  (subst (λ (t : List ℕ). number_place t (k + 1) < length text + (length piece + 1)) (sym same) (omega (arith, room, grown))))
-            ];
-          };
+      pages = λ long. whole_more change text piece
+          (taken.pages (header_before text piece (length piece) (length piece + 1) (omega arith) none (omega (arith, ap length same, long)) (omega (arith, grown, long))))
+          fed.octets none;
     }
 
 -- the header is whole
-pub taken_header : (d : Decoder) (text : List ℕ) → ShowsHeader d largest_page text → HasTaken d (empty_change (four_at 8 text) (four_at 12 text)) text
-taken_header d text shows = record {
-  fed = shows.fed;
-  pages = λ long.
-      let head = whole_header d largest_page text shows.fed long in
-      record {
-        valid = none_valid (four_at 8 text) (four_at 12 text) (head.fields.page_size (record { within = omega arith; there = omega (arith, long) }));
-        read = read_none text head;
-        last = λ _. omega (arith, shows.ends);
-      };
-}
+pub whole_none : (d : Decoder) (limit : ℕ) (text : List ℕ) → ShowsHeader d limit text → HoldsWholePages text (empty_change (stated_page_size text) (stated_commit text))
+whole_none d limit text shows =
+    let head = whole_header d limit text shows.fed (omega (arith, shows.ends)) in
+    record {
+      valid = none_valid (stated_page_size text) (stated_commit text) (head.fields.page_size (record { within = omega arith; there = omega (arith, shows.ends) }));
+      read = read_none text head;
+      last = λ _. omega (arith, shows.ends);
+    }
+
+pub taken_header : (d : Decoder) (text : List ℕ) → ShowsHeader d largest_page text → HasTaken d (empty_change (stated_page_size text) (stated_commit text)) text
+taken_header d text shows = record { fed = shows.fed; pages = λ _. whole_none d largest_page text shows }
 
 -- the page size of a whole header is one of SQLite's
-pub shown_size : (d : Decoder) (text : List ℕ) → ShowsHeader d largest_page text → IsPageSize (four_at 8 text)
+pub shown_size : (d : Decoder) (text : List ℕ) → ShowsHeader d largest_page text → IsPageSize (stated_page_size text)
 shown_size d text shows =
     let long : 100 ≤ length text = omega (arith, shows.ends) in
     (whole_header d largest_page text shows.fed long).fields.page_size (record { within = omega arith; there = omega (arith, long) })
@@ -161,26 +148,20 @@ refused_at text f refused = elim refused.1 [
   | inr past ↦ absurd (omega (
     arith,
     past.1.sound fault.PageSize 12 (record {
-      breaks = (refl, λ size. omega (arith, size_within (four_at 8 text) size, past.1.past));
+      breaks = (refl, λ size. omega (arith, size_within (stated_page_size text) size, past.1.past));
       there = past.1.there;
     }),
   ))
 ]
 
 -- a page ends with some bytes of the piece
-module _ (old new : Decoder) (change : PageChange) (text piece : List ℕ) (used number : ℕ) (taken : HasTaken old change text) (some : 1 ≤ used) (within : used ≤ length piece)
-    (none : NoneEndsBefore text piece used) (shows : ShowsPage new largest_page number (text ++ take used piece)) where
-  holds_before : HoldsWholePages text change
-  holds_before =
-      let grown = grown_length text piece used within in
-      taken.pages (header_before text piece used used within none (omega (arith, shows.ends)) (omega (arith, grown, shows.ends)))
-
+module _ (new : Decoder) (limit : ℕ) (change : PageChange) (text piece : List ℕ) (used number : ℕ) (holds : HoldsWholePages text change) (some : 1 ≤ used) (within : used ≤ length piece)
+    (none : NoneEndsBefore text piece used) (shows : ShowsPage new limit number (text ++ take used piece)) where
   -- the page that ends is the next one
   next_is : shows.index ≡ length change.pages
   next_is =
       let k = length change.pages in
       let bytes = text ++ take used piece in
-      let holds = holds_before in
       let grown = grown_length text piece used within in
       elim (cases_order shows.index k) [
         | inl same ↦ same
@@ -209,37 +190,45 @@ module _ (old new : Decoder) (change : PageChange) (text piece : List ℕ) (used
   more_is zero = pages_are (length change.pages) (omega arith) (sym number_is ∙ zero)
 
   number_sound : IsNextNumber (text ++ take used piece) (length change.pages)
-  number_sound = next_number (text ++ take used piece) (length change.pages) shows.fed.unfinished (λ j less. pages_are j (omega (arith, less))) (pages_are (length change.pages) (omega arith))
+  number_sound = next_number (text ++ take used piece) (length change.pages) shows.fed.unfinished (λ j less. pages_are j (omega (arith, less)))
       (omega (arith, room_is, next_place (text ++ take used piece) (length change.pages)))
 
   read_before : IsRead (text ++ take used piece) change (length change.pages)
-  read_before = read_longer text (take used piece) change (length change.pages) holds_before.read shows.fed.octets
+  read_before = read_longer text (take used piece) change (length change.pages) holds.read shows.fed.octets
 
   -- it goes to the end of the change
-  pub page_fits : FitsAtEnd change (record { number = number; bytes = drop 4 new.held.items })
-  page_fits =
+  next_fits : FitsAtEnd change (record { number = number; bytes = drop 4 new.held.items })
+  next_fits =
       let k = length change.pages in
       let bytes = text ++ take used piece in
       let read = read_before in
-      let next = number_sound in
-      record {
-        above = omega (arith, read.holds.last, number_is, next.ascends (λ zero. more_is (number_is ∙ zero)));
-        within = omega (arith, read.holds.commit, number_is, next.within);
-        whole = ap length page_is ∙ omega (arith, length-take (four_at 8 bytes) (drop (number_place bytes k + 4) bytes), length-drop (number_place bytes k + 4) bytes, room_is, next_place bytes k, read.holds.page_size);
-      }
+      let page_length : length (drop 4 new.held.items) ≡ stated_page_size bytes =
+      ap length page_is ∙ omega (arith, length-take (stated_page_size bytes) (drop (number_place bytes k + 4) bytes), length-drop (number_place bytes k + 4) bytes, room_is, next_place bytes k) in
+      fits_next bytes change number (drop 4 new.held.items) read.holds number_sound number_is more_is (page_length ∙ sym read.holds.page_size)
 
   -- and the change with it holds the pages
-  pub taken_page : HasTaken new (with_page change number (drop 4 new.held.items)) (text ++ take used piece)
-  taken_page =
+  pub whole_page : HoldsWholePages (text ++ take used piece) (with_page change number (drop 4 new.held.items))
+  whole_page =
       let k = length change.pages in
       let bytes = text ++ take used piece in
       let page = drop 4 new.held.items in
       let count : length (with_page change number page).pages ≡ k + 1 = length-append change.pages (record { number = number; bytes = page } ∷ []) in
       record {
-        fed = shows.fed;
-        pages = λ _. record {
-          valid = page_valid change number page holds_before.valid page_fits;
-          read = subst (λ (j : ℕ). IsRead bytes (with_page change number page) j) (sym count) (read_next bytes change k number page read_before number_sound number_is more_is page_is (omega (arith, room_is)));
-          last = λ _. omega (arith, room_is, count, next_place bytes (k + 1), ap (λ (j : ℕ). number_place bytes (j + 1)) count);
-        };
+        valid = page_valid change number page holds.valid next_fits;
+        read = subst (λ (j : ℕ). IsRead bytes (with_page change number page) j) (sym count) (read_next bytes change k number page read_before number_sound number_is more_is page_is (omega (arith, room_is)));
+        last = λ _. omega (arith, room_is, count, next_place bytes (k + 1), ap (λ (j : ℕ). number_place bytes (j + 1)) count);
       }
+
+-- the same of what the decoder and the change have taken
+module _ (old new : Decoder) (change : PageChange) (text piece : List ℕ) (used number : ℕ) (taken : HasTaken old change text) (some : 1 ≤ used) (within : used ≤ length piece)
+    (none : NoneEndsBefore text piece used) (shows : ShowsPage new largest_page number (text ++ take used piece)) where
+  holds_before : HoldsWholePages text change
+  holds_before =
+      let grown = grown_length text piece used within in
+      taken.pages (header_before text piece used used within none (omega (arith, shows.ends)) (omega (arith, grown, shows.ends)))
+
+  pub page_fits : FitsAtEnd change (record { number = number; bytes = drop 4 new.held.items })
+  page_fits = next_fits new largest_page change text piece used number holds_before some within none shows
+
+  pub taken_page : HasTaken new (with_page change number (drop 4 new.held.items)) (text ++ take used piece)
+  taken_page = record { fed = shows.fed; pages = λ _. whole_page new largest_page change text piece used number holds_before some within none shows }

@@ -1,19 +1,19 @@
 -- A trailer that comes in pieces.
-use Rattle.std.proofs.Common.{◌≡◌, ℕ, ◌+◌, ◌<◌, Bool, true, false, cond, List, [], ◌++◌, length, map, take, drop, arith, refl, sym, ap, subst, inl, inr, ◌∙◌}
+use Rattle.std.proofs.Common.{◌≡◌, ℕ, ◌+◌, ◌<◌, Bool, true, false, cond, List, [], ◌++◌, length, take, drop, arith, refl, sym, ap, subst, inl, inr, ◌∙◌}
 use Rattle.std.specs.Prelude.{bit_xor}
-use Rattle.std.specs.List.{range_with_len}
 use Rattle.std.proofs.lemmas.List.{take_all}
 use Rattle.std.proofs.Math.Seq.{take-add}
 use Rattle.page_checksum.specs.Crc.{after_bytes, all_ones, crc}
-use Rattle.page_checksum.specs.Sums.{flagged, database_sum}
+use Rattle.page_checksum.specs.Sums.{flagged}
 use Rattle.page_checksum.proofs.CrcLemmas.{after_bytes-append}
 use Rattle.lf_sqlite_pages.specs.Change.{PageChange}
-use Rattle.ltx_codec.specs.Fields.{AreBytes, four_at, eight_at, header_in}
+use Rattle.ltx_codec.specs.Fields.{AreBytes, stated_commit, stated_min, header_in}
 use Rattle.ltx_codec.specs.Format.{file_sum, sealed, IsLtx}
-use Rattle.ltx_codec.specs.Places.{IsWrongSum, number_place, number_at, page_in}
+use Rattle.ltx_codec.specs.Sums.{sum_of_writes}
+use Rattle.ltx_codec.specs.Places.{IsWrongPost, IsWrongSum, number_place, number_at, writes_in}
 use Rattle.ltx_codec.specs.Trailer.{HasTrailer}
 use Rattle.ltx_codec.specs.Decoding.{HasFed, held_part, IsRefusedWithin, ShowsFile}
-use Rattle.ltx_codec.specs.Feeding.{HasNumber, IsWrongPost, HasRightSums, BreaksSums}
+use Rattle.ltx_codec.specs.Feeding.{HasNumber, HasRightSums, BreaksSums}
 use Rattle.ltx_codec.specs.declared.decoder.Decoder.{Decoder}
 use Rattle.ltx_codec.specs.declared.header.Header.{Header}
 use Rattle.ltx_codec.specs.declared.fault.LtxFault.{LtxFault}
@@ -25,28 +25,29 @@ use Rattle.ltx_codec.proofs.TextLemmas.{AreBytes-drop}
 use Rattle.ltx_codec.proofs.PageLemmas.{number_longer}
 use Rattle.ltx_codec.proofs.PieceLemmas.{Grows, fed_of, held_untold, held_length, held_is_rest, eight_rest}
 use Rattle.ltx_codec.proofs.HeaderLemmas.{within_not_past}
+use Rattle.lf_base.specs.Endian.{be64_at}
 
 sealed_is : (bytes : List ℕ) (register : ℕ) → register ≡ after_bytes all_ones bytes → sealed register ≡ file_sum bytes
 unfolding crc
 sealed_is bytes register is = ap (λ (r : ℕ). flagged (bit_xor r all_ones)) is
 
 module _ (d : Decoder) (limit : ℕ) (text : List ℕ) (change : PageChange) (has : HasNumber d limit text change 0) (untold : d.told ≡ false) where
-  post_at : eight_at 4 d.held.items ≡ eight_at (number_place text (length change.pages) + 4) text
-  post_at = ap (eight_at 4) (held_is_rest d limit text change has.feeding untold) ∙ eight_rest (number_place text (length change.pages)) 4 text
+  post_at : be64_at 4 d.held.items ≡ be64_at (number_place text (length change.pages) + 4) text
+  post_at = ap (be64_at 4) (held_is_rest d limit text change has.feeding untold) ∙ eight_rest (number_place text (length change.pages)) 4 text
 
-  sum_at : eight_at 12 d.held.items ≡ eight_at (number_place text (length change.pages) + 12) text
-  sum_at = ap (eight_at 12) (held_is_rest d limit text change has.feeding untold) ∙ eight_rest (number_place text (length change.pages)) 12 text
+  sum_at : be64_at 12 d.held.items ≡ be64_at (number_place text (length change.pages) + 12) text
+  sum_at = ap (be64_at 12) (held_is_rest d limit text change has.feeding untold) ∙ eight_rest (number_place text (length change.pages)) 12 text
 
-  commit_is : d.header.commit ≡ four_at 12 text
+  commit_is : d.header.commit ≡ stated_commit text
   commit_is = ap (λ (h : Header). h.commit) has.feeding.block.header
 
-  min_is : d.header.min ≡ eight_at 16 text
+  min_is : d.header.min ≡ stated_min text
   min_is = ap (λ (h : Header). h.min) has.feeding.block.header
 
-  sums_are : eight_at 16 text ≡ 1 → flagged d.sums ≡ database_sum (map (page_in text) (range_with_len 0 (length change.pages)))
-  sums_are snapshot = ap flagged (has.feeding.block.sums snapshot) ∙ ap database_sum has.feeding.block.read.holds.contents
+  sums_are : stated_min text ≡ 1 → flagged d.sums ≡ sum_of_writes (writes_in text (length change.pages))
+  sums_are snapshot = ap flagged (has.feeding.block.sums snapshot) ∙ ap sum_of_writes has.feeding.block.read.holds.writes
 
-  wrong_is : (s : ℕ) → IsWrongPost d.header d.sums s → IsWrongSum text (length change.pages) s
+  wrong_is : (s : ℕ) → IsWrongPost d.header (flagged d.sums) s → IsWrongSum text (length change.pages) s
   wrong_is s wrong = elim wrong [
     | inl low ↦ inl low
     | inr other ↦ elim other [
@@ -55,7 +56,7 @@ module _ (d : Decoder) (limit : ℕ) (text : List ℕ) (change : PageChange) (ha
     ]
   ]
 
-  right_is : (s : ℕ) → (IsWrongPost d.header d.sums s → ⊥) → IsWrongSum text (length change.pages) s → ⊥
+  right_is : (s : ℕ) → (IsWrongPost d.header (flagged d.sums) s → ⊥) → IsWrongSum text (length change.pages) s → ⊥
   right_is s right wrong = elim wrong [
     | inl low ↦ right (inl low)
     | inr other ↦ elim other [
@@ -64,8 +65,8 @@ module _ (d : Decoder) (limit : ℕ) (text : List ℕ) (change : PageChange) (ha
     ]
   ]
 
-  right_at : (IsWrongPost d.header d.sums (eight_at 4 d.held.items) → ⊥) → IsWrongSum text (length change.pages) (eight_at (number_place text (length change.pages) + 4) text) → ⊥
-  right_at right = subst (λ (s : ℕ). IsWrongSum text (length change.pages) s → ⊥) post_at (right_is (eight_at 4 d.held.items) right)
+  right_at : (IsWrongPost d.header (flagged d.sums) (be64_at 4 d.held.items) → ⊥) → IsWrongSum text (length change.pages) (be64_at (number_place text (length change.pages) + 4) text) → ⊥
+  right_at right = subst (λ (s : ℕ). IsWrongSum text (length change.pages) s → ⊥) post_at (right_is (be64_at 4 d.held.items) right)
 
   register_is : after_bytes d.register (take 12 d.held.items) ≡ after_bytes all_ones (take (number_place text (length change.pages) + 12) text)
   register_is =
@@ -92,7 +93,7 @@ module _ (d : Decoder) (limit : ℕ) (text : List ℕ) (change : PageChange) (ha
         tt,
         inl (
           wrong_sum text (length change.pages) read.pages read.sound has.sound ends (omega (arith, at, rule.0))
-              (subst (λ (s : ℕ). IsWrongSum text (length change.pages) s) post_at (wrong_is (eight_at 4 d.held.items) rule.1)),
+              (subst (λ (s : ℕ). IsWrongSum text (length change.pages) s) post_at (wrong_is (be64_at 4 d.held.items) rule.1)),
           within_not_past limit text has.feeding.within,
         ),
       )
@@ -133,7 +134,7 @@ module _ (d : Decoder) (limit : ℕ) (text : List ℕ) (change : PageChange) (ha
         (λ room. past_sum text (length change.pages) read.pages read.sound has.sound ends (right_at (right.post (omega (arith, at, room)))) room))
 
     -- the file is whole
-    pub trailer_ends : (new : Decoder) → length d.held.items ≡ 20 → Stays d new → new.post ≡ eight_at 4 d.held.items → new.header ≡ d.header → new.told ≡ true → new.in_block ≡ false
+    pub trailer_ends : (new : Decoder) → length d.held.items ≡ 20 → Stays d new → new.post ≡ be64_at 4 d.held.items → new.header ≡ d.header → new.told ≡ true → new.in_block ≡ false
         → ShowsFile new limit text
     trailer_ends new whole stays post header told stage =
         let read = has.feeding.block.read in
@@ -142,7 +143,7 @@ module _ (d : Decoder) (limit : ℕ) (text : List ℕ) (change : PageChange) (ha
         let trailer : HasTrailer text k new.post = record {
           there = omega (arith, at, whole);
           sum_is = post ∙ post_at;
-          right = subst (λ (s : ℕ). IsWrongSum text k s → ⊥) (sym post) (right_is (eight_at 4 d.held.items) (right.post (omega (arith, whole))));
+          right = subst (λ (s : ℕ). IsWrongSum text k s → ⊥) (sym post) (right_is (be64_at 4 d.held.items) (right.post (omega (arith, whole))));
           file_sum_is = sym sum_at ∙ right.file_sum (omega (arith, whole)) ∙ seal_is;
         } in
         record {

@@ -1,10 +1,10 @@
 -- A file's text that comes in pieces. The text so far is that of the current file alone.
-use Rattle.std.specs.Prelude.{◌≡◌, ◌≢◌, ℕ, ◌+◌, ◌<◌, ◌≤◌, ◌⊎◌, true, false, cond, Some, None, Result, Ok, Err, List, [], ◌++◌, length, map, take, drop}
+use Rattle.std.specs.Prelude.{◌≡◌, ◌≢◌, ℕ, ◌+◌, ◌<◌, ◌≤◌, ◌⊎◌, true, false, cond, Some, None, Result, Ok, Err, List, [], ◌++◌, length, take, drop}
 use Rattle.lf_sqlite_pages.specs.Change.{PageChange, IsChange}
 use Rattle.page_checksum.specs.Crc.{after_bytes, all_ones}
-use Rattle.page_checksum.specs.Sums.{joined, page_sums}
-use Rattle.ltx_codec.specs.Fields.{AreBytes, four_at, eight_at, header_in}
+use Rattle.ltx_codec.specs.Fields.{AreBytes, stated_page_size, stated_min, header_in}
 use Rattle.ltx_codec.specs.Format.{IsLtx}
+use Rattle.ltx_codec.specs.Sums.{joined_sums}
 use Rattle.ltx_codec.specs.Places.{IsEarliest, IsFound, IsSoundBefore, HasPages, number_place, number_at, number_before, page_in}
 use Rattle.ltx_codec.specs.Block.{IsRead}
 use Rattle.ltx_codec.specs.declared.header.Header.{Header}
@@ -25,6 +25,16 @@ page_shown decoder = drop 4 decoder.held.items
 abbrev pub post_shown : Decoder → ℕ
 post_shown decoder = decoder.post
 
+-- the largest page that the decoder takes, in bytes
+abbrev pub page_limit_of : Decoder → ℕ
+page_limit_of decoder = decoder.limit
+
+-- the header and the sum that are shown stay until another header or another file is whole
+abbrev pub KeepsShown : Decoder → Decoder → Result Seen LtxFault → Type 0
+KeepsShown old new (Ok (seen.Header used)) = post_shown new ≡ post_shown old
+KeepsShown old new (Ok (seen.Whole used)) = header_shown new ≡ header_shown old
+KeepsShown old new _ = (header_shown new ≡ header_shown old) × (post_shown new ≡ post_shown old)
+
 -- the bytes of the part that is not whole yet
 abbrev pub held_part : Decoder → List ℕ
 held_part decoder = cond decoder.told [] decoder.held.items
@@ -44,16 +54,16 @@ pub record IsInBlock (decoder : Decoder) (text : List ℕ) (change : PageChange)
   pub number : decoder.number ≡ number_before text (length change.pages)
   pub held : held_part decoder ≡ drop (number_place text (length change.pages)) text
   pub register : decoder.register ≡ after_bytes all_ones (take (number_place text (length change.pages)) text)
-  pub sums : eight_at 16 text ≡ 1 → decoder.sums ≡ joined (page_sums 1 (map (λ w. w.bytes) change.pages))
+  pub sums : stated_min text ≡ 1 → decoder.sums ≡ joined_sums change.pages
 
 -- behind a number that is held its page is not whole, or the trailer is not
 pub record IsPart (decoder : Decoder) (text : List ℕ) (k : ℕ) : Type 0 where
-  pub page : number_place text k + 4 ≤ length text → number_at text k ≢ 0 → length (held_part decoder) < 4 + four_at 8 text
+  pub page : number_place text k + 4 ≤ length text → number_at text k ≢ 0 → length (held_part decoder) < 4 + stated_page_size text
   pub end : number_place text k + 4 ≤ length text → number_at text k ≡ 0 → length (held_part decoder) < 20
 
 -- the page size, once it is there, is within the limit
 abbrev pub IsWithin : ℕ → List ℕ → Type 0
-IsWithin limit text = 12 ≤ length text → four_at 8 text ≤ limit
+IsWithin limit text = 12 ≤ length text → stated_page_size text ≤ limit
 
 -- The decoder of this page limit has read exactly this text of a file. The file is not whole, and the text
 -- breaks no rule but that it ends too soon.
@@ -73,7 +83,7 @@ HasFailed decoder f = decoder.fault ≡ Some f
 pub record IsPastLimit (limit : ℕ) (bytes : List ℕ) : Type 0 where
   pub there : 12 ≤ length bytes
   pub sound : IsSoundBefore bytes 13
-  pub past : limit < four_at 8 bytes
+  pub past : limit < stated_page_size bytes
 
 -- why a text is refused: its pages are past the limit, or else the fault stands earliest in it
 abbrev pub IsRefusedWithin : ℕ → List ℕ → LtxFault → Type 0
@@ -86,6 +96,13 @@ EndsPart bytes = (length bytes ≡ 100) ⊎ ((k : ℕ) × HasPages bytes (k + 1)
 -- no part ends with the first bytes of the piece, where they are fewer than n
 abbrev pub NoneEndsBefore : List ℕ → List ℕ → ℕ → Type 0
 NoneEndsBefore text piece n = (m : ℕ) → 1 ≤ m → m < n → EndsPart (text ++ take m piece) → ⊥
+
+-- the fault is found with some first bytes of the piece, and no part ends before it
+pub record StandsFirst (limit : ℕ) (text piece : List ℕ) (f : LtxFault) : Type 0 where
+  pub used : ℕ
+  pub within : used ≤ length piece
+  pub none : NoneEndsBefore text piece used
+  pub refused : IsRefusedWithin limit (text ++ take used piece) f
 
 -- the header ends with this text, and is shown
 pub record ShowsHeader (decoder : Decoder) (limit : ℕ) (text : List ℕ) : Type 0 where
@@ -117,4 +134,4 @@ FeedGives decoder limit text piece (Ok seen.More) = HasFed decoder limit (text +
 FeedGives decoder limit text piece (Ok (seen.Header used)) = (1 ≤ used) × (used ≤ length piece) × NoneEndsBefore text piece used × ShowsHeader decoder limit (text ++ take used piece)
 FeedGives decoder limit text piece (Ok (seen.Page used number)) = (1 ≤ used) × (used ≤ length piece) × NoneEndsBefore text piece used × ShowsPage decoder limit number (text ++ take used piece)
 FeedGives decoder limit text piece (Ok (seen.Whole used)) = (1 ≤ used) × (used ≤ length piece) × NoneEndsBefore text piece used × ShowsFile decoder limit (text ++ take used piece)
-FeedGives decoder limit text piece (Err f) = IsRefusedWithin limit (text ++ piece) f
+FeedGives decoder limit text piece (Err f) = IsRefusedWithin limit (text ++ piece) f × StandsFirst limit text piece f

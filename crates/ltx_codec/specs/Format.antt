@@ -1,23 +1,20 @@
 -- The LTX file (LTX1, uncompressed): a value, its rules, and its text. The text is a header of 100 bytes, the
 -- page block and a trailer of 16 bytes; all numbers are big-endian.
-use Rattle.std.specs.Prelude.{◌≡◌, ◌≢◌, ℕ, ◌*◌, ◌^◌, ◌<◌, ◌≤◌, List, [], ◌∷◌, ◌++◌, length, map, replicate, bit_xor, codes}
-use Rattle.std.specs.List.{range_with_len}
+use Rattle.std.specs.Prelude.{◌≡◌, ◌≢◌, ℕ, ◌^◌, ◌<◌, ◌≤◌, List, [], ◌∷◌, ◌++◌, length, replicate, bit_xor, codes}
 use Rattle.std.specs.Int.{w32, w64, to_be_bytes}
 use Rattle.page_checksum.specs.Crc.{crc, all_ones}
-use Rattle.page_checksum.specs.Sums.{flagged, database_sum}
+use Rattle.page_checksum.specs.Sums.{flagged}
 use Rattle.lf_sqlite_pages.specs.PageSize.{IsPageSize}
-use Rattle.lf_sqlite_pages.specs.Change.{PageChange, IsChange}
+use Rattle.lf_sqlite_pages.specs.LockPage.{IsWithinLimit}
+use Rattle.lf_sqlite_pages.specs.Change.{PageChange, IsChange, HoldsEveryPage}
 use Rattle.lf_sqlite_pages.specs.declared.page_write.PageWrite.{PageWrite}
+use Rattle.ltx_codec.specs.Sums.{sum_of_writes}
 use Rattle.ltx_codec.specs.declared.header.Header.{Header}
 use Rattle.ltx_codec.specs.declared.file.Ltx.{Ltx}
 
 -- the bytes LTX1
 abbrev pub magic : List ℕ
 magic = codes "LTX1"
-
--- a database has at most 2^30 bytes
-abbrev pub IsDatabaseSize : ℕ → ℕ → Type 0
-IsDatabaseSize page_size commit = commit * page_size ≤ 1073741824
 
 -- bit 63 of a number of eight bytes is set
 abbrev pub IsFlagged : ℕ → Type 0
@@ -41,25 +38,25 @@ pub record FitsWidths (header : Header) : Type 0 where
 pub record IsHeader (header : Header) : Type 0 where
   pub widths : FitsWidths header
   pub page_size : IsPageSize header.page_size
-  pub commit : IsDatabaseSize header.page_size header.commit
+  pub commit : IsWithinLimit header.page_size header.commit
   pub min : 1 ≤ header.min
   pub max : header.min ≤ header.max
   pub snapshot_pre : header.min ≡ 1 → header.pre ≡ 0
   pub delta_pre : header.min ≢ 1 → IsFlagged header.pre
 
--- the rules of the page block: a snapshot holds every page
+-- the rules of the page block: a snapshot holds every data page
 pub record IsBlock (header : Header) (change : PageChange) : Type 0 where
   pub page_size : change.page_size ≡ header.page_size
   pub commit : change.commit ≡ header.commit
   pub pages : IsChange change
-  pub snapshot_pages : header.min ≡ 1 → map (λ w. w.number) change.pages ≡ range_with_len 1 change.commit
+  pub snapshot_pages : header.min ≡ 1 → HoldsEveryPage change
 
 -- the rules of the sum of the pages after the transaction; a snapshot's is that of its pages
 pub record IsPostSum (header : Header) (change : PageChange) (post : ℕ) : Type 0 where
   pub width : post < 2 ^ 64
   pub flagged : IsFlagged post
   pub empty : header.commit ≡ 0 → post ≡ 2 ^ 63
-  pub snapshot : header.min ≡ 1 → post ≡ database_sum (map (λ w. w.bytes) change.pages)
+  pub snapshot : header.min ≡ 1 → post ≡ sum_of_writes change.pages
 
 -- which values are files
 pub record IsFile (file : Ltx) : Type 0 where

@@ -1,11 +1,16 @@
 pub mod Fields
+pub mod Sums
 pub mod Format
+pub mod Positions
+pub mod FileIn
+pub mod FaultNumber
+pub mod Numbering
 pub mod Places
 pub mod HeaderRules
-pub mod Numbering
 pub mod Block
 pub mod Trailer
 pub mod Decoding
+pub mod Encoding
 pub mod Feeding
 pub mod WholePages
 pub mod Reading

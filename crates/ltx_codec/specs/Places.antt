@@ -2,20 +2,25 @@
 -- and bytes that end too soon are short after their last byte. Of one field's rules at most one is broken.
 use Rattle.std.specs.Prelude.{◌≡◌, ◌≢◌, ℕ, zero, suc, ◌+◌, ◌*◌, ◌%◌, ◌^◌, ◌<◌, ◌≤◌, ◌⊎◌, List, take, drop, length, map}
 use Rattle.std.specs.List.{range_with_len}
-use Rattle.page_checksum.specs.Sums.{database_sum}
 use Rattle.lf_sqlite_pages.specs.PageSize.{IsPageSize}
-use Rattle.ltx_codec.specs.Fields.{four_at, eight_at}
-use Rattle.ltx_codec.specs.Format.{magic, IsDatabaseSize, file_sum}
+use Rattle.lf_sqlite_pages.specs.LockPage.{IsWithinLimit}
+use Rattle.lf_sqlite_pages.specs.declared.page_write.PageWrite.{PageWrite}
+use Rattle.ltx_codec.specs.Fields.{stated_flags, stated_page_size, stated_commit, stated_min, stated_max, stated_pre, header_in}
+use Rattle.ltx_codec.specs.Format.{magic, file_sum}
+use Rattle.ltx_codec.specs.Sums.{sum_of_writes}
+use Rattle.ltx_codec.specs.Numbering.{BreaksNumbering}
+use Rattle.ltx_codec.specs.declared.header.Header.{Header}
 use Rattle.ltx_codec.specs.declared.fault.LtxFault.{LtxFault}
 use Rattle.ltx_codec.specs.declared.fault.LtxFault.TheVariants as fault
+use Rattle.lf_base.specs.Endian.{be32_at, be64_at}
 
 -- where the k-th page number of the block stands, counted from 0
 abbrev pub number_place : List ℕ → ℕ → ℕ
-number_place bytes k = 100 + k * (4 + four_at 8 bytes)
+number_place bytes k = 100 + k * (4 + stated_page_size bytes)
 
 -- the k-th page number of the block
 abbrev pub number_at : List ℕ → ℕ → ℕ
-number_at bytes k = four_at (number_place bytes k) bytes
+number_at bytes k = be32_at (number_place bytes k) bytes
 
 -- the page number before the k-th, 0 before the first
 abbrev pub number_before : List ℕ → ℕ → ℕ
@@ -24,7 +29,7 @@ number_before bytes (suc k) = number_at bytes k
 
 -- the page after the k-th number
 abbrev pub page_in : List ℕ → ℕ → List ℕ
-page_in bytes k = take (four_at 8 bytes) (drop (number_place bytes k + 4) bytes)
+page_in bytes k = take (stated_page_size bytes) (drop (number_place bytes k + 4) bytes)
 
 -- the block has at least k pages: none of the first k numbers is 0
 abbrev pub HasPages : List ℕ → ℕ → Type 0
@@ -36,41 +41,43 @@ pub record HasBlock (bytes : List ℕ) (k : ℕ) : Type 0 where
   pub ends : number_at bytes k ≡ 0
   pub there : number_place bytes k + 4 ≤ length bytes
 
--- the rules of the k-th page number, by cases on what it is
-abbrev pub IsOutOfOrder : List ℕ → ℕ → Type 0
-IsOutOfOrder bytes k = (number_at bytes k ≢ 0) × (number_at bytes k ≤ number_before bytes k)
+-- the k-th page of the block, with its number, and the first k of them
+abbrev pub write_in : List ℕ → ℕ → PageWrite
+write_in bytes k = record { number = number_at bytes k; bytes = page_in bytes k }
 
-abbrev pub IsOutOfRange : List ℕ → ℕ → Type 0
-IsOutOfRange bytes k = (number_before bytes k < number_at bytes k) × (four_at 12 bytes < number_at bytes k)
+abbrev pub writes_in : List ℕ → ℕ → List PageWrite
+writes_in bytes k = map (write_in bytes) (range_with_len 0 k)
 
--- in a snapshot a page is left out, or the block ends before the last page
-abbrev pub LeavesOut : List ℕ → ℕ → Type 0
-LeavesOut bytes k = (eight_at 16 bytes ≡ 1)
-    × ((number_before bytes k + 1 < number_at bytes k) × (number_at bytes k ≤ four_at 12 bytes)
-    ⊎ (number_at bytes k ≡ 0) × (number_before bytes k ≢ four_at 12 bytes))
+-- the k-th page number breaks this rule of page numbers
+abbrev pub BreaksAt : List ℕ → ℕ → LtxFault → Type 0
+BreaksAt bytes k broken = BreaksNumbering (header_in bytes) (number_before bytes k) (number_at bytes k) broken
 
--- a sum is not flagged, not that of no pages, or not that of the snapshot's k pages
+-- the sum after the transactions is not flagged, not that of no pages, or in a snapshot not that of its pages
+abbrev pub IsWrongPost : Header → (pages_sum post : ℕ) → Type 0
+IsWrongPost header pages_sum post = (post < 2 ^ 63)
+    ⊎ (header.commit ≡ 0) × (post ≢ 2 ^ 63)
+    ⊎ (header.min ≡ 1) × (post ≢ pages_sum)
+
+-- a sum behind the first k pages is wrong
 abbrev pub IsWrongSum : List ℕ → ℕ → ℕ → Type 0
-IsWrongSum bytes k sum = (sum < 2 ^ 63)
-    ⊎ (four_at 12 bytes ≡ 0) × (sum ≢ 2 ^ 63)
-    ⊎ (eight_at 16 bytes ≡ 1) × (sum ≢ database_sum (map (page_in bytes) (range_with_len 0 k)))
+IsWrongSum bytes k sum = IsWrongPost (header_in bytes) (sum_of_writes (writes_in bytes k)) sum
 
 -- the bytes break this rule at this place
 abbrev pub Breaks : List ℕ → LtxFault → ℕ → Type 0
 Breaks bytes fault.Magic place = (place ≡ 4) × (take 4 bytes ≢ magic)
-Breaks bytes fault.Compressed place = (place ≡ 8) × (four_at 4 bytes % 2 ≡ 1)
-Breaks bytes fault.UnknownFlags place = (place ≡ 8) × (four_at 4 bytes % 2 ≡ 0) × (four_at 4 bytes ≢ 0)
-Breaks bytes fault.PageSize place = (place ≡ 12) × (IsPageSize (four_at 8 bytes) → ⊥)
-Breaks bytes fault.Commit place = (place ≡ 16) × (IsDatabaseSize (four_at 8 bytes) (four_at 12 bytes) → ⊥)
-Breaks bytes fault.Txid place = (place ≡ 24) × (eight_at 16 bytes ≡ 0) ⊎ (place ≡ 32) × (eight_at 24 bytes < eight_at 16 bytes)
+Breaks bytes fault.Compressed place = (place ≡ 8) × (stated_flags bytes % 2 ≡ 1)
+Breaks bytes fault.UnknownFlags place = (place ≡ 8) × (stated_flags bytes % 2 ≡ 0) × (stated_flags bytes ≢ 0)
+Breaks bytes fault.PageSize place = (place ≡ 12) × (IsPageSize (stated_page_size bytes) → ⊥)
+Breaks bytes fault.Commit place = (place ≡ 16) × (IsWithinLimit (stated_page_size bytes) (stated_commit bytes) → ⊥)
+Breaks bytes fault.Txid place = (place ≡ 24) × (stated_min bytes ≡ 0) ⊎ (place ≡ 32) × (stated_max bytes < stated_min bytes)
 Breaks bytes fault.PreSum place = (place ≡ 48)
-    × ((eight_at 16 bytes ≡ 1) × (eight_at 40 bytes ≢ 0) ⊎ (eight_at 16 bytes ≢ 1) × (eight_at 40 bytes < 2 ^ 63))
-Breaks bytes fault.PageOrder place = (k : ℕ) × HasPages bytes k × (place ≡ number_place bytes k + 4) × IsOutOfOrder bytes k
-Breaks bytes fault.PageRange place = (k : ℕ) × HasPages bytes k × (place ≡ number_place bytes k + 4) × IsOutOfRange bytes k
-Breaks bytes fault.NotWhole place = (k : ℕ) × HasPages bytes k × (place ≡ number_place bytes k + 4) × LeavesOut bytes k
-Breaks bytes fault.PostSum place = (k : ℕ) × HasBlock bytes k × (place ≡ number_place bytes k + 12) × IsWrongSum bytes k (eight_at (number_place bytes k + 4) bytes)
+    × ((stated_min bytes ≡ 1) × (stated_pre bytes ≢ 0) ⊎ (stated_min bytes ≢ 1) × (stated_pre bytes < 2 ^ 63))
+Breaks bytes fault.PageOrder place = (k : ℕ) × HasPages bytes k × (place ≡ number_place bytes k + 4) × BreaksAt bytes k fault.PageOrder
+Breaks bytes fault.PageRange place = (k : ℕ) × HasPages bytes k × (place ≡ number_place bytes k + 4) × BreaksAt bytes k fault.PageRange
+Breaks bytes fault.NotWhole place = (k : ℕ) × HasPages bytes k × (place ≡ number_place bytes k + 4) × BreaksAt bytes k fault.NotWhole
+Breaks bytes fault.PostSum place = (k : ℕ) × HasBlock bytes k × (place ≡ number_place bytes k + 12) × IsWrongSum bytes k (be64_at (number_place bytes k + 4) bytes)
 Breaks bytes (fault.FileSum want got) place = (k : ℕ) × HasBlock bytes k × (place ≡ number_place bytes k + 20)
-    × (want ≡ file_sum (take (number_place bytes k + 12) bytes)) × (got ≡ eight_at (number_place bytes k + 12) bytes) × (want ≢ got)
+    × (want ≡ file_sum (take (number_place bytes k + 12) bytes)) × (got ≡ be64_at (number_place bytes k + 12) bytes) × (want ≢ got)
 Breaks bytes fault.Tail place = (k : ℕ) × HasBlock bytes k × (place ≡ number_place bytes k + 21)
 Breaks bytes fault.Short place = (place ≡ length bytes + 1) × ((k : ℕ) → HasBlock bytes k → length bytes < number_place bytes k + 20)
 Breaks bytes fault.NoMemory place = ⊥

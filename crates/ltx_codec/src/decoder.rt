@@ -1,4 +1,4 @@
-ghost use Rattle.std.specs.Prelude.{◌≡◌, ◌≢◌, ◌+◌, ◌≤◌, ℕ, List, [], false, Err, vec_capacity, IfOk, IfErr, IsOk};
+ghost use Rattle.std.specs.Prelude.{◌≡◌, ◌≢◌, ◌+◌, ◌<◌, ◌≤◌, ℕ, List, [], true, false, Err, vec_capacity, IfOk, IfErr, IsOk};
 
 use crate::fault::LtxFault;
 use crate::header::Header;
@@ -47,11 +47,12 @@ pub struct Decoder {
     /// The sum after the transactions of the last file.
     pub(crate) post: u64,
     pub(crate) fault: Option<LtxFault>,
+    ghost sized: { in_block ≡ true → 0 < header.page_size },
     ghost room: { (100 ≤ vec_capacity held) × (limit + 4 ≤ vec_capacity held) × (header.page_size ≤ limit) },
 }
 
 impl Decoder {
-    ghost use Rattle.ltx_codec.specs.Decoding.{HasFed, HasFailed, FeedGives, header_shown, page_shown, post_shown};
+    ghost use Rattle.ltx_codec.specs.Decoding.{HasFed, HasFailed, FeedGives, KeepsShown, header_shown, page_shown, post_shown, page_limit_of};
 
     /// Reserves room for a page of `page_limit` bytes. A file of larger pages is refused by
     /// `PageSize`. No later call takes memory.
@@ -71,6 +72,17 @@ impl Decoder {
             post: 0,
             fault: None,
         })
+    }
+
+    /// Begins again: the decoder is as new, also after a fault, and its page limit stays.
+    pub fn restart(&mut self)
+        ensures fed { HasFed self.new (page_limit_of self.old) [] }
+        ensures same_limit { page_limit_of self.new ≡ page_limit_of self.old }
+    {
+        self.held.clear();
+        self.told = false;
+        self.in_block = false;
+        self.fault = None;
     }
 
     /// The header that was last seen.
@@ -97,11 +109,13 @@ impl Decoder {
     }
 
     /// Takes a piece of the text, up to the end of a part. A fault is answered with the piece in
-    /// which it stands, and again at each later call.
+    /// which it stands, behind the parts that end before it, and again at each later call.
     pub fn feed(&mut self, piece: &[u8]) -> Result<Seen, LtxFault>
         ensures gives { (limit : ℕ) (text : List ℕ) → HasFed self.old limit text → FeedGives self.new limit text piece.now result }
+        ensures shows { KeepsShown self.old self.new result }
         ensures fails { IfErr result (HasFailed self.new) }
         ensures again { (f : LtxFault) → HasFailed self.old f → result ≡ Err f }
+        ensures same_limit { page_limit_of self.new ≡ page_limit_of self.old }
     {
         if let Some(fault) = self.fault {
             return Err(fault);
@@ -120,6 +134,7 @@ impl Decoder {
     fn begin_part(&mut self)
         ensures fed { (limit : ℕ) (text : List ℕ) → HasFed self.old limit text → HasFed self.new limit text }
         ensures untold { self.new.told ≡ false }
+        ensures same { (self.new.header ≡ self.old.header) × (self.new.post ≡ self.old.post) × (self.new.limit ≡ self.old.limit) }
     {
         if !self.told {
             return;
@@ -131,6 +146,8 @@ impl Decoder {
     fn feed_part(&mut self, piece: &[u8]) -> Result<Seen, LtxFault>
         requires { self.old.told ≡ false }
         ensures gives { (limit : ℕ) (text : List ℕ) → HasFed self.old limit text → FeedGives self.new limit text piece.now result }
+        ensures shows { KeepsShown self.old self.new result }
+        ensures same_limit { self.new.limit ≡ self.old.limit }
     {
         if self.in_block {
             self.feed_block(piece)

@@ -4,15 +4,15 @@ ghost use Rattle.page_checksum.specs.Crc.{after_bytes};
 ghost use Rattle.page_checksum.specs.Sums.{page_sum_of};
 ghost use Rattle.lf_sqlite_pages.specs.Change.{PageChange};
 ghost use Rattle.ltx_codec.specs.Block.{IsRead};
-ghost use Rattle.ltx_codec.specs.Decoding.{HasFed, FeedGives};
+ghost use Rattle.ltx_codec.specs.Decoding.{HasFed, FeedGives, KeepsShown};
 ghost use Rattle.ltx_codec.specs.Feeding.{HasNumber};
 
 use crate::decoder::Decoder;
 use crate::decoder_header::fill;
 use crate::fault::LtxFault;
 use crate::numbering::check_number;
-use crate::numbers::u32_at;
 use crate::seen::Seen;
+use lf_base::be32_at;
 use page_checksum::{crc_feed, page_sum};
 
 /// The bytes of a page number.
@@ -24,13 +24,14 @@ impl Decoder {
         requires stage { self.old.in_block ≡ true }
         requires untold { self.old.told ≡ false }
         ensures gives { (limit : ℕ) (text : List ℕ) → HasFed self.old limit text → FeedGives self.new limit text piece.now result }
-        ensures same { self.new.fault ≡ self.old.fault }
+        ensures shows { KeepsShown self.old self.new result }
+        ensures same { (self.new.fault ≡ self.old.fault) × (self.new.limit ≡ self.old.limit) }
     {
         let first = fill(&mut self.held, NUMBER, piece);
         if self.held.len() < NUMBER {
             return Ok(Seen::More);
         }
-        let number = u32_at(self.held.as_slice(), 0);
+        let number = be32_at(self.held.as_slice(), 0);
         if let Err(fault) = check_number(&self.header, self.number, number) {
             return Err(fault);
         }
@@ -46,7 +47,8 @@ impl Decoder {
         requires more { number ≢ 0 }
         requires within { first ≤ length piece.now }
         ensures gives { (limit : ℕ) (text : List ℕ) (change : PageChange) → HasNumber self.old limit (text ++ take first piece.now) change number → IsRead text change (length change.pages) → length self.old.held.items ≤ 4 + self.old.header.page_size → length self.old.held.items < first + (4 + self.old.header.page_size) → FeedGives self.new limit text piece.now (Ok result) }
-        ensures same { self.new.fault ≡ self.old.fault }
+        ensures shows { (self.new.header ≡ self.old.header) × (self.new.post ≡ self.old.post) }
+        ensures same { (self.new.fault ≡ self.old.fault) × (self.new.limit ≡ self.old.limit) }
     {
         let (_, rest) = piece.split_at(first);
         let part = NUMBER + self.header.page_size as usize;
@@ -65,7 +67,7 @@ impl Decoder {
         ensures sums { self.old.header.min ≡ 1 → self.new.sums ≡ bit_xor self.old.sums (page_sum_of number (drop 4 self.old.held.items)) }
         ensures number { (self.new.number ≡ number) × (self.new.told ≡ true) }
         ensures same { (self.new.limit ≡ self.old.limit) × (self.new.fault ≡ self.old.fault) × (self.new.in_block ≡ self.old.in_block) }
-        ensures shown { (self.new.header ≡ self.old.header) × (self.new.held ≡ self.old.held) }
+        ensures shown { (self.new.header ≡ self.old.header) × (self.new.held ≡ self.old.held) × (self.new.post ≡ self.old.post) }
     {
         let held = self.held.as_slice();
         let (_, page) = held.split_at(NUMBER);

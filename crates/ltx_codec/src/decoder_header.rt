@@ -1,13 +1,13 @@
 //! The decoder before the header is whole.
-ghost use Rattle.std.specs.Prelude.{◌≡◌, ◌+◌, ◌-◌, ◌≤◌, ◌++◌, ℕ, List, length, take, min, vec_len, vec_capacity, true, false};
+ghost use Rattle.std.specs.Prelude.{◌≡◌, ◌+◌, ◌-◌, ◌<◌, ◌≤◌, ◌++◌, ℕ, List, length, take, min, vec_len, vec_capacity, true, false};
 ghost use Rattle.page_checksum.specs.Crc.{after_bytes, all_ones};
-ghost use Rattle.ltx_codec.specs.Fields.{four_at, header_in};
-ghost use Rattle.ltx_codec.specs.Decoding.{HasFed, FeedGives};
+ghost use Rattle.ltx_codec.specs.Fields.{stated_page_size, header_in};
+ghost use Rattle.ltx_codec.specs.Decoding.{HasFed, FeedGives, KeepsShown};
 
 use crate::decoder::{Decoder, HEADER};
 use crate::fault::LtxFault;
+use crate::fields::header_at;
 use crate::head_rules::check_within;
-use crate::reading::header_at;
 use crate::seen::Seen;
 use page_checksum::{FIRST_REGISTER, crc_feed};
 
@@ -32,7 +32,8 @@ impl Decoder {
         requires stage { self.old.in_block ≡ false }
         requires untold { self.old.told ≡ false }
         ensures gives { (limit : ℕ) (text : List ℕ) → HasFed self.old limit text → FeedGives self.new limit text piece.now result }
-        ensures same { self.new.fault ≡ self.old.fault }
+        ensures shows { KeepsShown self.old self.new result }
+        ensures same { (self.new.fault ≡ self.old.fault) × (self.new.limit ≡ self.old.limit) }
     {
         let used = fill(&mut self.held, HEADER, piece);
         if let Err(fault) = check_within(self.held.as_slice(), self.limit) {
@@ -48,12 +49,13 @@ impl Decoder {
     /// The header is whole, and pages come.
     fn start_block(&mut self)
         requires whole { 100 ≤ length self.old.held.items }
-        requires within { four_at 8 self.old.held.items ≤ self.old.limit }
+        requires within { stated_page_size self.old.held.items ≤ self.old.limit }
+        requires sized { 0 < stated_page_size self.old.held.items }
         ensures header { self.new.header ≡ header_in self.old.held.items }
         ensures register { self.new.register ≡ after_bytes all_ones self.old.held.items }
         ensures begins { (self.new.number ≡ 0) × (self.new.sums ≡ 0) × (self.new.in_block ≡ true) × (self.new.told ≡ true) }
         ensures held { self.new.held ≡ self.old.held }
-        ensures same { (self.new.limit ≡ self.old.limit) × (self.new.fault ≡ self.old.fault) }
+        ensures same { (self.new.limit ≡ self.old.limit) × (self.new.fault ≡ self.old.fault) × (self.new.post ≡ self.old.post) }
     {
         let bytes = self.held.as_slice();
         self.header = header_at(bytes);

@@ -1,19 +1,21 @@
 //! The decoder in the trailer.
 ghost use Rattle.std.specs.Prelude.{◌≡◌, ◌+◌, ◌<◌, ◌≤◌, ◌↔◌, ℕ, List, ◌++◌, length, take, true, false, IsTrue, OnOk, IfErr};
 ghost use Rattle.lf_sqlite_pages.specs.Change.{PageChange};
-ghost use Rattle.ltx_codec.specs.Fields.{eight_at};
+ghost use Rattle.lf_base.specs.Endian.{be64_at};
 ghost use Rattle.ltx_codec.specs.Format.{sealed as seal_of};
+ghost use Rattle.page_checksum.specs.Sums.{flagged};
+ghost use Rattle.ltx_codec.specs.Places.{IsWrongPost};
 ghost use Rattle.ltx_codec.specs.Block.{IsRead};
-ghost use Rattle.ltx_codec.specs.Decoding.{FeedGives};
-ghost use Rattle.ltx_codec.specs.Feeding.{HasNumber, HasRightSums, BreaksSums, IsWrongPost};
+ghost use Rattle.ltx_codec.specs.Decoding.{FeedGives, KeepsShown};
+ghost use Rattle.ltx_codec.specs.Feeding.{HasNumber, HasRightSums, BreaksSums};
 
 use crate::decoder::Decoder;
 use crate::decoder_header::fill;
 use crate::fault::LtxFault;
 use crate::header::Header;
-use crate::numbers::u64_at;
 use crate::rules::is_flagged;
 use crate::seen::Seen;
+use lf_base::be64_at;
 use page_checksum::crc_feed;
 
 /// Bit 63, which every sum carries.
@@ -31,7 +33,7 @@ fn sealed(register: u64) -> u64
 
 /// Whether the sum after the transactions breaks a rule, where this is the XOR of the pages' sums.
 fn is_wrong_post(header: &Header, sums: u64, post: u64) -> bool
-    ensures { IsTrue result ↔ IsWrongPost header.now sums post }
+    ensures { IsTrue result ↔ IsWrongPost header.now (flagged sums) post }
 {
     if !is_flagged(post) || header.commit == 0 && post != FLAG {
         return true;
@@ -47,7 +49,7 @@ fn check_sums(header: &Header, sums: u64, register: u64, held: &[u8]) -> Result<
     if held.len() < 12 {
         return Ok(());
     }
-    if is_wrong_post(header, sums, u64_at(held, 4)) {
+    if is_wrong_post(header, sums, be64_at(held, 4)) {
         return Err(LtxFault::PostSum);
     }
     if held.len() < TRAILER {
@@ -55,7 +57,7 @@ fn check_sums(header: &Header, sums: u64, register: u64, held: &[u8]) -> Result<
     }
     let (summed, _) = held.split_at(12);
     let want = sealed(crc_feed(register, summed));
-    let got = u64_at(held, 12);
+    let got = be64_at(held, 12);
     if want != got {
         return Err(LtxFault::FileSum { want, got });
     }
@@ -68,7 +70,8 @@ impl Decoder {
         requires untold { self.old.told ≡ false }
         requires within { first ≤ length piece.now }
         ensures gives { (limit : ℕ) (text : List ℕ) (change : PageChange) → HasNumber self.old limit (text ++ take first piece.now) change 0 → IsRead text change (length change.pages) → length self.old.held.items ≤ 20 → length self.old.held.items < first + 20 → FeedGives self.new limit text piece.now result }
-        ensures same { self.new.fault ≡ self.old.fault }
+        ensures shows { KeepsShown self.old self.new result }
+        ensures same { (self.new.fault ≡ self.old.fault) × (self.new.limit ≡ self.old.limit) }
     {
         let (_, rest) = piece.split_at(first);
         let used = first + fill(&mut self.held, TRAILER, rest);
@@ -86,11 +89,11 @@ impl Decoder {
     /// The file is whole, and another may begin.
     fn end_file(&mut self)
         requires { 20 ≤ length self.old.held.items }
-        ensures post { self.new.post ≡ eight_at 4 self.old.held.items }
+        ensures post { self.new.post ≡ be64_at 4 self.old.held.items }
         ensures told { (self.new.told ≡ true) × (self.new.in_block ≡ false) }
         ensures same { (self.new.limit ≡ self.old.limit) × (self.new.fault ≡ self.old.fault) × (self.new.header ≡ self.old.header) }
     {
-        self.post = u64_at(self.held.as_slice(), 4);
+        self.post = be64_at(self.held.as_slice(), 4);
         self.told = true;
         self.in_block = false;
     }

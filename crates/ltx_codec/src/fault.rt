@@ -1,4 +1,5 @@
 ghost use Rattle.std.specs.Prelude.{◌≡◌};
+ghost use Rattle.ltx_codec.specs.FaultNumber.{number_of};
 ghost use Rattle.ltx_codec.specs.declared.fault.LtxFault.TheVariants as variant;
 
 use lf_base::NoMemory;
@@ -22,7 +23,7 @@ pub enum LtxFault {
     /// The minimum is 0, or the maximum is less than the minimum.
     #[error("the transaction numbers are out of order")]
     Txid,
-    /// The database would be past 2^30 bytes.
+    /// A file of all pages of the database would be past 2^31 bytes.
     #[error("the database is past its limit")]
     Commit,
     /// It is not 0 in a snapshot, or lacks bit 63 in another file.
@@ -31,10 +32,10 @@ pub enum LtxFault {
     /// A page number is not above the one before.
     #[error("a page number is not above the one before")]
     PageOrder,
-    /// A page number is past the number of pages.
-    #[error("a page number is past the number of pages")]
+    /// A page number is past the number of pages, or is that of the lock page, which holds no data.
+    #[error("a page number is past the number of pages, or is that of the lock page")]
     PageRange,
-    /// A snapshot leaves out a page.
+    /// A snapshot leaves out a data page.
     #[error("a snapshot leaves out a page")]
     NotWhole,
     /// It lacks bit 63, or is not the sum of the snapshot's pages, or of no pages.
@@ -48,6 +49,31 @@ pub enum LtxFault {
     Tail,
     #[error("out of memory")]
     NoMemory,
+}
+
+impl LtxFault {
+    /// The fault's number, 1 to 15 in the order of the variants.
+    pub fn number(&self) -> u8
+        ensures { result ≡ number_of self.now }
+    {
+        match self {
+            LtxFault::Short => 1,
+            LtxFault::Magic => 2,
+            LtxFault::Compressed => 3,
+            LtxFault::UnknownFlags => 4,
+            LtxFault::PageSize => 5,
+            LtxFault::Txid => 6,
+            LtxFault::Commit => 7,
+            LtxFault::PreSum => 8,
+            LtxFault::PageOrder => 9,
+            LtxFault::PageRange => 10,
+            LtxFault::NotWhole => 11,
+            LtxFault::PostSum => 12,
+            LtxFault::FileSum { .. } => 13,
+            LtxFault::Tail => 14,
+            LtxFault::NoMemory => 15,
+        }
+    }
 }
 
 impl From<NoMemory> for LtxFault {

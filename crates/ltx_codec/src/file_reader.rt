@@ -1,5 +1,5 @@
 //! Files whose texts come in pieces, one after another.
-ghost use Rattle.std.specs.Prelude.{◌≡◌, ◌↔◌, List, ℕ, [], None, Err, IsTrue, IfOk, IfErr, OnOk};
+ghost use Rattle.std.specs.Prelude.{◌≡◌, ◌↔◌, false, List, ℕ, [], None, Err, IsTrue, IfOk, IfErr, OnOk};
 ghost use Rattle.ltx_codec.specs.Places.{IsEarliest};
 ghost use Rattle.ltx_codec.specs.WholePages.{HasTaken, IsBetween, IsTaking};
 
@@ -97,7 +97,8 @@ impl FileReader {
     pub fn is_between(&self) -> bool
         ensures between { (text : List ℕ) → HasBegun self.now text → IsTrue result ↔ (text ≡ []) }
         ensures short { (text : List ℕ) → HasBegun self.now text → IsEarliest text LtxFault.Short }
+        ensures stopped { (f : LtxFault) → HasStopped self.now f → result ≡ false }
     {
-        self.decoder.finish().is_ok()
+        self.fault.is_none() && self.decoder.finish().is_ok()
     }
 }

@@ -3,11 +3,12 @@
 ghost use Rattle.std.specs.Prelude.{◌≤◌, length, OnOk, IfErr};
 ghost use Rattle.ltx_codec.specs.HeaderRules.{HasSoundFields, IsOfStart};
 ghost use Rattle.ltx_codec.specs.Decoding.{IsWithin, IsRefusedWithin};
-ghost use Rattle.ltx_codec.specs.Places.{IsEarliest, IsFound, StandsInside};
+ghost use Rattle.ltx_codec.specs.Places.{IsEarliest, IsFound};
 
 use crate::fault::LtxFault;
-use crate::numbers::{u32_at, u64_at};
-use crate::rules::{is_database_size, is_flagged};
+use crate::fields::{COMMIT, FLAGS, MAX, MIN, PAGE_SIZE, PRE};
+use crate::rules::{is_within_limit, is_flagged};
+use lf_base::{be32_at, be64_at};
 use lf_sqlite_pages::is_page_size;
 
 const MAGIC: [u8; 4] = *b"LTX1";
@@ -15,7 +16,6 @@ const MAGIC: [u8; 4] = *b"LTX1";
 fn check_magic(bytes: &[u8]) -> Result<(), LtxFault>
     ensures ok { OnOk result (HasSoundFields bytes.now 7) }
     ensures fault { IfErr result (IsEarliest bytes.now) }
-    ensures inside { IfErr result StandsInside }
     ensures found { IfErr result IsFound }
     ensures start { IfErr result IsOfStart }
 {
@@ -34,14 +34,13 @@ fn check_flags(bytes: &[u8]) -> Result<(), LtxFault>
     requires { HasSoundFields bytes.now 7 }
     ensures ok { OnOk result (HasSoundFields bytes.now 11) }
     ensures fault { IfErr result (IsEarliest bytes.now) }
-    ensures inside { IfErr result StandsInside }
     ensures found { IfErr result IsFound }
     ensures start { IfErr result IsOfStart }
 {
     if bytes.len() < 8 {
         return Ok(());
     }
-    match u32_at(bytes, 4) {
+    match be32_at(bytes, FLAGS) {
         0 => Ok(()),
         flags if flags % 2 == 1 => Err(LtxFault::Compressed),
         _ => Err(LtxFault::UnknownFlags),
@@ -52,14 +51,13 @@ fn check_page_size(bytes: &[u8]) -> Result<(), LtxFault>
     requires { HasSoundFields bytes.now 11 }
     ensures ok { OnOk result (HasSoundFields bytes.now 15) }
     ensures fault { IfErr result (IsEarliest bytes.now) }
-    ensures inside { IfErr result StandsInside }
     ensures found { IfErr result IsFound }
     ensures start { IfErr result IsOfStart }
 {
     if bytes.len() < 12 {
         return Ok(());
     }
-    if is_page_size(u32_at(bytes, 8)) {
+    if is_page_size(be32_at(bytes, PAGE_SIZE)) {
         Ok(())
     } else {
         Err(LtxFault::PageSize)
@@ -70,13 +68,12 @@ fn check_commit(bytes: &[u8]) -> Result<(), LtxFault>
     requires { HasSoundFields bytes.now 15 }
     ensures ok { OnOk result (HasSoundFields bytes.now 23) }
     ensures fault { IfErr result (IsEarliest bytes.now) }
-    ensures inside { IfErr result StandsInside }
     ensures found { IfErr result IsFound }
 {
     if bytes.len() < 16 {
         return Ok(());
     }
-    if is_database_size(u32_at(bytes, 8), u32_at(bytes, 12)) {
+    if is_within_limit(be32_at(bytes, PAGE_SIZE), be32_at(bytes, COMMIT)) {
         Ok(())
     } else {
         Err(LtxFault::Commit)
@@ -88,13 +85,12 @@ fn check_min(bytes: &[u8]) -> Result<(), LtxFault>
     requires { HasSoundFields bytes.now 23 }
     ensures ok { OnOk result (HasSoundFields bytes.now 31) }
     ensures fault { IfErr result (IsEarliest bytes.now) }
-    ensures inside { IfErr result StandsInside }
     ensures found { IfErr result IsFound }
 {
     if bytes.len() < 24 {
         return Ok(());
     }
-    if u64_at(bytes, 16) > 0 {
+    if be64_at(bytes, MIN) > 0 {
         Ok(())
     } else {
         Err(LtxFault::Txid)
@@ -106,13 +102,12 @@ fn check_max(bytes: &[u8]) -> Result<(), LtxFault>
     requires { HasSoundFields bytes.now 31 }
     ensures ok { OnOk result (HasSoundFields bytes.now 47) }
     ensures fault { IfErr result (IsEarliest bytes.now) }
-    ensures inside { IfErr result StandsInside }
     ensures found { IfErr result IsFound }
 {
     if bytes.len() < 32 {
         return Ok(());
     }
-    if u64_at(bytes, 16) <= u64_at(bytes, 24) {
+    if be64_at(bytes, MIN) <= be64_at(bytes, MAX) {
         Ok(())
     } else {
         Err(LtxFault::Txid)
@@ -123,14 +118,13 @@ fn check_pre(bytes: &[u8]) -> Result<(), LtxFault>
     requires { HasSoundFields bytes.now 47 }
     ensures ok { OnOk result (HasSoundFields bytes.now 103) }
     ensures fault { IfErr result (IsEarliest bytes.now) }
-    ensures inside { IfErr result StandsInside }
     ensures found { IfErr result IsFound }
 {
     if bytes.len() < 48 {
         return Ok(());
     }
-    let pre = u64_at(bytes, 40);
-    let meets = if u64_at(bytes, 16) == 1 {
+    let pre = be64_at(bytes, PRE);
+    let meets = if be64_at(bytes, MIN) == 1 {
         pre == 0
     } else {
         is_flagged(pre)
@@ -142,7 +136,6 @@ fn check_pre(bytes: &[u8]) -> Result<(), LtxFault>
 fn check_start(bytes: &[u8]) -> Result<(), LtxFault>
     ensures ok { OnOk result (HasSoundFields bytes.now 15) }
     ensures fault { IfErr result (IsEarliest bytes.now) }
-    ensures inside { IfErr result StandsInside }
     ensures found { IfErr result IsFound }
     ensures start { IfErr result IsOfStart }
 {
@@ -156,7 +149,6 @@ fn check_rest(bytes: &[u8]) -> Result<(), LtxFault>
     requires { HasSoundFields bytes.now 15 }
     ensures ok { OnOk result (HasSoundFields bytes.now 103) }
     ensures fault { IfErr result (IsEarliest bytes.now) }
-    ensures inside { IfErr result StandsInside }
     ensures found { IfErr result IsFound }
 {
     check_commit(bytes)?;
@@ -165,17 +157,8 @@ fn check_rest(bytes: &[u8]) -> Result<(), LtxFault>
     check_pre(bytes)
 }
 
-/// The first rule that the header's fields break, of those that are there.
-pub fn check_header(bytes: &[u8]) -> Result<(), LtxFault>
-    ensures ok { OnOk result (HasSoundFields bytes.now 103) }
-    ensures fault { IfErr result (IsEarliest bytes.now) }
-    ensures inside { IfErr result StandsInside }
-{
-    check_start(bytes)?;
-    check_rest(bytes)
-}
-
-/// The same, where a page size past the limit is refused too.
+/// The first rule that the header's fields break, of those that are there. A page size past the
+/// limit is refused too.
 #[tactic(auto, using(crate::proofs::HeaderLemmas::start_sound, crate::proofs::HeaderLemmas::start_refused, crate::proofs::HeaderLemmas::rest_refused))]
 pub fn check_within(bytes: &[u8], limit: u32) -> Result<(), LtxFault>
     ensures ok { OnOk result (HasSoundFields bytes.now 103) }
@@ -185,7 +168,7 @@ pub fn check_within(bytes: &[u8], limit: u32) -> Result<(), LtxFault>
     if let Err(fault) = check_start(bytes) {
         return Err(fault);
     }
-    if bytes.len() >= 12 && u32_at(bytes, 8) > limit {
+    if bytes.len() >= 12 && be32_at(bytes, PAGE_SIZE) > limit {
         return Err(LtxFault::PageSize);
     }
     if let Err(fault) = check_rest(bytes) {

@@ -5,24 +5,22 @@
 #![tactic(auto)]
 
 mod appending;
-mod block;
 mod decoder;
 mod decoder_block;
 mod decoder_header;
 mod decoder_trailer;
 mod encoder;
 mod fault;
+mod fields;
 mod file;
 mod file_reader;
 mod head_rules;
 mod header;
 mod laws;
 mod numbering;
-mod numbers;
 mod reading;
 mod rules;
 mod seen;
-mod trailer;
 mod whole_pages;
 mod writing;
 

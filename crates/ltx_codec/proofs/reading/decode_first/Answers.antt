@@ -1,43 +1,52 @@
-use Rattle.std.proofs.Common.{◌≡◌, ℕ, List, ◌+◌, ◌<◌, length, take, arith, sym, ap, subst, ◌∙◌}
-use Rattle.lf_sqlite_pages.specs.Change.{IsChange}
-use Rattle.ltx_codec.specs.Fields.{header_in, eight_at}
+use Rattle.std.proofs.Common.{◌≡◌, ℕ, List, [], ◌∷◌, ◌++◌, ◌+◌, ◌-◌, ◌<◌, ◌≤◌, Option, Some, Ok, length, take, drop, arith, sym, subst, inl, inr}
+use Rattle.std.proofs.lemmas.List.{take-append-drop, length-drop, length-take}
+use Rattle.ltx_codec.specs.Fields.{AreBytes}
 use Rattle.ltx_codec.specs.Format.{IsLtx}
-use Rattle.ltx_codec.specs.Places.{number_place, IsEarliest, IsWrongSum}
-use Rattle.ltx_codec.specs.Trailer.{IsAtEnd, HasTrailer}
+use Rattle.ltx_codec.specs.Places.{IsEarliest, IsRefused, StandsInside}
+use Rattle.ltx_codec.specs.Reading.{Reads, IsRefusedAt}
+use Rattle.ltx_codec.specs.declared.file_reader.FileReader.{FileReader}
+use Rattle.ltx_codec.specs.declared.file.Ltx.{Ltx}
+use Rattle.ltx_codec.specs.declared.fault.LtxFault.{LtxFault}
 use Rattle.ltx_codec.specs.declared.fault.LtxFault.TheVariants as fault
-use Rattle.ltx_codec.specs.declared.header.Header.{Header}
-use Rattle.ltx_codec.specs.declared.block.BlockReader.{BlockReader}
-use Rattle.ltx_codec.proofs.BlockLemmas.{tail_first}
-use Rattle.ltx_codec.proofs.DecodeLemmas.{is_ltx}
+use Rattle.ltx_codec.proofs.NumberLemmas.{found_inside}
+use Rattle.ltx_codec.proofs.SoundLemmas.{behind_file}
 use Rattle.ltx_codec.proofs.reading.decode_first.Goals as goal
 
--- the reader at the end of the block, over the bytes as they were handed in
-at_end : (reader : BlockReader) (bytes : List ℕ) (header : Header) (sum : ℕ) → IsAtEnd reader → reader.bytes.now ≡ bytes → header ≡ header_in bytes
-    → HasTrailer reader.bytes.now (length reader.change.pages) sum → IsChange reader.change
-    → IsLtx (take (reader.place + 20) bytes) (record { header = header; change = reader.change; post = sum })
-at_end reader bytes header sum end same header-is trailer valid =
-    let k = length reader.change.pages in
-    let place : reader.place + 20 ≡ number_place reader.bytes.now k + 20 = ap (λ (n : ℕ). n + 20) end.reading.place in
-    let found = is_ltx reader.bytes.now reader.change sum end.reading.read end.sound end.ends trailer valid in
-    let head : header ≡ header_in reader.bytes.now = header-is ∙ ap header_in (sym same) in
-    rw (← same, place, head) found
+-- bytes that go on behind a file are its tail
+goes_on : (bytes : List ℕ) (used : ℕ) (file : Ltx) → AreBytes bytes → IsLtx (take used bytes) file → used < length bytes → IsEarliest bytes fault.Tail
+goes_on bytes used file fits is less =
+    let whole = take-append-drop used bytes in
+    subst (λ (l : List ℕ). IsEarliest l fault.Tail) whole
+    (behind_file (take used bytes) (drop used bytes) file (subst (λ (l : List ℕ). AreBytes l) (sym whole) fits) is (omega (arith, less, length-drop used bytes)))
 
-behind_end : (reader : BlockReader) (bytes : List ℕ) (sum : ℕ) → IsAtEnd reader → reader.bytes.now ≡ bytes
-    → HasTrailer reader.bytes.now (length reader.change.pages) sum → reader.place + 20 < length bytes → IsEarliest bytes fault.Tail
-behind_end reader bytes sum end same trailer more =
-    let k = length reader.change.pages in
-    let read = end.reading.read in
-    let place = end.reading.place in
-    let len : length reader.bytes.now ≡ length bytes = ap length same in
-    let right : IsWrongSum reader.bytes.now k (eight_at (number_place reader.bytes.now k + 4) reader.bytes.now) → ⊥ =
-    subst (λ (s : ℕ). IsWrongSum reader.bytes.now k s → ⊥) trailer.sum_is trailer.right in
-    subst (λ (b : List ℕ). IsEarliest b fault.Tail) same
-    (tail_first reader.bytes.now k read.pages read.sound end.sound end.ends right (omega (arith, place, len, more)) trailer.file_sum_is)
+refused_of : (bytes : List ℕ) (f : LtxFault) → IsRefusedAt bytes f → IsRefused bytes f
+refused_of bytes f refused = elim refused [ inl memory ↦ inl memory | inr found ↦ inr found.1 ]
 
-pub returns-clause-ok : goal.returns-clause-ok
-returns-clause-ok c = at_end c.in_ok-reader.reader c.args.bytes.now c.in_ok-header.header c.in_ok-post.post c.in_ok-reader.ensures.ok c.in_ok-reader.ensures.same.0
-    c.in_ok-header.ensures.ok c.in_ok-post.ensures.ok c.in_ok-post.ensures.valid
+inside_of : (bytes : List ℕ) (f : LtxFault) → IsRefusedAt bytes f → StandsInside f
+inside_of bytes f refused = elim refused [
+  | inl memory ↦ subst (λ (g : LtxFault). StandsInside g) (sym memory) tt
+  | inr found ↦ found_inside f found.0
+]
 
-pub returns-clause-behind : goal.returns-clause-behind
-returns-clause-behind c = λ more. behind_end c.in_ok-reader.reader c.args.bytes.now c.in_ok-post.post c.in_ok-reader.ensures.ok c.in_ok-reader.ensures.same.0
-    c.in_ok-post.ensures.ok more
+-- what the reader gives of a file that is whole
+gives_file : (reader : FileReader) (bytes : List ℕ) (answer : Option (Ltx × ℕ)) (first : Ltx × ℕ) → answer ≡ Some first → Reads reader [] bytes (Ok answer) →
+    (first.1 ≤ length bytes) × IsLtx (take first.1 bytes) first.0
+gives_file reader bytes answer first is gives =
+    let file : Reads reader [] bytes (Ok (Some first)) = subst (λ (a : Option (Ltx × ℕ)). Reads reader [] bytes (Ok a)) is gives in
+    (file.1, file.2)
+
+pub returns-in-Ok-Some-clause-ok : goal.returns-in-Ok-Some-clause-ok
+returns-in-Ok-Some-clause-ok c = (gives_file c.feed.new.self c.args.bytes.now c.in-Ok-Some.field-0 c.in-Ok-Some.first c.in-Ok-Some.field-0-is (c.in-Ok-Some.ensures.gives [] c.in_ok-reader.ensures)).1
+
+pub returns-in-Ok-Some-clause-within : goal.returns-in-Ok-Some-clause-within
+returns-in-Ok-Some-clause-within c = (gives_file c.feed.new.self c.args.bytes.now c.in-Ok-Some.field-0 c.in-Ok-Some.first c.in-Ok-Some.field-0-is (c.in-Ok-Some.ensures.gives [] c.in_ok-reader.ensures)).0
+
+pub returns-in-Ok-Some-clause-behind : goal.returns-in-Ok-Some-clause-behind
+returns-in-Ok-Some-clause-behind c = goes_on c.args.bytes.now c.in-Ok-Some.first.1 c.in-Ok-Some.first.0 (λ i. omega (arith, c.type_inv.bytes i))
+    (gives_file c.feed.new.self c.args.bytes.now c.in-Ok-Some.field-0 c.in-Ok-Some.first c.in-Ok-Some.field-0-is (c.in-Ok-Some.ensures.gives [] c.in_ok-reader.ensures)).1
+
+pub returns-clause-fault : goal.returns-clause-fault
+returns-clause-fault c = refused_of c.args.bytes.now c.in-Err.fault (c.in-Err.ensures.gives [] c.in_ok-reader.ensures)
+
+pub returns-clause-inside : goal.returns-clause-inside
+returns-clause-inside c = inside_of c.args.bytes.now c.in-Err.fault (c.in-Err.ensures.gives [] c.in_ok-reader.ensures)

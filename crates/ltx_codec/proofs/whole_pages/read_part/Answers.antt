@@ -5,7 +5,7 @@ use denote.Struct.Props.{props}
 use Rattle.std.proofs.lemmas.Result.{err_from_is_err_and}
 use Rattle.lf_sqlite_pages.specs.PageSize.{IsPageSize}
 use Rattle.lf_sqlite_pages.specs.Change.{PageChange, empty_change, with_page}
-use Rattle.ltx_codec.specs.Fields.{AreBytes, four_at}
+use Rattle.ltx_codec.specs.Fields.{AreBytes, stated_page_size}
 use Rattle.ltx_codec.specs.Decoding.{FeedGives}
 use Rattle.ltx_codec.specs.WholePages.{HasTaken, largest_page}
 use Rattle.ltx_codec.specs.Reading.{ReadsPart, CountsSome}
@@ -45,12 +45,12 @@ part_or_file old new change text piece (seen.Whole used) taken fits gives no-hea
 pub returns-in_err-seen-clause-gives : goal.returns-in_err-seen-clause-gives
 returns-in_err-seen-clause-gives c text taken =
     let p = err_from_is_err_and c.from_residual.result c.from_residual.ensures.1 in
-    rw (p.1, p.2) (inr (refused_at (text ++ c.args.piece.now) c.in_err-seen.field-0.0 (c.in_err-seen.ensures.gives largest_page text taken.fed)))
+    rw (p.1, p.2) (inr (refused_at (text ++ c.args.piece.now) c.in_err-seen.field-0.0 (c.in_err-seen.ensures.gives largest_page text taken.fed).0))
 
 pub new-requires : goal.new-requires
 new-requires c = ∥∥₁_elim c.requires (search props) (λ x.
     let gives = subst (λ (s : Seen). FeedGives c.feed.new.self largest_page x.0 c.args.piece.now (Ok s)) c.in-Header.is (c.in_ok-seen.ensures.gives largest_page x.0 x.1.fed) in
-    let size : c.header-header.result.page_size ≡ four_at 8 (x.0 ++ take c.in-Header.used c.args.piece.now) = ap (λ (h : Header). h.page_size) (c.header-header.ensures ∙ gives.3.shown) in
+    let size : c.header-header.result.page_size ≡ stated_page_size (x.0 ++ take c.in-Header.used c.args.piece.now) = ap (λ (h : Header). h.page_size) (c.header-header.ensures ∙ gives.3.shown) in
     subst (λ (n : ℕ). IsPageSize n) (sym size) (shown_size c.feed.new.self (x.0 ++ take c.in-Header.used c.args.piece.now) gives.3))
 
 pub returns-in-Header-clause-gives : goal.returns-in-Header-clause-gives
@@ -74,6 +74,11 @@ pub push-requires-clause-within : goal.push-requires-clause-within
 push-requires-clause-within c = ∥∥₁_elim c.requires (search props) (λ x.
     let gives = subst (λ (s : Seen). FeedGives c.feed.new.self largest_page x.0 c.args.piece.now (Ok s)) c.in-Page.is (c.in_ok-seen.ensures.gives largest_page x.0 x.1.fed) in
     (page_fits c.args.decoder.now c.feed.new.self c.args.change.now x.0 c.args.piece.now c.in-Page.used c.in-Page.number x.1 gives.0 gives.1 gives.2 gives.3).within)
+
+pub push-requires-clause-holds_data : goal.push-requires-clause-holds_data
+push-requires-clause-holds_data c lock = ∥∥₁_elim c.requires (λ x y. absurd x) (λ x.
+    let gives = subst (λ (s : Seen). FeedGives c.feed.new.self largest_page x.0 c.args.piece.now (Ok s)) c.in-Page.is (c.in_ok-seen.ensures.gives largest_page x.0 x.1.fed) in
+    (page_fits c.args.decoder.now c.feed.new.self c.args.change.now x.0 c.args.piece.now c.in-Page.used c.in-Page.number x.1 gives.0 gives.1 gives.2 gives.3).holds_data lock)
 
 pub push-requires-clause-whole : goal.push-requires-clause-whole
 push-requires-clause-whole c = ∥∥₁_elim c.requires (search props) (λ x.

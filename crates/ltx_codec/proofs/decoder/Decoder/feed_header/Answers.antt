@@ -2,11 +2,12 @@ use Rattle.std.proofs.Common.{◌≡◌, ◌<◌, ◌≤◌, ◌+◌, ◌++◌, 
 use Rattle.std.proofs.lemmas.List.{length-take, take_all}
 use Rattle.page_checksum.specs.Crc.{after_bytes, all_ones}
 use Rattle.ltx_codec.specs.HeaderRules.{HasSoundFields}
-use Rattle.ltx_codec.specs.Fields.{header_in}
+use Rattle.ltx_codec.specs.Fields.{stated_page_size, header_in}
 use Rattle.ltx_codec.specs.Decoding.{IsRefusedWithin, IsWithin}
-use Rattle.ltx_codec.proofs.FeedLemmas.{held_is, header_short, refused_piece, header_goes_on, header_ends}
+use Rattle.ltx_codec.proofs.FeedLemmas.{held_is, header_short, refused_first, header_goes_on, header_ends}
 use Rattle.ltx_codec.proofs.PartLemmas.{none_in_header}
 use Rattle.ltx_codec.proofs.TextLemmas.{AreBytes-take}
+use Rattle.lf_sqlite_pages.proofs.LockPages.{page_size-positive}
 use Rattle.ltx_codec.proofs.decoder.Decoder.feed_header.Goals as goal
 
 pub returns-in-Err-clause-gives : goal.returns-in-Err-clause-gives
@@ -14,7 +15,20 @@ returns-in-Err-clause-gives c limit text fed =
     let held : c.as_slice.result.now ≡ text ++ take c.fill-used.result c.args.piece.now =
     c.as_slice.ensures.value ∙ c.fill-used.ensures.items ∙ ap (λ (l : List ℕ). l ++ take c.fill-used.result c.args.piece.now) (held_is c.args.self.now limit text fed c.requires.stage c.requires.untold) in
     let refused : IsRefusedWithin limit c.as_slice.result.now c.in-Err.fault = subst (λ (n : ℕ). IsRefusedWithin n c.as_slice.result.now c.in-Err.fault) fed.limit_is c.in-Err.ensures.fault in
-    refused_piece limit text c.args.piece.now c.fill-used.result c.in-Err.fault (subst (λ (l : List ℕ). IsRefusedWithin limit l c.in-Err.fault) held refused)
+    let grown = length-append c.args.self.now.held.items (take c.fill-used.result c.args.piece.now) in
+    refused_first limit text c.args.piece.now c.fill-used.result c.in-Err.fault (omega (arith, c.fill-used.ensures.count))
+    (none_in_header text c.args.piece.now c.fill-used.result (omega (
+      arith,
+      c.fill-used.ensures.count,
+      c.fill-used.ensures.size,
+      c.fill-used.ensures.len,
+      ap length c.fill-used.ensures.items,
+      grown,
+      length-take c.fill-used.result c.args.piece.now,
+      header_short c.args.self.now limit text fed c.requires.stage,
+      ap length (held_is c.args.self.now limit text fed c.requires.stage c.requires.untold),
+    )))
+    (subst (λ (l : List ℕ). IsRefusedWithin limit l c.in-Err.fault) held refused)
 
 pub returns-clause-gives : goal.returns-clause-gives
 returns-clause-gives c limit text fed =
@@ -62,3 +76,9 @@ returns-then-len-lt-HEADER-clause-gives c limit text fed =
           (subst (λ (l : List ℕ). IsWithin c.args.self.now.limit l) c.as_slice.ensures.value c.in_default.ensures.within) few,
       none_in_header text piece (length piece + 1) (omega (arith, few, grown)),
     )
+
+pub start_block-requires-clause-sized : goal.start_block-requires-clause-sized
+start_block-requires-clause-sized c =
+    let sound : HasSoundFields c.fill-used.new.held.items 103 = subst (λ (l : List ℕ). HasSoundFields l 103) c.as_slice.ensures.value c.in_default.ensures.ok in
+    page_size-positive (stated_page_size c.fill-used.new.held.items)
+    (sound.page_size (record { within = omega arith; there = omega (arith, c.fill-used.ensures.size, c.len.ensures, c.if-len-lt-HEADER.false) }))

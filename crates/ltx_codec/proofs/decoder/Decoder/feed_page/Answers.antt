@@ -64,6 +64,7 @@ returns-clause-gives c limit text change has read part less =
       register = old.register;
       post = old.post;
       fault = old.fault;
+      sized = old.sized;
       room = (omega (arith, old.room.0, c.fill.ensures.capacity), omega (arith, old.room.1, c.fill.ensures.capacity), old.room.2);
     } in
     let grows : Grows old mid more = record {

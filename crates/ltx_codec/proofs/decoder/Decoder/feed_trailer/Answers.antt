@@ -4,7 +4,7 @@ use Rattle.ltx_codec.specs.Decoding.{ShowsFile, IsRefusedWithin}
 use Rattle.ltx_codec.specs.Feeding.{HasRightSums, BreaksSums}
 use Rattle.ltx_codec.specs.declared.decoder.Decoder.{Decoder}
 use Rattle.ltx_codec.proofs.TextLemmas.{AreBytes-take, AreBytes-drop}
-use Rattle.ltx_codec.proofs.FeedLemmas.{refused_piece}
+use Rattle.ltx_codec.proofs.FeedLemmas.{refused_first}
 use Rattle.ltx_codec.proofs.PieceLemmas.{Grows, two_taken}
 use Rattle.ltx_codec.proofs.PartLemmas.{none_in_block, end_stays}
 use Rattle.ltx_codec.proofs.PageLemmas.{number_longer}
@@ -28,6 +28,7 @@ returns-in-Err-clause-gives c limit text change has read part less =
       register = old.register;
       post = old.post;
       fault = old.fault;
+      sized = old.sized;
       room = (omega (arith, old.room.0, c.fill.ensures.capacity), omega (arith, old.room.1, c.fill.ensures.capacity), old.room.2);
     } in
     let grows : Grows old mid more = record {
@@ -45,7 +46,10 @@ returns-in-Err-clause-gives c limit text change has read part less =
     let breaks : BreaksSums old.header old.sums old.register c.fill.new.held.items c.in-Err.fault =
     subst (λ (l : List ℕ). BreaksSums old.header old.sums old.register l c.in-Err.fault) c.as_slice-held.ensures.value c.in-Err.ensures.fault in
     let refused = trailer_refused mid limit ((text ++ take first piece) ++ more) change longer c.requires.untold c.in-Err.fault breaks in
-    refused_piece limit text piece (first + c.fill.result) c.in-Err.fault
+    let used : first + c.fill.result ≤ length piece = omega (arith, c.fill.ensures.count, c.split_at.ensures.back_len) in
+    refused_first limit text piece (first + c.fill.result) c.in-Err.fault used
+    (none_in_block text piece change (first + c.fill.result) (first + c.fill.result) read (λ i. omega (arith, c.type_inv.piece i)) used (omega arith)
+    (inr (end_stays old limit text piece first change has c.fill.result)))
     (subst (λ (t : List ℕ). IsRefusedWithin limit t c.in-Err.fault) (sym (two_taken text piece first c.fill.result)) refused)
 
 pub returns-then-held-lt-TRAILER-clause-gives : goal.returns-then-held-lt-TRAILER-clause-gives
@@ -92,6 +96,7 @@ returns-clause-gives c limit text change has read part less =
       register = old.register;
       post = old.post;
       fault = old.fault;
+      sized = old.sized;
       room = (omega (arith, old.room.0, c.fill.ensures.capacity), omega (arith, old.room.1, c.fill.ensures.capacity), old.room.2);
     } in
     let grows : Grows old mid more = record {

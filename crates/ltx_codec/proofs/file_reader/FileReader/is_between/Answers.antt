@@ -14,8 +14,8 @@ ends-between (Ok done) (byte ∷ text) whole short = let e : Ok done ≡ Err fau
 ends-between (Err f) text whole short = (λ is. cc, λ e. let no : IsTrue false = whole e in cc)
 
 -- src/file_reader.rt:48:5
-pub returns-clause-between : goal.returns-clause-between
-returns-clause-between c = λ text begun.
+pub returns-then-is_none-clause-between : goal.returns-then-is_none-clause-between
+returns-then-is_none-clause-between c = λ text begun.
     rw c.is_ok.ensures.value
     (ends-between c.finish.result text
     (λ none. c.finish.ensures.whole largest_page (let P : List ℕ → Type 0 = λ l. HasFed c.args.self.now.decoder largest_page l in subst P none begun.fed))

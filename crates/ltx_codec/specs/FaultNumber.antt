@@ -1,0 +1,21 @@
+-- The numbers of the faults, as the format's description lists them.
+use Rattle.std.specs.Prelude.{ℕ}
+use Rattle.ltx_codec.specs.declared.fault.LtxFault.{LtxFault}
+use Rattle.ltx_codec.specs.declared.fault.LtxFault.TheVariants as fault
+
+abbrev pub number_of : LtxFault → ℕ
+number_of fault.Short = 1
+number_of fault.Magic = 2
+number_of fault.Compressed = 3
+number_of fault.UnknownFlags = 4
+number_of fault.PageSize = 5
+number_of fault.Txid = 6
+number_of fault.Commit = 7
+number_of fault.PreSum = 8
+number_of fault.PageOrder = 9
+number_of fault.PageRange = 10
+number_of fault.NotWhole = 11
+number_of fault.PostSum = 12
+number_of (fault.FileSum want got) = 13
+number_of fault.Tail = 14
+number_of fault.NoMemory = 15
