@@ -2,3 +2,4 @@ pub mod HexLemmas
 pub mod FileLemmas
 pub mod EndianLemmas
 pub mod WireLemmas
+pub mod DialLemmas

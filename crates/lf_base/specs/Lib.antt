@@ -8,3 +8,5 @@ pub mod Name
 pub mod Position
 pub mod Moves
 pub mod Wire
+pub mod Dials
+pub mod Doors

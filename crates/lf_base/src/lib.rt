@@ -5,12 +5,17 @@
 //! writers tell what these tell, and their count of faults.
 #![tactic(auto)]
 
+mod acceptor;
 mod bytes;
 mod clock;
+mod dialer;
 mod digits;
 mod endian;
 mod errno;
+mod handles;
 mod link;
+mod list_acceptor;
+mod mem_dialer;
 mod mem_link;
 mod memory;
 mod name;
@@ -26,12 +31,17 @@ mod text;
 mod vec_sink;
 mod watch;
 
+pub use acceptor::Acceptor;
 pub use bytes::Bytes;
 pub use clock::{Clock, FixedClock};
+pub use dialer::Dialer;
 pub use digits::{hex16, read_hex16};
 pub use endian::{be16_at, be32_at, be64_at, le16_at, le32_at, le64_at};
 pub use errno::Errno;
+pub use handles::Handles;
 pub use link::Link;
+pub use list_acceptor::ListAcceptor;
+pub use mem_dialer::MemDialer;
 pub use mem_link::MemLink;
 pub use memory::NoMemory;
 pub use name::{Name, NameFault};

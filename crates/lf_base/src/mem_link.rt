@@ -1,5 +1,5 @@
 //! A link in memory, and a second view of what it took.
-ghost use Rattle.std.specs.Prelude.{◌≡◌, ◌<◌, ◌≤◌, ◌+◌, ◌⊎◌, ◌++◌, [], ◌↔◌, length, min, take, drop, IsTrue, IfOk, IsErr, Contains, Some};
+ghost use Rattle.std.specs.Prelude.{◌≡◌, ◌<◌, ◌≤◌, ◌+◌, ◌⊎◌, ◌++◌, [], ◌↔◌, length, min, take, drop, not, ◌==◌, IsTrue, IfOk, IsErr, Contains, Some};
 ghost use Rattle.std.specs.Io.{ReadsAtMost, WritesAtMost};
 ghost use Rattle.std.specs.Io.KnownBytes.{ReadConsumes, WriteAppends, Keeps};
 ghost use Rattle.lf_base.specs.Faults.{CountsFaults, Rose, one_more};
@@ -78,6 +78,13 @@ impl MemLink {
     /// A second view of the bytes that it takes, which stays when the link is moved or dropped.
     pub fn watch(&self) -> Watch {
         self.board.watch()
+    }
+
+    /// Whether its count of faults is not 0.
+    pub fn has_failed(&self) -> bool
+        ensures { result ≡ not (self.now.faults == 0) }
+    {
+        self.faults != 0
     }
 
     /// Counts a call, and whether it fails because it was told to.
