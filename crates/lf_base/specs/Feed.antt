@@ -15,3 +15,9 @@ pub record Tray : Type 0 where
   pub failing : List ℕ
   pub calls : ℕ
   pub faults : ℕ
+
+-- what fails at calls of stated numbers: these, the calls and faults so far
+pub record Calls : Type 0 where
+  pub failing : List ℕ
+  pub calls : ℕ
+  pub faults : ℕ

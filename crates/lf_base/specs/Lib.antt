@@ -10,3 +10,4 @@ pub mod Moves
 pub mod Wire
 pub mod Dials
 pub mod Doors
+pub mod Starts

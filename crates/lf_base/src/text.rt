@@ -32,6 +32,12 @@ impl Text {
         self.inside.as_bytes()
     }
 
+    pub fn as_str(&self) -> &str
+        ensures { result.now ≡ self.now }
+    {
+        self.inside.as_str()
+    }
+
     /// The same text once more.
     pub fn copy(&self) -> Result<Text, NoMemory>
         ensures { IfOk result (λ text. text ≡ self.now) }

@@ -1,0 +1,166 @@
+//! Acceptors over the system's listeners. They look for a link and at the closing word by turns.
+ghost use Rattle.std.specs.Prelude.{◌≡◌, false, IfOk};
+
+use crate::acceptor::Acceptor;
+use crate::closing::Closing;
+use crate::handles::Handles;
+use crate::source::Failed;
+use crate::stream_link::{StreamLink, TcpLink, UnixLink};
+use std::io;
+use std::net::{TcpListener, TcpStream};
+use std::os::unix::net::{UnixListener, UnixStream};
+use std::thread;
+use std::time::Duration;
+
+/// How long an acceptor sleeps before it looks again, in milliseconds.
+const NAP_MS: u64 = 5;
+
+/// A listener of the system that does not wait.
+trait Listen {
+    type Stream: Drop;
+
+    fn next(&self) -> io::Result<Self::Stream>;
+}
+
+impl Listen for TcpListener {
+    type Stream = TcpStream;
+
+    fn next(&self) -> io::Result<TcpStream> {
+        let (stream, _) = self.accept()?;
+        Ok(stream)
+    }
+}
+
+impl Listen for UnixListener {
+    type Stream = UnixStream;
+
+    fn next(&self) -> io::Result<UnixStream> {
+        let (stream, _) = self.accept()?;
+        Ok(stream)
+    }
+}
+
+/// The next stream, or `None` once the word is closed.
+fn next_stream<R: Handles, T: Listen>(
+    rt: &R,
+    listener: &T,
+    closing: &Closing,
+) -> io::Result<Option<T::Stream>> {
+    for _ in rt.forever() {
+        if closing.is_closed() {
+            return Ok(None);
+        }
+        match listener.next() {
+            Ok(stream) => return Ok(Some(stream)),
+            Err(error) if error.kind() == io::ErrorKind::WouldBlock => {
+                thread::sleep(rt, Duration::from_millis(NAP_MS));
+            }
+            Err(error) => return Err(error),
+        }
+    }
+    unreachable!()
+}
+
+/// An acceptor over a TCP listener.
+#[derive(Drop)]
+pub struct TcpAccept {
+    listener: TcpListener,
+    closing: Closing,
+    faults: u64,
+    ended: bool,
+}
+
+impl TcpAccept {
+    /// It gives links until the word is closed.
+    pub fn new(listener: TcpListener, closing: Closing) -> Result<TcpAccept, Failed>
+        ensures faults { IfOk result (λ a. a.faults ≡ 0) }
+        ensures open { IfOk result (λ a. a.ended ≡ false) }
+    {
+        if listener.set_nonblocking(true).is_err() {
+            return Err(Failed);
+        }
+        Ok(TcpAccept {
+            listener,
+            closing,
+            faults: 0,
+            ended: false,
+        })
+    }
+}
+
+impl Acceptor for TcpAccept {
+    type L = TcpLink;
+
+    ghost faults = { λ a. a.faults };
+
+    ghost ended = { λ a. a.ended };
+
+    fn accept<R: Handles>(&mut self, rt: &R) -> Result<Option<TcpLink>, Failed> {
+        if self.ended {
+            return Ok(None);
+        }
+        match next_stream(rt, &self.listener, &self.closing) {
+            Ok(Some(stream)) => Ok(Some(StreamLink::new(stream))),
+            Ok(None) => {
+                self.ended = true;
+                Ok(None)
+            }
+            Err(_) => {
+                self.faults = self.faults.saturating_add(1);
+                Err(Failed)
+            }
+        }
+    }
+}
+
+/// An acceptor over the listener of a Unix socket.
+#[derive(Drop)]
+pub struct UnixAccept {
+    listener: UnixListener,
+    closing: Closing,
+    faults: u64,
+    ended: bool,
+}
+
+impl UnixAccept {
+    /// It gives links until the word is closed.
+    pub fn new(listener: UnixListener, closing: Closing) -> Result<UnixAccept, Failed>
+        ensures faults { IfOk result (λ a. a.faults ≡ 0) }
+        ensures open { IfOk result (λ a. a.ended ≡ false) }
+    {
+        if listener.set_nonblocking(true).is_err() {
+            return Err(Failed);
+        }
+        Ok(UnixAccept {
+            listener,
+            closing,
+            faults: 0,
+            ended: false,
+        })
+    }
+}
+
+impl Acceptor for UnixAccept {
+    type L = UnixLink;
+
+    ghost faults = { λ a. a.faults };
+
+    ghost ended = { λ a. a.ended };
+
+    fn accept<R: Handles>(&mut self, rt: &R) -> Result<Option<UnixLink>, Failed> {
+        if self.ended {
+            return Ok(None);
+        }
+        match next_stream(rt, &self.listener, &self.closing) {
+            Ok(Some(stream)) => Ok(Some(StreamLink::new(stream))),
+            Ok(None) => {
+                self.ended = true;
+                Ok(None)
+            }
+            Err(_) => {
+                self.faults = self.faults.saturating_add(1);
+                Err(Failed)
+            }
+        }
+    }
+}

@@ -1,0 +1,49 @@
+ghost use Rattle.std.specs.Prelude.{◌≡◌, false, IfOk};
+
+use crate::gate::Gate;
+use crate::handles::Handles;
+use crate::memory::NoMemory;
+use crate::spawner::{Place, Spawner};
+use std::alloc::Global;
+
+/// A spawner that starts a thread for each job.
+#[derive(Drop)]
+pub struct ThreadSpawner {
+    gate: Gate,
+    faults: u64,
+}
+
+impl ThreadSpawner {
+    pub fn new(alloc: Global) -> Result<ThreadSpawner, NoMemory>
+        ensures { IfOk result (λ s. s.faults ≡ 0) }
+    {
+        let gate = Gate::new(alloc)?;
+        Ok(ThreadSpawner { gate, faults: 0 })
+    }
+}
+
+impl Spawner for ThreadSpawner {
+    ghost faults = { λ s. s.faults };
+
+    ghost says = { λ _. false };
+
+    ghost refuses = { λ _. ⊥ };
+
+    fn place(&mut self) -> Place {
+        match self.gate.another() {
+            Ok(gate) => Place::Thread(gate),
+            Err(_) => {
+                self.fail();
+                Place::Refused
+            }
+        }
+    }
+
+    fn fail(&mut self) {
+        self.faults = self.faults.saturating_add(1);
+    }
+
+    fn finish<R: Handles>(&mut self, rt: &R) {
+        self.gate.wait(rt);
+    }
+}
