@@ -149,6 +149,29 @@ written-none n (w ∷ ws) others =
 pub written-lock_page : (change : PageChange) → IsChange change → written change.pages (lock_page_of change.page_size) ≡ None
 written-lock_page change valid = written-none (lock_page_of change.page_size) change.pages valid.data_pages
 
+-- what holds of each write holds of what is written at a number
+pub All-written : (P : PageWrite → Type 0) (ws : List PageWrite) (n : ℕ) (bytes : List ℕ) → All P ws → written ws n ≡ Some bytes →
+    P (record { number = n; bytes = bytes })
+All-written P [] n bytes each some = absurd (cc)
+All-written P (w ∷ ws) n bytes each some =
+    elim (cases_eq w.number n) [
+      | inl here ↦
+          let test : eqb w.number n ≡ true = grind (arith, nat_tests) in
+          let is : Some w.bytes ≡ Some bytes = rw test at some in
+          let same : w.bytes ≡ bytes = cc in
+          let first : P w = All-head P w ws each in
+          let made : record { number = w.number; bytes = w.bytes } ≡ record { number = n; bytes = bytes } = rw (here, same) refl in
+          subst P made first
+      | inr elsewhere ↦
+          let test : eqb w.number n ≡ false = grind (arith, nat_tests) in
+          All-written P ws n bytes (All-tail P w ws each) (rw test at some)
+    ]
+
+-- what a change writes is a whole page
+pub whole-written : (change : PageChange) → IsChange change → (n : ℕ) (bytes : List ℕ) → written change.pages n ≡ Some bytes →
+    length bytes ≡ change.page_size
+whole-written change valid n bytes some = All-written (λ w. length w.bytes ≡ change.page_size) change.pages n bytes valid.whole some
+
 -- the lock page of an image is zeros, or past its end
 blank-page : (image : DatabaseImage) → IsImage image → (i : ℕ) → i + 1 ≡ lock_page_of image.page_size →
     unwrap_or (slice_get image.pages i) (replicate image.page_size 0) ≡ replicate image.page_size 0

@@ -29,7 +29,7 @@ data_page_at-data image n data_page =
     rw test refl
 
 -- what an option holds
-some_of : (o : Option (List ℕ)) (default : List ℕ) → IsSome o → Some (unwrap_or o default) ≡ o
+pub some_of : (o : Option (List ℕ)) (default : List ℕ) → IsSome o → Some (unwrap_or o default) ≡ o
 some_of None default some = absurd (cc)
 some_of (Some bytes) default some = refl
 

@@ -1,5 +1,6 @@
 pub mod Applying
 pub mod Changes
+pub mod Completing
 pub mod DataWrites
 pub mod Images
 pub mod Laws

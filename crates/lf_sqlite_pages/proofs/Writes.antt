@@ -15,7 +15,7 @@ abbrev pub writes_from : (ℕ → Option (List ℕ)) → ℕ → ℕ → List Pa
 writes_from page first count = filter_map (write_at page) (range_with_len first count)
 
 -- an option is nothing or something
-option_cases : (o : Option (List ℕ)) → (o ≡ None) ⊎ ((bytes : List ℕ) × (o ≡ Some bytes))
+pub option_cases : (o : Option (List ℕ)) → (o ≡ None) ⊎ ((bytes : List ℕ) × (o ≡ Some bytes))
 option_cases None = inl refl
 option_cases (Some bytes) = inr (bytes, refl)
 

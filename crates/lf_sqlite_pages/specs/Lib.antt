@@ -1,5 +1,6 @@
 pub mod Apply
 pub mod Change
+pub mod Complete
 pub mod Header
 pub mod Image
 pub mod LockPage

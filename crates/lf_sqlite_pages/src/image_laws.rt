@@ -3,7 +3,8 @@ ghost use Rattle.std.specs.Prelude.{◌≡◌, ◌≤◌, ◌*◌, ◌^◌, leng
 ghost use Rattle.lf_sqlite_pages.specs.Change.{PageChange, IsChange, HoldsEveryPage};
 ghost use Rattle.lf_sqlite_pages.specs.Image.{DatabaseImage, IsImage, SameImage};
 ghost use Rattle.lf_sqlite_pages.specs.Header.{image_is_wal};
-ghost use Rattle.lf_sqlite_pages.specs.Apply.{apply};
+ghost use Rattle.lf_sqlite_pages.specs.Apply.{Fits, apply};
+ghost use Rattle.lf_sqlite_pages.specs.Complete.{complete};
 ghost use Rattle.lf_sqlite_pages.specs.Writes.{all_writes, data_writes};
 
 /// An image of at most 2^30 bytes has no lock page: its data pages are all its pages.
@@ -16,6 +17,17 @@ pub fn small_image_has_no_lock_page()
 pub fn whole_change_is_the_image()
     ensures { (image : DatabaseImage) (change : PageChange) → IsChange change → HoldsEveryPage change
         → data_writes (apply image change) ≡ change.pages }
+{}
+
+/// The complete change writes each data page past the old size: it is a change that leads to the
+/// same image, fits wherever the change does, and is whole where the image has no pages. A change
+/// that is whole is complete.
+pub fn complete_change_leads_to_the_same_image()
+    ensures valid { (image : DatabaseImage) (change : PageChange) → IsChange change → IsChange (complete image change) }
+    ensures same { (image : DatabaseImage) (change : PageChange) → apply image (complete image change) ≡ apply image change }
+    ensures fits { (image : DatabaseImage) (change : PageChange) → IsChange change → Fits image change → Fits image (complete image change) }
+    ensures first { (image : DatabaseImage) (change : PageChange) → length image.pages ≡ 0 → HoldsEveryPage (complete image change) }
+    ensures whole { (image : DatabaseImage) (change : PageChange) → IsChange change → HoldsEveryPage change → complete image change ≡ change }
 {}
 
 /// Images of the same pages are one image to every change, sum and mode, whatever page size an
