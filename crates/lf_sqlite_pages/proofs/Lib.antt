@@ -8,4 +8,5 @@ pub mod LockPages
 pub mod PageNumbers
 pub mod PlacingLemmas
 pub mod Tables
+pub mod WholeChange
 pub mod Writes

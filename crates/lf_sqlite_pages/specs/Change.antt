@@ -1,5 +1,5 @@
 -- What one transaction does to a database: its new number of pages, and the pages that it writes.
-use Rattle.std.specs.Prelude.{◌≡◌, ℕ, ◌<◌, ◌≤◌, ◌==◌, Option, List, [], ◌∷◌, ◌++◌, length, All, IsSome, find, fold}
+use Rattle.std.specs.Prelude.{◌≡◌, ℕ, ◌<◌, ◌≤◌, ◌==◌, Option, List, [], ◌∷◌, ◌++◌, length, All, IsSome, ◌⊎◌, find, fold}
 use Rattle.std.specs.Option.{option_map}
 use Rattle.lf_sqlite_pages.specs.PageSize.{IsPageSize}
 use Rattle.lf_sqlite_pages.specs.LockPage.{IsDataPage}
@@ -43,3 +43,7 @@ written pages n = option_map (λ w. w.bytes) (find (λ w. w.number == n) pages)
 -- the change writes each data page from 1 to commit
 abbrev pub HoldsEveryPage : PageChange → Type 0
 HoldsEveryPage change = (n : ℕ) → 1 ≤ n → n ≤ change.commit → IsDataPage change.page_size n → IsSome (written change.pages n)
+
+-- a change fits a database of its page size, a database without pages, and any of which it writes every data page
+abbrev pub FitsOver : ℕ → ℕ → PageChange → Type 0
+FitsOver page_size count change = (page_size ≡ change.page_size) ⊎ (count ≡ 0) ⊎ HoldsEveryPage change

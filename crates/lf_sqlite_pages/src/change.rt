@@ -1,8 +1,9 @@
-ghost use Rattle.std.specs.Prelude.{◌≡◌, ◌<◌, ◌≤◌, length, OnOk, OnErr};
+ghost use Rattle.std.specs.Prelude.{◌↔◌, IsTrue, ◌≡◌, ◌<◌, ◌≤◌, length, OnOk, OnErr};
 ghost use Rattle.lf_sqlite_pages.specs.PageSize.{IsPageSize};
 ghost use Rattle.lf_sqlite_pages.specs.LockPage.{IsDataPage};
-ghost use Rattle.lf_sqlite_pages.specs.Change.{IsChange, empty_change, with_page, last_number};
+ghost use Rattle.lf_sqlite_pages.specs.Change.{IsChange, empty_change, with_page, last_number, HoldsEveryPage, FitsOver};
 
+use crate::limits::data_pages_to;
 use crate::page_write::PageWrite;
 use lf_base::{Bytes, NoMemory};
 use std::alloc::Global;
@@ -52,6 +53,20 @@ impl Change {
     {
         let alloc = *self.pages.allocator();
         let bytes = Bytes::of(Vec::from_slice(alloc, bytes)?);
+        self.push_page(n, bytes)
+    }
+
+    /// Adds data page `n`, whose bytes move in. Numbers come in ascending order. After want of memory
+    /// nothing changed, and the page is let go.
+    pub fn push_page(&mut self, n: u32, bytes: Bytes) -> Result<(), NoMemory>
+        requires ascending { last_number self.old.pages < n }
+        requires within { n ≤ self.old.commit }
+        requires holds_data { IsDataPage self.old.page_size n }
+        requires whole { length bytes ≡ self.old.page_size }
+        ensures ok { OnOk result (self.new ≡ with_page self.old n bytes) }
+        ensures last { OnOk result (last_number self.new.pages ≡ n) }
+        ensures err { OnErr result (self.new ≡ self.old) }
+    {
         self.pages.push(PageWrite { number: n, bytes })?;
         Ok(())
     }
@@ -69,6 +84,22 @@ impl Change {
         ensures { result ≡ self.now.commit }
     {
         self.commit
+    }
+
+    /// Whether this writes each data page from 1 to its commit. As its numbers ascend, it does where
+    /// it writes that many.
+    pub fn holds_every_page(&self) -> bool
+        ensures { IsTrue result ↔ HoldsEveryPage self.now }
+    {
+        self.pages.len() == data_pages_to(self.page_size, self.commit) as usize
+    }
+
+    /// Whether this can be applied to a database of `pages` pages of `page_size` bytes: it has the
+    /// same page size, or no page of the database stays in place.
+    pub fn fits(&self, page_size: u32, pages: u32) -> bool
+        ensures { IsTrue result ↔ FitsOver page_size pages self.now }
+    {
+        page_size == self.page_size || pages == 0 || self.holds_every_page()
     }
 
     /// The pages that this change writes, in ascending order of their numbers.

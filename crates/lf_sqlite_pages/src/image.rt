@@ -1,4 +1,4 @@
-ghost use Rattle.std.specs.Prelude.{◌≡◌, ◌≤◌, length, Some, IfOk, OnOk, OnErr};
+ghost use Rattle.std.specs.Prelude.{◌↔◌, IsTrue, ◌≡◌, ◌≤◌, length, Some, IfOk, OnOk, OnErr};
 ghost use Rattle.lf_sqlite_pages.specs.Image.{IsImage, empty_image, page_at};
 ghost use Rattle.lf_sqlite_pages.specs.Apply.{Fits, apply};
 
@@ -72,6 +72,14 @@ impl Image {
         let page_size = change.page_size();
         let pages = place_all(keep(pages, old_size, page_size), change)?;
         Ok(Image { page_size, pages })
+    }
+
+    /// Whether a change can be applied to this: the page sizes are equal, or no page of this stays in
+    /// place.
+    pub fn fits(&self, change: &Change) -> bool
+        ensures { IsTrue result ↔ Fits self.now change.now }
+    {
+        change.fits(self.page_size, self.commit())
     }
 
     /// The size of each page in bytes, 0 for a database that was never written.

@@ -1,6 +1,6 @@
 //! The page that holds no data, and how large a database may grow.
 ghost use Rattle.std.specs.Prelude.{◌≡◌, ◌<◌, ◌↔◌, IsTrue};
-ghost use Rattle.lf_sqlite_pages.specs.LockPage.{lock_page_of, IsWithinLimit};
+ghost use Rattle.lf_sqlite_pages.specs.LockPage.{lock_page_of, data_pages_to, IsWithinLimit};
 
 /// The byte at which SQLite takes its locks (SQLite file format, section 1.2).
 const LOCK_BYTE: u32 = 0x4000_0000;
@@ -22,6 +22,14 @@ pub fn lock_page(page_size: u32) -> u32
     ensures { result ≡ lock_page_of page_size }
 {
     LOCK_BYTE / page_size + 1
+}
+
+/// How many of the pages from 1 to `n` are data pages.
+pub(crate) fn data_pages_to(page_size: u32, n: u32) -> u32
+    requires { 0 < page_size }
+    ensures { result ≡ data_pages_to page_size n }
+{
+    if n < lock_page(page_size) { n } else { n - 1 }
 }
 
 /// Whether a database of `commit` pages is within the limit: an LTX file of all its pages has at
