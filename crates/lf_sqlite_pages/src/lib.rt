@@ -21,7 +21,7 @@ mod table;
 mod tests;
 
 pub use change::Change;
-pub use header::{is_wal, page_size_of};
+pub use header::{header_pages, is_wal, page_size_of};
 pub use image::Image;
 pub use image_laws::{
     complete_change_leads_to_the_same_image, same_images_are_alike, small_image_has_no_lock_page, whole_change_is_the_image,
