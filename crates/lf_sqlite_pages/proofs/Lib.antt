@@ -5,8 +5,10 @@ pub mod DataWrites
 pub mod Images
 pub mod Laws
 pub mod LockPages
+pub mod Numbers
 pub mod PageNumbers
 pub mod PlacingLemmas
+pub mod TableNumbers
 pub mod Tables
 pub mod WholeChange
 pub mod Writes

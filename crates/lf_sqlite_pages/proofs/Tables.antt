@@ -7,7 +7,7 @@ use Rattle.std.specs.Cmp.{nat_cmp_total, unsigned_tied}
 use Rattle.std.specs.FinMap as map
 use Rattle.std.specs.declared.cmp.Ordering.TheVariants.{Equal}
 use Rattle.std.proofs.lemmas.Bool.Decides.{nat_tests}
-use Rattle.std.specs.FinMap.{find, get-from_entries, get-insert, get-retain_keys, same_map, nat_cmp-IsAntisymmetric}
+use Rattle.std.specs.FinMap.{find, get-from_entries, get-insert, get-remove, get-retain_keys, same_map, nat_cmp-IsAntisymmetric}
 use Rattle.std.specs.FinMap.Entries.{find-where_key}
 use Rattle.std.specs.Map.{lookup, keys_of}
 use Rattle.lf_sqlite_pages.specs.Table.{map_of}
@@ -17,7 +17,7 @@ abbrev pub Entry : Type 0
 Entry = ℕ × List ℕ
 
 -- the test of two numbers either way round
-nat_eq-comm : (a b : ℕ) → nat_eq a b ≡ nat_eq b a
+pub nat_eq-comm : (a b : ℕ) → nat_eq a b ≡ nat_eq b a
 nat_eq-comm a b = grind (arith, nat_tests)
 
 -- the two ways to look a number up
@@ -83,3 +83,13 @@ len-map_of [] distinct = map.len-empty nat_cmp (List ℕ)
 len-map_of (e ∷ es) distinct =
     let absent : map.get (map_of es) e.0 ≡ None = get-map_of es e.0 ∙ lookup-no_key e.0 es distinct.0 in
     map.len-insert nat_cmp_total (map_of es) e.0 e.1 ∙ rw (absent, len-map_of es distinct.1) (omega arith)
+
+-- a table after a page was taken out
+pub map_of-remove : (es fs : List Entry) (k : ℕ) →
+    ((n : ℕ) → lookup (nat_eq n) fs ≡ cond (nat_eq k n) None (lookup (nat_eq n) es)) → map_of fs ≡ map.remove (map_of es) k
+map_of-remove es fs k updates =
+    same_map nat_cmp_total nat_cmp-IsAntisymmetric (map_of fs) (map.remove (map_of es) k)
+    (λ n. get-map_of fs n
+    ∙ updates n
+    ∙ rw (unsigned_tied n k, nat_eq-comm k n, get-map_of es n) refl
+    ∙ sym (get-remove nat_cmp_total (map_of es) k n))

@@ -43,6 +43,10 @@ with_page_at o n page =
 abbrev pub cut_to : PageOverlay → ℕ → PageOverlay
 cut_to o count = record { pages = map.retain_keys o.pages (λ n. nat_le n count); spare = o.spare; size = o.size }
 
+-- the overlay without page n
+abbrev pub without_page : PageOverlay → ℕ → PageOverlay
+without_page o n = record { pages = map.remove o.pages n; spare = o.spare; size = o.size }
+
 -- the overlay without its pages
 abbrev pub cleared : PageOverlay → PageOverlay
 cleared o = record { pages = map.empty; spare = o.spare; size = o.size }

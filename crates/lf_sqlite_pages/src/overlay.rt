@@ -1,7 +1,7 @@
-ghost use Rattle.std.specs.Prelude.{◌≡◌, ◌↔◌, IsTrue, length, OnOk, OnErr};
+ghost use Rattle.std.specs.Prelude.{◌≡◌, ◌↔◌, IsTrue, length, IfOk, OnOk, OnErr};
 ghost use Rattle.std.specs.Option.{option_copied};
 ghost use Rattle.std.specs.FinMap as map;
-ghost use Rattle.lf_sqlite_pages.specs.Overlay.{HasRoom, empty_overlay, reserved, stands_whole, with_page_at, cut_to, cleared};
+ghost use Rattle.lf_sqlite_pages.specs.Overlay.{HasRoom, empty_overlay, reserved, stands_whole, with_page_at, without_page, cut_to, cleared};
 
 use crate::page::Page;
 use crate::pages::fit;
@@ -76,6 +76,20 @@ impl Overlay {
         table::page_at(&self.pages, n)
     }
 
+    /// The size of the pages that room was last reserved for, 0 where none was.
+    pub fn page_size(&self) -> u32
+        ensures { result ≡ self.now.size }
+    {
+        self.size
+    }
+
+    /// The numbers of the pages that are kept here, in ascending order.
+    pub fn numbers(&self) -> Result<Vec<u32>, NoMemory>
+        ensures { IfOk result (λ numbers. numbers.items ≡ map.keys self.now.pages) }
+    {
+        table::numbers(*self.spare.allocator(), &self.pages)
+    }
+
     /// How many pages are kept here.
     pub fn len(&self) -> usize
         ensures { result ≡ map.len self.now.pages }
@@ -119,6 +133,13 @@ impl Overlay {
             fresh.overwrite(page);
             table::put(&mut self.pages, n, fresh);
         }
+    }
+
+    /// Drops page `n`, where it is kept. The room stays, and does not grow.
+    pub fn remove(&mut self, n: u32)
+        ensures { self.new ≡ without_page self.old n }
+    {
+        table::remove(&mut self.pages, n);
     }
 
     /// Drops the pages past `pages`.

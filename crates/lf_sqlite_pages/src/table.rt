@@ -1,5 +1,5 @@
 //! A hash table of pages by number, as the finite map that it stands for.
-ghost use Rattle.std.specs.Prelude.{◌≡◌, ◌+◌, ◌<◌, ◌≤◌, length, IsSomeAnd, OnOk, nat_le};
+ghost use Rattle.std.specs.Prelude.{◌≡◌, ◌+◌, ◌<◌, ◌≤◌, length, IfOk, IsSomeAnd, OnOk, nat_le};
 ghost use Rattle.std.specs.Option.{option_copied};
 ghost use Rattle.std.specs.HashMap.{spare};
 ghost use Rattle.std.specs.FinMap as map;
@@ -7,6 +7,7 @@ ghost use Rattle.lf_sqlite_pages.specs.Table.{map_of};
 
 use crate::page::Page;
 use lf_base::NoMemory;
+use std::alloc::Global;
 use std::collections::HashMap;
 
 pub type Table = HashMap<u32, Page>;
@@ -57,6 +58,26 @@ pub fn put(table: &mut Table, n: u32, page: Page)
 {
     let put: Result<_, _> = table.insert(n, page);
     let _replaced = put.unwrap();
+}
+
+/// Drops the page at `n`, where there is one.
+pub fn remove(table: &mut Table, n: u32)
+    ensures pages { map_of table.new.entries ≡ map.remove (map_of table.old.entries) n }
+    ensures spare { spare table.old ≤ spare table.new }
+{
+    let _removed = table.remove(&n);
+}
+
+/// The numbers of the pages, in ascending order.
+pub fn numbers(alloc: Global, table: &Table) -> Result<Vec<u32>, NoMemory>
+    ensures { IfOk result (λ numbers. numbers.items ≡ map.keys (map_of table.now.entries)) }
+{
+    let mut numbers = Vec::new(alloc);
+    for n in table.keys() {
+        numbers.push(*n)?;
+    }
+    numbers.sort_unstable();
+    Ok(numbers)
 }
 
 /// Drops the pages past `count`.
