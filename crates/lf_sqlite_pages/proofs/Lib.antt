@@ -1,3 +1,5 @@
+pub mod BlockLemmas
+pub mod BlockListLemmas
 pub mod Applying
 pub mod Changes
 pub mod Completing

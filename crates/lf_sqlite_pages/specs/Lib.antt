@@ -1,4 +1,7 @@
 pub mod Apply
+pub mod BlockTable
+pub mod Blocks
+pub mod BlockParts
 pub mod Change
 pub mod Complete
 pub mod Header

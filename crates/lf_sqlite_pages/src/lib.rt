@@ -4,6 +4,7 @@
 //! checksum or a transaction number.
 #![tactic(auto)]
 
+mod blocks;
 mod change;
 mod header;
 mod image;
@@ -20,6 +21,7 @@ mod table;
 #[cfg(test)]
 mod tests;
 
+pub use blocks::{BLOCKS_LIMIT, Blocks};
 pub use change::Change;
 pub use header::{header_pages, is_wal, page_size_of};
 pub use image::Image;
