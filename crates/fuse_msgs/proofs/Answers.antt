@@ -1,10 +1,10 @@
 -- What the answer of a reading says of the bytes.
-use Rattle.std.proofs.Common.{◌≡◌, ℕ, List, Result, Ok, Err, Some, None, Option, refl, inl, inr, ap}
+use Rattle.std.proofs.Common.{◌≡◌, ℕ, List, Result, Ok, Err, Some, None, Option, refl, inl, inr, ap, subst}
 use Rattle.fuse_msgs.specs.declared.request.Request.{Request}
 use Rattle.fuse_msgs.specs.declared.fault.BadMessage.{BadMessage}
 use Rattle.fuse_msgs.specs.declared.fault.BadMessage.TheVariants as bad
 use Rattle.fuse_msgs.specs.Message.{IsMessage, refusal}
-use Rattle.fuse_msgs.specs.Decoding.{IsDecoding, IsUnlessMemory}
+use Rattle.fuse_msgs.specs.Decoding.{IsDecoding, IsUnlessMemory, TakesMemoryToRead}
 use Rattle.fuse_msgs.proofs.OneReading.{one_request}
 use Rattle.fuse_msgs.proofs.Refusals.{refusal-message}
 
@@ -28,11 +28,16 @@ accepts bytes (Err (bad.NameText unique)) d request h = absurd (none_some _ _ (r
 
 -- the first fault of the bytes is the answer
 pub refuses : (bytes : List ℕ) (result : Result Request BadMessage) → IsDecoding bytes result
-    → (fault : BadMessage) → refusal bytes ≡ Some fault → IsUnlessMemory result (Err fault)
+    → (fault : BadMessage) → refusal bytes ≡ Some fault → result ≡ Err fault
 refuses bytes (Ok r) d fault h = absurd (none_some _ _ (refusal-message bytes r d) h)
-refuses bytes (Err bad.NoMemory) d fault h = inr refl
-refuses bytes (Err bad.Short) d fault h = inl (ap (λ x. Err x) (some_same _ _ _ d h))
-refuses bytes (Err (bad.Length len)) d fault h = inl (ap (λ x. Err x) (some_same _ _ _ d h))
-refuses bytes (Err (bad.Opcode number unique)) d fault h = inl (ap (λ x. Err x) (some_same _ _ _ d h))
-refuses bytes (Err (bad.Body unique)) d fault h = inl (ap (λ x. Err x) (some_same _ _ _ d h))
-refuses bytes (Err (bad.NameText unique)) d fault h = inl (ap (λ x. Err x) (some_same _ _ _ d h))
+refuses bytes (Err bad.NoMemory) d fault h = absurd (none_some _ _ d.1 h)
+refuses bytes (Err bad.Short) d fault h = ap (λ x. Err x) (some_same _ _ _ d h)
+refuses bytes (Err (bad.Length len)) d fault h = ap (λ x. Err x) (some_same _ _ _ d h)
+refuses bytes (Err (bad.Opcode number unique)) d fault h = ap (λ x. Err x) (some_same _ _ _ d h)
+refuses bytes (Err (bad.Body unique)) d fault h = ap (λ x. Err x) (some_same _ _ _ d h)
+refuses bytes (Err (bad.NameText unique)) d fault h = ap (λ x. Err x) (some_same _ _ _ d h)
+
+-- memory runs out only for a message whose reading takes memory
+pub takes_memory : (bytes : List ℕ) (result : Result Request BadMessage) → IsDecoding bytes result
+    → result ≡ Err bad.NoMemory → TakesMemoryToRead bytes
+takes_memory bytes result d e = subst (IsDecoding bytes) e d

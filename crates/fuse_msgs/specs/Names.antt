@@ -1,5 +1,5 @@
 -- Names, which end in a zero byte.
-use Rattle.std.specs.Prelude.{◌≡◌, ℕ, ◌-◌, ◌≤◌, ◌==◌, ◌&&◌, not, nat_le, Bool, false, List, [], ◌∷◌, ◌++◌, length, take, drop, slice_index, IsTrue}
+use Rattle.std.specs.Prelude.{◌≡◌, ℕ, ◌-◌, ◌≤◌, ◌==◌, ◌&&◌, not, nat_le, Bool, true, false, List, [], ◌∷◌, ◌++◌, length, take, drop, slice_index, IsTrue}
 use Rattle.std.specs.List.{list_any}
 use Rattle.fuse_msgs.specs.declared.fault.BodyFault.{BodyFault}
 use Rattle.fuse_msgs.specs.declared.fault.BodyFault.TheVariants as fault
@@ -20,8 +20,8 @@ is_name_text text = is_name (take (length text - 1) text) && (slice_index text (
 abbrev pub IsCreateIn : List ℕ → List ℕ → Type 0
 IsCreateIn body name = (16 ≤ length body) × IsNameText (drop 16 body) name
 
--- why reading a name failed: the text is none, or memory ran out
+-- why reading a name failed: the text is none, or memory ran out for one that is
 abbrev pub LacksName : List ℕ → BodyFault → Type 0
 LacksName text fault.Name = is_name_text text ≡ false
-LacksName text fault.Memory = Unit {0}
+LacksName text fault.Memory = is_name_text text ≡ true
 LacksName text fault.Shape = ⊥

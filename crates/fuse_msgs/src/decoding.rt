@@ -5,7 +5,7 @@ ghost use Rattle.fuse_msgs.specs.declared.fault.BadMessage.{BadMessage};
 ghost use Rattle.fuse_msgs.specs.declared.fault.BadMessage.TheVariants as bad;
 ghost use Rattle.fuse_msgs.specs.declared.request.Request.{Request};
 ghost use Rattle.fuse_msgs.specs.Message.{IsMessage, refusal};
-ghost use Rattle.fuse_msgs.specs.Decoding.{IsReading, IsDecoding, IsUnlessMemory};
+ghost use Rattle.fuse_msgs.specs.Decoding.{IsReading, IsDecoding, IsUnlessMemory, TakesMemoryToRead};
 
 use crate::fault::{BadMessage, BodyFault};
 use crate::header::{HEADER, header_in};
@@ -15,7 +15,7 @@ use crate::{attributes, handles, io, locks, names, session};
 use std::alloc::Global;
 
 /// The request of a message, which is all of the bytes.
-#[tactic(auto, using(crate::proofs::Answers::accepts, crate::proofs::Answers::refuses))]
+#[tactic(auto, using(crate::proofs::Answers::accepts, crate::proofs::Answers::refuses, crate::proofs::Answers::takes_memory))]
 pub fn decode(alloc: Global, bytes: &[u8]) -> Result<Request, BadMessage>
     // What is read is a message of that request.
     ensures message { IfOk result (λ request. IsMessage bytes.now request) }
@@ -23,7 +23,9 @@ pub fn decode(alloc: Global, bytes: &[u8]) -> Result<Request, BadMessage>
     ensures accepted { (request : Request) → IsMessage bytes.now request → IsUnlessMemory result (Ok request) }
     // A fault is the first of the bytes, and the first of the bytes is the fault.
     ensures fault { IfErr result (λ fault. (fault ≡ bad.NoMemory) ⊎ (refusal bytes.now ≡ Some fault)) }
-    ensures refused { (fault : BadMessage) → refusal bytes.now ≡ Some fault → IsUnlessMemory result (Err fault) }
+    ensures refused { (fault : BadMessage) → refusal bytes.now ≡ Some fault → result ≡ Err fault }
+    // Memory runs out only for a message, and one whose reading takes memory.
+    ensures memory { result ≡ Err bad.NoMemory → TakesMemoryToRead bytes.now }
 {
     request_in(alloc, bytes)
 }
