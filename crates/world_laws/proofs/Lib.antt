@@ -1,0 +1,15 @@
+pub mod Lineages
+pub mod Stores
+pub mod Snapshots
+pub mod Calls
+pub mod Terms
+pub mod Nodes
+pub mod Whole
+pub mod Reading
+pub mod CatchUp
+pub mod Forwarding
+pub mod Images
+pub mod Stopping
+pub mod Scenes
+pub mod Story
+pub mod SnapshotFile

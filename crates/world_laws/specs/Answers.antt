@@ -1,0 +1,135 @@
+-- What an answer of a node says of its step: which answers an ask has, and the cause of each refusal.
+use Rattle.std.specs.Prelude.{◌≡◌, ◌≢◌, ◌⊎◌, ◌==◌, ℕ, ◌≤◌, Bool, true, false, List, [], ◌∷◌, length, Contains, Option, None, Some, IsSome, if◌then◌else◌}
+use Rattle.lf_base.specs.declared.pos.Pos.{Pos}
+use Rattle.lf_base.specs.Faults.{Rose}
+use Rattle.lf_sqlite_pages.specs.LockPage.{IsWithinLimit}
+use Rattle.lf_sqlite_pages.specs.Apply.{Fits}
+use Rattle.ltx_codec.specs.declared.file.Ltx.{Ltx}
+use Rattle.ltx_codec.specs.Format.{IsFile}
+use Rattle.world_laws.specs.Node.{Answer, Applied, Ask, BadFile, Broken, Disk, Done, Drop, File, Forward, Forwarded, Frame, Gone, Halted, Held, Hello, Item, Level, Limit, NoMemory, NodeState, NotNext, NotPrimary, NotReplica, PageSize, Primary, Refusal, Refused, Role, Send, SumDiffers}
+use Rattle.world_laws.specs.Positions.{after, before, data_writes, nowhere, sum_after}
+use Rattle.world_laws.specs.Served.{HoldsBack}
+use Rattle.world_laws.specs.Store.{Apply, Commit, DropAll, Failure, Install, IsSound, StoreCall, StoreState, at}
+
+-- the file from the beginning to a store's position that writes every page
+unfoldable pub snapshot_of : StoreState → Ltx
+snapshot_of store = record {
+  header = record {
+    page_size = store.image.page_size;
+    commit = length store.image.pages;
+    min = 1;
+    max = (at store).txid;
+    stamp = 0;
+    pre = 0;
+    wal_offset = 0;
+    wal_size = 0;
+    wal_salt1 = 0;
+    wal_salt2 = 0;
+    node = 0;
+  };
+  change = record {
+    page_size = store.image.page_size;
+    commit = length store.image.pages;
+    pages = data_writes store.image;
+  };
+  post = (at store).sum;
+}
+
+-- a store was never written, or not since its log was last empty, and is not marked as dropped
+abbrev pub IsBlank : StoreState → Type 0
+IsBlank store = (store.log ≡ []) × (store.dropped ≡ false)
+
+-- a store knows a position: its own, one from which a file of its log leads on, and any if it was never written
+abbrev pub Knows : StoreState → Pos → Type 0
+Knows store position = (position ≡ at store) ⊎ ((file : Ltx) × Contains store.log file × (before file ≡ position)) ⊎ IsBlank store
+
+-- the file that a store owes a follower at that position: the one of its log that leads on, else the snapshot
+pub data Owes : StoreState → Pos → Ltx → Type 0 where
+  by_file : {store : StoreState} {position : Pos} {file : Ltx} → Contains store.log file → before file ≡ position → Owes store position file
+  by_snapshot : {store : StoreState} {position : Pos} → 1 ≤ (at store).txid → (Knows store position → ⊥) → Owes store position (snapshot_of store)
+
+-- a follower that is level, the file that is owed, word of the drop, or the cause why there is none
+abbrev pub AnswersHello : NodeState → NodeState → Role → Pos → Answer → Type 0
+AnswersHello old new role position (Level here) = (role ≡ Primary) × (here ≡ at old.store) × ((position ≡ here) ⊎ IsBlank old.store)
+AnswersHello old new role position (Item file) = (role ≡ Primary) × Owes old.store position file × IsSound file
+AnswersHello old new role position Gone = (role ≡ Primary) × (old.store.dropped ≡ true) × (position ≢ at old.store)
+AnswersHello old new role position (Refused NotPrimary) = role ≢ Primary
+AnswersHello old new role position (Refused Disk) = Rose old.faults new.faults
+AnswersHello old new role position (Refused Broken) = IsSome old.failed
+AnswersHello old new role position (Refused NoMemory) = Unit {0}
+AnswersHello old new role position other = ⊥
+
+-- the call that an LTX frame asks for
+abbrev pub call_of : Ltx → StoreCall
+call_of file = if file.header.min == 1 then Install file else Apply file
+
+-- why an LTX frame is refused; of a snapshot it is of no account what the store holds
+abbrev pub RefusesFrame : NodeState → Role → Ltx → Option Failure → Refusal → Type 0
+RefusesFrame old role file failed NotReplica = role ≡ Primary
+RefusesFrame old role file failed BadFile = IsFile file → ⊥
+RefusesFrame old role file failed NotNext = (file.header.min ≢ 1) × (before file ≢ at old.store)
+RefusesFrame old role file failed PageSize = (file.header.min ≢ 1) × (Fits old.store.image file.change → ⊥)
+RefusesFrame old role file failed SumDiffers = (file.header.min ≢ 1) × (sum_after old.store.image file ≢ file.post)
+RefusesFrame old role file failed Limit = IsWithinLimit file.header.page_size file.header.commit → ⊥
+RefusesFrame old role file failed Disk = IsSome failed
+RefusesFrame old role file failed Broken = IsSome old.failed
+RefusesFrame old role file failed NoMemory = Unit {0}
+RefusesFrame old role file failed other = ⊥
+
+-- an LTX frame is applied or installed, held back by a lock that somebody holds, or refused
+abbrev pub AnswersFrame : NodeState → Role → Ltx → List StoreCall → Option Failure → Answer → NodeState → Type 0
+AnswersFrame old role file did failed (Applied position) new = (did ≡ call_of file ∷ []) × (failed ≡ None) × (position ≡ at new.store)
+AnswersFrame old role file did failed (Held lock) new = HoldsBack old.served old.store.image lock
+AnswersFrame old role file did failed (Refused why) new = RefusesFrame old role file failed why
+AnswersFrame old role file did failed other new = ⊥
+
+-- why a Drop frame is refused. It takes no memory
+abbrev pub RefusesDrop : NodeState → Role → Option Failure → Refusal → Type 0
+RefusesDrop old role failed NotReplica = role ≡ Primary
+RefusesDrop old role failed Disk = IsSome failed
+RefusesDrop old role failed Broken = IsSome old.failed
+RefusesDrop old role failed other = ⊥
+
+-- a Drop frame drops the database where there is one, and else changes nothing
+abbrev pub DropsWhatIsThere : StoreState → List StoreCall → Type 0
+DropsWhatIsThere store did = ((1 ≤ (at store).txid) × (did ≡ DropAll ∷ [])) ⊎ (((at store).txid ≡ 0) × (did ≡ []))
+
+abbrev pub AnswersDrop : NodeState → Role → List StoreCall → Option Failure → Answer → NodeState → Type 0
+AnswersDrop old role did failed (Applied position) new = DropsWhatIsThere old.store did × (failed ≡ None) × (position ≡ nowhere)
+AnswersDrop old role did failed (Held lock) new = HoldsBack old.served old.store.image lock
+AnswersDrop old role did failed (Refused why) new = RefusesDrop old role failed why
+AnswersDrop old role did failed other new = ⊥
+
+-- the database file and its WAL are as they were
+abbrev pub ServesTheSame : NodeState → NodeState → Type 0
+ServesTheSame old new = (new.served.file ≡ old.served.file) × (new.served.frames ≡ old.served.frames)
+
+-- a commit that is sent is kept until its reply comes, and nothing else is changed
+pub record IsSent (old new : NodeState) (role : Role) (file : Ltx) (did : List StoreCall) (failed : Option Failure) : Type 0 where
+  pub halted : role ≡ Halted
+  pub waits : new.waits ≡ Some file
+  pub undone : (did ≡ []) × (failed ≡ None)
+  pub served : ServesTheSame old new
+
+-- an ok brings the node to where the file leads; any other reply leaves the files, unless a call failed, or the moment
+-- of the step ended the write permit and the uncommitted pages went
+abbrev pub AnswersForwarded : NodeState → Role → Bool → Option Failure → Answer → NodeState → Type 0
+AnswersForwarded old role true failed Done new = (file : Ltx) × (old.waits ≡ Some file) × (at new.store ≡ after file)
+AnswersForwarded old role ok failed (Refused why) new = failed ≡ None → role ≡ old.role → ServesTheSame old new
+AnswersForwarded old role ok failed other new = ⊥
+
+-- what an answer says of the step, by the ask
+abbrev pub Answers : NodeState → Role → Ask → List StoreCall → Option Failure → Answer → NodeState → Type 0
+Answers old role (Frame file) did failed answer new = AnswersFrame old role file did failed answer new
+Answers old role Drop did failed answer new = AnswersDrop old role did failed answer new
+Answers old role (Hello position) did failed answer new = AnswersHello old new role position answer
+Answers old role (Forwarded ok) did failed answer new = AnswersForwarded old role ok failed answer new
+Answers old role (Forward file) did failed (Applied position) new = (did ≡ Commit file ∷ []) × (failed ≡ None)
+Answers old role File did failed (Send file) new = IsSent old new role file did failed
+Answers old role ask did failed answer new = Unit {0}
+
+-- an answer that says no has done no call
+abbrev pub LeavesUndone : Answer → List StoreCall → Type 0
+LeavesUndone (Held lock) did = did ≡ []
+LeavesUndone (Refused why) did = did ≡ []
+LeavesUndone other did = Unit {0}

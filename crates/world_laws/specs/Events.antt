@@ -1,0 +1,75 @@
+-- What may happen in a cluster, and its runs.
+--
+-- A delivery is a step that asks Frame or Drop, and a reply is one that asks Forwarded; a loss is a frame that is
+-- never delivered. A stop inside a step is two events, a step of the same ask that fails and a restart: that this
+-- covers every stop is a law of its own. Steps of one node follow one another, as its machine takes them in turn.
+use Rattle.std.specs.Prelude.{◌≡◌, ℕ, List, [], ◌∷◌, ◌++◌, length, Option, None, Some}
+use Rattle.world_laws.specs.Node.{Answer, Ask}
+use Rattle.world_laws.specs.Premises.{CommitsAsHolder, FindsACandidate, WasSent}
+use Rattle.world_laws.specs.Served.{untouched}
+use Rattle.world_laws.specs.Step.{StepFacts}
+use Rattle.world_laws.specs.Store.{StoreState, begun_by, empty_store}
+use Rattle.world_laws.specs.World.{GrowsAlong, OthersStay, World, accepted_by, acts_along, failing_by, sent_by}
+
+pub data Event : Type 0 where
+  Steps : (node : ℕ) → Ask → Answer → Event
+  Opens : (node : ℕ) → StoreState → Event  -- a restart, which finds this store
+  Grants : (node : ℕ) → Event
+  Renews : Event
+  Loses : Event
+
+-- a node takes a step
+pub record Turns (w : World) (k : ℕ) (ask : Ask) (answer : Answer) (v : World) : Type 0 where
+  pub comes : WasSent w (w.nodes k).waits ask
+  pub facts : StepFacts (w.nodes k) ask answer (v.nodes k)
+  pub leads : CommitsAsHolder w k (facts.did ++ begun_by facts.failed)
+  pub tree : GrowsAlong w.tree (w.nodes k).store facts.did v.tree
+  pub acts : v.acts ≡ acts_along (length w.granted) k facts.did w.acts
+  pub failing : v.failing k ≡ failing_by (length w.granted) (w.failing k) facts.failed
+  pub sent : v.sent ≡ w.sent ++ sent_by ask answer
+  pub accepted : v.accepted ≡ w.accepted ++ accepted_by ask answer
+  pub others : OthersStay k w v
+  pub lease : (v.granted ≡ w.granted) × (v.holder ≡ w.holder)
+
+-- a node is opened: on a store that it may find, whole, with nothing that waits and nobody at its files
+pub record Reopens (w : World) (k : ℕ) (found : StoreState) (v : World) : Type 0 where
+  pub finds : FindsACandidate w k (w.nodes k).failed found v
+  pub store : (v.nodes k).store ≡ found
+  pub whole : (v.nodes k).failed ≡ None
+  pub waits : (v.nodes k).waits ≡ None
+  pub served : (v.nodes k).served ≡ untouched found.image
+  pub failing : v.failing k ≡ w.failing k
+  pub others : OthersStay k w v
+  pub frames : (v.sent ≡ w.sent) × (v.accepted ≡ w.accepted)
+  pub lease : (v.granted ≡ w.granted) × (v.holder ≡ w.holder)
+
+-- these terms were granted and this node holds the lease; all else is as before
+pub record Leases (w : World) (terms : List ℕ) (leader : Option ℕ) (v : World) : Type 0 where
+  pub granted : v.granted ≡ terms
+  pub holder : v.holder ≡ leader
+  pub nodes : (k : ℕ) → (v.nodes k ≡ w.nodes k) × (v.failing k ≡ w.failing k)
+  pub tree : v.tree ≡ w.tree
+  pub acts : v.acts ≡ w.acts
+  pub frames : (v.sent ≡ w.sent) × (v.accepted ≡ w.accepted)
+
+-- a grant begins a new term. A renewal changes nothing: the holder holds its term on
+abbrev pub Happens : World → Event → World → Type 0
+Happens w (Steps k ask answer) v = Turns w k ask answer v
+Happens w (Opens k found) v = Reopens w k found v
+Happens w (Grants k) v = Leases w (k ∷ w.granted) (Some k) v
+Happens w Renews v = Leases w w.granted w.holder v
+Happens w Loses v = Leases w w.granted None v
+
+-- a list of events, one after another
+pub data Runs : World → List Event → World → Type 0 where
+  ends : {w : World} → Runs w [] w
+  goes : {w v u : World} {event : Event} {events : List Event} → Happens w event v → Runs v events u → Runs w (event ∷ events) u
+
+-- every disk empty, nobody at the files, and nothing committed but the lineage of no transaction
+pub record IsStart (w : World) : Type 0 where
+  pub stores : (k : ℕ) → ((w.nodes k).store ≡ empty_store) × ((w.nodes k).failed ≡ None)
+  pub served : (k : ℕ) → (w.nodes k).served ≡ untouched empty_store.image
+  pub tree : w.tree ≡ [] ∷ []
+  pub frames : (w.sent ≡ []) × (w.accepted ≡ [])
+  pub lease : (w.granted ≡ []) × (w.holder ≡ None)
+  pub acts : w.acts ≡ []

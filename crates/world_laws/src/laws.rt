@@ -1,0 +1,55 @@
+//! Laws of the definitions, each the contract of a function that does nothing.
+ghost use Rattle.world_laws.specs.SafetyLaw.{SafeKept};
+ghost use Rattle.world_laws.specs.ReaderLaw.{ReaderSteady};
+ghost use Rattle.world_laws.specs.CatchUpLaw.{AnswersByWhole, SnapshotInstalls, DropInstalls, SentFileApplies};
+ghost use Rattle.world_laws.specs.ForwardLaw.{ForwardedStands, SendLeaves, RefusalLeaves};
+ghost use Rattle.world_laws.specs.StopLaw.{StopsAreCuts, StopIsTwoEvents, StopOfBroken};
+ghost use Rattle.world_laws.specs.SnapshotLaw.{SnapshotIsSound};
+ghost use Rattle.world_laws.specs.Scenario.{SomethingHappens};
+
+/// After every list of events that meets the premises, each node's committed pages are those of the lineage
+/// that its position names, and all else that `IsSafe` says holds.
+pub fn safe_kept()
+    ensures { SafeKept }
+{}
+
+/// While an owner is inside at a plain replica, position, image, database file and committed frames stay.
+pub fn reader_steady()
+    ensures { ReaderSteady }
+{}
+
+/// A position that a primary's log lacks is answered by one snapshot, or by Gone where the database was
+/// dropped. What was sent is then held back by a lock that somebody holds, is applied, or is refused for a
+/// fault of the disk, a store that is broken, or want of memory.
+pub fn answer_installs()
+    ensures answer { AnswersByWhole }
+    ensures snapshot { SnapshotInstalls }
+    ensures dropped { DropInstalls }
+    ensures file { SentFileApplies }
+{}
+
+/// A forwarded commit that is answered Done stands once in the lineage of the primary that accepted it, and
+/// the replica has its position and pages. A Send, and a Forwarded that isn't Done, change neither.
+pub fn forwarded_once()
+    ensures stands { ForwardedStands }
+    ensures send { SendLeaves }
+    ensures refusal { RefusalLeaves }
+{}
+
+/// A stop inside a step is a step of the same ask that fails, and a restart.
+pub fn stops_are_failures()
+    ensures store { StopsAreCuts }
+    ensures node { StopIsTwoEvents }
+    ensures broken { StopOfBroken }
+{}
+
+/// The snapshot of a store that was written is a file within the limits.
+pub fn snapshot_is_sound()
+    ensures { SnapshotIsSound }
+{}
+
+
+/// The definitions are not empty: a run in which what they speak of happens.
+pub fn something_happens()
+    ensures { SomethingHappens }
+{}

@@ -1,0 +1,9 @@
+//! The laws of a cluster of nodes, over every list of events. Each is the contract of a function that does nothing.
+#![tactic(auto)]
+
+mod laws;
+
+pub use laws::{
+    answer_installs, forwarded_once, reader_steady, safe_kept, snapshot_is_sound, something_happens,
+    stops_are_failures,
+};
