@@ -1,3 +1,6 @@
+mod fakes;
+mod outside;
+
 use super::*;
 use std::test::Fail;
 
