@@ -1,6 +1,6 @@
 -- What a dialer in memory tells once a dial is noted.
-use Rattle.std.proofs.Common.{◌≡◌, ℕ, ◌+◌, Bool, true, false, List, [], ◌∷◌, ◌++◌, length, map, take, Option, Some, None, refl, sym, ap, ◌∙◌, arith, inl, inr, min}
-use Rattle.std.specs.Prelude.{nat_lt, ◌==◌, not, All}
+use Rattle.std.proofs.Common.{◌≡◌, ℕ, false, [], ◌∷◌, length, take, Option, Some, refl, ap, arith, inl, inr}
+use Rattle.std.specs.Prelude.{nat_lt, ◌==◌}
 use Rattle.std.proofs.lemmas.Bool.{cases_Bool}
 use Rattle.std.proofs.lemmas.Bool.Decides.{nat_tests}
 use Rattle.std.proofs.lemmas.List.{map-append}

@@ -1,5 +1,5 @@
 -- What a dialer tells of its dials.
-use Rattle.std.specs.Prelude.{◌≡◌, ℕ, ◌==◌, Bool, not, List, [], ◌∷◌, ◌++◌, Option, Some, None, map}
+use Rattle.std.specs.Prelude.{◌≡◌, ℕ, ◌==◌, Bool, not, List, [], ◌∷◌, ◌++◌, Option, Some, None}
 
 -- a dial failed, or its link was hung up: the bytes read, written and left on it, and whether its count rose
 pub data Dial : Type 0 where

@@ -1,5 +1,5 @@
 -- Where a spawner starts a job.
-use Rattle.std.specs.Prelude.{◌≡◌, ℕ, Bool}
+use Rattle.std.specs.Prelude.{◌≡◌, ℕ}
 use Rattle.lf_base.specs.Faults.{Rose}
 use Rattle.lf_base.specs.declared.spawner.Place.{Place}
 use Rattle.lf_base.specs.declared.spawner.Place.TheVariants as place

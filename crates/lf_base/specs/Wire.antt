@@ -1,5 +1,5 @@
 -- A link in memory.
-use Rattle.std.specs.Prelude.{◌≡◌, ℕ, List, [], length, take, drop, min}
+use Rattle.std.specs.Prelude.{ℕ, List, [], take, drop}
 
 -- all that can be read and how much of it was, the most that one read gives, the bytes taken and how many there is room
 -- for, the numbers of the calls that fail, the calls, the faults and the calls that moved bytes so far

@@ -66,6 +66,5 @@ impl Spawner for CallSpawner {
 
     fn finish<R: Handles>(&mut self, rt: &R)
         ensures { self.new ≡ self.old }
-    {
-    }
+    {}
 }

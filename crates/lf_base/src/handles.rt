@@ -8,6 +8,4 @@ use std::time;
 pub trait Handles: Threads + Wait + Net<Listener = TcpListener, Stream = TcpStream> + time::Clock {}
 
 impl<R: Threads + Wait + Net<Listener = TcpListener, Stream = TcpStream> + time::Clock> Handles
-    for R
-{
-}
+    for R {}

@@ -6,11 +6,10 @@ use crate::closing::Closing;
 use crate::handles::Handles;
 use crate::source::Failed;
 use crate::stream_link::{StreamLink, TcpLink, UnixLink};
-use std::io;
 use std::net::{TcpListener, TcpStream};
 use std::os::unix::net::{UnixListener, UnixStream};
-use std::thread;
 use std::time::Duration;
+use std::{io, thread};
 
 /// How long an acceptor sleeps before it looks again, in milliseconds.
 const NAP_MS: u64 = 5;

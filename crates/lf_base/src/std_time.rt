@@ -3,9 +3,8 @@ ghost use Rattle.std.specs.Prelude.{◌≡◌, true};
 
 use crate::clock::Clock;
 use crate::pause::Pause;
-use std::thread;
-use std::time;
 use std::time::Duration;
+use std::{thread, time};
 
 /// The system's clock, as milliseconds since 1970. Where it cannot be read, the last number stands.
 #[derive(Clone, Copy, Drop)]

@@ -45,7 +45,9 @@ impl Board {
                 place.store(*byte, Ordering::SeqCst);
             }
         }
-        self.shown.count.store(from.saturating_add(count), Ordering::SeqCst);
+        self.shown
+            .count
+            .store(from.saturating_add(count), Ordering::SeqCst);
     }
 
     pub fn watch(&self) -> Watch {

@@ -68,7 +68,9 @@ fn a_dialer_fails_when_told_and_past_its_places(rt: HostRuntime) -> Result<(), F
     let link = failing_link(rt.alloc()).ok_or("a link")?;
     assert!(rt; links.push(link).is_ok());
     let failing = vec![in rt.alloc(); 0u64]?;
-    let mut dialer = MemDialer::new(rt.alloc(), links, 2, failing).ok().ok_or("a dialer")?;
+    let mut dialer = MemDialer::new(rt.alloc(), links, 2, failing)
+        .ok()
+        .ok_or("a dialer")?;
     let address = Text::of(rt.alloc(), "a:1").ok().ok_or("memory")?;
     assert!(rt; dialer.dial(&rt, &address).is_err());
     let mut link = dialer.dial(&rt, &address).ok().ok_or("a link")?;
@@ -100,7 +102,9 @@ fn a_spawner_refuses_when_told(rt: HostRuntime) -> Result<(), Fail> {
     let failing = vec![in rt.alloc(); 1u64]?;
     let mut spawner = CallSpawner::new(failing).ok().ok_or("a spawner")?;
     for (result, count) in [(Ok(()), 1), (Err(Failed), 1), (Ok(()), 2)] {
-        let job = Count { went: Arc::try_clone(&went)? };
+        let job = Count {
+            went: Arc::try_clone(&went)?,
+        };
         assert_eq!(rt; start(rt, &mut spawner, job), result);
         assert_eq!(rt; went.load(Ordering::SeqCst), count);
     }

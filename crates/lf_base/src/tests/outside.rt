@@ -69,7 +69,10 @@ fn loopback(rt: HostRuntime) -> Result<(), Fail> {
     let sum = Arc::new(rt.alloc(), AtomicU64::new(0))?;
 
     let link = dialer.dial(&rt, &address).ok().ok_or("a dial")?;
-    let ask = Ask { link, sum: Arc::try_clone(&sum)? };
+    let ask = Ask {
+        link,
+        sum: Arc::try_clone(&sum)?,
+    };
     assert!(rt; start(rt, &mut spawner, ask).is_ok());
     let link = acceptor.accept(&rt).ok().flatten().ok_or("a link")?;
     assert!(rt; start(rt, &mut spawner, Echo { link }).is_ok());
@@ -89,12 +92,17 @@ fn unix_socket(rt: HostRuntime) -> Result<(), Fail> {
     let _ = fs::remove_file(&rt, path);
     let listener = UnixListener::bind(&rt, path)?;
     let closing = Closing::new(rt.alloc()).ok().ok_or("memory")?;
-    let mut acceptor = UnixAccept::new(listener, closing).ok().ok_or("an acceptor")?;
+    let mut acceptor = UnixAccept::new(listener, closing)
+        .ok()
+        .ok_or("an acceptor")?;
     let mut spawner = ThreadSpawner::new(rt.alloc()).ok().ok_or("memory")?;
     let sum = Arc::new(rt.alloc(), AtomicU64::new(0))?;
 
     let link = StreamLink::new(UnixStream::connect(&rt, path)?);
-    let ask = Ask { link, sum: Arc::try_clone(&sum)? };
+    let ask = Ask {
+        link,
+        sum: Arc::try_clone(&sum)?,
+    };
     assert!(rt; start(rt, &mut spawner, ask).is_ok());
     let link = acceptor.accept(&rt).ok().flatten().ok_or("a link")?;
     assert!(rt; start(rt, &mut spawner, Echo { link }).is_ok());
@@ -110,7 +118,9 @@ fn jobs_in_threads_are_waited_for(rt: HostRuntime) -> Result<(), Fail> {
     let _named: Option<(TcpListener, TcpStream)> = None;
     let mut spawner = ThreadSpawner::new(rt.alloc()).ok().ok_or("memory")?;
     for _ in 0..4 {
-        let job = Count { went: Arc::try_clone(&went)? };
+        let job = Count {
+            went: Arc::try_clone(&went)?,
+        };
         assert!(rt; start(rt, &mut spawner, job).is_ok());
     }
     spawner.finish(&rt);
