@@ -20,7 +20,7 @@ use Rattle.lf_sqlite_pages.proofs.DataWrites.{some_of}
 use Rattle.lf_sqlite_pages.proofs.Writes.{option_cases, AscendsAbove-writes_of, All-writes_of, written-writes_of, writes_of-same, writes_of-change}
 
 -- the complete change writes nothing at the lock page
-completed-lock_page : (change : PageChange) (count : ℕ) → completed_page change count (lock_page_of change.page_size) ≡ None
+pub completed-lock_page : (change : PageChange) (count : ℕ) → completed_page change count (lock_page_of change.page_size) ≡ None
 completed-lock_page change count =
     let test : eqb (lock_page_of change.page_size) (lock_page_of change.page_size) ≡ true = grind (arith, nat_tests) in
     rw test refl

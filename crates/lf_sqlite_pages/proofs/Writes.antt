@@ -182,13 +182,13 @@ same_write w v number bytes =
     made
 
 -- the first write of some writes
-written-first : (w : PageWrite) (ws : List PageWrite) → written (w ∷ ws) w.number ≡ Some w.bytes
+pub written-first : (w : PageWrite) (ws : List PageWrite) → written (w ∷ ws) w.number ≡ Some w.bytes
 written-first w ws =
     let test : eqb w.number w.number ≡ true = grind (arith, nat_tests) in
     rw test refl
 
 -- the others
-written-other : (w : PageWrite) (ws : List PageWrite) (n : ℕ) → w.number < n → written (w ∷ ws) n ≡ written ws n
+pub written-other : (w : PageWrite) (ws : List PageWrite) (n : ℕ) → w.number < n → written (w ∷ ws) n ≡ written ws n
 written-other w ws n above =
     let test : eqb w.number n ≡ false = grind (arith, nat_tests) in
     rw test refl

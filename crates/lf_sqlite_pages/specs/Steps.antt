@@ -1,5 +1,7 @@
 -- The steps in which the code applies a change. No public clause cites them.
-use Rattle.std.specs.Prelude.{ℕ, ◌-◌, ◌++◌, ◌==◌, List, [], length, take, replicate, fold, slice_set, if◌then◌else◌}
+use Rattle.std.specs.Prelude.{ℕ, ◌-◌, ◌++◌, ◌==◌, nat_le, is_some, Option, Some, None, List, [], length, take, replicate, fold, slice_set, if◌then◌else◌}
+use Rattle.lf_sqlite_pages.specs.LockPage.{lock_page_of}
+use Rattle.lf_sqlite_pages.specs.Change.{PageChange, written}
 use Rattle.lf_sqlite_pages.specs.declared.page_write.PageWrite.{PageWrite}
 
 -- the pages of an image that a change of a page size can keep: all of that size, else none
@@ -21,3 +23,11 @@ filled pages size count = pages ++ replicate (count - length pages) (replicate s
 -- pages with one more in its place, and with zeros in each place before it that was empty
 abbrev pub placed : List (List ℕ) → ℕ → PageWrite → List (List ℕ)
 placed pages size w = slice_set (filled pages size w.number) (w.number - 1) w.bytes
+
+-- what making a change complete adds at page n: zeros, where it is a data page past a count that the change lacks
+abbrev pub missing_page : PageChange → ℕ → ℕ → Option (List ℕ)
+missing_page change count n =
+    if n == lock_page_of change.page_size then None
+    else if nat_le n count then None
+    else if is_some (written change.pages n) then None
+    else Some (replicate change.page_size 0)

@@ -1,8 +1,11 @@
 ghost use Rattle.std.specs.Prelude.{◌↔◌, IsTrue, ◌≡◌, ◌<◌, ◌≤◌, length, OnOk, OnErr};
+ghost use Rattle.std.specs.Option.{option_copied};
 ghost use Rattle.lf_sqlite_pages.specs.PageSize.{IsPageSize};
 ghost use Rattle.lf_sqlite_pages.specs.LockPage.{IsDataPage};
-ghost use Rattle.lf_sqlite_pages.specs.Change.{IsChange, empty_change, with_page, last_number, HoldsEveryPage, FitsOver};
+ghost use Rattle.lf_sqlite_pages.specs.Change.{IsChange, empty_change, with_page, last_number, HoldsEveryPage, FitsOver, written};
+ghost use Rattle.lf_sqlite_pages.specs.Complete.{completed};
 
+use crate::missing::missing_pages;
 use crate::limits::data_pages_to;
 use crate::page_write::PageWrite;
 use lf_base::{Bytes, NoMemory};
@@ -71,6 +74,21 @@ impl Change {
         Ok(())
     }
 
+    /// Adds, as zeros, each data page past `pages` that this does not write, so that it says all of a
+    /// database that had so many pages and grows. After want of memory nothing changed.
+    pub fn complete(&mut self, pages: u32) -> Result<(), NoMemory>
+        ensures ok { OnOk result (self.new ≡ completed self.old pages) }
+        ensures err { OnErr result (self.new ≡ self.old) }
+    {
+        let alloc = *self.pages.allocator();
+        let mut missing = missing_pages(alloc, self, pages)?;
+        if !missing.is_empty() {
+            self.pages.append(&mut missing)?;
+            self.pages.sort_unstable_by_key(|w| w.number);
+        }
+        Ok(())
+    }
+
     /// The size of each page in bytes.
     pub fn page_size(&self) -> u32
         ensures value { result ≡ self.now.page_size }
@@ -100,6 +118,17 @@ impl Change {
         ensures { IsTrue result ↔ FitsOver page_size pages self.now }
     {
         page_size == self.page_size || pages == 0 || self.holds_every_page()
+    }
+
+    /// The bytes that this writes at page `n`, if it writes that page.
+    pub fn page(&self, n: u32) -> Option<&[u8]>
+        ensures { option_copied result ≡ written self.now.pages n }
+    {
+        let writes = self.pages.as_slice();
+        match writes.binary_search_by_key(&n, |w| w.number) {
+            Ok(at) => Some(writes[at].bytes.as_slice()),
+            Err(_) => None,
+        }
     }
 
     /// The pages that this change writes, in ascending order of their numbers.

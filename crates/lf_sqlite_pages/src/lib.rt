@@ -6,6 +6,7 @@
 
 mod blocks;
 mod change;
+mod missing;
 mod header;
 mod image;
 mod image_laws;
