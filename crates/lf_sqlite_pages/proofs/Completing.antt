@@ -12,12 +12,13 @@ use Rattle.lf_sqlite_pages.specs.Image.{DatabaseImage, page_at}
 use Rattle.lf_sqlite_pages.specs.Apply.{Fits, apply, page_after}
 use Rattle.lf_sqlite_pages.specs.Writes.{writes_of}
 use Rattle.lf_sqlite_pages.specs.Complete.{completed_page, completed, complete}
+use Rattle.lf_sqlite_pages.proofs.ApplyWrites.{IsChange-writes_of}
 use Rattle.lf_sqlite_pages.proofs.Applying.{written-lock_page, whole-written}
 use Rattle.lf_sqlite_pages.proofs.PageNumbers.{page_at-past}
 use Rattle.lf_sqlite_pages.proofs.Laws.{page_after-data, page_after-lock_page}
 use Rattle.lf_sqlite_pages.specs.declared.page_write.PageWrite.{PageWrite}
 use Rattle.lf_sqlite_pages.proofs.DataWrites.{some_of}
-use Rattle.lf_sqlite_pages.proofs.Writes.{option_cases, AscendsAbove-writes_of, All-writes_of, written-writes_of, writes_of-same, writes_of-change}
+use Rattle.lf_sqlite_pages.proofs.Writes.{option_cases, written-writes_of, writes_of-same, writes_of-change}
 
 -- the complete change writes nothing at the lock page
 pub completed-lock_page : (change : PageChange) (count : ℕ) → completed_page change count (lock_page_of change.page_size) ≡ None
@@ -71,15 +72,10 @@ completed-whole change count n bytes valid some =
 
 -- the complete change is a change
 pub IsChange-completed : (change : PageChange) (count : ℕ) → IsChange change → IsChange (completed change count)
-IsChange-completed change count valid = record {
-  of_a_page_size = valid.of_a_page_size;
-  ascending = AscendsAbove-writes_of (completed_page change count) change.commit;
-  within = All-writes_of (λ w. w.number ≤ change.commit) (completed_page change count) change.commit (λ n bytes first last some. last);
-  data_pages = All-writes_of (λ w. IsDataPage change.page_size w.number) (completed_page change count) change.commit
-      (λ n bytes first last some. completed-data change count n bytes some);
-  whole = All-writes_of (λ w. length w.bytes ≡ change.page_size) (completed_page change count) change.commit
-      (λ n bytes first last some. completed-whole change count n bytes valid some);
-}
+IsChange-completed change count valid =
+    IsChange-writes_of change.page_size change.commit (completed_page change count) valid.of_a_page_size
+    (λ n bytes first last some. completed-data change count n bytes some)
+    (λ n bytes first last some. completed-whole change count n bytes valid some)
 
 -- each page after it is the page after the change
 page_after-complete : (image : DatabaseImage) (change : PageChange) (n : ℕ) → 1 ≤ n → n ≤ change.commit →

@@ -8,7 +8,7 @@ use Rattle.lf_sqlite_pages.specs.PageSize.{IsPageSize}
 use Rattle.lf_sqlite_pages.specs.LockPage.{lock_page_of, IsDataPage}
 use Rattle.lf_sqlite_pages.specs.Change.{PageChange, IsChange, HoldsEveryPage, written}
 use Rattle.lf_sqlite_pages.specs.Image.{DatabaseImage, IsImage, SameImage, page_at}
-use Rattle.lf_sqlite_pages.specs.Header.{image_is_wal}
+use Rattle.lf_sqlite_pages.specs.Header.{image_is_wal, image_header_pages}
 use Rattle.lf_sqlite_pages.specs.Apply.{Fits, apply, page_after}
 use Rattle.lf_sqlite_pages.specs.Writes.{writes_of, data_page_at, all_writes, data_writes}
 use Rattle.lf_sqlite_pages.proofs.Applying.{written-lock_page}
@@ -87,3 +87,8 @@ apply-same one other change same =
 -- the mode too
 pub image_is_wal-same : (one other : DatabaseImage) → SameImage one other → image_is_wal one ≡ image_is_wal other
 image_is_wal-same one other same = ap (λ (pages : List (List ℕ)). image_is_wal (record { page_size = 0; pages = pages })) same
+
+-- the header's size too
+pub image_header_pages-same : (one other : DatabaseImage) → SameImage one other → image_header_pages one ≡ image_header_pages other
+image_header_pages-same one other same =
+    ap (λ (pages : List (List ℕ)). image_header_pages (record { page_size = 0; pages = pages })) same

@@ -1,5 +1,6 @@
 pub mod BlockLemmas
 pub mod BlockListLemmas
+pub mod ApplyWrites
 pub mod Applying
 pub mod Changes
 pub mod Completed

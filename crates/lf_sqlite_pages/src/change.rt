@@ -120,6 +120,15 @@ impl Change {
         page_size == self.page_size || pages == 0 || self.holds_every_page()
     }
 
+    /// Whether both changes are the same: page size, commit, and the pages that they write.
+    pub fn equals(&self, other: &Change) -> bool
+        ensures { IsTrue result ↔ (self.now ≡ other.now) }
+    {
+        self.page_size == other.page_size
+            && self.commit == other.commit
+            && same_writes(self.pages.as_slice(), other.pages.as_slice())
+    }
+
     /// The bytes that this writes at page `n`, if it writes that page.
     pub fn page(&self, n: u32) -> Option<&[u8]>
         ensures { option_copied result ≡ written self.now.pages n }
@@ -151,4 +160,18 @@ impl Change {
         } = self;
         pages
     }
+}
+
+fn same_writes(ones: &[PageWrite], others: &[PageWrite]) -> bool
+    ensures { IsTrue result ↔ (ones.now ≡ others.now) }
+{
+    if ones.len() != others.len() {
+        return false;
+    }
+    for i in 0..ones.len() {
+        if !ones[i].equals(&others[i]) {
+            return false;
+        }
+    }
+    true
 }

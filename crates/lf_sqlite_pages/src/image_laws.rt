@@ -2,7 +2,7 @@
 ghost use Rattle.std.specs.Prelude.{◌≡◌, ◌≤◌, ◌*◌, ◌^◌, length};
 ghost use Rattle.lf_sqlite_pages.specs.Change.{PageChange, IsChange, HoldsEveryPage};
 ghost use Rattle.lf_sqlite_pages.specs.Image.{DatabaseImage, IsImage, SameImage};
-ghost use Rattle.lf_sqlite_pages.specs.Header.{image_is_wal};
+ghost use Rattle.lf_sqlite_pages.specs.Header.{image_is_wal, image_header_pages};
 ghost use Rattle.lf_sqlite_pages.specs.Apply.{Fits, apply};
 ghost use Rattle.lf_sqlite_pages.specs.Complete.{complete};
 ghost use Rattle.lf_sqlite_pages.specs.Writes.{all_writes, data_writes};
@@ -36,4 +36,5 @@ pub fn same_images_are_alike()
     ensures after { (one other : DatabaseImage) (change : PageChange) → SameImage one other → apply one change ≡ apply other change }
     ensures data_pages { (one other : DatabaseImage) → IsImage one → IsImage other → SameImage one other → data_writes one ≡ data_writes other }
     ensures mode { (one other : DatabaseImage) → SameImage one other → image_is_wal one ≡ image_is_wal other }
+    ensures header { (one other : DatabaseImage) → SameImage one other → image_header_pages one ≡ image_header_pages other }
 {}
