@@ -1,6 +1,7 @@
 ghost use Rattle.std.specs.Prelude.{◌≡◌, IfOk, vec_len};
 
 use super::*;
+use lf_base::Bytes;
 use std::alloc::{AllocError, Global};
 use std::test::Fail;
 
@@ -153,6 +154,55 @@ fn first_pages_are_read(rt: HostRuntime) -> Result<(), Fail> {
     Ok(())
 }
 
+/// A change over three pages that grows a database to six: page 5 is written, 4 and 6 are added.
+#[tactic(auto, unfolding(crate::specs::PageSize::is_page_size, crate::specs::LockPage::lock_page_of))]
+#[test]
+fn change_is_made_complete(rt: HostRuntime) -> Result<(), Fail> {
+    let alloc = rt.alloc();
+    let mut change = Change::new(alloc, 512, 6);
+    change.push(2, page(alloc, 2)?.as_slice())?;
+    change.push_page(5, Bytes::of(page(alloc, 5)?))?;
+    assert!(rt; !change.holds_every_page() && change.fits(512, 3) && !change.fits(1024, 3));
+    change.complete(3)?;
+    let numbers: [Option<u32>; 5] = [
+        change.pages().first().map(|w| w.number),
+        change.pages().get(1).map(|w| w.number),
+        change.pages().get(2).map(|w| w.number),
+        change.pages().get(3).map(|w| w.number),
+        change.pages().get(4).map(|w| w.number),
+    ];
+    assert_eq!(rt; numbers, [Some(2), Some(4), Some(5), Some(6), None]);
+    assert_eq!(rt; change.page(4), Some(page(alloc, 0)?.as_slice()));
+    assert_eq!(rt; change.page(5), Some(page(alloc, 5)?.as_slice()));
+    assert_eq!(rt; change.page(3), None);
+    assert!(rt; change.equals(&change));
+    assert!(rt; !Image::empty(alloc).is_broken() && Image::empty(alloc).fits(&change));
+    change.complete(0)?;
+    assert!(rt; change.holds_every_page() && change.fits(1024, 3));
+    Ok(())
+}
+
+/// The number of pages in the header counts where bytes 24 to 27 are bytes 92 to 95 and the file
+/// has as many (SQLite file format, section 1.3.8).
+#[test]
+fn header_pages_are_read(rt: HostRuntime) -> Result<(), Fail> {
+    for (counter, valid_for, stated, pages, size) in [
+        (7, 7, 3, 5, 3),
+        (7, 7, 5, 5, 5),
+        (7, 7, 6, 5, 5),
+        (7, 7, 0, 5, 5),
+        (7, 8, 3, 5, 5),
+    ] {
+        let mut first = [0u8; 512];
+        first[27] = counter;
+        first[31] = stated;
+        first[95] = valid_for;
+        assert_eq!(rt; header_pages(&first, pages), size);
+        assert_eq!(rt; header_pages(&first[..95], pages), pages);
+    }
+    Ok(())
+}
+
 /// The lock page is the one that contains byte 2^30. The limit is that of a file of 2^31 bytes.
 #[test]
 fn lock_page_and_limit(rt: HostRuntime) -> Result<(), Fail> {
@@ -180,8 +230,12 @@ fn overlay_keeps_pages_in_its_room(rt: HostRuntime) -> Result<(), Fail> {
         (2, true, false)
     );
     assert_eq!(rt; overlay.get(3), Some(page(alloc, 4)?.as_slice()));
+    assert_eq!(rt; overlay.numbers()?.as_slice(), [3, 9].as_slice());
+    assert_eq!(rt; overlay.page_size(), 512);
     overlay.cut(8);
     assert_eq!(rt; (overlay.get(9), overlay.len()), (None, 1));
+    overlay.remove(3);
+    assert_eq!(rt; (overlay.get(3), overlay.len()), (None, 0));
     overlay.clear();
     assert_eq!(rt; overlay.get(3), None);
     Ok(())
