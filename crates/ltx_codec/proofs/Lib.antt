@@ -17,3 +17,5 @@ pub mod PageLemmas
 pub mod ReaderLemmas
 pub mod FileLemmas
 pub mod TrailerLemmas
+pub mod SumLemmas
+pub mod ChangedSumLemmas

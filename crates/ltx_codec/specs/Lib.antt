@@ -1,5 +1,6 @@
 pub mod Fields
 pub mod Sums
+pub mod steps
 pub mod Format
 pub mod Positions
 pub mod FileIn

@@ -7,9 +7,9 @@ ghost use Rattle.ltx_codec.specs.Places.{IsEarliest, IsFound};
 
 use crate::fault::LtxFault;
 use crate::fields::{COMMIT, FLAGS, MAX, MIN, PAGE_SIZE, PRE};
-use crate::rules::{is_within_limit, is_flagged};
+use crate::rules::is_flagged;
 use lf_base::{be32_at, be64_at};
-use lf_sqlite_pages::is_page_size;
+use lf_sqlite_pages::{is_page_size, is_within_limit};
 
 const MAGIC: [u8; 4] = *b"LTX1";
 
