@@ -49,7 +49,7 @@ joined-from page sum first (suc count) same =
         let here : sum first ≡ page_sum_of first bytes = same first (omega arith) (omega arith) ∙ ap (λ (p : Option (List ℕ)). unwrap_or (option_map (page_sum_of first) p) 0) some in
         rw (some, here) (ap (λ (s : ℕ). bit_xor (page_sum_of first bytes) s) rest)
 
-joined-writes_of : (page : ℕ → Option (List ℕ)) (sum : ℕ → ℕ) (count : ℕ) → ((n : ℕ) → 1 ≤ n → n ≤ count → sum n ≡ sum_at page n) →
+pub joined-writes_of : (page : ℕ → Option (List ℕ)) (sum : ℕ → ℕ) (count : ℕ) → ((n : ℕ) → 1 ≤ n → n ≤ count → sum n ≡ sum_at page n) →
     joined_sums (writes_of page count) ≡ joined_over sum 1 count
 unfolding writes_of
 joined-writes_of page sum count same = joined-from page sum 1 count (λ n above below. same n above (omega (arith, below)))

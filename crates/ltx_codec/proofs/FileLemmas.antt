@@ -20,6 +20,7 @@ use Rattle.ltx_codec.proofs.PieceLemmas.{read_longer}
 use Rattle.ltx_codec.proofs.ReaderLemmas.{header_before, none_whole}
 use Rattle.ltx_codec.proofs.SoundLemmas.{header_is, ends_at}
 use Rattle.ltx_codec.proofs.TextLemmas.{AreBytes-take}
+use Rattle.lf_base.specs.Endian.{be64_at}
 
 -- the bytes are a text of the file
 pub record HasFile (bytes : List ℕ) (file : Ltx) : Type 0 where
@@ -27,6 +28,7 @@ pub record HasFile (bytes : List ℕ) (file : Ltx) : Type 0 where
   pub header : header_in bytes ≡ file.header
   pub writes : writes_in bytes (length file.change.pages) ≡ file.change.pages
   pub long : length bytes ≡ number_place bytes (length file.change.pages) + 20
+  pub post : be64_at (number_place bytes (length file.change.pages) + 4) bytes ≡ file.post
 
 pub file_is : (bytes : List ℕ) (file : Ltx) → IsLtx bytes file → AreBytes bytes → HasFile bytes file
 file_is bytes file is fits =
@@ -37,6 +39,7 @@ file_is bytes file is fits =
       header = header_is file is.reserved [] bytes is.valid is.room whole fits;
       writes = ap (λ (k : ℕ). writes_in bytes k) (sym end.1) ∙ end.4;
       long = ap length is.text ∙ end.3 ∙ ap (λ (k : ℕ). number_place bytes k + 20) end.1;
+      post = ap (λ (k : ℕ). be64_at (number_place bytes k + 4) bytes) (sym end.1) ∙ end.5;
     }
 
 -- as many pages as the file's, read from the bytes, are those of the file

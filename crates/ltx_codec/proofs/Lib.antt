@@ -19,3 +19,5 @@ pub mod FileLemmas
 pub mod TrailerLemmas
 pub mod SumLemmas
 pub mod ChangedSumLemmas
+pub mod SumLaws
+pub mod PartLaws

@@ -253,6 +253,7 @@ module _ (file : Ltx) (reserved rest bytes : List ℕ) (valid : IsFile file) (re
 
   -- where the block of the text ends, and the pages in it
   pub ends_at : (k : ℕ) × (k ≡ length file.change.pages) × HasBlock bytes k × (length (file_text file reserved) ≡ number_place bytes k + 20) × (writes_in bytes k ≡ file.change.pages)
+      × (be64_at (number_place bytes k + 4) bytes ≡ file.post)
   ends_at =
       let post_text : List ℕ = to_be_bytes w64 file.post in
       let seal : List ℕ = to_be_bytes w64 (file_sum (summed_text file reserved)) in
@@ -273,7 +274,12 @@ module _ (file : Ltx) (reserved rest bytes : List ℕ) (valid : IsFile file) (re
         length-append (front ++ to_be_bytes w32 0) post_text,
         length-append (summed_text file reserved) seal,
       ) in
-      (k, end_is, record { pages = e.pages; ends = e.ends; there = e.number.there }, text_length, ap (λ (n : ℕ). writes_in bytes n) end_is ∙ walked.2)
+      let post_place : length (front ++ to_be_bytes w32 0) ≡ number_place bytes k + 4 = length-append front (to_be_bytes w32 0) ∙ ap (λ (n : ℕ). n + 4) front_place in
+      let post_split : bytes ≡ (front ++ to_be_bytes w32 0) ++ (post_text ++ (seal ++ rest)) =
+      front_split ∙ sym (append_assoc front (to_be_bytes w32 0) (post_text ++ (seal ++ rest))) in
+      let post_is : be64_at (number_place bytes k + 4) bytes ≡ file.post =
+      eight_here (number_place bytes k + 4) bytes (front ++ to_be_bytes w32 0) (seal ++ rest) file.post post_split post_place valid.post.width in
+      (k, end_is, record { pages = e.pages; ends = e.ends; there = e.number.there }, text_length, ap (λ (n : ℕ). writes_in bytes n) end_is ∙ walked.2, post_is)
 
   -- what breaks a rule stands behind the text
   breaks_behind : (f : LtxFault) (q : ℕ) → IsBroken bytes f q → (f ≡ fault.Tail) × (length (file_text file reserved) < q)

@@ -71,7 +71,7 @@ map-same f g first (suc count) same =
     cc
 
 -- numbers in two parts
-joined_over-split : (sum : ℕ → ℕ) (first few more count : ℕ) → few + more ≡ count →
+pub joined_over-split : (sum : ℕ → ℕ) (first few more count : ℕ) → few + more ≡ count →
     joined_over sum first count ≡ bit_xor (joined_over sum first few) (joined_over sum (first + few) more)
 joined_over-split sum first zero more count parts =
     let same : count ≡ more = omega (arith, parts) in

@@ -58,7 +58,7 @@ eight_below place bytes fits =
     omega (arith, few 0, few 1, few 2, few 3, few 4, few 5, few 6, few 7)
 
 -- the text of one more page
-pages_text-push : (ws : List PageWrite) (w : PageWrite) → pages_text (ws ++ w ∷ []) ≡ pages_text ws ++ (to_be_bytes w32 w.number ++ w.bytes)
+pub pages_text-push : (ws : List PageWrite) (w : PageWrite) → pages_text (ws ++ w ∷ []) ≡ pages_text ws ++ (to_be_bytes w32 w.number ++ w.bytes)
 pages_text-push [] w = simp append-nil
 pages_text-push (v ∷ vs) w = rw (pages_text-push vs w) (simp append_assoc)
 

@@ -9,6 +9,7 @@ use Rattle.page_checksum.specs.Crc.{after_bytes, all_ones, crc}
 use Rattle.page_checksum.proofs.CrcLemmas.{after_bytes-append}
 use Rattle.lf_sqlite_pages.specs.declared.page_write.PageWrite.{PageWrite}
 use Rattle.ltx_codec.specs.Format.{header_text, no_meaning, page_text, pages_text, end_text, sealed, summed_text, file_text, file_sum, IsFile, IsLtx}
+use Rattle.ltx_codec.specs.Encoding.{trailer_text}
 use Rattle.ltx_codec.specs.declared.file.Ltx.{Ltx}
 
 -- the pages left from i on are the i-th page and those left from i + 1 on
@@ -45,7 +46,7 @@ sealed_sum text = refl
 -- header, pages and trailer
 pub file_written : (file : Ltx) (old v1 v2 v3 : List ℕ) (r1 r2 : ℕ) → v1 ≡ old ++ header_text file.header no_meaning → r1 ≡ after_bytes all_ones (header_text file.header no_meaning)
     → v2 ≡ v1 ++ pages_text file.change.pages → r2 ≡ after_bytes r1 (pages_text file.change.pages)
-    → v3 ≡ v2 ++ end_text file.post ++ to_be_bytes w64 (sealed (after_bytes r2 (end_text file.post)))
+    → v3 ≡ v2 ++ trailer_text r2 file.post
     → v3 ≡ old ++ file_text file no_meaning
 file_written file old v1 v2 v3 r1 r2 e1 f1 e2 f2 e3 =
     let head = header_text file.header no_meaning in
@@ -59,6 +60,7 @@ file_written file old v1 v2 v3 r1 r2 e1 f1 e2 f2 e3 =
     ap sealed register ∙ sealed_sum (front ++ end_text file.post) ∙ ap file_sum summed in
     let here : v2 ≡ old ++ front = e2 ∙ ap (λ (l : List ℕ). l ++ pages) e1 ∙ append_assoc old head pages in
     e3
+    ∙ sym (append_assoc v2 (end_text file.post) (to_be_bytes w64 (sealed (after_bytes r2 (end_text file.post)))))
     ∙ ap (λ (n : ℕ). v2 ++ end_text file.post ++ to_be_bytes w64 n) seal
     ∙ ap (λ (l : List ℕ). l ++ end_text file.post ++ to_be_bytes w64 (file_sum (summed_text file no_meaning))) here
     ∙ ap (λ (l : List ℕ). l ++ to_be_bytes w64 (file_sum (summed_text file no_meaning))) (append_assoc old front (end_text file.post))

@@ -2,10 +2,12 @@ ghost use Rattle.std.specs.Prelude.{◌≡◌, ◌++◌, OnOk, OnErr, IfOk, IfEr
 ghost use Rattle.std.specs.Io.{StartsWith};
 ghost use Rattle.std.specs.Int.{w64, to_be_bytes};
 ghost use Rattle.page_checksum.specs.Crc.{after_bytes, all_ones};
-ghost use Rattle.ltx_codec.specs.Format.{header_text, no_meaning, page_text, end_text, sealed};
+ghost use Rattle.ltx_codec.specs.Format.{header_text, no_meaning, page_text};
+ghost use Rattle.ltx_codec.specs.Encoding.{trailer_text};
 
-use crate::appending::{append_end, append_header, append_page};
+use crate::appending::{append_end, append_page};
 use crate::header::Header;
+use crate::layout::header_bytes;
 use lf_base::NoMemory;
 use page_checksum::{FIRST_REGISTER, crc_feed};
 use std::marker::Model;
@@ -14,8 +16,9 @@ use std::marker::Model;
 const FLAG: u64 = 1 << 63;
 
 /// A file's text written part by part. It is seen as the register of the checksum after the parts
-/// so far. The text is a file's where the header, the numbers of the pages and the sum meet the
-/// format's rules and each page is one page long.
+/// so far. What is appended, one part after another, is the text of a file (`parts_are_the_text`)
+/// where the header, the numbers of the pages and the sum meet the format's rules and each page is
+/// one page long.
 #[derive(Drop)]
 pub struct Encoder {
     register: u64,
@@ -36,14 +39,10 @@ impl Encoder {
         ensures register { IfOk result (λ encoder. encoder ≡ after_bytes all_ones (header_text header.now no_meaning)) }
         ensures err { OnErr result (out.new.items ≡ out.old.items) }
     {
-        let start = out.len();
-        if let Err(error) = append_header(header, out) {
-            out.truncate(start);
-            return Err(error);
-        }
-        let (_, written) = out.as_slice().split_at(start);
+        let bytes = header_bytes(header);
+        out.extend_from_slice(&bytes)?;
         Ok(Encoder {
-            register: crc_feed(FIRST_REGISTER, written),
+            register: crc_feed(FIRST_REGISTER, &bytes),
         })
     }
 
@@ -66,8 +65,7 @@ impl Encoder {
     /// Appends the end of the pages, the sum of the database after the transactions, and the file
     /// sum. After want of memory the encoder comes back and `out` is as before.
     pub fn finish(self, post: u64, out: &mut Vec<u8>) -> Result<(), (NoMemory, Encoder)>
-        ensures ok { OnOk result (out.new.items ≡ out.old.items ++ end_text post
-            ++ to_be_bytes w64 (sealed (after_bytes self (end_text post)))) }
+        ensures ok { OnOk result (out.new.items ≡ out.old.items ++ trailer_text self post) }
         ensures err { OnErr result (out.new.items ≡ out.old.items) }
         ensures back { IfErr result (λ error. error.1 ≡ self) }
     {
@@ -80,8 +78,7 @@ impl Encoder {
     }
 
     fn append_trailer(&self, post: u64, out: &mut Vec<u8>) -> Result<(), NoMemory>
-        ensures ok { OnOk result (out.new.items ≡ out.old.items ++ end_text post
-            ++ to_be_bytes w64 (sealed (after_bytes self.now (end_text post)))) }
+        ensures ok { OnOk result (out.new.items ≡ out.old.items ++ trailer_text self.now post) }
         ensures grows { StartsWith out.new.items out.old.items }
     {
         let start = out.len();

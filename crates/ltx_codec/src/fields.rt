@@ -6,16 +6,27 @@ use crate::header::Header;
 use lf_base::{be32_at, be64_at};
 
 pub const FLAGS: usize = 4;
+
 pub const PAGE_SIZE: usize = 8;
+
 pub const COMMIT: usize = 12;
+
 pub const MIN: usize = 16;
+
 pub const MAX: usize = 24;
+
 const STAMP: usize = 32;
+
 pub const PRE: usize = 40;
+
 const WAL_OFFSET: usize = 48;
+
 const WAL_SIZE: usize = 56;
+
 const WAL_SALT1: usize = 64;
+
 const WAL_SALT2: usize = 68;
+
 const NODE: usize = 72;
 
 /// The header's fields, whatever they say.

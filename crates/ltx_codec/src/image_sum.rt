@@ -43,12 +43,7 @@ pub fn sum_after(alloc: Global, sum: u64, image: &Image, file: &Ltx) -> Result<u
 }
 
 /// The sum of an image after a change that fits it. `sum` is that of the image, bit 63 aside.
-pub fn changed_sum(
-    alloc: Global,
-    sum: u64,
-    image: &Image,
-    change: &Change,
-) -> Result<u64, NoMemory>
+pub fn changed_sum(alloc: Global, sum: u64, image: &Image, change: &Change) -> Result<u64, NoMemory>
     requires fits { Fits image.now change.now }
     requires sum { flagged sum ≡ image_sum image.now }
     ensures { IfOk result (λ after. after ≡ image_sum (apply image.now change.now)) }

@@ -2,6 +2,7 @@
 ghost use Rattle.std.specs.Prelude.{◌≡◌, ◌≢◌, ◌<◌, List, ℕ, ◌++◌, length};
 ghost use Rattle.ltx_codec.specs.Fields.{AreBytes};
 ghost use Rattle.ltx_codec.specs.Format.{IsLtx};
+ghost use Rattle.ltx_codec.specs.FileIn.{file_in};
 ghost use Rattle.ltx_codec.specs.Places.{IsBroken, IsEarliest, StandsInside};
 ghost use Rattle.ltx_codec.specs.declared.file.Ltx.{Ltx};
 ghost use Rattle.ltx_codec.specs.declared.fault.LtxFault.{LtxFault};
@@ -11,6 +12,11 @@ ghost use Rattle.ltx_codec.specs.declared.fault.LtxFault.{LtxFault};
 pub fn one_reading()
     ensures { (text other rest more : List ℕ) (file second : Ltx) → IsLtx text file → IsLtx other second
         → text ++ rest ≡ other ++ more → (text ≡ other) × (file ≡ second) }
+{}
+
+/// The file of a text is what `file_in` reads in it.
+pub fn file_is_read()
+    ensures { (bytes : List ℕ) (file : Ltx) → AreBytes bytes → IsLtx bytes file → file_in bytes ≡ file }
 {}
 
 /// The text of a file breaks no rule: what is broken stands behind it, and is that bytes follow.
