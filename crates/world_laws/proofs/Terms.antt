@@ -1,5 +1,7 @@
 -- Which node commits in which term, and where its last commit led.
 use Rattle.std.proofs.Common.{◌≡◌, ◌≢◌, ℕ, ◌-◌, ◌≤◌, eqb, true, false, List, [], ◌∷◌, ◌++◌, length, Option, Some, None, IfSome, inl, inr, refl, sym, subst, ◌∙◌, arith, ◌⊎◌, ◌+◌, ◌<◌, ◌^◌, Bool, IsSome, ap}
+use Rattle.std.specs.List.{All, Contains}
+use Rattle.std.proofs.lemmas.List.Elements.{All-cons, All-contains}
 use Rattle.std.proofs.lemmas.Bool.{cases_eq}
 use Rattle.std.proofs.lemmas.Bool.Decides.{nat_tests}
 use Rattle.lf_base.specs.declared.pos.Pos.{Pos}
@@ -91,6 +93,14 @@ AllLed-split granted term k [] rest led = (tt, led)
 AllLed-split granted term k (call ∷ calls) rest led =
     let more = AllLed-split granted term k calls rest led.1 in
     ((led.0, more.0), more.1)
+
+AllLed-each : (granted : List ℕ) (term k : ℕ) (calls : List StoreCall) → AllLed granted term k calls → All (IsLed granted term k) calls
+AllLed-each granted term k [] led = λ i d within. absurd (omega arith)
+AllLed-each granted term k (call ∷ calls) led = All-cons (IsLed granted term k) call calls led.0 (AllLed-each granted term k calls led.1)
+
+-- who makes a committing call of these was granted the term
+pub AllLed-commit : (granted : List ℕ) (term k : ℕ) (calls : List StoreCall) (file : Ltx) → AllLed granted term k calls → Contains calls (Commit file) → holder_of granted term ≡ Some k
+AllLed-commit granted term k calls file led here = All-contains (IsLed granted term k) calls (Commit file) (AllLed-each granted term k calls led) here
 
 pub Holds-led : (w : World) (k : ℕ) (calls : List StoreCall) → IfSome w.holder (λ j. holder_of w.granted (length w.granted) ≡ Some j) → CommitsAsHolder w k calls →
     AllLed w.granted (length w.granted) k calls

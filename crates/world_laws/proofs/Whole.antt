@@ -11,7 +11,7 @@ use Rattle.world_laws.specs.Node.{Answer, Applied, Ask, Forward, Gone, Hello, Is
 use Rattle.world_laws.specs.Positions.{before}
 use Rattle.world_laws.specs.Premises.{OneImagePerPosition}
 use Rattle.world_laws.specs.Safe.{IsAllowed, IsAtTip, IsPending, IsSafe, IsSafeNode, IsSendable}
-use Rattle.world_laws.specs.SafetyLaw.{ImagesAreOfPositions, SafeKept}
+use Rattle.world_laws.specs.SafetyLaw.{ImagesAreOfPositions, OnlyHoldersCommit, SafeKept}
 use Rattle.world_laws.specs.Served.{MeetsOverlay, Served, ShareForReading, untouched}
 use Rattle.world_laws.specs.Store.{CanDoAll, Commit, Failure, StoreCall, StoreState, all_done, at, begun_by, broken_by, empty_store}
 use Rattle.world_laws.specs.Terms.{AreInLine, holder_of, tip}
@@ -20,7 +20,7 @@ use Rattle.world_laws.proofs.Calls.{AllTake-split, Allowed-all_done, Allowed-not
 use Rattle.world_laws.proofs.Lineages.{Committed-more, Extends, One-fewer}
 use Rattle.world_laws.proofs.Nodes.{FoundSafe, Node-at, Node-granted, Node-kept, Node-moved, finds-extends, found-safe, makes-take, pending-after}
 use Rattle.world_laws.proofs.Scenes.{node}
-use Rattle.world_laws.proofs.Terms.{AllLed-split, AtTip-along, Holds-led, InLine-along, InLine-more, holder-new, tip-other_along}
+use Rattle.world_laws.proofs.Terms.{AllLed-commit, AllLed-split, AtTip-along, Holds-led, InLine-along, InLine-more, holder-new, tip-other_along}
 
 -- the node of a step
 turn-node : (w v : World) (k : ℕ) (ask : Ask) (answer : Answer) → OneImagePerPosition v.tree → IsSafe w → Turns w k ask answer v →
@@ -204,10 +204,15 @@ images-are w one safe k lineage stands position =
 pub run-safe : {w v : World} {events : List Event} → IsStart w → Runs w events v → OneImagePerPosition v.tree → IsSafe v
 run-safe {w = w} start runs one = runs-safe runs one (start-safe w start)
 
+holders-are : (w : World) → IsSafe w → OnlyHoldersCommit w
+holders-are w safe v k ask answer file turn here =
+    AllLed-commit w.granted (length w.granted) k (turn.facts.did ++ begun_by turn.facts.failed) file
+    (Holds-led w k (turn.facts.did ++ begun_by turn.facts.failed) safe.holder turn.leads) here
+
 pub safe_kept-of : SafeKept
 safe_kept-of w v events start runs one =
     let safe : IsSafe v = run-safe start runs one in
-    (safe, images-are v one safe)
+    record { safe = safe; images = images-are v one safe; holders = holders-are v safe }
 
 pub one-before : (w v : World) (event : Event) → Happens w event v → OneImagePerPosition v.tree → OneImagePerPosition w.tree
 one-before w v event happens one = One-fewer w.tree v.tree (event-extends w v event happens) one

@@ -35,11 +35,11 @@ snapshot_of store = record {
   post = (at store).sum;
 }
 
--- a store was never written, or not since its log was last empty, and is not marked as dropped
+-- a store that holds nothing, and is not marked as dropped
 abbrev pub IsBlank : StoreState → Type 0
 IsBlank store = (store.log ≡ []) × (store.dropped ≡ false)
 
--- a store knows a position: its own, one from which a file of its log leads on, and any if it was never written
+-- a store knows a position: its own, one from which a file of its log leads on, and any where it is blank
 abbrev pub Knows : StoreState → Pos → Type 0
 Knows store position = (position ≡ at store) ⊎ ((file : Ltx) × Contains store.log file × (before file ≡ position)) ⊎ IsBlank store
 
