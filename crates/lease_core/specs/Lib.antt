@@ -1,0 +1,3 @@
+pub mod Leases
+pub mod Belief
+pub mod Bodies
