@@ -6,3 +6,4 @@ pub mod Replies
 pub mod Feeding
 pub mod Texts
 pub mod Run
+pub mod Loops

@@ -13,7 +13,7 @@ use Rattle.fuse_msgs.specs.Message.{len_of, is_length}
 use Rattle.fuse_msgs.specs.Feed.{part, whole, broken, front_of, is_whole, is_whole_front, says_whole, UsesSome, unfinished, finished, fed_on, feed_answer, answer_at, taken_of, text_of, messages_of, left_of, IsWholeMessage, Splits}
 use Rattle.fuse_msgs.proofs.Feeding.{len_of-append, front_of-short, front_of-part, front_of-whole, front_of-broken, front_then_rest, length-front, length_is_40, unfinished_below}
 
-clash : {A : Type 0} → true ≡ false → A
+pub clash : {A : Type 0} → true ≡ false → A
 clash e = absurd cc
 
 -- ---- what a front says of the text
@@ -33,7 +33,7 @@ pub data Case (text : List ℕ) : Type 0 where
   partial : 4 ≤ length text → is_length (len_of text) ≡ true → length text < len_of text
       → front_of text ≡ part → Case text
 
-bool_cases : (b : Bool) → (b ≡ true) ⊎ (b ≡ false)
+pub bool_cases : (b : Bool) → (b ≡ true) ⊎ (b ≡ false)
 bool_cases true = inl refl
 bool_cases false = inr refl
 
@@ -100,7 +100,7 @@ broken_fed held piece four b =
     front_of-broken (held ++ take (4 - length held) piece) size (ap is_length same ∙ b) ∙ ap broken same
 
 -- what feeding makes whole is one message
-fed_message : (held piece : List ℕ) → is_whole held ≡ false → is_whole (fed_on held piece) ≡ true
+pub fed_message : (held piece : List ℕ) → is_whole held ≡ false → is_whole (fed_on held piece) ≡ true
     → IsWholeMessage (fed_on held piece)
 fed_message held piece u w =
     elim (case_of (held ++ piece)) [

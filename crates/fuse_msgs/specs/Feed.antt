@@ -1,5 +1,5 @@
 -- A text of messages that comes in pieces.
-use Rattle.std.specs.Prelude.{◌≡◌, ℕ, ◌-◌, ◌<◌, ◌≤◌, nat_lt, nat_le, Bool, true, false, List, [], ◌∷◌, ◌++◌, length, take, Result, Ok, Err, if◌then◌else◌}
+use Rattle.std.specs.Prelude.{◌≡◌, ℕ, ◌-◌, ◌<◌, ◌≤◌, nat_lt, nat_le, Bool, true, false, List, [], ◌∷◌, ◌++◌, length, take, drop, Result, Ok, Err, if◌then◌else◌}
 use Rattle.std.specs.List.{flat_map, AllByRecursion}
 use Rattle.fuse_msgs.specs.declared.feed.Fed.{Fed}
 use Rattle.fuse_msgs.specs.declared.feed.Fed.TheVariants as fed
@@ -60,6 +60,17 @@ says_whole _ = false
 abbrev pub UsesSome : Result Fed BadMessage → ℕ → Type 0
 UsesSome (Ok (fed.Whole used)) more = (0 < used) × (used ≤ more)
 UsesSome _ more = Unit {0}
+
+-- what is held then and what was not taken of the piece are the text
+abbrev pub TakesAll : List ℕ → List ℕ → List ℕ → Fed → Type 0
+TakesAll old piece new fed.More = new ≡ old ++ piece
+TakesAll old piece new (fed.Whole used) = new ++ drop used piece ≡ old ++ piece
+
+-- the text begins with a length field that no message has, and that is the fault
+pub record BeginsRefused (text : List ℕ) (fault : BadMessage) : Type 0 where
+  pub field : 4 ≤ length text
+  pub refused : is_length (len_of text) ≡ false
+  pub fault_is : fault ≡ bad.Length (len_of text)
 
 -- ---- a whole run
 

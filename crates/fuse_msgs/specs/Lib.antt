@@ -11,4 +11,5 @@ pub mod Message
 pub mod Decoding
 pub mod Reply
 pub mod Feed
+pub mod FeedLoop
 pub mod Text

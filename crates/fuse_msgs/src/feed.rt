@@ -1,7 +1,7 @@
 //! Messages from a text that comes in pieces.
 
-ghost use Rattle.std.specs.Prelude.{◌≡◌, ◌+◌, ◌-◌, ◌≤◌, ◌++◌, [], true, false, length, take, min, vec_len, vec_capacity, IfOk};
-ghost use Rattle.fuse_msgs.specs.Feed.{is_whole, unfinished, feed_answer, fed_on, says_whole, UsesSome};
+ghost use Rattle.std.specs.Prelude.{◌≡◌, ◌+◌, ◌-◌, ◌≤◌, ◌++◌, [], true, false, length, take, min, vec_len, vec_capacity, IfOk, IfErr};
+ghost use Rattle.fuse_msgs.specs.Feed.{is_whole, unfinished, feed_answer, fed_on, says_whole, UsesSome, TakesAll, BeginsRefused};
 
 use crate::fault::BadMessage;
 use crate::fields::u32_at;
@@ -56,6 +56,10 @@ impl MessageFeed {
         ensures held { self.new ≡ fed_on self.old piece.now }
         ensures whole { is_whole self.new ≡ says_whole result }
         ensures used { UsesSome result (length piece.now) }
+        // No byte is lost.
+        ensures all { IfOk result (TakesAll self.old piece.now self.new) }
+        // No message has the length field with which the text begins, and from then on it is held.
+        ensures refused { IfErr result (λ fault. BeginsRefused (self.old ++ piece.now) fault × BeginsRefused self.new fault) }
     {
         feed_into(&mut self.bytes, piece)
     }

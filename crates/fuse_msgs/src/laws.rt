@@ -6,6 +6,7 @@ ghost use Rattle.fuse_msgs.specs.declared.fault.BadMessage.TheVariants as bad;
 ghost use Rattle.fuse_msgs.specs.Message.{IsMessage};
 ghost use Rattle.fuse_msgs.specs.Text.{Fits, request_bytes};
 ghost use Rattle.fuse_msgs.specs.Feed.{broken, front_of, fed_on, feed_answer, text_of, messages_of, left_of, Splits};
+ghost use Rattle.fuse_msgs.specs.FeedLoop.{joined, FeedsAll};
 
 /// The text that a plain client writes for a request is a message of that request and of no other,
 /// so no two requests share a text.
@@ -22,6 +23,17 @@ pub fn any_pieces()
         → Splits (text_of [] pieces) (messages_of [] pieces) (left_of [] pieces) }
     ensures once { (text : List ℕ) (a b : List (List ℕ)) (r s : List ℕ)
         → Splits text a r → Splits text b s → (a ≡ b) × (r ≡ s) }
+{}
+
+/// A loop that feeds the rest of a piece again, where a message ended in it, gives the messages of the whole text: it
+/// comes to an end, its messages are one after another the text up to its rest, and no other pieces of that text give
+/// other messages or another rest.
+pub fn rests_fed_again()
+    ensures ends { (pieces : List (List ℕ)) → (messages : List (List ℕ)) × (rest : List ℕ) × FeedsAll pieces messages rest }
+    ensures split { (pieces messages : List (List ℕ)) (rest : List ℕ)
+        → FeedsAll pieces messages rest → Splits (joined pieces) messages rest }
+    ensures once { (a b : List (List ℕ)) (ms ns : List (List ℕ)) (r s : List ℕ)
+        → joined a ≡ joined b → FeedsAll a ms r → FeedsAll b ns s → (ms ≡ ns) × (r ≡ s) }
 {}
 
 /// A length field that no message has is held once it is refused, and refused at each later call.
