@@ -1,10 +1,11 @@
 -- What a text begins with, as its pieces are taken.
-use Rattle.std.proofs.Common.{◌≡◌, ℕ, zero, suc, ◌+◌, ◌-◌, ◌<◌, ◌≤◌, min, Bool, true, false, ◌&&◌, zero-add, suc-add, leb, List, [], ◌∷◌, ◌++◌, length, get_or, take, drop, Ok, Err, sym, ap, refl, ◌∙◌, arith, append_assoc, inl, inr}
+use Rattle.std.proofs.Common.{◌≡◌, ℕ, zero, suc, ◌+◌, ◌-◌, ◌<◌, ◌≤◌, min, Bool, true, false, ◌&&◌, zero-add, suc-add, leb, List, [], ◌∷◌, ◌++◌, length, take, drop, Ok, Err, sym, ap, refl, ◌∙◌, arith, append_assoc, inl, inr}
 use Rattle.std.proofs.lemmas.Bool.{leb-true, le-leb, lt-leb, lt-ltb, le-ltb, cases_lt}
-use Rattle.std.proofs.lemmas.List.{length-append, length-take, take-append-drop, get_or_append_left}
+use Rattle.std.proofs.lemmas.List.{length-append, length-take, take-append-drop, take-append-le}
 use Rattle.fuse_msgs.specs.declared.feed.Fed.TheVariants as fed
 use Rattle.fuse_msgs.specs.declared.fault.BadMessage.TheVariants as bad
-use Rattle.fuse_msgs.specs.Fields.{u32_at}
+use Rattle.std.specs.Int.{w32, from_le_bytes}
+use Rattle.lf_base.specs.Endian.{le32_at}
 use Rattle.fuse_msgs.specs.Message.{len_of, is_length}
 use Rattle.fuse_msgs.specs.Feed.{part, whole, broken, front_of, is_whole, is_whole_front, feed_answer, fed_on}
 
@@ -31,13 +32,8 @@ take_two (suc n) m (x ∷ xs) = rw (suc-add) (ap (λ ys. x ∷ ys) (take_two n m
 
 -- the length field of a text is that of a front that has it
 pub len_of-append : (a b : List ℕ) → 4 ≤ length a → len_of (a ++ b) ≡ len_of a
-unfolding u32_at
-len_of-append a b h =
-    let b0 : get_or (a ++ b) 0 0 ≡ get_or a 0 0 = get_or_append_left a b 0 0 (omega arith) in
-    let b1 : get_or (a ++ b) 1 0 ≡ get_or a 1 0 = get_or_append_left a b 0 1 (omega arith) in
-    let b2 : get_or (a ++ b) 2 0 ≡ get_or a 2 0 = get_or_append_left a b 0 2 (omega arith) in
-    let b3 : get_or (a ++ b) 3 0 ≡ get_or a 3 0 = get_or_append_left a b 0 3 (omega arith) in
-    omega (arith, b0, b1, b2, b3)
+unfolding le32_at
+len_of-append a b h = ap (from_le_bytes w32) (take-append-le 4 a b h)
 
 pub front_of-short : (text : List ℕ) → length text < 4 → front_of text ≡ part
 unfolding front_of

@@ -1,6 +1,6 @@
 -- A loop that feeds the rest of a piece again gives the messages of the whole text.
-use Rattle.std.proofs.Common.{◌≡◌, ℕ, zero, suc, ◌+◌, ◌-◌, ◌<◌, ◌≤◌, true, false, List, [], ◌∷◌, ◌++◌, length, take, drop, Result, Ok, Err, IfOk, IfErr, refl, sym, ap, subst, ◌∙◌, arith, append_assoc, inl, inr}
-use Rattle.std.specs.List.{flat_map, AllByRecursion}
+use Rattle.std.proofs.Common.{◌≡◌, ℕ, zero, suc, ◌+◌, ◌≤◌, false, List, [], ◌∷◌, ◌++◌, length, take, drop, Result, Ok, Err, IfOk, IfErr, refl, sym, ap, subst, ◌∙◌, arith, append_assoc, inl, inr}
+use Rattle.std.specs.List.{flat_map}
 use Rattle.std.proofs.lemmas.Bool.{cases_lt}
 use Rattle.std.proofs.lemmas.List.{length-append, length-drop, take-append-drop, take_all, append-nil}
 use Rattle.fuse_msgs.specs.declared.feed.Fed.{Fed}
@@ -11,7 +11,7 @@ use Rattle.fuse_msgs.specs.Message.{len_of, is_length}
 use Rattle.fuse_msgs.specs.Feed.{Front, part, whole, broken, front_of, is_whole, is_whole_front, says_whole, UsesSome, fed_on, feed_answer, answer_at, taken_at, IsWholeMessage, Splits, TakesAll, BeginsRefused}
 use Rattle.fuse_msgs.specs.FeedLoop.{joined, After, Feeds, FeedsAll}
 use Rattle.fuse_msgs.proofs.Feeding.{front_of-short, front_of-part, front_of-whole, front_of-broken}
-use Rattle.fuse_msgs.proofs.Run.{clash, bool_cases, fed_message, whole_told, some_used, empty_unfinished, one_splitting, refused_again, refused_held}
+use Rattle.fuse_msgs.proofs.Run.{bool_cases, fed_message, whole_told, some_used, empty_unfinished, one_splitting, refused_again, refused_held}
 
 abbrev Answer : Type 0
 Answer = Result Fed BadMessage
@@ -99,8 +99,8 @@ answered_split : (calls : ℕ) (held piece : List ℕ) (pieces messages : List (
     → is_whole held ≡ false
     → feed_answer held piece ≡ answer
     → After answer (Feeds calls (fed_on held piece) pieces messages rest)
-        (λ used. (later : List (List ℕ)) × (messages ≡ fed_on held piece ∷ later) × Feeds calls [] (drop used piece ∷ pieces) later rest)
-        ((messages ≡ []) × (rest ≡ held ++ joined (piece ∷ pieces)))
+    (λ used. (later : List (List ℕ)) × (messages ≡ fed_on held piece ∷ later) × Feeds calls [] (drop used piece ∷ pieces) later rest)
+    ((messages ≡ []) × (rest ≡ held ++ joined (piece ∷ pieces)))
     → Splits (held ++ joined (piece ∷ pieces)) messages rest
 answered_split calls held piece pieces messages rest (Ok fed.More) go u e f =
     let next = go (fed_on held piece) pieces messages (whole_told held piece u ∙ ap says_whole e) f in
@@ -150,24 +150,42 @@ answered_end : (bound : ℕ) (held piece : List ℕ) (pieces : List (List ℕ)) 
     → length (piece ++ joined pieces) + suc (length pieces) ≤ suc bound → Ends held (piece ∷ pieces)
 answered_end bound held piece pieces (Ok fed.More) go u e le =
     let room : length (joined pieces) + length pieces ≤ bound = omega (arith, length-append piece (joined pieces), le) in
-    let next = go (fed_on held piece) pieces (whole_told held piece u ∙ ap says_whole e) room in
-    (next.0, next.1, (suc next.2.0, subst (λ (a : Answer). After a (Feeds next.2.0 (fed_on held piece) pieces next.0 next.1)
-        (λ used. (later : List (List ℕ)) × (next.0 ≡ fed_on held piece ∷ later) × Feeds next.2.0 [] (drop used piece ∷ pieces) later next.1)
-        ((next.0 ≡ []) × (next.1 ≡ held ++ joined (piece ∷ pieces)))) (sym e) next.2.1))
+    let next = go (fed_on held piece) pieces (whole_told held piece u ∙ ap says_whole e) room in (
+      next.0,
+      next.1,
+      (
+        suc next.2.0,
+        subst (λ (a : Answer). After a (Feeds next.2.0 (fed_on held piece) pieces next.0 next.1)
+            (λ used. (later : List (List ℕ)) × (next.0 ≡ fed_on held piece ∷ later) × Feeds next.2.0 [] (drop used piece ∷ pieces) later next.1)
+            ((next.0 ≡ []) × (next.1 ≡ held ++ joined (piece ∷ pieces)))) (sym e) next.2.1,
+      ),
+    )
 answered_end bound held piece pieces (Ok (fed.Whole used)) go u e le =
     let some : UsesSome (Ok (fed.Whole used)) (length piece) = subst (λ (a : Answer). UsesSome a (length piece)) e (some_used held piece u) in
     let one = some.0 in
     let all = some.1 in
     let room : length (drop used piece ++ joined pieces) + suc (length pieces) ≤ bound
     = omega (arith, length-append piece (joined pieces), length-append (drop used piece) (joined pieces), length-drop used piece, le, one, all) in
-    let next = go [] (drop used piece ∷ pieces) empty_unfinished room in
-    (fed_on held piece ∷ next.0, next.1, (suc next.2.0, subst (λ (a : Answer). After a (Feeds next.2.0 (fed_on held piece) pieces (fed_on held piece ∷ next.0) next.1)
-        (λ used. (later : List (List ℕ)) × (fed_on held piece ∷ next.0 ≡ fed_on held piece ∷ later) × Feeds next.2.0 [] (drop used piece ∷ pieces) later next.1)
-        ((fed_on held piece ∷ next.0 ≡ []) × (next.1 ≡ held ++ joined (piece ∷ pieces)))) (sym e) (next.0, refl, next.2.1)))
-answered_end bound held piece pieces (Err fault) go u e le =
-    (no_messages, held ++ joined (piece ∷ pieces), (1, subst (λ (a : Answer). After a (Feeds 0 (fed_on held piece) pieces no_messages (held ++ joined (piece ∷ pieces)))
+    let next = go [] (drop used piece ∷ pieces) empty_unfinished room in (
+      fed_on held piece ∷ next.0,
+      next.1,
+      (
+        suc next.2.0,
+        subst (λ (a : Answer). After a (Feeds next.2.0 (fed_on held piece) pieces (fed_on held piece ∷ next.0) next.1)
+            (λ used. (later : List (List ℕ)) × (fed_on held piece ∷ next.0 ≡ fed_on held piece ∷ later) × Feeds next.2.0 [] (drop used piece ∷ pieces) later next.1)
+            ((fed_on held piece ∷ next.0 ≡ []) × (next.1 ≡ held ++ joined (piece ∷ pieces)))) (sym e) (next.0, refl, next.2.1),
+      ),
+    )
+answered_end bound held piece pieces (Err fault) go u e le = (
+  no_messages,
+  held ++ joined (piece ∷ pieces),
+  (
+    1,
+    subst (λ (a : Answer). After a (Feeds 0 (fed_on held piece) pieces no_messages (held ++ joined (piece ∷ pieces)))
         (λ used. (later : List (List ℕ)) × (no_messages ≡ fed_on held piece ∷ later) × Feeds 0 [] (drop used piece ∷ pieces) later (held ++ joined (piece ∷ pieces)))
-        ((no_messages ≡ []) × (held ++ joined (piece ∷ pieces) ≡ held ++ joined (piece ∷ pieces)))) (sym e) (refl, refl)))
+        ((no_messages ≡ []) × (held ++ joined (piece ∷ pieces) ≡ held ++ joined (piece ∷ pieces)))) (sym e) (refl, refl),
+  ),
+)
 
 feeds_end : (bound : ℕ) (held : List ℕ) (pieces : List (List ℕ)) → is_whole held ≡ false → length (joined pieces) + length pieces ≤ bound → Ends held pieces
 feeds_end bound held [] u le = ([], held, (0, (refl, refl, refl)))

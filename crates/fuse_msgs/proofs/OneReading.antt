@@ -7,7 +7,8 @@ use Rattle.fuse_msgs.specs.declared.request.LockWish.TheVariants as wish
 use Rattle.fuse_msgs.specs.declared.request.Request.{Request}
 use Rattle.fuse_msgs.specs.declared.opcode.Opcode.{Opcode}
 use Rattle.fuse_msgs.specs.declared.opcode.Opcode.TheVariants as opcode
-use Rattle.fuse_msgs.specs.Fields.{u32_at, u64_at, is_set, given}
+use Rattle.fuse_msgs.specs.Fields.{is_set, given}
+use Rattle.lf_base.specs.Endian.{le32_at, le64_at}
 use Rattle.fuse_msgs.specs.Opcodes.{opcode_of}
 use Rattle.fuse_msgs.specs.Locks.{lock_type}
 use Rattle.fuse_msgs.specs.Body.{IsBody}
@@ -42,24 +43,24 @@ op_at : Opcode → List ℕ → Op
 op_at opcode.Lookup body = op.Lookup (front body)
 op_at opcode.Forget body = op.Forget
 op_at opcode.Getattr body = op.Getattr
-op_at opcode.Setattr body = op.Setattr (given (is_set (u32_at body 0) 3) (u64_at body 16))
-    (given (is_set (u32_at body 0) 9) (u64_at body 24))
+op_at opcode.Setattr body = op.Setattr (given (is_set (le32_at 0 body) 3) (le64_at 16 body))
+    (given (is_set (le32_at 0 body) 9) (le64_at 24 body))
 op_at opcode.Unlink body = op.Unlink (front body)
 op_at opcode.Open body = op.Open
-op_at opcode.Read body = op.Read (u64_at body 0) (u64_at body 8) (u32_at body 16)
-    (given (is_set (u32_at body 20) 1) (u64_at body 24))
-op_at opcode.Write body = op.Write (u64_at body 0) (u64_at body 8)
-    (given (is_set (u32_at body 20) 1) (u64_at body 24)) (drop 40 body)
-op_at opcode.Release body = op.Release (u64_at body 0) (u64_at body 16)
-op_at opcode.Fsync body = op.Fsync (u64_at body 0)
-op_at opcode.Flush body = op.Flush (u64_at body 0) (u64_at body 16)
-op_at opcode.Init body = op.Init (u32_at body 0) (u32_at body 4)
-op_at opcode.Getlk body = op.Getlk (u64_at body 0) (u64_at body 8) (u64_at body 16) (u64_at body 24)
-    (wish_at (u32_at body 32))
-op_at opcode.Setlk body = op.Setlk (u64_at body 0) (u64_at body 8) (u64_at body 16) (u64_at body 24)
-    (wish_at (u32_at body 32))
-op_at opcode.Setlkw body = op.Setlkw (u64_at body 0) (u64_at body 8) (u64_at body 16) (u64_at body 24)
-    (wish_at (u32_at body 32))
+op_at opcode.Read body = op.Read (le64_at 0 body) (le64_at 8 body) (le32_at 16 body)
+    (given (is_set (le32_at 20 body) 1) (le64_at 24 body))
+op_at opcode.Write body = op.Write (le64_at 0 body) (le64_at 8 body)
+    (given (is_set (le32_at 20 body) 1) (le64_at 24 body)) (drop 40 body)
+op_at opcode.Release body = op.Release (le64_at 0 body) (le64_at 16 body)
+op_at opcode.Fsync body = op.Fsync (le64_at 0 body)
+op_at opcode.Flush body = op.Flush (le64_at 0 body) (le64_at 16 body)
+op_at opcode.Init body = op.Init (le32_at 0 body) (le32_at 4 body)
+op_at opcode.Getlk body = op.Getlk (le64_at 0 body) (le64_at 8 body) (le64_at 16 body) (le64_at 24 body)
+    (wish_at (le32_at 32 body))
+op_at opcode.Setlk body = op.Setlk (le64_at 0 body) (le64_at 8 body) (le64_at 16 body) (le64_at 24 body)
+    (wish_at (le32_at 32 body))
+op_at opcode.Setlkw body = op.Setlkw (le64_at 0 body) (le64_at 8 body) (le64_at 16 body) (le64_at 24 body)
+    (wish_at (le32_at 32 body))
 op_at opcode.Create body = op.Create (front (drop 16 body))
 op_at opcode.Destroy body = op.Destroy
 
@@ -77,9 +78,9 @@ op_is body (op.Release fh owner) h = cc
 op_is body (op.Fsync fh) h = cc
 op_is body (op.Flush fh owner) h = cc
 op_is body (op.Init major minor) h = cc
-op_is body (op.Getlk fh owner start end kind) h = cc (wish_from (u32_at body 32) kind h.kind_is)
-op_is body (op.Setlk fh owner start end kind) h = cc (wish_from (u32_at body 32) kind h.kind_is)
-op_is body (op.Setlkw fh owner start end kind) h = cc (wish_from (u32_at body 32) kind h.kind_is)
+op_is body (op.Getlk fh owner start end kind) h = cc (wish_from (le32_at 32 body) kind h.kind_is)
+op_is body (op.Setlk fh owner start end kind) h = cc (wish_from (le32_at 32 body) kind h.kind_is)
+op_is body (op.Setlkw fh owner start end kind) h = cc (wish_from (le32_at 32 body) kind h.kind_is)
 op_is body (op.Create name) h = ap (λ n. op.Create n) (name_is_front (drop 16 body) name h.1.1)
 op_is body op.Destroy h = refl
 

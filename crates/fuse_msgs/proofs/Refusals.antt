@@ -6,7 +6,7 @@ use Rattle.fuse_msgs.specs.declared.request.Op.TheVariants as op
 use Rattle.fuse_msgs.specs.declared.request.LockWish.{LockWish}
 use Rattle.fuse_msgs.specs.declared.request.LockWish.TheVariants as wish
 use Rattle.fuse_msgs.specs.declared.request.Request.{Request}
-use Rattle.fuse_msgs.specs.Fields.{u32_at}
+use Rattle.lf_base.specs.Endian.{le32_at}
 use Rattle.fuse_msgs.specs.Opcodes.{opcode_of}
 use Rattle.fuse_msgs.specs.ReadWrite.{IsWriteIn, has_data}
 use Rattle.fuse_msgs.specs.Locks.{IsLkIn, lock_type, has_lock}
@@ -22,13 +22,13 @@ lock_type-below wish.Unlock = omega arith
 lock_has : (body : List ℕ) (fh owner start end : ℕ) (kind : LockWish) → IsLkIn body fh owner start end kind
     → has_lock body ≡ true
 lock_has body fh owner start end kind h =
-    let low : u32_at body 32 ≤ 2 = omega (arith, h.kind_is, lock_type-below kind) in
+    let low : le32_at 32 body ≤ 2 = omega (arith, h.kind_is, lock_type-below kind) in
     rw (eq-eqb (length body) 48 h.whole, le-leb _ _ low) refl
 
 data_has : (body : List ℕ) (fh at : ℕ) (owner : Option ℕ) (bytes : List ℕ)
     → IsWriteIn body fh at owner bytes → has_data body ≡ true
 data_has body fh at owner bytes h =
-    let size : u32_at body 16 ≡ length (drop 40 body) = h.size_is ∙ ap length h.data_is in
+    let size : le32_at 16 body ≡ length (drop 40 body) = h.size_is ∙ ap length h.data_is in
     let limit : length (drop 40 body) ≤ 131072 = rw (← h.data_is) h.limit in
     rw (le-leb 40 (length body) h.whole, eq-eqb _ _ size, le-leb _ _ limit) refl
 

@@ -11,7 +11,8 @@ use Rattle.fuse_msgs.specs.declared.request.LockWish.TheVariants as wish
 use Rattle.fuse_msgs.specs.declared.request.Request.{Request}
 use Rattle.fuse_msgs.specs.declared.opcode.Opcode.{Opcode}
 use Rattle.fuse_msgs.specs.declared.opcode.Opcode.TheVariants as opcode
-use Rattle.fuse_msgs.specs.Fields.{le32, le64, zeros, u32_at, u64_at, is_set}
+use Rattle.fuse_msgs.specs.Fields.{le32, le64, zeros, is_set}
+use Rattle.lf_base.specs.Endian.{le32_at, le64_at}
 use Rattle.fuse_msgs.specs.Opcodes.{opcode_named, number_of, opcode_of}
 use Rattle.fuse_msgs.specs.Names.{is_name}
 use Rattle.fuse_msgs.specs.Locks.{IsLkIn, lock_type}
@@ -67,7 +68,7 @@ number_fits opcode.Destroy = lit< tt
 
 read_is : (fh at size : ℕ) (owner : Option ℕ) → ReadFits fh at size owner
     → IsReadIn (read_in fh at size owner) fh at size owner
-unfolding le32 le64 zeros u32_at u64_at is_set
+unfolding le32 le64 zeros le32_at le64_at is_set
 read_is fh at size None h = record {
   whole = refl;
   fh_is = sym (from_le_bytes-to_le_bytes_8 fh h.fh_fits);
@@ -85,7 +86,7 @@ read_is fh at size (Some owner) h = record {
 
 write_is : (fh at : ℕ) (owner : Option ℕ) (bytes : List ℕ) → ReadFits fh at 0 owner → length bytes ≤ 131072
     → IsWriteIn (read_in fh at (length bytes) owner ++ bytes) fh at owner bytes
-unfolding le32 le64 zeros u32_at u64_at is_set
+unfolding le32 le64 zeros le32_at le64_at is_set
 write_is fh at None bytes h l = record {
   whole = omega arith;
   fh_is = sym (from_le_bytes-to_le_bytes_8 fh h.fh_fits);
@@ -107,7 +108,7 @@ write_is fh at (Some owner) bytes h l = record {
 
 setattr_is : (size owner : Option ℕ) → IfSome size (λ n. n < 2 ^ 64) → IfSome owner (λ n. n < 2 ^ 64)
     → IsSetattrIn (setattr_in size owner) size owner
-unfolding le32 le64 zeros u32_at u64_at is_set
+unfolding le32 le64 zeros le32_at le64_at is_set
 setattr_is None None hs ho = record { whole = refl; size_is = refl; owner_is = refl }
 setattr_is None (Some owner) hs ho = record {
   whole = refl;
@@ -134,7 +135,7 @@ type_fits wish.Unlock = lit< tt
 
 lk_is : (fh owner start end : ℕ) (kind : LockWish) → LockFits fh owner start end
     → IsLkIn (lk_in fh owner start end kind) fh owner start end kind
-unfolding le32 le64 zeros u32_at u64_at
+unfolding le32 le64 zeros le32_at le64_at
 lk_is fh owner start end kind h = record {
   whole = refl;
   fh_is = sym (from_le_bytes-to_le_bytes_8 fh h.fh_fits);
@@ -145,7 +146,7 @@ lk_is fh owner start end kind h = record {
 }
 
 body_is : (o : Op) → OpFits o → IsBody (body_bytes o) o
-unfolding le32 le64 zeros u32_at u64_at
+unfolding le32 le64 zeros le32_at le64_at
 body_is (op.Lookup name) h = (h, refl)
 body_is op.Forget h = refl
 body_is op.Getattr h = refl
@@ -214,16 +215,16 @@ body_short op.Destroy h = omega arith
 
 record HasFields (len number unique node pid : ℕ) (body : List ℕ) : Type 0 where
   long : length (in_header len number unique node pid ++ body) ≡ 40 + length body
-  len_is : u32_at (in_header len number unique node pid ++ body) 0 ≡ len
-  number_is : u32_at (in_header len number unique node pid ++ body) 4 ≡ number
-  unique_is : u64_at (in_header len number unique node pid ++ body) 8 ≡ unique
-  node_is : u64_at (in_header len number unique node pid ++ body) 16 ≡ node
-  pid_is : u32_at (in_header len number unique node pid ++ body) 32 ≡ pid
+  len_is : le32_at 0 (in_header len number unique node pid ++ body) ≡ len
+  number_is : le32_at 4 (in_header len number unique node pid ++ body) ≡ number
+  unique_is : le64_at 8 (in_header len number unique node pid ++ body) ≡ unique
+  node_is : le64_at 16 (in_header len number unique node pid ++ body) ≡ node
+  pid_is : le32_at 32 (in_header len number unique node pid ++ body) ≡ pid
   rest : drop 40 (in_header len number unique node pid ++ body) ≡ body
 
 header_has : (len number unique node pid : ℕ) (body : List ℕ) → len < 2 ^ 32 → number < 2 ^ 32
     → unique < 2 ^ 64 → node < 2 ^ 64 → pid < 2 ^ 32 → HasFields len number unique node pid body
-unfolding le32 le64 zeros u32_at u64_at
+unfolding le32 le64 zeros le32_at le64_at
 header_has len number unique node pid body hl hn hu hd hp = record {
   long = omega arith;
   len_is = from_le_bytes-to_le_bytes_4 len hl;

@@ -1,14 +1,6 @@
--- Little-endian numbers inside a list of bytes, and flags.
-use Rattle.std.specs.Prelude.{ℕ, Bool, true, false, List, drop, replicate, Option, Some, None, ◌==◌}
-use Rattle.std.specs.Int.{w16, w32, w64, from_le_bytes, to_le_bytes, bit_at}
-
--- the number in the four bytes from a place on
-unfoldable pub u32_at : List ℕ → ℕ → ℕ
-u32_at bytes at = from_le_bytes w32 (drop at bytes)
-
--- the number in the eight bytes from a place on
-unfoldable pub u64_at : List ℕ → ℕ → ℕ
-u64_at bytes at = from_le_bytes w64 (drop at bytes)
+-- Flags, and little-endian numbers as bytes.
+use Rattle.std.specs.Prelude.{ℕ, Bool, true, false, List, replicate, Option, Some, None, ◌==◌}
+use Rattle.std.specs.Int.{w16, w32, w64, to_le_bytes, bit_at}
 
 -- whether a bit of the flags is set, the lowest being 0
 unfoldable pub is_set : ℕ → ℕ → Bool

@@ -4,25 +4,25 @@ use Rattle.fuse_msgs.specs.declared.request.Request.{Request}
 use Rattle.fuse_msgs.specs.declared.opcode.Opcode.{Opcode}
 use Rattle.fuse_msgs.specs.declared.fault.BadMessage.{BadMessage}
 use Rattle.fuse_msgs.specs.declared.fault.BadMessage.TheVariants as bad
-use Rattle.fuse_msgs.specs.Fields.{u32_at, u64_at}
+use Rattle.lf_base.specs.Endian.{le32_at, le64_at}
 use Rattle.fuse_msgs.specs.Opcodes.{opcode_named, opcode_of}
 use Rattle.fuse_msgs.specs.Body.{IsBody, has_shape, has_name}
 
 -- the fields of a `fuse_in_header`: len 4, opcode 4, unique 8, nodeid 8, uid 4, gid 4, pid 4, padding 4
 abbrev pub len_of : List ℕ → ℕ
-len_of message = u32_at message 0
+len_of message = le32_at 0 message
 
 abbrev pub opcode_field : List ℕ → ℕ
-opcode_field message = u32_at message 4
+opcode_field message = le32_at 4 message
 
 abbrev pub unique_of : List ℕ → ℕ
-unique_of message = u64_at message 8
+unique_of message = le64_at 8 message
 
 abbrev pub node_of : List ℕ → ℕ
-node_of message = u64_at message 16
+node_of message = le64_at 16 message
 
 abbrev pub pid_of : List ℕ → ℕ
-pid_of message = u32_at message 32
+pid_of message = le32_at 32 message
 
 -- what follows the header
 abbrev pub body_of : List ℕ → List ℕ

@@ -4,8 +4,9 @@ ghost use Rattle.fuse_msgs.specs.declared.opcode.Opcode.TheVariants as opcode;
 ghost use Rattle.fuse_msgs.specs.Decoding.{IsReading};
 
 use crate::fault::BodyFault;
-use crate::fields::{given, sized, u32_at, u64_at};
+use crate::fields::{given, sized};
 use crate::request::Op;
+use lf_base::{le32_at, le64_at};
 
 /// The sizes of `fuse_getattr_in` and `fuse_setattr_in`.
 const GETATTR_IN: usize = 16;
@@ -30,9 +31,9 @@ pub fn setattr(body: &[u8]) -> Result<Op, BodyFault>
     ensures { IsReading opcode.Setattr body.now result }
 {
     sized(body, SETATTR_IN)?;
-    let valid = u32_at(body, 0);
+    let valid = le32_at(body, 0);
     Ok(Op::Setattr {
-        size: given(valid, SIZE, u64_at(body, 16)),
-        owner: given(valid, LOCK_OWNER, u64_at(body, 24)),
+        size: given(valid, SIZE, le64_at(body, 16)),
+        owner: given(valid, LOCK_OWNER, le64_at(body, 24)),
     })
 }

@@ -4,9 +4,8 @@ ghost use Rattle.std.specs.Prelude.{◌≡◌, ◌+◌, ◌-◌, ◌≤◌, ◌+
 ghost use Rattle.fuse_msgs.specs.Feed.{is_whole, unfinished, feed_answer, fed_on, says_whole, UsesSome, TakesAll, BeginsRefused};
 
 use crate::fault::BadMessage;
-use crate::fields::u32_at;
 use crate::header::{MESSAGE_MAX, is_length};
-use lf_base::NoMemory;
+use lf_base::{NoMemory, le32_at};
 use std::alloc::Global;
 use std::marker::Model;
 
@@ -101,7 +100,7 @@ fn is_whole(held: &[u8]) -> bool
     if held.len() < LEN_FIELD {
         return false;
     }
-    let len = u32_at(held, 0);
+    let len = le32_at(held, 0);
     is_length(len) && len as usize <= held.len()
 }
 
@@ -116,7 +115,7 @@ fn feed_into(held: &mut Vec<u8>, piece: &[u8]) -> Result<Fed, BadMessage>
     if held.len() < LEN_FIELD {
         return Ok(Fed::More);
     }
-    let len = u32_at(held.as_slice(), 0);
+    let len = le32_at(held.as_slice(), 0);
     if !is_length(len) {
         return Err(BadMessage::Length { len });
     }

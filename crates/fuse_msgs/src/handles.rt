@@ -4,8 +4,9 @@ ghost use Rattle.fuse_msgs.specs.declared.opcode.Opcode.TheVariants as opcode;
 ghost use Rattle.fuse_msgs.specs.Decoding.{IsReading};
 
 use crate::fault::BodyFault;
-use crate::fields::{sized, u64_at};
+use crate::fields::sized;
 use crate::request::Op;
+use lf_base::le64_at;
 
 /// The sizes of `fuse_open_in`, of `fuse_release_in` and `fuse_flush_in`, and of `fuse_fsync_in`.
 const OPEN_IN: usize = 8;
@@ -28,8 +29,8 @@ pub fn release(body: &[u8]) -> Result<Op, BodyFault>
 {
     sized(body, RELEASE_IN)?;
     Ok(Op::Release {
-        fh: u64_at(body, 0),
-        owner: u64_at(body, 16),
+        fh: le64_at(body, 0),
+        owner: le64_at(body, 16),
     })
 }
 
@@ -39,8 +40,8 @@ pub fn flush(body: &[u8]) -> Result<Op, BodyFault>
 {
     sized(body, RELEASE_IN)?;
     Ok(Op::Flush {
-        fh: u64_at(body, 0),
-        owner: u64_at(body, 16),
+        fh: le64_at(body, 0),
+        owner: le64_at(body, 16),
     })
 }
 
@@ -50,6 +51,6 @@ pub fn fsync(body: &[u8]) -> Result<Op, BodyFault>
 {
     sized(body, FSYNC_IN)?;
     Ok(Op::Fsync {
-        fh: u64_at(body, 0),
+        fh: le64_at(body, 0),
     })
 }

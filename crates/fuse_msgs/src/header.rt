@@ -4,7 +4,7 @@ ghost use Rattle.std.specs.Prelude.{◌≡◌, ◌≤◌, length, IfOk, IfErr};
 ghost use Rattle.fuse_msgs.specs.Message.{is_length, HasHeader, LacksHeader};
 
 use crate::fault::BadMessage;
-use crate::fields::{u32_at, u64_at};
+use lf_base::{le32_at, le64_at};
 
 /// The size of a `fuse_in_header`.
 pub const HEADER: usize = 40;
@@ -37,14 +37,14 @@ pub fn header_in(bytes: &[u8]) -> Result<Header, BadMessage>
     if bytes.len() < HEADER {
         return Err(BadMessage::Short);
     }
-    let len = u32_at(bytes, 0);
+    let len = le32_at(bytes, 0);
     if !is_length(len) || len as usize != bytes.len() {
         return Err(BadMessage::Length { len });
     }
     Ok(Header {
-        opcode: u32_at(bytes, 4),
-        unique: u64_at(bytes, 8),
-        node: u64_at(bytes, 16),
-        pid: u32_at(bytes, 32),
+        opcode: le32_at(bytes, 4),
+        unique: le64_at(bytes, 8),
+        node: le64_at(bytes, 16),
+        pid: le32_at(bytes, 32),
     })
 }

@@ -4,9 +4,9 @@ ghost use Rattle.fuse_msgs.specs.declared.opcode.Opcode.TheVariants as opcode;
 ghost use Rattle.fuse_msgs.specs.Decoding.{IsReading};
 
 use crate::fault::BodyFault;
-use crate::fields::{given, sized, u32_at, u64_at};
+use crate::fields::{given, sized};
 use crate::request::Op;
-use lf_base::Bytes;
+use lf_base::{Bytes, le32_at, le64_at};
 use std::alloc::Global;
 
 /// The size of `fuse_read_in` and of `fuse_write_in`.
@@ -25,10 +25,10 @@ pub fn read(body: &[u8]) -> Result<Op, BodyFault>
 {
     sized(body, READ_IN)?;
     Ok(Op::Read {
-        fh: u64_at(body, 0),
-        at: u64_at(body, 8),
-        size: u32_at(body, 16),
-        owner: given(u32_at(body, 20), LOCK_OWNER, u64_at(body, 24)),
+        fh: le64_at(body, 0),
+        at: le64_at(body, 8),
+        size: le32_at(body, 16),
+        owner: given(le32_at(body, 20), LOCK_OWNER, le64_at(body, 24)),
     })
 }
 
@@ -40,14 +40,14 @@ pub fn write(alloc: Global, body: &[u8]) -> Result<Op, BodyFault>
         return Err(BodyFault::Shape);
     }
     let (_, data) = body.split_at(READ_IN);
-    if u32_at(body, 16) as usize != data.len() || data.len() > DATA_MAX {
+    if le32_at(body, 16) as usize != data.len() || data.len() > DATA_MAX {
         return Err(BodyFault::Shape);
     }
     let bytes = Bytes::of(Vec::from_slice(alloc, data)?);
     Ok(Op::Write {
-        fh: u64_at(body, 0),
-        at: u64_at(body, 8),
-        owner: given(u32_at(body, 20), LOCK_OWNER, u64_at(body, 24)),
+        fh: le64_at(body, 0),
+        at: le64_at(body, 8),
+        owner: given(le32_at(body, 20), LOCK_OWNER, le64_at(body, 24)),
         bytes,
     })
 }

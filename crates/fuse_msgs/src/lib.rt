@@ -9,6 +9,7 @@
 mod attributes;
 mod decoding;
 mod encoding;
+mod equality;
 mod fault;
 mod feed;
 mod fields;

@@ -6,8 +6,9 @@ ghost use Rattle.fuse_msgs.specs.Locks.{IsLkIn, has_lock, lock_type};
 ghost use Rattle.fuse_msgs.specs.Decoding.{IsReading};
 
 use crate::fault::BodyFault;
-use crate::fields::{sized, u32_at, u64_at};
+use crate::fields::sized;
 use crate::request::{LockWish, Op};
+use lf_base::{le32_at, le64_at};
 
 /// The size of `fuse_lk_in`.
 const LK_IN: usize = 48;
@@ -70,14 +71,14 @@ fn lock_in(body: &[u8]) -> Result<LockIn, BodyFault>
     ensures fault { OnErr result (IsErrOf result BodyFault.Shape) }
 {
     sized(body, LK_IN)?;
-    let Some(kind) = wish_of(u32_at(body, 32)) else {
+    let Some(kind) = wish_of(le32_at(body, 32)) else {
         return Err(BodyFault::Shape);
     };
     Ok(LockIn {
-        fh: u64_at(body, 0),
-        owner: u64_at(body, 8),
-        start: u64_at(body, 16),
-        end: u64_at(body, 24),
+        fh: le64_at(body, 0),
+        owner: le64_at(body, 8),
+        start: le64_at(body, 16),
+        end: le64_at(body, 24),
         kind,
     })
 }

@@ -4,8 +4,9 @@ ghost use Rattle.fuse_msgs.specs.declared.opcode.Opcode.TheVariants as opcode;
 ghost use Rattle.fuse_msgs.specs.Decoding.{IsReading};
 
 use crate::fault::BodyFault;
-use crate::fields::{sized, u32_at};
+use crate::fields::sized;
 use crate::request::Op;
+use lf_base::le32_at;
 
 /// The sizes of `fuse_forget_in` and of what each version has of `fuse_init_in`.
 const FORGET_IN: usize = 8;
@@ -20,8 +21,8 @@ pub fn init(body: &[u8]) -> Result<Op, BodyFault>
         return Err(BodyFault::Shape);
     }
     Ok(Op::Init {
-        major: u32_at(body, 0),
-        minor: u32_at(body, 4),
+        major: le32_at(body, 0),
+        minor: le32_at(body, 4),
     })
 }
 

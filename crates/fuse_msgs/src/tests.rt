@@ -78,13 +78,19 @@ fn reads_the_position(rt: HostRuntime) -> Result<(), Fail> {
     let request = decode(alloc, &hex(alloc, read_request())?)
         .ok()
         .ok_or("refused")?;
-    assert_eq!(rt; (request.unique, request.node, request.pid), (7, 6, 0));
-    let op = request.op;
-    let text = format!(in alloc; "{op:?}")?;
-    assert_eq!(rt;
-        text.as_bytes(),
-        b"Read { fh: 1, at: 0, size: 4096, owner: None }".as_slice()
-    );
+    let wanted = Request {
+        unique: 7,
+        node: 6,
+        pid: 0,
+        op: Op::Read {
+            fh: 1,
+            at: 0,
+            size: 4096,
+            owner: None,
+        },
+    };
+    assert!(rt; request.equals(&wanted));
+    assert!(rt; !request.op.equals(&Op::Getattr));
     Ok(())
 }
 
@@ -93,8 +99,10 @@ fn tells_the_position(rt: HostRuntime) -> Result<(), Fail> {
     let alloc = rt.alloc();
     let bytes = Bytes::of(Vec::from_slice(alloc, position())?);
     assert!(rt; bytes.as_slice().len() == 34);
+    let reply = Reply::Bytes { bytes };
+    assert!(rt; reply.equals(&reply) && !reply.equals(&Reply::Empty));
     let mut out = Vec::new(alloc);
-    let done = encode(alloc, &Reply::Bytes { bytes }, 7, &mut out);
+    let done = encode(alloc, &reply, 7, &mut out);
     assert!(rt; done.is_ok());
     let mut wanted = hex(alloc, b"32000000 00000000 0700000000000000")?;
     wanted.extend_from_slice(position())?;
