@@ -1,5 +1,5 @@
-//! The program `litefs`: standard input, output and error, and the words of the command line, given
-//! to `litefs_tool`.
+//! The program `litefs`: standard input, output and error, and the arguments of the command line,
+//! given to `litefs_tool`.
 #![tactic(auto)]
 
 use lf_base::{NoMemory, Status, StdSink, StdSource, Text};
@@ -8,14 +8,14 @@ use std::process::ExitCode;
 use std::{env, io};
 
 fn main(rt: HostRuntime) -> ExitCode {
-    let status = match words(&rt) {
-        Ok(words) => {
+    let status = match arguments(&rt) {
+        Ok(arguments) => {
             let mut host = Host {
                 input: StdSource::new(rt.stdin()),
                 output: StdSink::new(rt.stdout()),
                 errors: StdSink::new(rt.stderr()),
             };
-            run(rt, rt.alloc(), words.as_slice(), &mut host)
+            run(rt, rt.alloc(), arguments.as_slice(), &mut host)
         }
         Err(NoMemory) => {
             let _ = eprintln!(rt; "litefs: out of memory");
@@ -25,16 +25,17 @@ fn main(rt: HostRuntime) -> ExitCode {
     ExitCode::from(status.number())
 }
 
-/// The words after the program's name. Words that are no text are read as none, which no command has.
-fn words(rt: &HostRuntime) -> Result<Vec<Text>, NoMemory> {
-    let mut words = Vec::new(rt.alloc());
+/// The arguments after the program's name. Arguments that are no text are read as none, which no
+/// command has.
+fn arguments(rt: &HostRuntime) -> Result<Vec<Text>, NoMemory> {
+    let mut arguments = Vec::new(rt.alloc());
     let given = match env::args(rt) {
         Ok(given) => given,
         Err(error) if error.kind() == io::ErrorKind::OutOfMemory => return Err(NoMemory),
-        Err(_) => return Ok(words),
+        Err(_) => return Ok(arguments),
     };
-    for word in given.skip(1) {
-        words.push(Text::of(rt.alloc(), word.as_str())?)?;
+    for argument in given.skip(1) {
+        arguments.push(Text::of(rt.alloc(), argument.as_str())?)?;
     }
-    Ok(words)
+    Ok(arguments)
 }

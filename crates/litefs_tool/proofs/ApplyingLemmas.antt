@@ -10,10 +10,10 @@ use Rattle.ltx_codec.specs.declared.file.Ltx.{Ltx}
 use Rattle.ltx_codec.specs.declared.file_reader.FileReader.{FileReader}
 use Rattle.ltx_codec.proofs.AgreeLemmas.{fault_stays_lem}
 use Rattle.ltx_codec.proofs.NumberLemmas.{found_there, found_inside}
-use Rattle.litefs_tool.specs.Applying.{GoesOn, HasApplied, EndsFile, IsApplying}
+use Rattle.litefs_tool.specs.steps.Applying.{GoesOn, HasApplied, EndsFile, IsApplying}
 use Rattle.litefs_tool.specs.Files.{Applies, MakesOf, Refuses, Joins, after, never_written, broken, refused, last, more}
 use Rattle.litefs_tool.specs.Refusal.{refusal_of}
-use Rattle.litefs_tool.specs.SumSteps.{HasSum}
+use Rattle.litefs_tool.specs.steps.ChangedSum.{HasSum}
 use Rattle.lf_base.specs.declared.memory.NoMemory.{NoMemory}
 use Rattle.litefs_tool.specs.declared.applying.Applying.{Applying}
 use Rattle.litefs_tool.specs.declared.applying.Applying.TheVariants.{Refused}
@@ -22,30 +22,30 @@ use Rattle.litefs_tool.specs.declared.database.Database.{Database}
 use Rattle.litefs_tool.specs.declared.refusal.Refusal.{Refusal}
 use Rattle.litefs_tool.specs.declared.refusal.Refusal.TheVariants as refusal
 
--- with a part of some bytes the text is not empty
-some-behind : (text part tail : List ℕ) → 0 < length part → 0 < length (text ++ (part ++ tail))
-some-behind text part tail some = omega (arith, some, length-append text (part ++ tail), length-append part tail)
+-- with a part of some bytes the unfinished is not empty
+some-behind : (unfinished part tail : List ℕ) → 0 < length part → 0 < length (unfinished ++ (part ++ tail))
+some-behind unfinished part tail some = omega (arith, some, length-append unfinished (part ++ tail), length-append part tail)
 
 -- a part moves from what follows to what was taken
-GoesOn-part : (database : Database) (is_first : Bool) (text bytes part tail : List ℕ) (answer : Result DatabaseImage Refusal) →
-    GoesOn database is_first text bytes → 0 < length part → Applies database ((text ++ part) ++ tail) answer →
+GoesOn-part : (database : Database) (is_first : Bool) (unfinished bytes part tail : List ℕ) (answer : Result DatabaseImage Refusal) →
+    GoesOn database is_first unfinished bytes → 0 < length part → Applies database ((unfinished ++ part) ++ tail) answer →
     Applies never_written ((bytes ++ part) ++ tail) answer
-GoesOn-part database is_first text bytes part tail answer so_far some applies =
+GoesOn-part database is_first unfinished bytes part tail answer so_far some applies =
     let P : List ℕ → Type 0 = λ l. Applies database l answer in
     let Q : List ℕ → Type 0 = λ l. Applies never_written l answer in
     subst Q (sym (append_assoc bytes part tail))
-    (so_far (part ++ tail) answer (inr (some-behind text part tail some)) (subst P (append_assoc text part tail) applies))
+    (so_far (part ++ tail) answer (inr (some-behind unfinished part tail some)) (subst P (append_assoc unfinished part tail) applies))
 
 -- no file ends in the piece
 pub HasApplied-more : (progress : Progress) (reader : FileReader) (bytes piece : List ℕ) (so_far : HasApplied progress bytes) →
-    HasBegun reader (so_far.text ++ piece) → 0 < length piece →
+    HasBegun reader (so_far.unfinished ++ piece) → 0 < length piece →
     HasApplied (record progress { reader = reader }) (bytes ++ piece)
 HasApplied-more progress reader bytes piece so_far begun some = record {
-  text = so_far.text ++ piece;
+  unfinished = so_far.unfinished ++ piece;
   begun = begun;
   sum = so_far.sum;
-  more = λ tail answer why applies. GoesOn-part progress.database progress.is_first so_far.text bytes piece tail answer so_far.more some applies;
-  done = λ none _. absurd (omega (arith, some, ap length none, length-append so_far.text piece));
+  more = λ tail answer why applies. GoesOn-part progress.database progress.is_first so_far.unfinished bytes piece tail answer so_far.more some applies;
+  done = λ none _. absurd (omega (arith, some, ap length none, length-append so_far.unfinished piece));
 }
 
 -- the file that ended joins
@@ -53,20 +53,20 @@ pub HasApplied-joins : (progress : Progress) (now : Database) (bytes part : List
     Joins progress.database file → now ≡ after progress.database file → HasSum now →
     HasApplied (record progress { database = now; is_first = false }) (bytes ++ part)
 HasApplied-joins progress now bytes part file ends joins is sum = record {
-  text = [];
+  unfinished = [];
   begun = ends.begun;
   sum = sum;
   more = λ tail answer why applies.
       let some : 0 < length tail = elim why [ inl never ↦ cc | inr some ↦ some ] in
       let then : Applies (after progress.database file) tail answer = subst (λ d. Applies d tail answer) is applies in
-      GoesOn-part progress.database progress.is_first ends.text bytes part tail answer ends.more ends.some
-      (more (ends.text ++ part) tail refl ends.whole joins some then);
+      GoesOn-part progress.database progress.is_first ends.unfinished bytes part tail answer ends.more ends.some
+      (more (ends.unfinished ++ part) tail refl ends.whole joins some then);
   done = λ _ _.
       let none : (bytes ++ part) ++ [] ≡ bytes ++ part = append-nil (bytes ++ part) in
-      let whole : (ends.text ++ part) ++ [] ≡ ends.text ++ part = append-nil (ends.text ++ part) in
+      let whole : (ends.unfinished ++ part) ++ [] ≡ ends.unfinished ++ part = append-nil (ends.unfinished ++ part) in
       let P : List ℕ → Type 0 = λ l. Applies progress.database l (Ok now.image) in
       let Q : List ℕ → Type 0 = λ l. Applies never_written l (Ok now.image) in
-      subst Q none (GoesOn-part progress.database progress.is_first ends.text bytes part [] (Ok now.image) ends.more ends.some
+      subst Q none (GoesOn-part progress.database progress.is_first ends.unfinished bytes part [] (Ok now.image) ends.more ends.some
       (subst P (sym whole) (rw is (last ends.whole joins))));
 }
 
@@ -77,8 +77,8 @@ pub stays-refused : (progress : Progress) (bytes part : List ℕ) (file : Ltx) (
 stays-refused progress bytes part file why ends cause lasts tail =
     elim cause [
       | inl memory ↦ absurd (lasts memory)
-      | inr refuses ↦ GoesOn-part progress.database progress.is_first ends.text bytes part tail (Err why) ends.more ends.some
-          (refused (ends.text ++ part) tail refl ends.whole refuses)
+      | inr refuses ↦ GoesOn-part progress.database progress.is_first ends.unfinished bytes part tail (Err why) ends.more ends.some
+          (refused (ends.unfinished ++ part) tail refl ends.whole refuses)
     ]
 
 -- the earliest fault of bytes is refused by its own name
@@ -86,33 +86,33 @@ refusal-of_fault : (bytes : List ℕ) (f : LtxFault) → IsEarliest bytes f → 
 refusal-of_fault bytes fault.NoMemory is = absurd is.broken.breaks
 refusal-of_fault bytes f is = refl
 
--- the text has a fault in the piece
+-- the unfinished has a fault in the piece
 pub stays-broken : (progress : Progress) (bytes piece : List ℕ) (f : LtxFault) (why : Refusal) (so_far : HasApplied progress bytes) →
-    IsRefusedAt (so_far.text ++ piece) f → 0 < length piece → why ≡ refusal_of f → why ≢ refusal.NoMemory → (tail : List ℕ) →
+    IsRefusedAt (so_far.unfinished ++ piece) f → 0 < length piece → why ≡ refusal_of f → why ≢ refusal.NoMemory → (tail : List ℕ) →
     Applies never_written ((bytes ++ piece) ++ tail) (Err why)
 stays-broken progress bytes piece f why so_far cause some is lasts tail =
     elim cause [
       | inl memory ↦ absurd (lasts (is ∙ ap refusal_of memory))
       | inr found ↦
-          let first = fault_stays_lem (so_far.text ++ piece) tail f found.1 (found_there f found.0) (found_inside f found.0) in
-          GoesOn-part progress.database progress.is_first so_far.text bytes piece tail (Err why) so_far.more some
-          (rw (is ∙ refusal-of_fault (so_far.text ++ piece) f found.1) (broken first (found_inside f found.0)))
+          let first = fault_stays_lem (so_far.unfinished ++ piece) tail f found.1 (found_there f found.0) (found_inside f found.0) in
+          GoesOn-part progress.database progress.is_first so_far.unfinished bytes piece tail (Err why) so_far.more some
+          (rw (is ∙ refusal-of_fault (so_far.unfinished ++ piece) f found.1) (broken first (found_inside f found.0)))
     ]
 
 -- a file is begun at the end, or none was there
 pub MakesOf-short : (progress : Progress) (bytes : List ℕ) (so_far : HasApplied progress bytes) →
-    (progress.is_first ≡ true) ⊎ (so_far.text ≢ []) → IsEarliest so_far.text fault.Short → MakesOf bytes (Err (refusal.Ltx fault.Short))
+    (progress.is_first ≡ true) ⊎ (so_far.unfinished ≢ []) → IsEarliest so_far.unfinished fault.Short → MakesOf bytes (Err (refusal.Ltx fault.Short))
 MakesOf-short progress bytes so_far why first =
     let P : List ℕ → Type 0 = λ l. Applies progress.database l (Err (refusal.Ltx fault.Short)) in
     let Q : List ℕ → Type 0 = λ l. Applies never_written l (Err (refusal.Ltx fault.Short)) in
-    inr (subst Q (append-nil bytes) (so_far.more [] (Err (refusal.Ltx fault.Short)) there (subst P (sym (append-nil so_far.text)) (broken first tt))))
+    inr (subst Q (append-nil bytes) (so_far.more [] (Err (refusal.Ltx fault.Short)) there (subst P (sym (append-nil so_far.unfinished)) (broken first tt))))
   where
-    some-bytes : (text : List ℕ) → text ≢ [] → 0 < length text
+    some-bytes : (unfinished : List ℕ) → unfinished ≢ [] → 0 < length unfinished
     some-bytes [] some = absurd (some refl)
     some-bytes (b ∷ bs) some = omega arith
 
-    there : (progress.is_first ≡ true) ⊎ 0 < length (so_far.text ++ [])
-    there = elim why [ inl is ↦ inl is | inr some ↦ inr (subst (λ (l : List ℕ). 0 < length l) (sym (append-nil so_far.text)) (some-bytes so_far.text some)) ]
+    there : (progress.is_first ≡ true) ⊎ 0 < length (so_far.unfinished ++ [])
+    there = elim why [ inl is ↦ inl is | inr some ↦ inr (subst (λ (l : List ℕ). 0 < length l) (sym (append-nil so_far.unfinished)) (some-bytes so_far.unfinished some)) ]
 
 -- a refusal that was kept stands
 pub is-kept : (r : Result Applying NoMemory) (why : Refusal) (bytes : List ℕ) → IfOk r (λ a. a ≡ Refused why) → OnOk r (why ≢ refusal.NoMemory) →
@@ -125,5 +125,5 @@ pub MakesOf-kept : (why : Refusal) (bytes : List ℕ) → IsApplying (Refused wh
 MakesOf-kept why bytes stands = let P : List ℕ → Type 0 = λ l. Applies never_written l (Err why) in inr (subst P (append-nil bytes) (stands []))
 
 -- some of a piece is there
-pub some-taken : (used : ℕ) (piece : List ℕ) → 1 ≤ used → used ≤ length piece → 0 < length (take used piece)
-some-taken used piece some within = omega (arith, some, within, length-take-le used piece within)
+pub some-consumed : (used : ℕ) (piece : List ℕ) → 1 ≤ used → used ≤ length piece → 0 < length (take used piece)
+some-consumed used piece some within = omega (arith, some, within, length-take-le used piece within)

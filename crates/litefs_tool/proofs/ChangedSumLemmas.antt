@@ -18,7 +18,7 @@ use Rattle.ltx_codec.specs.Format.{IsFile}
 use Rattle.ltx_codec.specs.declared.file.Ltx.{Ltx}
 use Rattle.litefs_tool.specs.Files.{after, sum_after}
 use Rattle.litefs_tool.specs.declared.database.Database.{Database}
-use Rattle.litefs_tool.specs.SumSteps.{HasSum, joined_over, standing_sum, rewriting_sum}
+use Rattle.litefs_tool.specs.steps.ChangedSum.{HasSum, joined_over, standing_sum, rewriting_sum}
 use Rattle.litefs_tool.proofs.SumLemmas.{joined-push, flagged-twice, xor_swap, map-same, joined_over-changed, joined_over-resized, page_sums-map, flagged-alike}
 
 -- the pages of an image by their numbers
@@ -111,11 +111,11 @@ pub rewriting_sum-more : (image : DatabaseImage) (zeros : List ℕ) (ws : List P
     bit_xor so_far (bit_xor (standing_sum image zeros w.number) (page_sum_of w.number w.bytes)) ≡ rewriting_sum image zeros (take (i + 1) ws)
 rewriting_sum-more image zeros ws i w so_far h read is =
     let step : PageWrite → ℕ = λ v. bit_xor (standing_sum image zeros v.number) (page_sum_of v.number v.bytes) in
-    let front : take (i + 1) ws ≡ take i ws ++ w ∷ [] = take_more ws i w h ∙ ap (λ v. take i ws ++ v ∷ []) (sym read) in
+    let prefix : take (i + 1) ws ≡ take i ws ++ w ∷ [] = take_more ws i w h ∙ ap (λ v. take i ws ++ v ∷ []) (sym read) in
     ap (λ s. bit_xor s (step w)) is
     ∙ sym (joined-push (map step (take i ws)) (step w))
     ∙ ap joined (sym (map_push step (take i ws) w))
-    ∙ ap (λ vs. joined (map step vs)) (sym front)
+    ∙ ap (λ vs. joined (map step vs)) (sym prefix)
 
 -- the pages of a change that writes each of its numbers
 bytes-numbered : (page : ℕ → List ℕ) (first count : ℕ) (ws : List PageWrite) → map (λ w. w.number) ws ≡ range_with_len first count →

@@ -1,4 +1,4 @@
--- Reading the texts of files one after another, and what they become.
+-- Reading the encodings of files one after another, and what they become.
 use Rattle.std.proofs.Common.{◌≡◌, ◌≢◌, ℕ, ◌<◌, Option, Some, suc, Result, Ok, Err, List, [], ◌∷◌, ◌++◌, inl, inr, length, map, get_or, refl, sym, ◌∙◌, ap, subst, arith, append_assoc, append-nil, length-append}
 use Rattle.std.specs.List.{slice_get}
 use Rattle.std.specs.Result.{IfErr, IsErrAnd}
@@ -20,69 +20,69 @@ use Rattle.ltx_compact.specs.Compaction.{HasSnapshotSum, IsFileButSum}
 use Rattle.ltx_compact.specs.Joining.{IsWhy}
 use Rattle.ltx_compact.specs.declared.fault.CompactFault.{CompactFault}
 use Rattle.ltx_compact.specs.declared.fault.CompactFault.TheVariants as list
-use Rattle.litefs_tool.specs.Compaction.{AreTexts, BreaksOff, MayRefuse}
-use Rattle.litefs_tool.specs.Gathering.{HaveTexts, HasGathered}
+use Rattle.litefs_tool.specs.Compaction.{AreEncodings, BreaksOff, MayRefuse}
+use Rattle.litefs_tool.specs.steps.Gathering.{HaveEncodings, HasGathered}
 use Rattle.litefs_tool.specs.declared.gathering.Gathered.{Gathered}
 use Rattle.litefs_tool.specs.CompactRefusal.{of_list}
 use Rattle.litefs_tool.specs.declared.compact_refusal.CompactRefusal.{CompactRefusal}
 use Rattle.litefs_tool.specs.declared.compact_refusal.CompactRefusal.TheVariants as refusal
 
 -- one more file behind others
-AreTexts-more : (front text : List ℕ) (file : Ltx) (files : List Ltx) → AreTexts front files → IsLtx text file →
-    AreTexts (front ++ text) (files ++ file ∷ [])
-AreTexts-more front text file [] texts is =
-    (text, [], ap (λ (l : List ℕ). l ++ text) texts ∙ sym (append-nil text), is, refl)
-AreTexts-more front text file (first ∷ files) texts is = (
-  texts.0,
-  texts.1 ++ text,
-  ap (λ (l : List ℕ). l ++ text) texts.2 ∙ append_assoc texts.0 texts.1 text,
-  texts.3,
-  AreTexts-more texts.1 text file files texts.4 is,
+AreEncodings-more : (prefix unfinished : List ℕ) (file : Ltx) (files : List Ltx) → AreEncodings prefix files → IsLtx unfinished file →
+    AreEncodings (prefix ++ unfinished) (files ++ file ∷ [])
+AreEncodings-more prefix unfinished file [] encodings is =
+    (unfinished, [], ap (λ (l : List ℕ). l ++ unfinished) encodings ∙ sym (append-nil unfinished), is, refl)
+AreEncodings-more prefix unfinished file (first ∷ files) encodings is = (
+  encodings.0,
+  encodings.1 ++ unfinished,
+  ap (λ (l : List ℕ). l ++ unfinished) encodings.2 ∙ append_assoc encodings.0 encodings.1 unfinished,
+  encodings.3,
+  AreEncodings-more encodings.1 unfinished file files encodings.4 is,
 )
 
 -- no file ends in the piece
-HaveTexts-more : (files : List Ltx) (text bytes piece : List ℕ) → HaveTexts files text bytes → HaveTexts files (text ++ piece) (bytes ++ piece)
-HaveTexts-more files text bytes piece so_far = record {
-  front = so_far.front;
-  split = ap (λ (l : List ℕ). l ++ piece) so_far.split ∙ append_assoc so_far.front text piece;
-  texts = so_far.texts;
+HaveEncodings-more : (files : List Ltx) (unfinished bytes piece : List ℕ) → HaveEncodings files unfinished bytes → HaveEncodings files (unfinished ++ piece) (bytes ++ piece)
+HaveEncodings-more files unfinished bytes piece so_far = record {
+  prefix = so_far.prefix;
+  split = ap (λ (l : List ℕ). l ++ piece) so_far.split ∙ append_assoc so_far.prefix unfinished piece;
+  encodings = so_far.encodings;
   valid = so_far.valid;
 }
 
 pub HasGathered-more : (gathered : Gathered) (reader : FileReader) (bytes piece : List ℕ) (so_far : HasGathered gathered bytes) →
-    HasBegun reader (so_far.text ++ piece) → HasGathered (record { reader = reader; files = gathered.files }) (bytes ++ piece)
+    HasBegun reader (so_far.unfinished ++ piece) → HasGathered (record { reader = reader; files = gathered.files }) (bytes ++ piece)
 HasGathered-more gathered reader bytes piece so_far begun = record {
-  text = so_far.text ++ piece;
+  unfinished = so_far.unfinished ++ piece;
   begun = begun;
-  have = HaveTexts-more gathered.files.items so_far.text bytes piece so_far.have;
+  have = HaveEncodings-more gathered.files.items so_far.unfinished bytes piece so_far.have;
 }
 
 -- the file that was begun ends
-pub HaveTexts-file : (files : List Ltx) (text bytes part : List ℕ) (file : Ltx) → HaveTexts files text bytes → IsLtx (text ++ part) file →
-    HaveTexts (files ++ file ∷ []) [] (bytes ++ part)
-HaveTexts-file files text bytes part file so_far is = record {
-  front = so_far.front ++ (text ++ part);
-  split = ap (λ (l : List ℕ). l ++ part) so_far.split ∙ append_assoc so_far.front text part ∙ sym (append-nil (so_far.front ++ (text ++ part)));
-  texts = AreTexts-more so_far.front (text ++ part) file files so_far.texts is;
+pub HaveEncodings-file : (files : List Ltx) (unfinished bytes part : List ℕ) (file : Ltx) → HaveEncodings files unfinished bytes → IsLtx (unfinished ++ part) file →
+    HaveEncodings (files ++ file ∷ []) [] (bytes ++ part)
+HaveEncodings-file files unfinished bytes part file so_far is = record {
+  prefix = so_far.prefix ++ (unfinished ++ part);
+  split = ap (λ (l : List ℕ). l ++ part) so_far.split ∙ append_assoc so_far.prefix unfinished part ∙ sym (append-nil (so_far.prefix ++ (unfinished ++ part)));
+  encodings = AreEncodings-more so_far.prefix (unfinished ++ part) file files so_far.encodings is;
   valid = All-push IsFile files file so_far.valid is.valid;
 }
 
--- the text of the file that is begun has a fault, whatever follows
-pub stays-broken : (files : List Ltx) (text bytes piece : List ℕ) (f : LtxFault) → HaveTexts files text bytes → IsRefusedAt (text ++ piece) f →
+-- the unfinished of the file that is begun has a fault, whatever follows
+pub stays-broken : (files : List Ltx) (unfinished bytes piece : List ℕ) (f : LtxFault) → HaveEncodings files unfinished bytes → IsRefusedAt (unfinished ++ piece) f →
     f ≢ ltx.NoMemory → 0 < length piece → (tail : List ℕ) → BreaksOff ((bytes ++ piece) ++ tail) f
-stays-broken files text bytes piece f so_far cause lasts some tail =
+stays-broken files unfinished bytes piece f so_far cause lasts some tail =
     elim cause [
       | inl memory ↦ absurd (lasts memory)
       | inr found ↦
-          let longer = HaveTexts-more files (text ++ piece) (bytes ++ piece) tail (HaveTexts-more files text bytes piece so_far) in
+          let longer = HaveEncodings-more files (unfinished ++ piece) (bytes ++ piece) tail (HaveEncodings-more files unfinished bytes piece so_far) in
           record {
-            front = longer.front;
-            rest = (text ++ piece) ++ tail;
+            prefix = longer.prefix;
+            rest = (unfinished ++ piece) ++ tail;
             files = files;
             split = longer.split;
-            texts = longer.texts;
-            more = omega (arith, some, length-append (text ++ piece) tail, length-append text piece);
-            broken = fault_stays_lem (text ++ piece) tail f found.1 (found_there f found.0) (found_inside f found.0);
+            encodings = longer.encodings;
+            more = omega (arith, some, length-append (unfinished ++ piece) tail, length-append unfinished piece);
+            broken = fault_stays_lem (unfinished ++ piece) tail f found.1 (found_there f found.0) (found_inside f found.0);
             inside = found_inside f found.0;
           }
     ]
@@ -91,20 +91,20 @@ stays-broken files text bytes piece f so_far cause lasts some tail =
 pub MayRefuse-kept : (bytes : List ℕ) (f : LtxFault) → ((tail : List ℕ) → BreaksOff (bytes ++ tail) f) → MayRefuse bytes (refusal.Ltx f)
 MayRefuse-kept bytes f stands = let P : List ℕ → Type 0 = λ l. BreaksOff l f in inr (subst P (append-nil bytes) (stands []))
 
-some-bytes : (text : List ℕ) → text ≢ [] → 0 < length text
+some-bytes : (unfinished : List ℕ) → unfinished ≢ [] → 0 < length unfinished
 some-bytes [] some = absurd (some refl)
 some-bytes (b ∷ bs) some = omega arith
 
 -- a file is begun at the end
-pub MayRefuse-short : (gathered : Gathered) (bytes : List ℕ) (so_far : HasGathered gathered bytes) → so_far.text ≢ [] → IsEarliest so_far.text ltx.Short →
+pub MayRefuse-short : (gathered : Gathered) (bytes : List ℕ) (so_far : HasGathered gathered bytes) → so_far.unfinished ≢ [] → IsEarliest so_far.unfinished ltx.Short →
     MayRefuse bytes (refusal.Ltx ltx.Short)
 MayRefuse-short gathered bytes so_far some first = inr (record {
-  front = so_far.have.front;
-  rest = so_far.text;
+  prefix = so_far.have.prefix;
+  rest = so_far.unfinished;
   files = gathered.files.items;
   split = so_far.have.split;
-  texts = so_far.have.texts;
-  more = some-bytes so_far.text some;
+  encodings = so_far.have.encodings;
+  more = some-bytes so_far.unfinished some;
   broken = first;
   inside = tt;
 })
@@ -116,12 +116,12 @@ passed-on bytes why (Ok done) is known = absurd is
 passed-on bytes why (Err f) is known = let P : CompactRefusal → Type 0 = λ g. MayRefuse bytes g in subst P (sym is) known
 
 -- files that do not join
-pub MayRefuse-list : (bytes : List ℕ) (files : List Ltx) (f : CompactFault) → AreTexts bytes files → IsWhy files f → MayRefuse bytes (of_list f)
-MayRefuse-list bytes files list.NoMemory texts why = inl refl
-MayRefuse-list bytes files list.Empty texts why = inr (files, texts, why)
-MayRefuse-list bytes files (list.Gap at) texts why = inr (files, texts, why)
-MayRefuse-list bytes files (list.SumGap at want got) texts why = inr (files, texts, why)
-MayRefuse-list bytes files (list.PageSize at) texts why = inr (files, texts, why)
+pub MayRefuse-list : (bytes : List ℕ) (files : List Ltx) (f : CompactFault) → AreEncodings bytes files → IsWhy files f → MayRefuse bytes (of_list f)
+MayRefuse-list bytes files list.NoMemory encodings why = inl refl
+MayRefuse-list bytes files list.Empty encodings why = inr (files, encodings, why)
+MayRefuse-list bytes files (list.Gap at) encodings why = inr (files, encodings, why)
+MayRefuse-list bytes files (list.SumGap at want got) encodings why = inr (files, encodings, why)
+MayRefuse-list bytes files (list.PageSize at) encodings why = inr (files, encodings, why)
 
 -- with the right sum it is a file
 pub IsFile-by_sum : (file : Ltx) → IsFileButSum file → HasSnapshotSum file → IsFile file

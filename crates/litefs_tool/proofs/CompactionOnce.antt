@@ -17,7 +17,7 @@ use Rattle.ltx_compact.specs.Compaction.{Compacts, header_of, change_of}
 use Rattle.ltx_compact.specs.Joining.{Joins, DoNotJoin, AllJoin, FirstFails}
 use Rattle.ltx_compact.specs.declared.fault.CompactFault.{CompactFault}
 use Rattle.ltx_compact.specs.declared.fault.CompactFault.TheVariants as list
-use Rattle.litefs_tool.specs.Compaction.{AreTexts, BreaksOff, Become, BecomesText, SaysOtherSum, RefusesToCompact, CompactsTo}
+use Rattle.litefs_tool.specs.Compaction.{AreEncodings, BreaksOff, Become, BecomesEncoding, SaysOtherSum, RefusesToCompact, CompactsTo}
 use Rattle.litefs_tool.specs.declared.compact_refusal.CompactRefusal.{CompactRefusal}
 use Rattle.litefs_tool.specs.declared.compact_refusal.CompactRefusal.TheVariants as refusal
 use Rattle.litefs_tool.proofs.AnswerLemmas.{OneReading, BreaksNoRule, OneFault, bytes_behind, no_fault, same_rest}
@@ -110,7 +110,7 @@ all_or_why files why all not = elim not [
   | inr fails ↦ all_or_fails files why all fails
 ]
 
-why_of : (bytes : List ℕ) (why : CompactFault) → RefusesToCompact bytes (refusal.List why) → (files : List Ltx) × AreTexts bytes files × WhyNot files why
+why_of : (bytes : List ℕ) (why : CompactFault) → RefusesToCompact bytes (refusal.List why) → (files : List Ltx) × AreEncodings bytes files × WhyNot files why
 why_of bytes list.Empty refuses = (refuses.0, refuses.1, inl (refl, refuses.2))
 why_of bytes (list.Gap at) refuses = (refuses.0, refuses.1, inr refuses.2)
 why_of bytes (list.SumGap at want got) refuses = (refuses.0, refuses.1, inr refuses.2)
@@ -138,87 +138,87 @@ compacts_once files one two a b =
     ∙ sym (is_made files two b)
 
 module _ (reading : OneReading) (sound : BreaksNoRule) (one_fault : OneFault) where
-  -- no bytes are no text
-  no_text : (bytes text rest : List ℕ) (file : Ltx) → AreBytes bytes → bytes ≡ [] → bytes ≡ text ++ rest → IsLtx text file → ⊥
-  no_text bytes text rest file small none is whole =
+  -- no bytes are no encoding
+  no_encoding : (bytes encoding rest : List ℕ) (file : Ltx) → AreBytes bytes → bytes ≡ [] → bytes ≡ encoding ++ rest → IsLtx encoding file → ⊥
+  no_encoding bytes encoding rest file small none is whole =
       let short : IsBroken [] fault.Short 1 = record { breaks = (refl, λ k block. omega arith); there = omega arith } in
-      let moved : IsBroken (text ++ rest) fault.Short 1 = subst (λ (bs : List ℕ). IsBroken bs fault.Short 1) (sym none ∙ is) short in
-      let tail : fault.Short ≡ fault.Tail = (sound text rest file fault.Short 1 (subst AreBytes is small) whole moved).0 in
+      let moved : IsBroken (encoding ++ rest) fault.Short 1 = subst (λ (bs : List ℕ). IsBroken bs fault.Short 1) (sym none ∙ is) short in
+      let tail : fault.Short ≡ fault.Tail = (sound encoding rest file fault.Short 1 (subst AreBytes is small) whole moved).0 in
       absurd cc
 
-  -- bytes are the texts of one list of files
-  texts_once : (bytes : List ℕ) (files others : List Ltx) → AreBytes bytes → AreTexts bytes files → AreTexts bytes others → files ≡ others
-  texts_once bytes [] [] small one two = refl
-  texts_once bytes [] (other ∷ others) small one two = absurd (no_text bytes two.0 two.1 other small one two.2 two.3)
-  texts_once bytes (file ∷ files) [] small one two = absurd (no_text bytes one.0 one.1 file small two one.2 one.3)
-  texts_once bytes (file ∷ files) (other ∷ others) small one two =
+  -- bytes are the encodings of one list of files
+  encodings_once : (bytes : List ℕ) (files others : List Ltx) → AreBytes bytes → AreEncodings bytes files → AreEncodings bytes others → files ≡ others
+  encodings_once bytes [] [] small one two = refl
+  encodings_once bytes [] (other ∷ others) small one two = absurd (no_encoding bytes two.0 two.1 other small one two.2 two.3)
+  encodings_once bytes (file ∷ files) [] small one two = absurd (no_encoding bytes one.0 one.1 file small two one.2 one.3)
+  encodings_once bytes (file ∷ files) (other ∷ others) small one two =
       let joined = sym one.2 ∙ two.2 in
       let both = reading one.0 two.0 one.1 two.1 file other one.3 two.3 joined in
       let first : file ≡ other = both.1 in
       let rests : one.1 ≡ two.1 = same_rest one.0 two.0 one.1 two.1 both.0 joined in
       let again : files ≡ others =
-      texts_once one.1 files others (bytes_behind bytes one.0 one.1 small one.2) one.4 (subst (λ (bs : List ℕ). AreTexts bs others) (sym rests) two.4)
+      encodings_once one.1 files others (bytes_behind bytes one.0 one.1 small one.2) one.4 (subst (λ (bs : List ℕ). AreEncodings bs others) (sym rests) two.4)
       in
       cc
 
-  -- bytes that break off are no texts of files
-  breaks_or_texts : (bytes front rest : List ℕ) (files others : List Ltx) (f : LtxFault) → AreBytes bytes → bytes ≡ front ++ rest → AreTexts front files →
-      0 < length rest → IsEarliest rest f → StandsInside f → AreTexts bytes others → ⊥
-  breaks_or_texts bytes front rest files [] f small is texts some first inside all =
-      omega (arith, ap length (sym all ∙ is), length-append front rest, some)
-  breaks_or_texts bytes front rest [] (other ∷ others) f small is none some first inside all =
+  -- bytes that break off are no encodings of files
+  breaks_or_encodings : (bytes prefix rest : List ℕ) (files others : List Ltx) (f : LtxFault) → AreBytes bytes → bytes ≡ prefix ++ rest → AreEncodings prefix files →
+      0 < length rest → IsEarliest rest f → StandsInside f → AreEncodings bytes others → ⊥
+  breaks_or_encodings bytes prefix rest files [] f small is encodings some first inside all =
+      omega (arith, ap length (sym all ∙ is), length-append prefix rest, some)
+  breaks_or_encodings bytes prefix rest [] (other ∷ others) f small is none some first inside all =
       let same : bytes ≡ rest = is ∙ ap (λ (l : List ℕ). l ++ rest) none in
       no_fault reading sound one_fault bytes all.0 all.1 other f small all.2 all.3 (subst (λ (bs : List ℕ). IsEarliest bs f) (sym same) first) inside
-  breaks_or_texts bytes front rest (file ∷ files) (other ∷ others) f small is texts some first inside all =
-      let split : bytes ≡ texts.0 ++ (texts.1 ++ rest) = is ∙ ap (λ (l : List ℕ). l ++ rest) texts.2 ∙ append_assoc texts.0 texts.1 rest in
+  breaks_or_encodings bytes prefix rest (file ∷ files) (other ∷ others) f small is encodings some first inside all =
+      let split : bytes ≡ encodings.0 ++ (encodings.1 ++ rest) = is ∙ ap (λ (l : List ℕ). l ++ rest) encodings.2 ∙ append_assoc encodings.0 encodings.1 rest in
       let joined = sym split ∙ all.2 in
-      let both = reading texts.0 all.0 (texts.1 ++ rest) all.1 file other texts.3 all.3 joined in
-      let rests : texts.1 ++ rest ≡ all.1 = same_rest texts.0 all.0 (texts.1 ++ rest) all.1 both.0 joined in
-      breaks_or_texts (texts.1 ++ rest) texts.1 rest files others f (bytes_behind bytes texts.0 (texts.1 ++ rest) small split) refl texts.4 some first inside
-      (subst (λ (bs : List ℕ). AreTexts bs others) (sym rests) all.4)
+      let both = reading encodings.0 all.0 (encodings.1 ++ rest) all.1 file other encodings.3 all.3 joined in
+      let rests : encodings.1 ++ rest ≡ all.1 = same_rest encodings.0 all.0 (encodings.1 ++ rest) all.1 both.0 joined in
+      breaks_or_encodings (encodings.1 ++ rest) encodings.1 rest files others f (bytes_behind bytes encodings.0 (encodings.1 ++ rest) small split) refl encodings.4 some first inside
+      (subst (λ (bs : List ℕ). AreEncodings bs others) (sym rests) all.4)
 
   -- bytes break off with one fault
-  breaks_once : (bytes front rest other behind : List ℕ) (files others : List Ltx) (f g : LtxFault) → AreBytes bytes →
-      bytes ≡ front ++ rest → AreTexts front files → IsEarliest rest f → StandsInside f →
-      bytes ≡ other ++ behind → AreTexts other others → IsEarliest behind g → StandsInside g → f ≡ g
-  breaks_once bytes front rest other behind [] [] f g small is none first inside is_too none_too first_too inside_too =
+  breaks_once : (bytes prefix rest other behind : List ℕ) (files others : List Ltx) (f g : LtxFault) → AreBytes bytes →
+      bytes ≡ prefix ++ rest → AreEncodings prefix files → IsEarliest rest f → StandsInside f →
+      bytes ≡ other ++ behind → AreEncodings other others → IsEarliest behind g → StandsInside g → f ≡ g
+  breaks_once bytes prefix rest other behind [] [] f g small is none first inside is_too none_too first_too inside_too =
       let rests : rest ≡ behind = sym (is ∙ ap (λ (l : List ℕ). l ++ rest) none) ∙ (is_too ∙ ap (λ (l : List ℕ). l ++ behind) none_too) in
       one_fault behind f g (subst (λ (bs : List ℕ). IsEarliest bs f) rests first) first_too
-  breaks_once bytes front rest other behind [] (file ∷ files) f g small is none first inside is_too texts first_too inside_too =
+  breaks_once bytes prefix rest other behind [] (file ∷ files) f g small is none first inside is_too encodings first_too inside_too =
       let same : bytes ≡ rest = is ∙ ap (λ (l : List ℕ). l ++ rest) none in
-      let split : bytes ≡ texts.0 ++ (texts.1 ++ behind) = is_too ∙ ap (λ (l : List ℕ). l ++ behind) texts.2 ∙ append_assoc texts.0 texts.1 behind in
-      absurd (no_fault reading sound one_fault bytes texts.0 (texts.1 ++ behind) file f small split texts.3 (subst (λ (bs : List ℕ). IsEarliest bs f) (sym same) first) inside)
-  breaks_once bytes front rest other behind (file ∷ files) [] f g small is texts first inside is_too none first_too inside_too =
+      let split : bytes ≡ encodings.0 ++ (encodings.1 ++ behind) = is_too ∙ ap (λ (l : List ℕ). l ++ behind) encodings.2 ∙ append_assoc encodings.0 encodings.1 behind in
+      absurd (no_fault reading sound one_fault bytes encodings.0 (encodings.1 ++ behind) file f small split encodings.3 (subst (λ (bs : List ℕ). IsEarliest bs f) (sym same) first) inside)
+  breaks_once bytes prefix rest other behind (file ∷ files) [] f g small is encodings first inside is_too none first_too inside_too =
       let same : bytes ≡ behind = is_too ∙ ap (λ (l : List ℕ). l ++ behind) none in
-      let split : bytes ≡ texts.0 ++ (texts.1 ++ rest) = is ∙ ap (λ (l : List ℕ). l ++ rest) texts.2 ∙ append_assoc texts.0 texts.1 rest in
-      absurd (no_fault reading sound one_fault bytes texts.0 (texts.1 ++ rest) file g small split texts.3 (subst (λ (bs : List ℕ). IsEarliest bs g) (sym same) first_too) inside_too)
-  breaks_once bytes front rest other behind (file ∷ files) (second ∷ others) f g small is texts first inside is_too texts_too first_too inside_too =
-      let split : bytes ≡ texts.0 ++ (texts.1 ++ rest) = is ∙ ap (λ (l : List ℕ). l ++ rest) texts.2 ∙ append_assoc texts.0 texts.1 rest in
-      let split_too : bytes ≡ texts_too.0 ++ (texts_too.1 ++ behind) = is_too ∙ ap (λ (l : List ℕ). l ++ behind) texts_too.2 ∙ append_assoc texts_too.0 texts_too.1 behind in
+      let split : bytes ≡ encodings.0 ++ (encodings.1 ++ rest) = is ∙ ap (λ (l : List ℕ). l ++ rest) encodings.2 ∙ append_assoc encodings.0 encodings.1 rest in
+      absurd (no_fault reading sound one_fault bytes encodings.0 (encodings.1 ++ rest) file g small split encodings.3 (subst (λ (bs : List ℕ). IsEarliest bs g) (sym same) first_too) inside_too)
+  breaks_once bytes prefix rest other behind (file ∷ files) (second ∷ others) f g small is encodings first inside is_too encodings_too first_too inside_too =
+      let split : bytes ≡ encodings.0 ++ (encodings.1 ++ rest) = is ∙ ap (λ (l : List ℕ). l ++ rest) encodings.2 ∙ append_assoc encodings.0 encodings.1 rest in
+      let split_too : bytes ≡ encodings_too.0 ++ (encodings_too.1 ++ behind) = is_too ∙ ap (λ (l : List ℕ). l ++ behind) encodings_too.2 ∙ append_assoc encodings_too.0 encodings_too.1 behind in
       let joined = sym split ∙ split_too in
-      let both = reading texts.0 texts_too.0 (texts.1 ++ rest) (texts_too.1 ++ behind) file second texts.3 texts_too.3 joined in
-      let rests : texts.1 ++ rest ≡ texts_too.1 ++ behind = same_rest texts.0 texts_too.0 (texts.1 ++ rest) (texts_too.1 ++ behind) both.0 joined in
-      breaks_once (texts.1 ++ rest) texts.1 rest texts_too.1 behind files others f g (bytes_behind bytes texts.0 (texts.1 ++ rest) small split) refl texts.4 first inside rests texts_too.4 first_too inside_too
+      let both = reading encodings.0 encodings_too.0 (encodings.1 ++ rest) (encodings_too.1 ++ behind) file second encodings.3 encodings_too.3 joined in
+      let rests : encodings.1 ++ rest ≡ encodings_too.1 ++ behind = same_rest encodings.0 encodings_too.0 (encodings.1 ++ rest) (encodings_too.1 ++ behind) both.0 joined in
+      breaks_once (encodings.1 ++ rest) encodings.1 rest encodings_too.1 behind files others f g (bytes_behind bytes encodings.0 (encodings.1 ++ rest) small split) refl encodings.4 first inside rests encodings_too.4 first_too inside_too
 
-  breaks_or : (bytes : List ℕ) (f : LtxFault) (files : List Ltx) → AreBytes bytes → BreaksOff bytes f → AreTexts bytes files → ⊥
-  breaks_or bytes f files small off texts = breaks_or_texts bytes off.front off.rest off.files files f small off.split off.texts off.more off.broken off.inside texts
+  breaks_or : (bytes : List ℕ) (f : LtxFault) (files : List Ltx) → AreBytes bytes → BreaksOff bytes f → AreEncodings bytes files → ⊥
+  breaks_or bytes f files small off encodings = breaks_or_encodings bytes off.prefix off.rest off.files files f small off.split off.encodings off.more off.broken off.inside encodings
 
   become_once : (bytes : List ℕ) (one two : Ltx) → AreBytes bytes → Become bytes one → Become bytes two → one ≡ two
   become_once bytes one two small a b =
-      compacts_once b.files one two (subst (λ (fs : List Ltx). Compacts fs one) (texts_once bytes a.files b.files small a.texts b.texts) a.one) b.one
+      compacts_once b.files one two (subst (λ (fs : List Ltx). Compacts fs one) (encodings_once bytes a.files b.files small a.encodings b.encodings) a.one) b.one
 
   become_or_why : (bytes : List ℕ) (file : Ltx) (why : CompactFault) → AreBytes bytes → Become bytes file → RefusesToCompact bytes (refusal.List why) → ⊥
   become_or_why bytes file why small a refuses =
       let not = why_of bytes why refuses in
-      all_or_why not.0 why (subst AllJoin (texts_once bytes a.files not.0 small a.texts not.1) a.joined) not.2
+      all_or_why not.0 why (subst AllJoin (encodings_once bytes a.files not.0 small a.encodings not.1) a.joined) not.2
 
   lists_once : (bytes : List ℕ) (why other : CompactFault) → AreBytes bytes → RefusesToCompact bytes (refusal.List why) → RefusesToCompact bytes (refusal.List other) → why ≡ other
   lists_once bytes why other small one two =
       let a = why_of bytes why one in
       let b = why_of bytes other two in
-      why_once b.0 why other (subst (λ (fs : List Ltx). WhyNot fs why) (texts_once bytes a.0 b.0 small a.1 b.1) a.2) b.2
+      why_once b.0 why other (subst (λ (fs : List Ltx). WhyNot fs why) (encodings_once bytes a.0 b.0 small a.1 b.1) a.2) b.2
 
-  becomes_or_sum : (bytes out : List ℕ) (want got : ℕ) → AreBytes bytes → BecomesText bytes out → RefusesToCompact bytes (refusal.SumDiffers want got) → ⊥
+  becomes_or_sum : (bytes out : List ℕ) (want got : ℕ) → AreBytes bytes → BecomesEncoding bytes out → RefusesToCompact bytes (refusal.SumDiffers want got) → ⊥
   becomes_or_sum bytes out want got small one two =
       let same : one.file ≡ two.0 = become_once bytes one.file two.0 small one.become two.1 in
       let says : SaysOtherSum one.file want got = subst (λ (x : Ltx). SaysOtherSum x want got) (sym same) two.2 in
@@ -236,17 +236,17 @@ module _ (reading : OneReading) (sound : BreaksNoRule) (one_fault : OneFault) wh
   one_compaction-of bytes (Err refusal.NoMemory) other small one two = absurd one
   one_compaction-of bytes answer (Err refusal.NoMemory) small one two = absurd two
   one_compaction-of bytes (Ok out) (Ok again) small one two =
-      ap (λ (t : List ℕ). Ok t) (one.text ∙ ap (λ (x : Ltx). file_text x no_meaning) (become_once bytes one.file two.file small one.become two.become) ∙ sym two.text)
-  one_compaction-of bytes (Ok out) (Err (refusal.Ltx f)) small one two = absurd (breaks_or bytes f one.become.files small two one.become.texts)
+      ap (λ (t : List ℕ). Ok t) (one.encoding ∙ ap (λ (x : Ltx). file_text x no_meaning) (become_once bytes one.file two.file small one.become two.become) ∙ sym two.encoding)
+  one_compaction-of bytes (Ok out) (Err (refusal.Ltx f)) small one two = absurd (breaks_or bytes f one.become.files small two one.become.encodings)
   one_compaction-of bytes (Ok out) (Err (refusal.List why)) small one two = absurd (become_or_why bytes one.file why small one.become two)
   one_compaction-of bytes (Ok out) (Err (refusal.SumDiffers want got)) small one two = absurd (becomes_or_sum bytes out want got small one two)
-  one_compaction-of bytes (Err (refusal.Ltx f)) (Ok out) small one two = absurd (breaks_or bytes f two.become.files small one two.become.texts)
+  one_compaction-of bytes (Err (refusal.Ltx f)) (Ok out) small one two = absurd (breaks_or bytes f two.become.files small one two.become.encodings)
   one_compaction-of bytes (Err (refusal.Ltx f)) (Err (refusal.Ltx g)) small one two =
-      ap (λ (x : LtxFault). Err (refusal.Ltx x)) (breaks_once bytes one.front one.rest two.front two.rest one.files two.files f g small one.split one.texts one.broken one.inside two.split two.texts two.broken two.inside)
+      ap (λ (x : LtxFault). Err (refusal.Ltx x)) (breaks_once bytes one.prefix one.rest two.prefix two.rest one.files two.files f g small one.split one.encodings one.broken one.inside two.split two.encodings two.broken two.inside)
   one_compaction-of bytes (Err (refusal.Ltx f)) (Err (refusal.List why)) small one two =
       let not = why_of bytes why two in
       absurd (breaks_or bytes f not.0 small one not.1)
-  one_compaction-of bytes (Err (refusal.Ltx f)) (Err (refusal.SumDiffers want got)) small one two = absurd (breaks_or bytes f two.1.files small one two.1.texts)
+  one_compaction-of bytes (Err (refusal.Ltx f)) (Err (refusal.SumDiffers want got)) small one two = absurd (breaks_or bytes f two.1.files small one two.1.encodings)
   one_compaction-of bytes (Err (refusal.List why)) (Ok out) small one two = absurd (become_or_why bytes two.file why small two.become one)
   one_compaction-of bytes (Err (refusal.List why)) (Err (refusal.Ltx g)) small one two =
       let not = why_of bytes why one in
@@ -254,6 +254,6 @@ module _ (reading : OneReading) (sound : BreaksNoRule) (one_fault : OneFault) wh
   one_compaction-of bytes (Err (refusal.List why)) (Err (refusal.List other)) small one two = ap (λ (x : CompactFault). Err (refusal.List x)) (lists_once bytes why other small one two)
   one_compaction-of bytes (Err (refusal.List why)) (Err (refusal.SumDiffers want got)) small one two = absurd (become_or_why bytes two.0 why small two.1 one)
   one_compaction-of bytes (Err (refusal.SumDiffers want got)) (Ok out) small one two = absurd (becomes_or_sum bytes out want got small two one)
-  one_compaction-of bytes (Err (refusal.SumDiffers want got)) (Err (refusal.Ltx g)) small one two = absurd (breaks_or bytes g one.1.files small two one.1.texts)
+  one_compaction-of bytes (Err (refusal.SumDiffers want got)) (Err (refusal.Ltx g)) small one two = absurd (breaks_or bytes g one.1.files small two one.1.encodings)
   one_compaction-of bytes (Err (refusal.SumDiffers want got)) (Err (refusal.List why)) small one two = absurd (become_or_why bytes one.0 why small one.1 two)
   one_compaction-of bytes (Err (refusal.SumDiffers want got)) (Err (refusal.SumDiffers wants gets)) small one two = ap (λ (x : CompactRefusal). Err x) (sums_once bytes want got wants gets small one two)

@@ -8,5 +8,5 @@ pub mod OutputLemmas
 pub mod PageLemmas
 pub mod PerformLemmas
 pub mod SumLemmas
-pub mod TakerLemmas
+pub mod ConsumerLemmas
 pub mod WholeChange

@@ -9,26 +9,27 @@ use Rattle.std.proofs.lemmas.List.{take-append-drop}
 use Rattle.std.proofs.lemmas.List.Folds.{concat-append}
 use Rattle.std.proofs.lemmas.Bool.Decides.{nat_tests}
 use Rattle.lf_sqlite_pages.specs.PageSize.{IsPageSize, is_page_size}
-use Rattle.litefs_tool.specs.Output.{AppendsFront, AppendsAllBut}
+use Rattle.litefs_tool.specs.Output.{AppendsPrefix}
+use Rattle.litefs_tool.specs.steps.Buffer.{AppendsAllBut}
 use Rattle.litefs_tool.proofs.PageLemmas.{drop-page}
 
--- some bytes were taken whole, and then a front of more
-pub AppendsFront-after : (a b c : Option (List ℕ)) (bytes more all : List ℕ) → all ≡ bytes ++ more → Appends a b bytes → AppendsFront b c more → AppendsFront a c all
-AppendsFront-after a b c bytes more all is whole front =
-    let joined : all ≡ (bytes ++ front.0) ++ front.1.0 = is ∙ ap (λ l. bytes ++ l) front.1.1 ∙ sym (append_assoc bytes front.0 front.1.0) in
-    (bytes ++ front.0, (front.1.0, joined), Appends-trans a b c bytes front.0 whole front.2)
+-- some bytes were taken whole, and then a prefix of more
+pub AppendsPrefix-after : (a b c : Option (List ℕ)) (bytes more all : List ℕ) → all ≡ bytes ++ more → Appends a b bytes → AppendsPrefix b c more → AppendsPrefix a c all
+AppendsPrefix-after a b c bytes more all is whole prefix =
+    let joined : all ≡ (bytes ++ prefix.0) ++ prefix.1.0 = is ∙ ap (λ l. bytes ++ l) prefix.1.1 ∙ sym (append_assoc bytes prefix.0 prefix.1.0) in
+    (bytes ++ prefix.0, (prefix.1.0, joined), Appends-trans a b c bytes prefix.0 whole prefix.2)
 
--- a front of some bytes is one of those and more
-pub AppendsFront-more : (a b : Option (List ℕ)) (bytes more : List ℕ) → AppendsFront a b bytes → AppendsFront a b (bytes ++ more)
-AppendsFront-more a b bytes more front =
-    let longer : bytes ++ more ≡ front.0 ++ (front.1.0 ++ more) = ap (λ l. l ++ more) front.1.1 ∙ append_assoc front.0 front.1.0 more in
-    (front.0, (front.1.0 ++ more, longer), front.2)
+-- a prefix of some bytes is one of those and more
+pub AppendsPrefix-more : (a b : Option (List ℕ)) (bytes more : List ℕ) → AppendsPrefix a b bytes → AppendsPrefix a b (bytes ++ more)
+AppendsPrefix-more a b bytes more prefix =
+    let longer : bytes ++ more ≡ prefix.0 ++ (prefix.1.0 ++ more) = ap (λ l. l ++ more) prefix.1.1 ∙ append_assoc prefix.0 prefix.1.0 more in
+    (prefix.0, (prefix.1.0 ++ more, longer), prefix.2)
 
--- a front of a piece, after what stands before it
-pub AppendsFront-middle : (a b c : Option (List ℕ)) (before piece after all : List ℕ) → all ≡ before ++ (piece ++ after) →
-    Appends a b before → AppendsFront b c piece → AppendsFront a c all
-AppendsFront-middle a b c before piece after all is whole front =
-    AppendsFront-after a b c before (piece ++ after) all is whole (AppendsFront-more b c piece after front)
+-- a prefix of a piece, after what stands before it
+pub AppendsPrefix-middle : (a b c : Option (List ℕ)) (before piece after all : List ℕ) → all ≡ before ++ (piece ++ after) →
+    Appends a b before → AppendsPrefix b c piece → AppendsPrefix a c all
+AppendsPrefix-middle a b c before piece after all is whole prefix =
+    AppendsPrefix-after a b c before (piece ++ after) all is whole (AppendsPrefix-more b c piece after prefix)
 
 -- one more page behind those that were taken and those that are held
 pub AppendsAllBut-more : (a b c : Option (List ℕ)) (bytes held page held_now : List ℕ) → AppendsAllBut a b bytes held →
@@ -39,12 +40,12 @@ AppendsAllBut-more a b c bytes held page held_now so_far step = (
   Appends-trans a b c so_far.0 step.0 so_far.2 step.2,
 )
 
--- a front of those that are held, behind those that were taken
-pub AppendsFront-held : (a b c : Option (List ℕ)) (bytes held more all : List ℕ) → AppendsAllBut a b bytes held → AppendsFront b c held →
-    all ≡ bytes ++ more → AppendsFront a c all
-AppendsFront-held a b c bytes held more all so_far front is =
+-- a prefix of those that are held, behind those that were taken
+pub AppendsPrefix-held : (a b c : Option (List ℕ)) (bytes held more all : List ℕ) → AppendsAllBut a b bytes held → AppendsPrefix b c held →
+    all ≡ bytes ++ more → AppendsPrefix a c all
+AppendsPrefix-held a b c bytes held more all so_far prefix is =
     let split : all ≡ so_far.0 ++ (held ++ more) = is ∙ ap (λ l. l ++ more) so_far.1 ∙ append_assoc so_far.0 held more in
-    AppendsFront-middle a b c so_far.0 held more all split so_far.2 front
+    AppendsPrefix-middle a b c so_far.0 held more all split so_far.2 prefix
 
 -- the bytes of the pages up to one, and those after it
 pub concat-split : (pages : List (List ℕ)) (k : ℕ) → concat pages ≡ concat (take k pages) ++ concat (drop k pages)

@@ -8,7 +8,7 @@ use Rattle.std.proofs.lemmas.Nat.Bits.{same_from_bits, bit_at_or, bit_at_xor, bi
 use Rattle.std.specs.Int.{bit_at}
 use Rattle.std.proofs.lemmas.Bool.{cases_eq, cases_lt}
 use Rattle.page_checksum.specs.Sums.{flagged, page_sum_of, joined, page_sums}
-use Rattle.litefs_tool.specs.SumSteps.{joined_over}
+use Rattle.litefs_tool.specs.steps.ChangedSum.{joined_over}
 
 -- a sum taken in twice is taken out
 xor_twice : (a b : ℕ) → bit_xor (bit_xor a b) b ≡ a

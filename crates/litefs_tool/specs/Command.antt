@@ -1,9 +1,26 @@
--- The words of the command line.
-use Rattle.std.specs.Prelude.{ℕ, List, [], ◌∷◌, codes}
+-- The commands: their arguments, what each writes for an input, and how it refuses one.
+use Rattle.std.specs.Prelude.{◌≡◌, ℕ, List, [], ◌∷◌, codes, Ok, Err}
+use Rattle.lf_sqlite_pages.specs.Image.{DatabaseImage, image_bytes}
+use Rattle.litefs_tool.specs.Compaction.{BecomesEncoding, RefusesToCompact}
+use Rattle.litefs_tool.specs.CompactRefusal.{compact_refusal_name}
+use Rattle.litefs_tool.specs.Files.{Applies, never_written}
+use Rattle.litefs_tool.specs.Refusal.{refusal_name}
 use Rattle.litefs_tool.specs.declared.command.Command.{Command}
 use Rattle.litefs_tool.specs.declared.command.Command.TheVariants.{Apply, Compact}
+use Rattle.litefs_tool.specs.declared.compact_refusal.CompactRefusal.{CompactRefusal}
+use Rattle.litefs_tool.specs.declared.refusal.Refusal.{Refusal}
 
--- the words of a command
-abbrev pub words_of : Command → List (List ℕ)
-words_of Apply = codes "apply" ∷ []
-words_of Compact = codes "compact" ∷ []
+-- the arguments that name a command
+abbrev pub arguments_of : Command → List (List ℕ)
+arguments_of Apply = codes "apply" ∷ []
+arguments_of Compact = codes "compact" ∷ []
+
+-- the bytes that a command writes for an input
+abbrev pub WritesFor : Command → List ℕ → List ℕ → Type 0
+WritesFor Apply input bytes = (image : DatabaseImage) × Applies never_written input (Ok image) × (bytes ≡ image_bytes image)
+WritesFor Compact input bytes = BecomesEncoding input bytes
+
+-- a command refuses an input, by the fault of this name
+abbrev pub RefusesBy : Command → List ℕ → List ℕ → Type 0
+RefusesBy Apply input name = (why : Refusal) × Applies never_written input (Err why) × (name ≡ refusal_name why)
+RefusesBy Compact input name = (why : CompactRefusal) × RefusesToCompact input why × (name ≡ compact_refusal_name why)

@@ -12,18 +12,18 @@ use Rattle.ltx_compact.specs.declared.fault.CompactFault.TheVariants as list
 use Rattle.litefs_tool.specs.declared.compact_refusal.CompactRefusal.{CompactRefusal}
 use Rattle.litefs_tool.specs.declared.compact_refusal.CompactRefusal.TheVariants as refusal
 
--- the bytes are the texts of files, one after another
-abbrev pub AreTexts : List ℕ → List Ltx → Type 0
-AreTexts bytes [] = bytes ≡ []
-AreTexts bytes (file ∷ files) = (text : List ℕ) × (rest : List ℕ) × (bytes ≡ text ++ rest) × IsLtx text file × AreTexts rest files
+-- the bytes are the encodings of files, one after another
+abbrev pub AreEncodings : List ℕ → List Ltx → Type 0
+AreEncodings bytes [] = bytes ≡ []
+AreEncodings bytes (file ∷ files) = (encoding : List ℕ) × (rest : List ℕ) × (bytes ≡ encoding ++ rest) × IsLtx encoding file × AreEncodings rest files
 
--- behind the texts of files the bytes go on, and no file stands there
+-- behind the encodings of files the bytes go on, and no file stands there
 pub record BreaksOff (bytes : List ℕ) (fault : LtxFault) : Type 0 where
-  pub front : List ℕ
+  pub prefix : List ℕ
   pub rest : List ℕ
   pub files : List Ltx
-  pub split : bytes ≡ front ++ rest
-  pub texts : AreTexts front files
+  pub split : bytes ≡ prefix ++ rest
+  pub encodings : AreEncodings prefix files
   pub more : 0 < length rest
   pub broken : IsEarliest rest fault
   pub inside : StandsInside fault
@@ -31,7 +31,7 @@ pub record BreaksOff (bytes : List ℕ) (fault : LtxFault) : Type 0 where
 -- the files in the bytes join, and become this one
 pub record Become (bytes : List ℕ) (file : Ltx) : Type 0 where
   pub files : List Ltx
-  pub texts : AreTexts bytes files
+  pub encodings : AreEncodings bytes files
   pub joined : AllJoin files
   pub one : Compacts files file
   pub does : DoesAsFiles files file.change
@@ -47,7 +47,7 @@ pub record SaysOtherSum (file : Ltx) (want got : ℕ) : Type 0 where
 abbrev pub RefusesToCompact : List ℕ → CompactRefusal → Type 0
 RefusesToCompact bytes (refusal.Ltx fault) = BreaksOff bytes fault
 RefusesToCompact bytes (refusal.List list.NoMemory) = ⊥
-RefusesToCompact bytes (refusal.List why) = (files : List Ltx) × AreTexts bytes files × IsWhy files why
+RefusesToCompact bytes (refusal.List why) = (files : List Ltx) × AreEncodings bytes files × IsWhy files why
 RefusesToCompact bytes (refusal.SumDiffers want got) = (file : Ltx) × Become bytes file × SaysOtherSum file want got
 RefusesToCompact bytes refusal.NoMemory = ⊥
 
@@ -55,14 +55,14 @@ RefusesToCompact bytes refusal.NoMemory = ⊥
 abbrev pub MayRefuse : List ℕ → CompactRefusal → Type 0
 MayRefuse bytes why = (why ≡ refusal.NoMemory) ⊎ RefusesToCompact bytes why
 
--- the bytes written are the one text of the file that the files in the bytes read become
-pub record BecomesText (bytes out : List ℕ) : Type 0 where
+-- the bytes written are the one encoding of the file that the files in the bytes read become
+pub record BecomesEncoding (bytes out : List ℕ) : Type 0 where
   pub file : Ltx
   pub become : Become bytes file
-  pub text : out ≡ file_text file no_meaning
+  pub encoding : out ≡ file_text file no_meaning
   pub is_file : IsLtx out file
 
 -- what compacting the files in the bytes comes to, where memory lasts
 abbrev pub CompactsTo : List ℕ → Result (List ℕ) CompactRefusal → Type 0
-CompactsTo bytes (Ok out) = BecomesText bytes out
+CompactsTo bytes (Ok out) = BecomesEncoding bytes out
 CompactsTo bytes (Err why) = RefusesToCompact bytes why

@@ -41,20 +41,20 @@ Refuses database file (refusal.Ltx broken) = ⊥
 Refuses database file refusal.NoMemory = ⊥
 
 -- What applying the files in some bytes to a database comes to. The files are taken in order; in each, first its
--- text is looked at, then whether it joins. The first fault is the answer, and else the image at the end of the bytes.
+-- encoding is looked at, then whether it joins. The first fault is the answer, and else the image at the end of the bytes.
 pub data Applies : Database → List ℕ → Result DatabaseImage Refusal → Type 0 where
-  -- there is no file at the front, not even where there are no bytes
+  -- no file stands first, not even where there are no bytes
   broken : {database : Database} {bytes : List ℕ} {fault : LtxFault} →
       IsEarliest bytes fault → StandsInside fault → Applies database bytes (Err (refusal.Ltx fault))
-  -- the file at the front does not join
-  refused : {database : Database} {bytes : List ℕ} (text rest : List ℕ) {file : Ltx} {why : Refusal} →
-      bytes ≡ text ++ rest → IsLtx text file → Refuses database file why → Applies database bytes (Err why)
-  -- the file at the front is the last
+  -- the first file does not join
+  refused : {database : Database} {bytes : List ℕ} (encoding rest : List ℕ) {file : Ltx} {why : Refusal} →
+      bytes ≡ encoding ++ rest → IsLtx encoding file → Refuses database file why → Applies database bytes (Err why)
+  -- the first file is the last
   last : {database : Database} {bytes : List ℕ} {file : Ltx} →
       IsLtx bytes file → Joins database file → Applies database bytes (Ok (apply database.image file.change))
-  -- the file at the front is followed by others
-  more : {database : Database} {bytes : List ℕ} (text rest : List ℕ) {file : Ltx} {answer : Result DatabaseImage Refusal} →
-      bytes ≡ text ++ rest → IsLtx text file → Joins database file → 0 < length rest →
+  -- the first file is followed by others
+  more : {database : Database} {bytes : List ℕ} (encoding rest : List ℕ) {file : Ltx} {answer : Result DatabaseImage Refusal} →
+      bytes ≡ encoding ++ rest → IsLtx encoding file → Joins database file → 0 < length rest →
       Applies (after database file) rest answer → Applies database bytes answer
 
 -- what an input makes of a database that was never written; want of memory may stand in place of it

@@ -1,14 +1,9 @@
-pub mod Applying
 pub mod Command
 pub mod CompactRefusal
 pub mod Compaction
-pub mod Failure
 pub mod Files
-pub mod Gathering
-pub mod Input
 pub mod Output
-pub mod Performing
 pub mod Position
 pub mod Refusal
 pub mod Run
-pub mod SumSteps
+pub mod steps

@@ -1,4 +1,4 @@
--- The names of the faults of an input, which standard error tells.
+-- The names of the faults of an input, for standard error.
 use Rattle.std.specs.Prelude.{ℕ, List, codes}
 use Rattle.ltx_codec.specs.declared.fault.LtxFault.{LtxFault}
 use Rattle.ltx_codec.specs.declared.fault.LtxFault.TheVariants as fault

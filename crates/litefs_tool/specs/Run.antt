@@ -1,21 +1,13 @@
 -- How a run of the program goes: what it reads, writes and says, and how it ends.
-use Rattle.std.specs.Prelude.{◌≡◌, ◌≢◌, ℕ, ◌<◌, ◌≤◌, List, [], ◌∷◌, ◌++◌, length, codes, Option, Result, Ok, Err, ◌⊎◌}
+use Rattle.std.specs.Prelude.{◌≡◌, ◌≢◌, ℕ, ◌<◌, ◌≤◌, List, [], ◌∷◌, ◌++◌, length, codes, Option, ◌⊎◌}
 use Rattle.std.specs.Io.KnownBytes.{Consumes, Appends, IsAtEnd}
 use Rattle.lf_base.specs.Faults.{Rose}
 use Rattle.lf_base.specs.Status.{text_of}
 use Rattle.lf_base.specs.declared.status.Status.{Status}
 use Rattle.lf_base.specs.declared.status.Status.TheVariants as status
-use Rattle.lf_sqlite_pages.specs.Image.{DatabaseImage, image_bytes}
-use Rattle.litefs_tool.specs.Command.{words_of}
-use Rattle.litefs_tool.specs.Compaction.{BecomesText, RefusesToCompact}
-use Rattle.litefs_tool.specs.CompactRefusal.{compact_refusal_name}
-use Rattle.litefs_tool.specs.Files.{Applies, never_written}
-use Rattle.litefs_tool.specs.Output.{IsFront, AppendsFront}
-use Rattle.litefs_tool.specs.Refusal.{refusal_name}
+use Rattle.litefs_tool.specs.Command.{arguments_of, WritesFor, RefusesBy}
+use Rattle.litefs_tool.specs.Output.{IsPrefix, AppendsPrefix}
 use Rattle.litefs_tool.specs.declared.command.Command.{Command}
-use Rattle.litefs_tool.specs.declared.command.Command.TheVariants.{Apply, Compact}
-use Rattle.litefs_tool.specs.declared.compact_refusal.CompactRefusal.{CompactRefusal}
-use Rattle.litefs_tool.specs.declared.refusal.Refusal.{Refusal}
 
 -- a stream over a run: the bytes left to read, or those taken, where it tells them, and its count of faults
 pub record Stream : Type 0 where
@@ -29,9 +21,9 @@ abbrev pub stream : {S : Type 0} → (S → Option (List ℕ)) → (S → ℕ) �
 stream bytes faults before after =
     record { bytes = bytes before; bytes_after = bytes after; faults = faults before; faults_after = faults after }
 
--- a run: its words and its streams
+-- a run: its arguments and its streams
 pub record Run : Type 0 where
-  pub words : List (List ℕ)
+  pub arguments : List (List ℕ)
   pub input : Stream
   pub output : Stream
   pub errors : Stream
@@ -56,55 +48,36 @@ Holds stream = stream.faults_after ≡ stream.faults
 abbrev pub input_limit : ℕ
 input_limit = 67108864
 
--- the input is within the limit, and applying its files comes to this
-abbrev pub Decides : List ℕ → Result DatabaseImage Refusal → Type 0
-Decides input answer = (length input ≤ input_limit) × Applies never_written input answer
+-- the input is no longer than that
+abbrev pub IsWithin : List ℕ → Type 0
+IsWithin input = length input ≤ input_limit
 
--- What `apply` comes to: the bytes that it read, its status, the bytes that it wrote, and the name of the fault that it
--- tells. Each status has its own case; a fault of a stream or want of memory alone may come in place of another.
-abbrev pub AppliesInput : List ℕ → Status → List ℕ → List ℕ → Type 0
-AppliesInput input status.Ok written name = (image : DatabaseImage) × Decides input (Ok image) × (written ≡ image_bytes image)
-AppliesInput input status.WriteFault written name = (image : DatabaseImage) × Decides input (Ok image) × IsFront written (image_bytes image)
-AppliesInput input status.InputRefused written name = (why : Refusal) × Decides input (Err why) × (name ≡ refusal_name why) × (written ≡ [])
-AppliesInput input status.Limit written name = (input_limit < length input) × (written ≡ [])
-AppliesInput input status.ReadFault written name = written ≡ []
-AppliesInput input status.NoMemory written name = written ≡ []
-AppliesInput input status.WordsRefused written name = ⊥
-AppliesInput input status.DiskFault written name = ⊥
-AppliesInput input status.NetworkFault written name = ⊥
-AppliesInput input status.NoThread written name = ⊥
+-- What a command comes to: the bytes that it read, its status, the bytes that it wrote, and the name of the fault for
+-- standard error. Each status has its own case; a fault of a stream or want of memory alone may come in place of another.
+abbrev pub CommandOutcome : Command → List ℕ → Status → List ℕ → List ℕ → Type 0
+CommandOutcome command input status.Ok written name = IsWithin input × WritesFor command input written
+CommandOutcome command input status.WriteFault written name = (bytes : List ℕ) × IsWithin input × WritesFor command input bytes × IsPrefix written bytes
+CommandOutcome command input status.InputRefused written name = IsWithin input × RefusesBy command input name × (written ≡ [])
+CommandOutcome command input status.Limit written name = (input_limit < length input) × (written ≡ [])
+CommandOutcome command input status.ReadFault written name = written ≡ []
+CommandOutcome command input status.NoMemory written name = written ≡ []
+CommandOutcome command input status.WordsRefused written name = ⊥
+CommandOutcome command input status.DiskFault written name = ⊥
+CommandOutcome command input status.NetworkFault written name = ⊥
+CommandOutcome command input status.NoThread written name = ⊥
 
--- the input is within the limit, and its files become the one of this text
-abbrev pub Makes : List ℕ → List ℕ → Type 0
-Makes input out = (length input ≤ input_limit) × BecomesText input out
-
--- What `compact` comes to, as `AppliesInput` says it of `apply`.
-abbrev pub CompactsInput : List ℕ → Status → List ℕ → List ℕ → Type 0
-CompactsInput input status.Ok written name = Makes input written
-CompactsInput input status.WriteFault written name = (out : List ℕ) × Makes input out × IsFront written out
-CompactsInput input status.InputRefused written name =
-    (why : CompactRefusal) × (length input ≤ input_limit) × RefusesToCompact input why × (name ≡ compact_refusal_name why) × (written ≡ [])
-CompactsInput input status.Limit written name = (input_limit < length input) × (written ≡ [])
-CompactsInput input status.ReadFault written name = written ≡ []
-CompactsInput input status.NoMemory written name = written ≡ []
-CompactsInput input status.WordsRefused written name = ⊥
-CompactsInput input status.DiskFault written name = ⊥
-CompactsInput input status.NetworkFault written name = ⊥
-CompactsInput input status.NoThread written name = ⊥
-
--- no command has these words, and the run reads and writes nothing
-pub record RefusesWords (words : List (List ℕ)) (input : List ℕ) (ended : Status) (written : List ℕ) : Type 0 where
-  pub no_command : (command : Command) → words ≢ words_of command
+-- no command has these arguments, and the run reads and writes nothing
+pub record RefusesArguments (arguments : List (List ℕ)) (input : List ℕ) (ended : Status) (written : List ℕ) : Type 0 where
+  pub no_command : (command : Command) → arguments ≢ arguments_of command
   pub refused : ended ≡ status.WordsRefused
   pub unread : input ≡ []
   pub unwritten : written ≡ []
 
--- what words and the bytes that were read come to
-abbrev pub ComesTo : List (List ℕ) → List ℕ → Status → List ℕ → List ℕ → Type 0
-ComesTo words input status written name =
-    RefusesWords words input status written
-    ⊎ (words ≡ words_of Apply) × AppliesInput input status written name
-    ⊎ (words ≡ words_of Compact) × CompactsInput input status written name
+-- what arguments and the bytes that were read come to
+abbrev pub ArgumentsOutcome : List (List ℕ) → List ℕ → Status → List ℕ → List ℕ → Type 0
+ArgumentsOutcome arguments input status written name =
+    RefusesArguments arguments input status written
+    ⊎ (command : Command) × (arguments ≡ arguments_of command) × CommandOutcome command input status written name
 
 -- with these statuses the input was read to its end
 abbrev pub LeavesNothing : Stream → Status → Type 0
@@ -123,7 +96,7 @@ HasCause input output other = Holds input × Holds output
 pub record Moves (input output : Stream) (status : Status) (read written : List ℕ) : Type 0 where
   pub reads : Gives input read
   pub writes : Takes output written
-  pub rest : LeavesNothing input status
+  pub read_to_end : LeavesNothing input status
   pub cause : HasCause input output status
 
 -- a line of standard error
@@ -136,15 +109,15 @@ line_of status.Ok name = []
 line_of status.InputRefused name = line (text_of status.InputRefused ++ name)
 line_of other name = line (text_of other)
 
--- standard error took these bytes; where it failed, a front of them
+-- standard error took these bytes; where it failed, a prefix of them
 abbrev pub Says : Stream → List ℕ → Type 0
-Says errors bytes = Holds errors × Takes errors bytes ⊎ Fails errors × AppendsFront errors.bytes errors.bytes_after bytes
+Says errors bytes = Holds errors × Takes errors bytes ⊎ Fails errors × AppendsPrefix errors.bytes errors.bytes_after bytes
 
--- how a run went that ended with this status: what it read and wrote, and the name of the fault that it told
-pub record Went (run : Run) (status : Status) : Type 0 where
+-- how a run went that ended with this status: what it read and wrote, and the name of the fault on standard error
+pub record RunOutcome (run : Run) (status : Status) : Type 0 where
   pub read : List ℕ
   pub written : List ℕ
   pub name : List ℕ
   pub moves : Moves run.input run.output status read written
-  pub outcome : ComesTo run.words read status written name
+  pub outcome : ArgumentsOutcome run.arguments read status written name
   pub says : Says run.errors (line_of status name)

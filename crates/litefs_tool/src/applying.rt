@@ -1,13 +1,13 @@
 //! LTX files that are applied as their bytes come.
 ghost use Rattle.std.specs.Prelude.{◌≡◌, ◌≢◌, ◌<◌, ◌≤◌, ◌++◌, List, ℕ, [], length, take, IfOk, IfErr, OnOk};
 ghost use Rattle.ltx_codec.specs.Format.{IsFile};
-ghost use Rattle.litefs_tool.specs.Applying.{HasApplied, EndsFile, IsApplying};
+ghost use Rattle.litefs_tool.specs.steps.Applying.{HasApplied, EndsFile, IsApplying};
 ghost use Rattle.litefs_tool.specs.Files.{MakesOf};
-ghost use Rattle.litefs_tool.specs.SumSteps.{HasSum};
+ghost use Rattle.litefs_tool.specs.steps.ChangedSum.{HasSum};
 
+use crate::consumer::{Consumer, consume_all};
 use crate::database::Database;
 use crate::refusal::Refusal;
-use crate::taker::Taker;
 use lf_base::NoMemory;
 use lf_sqlite_pages::Image;
 use ltx_codec::{FileReader, Ltx, LtxFault};
@@ -32,12 +32,12 @@ pub struct Progress {
     pub is_first: bool,
 }
 
-impl Taker for Applying {
-    ghost has_taken = { IsApplying };
+impl Consumer for Applying {
+    ghost has_consumed = { IsApplying };
 
-    fn take_front(self, bytes: &[u8]) -> Result<(Applying, usize), NoMemory> {
+    fn consume_prefix(self, bytes: &[u8]) -> Result<(Applying, usize), NoMemory> {
         match self {
-            Applying::Sound(progress) => progress.take_front(bytes),
+            Applying::Sound(progress) => progress.consume_prefix(bytes),
             Applying::Refused(why) => Ok((Applying::Refused(why), bytes.len())),
         }
     }
@@ -67,12 +67,12 @@ impl Applying {
 }
 
 impl Progress {
-    fn take_front(self, bytes: &[u8]) -> Result<(Applying, usize), NoMemory>
+    fn consume_prefix(self, bytes: &[u8]) -> Result<(Applying, usize), NoMemory>
         requires begun { (before : List ℕ) × HasApplied self before }
         requires more { 0 < length bytes.now }
         ensures some { IfOk result (λ next. 0 < next.1) }
         ensures within { IfOk result (λ next. next.1 ≤ length bytes.now) }
-        ensures taken { (before : List ℕ) → HasApplied self before → IfOk result (λ next. IsApplying next.0 (before ++ take next.1 bytes.now)) }
+        ensures consumed { (before : List ℕ) → HasApplied self before → IfOk result (λ next. IsApplying next.0 (before ++ take next.1 bytes.now)) }
     {
         let mut progress = self;
         match progress.reader.feed(bytes) {
@@ -116,6 +116,14 @@ impl Progress {
         let Database { image, pos: _ } = database;
         Ok(image)
     }
+}
+
+/// The database that LTX files make, one after another. The first is a snapshot, and each next joins
+/// the one before.
+pub fn apply_files(alloc: Global, bytes: &[u8]) -> Result<Image, Refusal>
+    ensures { MakesOf bytes.now result }
+{
+    consume_all(Applying::new(alloc)?, bytes)?.finish()
 }
 
 /// A refusal that is kept. Want of memory is not.

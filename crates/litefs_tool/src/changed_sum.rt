@@ -5,7 +5,7 @@ ghost use Rattle.lf_sqlite_pages.specs.Apply.{apply};
 ghost use Rattle.lf_sqlite_pages.specs.Change.{IsChange};
 ghost use Rattle.ltx_codec.specs.Format.{IsFile};
 ghost use Rattle.litefs_tool.specs.Files.{sum_after};
-ghost use Rattle.litefs_tool.specs.SumSteps.{HasSum, joined_over, standing_sum, rewriting_sum};
+ghost use Rattle.litefs_tool.specs.steps.ChangedSum.{HasSum, joined_over, standing_sum, rewriting_sum};
 
 use crate::database::Database;
 use lf_base::NoMemory;

@@ -1,7 +1,7 @@
-//! The words of the command line.
+//! The commands and their arguments.
 ghost use Rattle.std.specs.Prelude.{◌≡◌, ◌≢◌, ◌↔◌, IsTrue, MatchOption};
 ghost use Rattle.litefs_tool.specs.declared.command.Command.{Command};
-ghost use Rattle.litefs_tool.specs.Command.{words_of};
+ghost use Rattle.litefs_tool.specs.Command.{arguments_of};
 
 use lf_base::Text;
 
@@ -14,24 +14,24 @@ pub enum Command {
     Compact,
 }
 
-/// The command of these words. They are read to the letter: no word more, and none less.
-pub fn read_words(words: &[Text]) -> Option<Command>
-    ensures { MatchOption result ((command : Command) → words.now ≢ words_of command) (λ command. words.now ≡ words_of command) }
+/// The command of these arguments. They are read to the letter: none more, and none less.
+pub fn read_arguments(arguments: &[Text]) -> Option<Command>
+    ensures { MatchOption result ((command : Command) → arguments.now ≢ arguments_of command) (λ command. arguments.now ≡ arguments_of command) }
 {
-    let [word] = words else {
+    let [argument] = arguments else {
         return None;
     };
-    if is_word(word, b"apply".as_slice()) {
+    if is_name(argument, b"apply".as_slice()) {
         return Some(Command::Apply);
     }
-    if is_word(word, b"compact".as_slice()) {
+    if is_name(argument, b"compact".as_slice()) {
         return Some(Command::Compact);
     }
     None
 }
 
-fn is_word(text: &Text, word: &[u8]) -> bool
-    ensures { IsTrue result ↔ (text.now ≡ word.now) }
+fn is_name(argument: &Text, name: &[u8]) -> bool
+    ensures { IsTrue result ↔ (argument.now ≡ name.now) }
 {
-    text.bytes() == word
+    argument.bytes() == name
 }

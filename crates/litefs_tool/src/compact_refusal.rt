@@ -7,7 +7,7 @@ use lf_base::NoMemory;
 use ltx_codec::LtxFault;
 use ltx_compact::CompactFault;
 
-/// Why LTX files do not become one. First each file's text is looked at, then whether they join,
+/// Why LTX files do not become one. First each file's encoding is looked at, then whether they join,
 /// and last the sum of a snapshot.
 #[derive(Clone, Copy, Debug, PartialEq, Eq)]
 pub enum CompactRefusal {

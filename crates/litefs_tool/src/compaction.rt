@@ -3,11 +3,11 @@ ghost use Rattle.std.specs.Prelude.{◌≡◌, List, ℕ, All, IfOk, IfErr, Matc
 ghost use Rattle.page_checksum.specs.Sums.{database_sum};
 ghost use Rattle.ltx_codec.specs.Format.{IsFile};
 ghost use Rattle.ltx_compact.specs.Compaction.{IsFileButSum};
-ghost use Rattle.litefs_tool.specs.Compaction.{AreTexts, Become, MayRefuse, BecomesText, SaysOtherSum};
+ghost use Rattle.litefs_tool.specs.Compaction.{AreEncodings, Become, MayRefuse, BecomesEncoding, SaysOtherSum};
 
 use crate::compact_refusal::CompactRefusal;
+use crate::consumer::consume_all;
 use crate::gathering::Gathering;
-use crate::taker::take_all;
 use lf_sqlite_pages::Change;
 use ltx_codec::{Ltx, encode};
 use ltx_compact::compact;
@@ -17,21 +17,21 @@ use std::alloc::Global;
 /// Bit 63, which every sum carries.
 const FLAG: u64 = 1 << 63;
 
-/// The text of the one file that LTX files become, one after another.
+/// The encoding of the one file that LTX files become, one after another.
 pub fn compact_files(alloc: Global, bytes: &[u8]) -> Result<Vec<u8>, CompactRefusal>
-    ensures ok { IfOk result (λ out. BecomesText bytes.now out.items) }
+    ensures ok { IfOk result (λ out. BecomesEncoding bytes.now out.items) }
     ensures refused { IfErr result (MayRefuse bytes.now) }
 {
-    let files = take_all(Gathering::new(alloc)?, bytes)?.finish()?;
-    text_of_one(alloc, files)
+    let files = consume_all(Gathering::new(alloc)?, bytes)?.finish()?;
+    encoding_of_one(alloc, files)
 }
 
-/// The text of the one file that files become. A snapshot's sum is looked at before anything is
+/// The encoding of the one file that files become. A snapshot's sum is looked at before anything is
 /// encoded.
-pub fn text_of_one(alloc: Global, files: Vec<Ltx>) -> Result<Vec<u8>, CompactRefusal>
+pub fn encoding_of_one(alloc: Global, files: Vec<Ltx>) -> Result<Vec<u8>, CompactRefusal>
     requires { All IsFile files.items }
-    ensures ok { (bytes : List ℕ) → AreTexts bytes files.items → IfOk result (λ out. BecomesText bytes out.items) }
-    ensures refused { (bytes : List ℕ) → AreTexts bytes files.items → IfErr result (MayRefuse bytes) }
+    ensures ok { (bytes : List ℕ) → AreEncodings bytes files.items → IfOk result (λ out. BecomesEncoding bytes out.items) }
+    ensures refused { (bytes : List ℕ) → AreEncodings bytes files.items → IfErr result (MayRefuse bytes) }
 {
     let file = one_file(alloc, files)?;
     if let Some((want, got)) = other_sum(&file) {
@@ -45,9 +45,9 @@ pub fn text_of_one(alloc: Global, files: Vec<Ltx>) -> Result<Vec<u8>, CompactRef
 /// The one file that files become, which are not held longer.
 fn one_file(alloc: Global, files: Vec<Ltx>) -> Result<Ltx, CompactRefusal>
     requires { All IsFile files.items }
-    ensures ok { (bytes : List ℕ) → AreTexts bytes files.items → IfOk result (Become bytes) }
+    ensures ok { (bytes : List ℕ) → AreEncodings bytes files.items → IfOk result (Become bytes) }
     ensures sound { IfOk result IsFileButSum }
-    ensures refused { (bytes : List ℕ) → AreTexts bytes files.items → IfErr result (MayRefuse bytes) }
+    ensures refused { (bytes : List ℕ) → AreEncodings bytes files.items → IfErr result (MayRefuse bytes) }
 {
     Ok(compact(alloc, files.as_slice())?)
 }

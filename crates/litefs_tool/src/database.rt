@@ -5,7 +5,7 @@ ghost use Rattle.lf_sqlite_pages.specs.Apply.{Fits};
 ghost use Rattle.ltx_codec.specs.Format.{IsFile};
 ghost use Rattle.litefs_tool.specs.Position as position;
 ghost use Rattle.litefs_tool.specs.Files.{never_written, Joins, after, Refuses};
-ghost use Rattle.litefs_tool.specs.SumSteps.{HasSum};
+ghost use Rattle.litefs_tool.specs.steps.ChangedSum.{HasSum};
 
 use crate::changed_sum::sum_after;
 use crate::refusal::Refusal;
@@ -32,7 +32,7 @@ impl Database {
         }
     }
 
-    /// The database after a file. Its sum is told from the sum before, and the pages of the file are
+    /// The database after a file. Its sum comes from the sum before, and the pages of the file are
     /// moved into it.
     pub fn apply(self, alloc: Global, file: Ltx) -> Result<Database, Refusal>
         requires valid { IsFile file }

@@ -1,5 +1,5 @@
 ghost use Rattle.std.specs.Prelude.{◌≡◌};
-ghost use Rattle.litefs_tool.specs.Failure.{status_of_failure, name_of_failure};
+ghost use Rattle.litefs_tool.specs.steps.Failure.{status_of_failure, name_of_failure};
 ghost use Rattle.litefs_tool.specs.declared.failure.Failure.TheVariants as failure;
 
 use crate::compact_refusal::CompactRefusal;
@@ -10,8 +10,8 @@ use lf_base::{Failed, NoMemory, Status};
 /// Why a run ends before its output is whole.
 #[derive(Clone, Copy, Debug, PartialEq, Eq)]
 pub enum Failure {
-    /// The words are no command's.
-    Words,
+    /// The arguments are no command's.
+    Arguments,
     /// The input was not read whole.
     Input(InputFault),
     /// The files in the input do not make a database.
@@ -70,7 +70,7 @@ impl Failure {
         ensures { result ≡ status_of_failure self }
     {
         match self {
-            Failure::Words => Status::WordsRefused,
+            Failure::Arguments => Status::WordsRefused,
             Failure::Input(InputFault::Failed) => Status::ReadFault,
             Failure::Input(InputFault::TooLong) => Status::Limit,
             Failure::Input(InputFault::NoMemory) => Status::NoMemory,

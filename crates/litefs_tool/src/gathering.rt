@@ -1,11 +1,11 @@
 //! LTX files that are gathered as their bytes come.
 ghost use Rattle.std.specs.Prelude.{◌≡◌, ◌≢◌, ◌<◌, ◌≤◌, ◌++◌, List, ℕ, [], All, length, take, IfOk, IfErr, OnOk};
 ghost use Rattle.ltx_codec.specs.Format.{IsFile};
-ghost use Rattle.litefs_tool.specs.Compaction.{AreTexts, MayRefuse};
-ghost use Rattle.litefs_tool.specs.Gathering.{HasGathered, EndsOneMore, IsGathering};
+ghost use Rattle.litefs_tool.specs.Compaction.{AreEncodings, MayRefuse};
+ghost use Rattle.litefs_tool.specs.steps.Gathering.{HasGathered, EndsOneMore, IsGathering};
 
 use crate::compact_refusal::CompactRefusal;
-use crate::taker::Taker;
+use crate::consumer::Consumer;
 use lf_base::NoMemory;
 use ltx_codec::{FileReader, Ltx, LtxFault};
 use std::alloc::Global;
@@ -13,9 +13,9 @@ use std::alloc::Global;
 /// Files that are gathered as their bytes come.
 #[derive(Drop)]
 pub enum Gathering {
-    /// The text of each file so far was read.
+    /// The encoding of each file so far was read.
     Sound(Gathered),
-    /// A text has this fault, and what stands behind it is passed over.
+    /// An encoding has this fault, and what stands behind it is passed over.
     Broken(LtxFault),
 }
 
@@ -26,12 +26,12 @@ pub struct Gathered {
     pub files: Vec<Ltx>,
 }
 
-impl Taker for Gathering {
-    ghost has_taken = { IsGathering };
+impl Consumer for Gathering {
+    ghost has_consumed = { IsGathering };
 
-    fn take_front(self, bytes: &[u8]) -> Result<(Gathering, usize), NoMemory> {
+    fn consume_prefix(self, bytes: &[u8]) -> Result<(Gathering, usize), NoMemory> {
         match self {
-            Gathering::Sound(gathered) => gathered.take_front(bytes),
+            Gathering::Sound(gathered) => gathered.consume_prefix(bytes),
             Gathering::Broken(fault) => Ok((Gathering::Broken(fault), bytes.len())),
         }
     }
@@ -50,7 +50,7 @@ impl Gathering {
     /// The files, where nothing follows.
     pub fn finish(self) -> Result<Vec<Ltx>, CompactRefusal>
         requires { (bytes : List ℕ) × IsGathering self bytes }
-        ensures texts { (bytes : List ℕ) → IsGathering self bytes → IfOk result (λ files. AreTexts bytes files.items) }
+        ensures encodings { (bytes : List ℕ) → IsGathering self bytes → IfOk result (λ files. AreEncodings bytes files.items) }
         ensures valid { IfOk result (λ files. All IsFile files.items) }
         ensures refused { (bytes : List ℕ) → IsGathering self bytes → IfErr result (MayRefuse bytes) }
     {
@@ -62,12 +62,12 @@ impl Gathering {
 }
 
 impl Gathered {
-    fn take_front(self, bytes: &[u8]) -> Result<(Gathering, usize), NoMemory>
+    fn consume_prefix(self, bytes: &[u8]) -> Result<(Gathering, usize), NoMemory>
         requires begun { (before : List ℕ) × HasGathered self before }
         requires more { 0 < length bytes.now }
         ensures some { IfOk result (λ next. 0 < next.1) }
         ensures within { IfOk result (λ next. next.1 ≤ length bytes.now) }
-        ensures taken { (before : List ℕ) → HasGathered self before → IfOk result (λ next. IsGathering next.0 (before ++ take next.1 bytes.now)) }
+        ensures consumed { (before : List ℕ) → HasGathered self before → IfOk result (λ next. IsGathering next.0 (before ++ take next.1 bytes.now)) }
     {
         let mut gathered = self;
         match gathered.reader.feed(bytes) {
@@ -88,7 +88,7 @@ impl Gathered {
 
     fn finish(self) -> Result<Vec<Ltx>, CompactRefusal>
         requires { (bytes : List ℕ) × HasGathered self bytes }
-        ensures texts { (bytes : List ℕ) → HasGathered self bytes → IfOk result (λ files. AreTexts bytes files.items) }
+        ensures encodings { (bytes : List ℕ) → HasGathered self bytes → IfOk result (λ files. AreEncodings bytes files.items) }
         ensures valid { IfOk result (λ files. All IsFile files.items) }
         ensures refused { (bytes : List ℕ) → HasGathered self bytes → IfErr result (MayRefuse bytes) }
     {

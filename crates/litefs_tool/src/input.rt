@@ -1,9 +1,9 @@
 //! An input read to its end, up to a limit.
 ghost use Rattle.std.specs.Prelude.{◌≡◌, ◌<◌, [], length, vec_len, IfOk, IfErr};
-ghost use Rattle.litefs_tool.specs.Input.{HasTakenWhole, LosesBytes, CountsReads};
+ghost use Rattle.litefs_tool.specs.steps.Input.{HasConsumedWhole, LosesBytes, CountsReads};
 ghost use Rattle.litefs_tool.specs.declared.input.InputFault.TheVariants as fault;
 
-use crate::taker::{Taker, take_all};
+use crate::consumer::{Consumer, consume_all};
 use lf_base::{Failed, NoMemory, Source};
 use std::alloc::{AllocError, Global};
 
@@ -41,22 +41,22 @@ impl From<NoMemory> for InputFault {
     }
 }
 
-/// Reads a source to its end, and gives each piece to the taker as it comes. A source with more
+/// Reads a source to its end, and gives each piece to the consumer as it comes. A source with more
 /// bytes than the limit is read until that is known. After a fault of the source, or want of
-/// memory, what was taken is lost.
-pub fn read_to_end<S: Source, T: Taker>(
+/// memory, what was consumed is lost.
+pub fn read_to_end<S: Source, T: Consumer>(
     alloc: Global,
     source: &mut S,
     limit: usize,
-    taker: T,
+    consumer: T,
 ) -> Result<T, InputFault>
-    requires { T.has_taken taker [] }
-    ensures whole { IfOk result (λ after. HasTakenWhole (T.has_taken after) limit (S.left source.old) (S.left source.new)) }
+    requires { T.has_consumed consumer [] }
+    ensures whole { IfOk result (λ after. HasConsumedWhole (T.has_consumed after) limit (S.left source.old) (S.left source.new)) }
     ensures lost { IfErr result (LosesBytes limit (S.left source.old) (S.left source.new)) }
     ensures cause { CountsReads (S.faults source.old) (S.faults source.new) result }
 {
     let mut piece = new_piece(alloc)?;
-    read_pieces(source, limit, piece.as_mut_slice(), taker)
+    read_pieces(source, limit, piece.as_mut_slice(), consumer)
 }
 
 /// How many bytes are asked for at a time.
@@ -68,29 +68,29 @@ fn new_piece(alloc: Global) -> Result<Vec<u8>, AllocError>
     vec![in alloc; 0u8; PIECE]
 }
 
-fn read_pieces<S: Source, T: Taker>(
+fn read_pieces<S: Source, T: Consumer>(
     source: &mut S,
     limit: usize,
     piece: &mut [u8],
-    taker: T,
+    consumer: T,
 ) -> Result<T, InputFault>
     requires some { 0 < length piece.old }
-    requires none { T.has_taken taker [] }
-    ensures whole { IfOk result (λ after. HasTakenWhole (T.has_taken after) limit (S.left source.old) (S.left source.new)) }
+    requires none { T.has_consumed consumer [] }
+    ensures whole { IfOk result (λ after. HasConsumedWhole (T.has_consumed after) limit (S.left source.old) (S.left source.new)) }
     ensures lost { IfErr result (LosesBytes limit (S.left source.old) (S.left source.new)) }
     ensures cause { CountsReads (S.faults source.old) (S.faults source.new) result }
 {
-    let mut taker = taker;
+    let mut consumer = consumer;
     let mut room = limit;
     loop {
         let count = source.read(piece)?;
         if count == 0 {
-            return Ok(taker);
+            return Ok(consumer);
         }
         if room < count {
             return Err(InputFault::TooLong);
         }
         room -= count;
-        taker = take_all(taker, &piece[..count])?;
+        consumer = consume_all(consumer, &piece[..count])?;
     }
 }

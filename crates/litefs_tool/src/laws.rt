@@ -20,7 +20,7 @@ pub fn one_answer()
     one_earliest_fault();
 }
 
-/// Compacting the files in some bytes comes to one text, or to one refusal.
+/// Compacting the files in some bytes comes to one file, or to one refusal.
 pub fn one_compaction()
     ensures { (bytes : List ℕ) (answer other : Result (List ℕ) CompactRefusal) → AreBytes bytes
         → CompactsTo bytes answer → CompactsTo bytes other → answer ≡ other }

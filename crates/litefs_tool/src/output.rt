@@ -3,17 +3,18 @@ ghost use Rattle.std.specs.Prelude.{◌≡◌, ◌≤◌, ◌++◌, [], length, 
 ghost use Rattle.std.specs.Io.KnownBytes.{Appends};
 ghost use Rattle.lf_base.specs.Faults.{CountsFaults};
 ghost use Rattle.lf_sqlite_pages.specs.Image.{image_bytes};
-ghost use Rattle.litefs_tool.specs.Output.{AppendsFront, AppendsAllBut};
+ghost use Rattle.litefs_tool.specs.Output.{AppendsPrefix};
+ghost use Rattle.litefs_tool.specs.steps.Buffer.{AppendsAllBut};
 
 use lf_base::{Failed, NoMemory, Sink};
 use lf_sqlite_pages::Image;
 use std::alloc::Global;
 
 /// Writes all the bytes, in as many calls as the sink wants. After a fault of the sink, it took a
-/// front of them.
+/// prefix of them.
 pub fn write_whole<S: Sink>(sink: &mut S, bytes: &[u8]) -> Result<(), Failed>
     ensures whole { OnOk result (Appends (S.taken sink.old) (S.taken sink.new) bytes.now) }
-    ensures front { OnErr result (AppendsFront (S.taken sink.old) (S.taken sink.new) bytes.now) }
+    ensures prefix { OnErr result (AppendsPrefix (S.taken sink.old) (S.taken sink.new) bytes.now) }
     ensures cause { CountsFaults (S.faults sink.old) (S.faults sink.new) result }
 {
     let mut done = 0;
@@ -36,12 +37,12 @@ pub fn new_buffer(alloc: Global) -> Result<Vec<u8>, NoMemory>
 }
 
 /// Writes the pages of an image, one after another, gathered in the buffer. After a fault of the
-/// sink, it took a front of their bytes.
+/// sink, it took a prefix of their bytes.
 pub fn write_image<S: Sink>(sink: &mut S, image: &Image, buffer: &mut Vec<u8>) -> Result<(), Failed>
     requires empty { buffer.old.items ≡ [] }
     requires room { BUFFER ≤ vec_capacity buffer.old }
     ensures whole { OnOk result (Appends (S.taken sink.old) (S.taken sink.new) (image_bytes image.now)) }
-    ensures front { OnErr result (AppendsFront (S.taken sink.old) (S.taken sink.new) (image_bytes image.now)) }
+    ensures prefix { OnErr result (AppendsPrefix (S.taken sink.old) (S.taken sink.new) (image_bytes image.now)) }
     ensures cause { CountsFaults (S.faults sink.old) (S.faults sink.new) result }
 {
     let mut number = 0;
@@ -57,7 +58,7 @@ pub fn write_image<S: Sink>(sink: &mut S, image: &Image, buffer: &mut Vec<u8>) -
 fn add_page<S: Sink>(sink: &mut S, page: &[u8], buffer: &mut Vec<u8>) -> Result<(), Failed>
     requires fits { length page.now ≤ vec_capacity buffer.old }
     ensures whole { OnOk result (AppendsAllBut (S.taken sink.old) (S.taken sink.new) (buffer.old.items ++ page.now) buffer.new.items) }
-    ensures front { OnErr result (AppendsFront (S.taken sink.old) (S.taken sink.new) buffer.old.items) }
+    ensures prefix { OnErr result (AppendsPrefix (S.taken sink.old) (S.taken sink.new) buffer.old.items) }
     ensures cause { CountsFaults (S.faults sink.old) (S.faults sink.new) result }
     ensures room { vec_capacity buffer.old ≤ vec_capacity buffer.new }
 {

@@ -2,18 +2,18 @@
 ghost use Rattle.std.specs.Prelude.{◌++◌, OnOk, OnErr};
 ghost use Rattle.std.specs.Io.KnownBytes.{Appends};
 ghost use Rattle.lf_base.specs.Faults.{CountsFaults};
-ghost use Rattle.litefs_tool.specs.Output.{AppendsFront};
+ghost use Rattle.litefs_tool.specs.Output.{AppendsPrefix};
 ghost use Rattle.litefs_tool.specs.Run.{line, line_of};
-ghost use Rattle.litefs_tool.specs.Failure.{status_of_failure, name_of_failure};
+ghost use Rattle.litefs_tool.specs.steps.Failure.{status_of_failure, name_of_failure};
 
 use crate::failure::Failure;
 use crate::output::write_whole;
 use lf_base::{Failed, Sink};
 
-/// Says in one line why a run failed. After a fault of the sink, it took a front of the line.
+/// Says in one line why a run failed. After a fault of the sink, it took a prefix of the line.
 pub fn report<E: Sink>(errors: &mut E, failure: Failure) -> Result<(), Failed>
     ensures whole { OnOk result (Appends (E.taken errors.old) (E.taken errors.new) (line_of (status_of_failure failure) (name_of_failure failure))) }
-    ensures front { OnErr result (AppendsFront (E.taken errors.old) (E.taken errors.new) (line_of (status_of_failure failure) (name_of_failure failure))) }
+    ensures prefix { OnErr result (AppendsPrefix (E.taken errors.old) (E.taken errors.new) (line_of (status_of_failure failure) (name_of_failure failure))) }
     ensures cause { CountsFaults (E.faults errors.old) (E.faults errors.new) result }
 {
     write_line(errors, failure.status().text(), failure.fault_name())
@@ -21,7 +21,7 @@ pub fn report<E: Sink>(errors: &mut E, failure: Failure) -> Result<(), Failed>
 
 fn write_line<E: Sink>(errors: &mut E, text: &str, name: &str) -> Result<(), Failed>
     ensures whole { OnOk result (Appends (E.taken errors.old) (E.taken errors.new) (line (text.now ++ name.now))) }
-    ensures front { OnErr result (AppendsFront (E.taken errors.old) (E.taken errors.new) (line (text.now ++ name.now))) }
+    ensures prefix { OnErr result (AppendsPrefix (E.taken errors.old) (E.taken errors.new) (line (text.now ++ name.now))) }
     ensures cause { CountsFaults (E.faults errors.old) (E.faults errors.new) result }
 {
     write_whole(errors, b"litefs: ")?;

@@ -1,13 +1,12 @@
 //! The top call.
-ghost use Rattle.litefs_tool.specs.Run.{Run, AppliesInput, CompactsInput, ComesTo, Went, stream};
-ghost use Rattle.litefs_tool.specs.Performing.{Performs};
+ghost use Rattle.litefs_tool.specs.Run.{Run, CommandOutcome, ArgumentsOutcome, RunOutcome, stream};
+ghost use Rattle.litefs_tool.specs.steps.Performing.{Performs};
 
 use crate::applying::Applying;
-use crate::command::{Command, read_words};
-use crate::compaction::text_of_one;
+use crate::command::{Command, read_arguments};
+use crate::compaction::encoding_of_one;
 use crate::failure::Failure;
 use crate::gathering::Gathering;
-use crate::host::Host;
 use crate::input::read_to_end;
 use crate::output::{new_buffer, write_image, write_whole};
 use crate::report::report;
@@ -17,21 +16,29 @@ use std::alloc::Global;
 /// The longest input that is read, in bytes.
 const INPUT_LIMIT: usize = 67_108_864;
 
-/// Runs the command of these words, and says on standard error why it failed, if it did.
+/// What a run of the program reads from, writes to, and says its failure on.
+#[derive(Drop)]
+pub struct Host<I, O, E> {
+    pub input: I,
+    pub output: O,
+    pub errors: E,
+}
+
+/// Runs the command of these arguments, and says on standard error why it failed, if it did.
 pub fn run<Rt: Copy, I: Source, O: Sink, E: Sink>(
     _rt: Rt,
     alloc: Global,
-    words: &[Text],
+    arguments: &[Text],
     host: &mut Host<I, O, E>,
 ) -> Status
     ensures { let run : Run = record {
-      words = words.now;
+      arguments = arguments.now;
       input = stream I.left I.faults host.old.input host.new.input;
       output = stream O.taken O.faults host.old.output host.new.output;
       errors = stream E.taken E.faults host.old.errors host.new.errors;
-    } in Went run result }
+    } in RunOutcome run result }
 {
-    match perform(alloc, words, &mut host.input, &mut host.output) {
+    match perform(alloc, arguments, &mut host.input, &mut host.output) {
         Ok(()) => Status::Ok,
         Err(failure) => {
             // A fault of standard error changes nothing.
@@ -43,23 +50,23 @@ pub fn run<Rt: Copy, I: Source, O: Sink, E: Sink>(
 
 fn perform<I: Source, O: Sink>(
     alloc: Global,
-    words: &[Text],
+    arguments: &[Text],
     input: &mut I,
     output: &mut O,
 ) -> Result<(), Failure>
-    ensures { Performs (ComesTo words.now) (stream I.left I.faults input.old input.new) (stream O.taken O.faults output.old output.new) result }
+    ensures { Performs (ArgumentsOutcome arguments.now) (stream I.left I.faults input.old input.new) (stream O.taken O.faults output.old output.new) result }
 {
-    match read_words(words) {
+    match read_arguments(arguments) {
         Some(Command::Apply) => apply(alloc, input, output),
         Some(Command::Compact) => compact(alloc, input, output),
-        None => Err(Failure::Words),
+        None => Err(Failure::Arguments),
     }
 }
 
 /// LTX files on the input become the database's bytes on the output. All of it is read and decided
 /// before the first byte is written.
 fn apply<I: Source, O: Sink>(alloc: Global, input: &mut I, output: &mut O) -> Result<(), Failure>
-    ensures { Performs AppliesInput (stream I.left I.faults input.old input.new) (stream O.taken O.faults output.old output.new) result }
+    ensures { Performs (CommandOutcome Command.Apply) (stream I.left I.faults input.old input.new) (stream O.taken O.faults output.old output.new) result }
 {
     let applying = read_to_end(alloc, input, INPUT_LIMIT, Applying::new(alloc)?)?;
     let image = applying.finish()?;
@@ -71,10 +78,10 @@ fn apply<I: Source, O: Sink>(alloc: Global, input: &mut I, output: &mut O) -> Re
 /// LTX files on the input become one on the output. All of it is read and decided before the first
 /// byte is written.
 fn compact<I: Source, O: Sink>(alloc: Global, input: &mut I, output: &mut O) -> Result<(), Failure>
-    ensures { Performs CompactsInput (stream I.left I.faults input.old input.new) (stream O.taken O.faults output.old output.new) result }
+    ensures { Performs (CommandOutcome Command.Compact) (stream I.left I.faults input.old input.new) (stream O.taken O.faults output.old output.new) result }
 {
     let gathering = read_to_end(alloc, input, INPUT_LIMIT, Gathering::new(alloc)?)?;
-    let text = text_of_one(alloc, gathering.finish()?)?;
-    write_whole(output, text.as_slice())?;
+    let encoding = encoding_of_one(alloc, gathering.finish()?)?;
+    write_whole(output, encoding.as_slice())?;
     Ok(())
 }

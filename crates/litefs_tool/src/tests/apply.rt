@@ -1,5 +1,5 @@
 //! What the named call makes of files, and says of those that make no database.
-use crate::tests::files::{DELTA, Fields, ONE_PAGE, SNAPSHOT, TWO_PAGES, texts};
+use crate::tests::files::{DELTA, Fields, ONE_PAGE, SNAPSHOT, TWO_PAGES, encode_all};
 use crate::{Refusal, apply_files};
 use lf_base::Pos;
 use std::alloc::Global;
@@ -15,8 +15,8 @@ const FIRST: Pos = Pos {
 
 /// Applies files, and looks at how they are refused.
 fn expect(rt: &impl Abort, alloc: Global, files: &[Fields], refusal: Refusal) -> Result<(), Fail> {
-    let text = texts(alloc, files)?;
-    match apply_files(alloc, text.as_slice()) {
+    let bytes = encode_all(alloc, files)?;
+    match apply_files(alloc, bytes.as_slice()) {
         Ok(_) => assert!(rt; false, "{refusal:?}"),
         Err(found) => assert_eq!(rt; found, refusal),
     }
@@ -25,8 +25,8 @@ fn expect(rt: &impl Abort, alloc: Global, files: &[Fields], refusal: Refusal) ->
 
 #[test]
 fn makes_a_database(rt: HostRuntime) -> Result<(), Fail> {
-    let text = texts(rt.alloc(), &[SNAPSHOT, DELTA])?;
-    let image = apply_files(rt.alloc(), text.as_slice())
+    let bytes = encode_all(rt.alloc(), &[SNAPSHOT, DELTA])?;
+    let image = apply_files(rt.alloc(), bytes.as_slice())
         .ok()
         .ok_or("a database")?;
     assert_eq!(rt; (image.page_size(), image.commit()), (512, 2));

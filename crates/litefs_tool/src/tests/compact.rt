@@ -1,6 +1,6 @@
 //! Whole runs of `compact`. The sum was computed by another program.
-use crate::tests::files::{DELTA, Fields, SNAPSHOT, TWO_PAGES, file_sum, texts};
-use crate::tests::runs::{expect, words};
+use crate::tests::files::{DELTA, Fields, SNAPSHOT, TWO_PAGES, encode_all, file_sum};
+use crate::tests::runs::{arguments, expect};
 use crate::{Host, compact_files, run};
 use lf_base::{SliceSource, Status, VecSink};
 use std::test::Fail;
@@ -11,14 +11,14 @@ const FILE_SUM: u64 = 0x9e66_a912_50ad_8a38;
 #[test]
 fn a_snapshot_and_a_delta_become_one_file(rt: HostRuntime) -> Result<(), Fail> {
     let alloc = rt.alloc();
-    let input = texts(alloc, &[SNAPSHOT, DELTA])?;
-    let words = words(alloc, &["compact"])?;
+    let input = encode_all(alloc, &[SNAPSHOT, DELTA])?;
+    let arguments = arguments(alloc, &["compact"])?;
     let mut host = Host {
         input: SliceSource::new(input.as_slice(), Vec::new(alloc))?,
         output: VecSink::new(alloc, 4096, Vec::new(alloc))?,
         errors: VecSink::new(alloc, 4096, Vec::new(alloc))?,
     };
-    let status = run(rt, alloc, words.as_slice(), &mut host);
+    let status = run(rt, alloc, arguments.as_slice(), &mut host);
     assert_eq!(rt; status, Status::Ok);
     let taken = host.output.taken();
     let sums = [TWO_PAGES.to_be_bytes(), FILE_SUM.to_be_bytes()];
@@ -29,13 +29,13 @@ fn a_snapshot_and_a_delta_become_one_file(rt: HostRuntime) -> Result<(), Fail> {
 }
 
 #[test]
-fn the_named_call_gives_the_same_text(rt: HostRuntime) -> Result<(), Fail> {
-    let input = texts(rt.alloc(), &[SNAPSHOT, DELTA])?;
-    let text = compact_files(rt.alloc(), input.as_slice())
+fn the_named_call_gives_the_same_bytes(rt: HostRuntime) -> Result<(), Fail> {
+    let input = encode_all(rt.alloc(), &[SNAPSHOT, DELTA])?;
+    let bytes = compact_files(rt.alloc(), input.as_slice())
         .ok()
         .ok_or("one file")?;
-    assert_eq!(rt; text.len(), 1152);
-    assert_eq!(rt; file_sum(text.as_slice()), Some(FILE_SUM));
+    assert_eq!(rt; bytes.len(), 1152);
+    assert_eq!(rt; file_sum(bytes.as_slice()), Some(FILE_SUM));
     Ok(())
 }
 
@@ -47,8 +47,8 @@ fn refuses_what_does_not_become_one(rt: HostRuntime) -> Result<(), Fail> {
         ..DELTA
     };
     let refused = Status::InputRefused;
-    let turned = texts(alloc, &[DELTA, SNAPSHOT])?;
-    let differs = texts(alloc, &[SNAPSHOT, other])?;
+    let turned = encode_all(alloc, &[DELTA, SNAPSHOT])?;
+    let differs = encode_all(alloc, &[SNAPSHOT, other])?;
     let front = turned.get(..700).ok_or("two files are longer")?;
     for (input, line) in [
         (turned.as_slice(), "litefs: input refused: Gap\n"),

@@ -1,8 +1,8 @@
 //! Streams that fail in mid-stream.
 ghost use Rattle.std.specs.Prelude.{None};
 
-use crate::tests::files::{DELTA, SNAPSHOT, texts};
-use crate::tests::runs::words;
+use crate::tests::files::{DELTA, SNAPSHOT, encode_all};
+use crate::tests::runs::arguments;
 use crate::{Host, run};
 use lf_base::{Failed, Sink, SliceSource, Status, VecSink};
 use std::test::Fail;
@@ -69,16 +69,16 @@ const ROWS: [Row; 6] = [
 #[test]
 fn streams_that_fail(rt: HostRuntime) -> Result<(), Fail> {
     let alloc = rt.alloc();
-    let text = texts(alloc, &[SNAPSHOT, DELTA])?;
-    let words = words(alloc, &["apply"])?;
+    let bytes = encode_all(alloc, &[SNAPSHOT, DELTA])?;
+    let arguments = arguments(alloc, &["apply"])?;
     for (read, write, say, status, written, line) in ROWS {
         let mut host = Host {
-            input: SliceSource::new(text.as_slice(), vec![in alloc; read]?)?,
+            input: SliceSource::new(bytes.as_slice(), vec![in alloc; read]?)?,
             output: Narrow(VecSink::new(alloc, 1024, vec![in alloc; write]?)?),
             errors: VecSink::new(alloc, 64, vec![in alloc; say]?)?,
         };
         assert_eq!(rt;
-            run(rt, alloc, words.as_slice(), &mut host),
+            run(rt, alloc, arguments.as_slice(), &mut host),
             status,
             "{line}"
         );

@@ -1,6 +1,6 @@
-//! LTX files of 512 zero bytes a page, field by field.
+//! LTX files of pages of zeros, field by field.
 use lf_base::NoMemory;
-use page_checksum::crc64;
+use ltx_codec::{Encoder, Header};
 use std::alloc::Global;
 
 /// The sums of databases of one page of zeros, of two, and of none.
@@ -52,44 +52,42 @@ pub const EMPTY: Fields = Fields {
     post: NO_PAGES,
 };
 
-/// Appends the text of a file, with a file sum that is right.
-pub(super) fn append(alloc: Global, text: &mut Vec<u8>, fields: Fields) -> Result<(), NoMemory> {
-    let mut file = Vec::new(alloc);
-    file.extend_from_slice(b"LTX1\0\0\0\0")?;
-    file.extend_from_slice(&fields.page_size.to_be_bytes())?;
-    file.extend_from_slice(&fields.commit.to_be_bytes())?;
-    file.extend_from_slice(&fields.txid.to_be_bytes())?;
-    file.extend_from_slice(&fields.txid.to_be_bytes())?;
-    file.extend_from_slice(&[0; 8])?;
-    file.extend_from_slice(&fields.pre.to_be_bytes())?;
-    file.extend_from_slice(&[0; 52])?;
+/// Appends a file, part by part, whatever its fields say.
+pub(super) fn append(alloc: Global, out: &mut Vec<u8>, fields: Fields) -> Result<(), NoMemory> {
+    let header = Header {
+        page_size: fields.page_size,
+        commit: fields.commit,
+        min: fields.txid,
+        max: fields.txid,
+        stamp: 0,
+        pre: fields.pre,
+        wal_offset: 0,
+        wal_size: 0,
+        wal_salt1: 0,
+        wal_salt2: 0,
+        node: 0,
+    };
+    let mut encoder = Encoder::start(&header, out)?;
     if fields.page > 0 {
-        file.extend_from_slice(&fields.page.to_be_bytes())?;
-        for _ in 0..fields.page_size {
-            file.push(0)?;
-        }
+        let zeros = vec![in alloc; 0u8; fields.page_size as usize]?;
+        encoder.page(fields.page, zeros.as_slice(), out)?;
     }
-    file.extend_from_slice(&[0; 4])?;
-    file.extend_from_slice(&fields.post.to_be_bytes())?;
-    let sum = crc64(file.as_slice()) | 1 << 63;
-    file.extend_from_slice(&sum.to_be_bytes())?;
-    text.extend_from_slice(file.as_slice())?;
-    Ok(())
+    encoder.finish(fields.post, out).map_err(|(error, _)| error)
 }
 
-/// The texts of files, one after another.
-pub(super) fn texts(alloc: Global, files: &[Fields]) -> Result<Vec<u8>, NoMemory> {
-    let mut text = Vec::new(alloc);
+/// Files, one after another.
+pub(super) fn encode_all(alloc: Global, files: &[Fields]) -> Result<Vec<u8>, NoMemory> {
+    let mut out = Vec::new(alloc);
     for fields in files {
-        append(alloc, &mut text, *fields)?;
+        append(alloc, &mut out, *fields)?;
     }
-    Ok(text)
+    Ok(out)
 }
 
-/// The sum that stands at the end of a file's text.
-pub(super) fn file_sum(text: &[u8]) -> Option<u64> {
-    let (sum, _) = text
-        .get(text.len().checked_sub(8)?..)?
+/// The sum that stands at the end of a file.
+pub(super) fn file_sum(file: &[u8]) -> Option<u64> {
+    let (sum, _) = file
+        .get(file.len().checked_sub(8)?..)?
         .split_first_chunk::<8>()?;
     Some(u64::from_be_bytes(*sum))
 }
@@ -102,9 +100,9 @@ fn file_sums(rt: HostRuntime) -> Result<(), std::test::Fail> {
         (DELTA, 636, 0xe529_06ba_6d3f_4924),
         (EMPTY, 120, 0x8106_fa82_9c65_6655),
     ] {
-        let text = texts(rt.alloc(), &[fields])?;
-        assert_eq!(rt; text.len(), length);
-        assert_eq!(rt; file_sum(text.as_slice()), Some(sum));
+        let file = encode_all(rt.alloc(), &[fields])?;
+        assert_eq!(rt; file.len(), length);
+        assert_eq!(rt; file_sum(file.as_slice()), Some(sum));
     }
     Ok(())
 }

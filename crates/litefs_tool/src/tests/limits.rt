@@ -1,7 +1,7 @@
 //! Inputs at the limit and past it.
 ghost use Rattle.std.specs.Prelude.{None};
 
-use crate::tests::runs::words;
+use crate::tests::runs::arguments;
 use crate::{Host, run};
 use lf_base::{Failed, Source, Status, VecSink};
 use std::test::Fail;
@@ -25,7 +25,7 @@ impl Source for Bytes {
 #[test]
 fn limit_of_the_input(rt: HostRuntime) -> Result<(), Fail> {
     let alloc = rt.alloc();
-    let words = words(alloc, &["apply"])?;
+    let arguments = arguments(alloc, &["apply"])?;
     for (length, status, line) in [
         (
             67_108_864,
@@ -39,7 +39,7 @@ fn limit_of_the_input(rt: HostRuntime) -> Result<(), Fail> {
             output: VecSink::new(alloc, 0, Vec::new(alloc))?,
             errors: VecSink::new(alloc, 64, Vec::new(alloc))?,
         };
-        assert_eq!(rt; run(rt, alloc, words.as_slice(), &mut host), status);
+        assert_eq!(rt; run(rt, alloc, arguments.as_slice(), &mut host), status);
         assert_eq!(rt; host.errors.taken(), line.as_bytes());
     }
     Ok(())

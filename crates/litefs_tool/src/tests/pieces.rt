@@ -1,6 +1,6 @@
 //! Inputs and outputs of several pieces. The sums were computed by another program.
-use crate::tests::files::{DELTA, Fields, append, texts};
-use crate::tests::runs::words;
+use crate::tests::files::{DELTA, Fields, append, encode_all};
+use crate::tests::runs::arguments;
 use crate::{Host, run};
 use lf_base::{SliceSource, Status, VecSink};
 use std::test::Fail;
@@ -50,15 +50,15 @@ const WRITES: [(u64, Status, usize); 3] = [
 #[test]
 fn pages_are_written_in_two_pieces(rt: HostRuntime) -> Result<(), Fail> {
     let alloc = rt.alloc();
-    let input = texts(alloc, &FILES)?;
-    let words = words(alloc, &["apply"])?;
+    let input = encode_all(alloc, &FILES)?;
+    let arguments = arguments(alloc, &["apply"])?;
     for (write, status, written) in WRITES {
         let mut host = Host {
             input: SliceSource::new(input.as_slice(), Vec::new(alloc))?,
             output: VecSink::new(alloc, 200_000, vec![in alloc; write]?)?,
             errors: VecSink::new(alloc, 64, Vec::new(alloc))?,
         };
-        assert_eq!(rt; run(rt, alloc, words.as_slice(), &mut host), status);
+        assert_eq!(rt; run(rt, alloc, arguments.as_slice(), &mut host), status);
         assert_eq!(rt; host.output.taken().len(), written);
         assert!(rt; host.output.taken().iter().all(|byte| *byte == 0));
     }
@@ -68,14 +68,14 @@ fn pages_are_written_in_two_pieces(rt: HostRuntime) -> Result<(), Fail> {
 #[test]
 fn becomes_one_file(rt: HostRuntime) -> Result<(), Fail> {
     let alloc = rt.alloc();
-    let input = texts(alloc, &FILES)?;
-    let words = words(alloc, &["compact"])?;
+    let input = encode_all(alloc, &FILES)?;
+    let arguments = arguments(alloc, &["compact"])?;
     let mut host = Host {
         input: SliceSource::new(input.as_slice(), Vec::new(alloc))?,
         output: VecSink::new(alloc, 200_000, Vec::new(alloc))?,
         errors: VecSink::new(alloc, 64, Vec::new(alloc))?,
     };
-    let status = run(rt, alloc, words.as_slice(), &mut host);
+    let status = run(rt, alloc, arguments.as_slice(), &mut host);
     assert_eq!(rt; status, Status::Ok);
     let taken = host.output.taken();
     assert_eq!(rt; taken.len(), 196_740);
@@ -89,18 +89,18 @@ fn becomes_one_file(rt: HostRuntime) -> Result<(), Fail> {
 #[test]
 fn the_source_fails_after_a_refusal(rt: HostRuntime) -> Result<(), Fail> {
     let alloc = rt.alloc();
-    let mut input = texts(alloc, &[DELTA])?;
+    let mut input = encode_all(alloc, &[DELTA])?;
     for fields in FILES {
         append(alloc, &mut input, fields)?;
     }
     for command in ["apply", "compact"] {
-        let words = words(alloc, &[command])?;
+        let arguments = arguments(alloc, &[command])?;
         let mut host = Host {
             input: SliceSource::new(input.as_slice(), vec![in alloc; 3]?)?,
             output: VecSink::new(alloc, 0, Vec::new(alloc))?,
             errors: VecSink::new(alloc, 64, Vec::new(alloc))?,
         };
-        let status = run(rt, alloc, words.as_slice(), &mut host);
+        let status = run(rt, alloc, arguments.as_slice(), &mut host);
         assert_eq!(rt; status, Status::ReadFault, "{command}");
     }
     Ok(())

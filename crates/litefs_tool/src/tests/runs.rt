@@ -1,21 +1,21 @@
 //! Whole runs of the program over memory.
-use crate::tests::files::{DELTA, EMPTY, SNAPSHOT, texts};
+use crate::tests::files::{DELTA, EMPTY, SNAPSHOT, encode_all};
 use crate::{Host, run};
 use lf_base::{NoMemory, SliceSource, Status, Text, VecSink};
 use std::alloc::Global;
 use std::process::Abort;
 use std::test::Fail;
 
-/// The words of a command line.
-pub(super) fn words(alloc: Global, given: &[&str]) -> Result<Vec<Text>, NoMemory> {
-    let mut words = Vec::new(alloc);
-    for word in given {
-        words.push(Text::of(alloc, word)?)?;
+/// The arguments of a command line.
+pub(super) fn arguments(alloc: Global, given: &[&str]) -> Result<Vec<Text>, NoMemory> {
+    let mut arguments = Vec::new(alloc);
+    for argument in given {
+        arguments.push(Text::of(alloc, argument)?)?;
     }
-    Ok(words)
+    Ok(arguments)
 }
 
-/// Runs `litefs` with these words over this input, and looks at how it ends, how many zeros it
+/// Runs `litefs` with these arguments over this input, and looks at how it ends, how many zeros it
 /// writes and what it says.
 pub(super) fn expect(
     rt: &impl Abort,
@@ -26,14 +26,14 @@ pub(super) fn expect(
     zeros: usize,
     line: &str,
 ) -> Result<(), Fail> {
-    let words = words(alloc, given)?;
+    let arguments = arguments(alloc, given)?;
     let mut host = Host {
         input: SliceSource::new(input, Vec::new(alloc))?,
         output: VecSink::new(alloc, 4096, Vec::new(alloc))?,
         errors: VecSink::new(alloc, 4096, Vec::new(alloc))?,
     };
     assert_eq!(rt;
-        run(rt, alloc, words.as_slice(), &mut host),
+        run(rt, alloc, arguments.as_slice(), &mut host),
         status,
         "{line}"
     );
@@ -46,7 +46,7 @@ pub(super) fn expect(
 #[test]
 fn applies_files_one_after_another(rt: HostRuntime) -> Result<(), Fail> {
     let alloc = rt.alloc();
-    let snapshot = texts(alloc, &[SNAPSHOT])?;
+    let snapshot = encode_all(alloc, &[SNAPSHOT])?;
     expect(
         &rt,
         alloc,
@@ -56,7 +56,7 @@ fn applies_files_one_after_another(rt: HostRuntime) -> Result<(), Fail> {
         512,
         "",
     )?;
-    let both = texts(alloc, &[SNAPSHOT, DELTA])?;
+    let both = encode_all(alloc, &[SNAPSHOT, DELTA])?;
     expect(
         &rt,
         alloc,
@@ -66,14 +66,14 @@ fn applies_files_one_after_another(rt: HostRuntime) -> Result<(), Fail> {
         1024,
         "",
     )?;
-    let empty = texts(alloc, &[EMPTY])?;
+    let empty = encode_all(alloc, &[EMPTY])?;
     expect(&rt, alloc, &["apply"], empty.as_slice(), Status::Ok, 0, "")
 }
 
 #[test]
 fn refuses_what_makes_no_database(rt: HostRuntime) -> Result<(), Fail> {
     let alloc = rt.alloc();
-    let snapshot = texts(alloc, &[SNAPSHOT])?;
+    let snapshot = encode_all(alloc, &[SNAPSHOT])?;
     let short = "litefs: input refused: Short\n";
     for length in [0, 99, 630] {
         let input = snapshot.get(..length).ok_or("a file has 636 bytes")?;
@@ -88,7 +88,7 @@ fn refuses_what_makes_no_database(rt: HostRuntime) -> Result<(), Fail> {
         )?;
     }
     let not_next = "litefs: input refused: NotNext\n";
-    let delta = texts(alloc, &[DELTA])?;
+    let delta = encode_all(alloc, &[DELTA])?;
     expect(
         &rt,
         alloc,
@@ -112,9 +112,9 @@ fn refuses_what_makes_no_database(rt: HostRuntime) -> Result<(), Fail> {
 }
 
 #[test]
-fn refuses_other_words(rt: HostRuntime) -> Result<(), Fail> {
+fn refuses_other_arguments(rt: HostRuntime) -> Result<(), Fail> {
     let alloc = rt.alloc();
-    let snapshot = texts(alloc, &[SNAPSHOT])?;
+    let snapshot = encode_all(alloc, &[SNAPSHOT])?;
     let line = "litefs: words refused\n";
     let input = snapshot.as_slice();
     expect(&rt, alloc, &[], input, Status::WordsRefused, 0, line)?;

@@ -1,5 +1,5 @@
 use Rattle.std.proofs.Common.{◌≡◌, take}
-use Rattle.litefs_tool.specs.SumSteps.{rewriting_sum}
+use Rattle.litefs_tool.specs.steps.ChangedSum.{rewriting_sum}
 use Rattle.litefs_tool.proofs.changed_sum.rewriting.Given as goal
 
 abbrev pub invariant-loop-w : goal.invariant-loop-w

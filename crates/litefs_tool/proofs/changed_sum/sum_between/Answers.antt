@@ -1,7 +1,7 @@
 -- One more page's sum.
 use Rattle.std.proofs.Common.{ap, ◌∙◌}
 use Rattle.std.specs.Prelude.{bit_xor}
-use Rattle.litefs_tool.specs.SumSteps.{standing_sum}
+use Rattle.litefs_tool.specs.steps.ChangedSum.{standing_sum}
 use Rattle.litefs_tool.proofs.SumLemmas.{joined_over-next}
 use Rattle.litefs_tool.proofs.changed_sum.sum_between.Goals as goal
 

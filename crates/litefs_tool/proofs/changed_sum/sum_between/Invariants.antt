@@ -1,5 +1,5 @@
 use Rattle.std.proofs.Common.{◌≡◌, ◌+◌, ◌-◌}
-use Rattle.litefs_tool.specs.SumSteps.{joined_over, standing_sum}
+use Rattle.litefs_tool.specs.steps.ChangedSum.{joined_over, standing_sum}
 use Rattle.litefs_tool.proofs.changed_sum.sum_between.Given as goal
 
 abbrev pub invariant-loop-number : goal.invariant-loop-number

@@ -1,6 +1,6 @@
 use Rattle.std.proofs.Common.{◌≡◌, ◌+◌, ◌-◌, ◌<◌, ◌≤◌, length, arith, rules}
-use Rattle.litefs_tool.specs.Output.{AppendsFront}
-use Rattle.litefs_tool.proofs.OutputLemmas.{AppendsAllBut-more, AppendsFront-held, concat-split, concat-take, page_size-most, on_err, map_on_err}
+use Rattle.litefs_tool.specs.Output.{AppendsPrefix}
+use Rattle.litefs_tool.proofs.OutputLemmas.{AppendsAllBut-more, AppendsPrefix-held, concat-split, concat-take, page_size-most, on_err, map_on_err}
 use Rattle.litefs_tool.proofs.output.write_image.Goals as goal
 
 pub add_page-requires : goal.add_page-requires
@@ -23,15 +23,15 @@ loop-number-preserved g c =
       faults = search rules;
     }
 
--- the pages before but for those in the buffer, and a front of these
-pub returns-in_err-add_page-clause-front : goal.returns-in_err-add_page-clause-front
-returns-in_err-add_page-clause-front g c =
+-- the pages before but for those in the buffer, and a prefix of these
+pub returns-in_err-add_page-clause-prefix : goal.returns-in_err-add_page-clause-prefix
+returns-in_err-add_page-clause-prefix g c =
     let pages = c.args.image.now.pages in
-    on_err _ _ (AppendsFront-held _ _ _ _ _ _ _ c.loop-number.invariant.taken c.in_err-add_page.ensures.front (concat-split pages c.loop-number.number))
+    on_err _ _ (AppendsPrefix-held _ _ _ _ _ _ _ c.loop-number.invariant.taken c.in_err-add_page.ensures.prefix (concat-split pages c.loop-number.number))
 
-pub returns-clause-front : goal.returns-clause-front
-returns-clause-front g c =
+pub returns-clause-prefix : goal.returns-clause-prefix
+returns-clause-prefix g c =
     let pages = c.args.image.now.pages in
-    let held = rw c.as_slice-rest.ensures.value at c.write_whole.ensures.front in
-    map_on_err c.write_whole.result (AppendsFront (g.S.Sink.taken c.loop-number.sink) (g.S.Sink.taken c.write_whole.new.sink) c.loop-number.buffer.items) _
-    (λ front. AppendsFront-held _ _ _ _ _ _ _ c.loop-number.invariant.taken front (concat-split pages c.loop-number.number)) held
+    let held = rw c.as_slice-rest.ensures.value at c.write_whole.ensures.prefix in
+    map_on_err c.write_whole.result (AppendsPrefix (g.S.Sink.taken c.loop-number.sink) (g.S.Sink.taken c.write_whole.new.sink) c.loop-number.buffer.items) _
+    (λ prefix. AppendsPrefix-held _ _ _ _ _ _ _ c.loop-number.invariant.taken prefix (concat-split pages c.loop-number.number)) held

@@ -1,6 +1,6 @@
 use Rattle.std.proofs.Common.{◌≡◌, ◌-◌, ◌≤◌, length, take, vec_capacity}
 use Rattle.std.specs.List.{concat}
-use Rattle.litefs_tool.specs.Output.{AppendsAllBut}
+use Rattle.litefs_tool.specs.steps.Buffer.{AppendsAllBut}
 use Rattle.litefs_tool.proofs.output.write_image.Given as goal
 
 -- the sink took the pages up to the number but for those in the buffer, and never failed

@@ -1,6 +1,6 @@
 use Rattle.std.proofs.Common.{◌≡◌, ◌++◌, refl, ap, ◌∙◌}
 use Rattle.lf_base.specs.Status.{text_of}
-use Rattle.litefs_tool.specs.Failure.{status_of_failure, name_of_failure}
+use Rattle.litefs_tool.specs.steps.Failure.{status_of_failure, name_of_failure}
 use Rattle.litefs_tool.specs.Run.{line, line_of}
 use Rattle.litefs_tool.specs.declared.input.InputFault.TheVariants as fault
 use Rattle.litefs_tool.specs.declared.refusal.Refusal.TheVariants as refusal
@@ -11,7 +11,7 @@ use Rattle.litefs_tool.proofs.report.report.Goals as goal
 
 -- the name is empty but where the line has it
 line-of_failure : (f : Failure) → line (text_of (status_of_failure f) ++ name_of_failure f) ≡ line_of (status_of_failure f) (name_of_failure f)
-line-of_failure failure.Words = refl
+line-of_failure failure.Arguments = refl
 line-of_failure (failure.Input fault.Failed) = refl
 line-of_failure (failure.Input fault.TooLong) = refl
 line-of_failure (failure.Input fault.NoMemory) = refl
@@ -22,11 +22,11 @@ line-of_failure (failure.Compaction why) = refl
 line-of_failure failure.Output = refl
 line-of_failure failure.NoMemory = refl
 
-pub returns-clause-front : goal.returns-clause-front
-returns-clause-front g c =
+pub returns-clause-prefix : goal.returns-clause-prefix
+returns-clause-prefix g c =
     let same : line (c.text.result.now ++ c.fault_name.result.now) ≡ line_of (status_of_failure c.args.failure) (name_of_failure c.args.failure) =
     ap line (ap (λ l. l ++ c.fault_name.result.now) (c.text.ensures ∙ ap text_of c.status.ensures)
     ∙ ap (λ l. text_of (status_of_failure c.args.failure) ++ l) c.fault_name.ensures)
     ∙ line-of_failure c.args.failure
     in
-    rw (← same) c.write_line.ensures.front
+    rw (← same) c.write_line.ensures.prefix

@@ -6,6 +6,6 @@ pub returns-in-None : goal.returns-in-None
 returns-in-None g c = (
   [],
   [],
-  record { reads = Consumes-nil _; writes = Appends-nil _; rest = tt; cause = (refl, refl) },
+  record { reads = Consumes-nil _; writes = Appends-nil _; read_to_end = tt; cause = (refl, refl) },
   inl (record { no_command = c.in-None.ensures; refused = refl; unread = refl; unwritten = refl }),
 )

@@ -1,5 +1,5 @@
 use Rattle.std.proofs.Common.{subst}
-use Rattle.litefs_tool.specs.Applying.{IsApplying}
+use Rattle.litefs_tool.specs.steps.Applying.{IsApplying}
 use Rattle.litefs_tool.specs.declared.applying.Applying.{Applying}
 use Rattle.litefs_tool.proofs.ApplyingLemmas.{MakesOf-kept}
 use Rattle.litefs_tool.proofs.applying.Applying.finish.Goals as goal

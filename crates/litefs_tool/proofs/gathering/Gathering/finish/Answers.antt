@@ -1,5 +1,5 @@
 use Rattle.std.proofs.Common.{subst}
-use Rattle.litefs_tool.specs.Gathering.{IsGathering}
+use Rattle.litefs_tool.specs.steps.Gathering.{IsGathering}
 use Rattle.litefs_tool.specs.declared.gathering.Gathering.{Gathering}
 use Rattle.litefs_tool.proofs.CompactionLemmas.{MayRefuse-kept}
 use Rattle.litefs_tool.proofs.gathering.Gathering.finish.Goals as goal

@@ -1,4 +1,4 @@
--- The status of a run that fails, and the name of the fault that it tells.
+-- The status of a run that fails, and the name of the fault for standard error.
 use Rattle.std.specs.Prelude.{ℕ, List, [], Result, Ok, Err}
 use Rattle.lf_base.specs.declared.status.Status.{Status}
 use Rattle.lf_base.specs.declared.status.Status.TheVariants as status
@@ -12,7 +12,7 @@ use Rattle.litefs_tool.specs.declared.failure.Failure.TheVariants as failure
 
 -- the status that a failure ends a run with
 abbrev pub status_of_failure : Failure → Status
-status_of_failure failure.Words = status.WordsRefused
+status_of_failure failure.Arguments = status.WordsRefused
 status_of_failure (failure.Input fault.Failed) = status.ReadFault
 status_of_failure (failure.Input fault.TooLong) = status.Limit
 status_of_failure (failure.Input fault.NoMemory) = status.NoMemory
@@ -36,7 +36,7 @@ abbrev pub status_of : Result (Unit {0}) Failure → Status
 status_of (Ok done) = status.Ok
 status_of (Err why) = status_of_failure why
 
--- the name of the fault that a run with this result tells
+-- the name of the fault of a run with this result
 abbrev pub name_of : Result (Unit {0}) Failure → List ℕ
 name_of (Ok done) = []
 name_of (Err why) = name_of_failure why

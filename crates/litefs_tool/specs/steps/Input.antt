@@ -11,9 +11,9 @@ pub record ReadsWhole (limit : ℕ) (left left_now : Option (List ℕ)) (bytes :
   pub to_the_end : IsAtEnd left_now
   pub within : length bytes ≤ limit
 
--- the bytes read whole are those that were taken
-abbrev pub HasTakenWhole : (List ℕ → Type 0) → ℕ → Option (List ℕ) → Option (List ℕ) → Type 0
-HasTakenWhole has_taken limit left left_now = (bytes : List ℕ) × ReadsWhole limit left left_now bytes × has_taken bytes
+-- the bytes read whole are those that were consumed
+abbrev pub HasConsumedWhole : (List ℕ → Type 0) → ℕ → Option (List ℕ) → Option (List ℕ) → Type 0
+HasConsumedWhole has_consumed limit left left_now = (bytes : List ℕ) × ReadsWhole limit left left_now bytes × has_consumed bytes
 
 -- these bytes were read and are lost; where there were too many, they are more than the limit
 pub record LosesBytes (limit : ℕ) (left left_now : Option (List ℕ)) (why : InputFault) : Type 0 where
