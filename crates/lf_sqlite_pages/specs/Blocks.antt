@@ -1,5 +1,5 @@
 -- A list of bytes that is kept in blocks.
-use Rattle.std.specs.Prelude.{◌≡◌, ℕ, ◌+◌, ◌-◌, ◌/◌, ◌≤◌, ◌==◌, Option, Some, None, List, [], length, if◌then◌else◌}
+use Rattle.std.specs.Prelude.{◌≡◌, ℕ, ◌+◌, ◌-◌, ◌/◌, ◌≤◌, ◌==◌, ◌&&◌, Bool, nat_le, Option, Some, None, List, [], length, if◌then◌else◌}
 use Rattle.lf_base.specs.FileBytes.{written, resized}
 use Rattle.lf_sqlite_pages.specs.BlockTable.{blocks_in}
 
@@ -31,6 +31,13 @@ room_for at count = record { from = at; to = at + count }
 pub record IsWithin (room : ByteRoom) (at count : ℕ) : Type 0 where
   pub from : room.from ≤ at
   pub to : at + count ≤ room.to
+
+abbrev pub is_within : ByteRoom → ℕ → ℕ → Bool
+is_within room at count = nat_le room.from at && nat_le (at + count) room.to
+
+-- the room that a write of so many bytes at a place finds: what there is, or if that is too small room for this write alone
+abbrev pub room_with : ByteRoom → ℕ → ℕ → ByteRoom
+room_with room at count = if is_within room at count then room else room_for at count
 
 -- how many blocks a range touches
 abbrev pub touched : ℕ → ℕ → ℕ

@@ -3,7 +3,7 @@
 ghost use Rattle.std.specs.Prelude.{◌≡◌, ◌+◌, ◌≤◌, ◌<◌, ◌↔◌, Some, None, length, IsTrue, IsSome, IsOk, OnOk, OnErr};
 ghost use Rattle.lf_base.specs.FileBytes.{Reads};
 ghost use Rattle.lf_sqlite_pages.specs.BlockTable.{blocks_in};
-ghost use Rattle.lf_sqlite_pages.specs.Blocks.{no_blocks, room_for, IsWithin, IsWritten, IsUndone, IsResized};
+ghost use Rattle.lf_sqlite_pages.specs.Blocks.{no_blocks, is_within, room_with, IsWithin, IsWritten, IsUndone, IsResized};
 
 mod block;
 mod table;
@@ -67,7 +67,8 @@ impl Blocks {
 
     /// How many bytes there are.
     pub fn len(&self) -> u64
-        ensures { result ≡ length self.now.bytes }
+        ensures value { result ≡ length self.now.bytes }
+        ensures limited { result ≤ BLOCKS_LIMIT }
     {
         self.len as u64
     }
@@ -96,7 +97,9 @@ impl Blocks {
 
     /// Whether a write of `count` bytes at a place takes no memory.
     pub fn has_room(&self, at: u64, count: u64) -> bool
-        ensures { IsTrue result ↔ IsWithin self.now.room at count }
+        ensures value { result ≡ is_within self.now.room at count }
+        ensures within { IsTrue result ↔ IsWithin self.now.room at count }
+        ensures limited { IsTrue result → at + count ≤ BLOCKS_LIMIT }
     {
         match at.checked_add(count) {
             None => false,
@@ -104,15 +107,27 @@ impl Blocks {
         }
     }
 
-    /// Sees to it that a write of `count` bytes at a place takes no memory; the room that was reserved
-    /// before is given up. After want of memory nothing changed.
+    /// Sees to it that a write of `count` bytes at a place takes no memory. Where the room doesn't hold
+    /// it, it is given up for room for this write alone. After want of memory nothing changed.
     pub fn reserve(&mut self, at: u64, count: u64) -> Result<(), NoMemory>
         requires { at + count ≤ BLOCKS_LIMIT }
-        ensures ok { OnOk result (self.new ≡ record self.old { room = room_for at count }) }
+        ensures ok { OnOk result (self.new ≡ record self.old { room = room_with self.old.room at count }) }
+        ensures err { OnErr result (self.new ≡ self.old) }
+        ensures enough { IsWithin self.old.room at count → IsOk result }
+    {
+        if self.has_room(at, count) {
+            return Ok(());
+        }
+        self.make_room(at as usize, (at + count) as usize)
+    }
+
+    /// Makes room for the bytes from one place to another.
+    fn make_room(&mut self, from: usize, to: usize) -> Result<(), NoMemory>
+        requires order { from ≤ to }
+        requires short { to ≤ BLOCKS_LIMIT }
+        ensures ok { OnOk result (self.new ≡ record self.old { room = record { from = from; to = to } }) }
         ensures err { OnErr result (self.new ≡ self.old) }
     {
-        let from = at as usize;
-        let to = from + count as usize;
         let end = if from < to {
             table::blocks_in(to)
         } else {
@@ -180,8 +195,9 @@ impl Blocks {
     /// Writes a piece at a place; a gap holds zeros. After want of memory nothing changed.
     pub fn write(&mut self, at: u64, piece: &[u8]) -> Result<(), NoMemory>
         requires { at + length piece.now ≤ BLOCKS_LIMIT }
-        ensures ok { OnOk result (IsWritten (record self.old { room = room_for at (length piece.now) }) at piece.now self.new) }
+        ensures ok { OnOk result (IsWritten (record self.old { room = room_with self.old.room at (length piece.now) }) at piece.now self.new) }
         ensures err { OnErr result (self.new ≡ self.old) }
+        ensures enough { IsWithin self.old.room at (length piece.now) → IsOk result }
     {
         self.reserve(at, piece.len() as u64)?;
         self.write_within(at, piece);

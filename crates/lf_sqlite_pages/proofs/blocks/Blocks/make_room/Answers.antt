@@ -1,5 +1,5 @@
 use Rattle.std.proofs.Common.{◌≡◌, ◌/◌, length, ap, sym, ◌∙◌, arith}
-use Rattle.lf_sqlite_pages.proofs.blocks.Blocks.reserve.Goals as goal
+use Rattle.lf_sqlite_pages.proofs.blocks.Blocks.make_room.Goals as goal
 
 pub invariant_of-self : goal.invariant_of-self
 invariant_of-self c =
