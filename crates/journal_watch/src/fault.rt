@@ -2,7 +2,6 @@ ghost use Rattle.journal_watch.specs.declared.fault.JournalFault.TheVariants as 
 ghost use Rattle.std.specs.Prelude.{◌≡◌};
 
 use lf_base::NoMemory;
-use std::alloc::AllocError;
 
 /// Why a journal refuses a change. After it nothing changed.
 #[derive(Clone, Copy, Debug, PartialEq, Eq)]
@@ -13,10 +12,10 @@ pub enum JournalFault {
     NoMemory,
 }
 
-impl From<AllocError> for JournalFault {
+impl From<NoMemory> for JournalFault {
     ghost from_gives = { λ _ f. f ≡ fault.NoMemory };
 
-    fn from(_error: AllocError) -> JournalFault {
+    fn from(_memory: NoMemory) -> JournalFault {
         JournalFault::NoMemory
     }
 }

@@ -1,27 +1,28 @@
-ghost use Rattle.std.specs.Prelude.{◌≡◌, ◌+◌, ◌-◌, ◌<◌, ◌≤◌, ◌↔◌, [], length, min, max, Some, None, IsSome, IsNone, IfOk, IsOk, OnOk, OnErr};
+//! The rollback journal as a file.
+ghost use Rattle.std.specs.Prelude.{◌≡◌, ◌+◌, ◌-◌, ◌<◌, ◌≤◌, ◌↔◌, [], length, Some, None, IsTrue, IsSome, IsNone, IfOk, IsOk, OnOk, OnErr};
 ghost use Rattle.std.specs.Option.{option_map};
-ghost use Rattle.journal_watch.specs.Journal.{Journal, is_active, finishes, bytes_of, after_write, after_cut};
-ghost use Rattle.journal_watch.specs.Region.{written, cut_to, read_into};
+ghost use Rattle.lf_base.specs.FileBytes.{written, resized, Reads};
+ghost use Rattle.lf_sqlite_pages.specs.Blocks.{is_within, IsWithin};
+ghost use Rattle.journal_watch.specs.Journal.{no_journal, is_active, finishes, bytes_of, reserved, after_write, after_cut};
 
 use crate::fault::JournalFault;
-use crate::{header, region};
+use crate::header;
+use lf_sqlite_pages::Blocks;
 use std::alloc::Global;
 use std::marker::Model;
 
 /// How many bytes a journal may have.
 pub const JOURNAL_LIMIT: u64 = 268_435_456;
 
-/// The rollback journal of one database: absent, or a list of bytes. Beside it stands a number of
-/// bytes that the file may have without taking memory.
+/// The rollback journal of one database: absent, or a list of bytes. Beside it stands the room, the
+/// bytes that may be written without taking memory.
 #[derive(Debug, Drop)]
 pub struct JournalFile {
     exists: bool,
-    bytes: Vec<u8>,
-    room: u64,
+    blocks: Blocks,
 }
 
 impl Model for JournalFile {
-    ghost use Rattle.std.specs.Prelude.{Some, None, if◌then◌else◌};
     ghost use Rattle.journal_watch.specs.Journal.{Journal};
 
     ghost Value = { Journal };
@@ -36,12 +37,11 @@ impl Model for JournalFile {
 impl JournalFile {
     /// A journal that doesn't exist, without room.
     pub fn new(alloc: Global) -> JournalFile
-        ensures { result ≡ record { file = None; room = 0 } }
+        ensures { result ≡ no_journal }
     {
         JournalFile {
             exists: false,
-            bytes: Vec::new(alloc),
-            room: 0,
+            blocks: Blocks::new(alloc),
         }
     }
 
@@ -58,44 +58,43 @@ impl JournalFile {
         ensures { result ≡ option_map length self.now.file }
     {
         if self.exists {
-            Some(self.bytes.len() as u64)
+            Some(self.blocks.len())
         } else {
             None
         }
     }
 
-    /// How many bytes the file may have without taking memory.
-    pub fn room(&self) -> u64
-        ensures value { result ≡ self.now.room }
-        ensures enough { length (bytes_of self.now.file) ≤ result }
-        ensures limited { result ≤ JOURNAL_LIMIT }
+    /// Whether a write of `count` bytes at a place takes no memory.
+    pub fn has_room(&self, at: u64, count: u64) -> bool
+        ensures value { result ≡ is_within self.now.room at count }
+        ensures within { IsTrue result ↔ IsWithin self.now.room at count }
+        ensures limited { IsTrue result → at + count ≤ JOURNAL_LIMIT }
     {
-        self.room
+        self.blocks.has_room(at, count)
     }
 
     /// Whether the journal is active: it exists and has a whole header.
     pub fn is_active(&self) -> bool
         ensures { result ≡ is_active self.now.file }
     {
-        self.exists && header::has_header(self.bytes.as_slice())
+        self.exists && header::has_header(&self.blocks)
     }
 
-    /// Sees to it that the file may have `len` bytes without taking memory.
-    pub fn reserve(&mut self, len: u64) -> Result<(), JournalFault>
-        ensures ok { OnOk result (self.new ≡ record { file = self.old.file; room = max self.old.room len }) }
-        ensures too_long { (result ≡ Err JournalFault.TooLong) ↔ (JOURNAL_LIMIT < len) }
+    /// Sees to it that a write of `count` bytes at a place takes no memory: it takes the blocks of that
+    /// range alone. Where the room doesn't hold the write, it is given up for room for this write.
+    pub fn reserve(&mut self, at: u64, count: u64) -> Result<(), JournalFault>
+        ensures ok { OnOk result (self.new ≡ reserved self.old at count) }
+        ensures too_long { (result ≡ Err JournalFault.TooLong) ↔ (JOURNAL_LIMIT < at + count) }
         ensures err { OnErr result (self.new ≡ self.old) }
-        ensures enough { len ≤ self.old.room → IsOk result }
+        ensures enough { IsWithin self.old.room at count → IsOk result }
     {
-        if len <= self.room {
+        if self.has_room(at, count) {
             return Ok(());
         }
-        if len > JOURNAL_LIMIT {
+        if at > JOURNAL_LIMIT || count > JOURNAL_LIMIT - at {
             return Err(JournalFault::TooLong);
         }
-        let more = len as usize - self.bytes.len();
-        self.bytes.reserve(more)?;
-        self.room = len;
+        self.blocks.reserve(at, count)?;
         Ok(())
     }
 
@@ -107,51 +106,50 @@ impl JournalFile {
         ensures finished { IfOk result (λ finished. finished ≡ finishes self.old.file self.new.file) }
         ensures too_long { (result ≡ Err JournalFault.TooLong) ↔ (JOURNAL_LIMIT < at + length bytes.now) }
         ensures err { OnErr result (self.new ≡ self.old) }
+        ensures enough { IsWithin self.old.room at (length bytes.now) → IsOk result }
     {
-        let Some(end) = at.checked_add(bytes.len() as u64) else {
-            return Err(JournalFault::TooLong);
-        };
-        self.reserve(end)?;
+        self.reserve(at, bytes.len() as u64)?;
         Ok(self.write_within(at, bytes))
     }
 
-    /// Does what `write` does, within the room that was reserved. It can't fail.
+    /// Does what `write` does, within the room. It can't fail.
     pub fn write_within(&mut self, at: u64, bytes: &[u8]) -> bool
         requires exists { IsSome self.old.file }
-        requires room { at + length bytes.now ≤ self.old.room }
+        requires room { IsWithin self.old.room at (length bytes.now) }
         ensures file { self.new ≡ after_write self.old at bytes.now }
         ensures finished { result ≡ finishes self.old.file self.new.file }
     {
         let before = self.is_active();
-        region::write(&mut self.bytes, at as usize, bytes);
-        before && !self.is_active()
+        self.blocks.write_within(at, bytes);
+        let after = self.is_active();
+        before && !after
     }
 
-    /// Cuts the file to `len` bytes, or grows it with zeros. The answer says whether this finished
-    /// the journal.
+    /// Cuts the file to `len` bytes, or grows it with zeros. It takes no memory. The answer says
+    /// whether this finished the journal.
     pub fn cut(&mut self, len: u64) -> Result<bool, JournalFault>
         requires { IsSome self.old.file }
         ensures ok { OnOk result (self.new ≡ after_cut self.old len) }
         ensures finished { IfOk result (λ finished. finished ≡ finishes self.old.file self.new.file) }
         ensures too_long { (result ≡ Err JournalFault.TooLong) ↔ (JOURNAL_LIMIT < len) }
         ensures err { OnErr result (self.new ≡ self.old) }
-        ensures not_longer { len ≤ length (bytes_of self.old.file) → IsOk result }
+        ensures enough { len ≤ JOURNAL_LIMIT → IsOk result }
     {
-        if len > self.room {
-            self.reserve(len)?;
+        if len > JOURNAL_LIMIT {
+            return Err(JournalFault::TooLong);
         }
         Ok(self.cut_within(len))
     }
 
-    /// Does what `cut` does, within the room that was reserved. It can't fail.
+    /// Does what `cut` does, within the limit. It can't fail.
     pub fn cut_within(&mut self, len: u64) -> bool
         requires exists { IsSome self.old.file }
-        requires room { len ≤ self.old.room }
+        requires limit { len ≤ JOURNAL_LIMIT }
         ensures file { self.new ≡ after_cut self.old len }
         ensures finished { result ≡ finishes self.old.file self.new.file }
     {
         let before = self.is_active();
-        region::cut(&mut self.bytes, len as usize);
+        self.blocks.cut(len).unwrap();
         let after = self.is_active();
         before && !after
     }
@@ -159,36 +157,33 @@ impl JournalFile {
     /// Removes the file, if it is there, with its room. The answer says whether this finished the
     /// journal.
     pub fn remove(&mut self) -> bool
-        ensures file { self.new ≡ record { file = None; room = 0 } }
+        ensures file { self.new ≡ no_journal }
         ensures finished { result ≡ finishes self.old.file self.new.file }
     {
         let finished = self.is_active();
-        let alloc = *self.bytes.allocator();
         self.exists = false;
-        self.bytes = Vec::new(alloc);
-        self.room = 0;
+        self.blocks.clear();
         finished
     }
 
     /// Whether `write` of these bytes would finish the journal.
     pub fn would_finish_write(&self, at: u64, bytes: &[u8]) -> bool
-        ensures { result ≡ finishes self.now.file (Some (written (bytes_of self.now.file) at bytes.now)) }
+        ensures { result ≡ finishes self.now.file (Some (written at bytes.now (bytes_of self.now.file))) }
     {
-        self.is_active() && !header::keeps_header(self.bytes.as_slice(), at as usize, bytes)
+        self.is_active() && !header::keeps_header(&self.blocks, at, bytes)
     }
 
     /// Whether `cut` to this length would finish the journal.
     pub fn would_finish_cut(&self, len: u64) -> bool
-        ensures { result ≡ finishes self.now.file (Some (cut_to (bytes_of self.now.file) len)) }
+        ensures { result ≡ finishes self.now.file (Some (resized len (bytes_of self.now.file))) }
     {
         self.is_active() && len < 28
     }
 
     /// Reads as many bytes from `at` on as there are and `out` has room for, and answers how many.
     pub fn read(&self, at: u64, out: &mut [u8]) -> usize
-        ensures count { result ≡ min (length out.old) (length (bytes_of self.now.file) - at) }
-        ensures bytes { out.new ≡ read_into (bytes_of self.now.file) at out.old }
+        ensures { Reads (bytes_of self.now.file) at out.old out.new result }
     {
-        region::read(self.bytes.as_slice(), at, out)
+        self.blocks.read(at, out)
     }
 }

@@ -9,7 +9,6 @@
 mod fault;
 mod file;
 mod header;
-mod region;
 #[cfg(test)]
 mod tests;
 

@@ -105,7 +105,7 @@ fn gaps_hold_zeros_and_the_limit_is_kept(rt: HostRuntime) -> Result<(), Fail> {
     );
     assert_eq!(rt; journal.cut(JOURNAL_LIMIT + 1), Err(JournalFault::TooLong));
     assert_eq!(rt;
-        journal.reserve(JOURNAL_LIMIT + 1),
+        journal.reserve(JOURNAL_LIMIT, 1),
         Err(JournalFault::TooLong)
     );
     assert_eq!(rt; journal.len(), Some(7));
@@ -129,11 +129,14 @@ fn gaps_hold_zeros_and_the_limit_is_kept(rt: HostRuntime) -> Result<(), Fail> {
 #[test]
 fn reserved_room_is_written_without_memory(rt: HostRuntime) -> Result<(), Fail> {
     let mut journal = journal_of(rt.alloc(), &SYNCED)?;
-    journal.reserve(100_000)?;
-    assert_eq!(rt; journal.room(), 100_000);
+    journal.reserve(99_000, 28)?;
+    assert!(rt; journal.has_room(99_000, 28) && !journal.has_room(0, 28));
     assert!(rt; !journal.write_within(99_000, &SYNCED));
     assert!(rt; !journal.cut_within(100_000));
+    assert!(rt; journal.has_room(99_000, 28));
+    journal.reserve(0, 28)?;
     assert!(rt; journal.write_within(0, &ZEROED));
-    assert_eq!(rt; (journal.len(), journal.room()), (Some(100_000), 100_000));
+    assert_eq!(rt; journal.len(), Some(100_000));
+    assert!(rt; !journal.remove() && !journal.has_room(0, 28));
     Ok(())
 }
