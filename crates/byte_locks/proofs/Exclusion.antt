@@ -16,7 +16,7 @@ use Rattle.byte_locks.proofs.Held.{is_of-true}
 use Rattle.byte_locks.proofs.Locks.{same_owner-true, same_owner-itself}
 
 -- what a search found is in the list
-Contains-from_find : {X : Type 0} (p : X → Bool) (xs : List X) (y : X) → find p xs ≡ Some y → Contains xs y
+pub Contains-from_find : {X : Type 0} (p : X → Bool) (xs : List X) (y : X) → find p xs ≡ Some y → Contains xs y
 Contains-from_find p [] y h = cc
 Contains-from_find {X} p (x ∷ xs) y h =
     ⊎_elim
@@ -28,12 +28,12 @@ Contains-from_find {X} p (x ∷ xs) y h =
     (cases_Bool (p x))
 
 -- an owner's lock is an entry of the list
-record IsEntryOf (entries : LockList) (owner : Owner) (lock : LockId) (kind : LockKind) : Type 0 where
-  entry : LockEntry
-  there : Contains entries entry
-  whose : entry.owner ≡ owner
-  which : entry.lock ≡ lock
-  how : entry.kind ≡ kind
+pub record IsEntryOf (entries : LockList) (owner : Owner) (lock : LockId) (kind : LockKind) : Type 0 where
+  pub entry : LockEntry
+  pub there : Contains entries entry
+  pub whose : entry.owner ≡ owner
+  pub which : entry.lock ≡ lock
+  pub how : entry.kind ≡ kind
 
 entry_from_find : (entries : LockList) (owner : Owner) (lock : LockId) (kind : LockKind) (found : Option LockEntry)
     → find (is_of owner lock) entries ≡ found → option_map (λ (e : LockEntry). e.kind) found ≡ Some kind
@@ -43,7 +43,7 @@ entry_from_find entries owner lock kind (Some entry) e h =
     let is = is_of-true owner lock entry (passes_from_find (is_of owner lock) entries entry e) in
     record { entry = entry; there = Contains-from_find (is_of owner lock) entries entry e; whose = is.0; which = is.1; how = cc }
 
-entry_from_kind_held : (entries : LockList) (owner : Owner) (lock : LockId) (kind : LockKind)
+pub entry_from_kind_held : (entries : LockList) (owner : Owner) (lock : LockId) (kind : LockKind)
     → kind_held entries owner lock ≡ Some kind → IsEntryOf entries owner lock kind
 entry_from_kind_held entries owner lock kind h = entry_from_find entries owner lock kind (find (is_of owner lock) entries) refl h
 

@@ -7,3 +7,4 @@ pub mod Held
 pub mod Locks
 pub mod Refusals
 pub mod Releases
+mod Tied

@@ -33,6 +33,10 @@ abbrev pub byte_count : LockId → ℕ
 byte_count lock.Shared = 510
 byte_count _ = 1
 
+-- a lock's last byte in its file
+abbrev pub last_byte : LockId → ℕ
+last_byte lock = first_byte lock + byte_count lock - 1
+
 -- a file's number among the files
 abbrev pub file_code : FileKind → ℕ
 file_code Database = 0

@@ -27,6 +27,10 @@ abbrev pub opposes : Owner → LockId → LockKind → LockEntry → Bool
 opposes owner lock kind entry =
     same_lock entry.lock lock && not (same_owner entry.owner owner) && (is_write kind || is_write entry.kind)
 
+-- whether the entry is for writing on this lock
+abbrev pub writes : LockId → LockEntry → Bool
+writes lock entry = same_lock entry.lock lock && is_write entry.kind
+
 -- whether the holder is the owner and the lock is in the set
 abbrev pub in_set : Owner → Marks → Owner → LockId → Bool
 in_set owner locks holder lock = same_owner holder owner && has locks lock

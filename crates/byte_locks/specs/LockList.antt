@@ -1,15 +1,16 @@
-use Rattle.std.specs.Prelude.{◌≡◌, ℕ, ◌≤◌, Bool, ◌&&◌, not, nat_le, List, ◌++◌, Option, Some, None, All, find, map, filter, count_by, is_some, is_none, option_and_then, if◌then◌else◌}
+use Rattle.std.specs.Prelude.{◌≡◌, ◌≢◌, ℕ, ◌≤◌, Bool, true, ◌&&◌, not, nat_le, List, ◌++◌, Option, Some, None, All, find, map, filter, count_by, is_some, is_none, IsSome, option_and_then, if◌then◌else◌}
 use Rattle.std.specs.List.{list_any}
 use Rattle.std.specs.Option.{option_map}
 use Rattle.byte_locks.specs.declared.owner.Owner.{Owner}
 use Rattle.byte_locks.specs.declared.lock_id.LockId.{LockId}
 use Rattle.byte_locks.specs.declared.lock_kind.LockKind.{LockKind}
+use Rattle.byte_locks.specs.declared.lock_kind.LockKind.TheVariants.{Read}
 use Rattle.byte_locks.specs.declared.lock_entry.LockEntry.{LockEntry}
 use Rattle.byte_locks.specs.declared.set_fault.SetFault.{SetFault}
 use Rattle.byte_locks.specs.declared.set_fault.SetFault.TheVariants.{Conflict, Full, NoMemory}
 use Rattle.byte_locks.specs.LockId.{every_lock, same_lock}
 use Rattle.byte_locks.specs.LockSet.{Marks, has}
-use Rattle.byte_locks.specs.LockEntry.{is_of, opposes, in_kind, MayStandTogether}
+use Rattle.byte_locks.specs.LockEntry.{is_of, opposes, writes, in_kind, MayStandTogether}
 
 -- who holds which lock how, in the order of granting
 abbrev pub LockList : Type 0
@@ -30,6 +31,26 @@ holder_count entries lock = count_by (λ e. same_lock e.lock lock) entries
 -- whether anybody holds the lock
 abbrev pub is_held : LockList → LockId → Bool
 is_held entries lock = list_any (λ e. same_lock e.lock lock) entries
+
+-- who holds the lock for writing, if anybody does
+abbrev pub writer_of : LockList → LockId → Option Owner
+writer_of entries lock = option_map (λ e. e.owner) (find (writes lock) entries)
+
+-- nobody holds the lock
+abbrev pub IsFree : LockList → LockId → Type 0
+IsFree entries lock = (owner : Owner) → kind_held entries owner lock ≡ None
+
+-- the holder is another than the owner, and holds a lock of the set
+pub record StandsAgainst (entries : LockList) (owner : Owner) (locks : Marks) (lock : LockId) (holder : Owner) : Type 0 where
+  pub asked : has locks lock ≡ true
+  pub another : holder ≢ owner
+  pub holds : IsSome (kind_held entries holder lock)
+
+-- whoever else holds a lock of the set holds it for reading, as the owner would
+abbrev pub IsShared : LockList → Owner → Marks → LockKind → Type 0
+IsShared entries owner locks kind =
+    (lock : LockId) (other : Owner) (held : LockKind) → has locks lock ≡ true → other ≢ owner
+    → kind_held entries other lock ≡ Some held → (kind ≡ Read) × (held ≡ Read)
 
 -- the oldest holder that keeps the owner from the lock
 abbrev pub opponent : LockList → Owner → LockId → LockKind → Option Owner

@@ -18,7 +18,7 @@ mod tests;
 
 pub use lock_bytes::FileKind;
 pub use lock_entry::LockEntry;
-pub use lock_id::LockId;
+pub use lock_id::{LOCKS, LockId};
 pub use lock_kind::LockKind;
 pub use lock_set::{LockSet, locks_of};
 pub use lock_table::LockTable;

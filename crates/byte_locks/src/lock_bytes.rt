@@ -1,5 +1,5 @@
 ghost use Rattle.std.specs.Prelude.{◌≡◌, ◌+◌, ◌<◌, ◌^◌};
-ghost use Rattle.byte_locks.specs.LockBytes.{file_of, first_byte, byte_count, touches};
+ghost use Rattle.byte_locks.specs.LockBytes.{file_of, first_byte, last_byte, byte_count, touches};
 
 use crate::LockId;
 
@@ -13,6 +13,22 @@ pub enum FileKind {
     PosFile,
     LockFile,
     Primary,
+}
+
+impl LockId {
+    /// Its first byte in its file.
+    pub fn first_byte(self) -> u64
+        ensures { result ≡ first_byte self }
+    {
+        first_byte(self)
+    }
+
+    /// Its last byte in its file.
+    pub fn last_byte(self) -> u64
+        ensures { result ≡ last_byte self }
+    {
+        first_byte(self) + byte_count(self) - 1
+    }
 }
 
 /// Whether the lock lies on the file and has a byte in the range.

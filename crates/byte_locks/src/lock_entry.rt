@@ -1,5 +1,5 @@
 ghost use Rattle.std.specs.Prelude.{◌≡◌};
-ghost use Rattle.byte_locks.specs.LockEntry.{is_of, opposes, is_write, in_kind};
+ghost use Rattle.byte_locks.specs.LockEntry.{is_of, opposes, writes, is_write, in_kind};
 
 use crate::{LockId, LockKind, LockSet, Owner};
 
@@ -24,6 +24,13 @@ impl LockEntry {
         ensures { result ≡ opposes owner lock kind self.now }
     {
         self.lock == lock && self.owner != owner && (is_write(kind) || is_write(self.kind))
+    }
+
+    /// Whether it is for writing on this lock.
+    pub(crate) fn writes(&self, lock: LockId) -> bool
+        ensures { result ≡ writes lock self.now }
+    {
+        self.lock == lock && is_write(self.kind)
     }
 
     /// The entry, in this kind where it is the owner's on one of the locks.

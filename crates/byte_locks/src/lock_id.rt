@@ -21,7 +21,7 @@ pub enum LockId {
 }
 
 /// How many locks there are.
-pub(crate) const LOCKS: usize = 13;
+pub const LOCKS: usize = 13;
 
 /// Every lock, in order.
 #[tactic(auto, unfolding(crate::specs::LockId::every_lock))]
@@ -46,6 +46,13 @@ pub(crate) fn all() -> [LockId; LOCKS]
 }
 
 impl LockId {
+    /// Every lock, in order.
+    pub fn every() -> [LockId; LOCKS]
+        ensures { result ≡ every_lock }
+    {
+        all()
+    }
+
     /// Its place among all locks.
     pub(crate) fn place(self) -> usize
         ensures { result ≡ place_of self }

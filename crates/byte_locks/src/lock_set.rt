@@ -1,7 +1,7 @@
-ghost use Rattle.std.specs.Prelude.{◌≡◌, ◌↔◌, IsTrue};
+ghost use Rattle.std.specs.Prelude.{◌≡◌, ◌↔◌, ◌||◌, true, false, Contains, IsTrue, IsFalse};
 ghost use Rattle.byte_locks.specs.LockBytes.{Touches};
 ghost use Rattle.byte_locks.specs.declared.lock_id.LockId.{LockId};
-ghost use Rattle.byte_locks.specs.LockSet.{has, one, locks_of};
+ghost use Rattle.byte_locks.specs.LockSet.{has, one, none, union, locks_of};
 
 use crate::lock_bytes::has_byte_in;
 use crate::lock_id::{LOCKS, all};
@@ -32,6 +32,43 @@ impl LockSet {
         LockSet {
             marks: all().map(|other| lock == other),
         }
+    }
+
+    /// The set of no lock.
+    #[tactic(auto, unfolding(crate::specs::LockId::every_lock))]
+    pub fn none() -> LockSet
+        ensures value { result ≡ none }
+        ensures nothing { (lock : LockId) → has result lock ≡ false }
+    {
+        LockSet {
+            marks: [false; LOCKS],
+        }
+    }
+
+    /// The set of the locks of both sets.
+    pub fn union(self, other: LockSet) -> LockSet
+        ensures value { result ≡ union self other }
+        ensures either { (lock : LockId) → has result lock ≡ (has self lock || has other lock) }
+    {
+        LockSet {
+            marks: all().map(|lock| self.has(lock) || other.has(lock)),
+        }
+    }
+
+    /// Whether no lock is in the set.
+    #[tactic(auto, using(crate::proofs::Tied::in_no_set))]
+    pub fn is_empty(&self) -> bool
+        ensures value { IsFalse result ↔ Contains self.now true }
+        ensures nothing { IsTrue result → (lock : LockId) → has self.now lock ≡ false }
+    {
+        self.has_no_mark()
+    }
+
+    fn has_no_mark(&self) -> bool
+        ensures some { IsFalse result → Contains self.now true }
+        ensures none { IsTrue result → Contains self.now true → ⊥ }
+    {
+        !self.marks.contains(&true)
     }
 
     /// Whether the lock is in the set.

@@ -1,7 +1,7 @@
-ghost use Rattle.std.specs.Prelude.{◌≡◌, [], ℕ, OnOk, OnErr, IfErr, IsErrOf, Err, Some, None, IsSome, ◌↔◌, IsTrue};
+ghost use Rattle.std.specs.Prelude.{◌≡◌, ◌≢◌, [], ℕ, IfSome, IfNone, IsFalse, OnOk, OnErr, IfErr, IsErrOf, Err, Some, None, IsSome, ◌↔◌, IsTrue};
 ghost use Rattle.byte_locks.specs.declared.owner.Owner.{Owner};
 ghost use Rattle.byte_locks.specs.LockEntry.{in_set, on_file, of_session};
-ghost use Rattle.byte_locks.specs.LockList.{IsLockList, kind_held, is_held, holder_count, opponent, first_contested, conflict, is_full, first_full, MayGrant, HasCause, granted, without, HeldAfter};
+ghost use Rattle.byte_locks.specs.LockList.{IsLockList, kind_held, is_held, writer_of, IsFree, StandsAgainst, IsShared, holder_count, opponent, first_contested, conflict, is_full, first_full, MayGrant, HasCause, granted, without, HeldAfter};
 
 use crate::grant::{grant, kind_held};
 use crate::lock_bytes::file_of;
@@ -61,12 +61,21 @@ impl LockTable {
 
     /// What `set` would name: the first of the locks in order that another owner keeps this one from,
     /// and the oldest who does.
+    #[tactic(auto, using(crate::proofs::Tied::stands_against, crate::proofs::Tied::is_shared))]
     pub fn first_conflict(
         &self,
         owner: Owner,
         locks: LockSet,
         kind: LockKind,
     ) -> Option<(LockId, Owner)>
+        ensures value { result ≡ conflict self.now owner locks kind }
+        ensures holder { IfSome result (λ found. StandsAgainst self.now owner locks found.0 found.1) }
+        ensures none { IfNone result (IsShared self.now owner locks kind) }
+    {
+        self.conflict(owner, locks, kind)
+    }
+
+    fn conflict(&self, owner: Owner, locks: LockSet, kind: LockKind) -> Option<(LockId, Owner)>
         ensures { result ≡ conflict self.now owner locks kind }
     {
         let lock = self.first_contested(owner, locks, kind)?;
@@ -102,10 +111,38 @@ impl LockTable {
     }
 
     /// Whether anybody holds the lock.
+    #[tactic(auto, using(crate::proofs::Tied::nobody_holds))]
     pub fn held(&self, lock: LockId) -> bool
+        ensures value { result ≡ is_held self.now lock }
+        ensures nobody { IsFalse result ↔ IsFree self.now lock }
+    {
+        self.is_held(lock)
+    }
+
+    fn is_held(&self, lock: LockId) -> bool
         ensures { result ≡ is_held self.now lock }
     {
         self.entries.iter().any(|entry| entry.lock == lock)
+    }
+
+    /// Who holds the lock for writing, if anybody does.
+    #[tactic(auto, using(crate::proofs::Tied::writer_holds, crate::proofs::Tied::no_writer))]
+    pub fn writer(&self, lock: LockId) -> Option<Owner>
+        ensures value { result ≡ writer_of self.now lock }
+        ensures holds { IfSome result (λ owner. kind_held self.now owner lock ≡ Some LockKind.Write) }
+        ensures none { IfNone result ((owner : Owner) → kind_held self.now owner lock ≢ Some LockKind.Write) }
+    {
+        let _ = &self.entries;
+        self.find_writer(lock)
+    }
+
+    fn find_writer(&self, lock: LockId) -> Option<Owner>
+        ensures { result ≡ writer_of self.now lock }
+    {
+        self.entries
+            .iter()
+            .find(|entry| entry.writes(lock))
+            .map(|entry| entry.owner)
     }
 
     /// Releases what the owner holds of the locks.

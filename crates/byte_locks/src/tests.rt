@@ -129,3 +129,29 @@ fn locks_fill_up(rt: HostRuntime) {
     table.release(owner(0), dms);
     assert_eq!(rt; table.set(owner(1024), dms, LockKind::Read), Ok(()));
 }
+
+/// Each call on sets, on bytes and on the writer once.
+#[test]
+fn sets_bytes_and_the_writer(rt: HostRuntime) {
+    assert_eq!(rt; LockId::every(), ORDER);
+    assert_eq!(rt;
+        (LockId::Shared.first_byte(), LockId::Shared.last_byte()),
+        (0x4000_0002, 0x4000_01ff)
+    );
+    let both = LockSet::one(LockId::Write).union(LockSet::one(LockId::Ckpt));
+    assert!(rt; LockSet::none().is_empty() && !both.is_empty());
+    assert!(rt; both.has(LockId::Ckpt) && !both.has(LockId::Recover));
+
+    let mut table = LockTable::new(rt.alloc());
+    assert_eq!(rt;
+        table.set(owner(1), LockSet::one(LockId::Write), LockKind::Write),
+        Ok(())
+    );
+    assert_eq!(rt;
+        table.set(owner(1), LockSet::one(LockId::Ckpt), LockKind::Read),
+        Ok(())
+    );
+    assert_eq!(rt; table.writer(LockId::Write), Some(owner(1)));
+    assert_eq!(rt; table.writer(LockId::Ckpt), None);
+    assert!(rt; table.held(LockId::Ckpt) && !table.held(LockId::Recover));
+}
