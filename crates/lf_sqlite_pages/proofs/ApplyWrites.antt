@@ -6,7 +6,7 @@ use Rattle.std.proofs.lemmas.List.{same_lists}
 use Rattle.std.proofs.lemmas.List.FromFn.{length-map-range_with_len, get_or-map-range_with_len}
 use Rattle.lf_sqlite_pages.specs.PageSize.{IsPageSize}
 use Rattle.lf_sqlite_pages.specs.LockPage.{lock_page_of, IsDataPage}
-use Rattle.lf_sqlite_pages.specs.Change.{PageChange, IsChange, written}
+use Rattle.lf_sqlite_pages.specs.Change.{PageChange, IsChange}
 use Rattle.lf_sqlite_pages.specs.Image.{DatabaseImage, page_at}
 use Rattle.lf_sqlite_pages.specs.Apply.{apply, page_after}
 use Rattle.lf_sqlite_pages.specs.Writes.{writes_of}

@@ -1,11 +1,11 @@
 -- A change, with the pages that it lacks put behind its own and sorted, is complete.
-use Rattle.std.proofs.Common.{◌≡◌, ◌≢◌, ℕ, ◌+◌, ◌-◌, ◌<◌, ◌≤◌, true, false, Bool, ◌||◌, is_some, eqb, Option, Some, None, List, [], ◌∷◌, ◌++◌, inl, inr, length, get_or, replicate, unwrap_or, refl, sym, ap, ◌∙◌, subst, arith, append-nil}
+use Rattle.std.proofs.Common.{◌≡◌, ℕ, Bool, ◌||◌, is_some, eqb, Option, Some, None, List, [], ◌++◌, inl, inr, get_or, refl, sym, ap, ◌∙◌, subst, arith}
 use Rattle.std.specs.List.{All, list_any, IsDistinct}
 use Rattle.std.specs.List.Sorted.{IsPermutation, IsNonDecreasingBy}
 use Rattle.std.proofs.lemmas.Bool.{cases_eq, cases_lt}
 use Rattle.std.proofs.lemmas.List.Elements.{All-append}
 use Rattle.lf_sqlite_pages.specs.LockPage.{lock_page_of, IsDataPage}
-use Rattle.lf_sqlite_pages.specs.Change.{AscendsAbove, PageChange, IsChange, written}
+use Rattle.lf_sqlite_pages.specs.Change.{PageChange, IsChange, written}
 use Rattle.lf_sqlite_pages.specs.Writes.{writes_of}
 use Rattle.lf_sqlite_pages.specs.Complete.{completed_page, completed}
 use Rattle.lf_sqlite_pages.specs.Steps.{missing_page}
@@ -93,9 +93,11 @@ written-completed change count n valid =
                 ∙ completed-either change count n valid
                 ∙ ap (λ (o : Option (List ℕ)). is_some (written change.pages n) || is_some o) (sym (written-writes_of (missing_page change count) change.commit n first within))
             | inr zero_at ↦
-                rw (written-above 0 _ (AscendsAbove-writes_of (completed_page change count) change.commit) n zero_at,
-                written-above 0 change.pages valid.ascending n zero_at,
-                written-above 0 _ (AscendsAbove-writes_of (missing_page change count) change.commit) n zero_at) refl
+                rw (
+                  written-above 0 _ (AscendsAbove-writes_of (completed_page change count) change.commit) n zero_at,
+                  written-above 0 change.pages valid.ascending n zero_at,
+                  written-above 0 _ (AscendsAbove-writes_of (missing_page change count) change.commit) n zero_at,
+                ) refl
           ]
     ]
     in

@@ -1,7 +1,5 @@
 -- The complete change, against the change that it is made of.
-use Rattle.std.proofs.Common.{◌≡◌, ℕ, ◌+◌, ◌-◌, ◌<◌, ◌≤◌, ◌≢◌, true, false, eqb, leb, Option, Some, None, List, [], ◌∷◌, inl, inr, length, replicate, refl, sym, ap, ◌∙◌, subst, arith, unwrap_or, get_or}
-use Rattle.std.specs.List.{All}
-use Rattle.std.specs.Option.{IsSome}
+use Rattle.std.proofs.Common.{◌≡◌, ℕ, ◌+◌, ◌<◌, ◌≤◌, true, false, eqb, leb, Option, Some, None, List, inl, inr, length, replicate, refl, sym, ap, ◌∙◌, subst, arith, unwrap_or}
 use Rattle.std.proofs.lemmas.List.{same_lists, length-replicate}
 use Rattle.std.proofs.lemmas.List.FromFn.{length-map-range_with_len, get_or-map-range_with_len}
 use Rattle.std.proofs.lemmas.Bool.{cases_eq, cases_lt}
@@ -10,7 +8,6 @@ use Rattle.lf_sqlite_pages.specs.LockPage.{lock_page_of, IsDataPage}
 use Rattle.lf_sqlite_pages.specs.Change.{PageChange, IsChange, HoldsEveryPage, written}
 use Rattle.lf_sqlite_pages.specs.Image.{DatabaseImage, page_at}
 use Rattle.lf_sqlite_pages.specs.Apply.{Fits, apply, page_after}
-use Rattle.lf_sqlite_pages.specs.Writes.{writes_of}
 use Rattle.lf_sqlite_pages.specs.Complete.{completed_page, completed, complete}
 use Rattle.lf_sqlite_pages.proofs.ApplyWrites.{IsChange-writes_of}
 use Rattle.lf_sqlite_pages.proofs.Applying.{written-lock_page, whole-written}

@@ -1,15 +1,14 @@
 -- The data pages of an image with their numbers.
-use Rattle.std.proofs.Common.{◌≡◌, ℕ, ◌+◌, ◌*◌, ◌-◌, ◌<◌, ◌≤◌, ◌≢◌, ◌^◌, true, false, eqb, Option, Some, None, List, [], ◌∷◌, inl, inr, length, refl, sym, ap, ◌∙◌, subst, arith, unwrap_or, get_or}
+use Rattle.std.proofs.Common.{◌≡◌, ℕ, ◌*◌, ◌<◌, ◌≤◌, ◌^◌, true, false, eqb, Option, Some, None, List, [], inl, inr, length, refl, sym, ap, ◌∙◌, arith, unwrap_or, get_or}
 use Rattle.std.specs.Option.{IsSome}
 use Rattle.std.proofs.lemmas.Nat.{mul-le}
-use Rattle.std.proofs.lemmas.Bool.{cases_eq, cases_lt}
+use Rattle.std.proofs.lemmas.Bool.{cases_eq}
 use Rattle.std.proofs.lemmas.Bool.Decides.{nat_tests}
-use Rattle.lf_sqlite_pages.specs.PageSize.{IsPageSize}
 use Rattle.lf_sqlite_pages.specs.LockPage.{lock_page_of, IsDataPage}
 use Rattle.lf_sqlite_pages.specs.Change.{PageChange, IsChange, HoldsEveryPage, written}
 use Rattle.lf_sqlite_pages.specs.Image.{DatabaseImage, IsImage, SameImage, page_at}
 use Rattle.lf_sqlite_pages.specs.Header.{image_is_wal, image_header_pages}
-use Rattle.lf_sqlite_pages.specs.Apply.{Fits, apply, page_after}
+use Rattle.lf_sqlite_pages.specs.Apply.{apply}
 use Rattle.lf_sqlite_pages.specs.Writes.{writes_of, data_page_at, all_writes, data_writes}
 use Rattle.lf_sqlite_pages.proofs.Applying.{written-lock_page}
 use Rattle.lf_sqlite_pages.proofs.LockPages.{IsDataPage-below, page_size-positive}

@@ -1,13 +1,11 @@
 -- A change leads from one image to the next.
-use Rattle.std.proofs.Common.{◌≡◌, ℕ, ◌+◌, ◌-◌, ◌<◌, ◌≤◌, ◌^◌, true, eqb, Some, List, [], length, replicate, subst, sym, refl, ap, ◌∙◌, arith}
+use Rattle.std.proofs.Common.{◌≡◌, ℕ, ◌<◌, ◌^◌, Some, List, [], length, subst, sym, ap, ◌∙◌, arith}
 use Rattle.std.specs.List.{All}
-use Rattle.std.proofs.lemmas.Bool.Decides.{nat_tests}
 use Rattle.std.proofs.lemmas.List.Elements.{All-nil}
 use Rattle.lf_sqlite_pages.specs.LockPage.{lock_page_of}
 use Rattle.lf_sqlite_pages.specs.Change.{PageChange, IsChange}
-use Rattle.lf_sqlite_pages.specs.Image.{DatabaseImage, IsImage, page_at}
-use Rattle.lf_sqlite_pages.specs.Apply.{Fits, apply, page_after}
-use Rattle.lf_sqlite_pages.specs.Steps.{kept, resized, overwritten}
+use Rattle.lf_sqlite_pages.specs.Image.{DatabaseImage, IsImage}
+use Rattle.lf_sqlite_pages.specs.Apply.{Fits, apply}
 use Rattle.lf_sqlite_pages.proofs.Applying.{apply-by_steps, whole-resized}
 use Rattle.lf_sqlite_pages.proofs.PlacingLemmas.{whole-kept, whole-overwritten}
 use Rattle.lf_sqlite_pages.proofs.LockPages.{lock_page-first}

@@ -1,12 +1,11 @@
 -- What a binary search finds among writes whose numbers ascend.
-use Rattle.std.proofs.Common.{◌≡◌, ℕ, suc, zero, ◌+◌, ◌-◌, ◌<◌, ◌≤◌, ◌≢◌, Some, None, Result, Ok, Err, List, [], ◌∷◌, inl, inr, length, get_or, sym, ap, ◌∙◌, subst, refl, arith}
-use Rattle.std.specs.List.{All}
-use Rattle.std.specs.List.Sorted.{IsSearchInRange, IsBinarySearchResult, IsNonDecreasingBy}
+use Rattle.std.proofs.Common.{◌≡◌, ℕ, suc, zero, ◌<◌, Some, None, Ok, Err, List, [], ◌∷◌, inl, inr, length, get_or, sym, ap, ◌∙◌, arith}
+use Rattle.std.specs.List.Sorted.{IsBinarySearchResult, IsNonDecreasingBy}
 use Rattle.std.specs.Ordering.{nat_cmp, ordering_index}
 use Rattle.std.proofs.lemmas.Bool.{cases_eq, cases_lt}
 use Rattle.std.proofs.lemmas.Bool.Decides.{nat_tests}
 use Rattle.std.proofs.lemmas.Cmp.{ranked}
-use Rattle.lf_sqlite_pages.specs.Change.{AscendsAbove, PageChange, IsChange, written}
+use Rattle.lf_sqlite_pages.specs.Change.{AscendsAbove, written}
 use Rattle.lf_sqlite_pages.specs.declared.page_write.PageWrite.{PageWrite}
 use Rattle.lf_sqlite_pages.proofs.Applying.{AscendsAbove-each, written-none}
 use Rattle.lf_sqlite_pages.proofs.Writes.{written-first, written-other}

@@ -1,20 +1,13 @@
 -- The pages that make a change complete, put behind its own and sorted.
-use Rattle.std.proofs.Common.{◌≡◌, ◌≢◌, ℕ, suc, zero, ◌+◌, ◌-◌, ◌<◌, ◌≤◌, true, false, Bool, cond, ◌||◌, IsTrue, is_some, eqb, ltb, leb, Option, Some, None, List, [], ◌∷◌, ◌++◌, map, inl, inr, length, get_or, replicate, unwrap_or, refl, sym, ap, ◌∙◌, subst, arith, min}
-use Rattle.std.specs.List.{All, list_any, IsDistinct, AllByRecursion}
-use Rattle.std.specs.List.Sorted.{IsPermutation, IsNonDecreasingBy}
+use Rattle.std.proofs.Common.{◌≡◌, ℕ, suc, zero, ◌+◌, ◌<◌, ◌≤◌, true, false, is_some, eqb, leb, Some, None, List, [], ◌∷◌, ◌++◌, inl, inr, replicate, refl, sym, ap, ◌∙◌, arith, min}
 use Rattle.std.proofs.lemmas.Bool.{cases_eq, cases_lt}
 use Rattle.std.proofs.lemmas.Bool.Decides.{nat_tests}
-use Rattle.std.proofs.lemmas.List.Elements.{All-append, All-head, All-tail}
-use Rattle.std.proofs.lemmas.List.Sorted.{All-permutation, list_any-IsPermutation, IsPermutation-map}
-use Rattle.std.proofs.lemmas.Map.Keys.{IsDistinct-IsPermutation}
 use Rattle.lf_sqlite_pages.specs.LockPage.{lock_page_of, IsDataPage}
-use Rattle.lf_sqlite_pages.specs.Change.{AscendsAbove, PageChange, IsChange, written}
+use Rattle.lf_sqlite_pages.specs.Change.{PageChange, written}
 use Rattle.lf_sqlite_pages.specs.Writes.{writes_of}
-use Rattle.lf_sqlite_pages.specs.Complete.{completed_page, completed}
 use Rattle.lf_sqlite_pages.specs.Steps.{missing_page}
 use Rattle.lf_sqlite_pages.specs.declared.page_write.PageWrite.{PageWrite}
-use Rattle.lf_sqlite_pages.proofs.Applying.{written-above, written-none, All-written}
-use Rattle.lf_sqlite_pages.proofs.Writes.{option_cases, writes_of-none, writes_of-some, AscendsAbove-writes_of, All-writes_of, written-writes_of, written-writes_of_past, same_writes}
+use Rattle.lf_sqlite_pages.proofs.Writes.{writes_of-none, writes_of-some}
 
 -- nothing is missing at the lock page
 pub missing-lock_page : (change : PageChange) (count n : ℕ) → n ≡ lock_page_of change.page_size → missing_page change count n ≡ None

@@ -1,5 +1,5 @@
 -- Pages of a change put in their places one after another, against the change written over the pages as a whole.
-use Rattle.std.proofs.Common.{◌≡◌, ℕ, ◌+◌, ◌-◌, ◌<◌, ◌≤◌, ◌^◌, true, false, eqb, List, [], ◌∷◌, ◌++◌, inl, inr, length, take, get_or, set, replicate, sym, subst, ap, ◌∙◌, arith}
+use Rattle.std.proofs.Common.{◌≡◌, ℕ, ◌+◌, ◌-◌, ◌<◌, ◌≤◌, true, false, eqb, List, [], ◌∷◌, ◌++◌, inl, inr, length, take, get_or, set, replicate, sym, subst, ap, ◌∙◌, arith}
 use Rattle.std.specs.List.{All}
 use Rattle.std.proofs.lemmas.List.{get_or_default, length-set, length-take, replicate-append-replicate, set-append_left, set-append_right}
 use Rattle.std.proofs.lemmas.List.Elements.{All-nil, All-set, All-head, All-tail}
@@ -9,7 +9,7 @@ use Rattle.std.proofs.lemmas.Grind.{common_steps}
 use Rattle.lf_sqlite_pages.specs.Change.{PageChange, IsChange}
 use Rattle.lf_sqlite_pages.specs.Steps.{kept, resized, overwritten, filled, placed}
 use Rattle.lf_sqlite_pages.specs.declared.page_write.PageWrite.{PageWrite}
-use Rattle.lf_sqlite_pages.proofs.Applying.{WritesWhole, WritesWhole-at, length-resized, whole-resized, length-overwritten}
+use Rattle.lf_sqlite_pages.proofs.Applying.{WritesWhole, WritesWhole-at}
 
 -- at least as many as before, and at least the count
 pub length-filled : (pages : List (List ℕ)) (size count : ℕ) → length (filled pages size count) ≡ length pages + (count - length pages)

@@ -1,5 +1,5 @@
 -- Writes of different numbers, sorted by their numbers.
-use Rattle.std.proofs.Common.{◌≡◌, ◌≢◌, ℕ, suc, zero, ◌+◌, ◌-◌, ◌<◌, ◌≤◌, true, false, Bool, cond, ◌||◌, is_some, eqb, Option, Some, None, List, [], ◌∷◌, ◌++◌, map, inl, inr, length, get_or, refl, sym, ap, ◌∙◌, subst, arith}
+use Rattle.std.proofs.Common.{◌≡◌, ◌≢◌, ℕ, suc, zero, ◌<◌, ◌≤◌, true, false, Bool, ◌||◌, is_some, eqb, Option, Some, None, List, [], ◌∷◌, ◌++◌, map, inl, inr, get_or, refl, sym, ap, ◌∙◌, arith}
 use Rattle.std.specs.List.{All, list_any, IsDistinct, AllByRecursion}
 use Rattle.std.specs.List.Sorted.{IsPermutation, IsNonDecreasingBy}
 use Rattle.std.proofs.lemmas.Bool.{cases_eq, cases_lt}
@@ -7,10 +7,9 @@ use Rattle.std.proofs.lemmas.Bool.Decides.{nat_tests}
 use Rattle.std.proofs.lemmas.List.Elements.{All-append, All-head, All-tail, All-cons, All-nil}
 use Rattle.std.proofs.lemmas.List.Sorted.{All-permutation, list_any-IsPermutation, IsPermutation-map}
 use Rattle.std.proofs.lemmas.Map.Keys.{IsDistinct-IsPermutation}
-use Rattle.lf_sqlite_pages.specs.Change.{AscendsAbove, PageChange, IsChange, written}
+use Rattle.lf_sqlite_pages.specs.Change.{AscendsAbove, written}
 use Rattle.lf_sqlite_pages.specs.declared.page_write.PageWrite.{PageWrite}
-use Rattle.lf_sqlite_pages.proofs.Applying.{written-above, written-none, All-written, AscendsAbove-each}
-use Rattle.lf_sqlite_pages.proofs.Lookup.{written-at}
+use Rattle.lf_sqlite_pages.proofs.Applying.{written-above, All-written, AscendsAbove-each}
 use Rattle.lf_sqlite_pages.proofs.Tables.{nat_eq-comm}
 use Rattle.lf_sqlite_pages.proofs.Writes.{option_cases, same_writes}
 

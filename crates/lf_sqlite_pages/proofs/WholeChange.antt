@@ -1,5 +1,5 @@
 -- A change writes each data page exactly where it writes as many pages as there are data pages.
-use Rattle.std.proofs.Common.{◌≡◌, ◌≢◌, ◌↔◌, IsTrue, subst, ℕ, ◌+◌, ◌<◌, ◌≤◌, true, false, eqb, ltb, None, List, [], ◌∷◌, inl, inr, length, refl, arith}
+use Rattle.std.proofs.Common.{◌≡◌, ◌↔◌, IsTrue, subst, ℕ, ◌+◌, ◌<◌, ◌≤◌, true, false, eqb, ltb, None, List, [], ◌∷◌, inl, inr, length, refl, arith}
 use Rattle.std.specs.List.{All}
 use Rattle.std.specs.Option.{IsSome}
 use Rattle.std.proofs.lemmas.Bool.{cases_eq, cases_lt}
@@ -189,8 +189,9 @@ pub holds_by_count : (inside seen : PageChange) (len count : ℕ) → IsChange i
     count ≡ data_pages_to inside.page_size inside.commit → IsTrue (eqb len count) ↔ HoldsEveryPage seen
 holds_by_count inside seen len count valid same lens counts =
     let P : PageChange → Type 0 = λ change. IsTrue (eqb len count) ↔ HoldsEveryPage change in
-    subst P same
-    ( (λ test. HoldsEveryPage-by_count inside valid (grind (arith, nat_tests, test, lens, counts)))
-    , (λ every.
-      let all : length inside.pages ≡ data_pages_to inside.page_size inside.commit = count-by_HoldsEveryPage inside valid every in
-      grind (arith, nat_tests, all, lens, counts)))
+    subst P same (
+      (λ test. HoldsEveryPage-by_count inside valid (grind (arith, nat_tests, test, lens, counts))),
+      (λ every.
+          let all : length inside.pages ≡ data_pages_to inside.page_size inside.commit = count-by_HoldsEveryPage inside valid every in
+          grind (arith, nat_tests, all, lens, counts)),
+    )

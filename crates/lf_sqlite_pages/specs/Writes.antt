@@ -1,5 +1,5 @@
 -- Pages to write, told by what is written at each number.
-use Rattle.std.specs.Prelude.{◌≡◌, ℕ, ◌==◌, Option, None, List, length, filter_map, if◌then◌else◌}
+use Rattle.std.specs.Prelude.{ℕ, ◌==◌, Option, None, List, length, filter_map, if◌then◌else◌}
 use Rattle.std.specs.Option.{option_map}
 use Rattle.std.specs.List.{range_with_len}
 use Rattle.lf_sqlite_pages.specs.LockPage.{lock_page_of}

@@ -5,8 +5,8 @@ ghost use Rattle.lf_sqlite_pages.specs.LockPage.{IsDataPage};
 ghost use Rattle.lf_sqlite_pages.specs.Change.{IsChange, empty_change, with_page, last_number, HoldsEveryPage, FitsOver, written};
 ghost use Rattle.lf_sqlite_pages.specs.Complete.{completed};
 
-use crate::missing::missing_pages;
 use crate::limits::data_pages_to;
+use crate::missing::missing_pages;
 use crate::page_write::PageWrite;
 use lf_base::{Bytes, NoMemory};
 use std::alloc::Global;

@@ -7,9 +7,13 @@ use lf_base::{be16_at, be32_at};
 
 /// Where the fields of the header stand.
 const PAGE_SIZE_AT: usize = 16;
+
 const WRITE_VERSION_AT: usize = 18;
+
 const CHANGE_COUNTER_AT: usize = 24;
+
 const PAGES_AT: usize = 28;
+
 const VERSION_VALID_FOR_AT: usize = 92;
 
 /// The page size that the bytes of a first page state: a big-endian number in bytes 16 and 17,
@@ -41,7 +45,11 @@ pub fn header_pages(first: &[u8], pages: u32) -> u32
         return pages;
     }
     let stated = be32_at(first, PAGES_AT);
-    if 1 <= stated && stated <= pages { stated } else { pages }
+    if 1 <= stated && stated <= pages {
+        stated
+    } else {
+        pages
+    }
 }
 
 /// Whether the number of pages in a first page is of the database's latest change.

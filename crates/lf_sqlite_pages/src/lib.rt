@@ -6,11 +6,11 @@
 
 mod blocks;
 mod change;
-mod missing;
 mod header;
 mod image;
 mod image_laws;
 mod limits;
+mod missing;
 mod overlay;
 mod page;
 mod page_size;
@@ -27,7 +27,8 @@ pub use change::Change;
 pub use header::{header_pages, is_wal, page_size_of};
 pub use image::Image;
 pub use image_laws::{
-    complete_change_leads_to_the_same_image, same_images_are_alike, small_image_has_no_lock_page, whole_change_is_the_image,
+    complete_change_leads_to_the_same_image, same_images_are_alike, small_image_has_no_lock_page,
+    whole_change_is_the_image,
 };
 pub use limits::{is_within_limit, lock_page};
 pub use overlay::Overlay;

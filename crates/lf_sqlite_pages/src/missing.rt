@@ -10,11 +10,7 @@ use lf_base::{Bytes, NoMemory};
 use std::alloc::Global;
 
 /// Zeros for each data page past `pages` that a change lacks, in ascending order of their numbers.
-pub fn missing_pages(
-    alloc: Global,
-    change: &Change,
-    pages: u32,
-) -> Result<Vec<PageWrite>, NoMemory>
+pub fn missing_pages(alloc: Global, change: &Change, pages: u32) -> Result<Vec<PageWrite>, NoMemory>
     ensures { IfOk result (λ missing. missing.items ≡ writes_of (missing_page change.now pages) change.now.commit) }
 {
     let mut missing = Vec::new(alloc);

@@ -1,5 +1,5 @@
 -- Up to each number, the pages are those that are missing.
-use Rattle.std.proofs.Common.{◌≡◌, ◌≢◌, ◌+◌, ◌<◌, ◌≤◌, true, min, None, is_some, replicate, ◌++◌, ◌∷◌, [], sym, ap, ◌∙◌, arith, rules}
+use Rattle.std.proofs.Common.{◌≡◌, ◌≢◌, ◌+◌, ◌<◌, min, None, replicate, ◌++◌, ◌∷◌, [], sym, ap, ◌∙◌, arith, rules}
 use Rattle.lf_sqlite_pages.specs.LockPage.{lock_page_of}
 use Rattle.lf_sqlite_pages.specs.Change.{written}
 use Rattle.lf_sqlite_pages.specs.Steps.{missing_page}

@@ -1,6 +1,5 @@
 -- The numbers are all the keys, and then sorted.
-use Rattle.std.proofs.Common.{◌≡◌, ◌++◌, [], List, ap, sym, ◌∙◌, subst, append-nil, rules}
-use Rattle.std.specs.List.Sorted.{IsPermutation}
+use Rattle.std.proofs.Common.{◌≡◌, ◌++◌, [], ap, sym, ◌∙◌, append-nil, rules}
 use Rattle.std.specs.Map.{keys_of}
 use Rattle.lf_sqlite_pages.proofs.TableNumbers.{numbers-are_keys}
 use Rattle.lf_sqlite_pages.proofs.table.numbers.Goals as goal

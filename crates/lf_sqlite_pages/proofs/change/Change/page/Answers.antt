@@ -1,5 +1,5 @@
 -- The numbers of a change ascend, so a binary search finds a page that is written.
-use Rattle.std.proofs.Common.{◌≡◌, ◌<◌, Some, Ok, Err, List, length, get_or, sym, ap, ◌∙◌, arith, rules}
+use Rattle.std.proofs.Common.{◌≡◌, ◌<◌, Some, Ok, Err, List, length, get_or, ap, ◌∙◌, arith, rules}
 use Rattle.std.specs.List.Sorted.{IsBinarySearchResult}
 use Rattle.std.specs.Ordering.{nat_cmp}
 use Rattle.std.proofs.lemmas.List.Sorted.{answers_always}

@@ -1,5 +1,5 @@
 -- Both steps together are the change.
-use Rattle.std.proofs.Common.{◌≡◌, ◌<◌, ◌^◌, arith, rules}
+use Rattle.std.proofs.Common.{◌≡◌, ◌<◌, ◌^◌, arith}
 use Rattle.lf_sqlite_pages.specs.Apply.{apply}
 use Rattle.lf_sqlite_pages.proofs.Applying.{apply-made}
 use Rattle.lf_sqlite_pages.proofs.Images.{IsImage-made}

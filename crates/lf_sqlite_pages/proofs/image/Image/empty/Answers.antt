@@ -1,5 +1,4 @@
 -- An image without pages has no lock page.
-use Rattle.std.proofs.Common.{length, ap, arith}
 use Rattle.lf_sqlite_pages.proofs.Images.{IsImage-no_pages}
 use Rattle.lf_sqlite_pages.proofs.image.Image.empty.Goals as goal
 
