@@ -2,18 +2,19 @@
 use Rattle.std.proofs.Common.{◌≡◌, ℕ, ◌+◌, ◌-◌, ◌≤◌, List, [], ◌∷◌, ◌++◌, length, drop, inl, inr, refl, sym, ap, subst, ◌∙◌, arith, ◌≢◌, ◌⊎◌, ◌<◌, ◌^◌, Bool, true, false, Option, Some, None, IsSome}
 use Rattle.std.specs.List.{Contains}
 use Rattle.std.proofs.lemmas.List.Elements.{Contains-append_left, Contains-push, Contains-push_cases}
-use Rattle.page_checksum.specs.Sums.{database_sum}
 use Rattle.lf_base.specs.declared.pos.Pos.{Pos}
 use Rattle.lf_sqlite_pages.specs.Image.{DatabaseImage, empty_image, SameImage}
 use Rattle.lf_sqlite_pages.specs.Change.{IsChange}
 use Rattle.lf_sqlite_pages.specs.Apply.{apply}
+use Rattle.ltx_codec.specs.Format.{IsFile}
 use Rattle.ltx_codec.specs.declared.file.Ltx.{Ltx}
+use Rattle.ltx_codec.specs.Positions.{Joins, after, before, sum_after}
+use Rattle.ltx_codec.specs.Sums.{image_sum}
 use Rattle.world_laws.specs.Answers.{Owes, by_file, by_snapshot, snapshot_of}
 use Rattle.world_laws.specs.Lineage.{IsCommitted, IsOfTree, Lineage, Names, Suits, image_of, position_of}
-use Rattle.world_laws.specs.Positions.{Joins, after, before, image_sum, sum_after}
 use Rattle.world_laws.specs.Premises.{OneImagePerPosition}
 use Rattle.world_laws.specs.Safe.{IsAllowed, IsSendable, TakesOfTree}
-use Rattle.world_laws.specs.Store.{Apply, CanDo, CanDoAll, Commit, DropAll, Install, IsSound, LeadTo, PruneTo, StoreCall, StoreState, all_done, at, done, end_of, installed, with_file, without_front}
+use Rattle.world_laws.specs.Store.{Apply, CanDo, CanDoAll, Commit, DropAll, Install, LeadTo, PruneTo, StoreCall, StoreState, all_done, at, done, end_of, installed, with_file, without_front}
 use Rattle.world_laws.specs.World.{Grown, GrowsAlong, GrowsBy}
 use Rattle.world_laws.proofs.Images.{IsImage-apply, IsImage-empty, apply-same, suits-of}
 use Rattle.world_laws.proofs.Lineages.{Committed-of_tree, Extends, IsOfTree-more, Names-more, Names-next, Names-snapshot, One-fewer, at_nothing, image_of-nothing, position_of-nothing, position_of-push, txid_of}
@@ -34,11 +35,11 @@ Allowed-more tree more store extends allowed = record {
   marked = allowed.marked;
 }
 
-change_of : (file : Ltx) → IsSound file → IsChange file.change
-change_of file sound = sound.format.block.pages
+change_of : (file : Ltx) → IsFile file → IsChange file.change
+change_of file sound = sound.block.pages
 
-commit-small : (file : Ltx) → IsSound file → file.change.commit < 2 ^ 32
-commit-small file sound = rw sound.format.block.commit sound.format.header.widths.commit
+commit-small : (file : Ltx) → IsFile file → file.change.commit < 2 ^ 32
+commit-small file sound = rw sound.block.commit sound.header.widths.commit
 
 not_marked : {T : Type 0} → false ≡ true → T
 not_marked same = cc
@@ -139,7 +140,7 @@ commit-leads tree store file one allowed can line stands position =
     let image : SameImage (image_of line) store.image =
     one line allowed.named.lineage stands allowed.named.stands (position ∙ sym allowed.named.position_is) ∙ allowed.named.image_is in
     let count : length line ≡ file.header.min - 1 = sym (txid_of line) ∙ ap (λ (p : Pos). p.txid) (position ∙ sym can.1.next) in
-    let some : 1 ≤ file.header.min = can.0.format.header.min in
+    let some : 1 ≤ file.header.min = can.0.header.min in
     let txid : length line + 1 ≡ file.header.max = omega (arith, count, can.2, some) in
     let sum : image_sum (apply (image_of line) file.change) ≡ file.post = ap image_sum (apply-same (image_of line) store.image file.change image) ∙ can.1.sum in
     position_of-push line file.change ∙ pos_of_parts (record { txid = length line + 1; sum = image_sum (apply (image_of line) file.change) }) (after file) txid sum
@@ -230,6 +231,6 @@ snapshot-of_tree tree store never allowed some =
       sum = ap (λ (i : DatabaseImage). sum_after i (snapshot_of store)) image_of-nothing ∙ whole-sum store.image allowed.image ∙ sym (allowed.sum some);
     }
 
-pub owed-sendable : (tree : List Lineage) {store : StoreState} {position : Pos} {file : Ltx} → Contains tree [] → IsAllowed tree store → IsSound file → Owes store position file → IsSendable tree file
+pub owed-sendable : (tree : List Lineage) {store : StoreState} {position : Pos} {file : Ltx} → Contains tree [] → IsAllowed tree store → IsFile file → Owes store position file → IsSendable tree file
 owed-sendable tree {file = f} never allowed sound (by_file here joins) = allowed.files f here
 owed-sendable tree {store = s} never allowed sound (by_snapshot some lacks) = record { of_tree = snapshot-of_tree tree s never allowed some; sound = sound }

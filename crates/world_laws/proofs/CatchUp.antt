@@ -7,11 +7,12 @@ use Rattle.byte_locks.specs.declared.lock_id.LockId.{LockId}
 use Rattle.lf_sqlite_pages.specs.Image.{DatabaseImage, IsImage, SameImage}
 use Rattle.lf_sqlite_pages.specs.Apply.{apply, Fits}
 use Rattle.ltx_codec.specs.declared.file.Ltx.{Ltx}
+use Rattle.ltx_codec.specs.Positions.{Joins, after, before, nowhere}
+use Rattle.ltx_codec.specs.Sums.{image_sum}
 use Rattle.world_laws.specs.Answers.{AnswersDrop, AnswersFrame, AnswersHello, Knows, LeavesUndone, Owes, by_file, by_snapshot, call_of, snapshot_of}
 use Rattle.world_laws.specs.CatchUpLaw.{AnswersByWhole, DropInstalls, IsFreeRefusal, IsHeldBack, IsWhole, SentFileApplies, SnapshotInstalls}
 use Rattle.world_laws.specs.Lineage.{Lineage, Suits, image_of, position_of}
 use Rattle.world_laws.specs.Node.{Answer, Applied, BadFile, Broken, Disk, Gone, Held, Item, Level, Limit, NoMemory, NodeState, NotNext, NotPrimary, NotReplica, PageSize, Primary, Refused, Role, SumDiffers}
-use Rattle.world_laws.specs.Positions.{Joins, after, before, image_sum, nowhere}
 use Rattle.world_laws.specs.Premises.{OneImagePerPosition}
 use Rattle.world_laws.specs.Safe.{IsAllowed, IsSafe, IsSendable}
 use Rattle.world_laws.specs.Served.{HoldsBack}
@@ -82,8 +83,8 @@ frame-answered old new role from did failed (Applied position) tree may valid no
     inr (inl (ap (λ (p : Pos). Applied p) (answers.2 ∙ here), here, image))
 frame-answered old new role from did failed (Held which) tree may valid not_primary store rose undone answers = inl (held-back old new which did answers store undone)
 frame-answered old new role from did failed (Refused NotReplica) tree may valid not_primary store rose undone answers = absurd (not_primary answers)
-frame-answered old new role from did failed (Refused BadFile) tree may valid not_primary store rose undone answers = absurd (answers may.sound.format)
-frame-answered old new role from did failed (Refused Limit) tree may valid not_primary store rose undone answers = absurd (answers may.sound.limit)
+frame-answered old new role from did failed (Refused BadFile) tree may valid not_primary store rose undone answers = absurd (answers may.sound)
+frame-answered old new role from did failed (Refused Limit) tree may valid not_primary store rose undone answers = absurd (answers may.sound.header.commit)
 frame-answered old new role from did failed (Refused NotNext) tree may valid not_primary store rose undone answers = absurd (answers.0 (snapshot-first from))
 frame-answered old new role from did failed (Refused PageSize) tree may valid not_primary store rose undone answers = absurd (answers.0 (snapshot-first from))
 frame-answered old new role from did failed (Refused SumDiffers) tree may valid not_primary store rose undone answers = absurd (answers.0 (snapshot-first from))
@@ -165,8 +166,8 @@ sent-answered old new role file did failed (Applied position) tree may not_prima
     inr (inl (ap (λ (p : Pos). Applied p) (answers.2 ∙ here), here))
 sent-answered old new role file did failed (Held which) tree may not_primary joins store rose undone answers = inl (held-back old new which did answers store undone)
 sent-answered old new role file did failed (Refused NotReplica) tree may not_primary joins store rose undone answers = absurd (not_primary answers)
-sent-answered old new role file did failed (Refused BadFile) tree may not_primary joins store rose undone answers = absurd (answers may.sound.format)
-sent-answered old new role file did failed (Refused Limit) tree may not_primary joins store rose undone answers = absurd (answers may.sound.limit)
+sent-answered old new role file did failed (Refused BadFile) tree may not_primary joins store rose undone answers = absurd (answers may.sound)
+sent-answered old new role file did failed (Refused Limit) tree may not_primary joins store rose undone answers = absurd (answers may.sound.header.commit)
 sent-answered old new role file did failed (Refused NotNext) tree may not_primary joins store rose undone answers = absurd (answers.1 joins.next)
 sent-answered old new role file did failed (Refused PageSize) tree may not_primary joins store rose undone answers = absurd (answers.1 joins.fits)
 sent-answered old new role file did failed (Refused SumDiffers) tree may not_primary joins store rose undone answers = absurd (answers.1 joins.sum)

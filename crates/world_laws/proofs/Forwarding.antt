@@ -4,12 +4,12 @@ use Rattle.std.specs.List.{Contains}
 use Rattle.std.proofs.lemmas.List.Elements.{Contains-append_left, Contains-append_cases, Contains-push_cases}
 use Rattle.lf_base.specs.declared.pos.Pos.{Pos}
 use Rattle.ltx_codec.specs.declared.file.Ltx.{Ltx}
+use Rattle.ltx_codec.specs.Positions.{after, before}
 use Rattle.world_laws.specs.Answers.{AnswersForwarded, LeavesUndone}
 use Rattle.world_laws.specs.Events.{Event, Grants, Happens, IsStart, Loses, Opens, Renews, Runs, Steps, Turns, ends, goes}
 use Rattle.world_laws.specs.ForwardLaw.{ForwardedStands, LeavesFiles, RefusalLeaves, SendLeaves, WasAccepted}
 use Rattle.world_laws.specs.Lineage.{Lineage, position_of}
 use Rattle.world_laws.specs.Node.{Answer, Applied, Ask, Done, Forward, Forwarded, NodeState, Refused, Role}
-use Rattle.world_laws.specs.Positions.{after, before}
 use Rattle.world_laws.specs.Premises.{OneImagePerPosition}
 use Rattle.world_laws.specs.Safe.{IsAllowed, IsSafe}
 use Rattle.world_laws.specs.Store.{CanDoAll, Commit, Failure, StoreCall, StoreState, all_done, at, begun_by}

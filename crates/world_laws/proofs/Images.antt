@@ -1,29 +1,17 @@
 -- Images that a change makes, and the changes that fit an image.
-use Rattle.std.proofs.Common.{◌≡◌, ℕ, ◌<◌, ◌^◌, List, [], ◌∷◌, length, inl, inr, sym, ap, refl, subst, ◌∙◌, ◌⊎◌, arith, ◌≢◌, ◌+◌, ◌-◌, ◌≤◌, Bool, true, false, ◌++◌, Option, Some, None, IsSome}
+use Rattle.std.proofs.Common.{◌≡◌, ◌⊎◌, ℕ, List, [], ◌∷◌, length, inl, inr, sym, refl, subst, ◌∙◌}
 use Rattle.std.specs.List.{All}
 use Rattle.std.proofs.lemmas.List.Elements.{All-head, All-nil}
-use Rattle.lf_sqlite_pages.specs.Image.{DatabaseImage, IsImage, empty_image, SameImage}
-use Rattle.lf_sqlite_pages.specs.Change.{PageChange, IsChange}
-use Rattle.lf_sqlite_pages.specs.Apply.{apply, Fits}
-use Rattle.lf_sqlite_pages.specs.Steps.{kept}
-use Rattle.lf_sqlite_pages.proofs.Applying.{apply-by_steps}
-use Rattle.lf_sqlite_pages.proofs.PlacingLemmas.{whole-kept, IsImage-after}
+use Rattle.lf_sqlite_pages.specs.Image.{DatabaseImage, IsImage, empty_image}
+use Rattle.lf_sqlite_pages.specs.Change.{PageChange}
+use Rattle.lf_sqlite_pages.specs.Apply.{Fits}
+use Rattle.lf_sqlite_pages.proofs.Images.{IsImage-no_pages}
 use Rattle.world_laws.specs.Lineage.{Suits}
-
-pub apply-same : (one other : DatabaseImage) (change : PageChange) → SameImage one other → apply one change ≡ apply other change
-apply-same one other change same = ap (λ (pages : List (List ℕ)). apply (record { page_size = 0; pages = pages }) change) same
-
-pub IsImage-apply : (image : DatabaseImage) (change : PageChange) → IsImage image → IsChange change → Fits image change → change.commit < 2 ^ 32 → IsImage (apply image change)
-IsImage-apply image change whole valid fits few =
-    IsImage-after change (kept image.page_size image.pages change.page_size) (apply image change).pages change.page_size valid few refl
-    (whole-kept image.page_size change.page_size image.pages whole.whole) (sym (apply-by_steps image change valid fits))
+pub use Rattle.lf_sqlite_pages.proofs.Images.{IsImage-apply}
+pub use Rattle.lf_sqlite_pages.proofs.DataWrites.{apply-same}
 
 pub IsImage-empty : IsImage empty_image
-IsImage-empty = record {
-  of_a_page_size = λ some. absurd (omega (arith, some));
-  whole = All-nil (λ page. length page ≡ 0);
-  numbered = omega arith;
-}
+IsImage-empty = IsImage-no_pages [] refl
 
 -- what fits an image suits its pages
 pub suits-of : (image : DatabaseImage) (change : PageChange) → IsImage image → Fits image change → Suits image.pages change

@@ -3,14 +3,14 @@ use Rattle.std.proofs.Common.{◌≡◌, ℕ, ◌+◌, ◌-◌, ◌<◌, ◌≤�
 use Rattle.std.specs.List.{slice_get, Contains, range_with_len}
 use Rattle.std.proofs.lemmas.List.Sums.{fold-append}
 use Rattle.std.proofs.lemmas.Bool.Decides.{nat_tests}
-use Rattle.page_checksum.specs.Sums.{database_sum}
 use Rattle.lf_base.specs.declared.pos.Pos.{Pos}
 use Rattle.lf_sqlite_pages.specs.Image.{DatabaseImage, empty_image, SameImage}
 use Rattle.lf_sqlite_pages.specs.Change.{PageChange, written}
 use Rattle.lf_sqlite_pages.specs.Apply.{apply}
 use Rattle.ltx_codec.specs.declared.file.Ltx.{Ltx}
+use Rattle.ltx_codec.specs.Positions.{after, before, nowhere}
+use Rattle.ltx_codec.specs.Sums.{image_sum}
 use Rattle.world_laws.specs.Lineage.{IsCommitted, IsOfTree, Lineage, Names, image_of, position_at, position_of}
-use Rattle.world_laws.specs.Positions.{after, before, image_sum, nowhere}
 use Rattle.world_laws.specs.Premises.{OneImagePerPosition}
 use Rattle.world_laws.proofs.Images.{apply-same}
 

@@ -1,39 +1,61 @@
 -- The file of a whole image makes that image of nothing.
-use Rattle.page_checksum.specs.Sums.{database_sum}
-use Rattle.std.proofs.Common.{◌≡◌, ℕ, suc, zero, ◌+◌, ◌-◌, ◌<◌, eqb, true, false, Some, List, [], ◌∷◌, length, get_or, map, replicate, refl, ap, ◌∙◌, arith, unwrap_or, ◌≢◌, ◌⊎◌, ◌≤◌, ◌^◌, Bool, ◌++◌, Option, None, IsSome, inl, inr, sym, subst}
-use Rattle.std.specs.List.{slice_get, range_with_len}
+use Rattle.std.proofs.Common.{◌≡◌, ℕ, ◌+◌, ◌-◌, ◌<◌, ◌≤◌, replicate, unwrap_or, Some, List, length, get_or, map, inl, inr, refl, sym, ap, ◌∙◌, arith}
+use Rattle.std.specs.List.{range_with_len}
 use Rattle.std.proofs.lemmas.List.{same_lists}
 use Rattle.std.proofs.lemmas.List.FromFn.{length-map-range_with_len, get_or-map-range_with_len}
-use Rattle.std.proofs.lemmas.Bool.Decides.{nat_tests}
+use Rattle.std.proofs.lemmas.Bool.{cases_eq}
 use Rattle.std.proofs.lemmas.Option.{slice_get-get_or}
-use Rattle.lf_sqlite_pages.specs.Image.{DatabaseImage, empty_image, SameImage, IsImage}
+use Rattle.lf_sqlite_pages.specs.Image.{DatabaseImage, IsImage, empty_image, SameImage, page_at}
+use Rattle.lf_sqlite_pages.specs.LockPage.{lock_page_of, IsDataPage}
 use Rattle.lf_sqlite_pages.specs.Change.{PageChange, written}
 use Rattle.lf_sqlite_pages.specs.Apply.{apply, page_after}
-use Rattle.world_laws.specs.Positions.{data_writes, image_sum, whole_from}
-
-written-whole : (number : ℕ) (pages : List (List ℕ)) (k n : ℕ) → number + k ≡ n → written (whole_from number pages) n ≡ slice_get pages k
-written-whole number [] k n is = refl
-written-whole number (page ∷ pages) zero n is =
-    let test : eqb number n ≡ true = grind (arith, nat_tests) in
-    rw test
-written-whole number (page ∷ pages) (suc k) n is =
-    let test : eqb number n ≡ false = grind (arith, nat_tests) in
-    rw test (written-whole (number + 1) pages k n (omega arith))
+use Rattle.lf_sqlite_pages.specs.Writes.{data_writes, data_page_at}
+use Rattle.lf_sqlite_pages.proofs.PageNumbers.{page_at-first}
+use Rattle.lf_sqlite_pages.proofs.Writes.{written-writes_of}
+use Rattle.lf_sqlite_pages.proofs.DataWrites.{data_page_at-data}
+use Rattle.lf_sqlite_pages.proofs.Laws.{page_after-data, page_after-lock_page}
+use Rattle.ltx_codec.specs.Sums.{image_sum}
 
 -- the change of a snapshot
 abbrev pub whole_change : DatabaseImage → PageChange
 whole_change image = record { page_size = image.page_size; commit = length image.pages; pages = data_writes image }
 
+-- a page that an image has
+pub page_there : (image : DatabaseImage) (n : ℕ) (d : List ℕ) → 1 ≤ n → n ≤ length image.pages → page_at image n ≡ Some (get_or image.pages (n - 1) d)
+page_there image n d low high = page_at-first image n low ∙ slice_get-get_or image.pages (n - 1) d (omega (arith, low, high))
+
+-- what a snapshot writes at a data page
+pub written-data : (image : DatabaseImage) (n : ℕ) (d : List ℕ) → 1 ≤ n → n ≤ length image.pages → IsDataPage image.page_size n →
+    written (data_writes image) n ≡ Some (get_or image.pages (n - 1) d)
+written-data image n d low high data_page =
+    written-writes_of (data_page_at image) (length image.pages) n low high ∙ data_page_at-data image n data_page ∙ page_there image n d low high
+
+pub some_alike : (one other : List ℕ) → Some one ≡ Some other → one ≡ other
+some_alike one other same = cc
+
+-- page n of what a snapshot makes
+made_page : (image : DatabaseImage) (n : ℕ) (d : List ℕ) → IsImage image → 1 ≤ n → n ≤ length image.pages → page_after empty_image (whole_change image) n ≡ get_or image.pages (n - 1) d
+made_page image n d valid low high = elim (cases_eq n (lock_page_of image.page_size)) [
+  | inl here ↦
+      let blank = valid.blank (omega (arith, here, high)) in
+      let there : page_at image (lock_page_of image.page_size) ≡ Some (get_or image.pages (n - 1) d) = ap (page_at image) (sym here) ∙ page_there image n d low high in
+      ap (page_after empty_image (whole_change image)) here ∙ page_after-lock_page empty_image (whole_change image) ∙ some_alike _ (get_or image.pages (n - 1) d) (sym blank ∙ there)
+  | inr data_page ↦
+      page_after-data empty_image (whole_change image) n data_page
+      ∙ ap (λ o. unwrap_or o (unwrap_or (page_at empty_image n) (replicate image.page_size 0))) (written-data image n d low high data_page)
+]
+
+behind : (k : ℕ) → 1 + k - 1 ≡ k
+behind k = omega arith
+
 pub whole-same : (image : DatabaseImage) → IsImage image → SameImage (apply empty_image (whole_change image)) image
 whole-same image valid =
-    let change : PageChange = whole_change image in
-    let f : ℕ → List ℕ = page_after empty_image change in
-    let count : length (map f (range_with_len 1 change.commit)) ≡ length image.pages = length-map-range_with_len f 1 change.commit in
-    same_lists (map f (range_with_len 1 change.commit)) image.pages count (λ k d h.
-    let within : k < length image.pages = omega (arith, length-map-range_with_len f 1 change.commit) in
-    let wrote : written change.pages (1 + k) ≡ Some (get_or image.pages k d) =
-    written-whole 1 image.pages k (1 + k) refl ∙ slice_get-get_or image.pages k d within in
-    get_or-map-range_with_len f 1 change.commit k (1 + k) d (omega arith) refl ∙ ap (λ o. unwrap_or o (unwrap_or (slice_get empty_image.pages (1 + k - 1)) (replicate change.page_size 0))) wrote)
+    let f : ℕ → List ℕ = page_after empty_image (whole_change image) in
+    let count : length (map f (range_with_len 1 (length image.pages))) ≡ length image.pages = length-map-range_with_len f 1 (length image.pages) in
+    same_lists (map f (range_with_len 1 (length image.pages))) image.pages count (λ k d h.
+    let within : k < length image.pages = omega (arith, count, h) in
+    get_or-map-range_with_len f 1 (length image.pages) k (1 + k) d within refl ∙ made_page image (1 + k) d valid (omega arith) (omega (arith, within))
+    ∙ ap (λ (i : ℕ). get_or image.pages i d) (behind k))
 
 pub whole-sum : (image : DatabaseImage) → IsImage image → image_sum (apply empty_image (whole_change image)) ≡ image_sum image
-whole-sum image valid = ap database_sum (whole-same image valid)
+whole-sum image valid = ap (λ (pages : List (List ℕ)). image_sum (record { page_size = image.page_size; pages = pages })) (whole-same image valid)

@@ -5,7 +5,7 @@ use Rattle.std.proofs.lemmas.List.Sums.{fold-append}
 use Rattle.std.proofs.lemmas.List.Elements.{All-contains_itself, All-drop, All-contains}
 use Rattle.lf_base.specs.declared.pos.Pos.{Pos}
 use Rattle.ltx_codec.specs.declared.file.Ltx.{Ltx}
-use Rattle.world_laws.specs.Positions.{after, before, nowhere}
+use Rattle.ltx_codec.specs.Positions.{after, before, nowhere}
 use Rattle.world_laws.specs.Store.{LeadTo, end_of}
 
 pub end_of-push : (log : List Ltx) (file : Ltx) → end_of (log ++ file ∷ []) ≡ after file

@@ -7,17 +7,19 @@ use Rattle.lf_base.specs.declared.pos.Pos.{Pos}
 use Rattle.lf_sqlite_pages.specs.Image.{DatabaseImage, SameImage, empty_image, IsImage}
 use Rattle.lf_sqlite_pages.specs.Change.{PageChange}
 use Rattle.lf_sqlite_pages.specs.Apply.{apply, Fits}
+use Rattle.ltx_codec.specs.Format.{IsFile}
 use Rattle.ltx_codec.specs.declared.file.Ltx.{Ltx}
+use Rattle.ltx_codec.specs.Positions.{Joins, after, nowhere, sum_after}
+use Rattle.ltx_codec.specs.Sums.{image_sum}
 use Rattle.world_laws.specs.Answers.{Knows, by_file, by_snapshot, call_of, snapshot_of}
 use Rattle.world_laws.specs.Events.{Leases, Reopens, Turns, ends, goes}
 use Rattle.world_laws.specs.Lineage.{Lineage, image_of, position_of}
 use Rattle.world_laws.specs.Node.{Applied, Disk, Done, Drop, File, Forward, Forwarded, Frame, Gone, Halted, Hello, Item, NodeState, Permit, Primary, Refused, Replica, Send}
-use Rattle.world_laws.specs.Positions.{Joins, after, image_sum, nowhere, sum_after}
 use Rattle.world_laws.specs.Premises.{OneImagePerPosition}
 use Rattle.world_laws.specs.Scenario.{IsFirst, IsSecond, SomethingHappens, store_of}
 use Rattle.world_laws.specs.Served.{untouched}
 use Rattle.world_laws.specs.Step.{Makes, accepts, commits, drops, finishes, nothing, takes, unlinks}
-use Rattle.world_laws.specs.Store.{Apply, CanDo, Commit, DropAll, FailedIn, Install, IsSound, StoreCall, StoreState, at, dropped_store, empty_store, installed, with_file}
+use Rattle.world_laws.specs.Store.{Apply, CanDo, Commit, DropAll, FailedIn, Install, StoreCall, StoreState, at, dropped_store, empty_store, installed, with_file}
 use Rattle.world_laws.specs.World.{Act, Committed, Departed, DropFrame, FileFrame, Grown, SentFrame, World}
 use Rattle.world_laws.proofs.Calls.{pos_of_parts}
 use Rattle.world_laws.proofs.CatchUp.{snapshot-end, snapshot-first, snapshot-image}
@@ -129,7 +131,7 @@ copy_of file = installed (snapshot_of (store_of file))
 copy-at : (file : Ltx) → at (copy_of file) ≡ after file
 copy-at file = snapshot-end (store_of file) ∙ at-first file
 
-snapshot-sent : (file : Ltx) → IsFirst file → IsSound (snapshot_of (store_of file))
+snapshot-sent : (file : Ltx) → IsFirst file → IsFile (snapshot_of (store_of file))
 snapshot-sent file first = snapshot-sound (store_of file) first.full
 
 -- a first file joins an empty store
@@ -171,7 +173,7 @@ sends-file file first =
     made Primary Primary Primary (store_of file) (store_of file) None None (Hello nowhere) (Item file) [] nothing tt refl
     (refl, by_file (Contains-push [] file) first.joins.next, first.sound) tt
 
-installs : (file : Ltx) (old : StoreState) → IsSound file → file.header.min ≡ 1 → (position : Pos) → at (installed file) ≡ position →
+installs : (file : Ltx) (old : StoreState) → IsFile file → file.header.min ≡ 1 → (position : Pos) → at (installed file) ≡ position →
     Made (node Replica old None) (node Replica (installed file) None) (Frame file) (Applied position) (Install file ∷ []) None
 installs file old sound first position here =
     made Replica Replica Replica old (installed file) None None (Frame file) (Applied position) (Install file ∷ [])

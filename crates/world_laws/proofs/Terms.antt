@@ -6,7 +6,7 @@ use Rattle.std.proofs.lemmas.Bool.{cases_eq}
 use Rattle.std.proofs.lemmas.Bool.Decides.{nat_tests}
 use Rattle.lf_base.specs.declared.pos.Pos.{Pos}
 use Rattle.ltx_codec.specs.declared.file.Ltx.{Ltx}
-use Rattle.world_laws.specs.Positions.{after}
+use Rattle.ltx_codec.specs.Positions.{after}
 use Rattle.world_laws.specs.Premises.{CommitsAsHolder}
 use Rattle.world_laws.specs.Safe.{IsAtTip, IsLed}
 use Rattle.world_laws.specs.Store.{Apply, CanDo, CanDoAll, Commit, DropAll, Install, PruneTo, StoreCall, StoreState, all_done, at, done, dropped_store, with_file}

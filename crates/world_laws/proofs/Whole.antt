@@ -4,11 +4,11 @@ use Rattle.std.specs.List.{Contains}
 use Rattle.std.proofs.lemmas.List.Elements.{Contains-push, Contains-append_cases, Contains-push_cases}
 use Rattle.std.proofs.lemmas.Bool.{cases_eq}
 use Rattle.ltx_codec.specs.declared.file.Ltx.{Ltx}
+use Rattle.ltx_codec.specs.Positions.{before}
 use Rattle.world_laws.specs.Answers.{Answers}
 use Rattle.world_laws.specs.Events.{Event, Grants, Happens, IsStart, Leases, Loses, Opens, Renews, Reopens, Runs, Steps, Turns, ends, goes}
 use Rattle.world_laws.specs.Lineage.{IsCommitted, Lineage}
 use Rattle.world_laws.specs.Node.{Answer, Applied, Ask, Forward, Gone, Hello, IsSoundNode, Item, NodeState, Role}
-use Rattle.world_laws.specs.Positions.{before}
 use Rattle.world_laws.specs.Premises.{OneImagePerPosition}
 use Rattle.world_laws.specs.Safe.{IsAllowed, IsAtTip, IsPending, IsSafe, IsSafeNode, IsSendable}
 use Rattle.world_laws.specs.SafetyLaw.{ImagesAreOfPositions, OnlyHoldersCommit, SafeKept}

@@ -6,10 +6,11 @@ use Rattle.lf_sqlite_pages.specs.LockPage.{IsWithinLimit}
 use Rattle.lf_sqlite_pages.specs.Apply.{Fits}
 use Rattle.ltx_codec.specs.declared.file.Ltx.{Ltx}
 use Rattle.ltx_codec.specs.Format.{IsFile}
+use Rattle.ltx_codec.specs.Positions.{after, before, nowhere, sum_after}
+use Rattle.lf_sqlite_pages.specs.Writes.{data_writes}
 use Rattle.world_laws.specs.Node.{Answer, Applied, Ask, BadFile, Broken, Disk, Done, Drop, File, Forward, Forwarded, Frame, Gone, Halted, Held, Hello, Item, Level, Limit, NoMemory, NodeState, NotNext, NotPrimary, NotReplica, PageSize, Primary, Refusal, Refused, Role, Send, SumDiffers}
-use Rattle.world_laws.specs.Positions.{after, before, data_writes, nowhere, sum_after}
 use Rattle.world_laws.specs.Served.{HoldsBack}
-use Rattle.world_laws.specs.Store.{Apply, Commit, DropAll, Failure, Install, IsSound, StoreCall, StoreState, at}
+use Rattle.world_laws.specs.Store.{Apply, Commit, DropAll, Failure, Install, StoreCall, StoreState, at}
 
 -- the file from the beginning to a store's position that writes every page
 unfoldable pub snapshot_of : StoreState → Ltx
@@ -51,7 +52,7 @@ pub data Owes : StoreState → Pos → Ltx → Type 0 where
 -- a follower that is level, the file that is owed, word of the drop, or the cause why there is none
 abbrev pub AnswersHello : NodeState → NodeState → Role → Pos → Answer → Type 0
 AnswersHello old new role position (Level here) = (role ≡ Primary) × (here ≡ at old.store) × ((position ≡ here) ⊎ IsBlank old.store)
-AnswersHello old new role position (Item file) = (role ≡ Primary) × Owes old.store position file × IsSound file
+AnswersHello old new role position (Item file) = (role ≡ Primary) × Owes old.store position file × IsFile file
 AnswersHello old new role position Gone = (role ≡ Primary) × (old.store.dropped ≡ true) × (position ≢ at old.store)
 AnswersHello old new role position (Refused NotPrimary) = role ≢ Primary
 AnswersHello old new role position (Refused Disk) = Rose old.faults new.faults

@@ -7,10 +7,10 @@ use Rattle.lf_base.specs.Faults.{Rose}
 use Rattle.byte_locks.specs.declared.lock_id.LockId.{LockId}
 use Rattle.lf_sqlite_pages.specs.Image.{IsImage, SameImage}
 use Rattle.ltx_codec.specs.declared.file.Ltx.{Ltx}
+use Rattle.ltx_codec.specs.Positions.{after, before, nowhere}
 use Rattle.world_laws.specs.Answers.{Knows, snapshot_of}
 use Rattle.world_laws.specs.Events.{Happens, Steps}
 use Rattle.world_laws.specs.Node.{Answer, Applied, Broken, Disk, Drop, Frame, Gone, Held, Hello, Item, NoMemory, NodeState, Primary, Refused}
-use Rattle.world_laws.specs.Positions.{after, before, nowhere}
 use Rattle.world_laws.specs.Premises.{OneImagePerPosition}
 use Rattle.world_laws.specs.Safe.{IsSafe}
 use Rattle.world_laws.specs.Served.{HoldsBack}

@@ -4,11 +4,11 @@ use Rattle.std.specs.Prelude.{◌≡◌, ◌≢◌, ℕ, true, List, [], ◌∷�
 use Rattle.lf_base.specs.declared.pos.Pos.{Pos}
 use Rattle.lf_sqlite_pages.specs.Image.{SameImage}
 use Rattle.ltx_codec.specs.declared.file.Ltx.{Ltx}
+use Rattle.ltx_codec.specs.Positions.{after}
 use Rattle.world_laws.specs.Answers.{ServesTheSame}
 use Rattle.world_laws.specs.Events.{Event, Happens, IsStart, Runs, Steps}
 use Rattle.world_laws.specs.Lineage.{Lineage, image_of, position_of}
 use Rattle.world_laws.specs.Node.{Answer, Applied, Done, File, Forward, Forwarded, NodeState, Send}
-use Rattle.world_laws.specs.Positions.{after}
 use Rattle.world_laws.specs.Premises.{OneImagePerPosition}
 use Rattle.world_laws.specs.Step.{StepFacts}
 use Rattle.world_laws.specs.Store.{at}

@@ -1,4 +1,3 @@
-pub mod Positions
 pub mod Lineage
 pub mod Store
 pub mod Served

@@ -10,7 +10,8 @@ use Rattle.lf_sqlite_pages.specs.Image.{DatabaseImage, empty_image, SameImage}
 use Rattle.lf_sqlite_pages.specs.Change.{PageChange, HoldsEveryPage}
 use Rattle.lf_sqlite_pages.specs.Apply.{apply}
 use Rattle.ltx_codec.specs.declared.file.Ltx.{Ltx}
-use Rattle.world_laws.specs.Positions.{after, before, image_sum, nowhere, sum_after}
+use Rattle.ltx_codec.specs.Positions.{after, before, nowhere, sum_after}
+use Rattle.ltx_codec.specs.Sums.{image_sum}
 
 -- what was committed to a database, one transaction after another
 abbrev pub Lineage : Type 0

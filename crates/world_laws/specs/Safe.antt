@@ -9,18 +9,19 @@
 use Rattle.std.specs.Prelude.{◌≡◌, ℕ, ◌≤◌, true, List, [], length, Contains, Option, None, Some, IfSome}
 use Rattle.lf_base.specs.declared.pos.Pos.{Pos}
 use Rattle.lf_sqlite_pages.specs.Image.{IsImage}
+use Rattle.ltx_codec.specs.Format.{IsFile}
 use Rattle.ltx_codec.specs.declared.file.Ltx.{Ltx}
+use Rattle.ltx_codec.specs.Sums.{image_sum}
 use Rattle.world_laws.specs.Lineage.{IsCommitted, IsOfTree, Lineage, Names}
 use Rattle.world_laws.specs.Node.{IsSoundNode, NodeState}
-use Rattle.world_laws.specs.Positions.{image_sum}
-use Rattle.world_laws.specs.Store.{Apply, CanDo, Commit, FailedBefore, FailedIn, Failure, Install, IsSound, LeadTo, StoreCall, StoreState, at}
+use Rattle.world_laws.specs.Store.{Apply, CanDo, Commit, FailedBefore, FailedIn, Failure, Install, LeadTo, StoreCall, StoreState, at}
 use Rattle.world_laws.specs.Terms.{AreInLine, holder_of, tip}
 use Rattle.world_laws.specs.World.{Act, FileFrame, World}
 
 -- a file that may be sent
 pub record IsSendable (tree : List Lineage) (file : Ltx) : Type 0 where
   pub of_tree : IsOfTree tree file
-  pub sound : IsSound file
+  pub sound : IsFile file
 
 -- a store that may stand at a node
 pub record IsAllowed (tree : List Lineage) (store : StoreState) : Type 0 where

@@ -7,21 +7,22 @@
 -- again. It gets a write permit, sends a commit to node 2, which accepts it, and is told so. Last, node 2 drops the
 -- database, tells a follower so, and node 1 drops it too.
 use Rattle.std.specs.Prelude.{◌≡◌, ◌≢◌, List, [], ◌∷◌, true}
+use Rattle.ltx_codec.specs.Format.{IsFile}
 use Rattle.ltx_codec.specs.declared.file.Ltx.{Ltx}
 use Rattle.lf_sqlite_pages.specs.Apply.{apply}
 use Rattle.lf_sqlite_pages.specs.Image.{empty_image}
+use Rattle.ltx_codec.specs.Positions.{Joins, after, nowhere}
 use Rattle.world_laws.specs.Answers.{snapshot_of}
 use Rattle.world_laws.specs.Events.{Event, Grants, IsStart, Loses, Opens, Renews, Runs, Steps}
 use Rattle.world_laws.specs.Node.{Applied, Disk, Done, Drop, File, Forward, Forwarded, Frame, Gone, Hello, Item, Permit, Refused, Send}
-use Rattle.world_laws.specs.Positions.{Joins, after, nowhere}
 use Rattle.world_laws.specs.Premises.{OneImagePerPosition}
 use Rattle.world_laws.specs.SnapshotLaw.{IsFullStore}
-use Rattle.world_laws.specs.Store.{IsSound, StoreState, empty_store, with_file}
+use Rattle.world_laws.specs.Store.{StoreState, empty_store, with_file}
 use Rattle.world_laws.specs.World.{World}
 
 -- the first file of a database, whose snapshot is a file too
 pub record IsFirst (file : Ltx) : Type 0 where
-  pub sound : IsSound file
+  pub sound : IsFile file
   pub joins : Joins empty_image nowhere file
   pub min : file.header.min ≡ 1
   pub max : file.header.max ≡ 1
@@ -29,7 +30,7 @@ pub record IsFirst (file : Ltx) : Type 0 where
 
 -- the file that comes after it
 pub record IsSecond (first file : Ltx) : Type 0 where
-  pub sound : IsSound file
+  pub sound : IsFile file
   pub joins : Joins (apply empty_image first.change) (after first) file
   pub min : file.header.min ≡ 2
   pub max : file.header.max ≡ 2

@@ -6,11 +6,10 @@
 use Rattle.std.specs.Prelude.{◌≡◌, ◌⊎◌, ℕ, ◌-◌, ◌≤◌, Bool, true, false, List, [], ◌∷◌, ◌++◌, length, fold, drop, Option, Some, None}
 use Rattle.lf_base.specs.declared.pos.Pos.{Pos}
 use Rattle.lf_sqlite_pages.specs.Image.{DatabaseImage, empty_image}
-use Rattle.lf_sqlite_pages.specs.LockPage.{IsWithinLimit}
 use Rattle.lf_sqlite_pages.specs.Apply.{apply}
 use Rattle.ltx_codec.specs.declared.file.Ltx.{Ltx}
 use Rattle.ltx_codec.specs.Format.{IsFile}
-use Rattle.world_laws.specs.Positions.{Joins, after, before, nowhere}
+use Rattle.ltx_codec.specs.Positions.{Joins, after, before, nowhere}
 
 pub record StoreState : Type 0 where
   pub image : DatabaseImage
@@ -38,11 +37,6 @@ abbrev pub LeadTo : Pos → List Ltx → Pos → Type 0
 LeadTo start [] end = start ≡ end
 LeadTo start (file ∷ files) end = (before file ≡ start) × LeadTo (after file) files end
 
--- a file of the format, and of a database within the limits
-pub record IsSound (file : Ltx) : Type 0 where
-  pub format : IsFile file
-  pub limit : IsWithinLimit file.header.page_size file.header.commit
-
 -- a call that changes a store
 pub data StoreCall : Type 0 where
   Commit : Ltx → StoreCall  -- a transaction that no store had, published as this file
@@ -53,9 +47,9 @@ pub data StoreCall : Type 0 where
 
 -- what a store sees to before it publishes anything
 abbrev pub CanDo : StoreState → StoreCall → Type 0
-CanDo store (Commit file) = IsSound file × Joins store.image (at store) file × (file.header.max ≡ file.header.min)
-CanDo store (Apply file) = IsSound file × Joins store.image (at store) file
-CanDo store (Install file) = IsSound file × (file.header.min ≡ 1)
+CanDo store (Commit file) = IsFile file × Joins store.image (at store) file × (file.header.max ≡ file.header.min)
+CanDo store (Apply file) = IsFile file × Joins store.image (at store) file
+CanDo store (Install file) = IsFile file × (file.header.min ≡ 1)
 CanDo store (PruneTo keep) = 1 ≤ keep
 CanDo store DropAll = 1 ≤ (at store).txid
 

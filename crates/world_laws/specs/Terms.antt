@@ -1,7 +1,7 @@
 -- Terms of the lease: who may commit in which, and that its commits are one line.
 use Rattle.std.specs.Prelude.{◌≡◌, ℕ, ◌==◌, List, [], ◌∷◌, length, Option, None, Some, IfSome, if◌then◌else◌}
 use Rattle.lf_base.specs.declared.pos.Pos.{Pos}
-use Rattle.world_laws.specs.Positions.{after, before}
+use Rattle.ltx_codec.specs.Positions.{after, before}
 use Rattle.world_laws.specs.World.{Act, Committed, Departed}
 
 -- the node that a term was granted to
