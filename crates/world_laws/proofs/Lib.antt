@@ -10,6 +10,7 @@ pub mod CatchUp
 pub mod Forwarding
 pub mod Images
 pub mod Stopping
+pub mod Actors
 pub mod Scenes
 pub mod Story
 pub mod SnapshotFile

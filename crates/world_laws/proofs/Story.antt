@@ -16,11 +16,12 @@ use Rattle.world_laws.specs.Events.{Leases, Reopens, Turns, ends, goes}
 use Rattle.world_laws.specs.Lineage.{Lineage, image_of, position_of}
 use Rattle.world_laws.specs.Node.{Applied, Disk, Done, Drop, File, Forward, Forwarded, Frame, Gone, Halted, Hello, Item, NodeState, Permit, Primary, Refused, Replica, Send}
 use Rattle.world_laws.specs.Premises.{OneImagePerPosition}
-use Rattle.world_laws.specs.Scenario.{IsFirst, IsSecond, SomethingHappens, store_of}
+use Rattle.world_laws.specs.Scenario.{IsTold, SomethingHappens, first_file, second_file, store_of}
 use Rattle.world_laws.specs.Served.{untouched}
 use Rattle.world_laws.specs.Step.{Makes, accepts, commits, drops, finishes, nothing, takes, unlinks}
 use Rattle.world_laws.specs.Store.{Apply, CanDo, Commit, DropAll, FailedIn, Install, StoreCall, StoreState, at, dropped_store, empty_store, installed, with_file}
 use Rattle.world_laws.specs.World.{Act, Committed, Departed, DropFrame, FileFrame, Grown, SentFrame, World}
+use Rattle.world_laws.proofs.Actors.{IsFirst, IsSecond, first-is, second-is}
 use Rattle.world_laws.proofs.Calls.{pos_of_parts}
 use Rattle.world_laws.proofs.CatchUp.{snapshot-end, snapshot-first, snapshot-image}
 use Rattle.world_laws.proofs.Images.{apply-same}
@@ -225,8 +226,8 @@ drops-too store some =
     made Replica Replica Replica store dropped_store None None Drop (Applied nowhere) (DropAll ∷ []) (drops replica_primary) (some, tt) refl
     (inl (some, refl), refl, refl) tt
 
-pub something_happens-of : SomethingHappens
-something_happens-of lost won next_file l w n differ =
+told : (lost won next_file : Ltx) → IsFirst lost → IsFirst won → IsSecond won next_file → after lost ≢ after won → IsTold lost won next_file
+told lost won next_file l w n differ =
     let back : after won ≢ after lost = λ same. differ (sym same) in
     let a : StoreState = store_of lost in
     let b : StoreState = store_of won in
@@ -370,3 +371,8 @@ something_happens-of lost won next_file l w n differ =
       one_image = one-image lost won next_file l w differ;
       tree = refl;
     }
+
+pub something_happens-of : SomethingHappens
+something_happens-of lost won new l w n differ =
+    told (first_file lost) (first_file won) (second_file won new) (first-is lost l) (first-is won w) (second-is won new w n)
+    (λ same. differ (ap (λ (p : Pos). p.sum) same))
