@@ -1,22 +1,21 @@
 -- The files of a scenario: a first one, and the one after it.
-use Rattle.std.proofs.Common.{◌≡◌, ◌≢◌, ℕ, zero, suc, ◌+◌, ◌-◌, ◌<◌, ◌≤◌, ◌^◌, get_or, bit_xor, IsSome, List, [], ◌∷◌, ◌++◌, length, inl, inr, refl, sym, ap, subst, ◌∙◌, arith}
-use Rattle.std.specs.List.{All}
+use Rattle.std.proofs.Common.{◌≡◌, ◌≢◌, ℕ, zero, suc, ◌<◌, ◌≤◌, ◌^◌, bit_xor, IsSome, List, [], ◌∷◌, length, inl, inr, refl, sym, ap, subst, ◌∙◌, arith}
 use Rattle.std.proofs.lemmas.Nat.{xor_lt, le_or_r}
 use Rattle.std.proofs.lemmas.List.Elements.{All-cons, All-nil}
 use Rattle.lf_base.specs.declared.pos.Pos.{Pos}
 use Rattle.page_checksum.specs.Crc.{crc}
-use Rattle.page_checksum.specs.Sums.{flagged, page_sum_of, joined}
+use Rattle.page_checksum.specs.Sums.{page_sum_of}
 use Rattle.page_checksum.proofs.CrcLemmas.{crc_fits, flagged_fits}
 use Rattle.lf_sqlite_pages.specs.PageSize.{IsPageSize, is_page_size}
 use Rattle.lf_sqlite_pages.specs.LockPage.{lock_page_of, IsDataPage, IsWithinLimit}
 use Rattle.lf_sqlite_pages.specs.Image.{empty_image, IsImage}
-use Rattle.lf_sqlite_pages.specs.Change.{PageChange, IsChange, HoldsEveryPage, written}
+use Rattle.lf_sqlite_pages.specs.Change.{IsChange, HoldsEveryPage, written}
 use Rattle.lf_sqlite_pages.specs.Apply.{apply}
 use Rattle.lf_sqlite_pages.specs.declared.page_write.PageWrite.{PageWrite}
 use Rattle.lf_sqlite_pages.proofs.Laws.{length-apply}
 use Rattle.ltx_codec.specs.Fields.{AreBytes}
 use Rattle.ltx_codec.specs.Format.{IsFile, IsFlagged}
-use Rattle.ltx_codec.specs.Sums.{sum_of_writes, image_sum}
+use Rattle.ltx_codec.specs.Sums.{image_sum}
 use Rattle.ltx_codec.specs.Positions.{Joins, after, nowhere}
 use Rattle.ltx_codec.specs.declared.file.Ltx.{Ltx}
 use Rattle.ltx_codec.proofs.ChangedSumLemmas.{image_sum-whole}

@@ -1,5 +1,5 @@
 -- What calls on a store keep.
-use Rattle.std.proofs.Common.{◌≡◌, ℕ, ◌+◌, ◌-◌, ◌≤◌, List, [], ◌∷◌, ◌++◌, length, drop, inl, inr, refl, sym, ap, subst, ◌∙◌, arith, ◌≢◌, ◌⊎◌, ◌<◌, ◌^◌, Bool, true, false, Option, Some, None, IsSome}
+use Rattle.std.proofs.Common.{◌≡◌, ℕ, ◌+◌, ◌-◌, ◌≤◌, List, [], ◌∷◌, ◌++◌, length, drop, inl, inr, refl, sym, ap, subst, ◌∙◌, arith, ◌<◌, ◌^◌, Bool, true, false}
 use Rattle.std.specs.List.{Contains}
 use Rattle.std.proofs.lemmas.List.Elements.{Contains-append_left, Contains-push, Contains-push_cases}
 use Rattle.lf_base.specs.declared.pos.Pos.{Pos}
@@ -18,7 +18,6 @@ use Rattle.world_laws.specs.Store.{Apply, CanDo, CanDoAll, Commit, DropAll, Inst
 use Rattle.world_laws.specs.World.{Grown, GrowsAlong, GrowsBy}
 use Rattle.world_laws.proofs.Images.{IsImage-apply, IsImage-empty, apply-same, suits-of}
 use Rattle.world_laws.proofs.Lineages.{Committed-of_tree, Extends, IsOfTree-more, Names-more, Names-next, Names-snapshot, One-fewer, at_nothing, image_of-nothing, position_of-nothing, position_of-push, txid_of}
-use Rattle.world_laws.proofs.Scenes.{made}
 use Rattle.world_laws.proofs.Snapshots.{whole-same, whole-sum}
 use Rattle.world_laws.proofs.Stores.{Contains-drop, LeadTo-drop, LeadTo-push, drop-nothing, end_of-none, end_of-one, end_of-pruned, end_of-push}
 
@@ -174,7 +173,6 @@ Allowed-done tree more store (Install file) one never allowed can took grows =
     Allowed-installed more file record { of_tree = subst (λ (t : List Lineage). IsOfTree t file) (sym grows) took; sound = can.0 } can.1
 Allowed-done tree more store (PruneTo keep) one never allowed can took grows =
     Allowed-pruned more store (length store.log - keep) keep can (omega arith) (subst (λ (t : List Lineage). IsAllowed t store) (sym grows) allowed)
-
 Allowed-done tree more store DropAll one never allowed can took grows =
     Allowed-nothing more true (same-extends tree more grows [] never)
 

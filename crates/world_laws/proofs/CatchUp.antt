@@ -1,11 +1,9 @@
 -- The answer to a position that the log lacks, and what is delivered.
-use Rattle.std.proofs.Common.{◌≡◌, ◌≢◌, ◌⊎◌, ℕ, ◌-◌, ◌≤◌, Bool, true, false, cond, eqb, List, [], ◌∷◌, ◌++◌, length, Option, IsSome, inl, inr, refl, sym, ap, subst, ◌∙◌, arith, ◌+◌, ◌<◌, ◌^◌, Some, None}
-use Rattle.std.specs.List.{Contains}
+use Rattle.std.proofs.Common.{◌≡◌, ◌≢◌, ◌⊎◌, ℕ, ◌≤◌, Bool, true, false, cond, eqb, List, [], ◌∷◌, Option, IsSome, inl, inr, refl, sym, ap, subst, ◌∙◌}
 use Rattle.lf_base.specs.declared.pos.Pos.{Pos}
 use Rattle.lf_base.specs.Faults.{Rose}
 use Rattle.byte_locks.specs.declared.lock_id.LockId.{LockId}
 use Rattle.lf_sqlite_pages.specs.Image.{DatabaseImage, IsImage, SameImage}
-use Rattle.lf_sqlite_pages.specs.Apply.{apply, Fits}
 use Rattle.ltx_codec.specs.declared.file.Ltx.{Ltx}
 use Rattle.ltx_codec.specs.Positions.{Joins, after, before, nowhere}
 use Rattle.ltx_codec.specs.Sums.{image_sum}
@@ -102,8 +100,7 @@ snapshot_installs-of w v k from answer safe valid turn not_primary =
 nothing-at_0 : (tree : List Lineage) (store : StoreState) → IsAllowed tree store → (at store).txid ≡ 0 → (at store ≡ nowhere) × (store.image.pages ≡ [])
 nothing-at_0 tree store allowed none =
     let line : Lineage = allowed.named.lineage in
-    let nothing : line ≡ [] = at_nothing line (ap (λ (p : Pos). p.txid) allowed.named.position_is ∙ none) in
-    (
+    let nothing : line ≡ [] = at_nothing line (ap (λ (p : Pos). p.txid) allowed.named.position_is ∙ none) in (
       sym allowed.named.position_is ∙ ap position_of nothing ∙ position_of-nothing,
       sym allowed.named.image_is ∙ ap (λ (l : Lineage). (image_of l).pages) nothing ∙ ap (λ (i : DatabaseImage). i.pages) image_of-nothing,
     )

@@ -1,7 +1,7 @@
 -- Forwarded commits.
-use Rattle.std.proofs.Common.{◌≡◌, ◌≢◌, ◌⊎◌, ℕ, Bool, true, false, List, [], ◌∷◌, ◌++◌, Option, Some, None, inl, inr, refl, sym, ap, subst, ◌∙◌, arith, ◌+◌, ◌-◌, ◌<◌, ◌≤◌, ◌^◌, length, IsSome}
+use Rattle.std.proofs.Common.{◌≡◌, ◌≢◌, ◌⊎◌, ℕ, Bool, true, List, [], ◌∷◌, ◌++◌, Option, None, inl, inr, refl, sym, ap, subst, ◌∙◌, arith}
 use Rattle.std.specs.List.{Contains}
-use Rattle.std.proofs.lemmas.List.Elements.{Contains-append_left, Contains-append_cases, Contains-push_cases}
+use Rattle.std.proofs.lemmas.List.Elements.{Contains-append_cases, Contains-push_cases}
 use Rattle.lf_base.specs.declared.pos.Pos.{Pos}
 use Rattle.ltx_codec.specs.declared.file.Ltx.{Ltx}
 use Rattle.ltx_codec.specs.Positions.{after, before}
@@ -134,9 +134,9 @@ runs-accept (goes {w = w} {v = x} {u = v} {event = e} {events = es} happens rest
     let one_x : OneImagePerPosition x.tree = One-fewer x.tree v.tree (runs-extends rest) one in
     elim (runs-accept rest file one (event-safe w x e one_x safe happens) here) [
       | inl before ↦ elim (event-accepts w x e file one_x safe happens before) [
-          | inl first ↦ inl first
-          | inr was ↦ inr (later w x v es file rest was)
-        ]
+        | inl first ↦ inl first
+        | inr was ↦ inr (later w x v es file rest was)
+      ]
       | inr was ↦ inr (earlier w x v e file happens was)
     ]
 
@@ -160,11 +160,14 @@ forwarded-of w v u events k start runs happens one =
     in (
       file,
       told.1,
-      (was, record {
-        stands = stands;
-        here = told.2;
-        image = images-are u one after_safe k (was.lineage ++ file.change ∷ []) stands (was.position_is ∙ sym told.2);
-      }),
+      (
+        was,
+        record {
+          stands = stands;
+          here = told.2;
+          image = images-are u one after_safe k (was.lineage ++ file.change ∷ []) stands (was.position_is ∙ sym told.2);
+        },
+      ),
     )
 
 store-kept : (old new : NodeState) (did : List StoreCall) → new.store ≡ all_done old.store did → did ≡ [] → at new.store ≡ at old.store

@@ -11,6 +11,8 @@ pub mod Forwarding
 pub mod Images
 pub mod Stopping
 pub mod Actors
+pub mod Pages
 pub mod Scenes
+pub mod StoryParts
 pub mod Story
 pub mod SnapshotFile

@@ -1,11 +1,11 @@
 -- Lineages that go on by a change.
-use Rattle.std.proofs.Common.{◌≡◌, ℕ, ◌+◌, ◌-◌, ◌<◌, ◌≤◌, eqb, false, List, [], ◌∷◌, ◌++◌, length, replicate, map, refl, sym, ap, ◌∙◌, arith, unwrap_or, length-append, ◌≢◌, ◌⊎◌, ◌^◌, Bool, true, Option, Some, None, IsSome, inl, inr, subst}
-use Rattle.std.specs.List.{slice_get, Contains, range_with_len}
+use Rattle.std.proofs.Common.{◌≡◌, ℕ, ◌+◌, ◌<◌, ◌≤◌, eqb, false, List, [], ◌∷◌, ◌++◌, length, refl, sym, ap, ◌∙◌, arith, length-append}
+use Rattle.std.specs.List.{Contains}
 use Rattle.std.proofs.lemmas.List.Sums.{fold-append}
 use Rattle.std.proofs.lemmas.Bool.Decides.{nat_tests}
 use Rattle.lf_base.specs.declared.pos.Pos.{Pos}
-use Rattle.lf_sqlite_pages.specs.Image.{DatabaseImage, empty_image, SameImage}
-use Rattle.lf_sqlite_pages.specs.Change.{PageChange, written}
+use Rattle.lf_sqlite_pages.specs.Image.{DatabaseImage, empty_image}
+use Rattle.lf_sqlite_pages.specs.Change.{PageChange}
 use Rattle.lf_sqlite_pages.specs.Apply.{apply}
 use Rattle.ltx_codec.specs.declared.file.Ltx.{Ltx}
 use Rattle.ltx_codec.specs.Positions.{after, before, nowhere}

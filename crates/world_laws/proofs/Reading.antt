@@ -1,11 +1,11 @@
 -- What a reader of a plain replica sees.
-use Rattle.std.proofs.Common.{◌≡◌, true, false, Bool, List, [], ◌∷◌, ◌++◌, Option, None, refl, sym, ap, subst, ◌∙◌, ◌≢◌, ◌⊎◌, ℕ, ◌+◌, ◌-◌, ◌<◌, ◌≤◌, ◌^◌, length, Some, IsSome, inl, inr, arith}
+use Rattle.std.proofs.Common.{true, false, Bool, [], ◌∷◌, Option, refl, subst, ◌∙◌}
 use Rattle.std.specs.List.{Contains}
 use Rattle.std.proofs.lemmas.List.Elements.{Contains-append_right}
 use Rattle.byte_locks.specs.declared.owner.Owner.{Owner}
 use Rattle.byte_locks.specs.declared.lock_id.LockId.{LockId}
 use Rattle.byte_locks.specs.declared.lock_id.LockId.TheVariants as lock
-use Rattle.lf_sqlite_pages.specs.Image.{DatabaseImage, SameImage}
+use Rattle.lf_sqlite_pages.specs.Image.{DatabaseImage}
 use Rattle.lf_sqlite_pages.specs.Header.{image_is_wal}
 use Rattle.world_laws.specs.Node.{IsSoundNode, NodeState}
 use Rattle.world_laws.specs.ReaderLaw.{IsRead, ReadRuns, ReaderSteady, reads, steps}

@@ -1,10 +1,9 @@
 -- The steps that a scenario is made of.
-use Rattle.std.proofs.Common.{◌≡◌, ◌≢◌, ◌⊎◌, ℕ, ◌+◌, ◌-◌, ◌<◌, ◌≤◌, Bool, true, false, cond, eqb, List, [], ◌∷◌, ◌++◌, length, Option, Some, None, IsSome, inl, inr, refl, sym, ap, subst, ◌∙◌, arith}
+use Rattle.std.proofs.Common.{◌≡◌, ◌≢◌, ◌⊎◌, ℕ, true, false, cond, eqb, List, [], ◌∷◌, ◌++◌, length, Option, Some, None, IsSome, inl, inr, refl, sym, ap, subst, ◌∙◌, arith}
 use Rattle.std.specs.List.{Contains}
 use Rattle.std.proofs.lemmas.List.{append-nil}
 use Rattle.std.proofs.lemmas.Bool.Decides.{nat_tests}
 use Rattle.std.proofs.lemmas.Bool.{cases_eq}
-use Rattle.lf_base.specs.Faults.{Rose}
 use Rattle.byte_locks.specs.declared.lock_id.LockId.{LockId}
 use Rattle.lf_sqlite_pages.specs.Image.{DatabaseImage}
 use Rattle.ltx_codec.specs.declared.file.Ltx.{Ltx}
@@ -229,16 +228,16 @@ pub empty-three : (k : ℕ) → three (node Primary empty_store None) (node Repl
     ⊎ three (node Primary empty_store None) (node Replica empty_store None) (node Primary empty_store None) k ≡ node Replica empty_store None
 empty-three k =
     elim (cases_eq k 0) [
-  | inl zero_is ↦ let test : eqb k 0 ≡ true = grind (arith, nat_tests) in inl (rw test)
-  | inr other ↦
-      let test : eqb k 0 ≡ false = grind (arith, nat_tests) in
-      elim (cases_eq k 1) [
-        | inl one_is ↦ let again : eqb k 1 ≡ true = grind (arith, nat_tests) in inr (rw (test, again))
-        | inr more ↦
-            let again : eqb k 1 ≡ false = grind (arith, nat_tests) in
-            elim (cases_eq k 2) [
-              | inl two_is ↦ let third : eqb k 2 ≡ true = grind (arith, nat_tests) in inl (rw (test, again, third))
-              | inr last ↦ let third : eqb k 2 ≡ false = grind (arith, nat_tests) in inr (rw (test, again, third))
-            ]
-      ]
-]
+      | inl zero_is ↦ let test : eqb k 0 ≡ true = grind (arith, nat_tests) in inl (rw test)
+      | inr other ↦
+          let test : eqb k 0 ≡ false = grind (arith, nat_tests) in
+          elim (cases_eq k 1) [
+            | inl one_is ↦ let again : eqb k 1 ≡ true = grind (arith, nat_tests) in inr (rw (test, again))
+            | inr more ↦
+                let again : eqb k 1 ≡ false = grind (arith, nat_tests) in
+                elim (cases_eq k 2) [
+                  | inl two_is ↦ let third : eqb k 2 ≡ true = grind (arith, nat_tests) in inl (rw (test, again, third))
+                  | inr last ↦ let third : eqb k 2 ≡ false = grind (arith, nat_tests) in inr (rw (test, again, third))
+                ]
+          ]
+    ]

@@ -1,10 +1,9 @@
 -- The snapshot of a store is a file.
-use Rattle.std.proofs.Common.{◌≡◌, ℕ, ◌-◌, ◌<◌, ◌≤◌, ◌^◌, Some, None, List, [], length, get_or, is_some, refl, sym, ap, subst, ◌∙◌, arith}
-use Rattle.std.specs.List.{All}
+use Rattle.std.proofs.Common.{◌≡◌, ℕ, ◌-◌, ◌≤◌, ◌^◌, Some, None, List, [], length, get_or, is_some, refl, sym, ap, ◌∙◌, arith}
 use Rattle.lf_sqlite_pages.specs.Image.{DatabaseImage, IsImage}
-use Rattle.lf_sqlite_pages.specs.LockPage.{lock_page_of, IsDataPage}
+use Rattle.lf_sqlite_pages.specs.LockPage.{IsDataPage}
 use Rattle.lf_sqlite_pages.specs.Change.{HoldsEveryPage}
-use Rattle.lf_sqlite_pages.specs.Writes.{data_writes, data_page_at, writes_of}
+use Rattle.lf_sqlite_pages.specs.Writes.{data_page_at, writes_of}
 use Rattle.lf_sqlite_pages.proofs.Writes.{AscendsAbove-writes_of, All-writes_of}
 use Rattle.lf_sqlite_pages.proofs.DataWrites.{data_page_at-lock_page, data_page_at-data}
 use Rattle.ltx_codec.specs.Sums.{sum_of_writes}

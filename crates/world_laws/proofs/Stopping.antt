@@ -1,5 +1,5 @@
 -- A stop inside a step, as a step that fails.
-use Rattle.std.proofs.Common.{◌≡◌, ◌⊎◌, ℕ, ◌+◌, ◌-◌, true, List, [], ◌∷◌, ◌++◌, Option, Some, None, IsSome, option_to_list, inl, inr, refl, sym, ap, subst, ◌∙◌, append_assoc, arith, length, ◌≢◌, ◌<◌, ◌≤◌, ◌^◌, Bool, false}
+use Rattle.std.proofs.Common.{◌≡◌, ℕ, ◌+◌, ◌-◌, true, List, [], ◌∷◌, ◌++◌, Option, Some, None, IsSome, inl, inr, refl, sym, ap, subst, ◌∙◌, append_assoc, arith, length}
 use Rattle.ltx_codec.specs.declared.file.Ltx.{Ltx}
 use Rattle.world_laws.specs.Answers.{Answers, LeavesUndone}
 use Rattle.world_laws.specs.Node.{Answer, Ask, Disk, Done, Drop, File, Forward, Forwarded, Frame, Import, IsPlain, NodeState, Primary, Prune, Refused, Replica, Role}
@@ -127,7 +127,6 @@ before_not_in call same = cc
 
 primary_plain : (n : NodeState) → n.role ≡ Primary → IsPlain n → ⊥
 primary_plain n primary plain = let other : Primary ≡ Replica = sym primary ∙ plain.role in cc
-
 
 failed-step : (old : NodeState) (ask : Ask) (role : Role) (calls : List StoreCall) (left : StoreState) → old.failed ≡ None → Makes role old.waits ask calls → CanDoAll old.store calls →
     IsCut old.store calls left → IsFailedStep old ask left

@@ -1,169 +1,25 @@
 -- The scenario, step by step.
-use Rattle.std.proofs.Common.{◌≡◌, ◌≢◌, ◌⊎◌, ℕ, ◌+◌, ◌-◌, ◌<◌, ◌≤◌, Bool, true, false, cond, eqb, List, [], ◌∷◌, ◌++◌, length, Option, Some, None, IsSome, inl, inr, refl, sym, ap, subst, ◌∙◌, arith}
+use Rattle.std.proofs.Common.{◌≡◌, ◌≢◌, ℕ, ◌≤◌, true, List, [], ◌∷◌, Some, None, inl, inr, refl, sym, ap, subst, ◌∙◌, arith}
 use Rattle.std.specs.List.{Contains}
-use Rattle.std.proofs.lemmas.List.Elements.{Contains-push, Contains-push_cases, Contains-append_left}
-use Rattle.std.proofs.lemmas.Bool.Decides.{nat_tests}
+use Rattle.std.proofs.lemmas.List.Elements.{Contains-push, Contains-append_left}
 use Rattle.lf_base.specs.declared.pos.Pos.{Pos}
-use Rattle.lf_sqlite_pages.specs.Image.{DatabaseImage, SameImage, empty_image, IsImage}
-use Rattle.lf_sqlite_pages.specs.Change.{PageChange}
-use Rattle.lf_sqlite_pages.specs.Apply.{apply, Fits}
 use Rattle.ltx_codec.specs.Format.{IsFile}
 use Rattle.ltx_codec.specs.declared.file.Ltx.{Ltx}
-use Rattle.ltx_codec.specs.Positions.{Joins, after, nowhere, sum_after}
-use Rattle.ltx_codec.specs.Sums.{image_sum}
-use Rattle.world_laws.specs.Answers.{Knows, by_file, by_snapshot, call_of, snapshot_of}
+use Rattle.ltx_codec.specs.Positions.{after, nowhere}
+use Rattle.world_laws.specs.Answers.{by_file, by_snapshot, snapshot_of}
 use Rattle.world_laws.specs.Events.{Leases, Reopens, Turns, ends, goes}
-use Rattle.world_laws.specs.Lineage.{Lineage, image_of, position_of}
+use Rattle.world_laws.specs.Lineage.{Lineage}
 use Rattle.world_laws.specs.Node.{Applied, Disk, Done, Drop, File, Forward, Forwarded, Frame, Gone, Halted, Hello, Item, NodeState, Permit, Primary, Refused, Replica, Send}
-use Rattle.world_laws.specs.Premises.{OneImagePerPosition}
 use Rattle.world_laws.specs.Scenario.{IsTold, SomethingHappens, first_file, second_file, store_of}
-use Rattle.world_laws.specs.Served.{untouched}
 use Rattle.world_laws.specs.Step.{Makes, accepts, commits, drops, finishes, nothing, takes, unlinks}
-use Rattle.world_laws.specs.Store.{Apply, CanDo, Commit, DropAll, FailedIn, Install, StoreCall, StoreState, at, dropped_store, empty_store, installed, with_file}
+use Rattle.world_laws.specs.Store.{Apply, Commit, DropAll, FailedIn, Install, StoreCall, StoreState, at, dropped_store, empty_store, installed, with_file}
 use Rattle.world_laws.specs.World.{Act, Committed, Departed, DropFrame, FileFrame, Grown, SentFrame, World}
 use Rattle.world_laws.proofs.Actors.{IsFirst, IsSecond, first-is, second-is}
-use Rattle.world_laws.proofs.Calls.{pos_of_parts}
-use Rattle.world_laws.proofs.CatchUp.{snapshot-end, snapshot-first, snapshot-image}
-use Rattle.world_laws.proofs.Images.{apply-same}
-use Rattle.world_laws.proofs.Lineages.{image_of-nothing, image_of-push, position_of-nothing, position_of-push, txid_of}
-use Rattle.world_laws.proofs.Scenes.{Made, broken_node, empty-three, fails, goes-apply, goes-commit, goes-drop, goes-idle, goes-install, leased, made, node, stays-2, three, turn-0, turn-1, turn-2, world}
-use Rattle.world_laws.proofs.SnapshotFile.{snapshot-sound}
+use Rattle.world_laws.proofs.CatchUp.{snapshot-first}
+use Rattle.world_laws.proofs.Lineages.{position_of-nothing}
+use Rattle.world_laws.proofs.Scenes.{Made, broken_node, fails, goes-apply, goes-commit, goes-drop, goes-idle, goes-install, leased, made, node, stays-2, turn-0, turn-1, turn-2, world}
 use Rattle.world_laws.proofs.Stores.{end_of-none, end_of-one, end_of-push}
-
-call-first : (file : Ltx) → file.header.min ≡ 1 → call_of file ≡ Install file
-call-first file first =
-    let test : eqb file.header.min 1 ≡ true = grind (arith, nat_tests) in
-    rw test
-
-replica_primary : Replica ≡ Primary → ⊥
-replica_primary same = cc
-
-empty-at : (k : ℕ) → let n : NodeState = three (node Primary empty_store None) (node Replica empty_store None) (node Primary empty_store None) k in
-    ((n.store ≡ empty_store) × (n.failed ≡ None)) × (n.served ≡ untouched empty_store.image)
-empty-at k = elim (empty-three k) [
-  | inl primary ↦ subst (λ (n : NodeState). ((n.store ≡ empty_store) × (n.failed ≡ None)) × (n.served ≡ untouched empty_store.image)) (sym primary) ((refl, refl), refl)
-  | inr replica ↦ subst (λ (n : NodeState). ((n.store ≡ empty_store) × (n.failed ≡ None)) × (n.served ≡ untouched empty_store.image)) (sym replica) ((refl, refl), refl)
-]
-
--- where the store of a first file is
-at-first : (file : Ltx) → at (store_of file) ≡ after file
-at-first file = end_of-one file
-
-position-first : (file : Ltx) → IsFirst file → position_of (file.change ∷ []) ≡ after file
-position-first file first =
-    let sum : image_sum (apply (image_of []) file.change) ≡ file.post = ap (λ (i : DatabaseImage). sum_after i file) image_of-nothing ∙ first.joins.sum in
-    position_of-push [] file.change ∙ pos_of_parts (record { txid = 0 + 1; sum = image_sum (apply (image_of []) file.change) }) (after file) (sym first.max) sum
-
-image-first : (file : Ltx) → image_of (file.change ∷ []) ≡ (store_of file).image
-image-first file = image_of-push [] file.change ∙ ap (λ (i : DatabaseImage). apply i file.change) image_of-nothing
-
-position-second : (first file : Ltx) → IsFirst first → IsSecond first file → position_of (first.change ∷ file.change ∷ []) ≡ after file
-position-second first file is second =
-    let sum : image_sum (apply (image_of (first.change ∷ [])) file.change) ≡ file.post = ap (λ (i : DatabaseImage). sum_after i file) (image-first first) ∙ second.joins.sum in
-    position_of-push (first.change ∷ []) file.change
-    ∙ pos_of_parts (record { txid = 1 + 1; sum = image_sum (apply (image_of (first.change ∷ [])) file.change) }) (after file) (sym second.max) sum
-
--- the store of a first file lacks where another one leads
-lacks : (here there : Ltx) → IsFirst here → IsFirst there → after here ≢ after there → Knows (store_of here) (after there) → ⊥
-lacks here there is other differ (inl same) = differ (sym (same ∙ at-first here))
-lacks here there is other differ (inr (inl known)) = elim (Contains-push_cases [] here known.0 known.1) [
-  | inl none_at ↦ omega (arith, none_at.1)
-  | inr same ↦
-      let txid : here.header.min - 1 ≡ there.header.max = ap (λ (f : Ltx). f.header.min - 1) same ∙ ap (λ (p : Pos). p.txid) known.2 in
-      omega (arith, txid, is.min, other.max)
-]
-lacks here there is other differ (inr (inr blank)) = cc
-
-some-first : (file : Ltx) → IsFirst file → 1 ≤ (at (store_of file)).txid
-some-first file first = first.full.some
-
--- the lineages of the story
-data InStory (lost won next : Ltx) : Lineage → Type 0 where
-  nothing_yet : InStory lost won next []
-  of_lost : InStory lost won next (lost.change ∷ [])
-  of_won : InStory lost won next (won.change ∷ [])
-  of_next : InStory lost won next (won.change ∷ next.change ∷ [])
-
-in-story : (lost won next : Ltx) (line : Lineage) → Contains ([] ∷ (lost.change ∷ []) ∷ (won.change ∷ []) ∷ (won.change ∷ next.change ∷ []) ∷ []) line → InStory lost won next line
-in-story lost won next line here = elim (Contains-push_cases ([] ∷ (lost.change ∷ []) ∷ (won.change ∷ []) ∷ []) (won.change ∷ next.change ∷ []) line here) [
-  | inr same ↦ subst (λ (l : Lineage). InStory lost won next l) same of_next
-  | inl more ↦ elim (Contains-push_cases ([] ∷ (lost.change ∷ []) ∷ []) (won.change ∷ []) line more) [
-      | inr same ↦ subst (λ (l : Lineage). InStory lost won next l) same of_won
-      | inl less ↦ elim (Contains-push_cases ([] ∷ []) (lost.change ∷ []) line less) [
-          | inr same ↦ subst (λ (l : Lineage). InStory lost won next l) same of_lost
-          | inl first ↦ elim (Contains-push_cases [] [] line first) [
-              | inr same ↦ subst (λ (l : Lineage). InStory lost won next l) same nothing_yet
-              | inl none_at ↦ absurd (omega (arith, none_at.1))
-            ]
-        ]
-    ]
-]
-
-lengths-same : (one other : Lineage) → position_of one ≡ position_of other → length one ≡ length other
-lengths-same one other same = sym (txid_of one) ∙ ap (λ (p : Pos). p.txid) same ∙ txid_of other
-
-pairs : {lost won next : Ltx} (one other : Lineage) → IsFirst lost → IsFirst won → after lost ≢ after won → InStory lost won next one → InStory lost won next other → position_of one ≡ position_of other →
-    SameImage (image_of one) (image_of other)
-pairs one other l w differ nothing_yet nothing_yet same = refl
-pairs one other l w differ of_lost of_lost same = refl
-pairs one other l w differ of_won of_won same = refl
-pairs one other l w differ of_next of_next same = refl
-pairs {lost = lost} {won = won} one other l w differ of_lost of_won same = absurd (differ (sym (position-first lost l) ∙ same ∙ position-first won w))
-pairs {lost = lost} {won = won} one other l w differ of_won of_lost same = absurd (differ (sym (position-first lost l) ∙ sym same ∙ position-first won w))
-pairs one other l w differ nothing_yet of_lost same = absurd (let n = lengths-same one other same in omega (arith, n))
-pairs one other l w differ nothing_yet of_won same = absurd (let n = lengths-same one other same in omega (arith, n))
-pairs one other l w differ nothing_yet of_next same = absurd (let n = lengths-same one other same in omega (arith, n))
-pairs one other l w differ of_lost nothing_yet same = absurd (let n = lengths-same one other same in omega (arith, n))
-pairs one other l w differ of_lost of_next same = absurd (let n = lengths-same one other same in omega (arith, n))
-pairs one other l w differ of_won nothing_yet same = absurd (let n = lengths-same one other same in omega (arith, n))
-pairs one other l w differ of_won of_next same = absurd (let n = lengths-same one other same in omega (arith, n))
-pairs one other l w differ of_next nothing_yet same = absurd (let n = lengths-same one other same in omega (arith, n))
-pairs one other l w differ of_next of_lost same = absurd (let n = lengths-same one other same in omega (arith, n))
-pairs one other l w differ of_next of_won same = absurd (let n = lengths-same one other same in omega (arith, n))
-
-one-image : (lost won next : Ltx) → IsFirst lost → IsFirst won → after lost ≢ after won → OneImagePerPosition ([] ∷ (lost.change ∷ []) ∷ (won.change ∷ []) ∷ (won.change ∷ next.change ∷ []) ∷ [])
-one-image lost won next l w differ one other one_there other_there same =
-    pairs one other l w differ (in-story lost won next one one_there) (in-story lost won next other other_there) same
-
--- the snapshot of the store of a first file, installed
-abbrev copy_of : Ltx → StoreState
-copy_of file = installed (snapshot_of (store_of file))
-
-copy-at : (file : Ltx) → at (copy_of file) ≡ after file
-copy-at file = snapshot-end (store_of file) ∙ at-first file
-
-snapshot-sent : (file : Ltx) → IsFirst file → IsFile (snapshot_of (store_of file))
-snapshot-sent file first = snapshot-sound (store_of file) first.full
-
--- a first file joins an empty store
-can-commit-first : (file : Ltx) → IsFirst file → CanDo empty_store (Commit file)
-can-commit-first file first = (first.sound, record { next = first.joins.next ∙ sym end_of-none; fits = first.joins.fits; sum = first.joins.sum }, first.max ∙ sym first.min)
-
--- the second joins the store of the first, and its copy
-joins-store : (first file : Ltx) → IsSecond first file → Joins (store_of first).image (at (store_of first)) file
-joins-store first file second = record { next = second.joins.next ∙ sym (at-first first); fits = second.joins.fits; sum = second.joins.sum }
-
-copy-size : (file : Ltx) → (copy_of file).image.page_size ≡ (store_of file).image.page_size
-unfolding snapshot_of
-copy-size file = refl
-
--- what fits an image fits another of its pages and its page size
-fits-copy : (one other : DatabaseImage) (change : PageChange) → SameImage other one → other.page_size ≡ one.page_size → Fits one change → Fits other change
-fits-copy one other change same size (inl fits) = inl (size ∙ fits)
-fits-copy one other change same size (inr (inl none)) = inr (inl (same ∙ none))
-fits-copy one other change same size (inr (inr every)) = inr (inr every)
-
-some_same : (one other : Ltx) → Some one ≡ Some other → one ≡ other
-some_same one other same = cc
-
-joins-copy : (first file : Ltx) → IsFirst first → IsSecond first file → Joins (copy_of first).image (at (copy_of first)) file
-joins-copy first file is second =
-    let same : SameImage (copy_of first).image (store_of first).image = snapshot-image (store_of first) is.full.image in
-    record {
-      next = second.joins.next ∙ sym (copy-at first);
-      fits = fits-copy (store_of first).image (copy_of first).image file.change same (copy-size first) second.joins.fits;
-      sum = ap image_sum (apply-same (copy_of first).image (store_of first).image file.change same) ∙ second.joins.sum;
-    }
+use Rattle.world_laws.proofs.StoryParts.{at-first, call-first, can-commit-first, copy-at, copy_of, empty-at, joins-copy, joins-store, lacks-other, one-image, position-first, replica_primary, snapshot-sent, some-first, some_same}
 
 -- the steps
 commits-first : (file : Ltx) → IsFirst file → Made (node Primary empty_store None) (node Primary (store_of file) None) File Done (Commit file ∷ []) None
@@ -186,7 +42,7 @@ sends-snapshot : (here there : Ltx) → IsFirst here → IsFirst there → after
     Made (node Primary (store_of here) None) (node Primary (store_of here) None) (Hello (after there)) (Item (snapshot_of (store_of here))) [] None
 sends-snapshot here there is other differ =
     made Primary Primary Primary (store_of here) (store_of here) None None (Hello (after there)) (Item (snapshot_of (store_of here))) [] nothing tt refl
-    (refl, by_snapshot (some-first here is) (lacks here there is other differ), snapshot-sent here is) tt
+    (refl, by_snapshot (some-first here is) (lacks-other here there is other differ), snapshot-sent here is) tt
 
 gets-permit : (store : StoreState) → Made (node Replica store None) (node Halted store None) Permit Done [] None
 gets-permit store = made Replica Replica Halted store store None None Permit Done [] nothing tt refl tt tt

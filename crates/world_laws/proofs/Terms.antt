@@ -1,5 +1,5 @@
 -- Which node commits in which term, and where its last commit led.
-use Rattle.std.proofs.Common.{◌≡◌, ◌≢◌, ℕ, ◌-◌, ◌≤◌, eqb, true, false, List, [], ◌∷◌, ◌++◌, length, Option, Some, None, IfSome, inl, inr, refl, sym, subst, ◌∙◌, arith, ◌⊎◌, ◌+◌, ◌<◌, ◌^◌, Bool, IsSome, ap}
+use Rattle.std.proofs.Common.{◌≡◌, ◌≢◌, ℕ, ◌-◌, ◌≤◌, eqb, true, false, List, [], ◌∷◌, ◌++◌, length, Option, Some, None, IfSome, inl, inr, refl, sym, subst, ◌∙◌, arith}
 use Rattle.std.specs.List.{All, Contains}
 use Rattle.std.proofs.lemmas.List.Elements.{All-cons, All-contains}
 use Rattle.std.proofs.lemmas.Bool.{cases_eq}
@@ -73,7 +73,6 @@ AtTip-done k term acts store (Apply file) last can = subst (λ (o : Option Pos).
 AtTip-done k term acts store (Install file) last can = subst (λ (o : Option Pos). IsAtTip o (at (done store (Install file)))) (sym (tip-departed k acts)) tt
 AtTip-done k term acts store (PruneTo keep) last can =
     subst (λ (p : Pos). IsAtTip (tip k acts) p) (sym (end_of-pruned (length store.log - keep) keep store.log can (omega arith))) last
-
 AtTip-done k term acts store DropAll last can = subst (λ (o : Option Pos). IsAtTip o (at dropped_store)) (sym (tip-departed k acts)) tt
 
 pub InLine-done : (granted : List ℕ) (k term : ℕ) (acts : List Act) (store : StoreState) (call : StoreCall) → IsAtTip (tip k acts) (at store) → CanDo store call →

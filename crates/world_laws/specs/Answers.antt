@@ -1,5 +1,5 @@
 -- What an answer of a node says of its step: which answers an ask has, and the cause of each refusal.
-use Rattle.std.specs.Prelude.{◌≡◌, ◌≢◌, ◌⊎◌, ◌==◌, ℕ, ◌≤◌, Bool, true, false, List, [], ◌∷◌, length, Contains, Option, None, Some, IsSome, if◌then◌else◌}
+use Rattle.std.specs.Prelude.{◌≡◌, ◌≢◌, ◌⊎◌, ◌==◌, ◌≤◌, Bool, true, false, List, [], ◌∷◌, length, Contains, Option, None, Some, IsSome, if◌then◌else◌}
 use Rattle.lf_base.specs.declared.pos.Pos.{Pos}
 use Rattle.lf_base.specs.Faults.{Rose}
 use Rattle.lf_sqlite_pages.specs.LockPage.{IsWithinLimit}
@@ -75,7 +75,7 @@ RefusesFrame old role file failed Limit = IsWithinLimit file.header.page_size fi
 RefusesFrame old role file failed Disk = IsSome failed
 RefusesFrame old role file failed Broken = IsSome old.failed
 RefusesFrame old role file failed NoMemory = Unit {0}
-RefusesFrame old role file failed other = ⊥
+RefusesFrame old role file failed why = ⊥
 
 -- an LTX frame is applied or installed, held back by a lock that somebody holds, or refused
 abbrev pub AnswersFrame : NodeState → Role → Ltx → List StoreCall → Option Failure → Answer → NodeState → Type 0
@@ -89,7 +89,7 @@ abbrev pub RefusesDrop : NodeState → Role → Option Failure → Refusal → T
 RefusesDrop old role failed NotReplica = role ≡ Primary
 RefusesDrop old role failed Disk = IsSome failed
 RefusesDrop old role failed Broken = IsSome old.failed
-RefusesDrop old role failed other = ⊥
+RefusesDrop old role failed why = ⊥
 
 -- a Drop frame drops the database where there is one, and else changes nothing
 abbrev pub DropsWhatIsThere : StoreState → List StoreCall → Type 0

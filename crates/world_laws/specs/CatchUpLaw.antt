@@ -1,7 +1,7 @@
 -- The third law: a position that the primary's log lacks is answered by one snapshot, or by Gone where the database was
 -- dropped; and what is then delivered is applied, once nobody holds a lock against it, unless a disk failed, memory was
 -- refused, or the store was broken before.
-use Rattle.std.specs.Prelude.{◌≡◌, ◌≢◌, ◌⊎◌, ℕ, ◌≤◌, true, IsSome, List, []}
+use Rattle.std.specs.Prelude.{◌≡◌, ◌≢◌, ◌⊎◌, ℕ, ◌≤◌, true, IsSome, []}
 use Rattle.lf_base.specs.declared.pos.Pos.{Pos}
 use Rattle.lf_base.specs.Faults.{Rose}
 use Rattle.byte_locks.specs.declared.lock_id.LockId.{LockId}

@@ -1,8 +1,8 @@
 -- A node as the cluster sees it, what it may be asked, and what it may answer.
 --
--- Of an ask that carries a file the file itself stands here, in place of its bytes. Asks that change no store, and
--- refusals that no law speaks of, stand here by name alone.
-use Rattle.std.specs.Prelude.{◌≡◌, ℕ, Bool, Option, None, Some}
+-- Of an ask that carries a file the file itself stands here, in place of its bytes; where the bytes are no file, the
+-- ask is NoFile. Asks that change no store, and refusals that no law speaks of, stand here by name alone.
+use Rattle.std.specs.Prelude.{◌≡◌, ℕ, Bool, Option, None}
 use Rattle.lf_base.specs.declared.pos.Pos.{Pos}
 use Rattle.byte_locks.specs.declared.lock_id.LockId.{LockId}
 use Rattle.ltx_codec.specs.declared.file.Ltx.{Ltx}
@@ -33,6 +33,7 @@ pub data Ask : Type 0 where
   Export : Ask
   Forward : Ltx → Ask  -- a commit that a Halted node made
   Forwarded : (ok : Bool) → Ask  -- the reply to it
+  NoFile : Ask  -- a Frame or a Forward whose bytes are no file
   Prune : (keep : ℕ) → Ask
   Permit : Ask  -- of write permits: asked for, got, given back, lost
   Lease : Ask  -- news of leases

@@ -1,5 +1,4 @@
 -- The second law: a reader of a plain replica sees one position while it is inside.
-use Rattle.std.specs.Prelude.{◌≡◌}
 use Rattle.lf_sqlite_pages.specs.Image.{SameImage}
 use Rattle.byte_locks.specs.declared.owner.Owner.{Owner}
 use Rattle.world_laws.specs.Node.{Answer, Ask, IsPlain, IsSoundNode, NodeState}

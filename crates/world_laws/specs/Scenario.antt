@@ -100,3 +100,7 @@ pub record IsTold (lost won next : Ltx) : Type 0 where
 abbrev pub SomethingHappens : Type 0
 SomethingHappens = (lost won new : List ℕ) → IsPage lost → IsPage won → IsPage new → sum_of_page lost ≢ sum_of_page won →
     IsTold (first_file lost) (first_file won) (second_file won new)
+
+-- and there are such pages
+abbrev pub PagesDiffer : Type 0
+PagesDiffer = (one : List ℕ) × (other : List ℕ) × IsPage one × IsPage other × (sum_of_page one ≢ sum_of_page other)

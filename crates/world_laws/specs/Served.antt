@@ -4,7 +4,7 @@
 -- but for the pages that one writer has written and not committed yet: the overlay equation. Which locks keep a
 -- frame from being applied depends on the journal mode of the committed image (SQLite: File Locking And Concurrency;
 -- Write-Ahead Logging, WAL-mode file locks).
-use Rattle.std.specs.Prelude.{◌≡◌, ◌≢◌, ℕ, Bool, true, false, List, [], ◌∷◌, Contains, Option, Some, None, IsSome, All}
+use Rattle.std.specs.Prelude.{◌≡◌, ℕ, Bool, true, false, List, [], ◌∷◌, Contains, Option, Some, None, IsSome, All}
 use Rattle.byte_locks.specs.declared.owner.Owner.{Owner}
 use Rattle.byte_locks.specs.declared.lock_id.LockId.{LockId}
 use Rattle.byte_locks.specs.declared.lock_id.LockId.TheVariants as lock

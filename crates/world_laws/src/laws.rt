@@ -5,7 +5,7 @@ ghost use Rattle.world_laws.specs.CatchUpLaw.{AnswersByWhole, SnapshotInstalls, 
 ghost use Rattle.world_laws.specs.ForwardLaw.{ForwardedStands, SendLeaves, RefusalLeaves};
 ghost use Rattle.world_laws.specs.StopLaw.{StopsAreCuts, StopIsTwoEvents, StopOfBroken};
 ghost use Rattle.world_laws.specs.SnapshotLaw.{SnapshotIsSound};
-ghost use Rattle.world_laws.specs.Scenario.{SomethingHappens};
+ghost use Rattle.world_laws.specs.Scenario.{SomethingHappens, PagesDiffer};
 
 /// After every list of events that meets the premises, each node's committed pages are those of the lineage
 /// that its position names, and all else that `IsSafe` says holds.
@@ -48,8 +48,9 @@ pub fn snapshot_is_sound()
     ensures { SnapshotIsSound }
 {}
 
-
-/// The definitions are not empty: a run in which what they speak of happens.
+/// The definitions are not empty: a run in which what they speak of happens, of any pages of different sums;
+/// and there are such pages.
 pub fn something_happens()
-    ensures { SomethingHappens }
+    ensures run { SomethingHappens }
+    ensures pages { PagesDiffer }
 {}
