@@ -12,7 +12,7 @@ use Rattle.world_laws.specs.Node.{Answer, Applied, Ask, BadFile, Broken, Disk, D
 use Rattle.world_laws.specs.Served.{HoldsBack}
 use Rattle.world_laws.specs.Store.{Apply, Commit, DropAll, Failure, Install, StoreCall, StoreState, at}
 
--- the file from the beginning to a store's position that writes every page
+-- the file from the beginning to a store's position that writes every data page
 unfoldable pub snapshot_of : StoreState → Ltx
 snapshot_of store = record {
   header = record {
