@@ -4,7 +4,8 @@ use Rattle.fuse_msgs.specs.declared.request.Request.{Request}
 use Rattle.fuse_msgs.specs.declared.fault.BadMessage.{BadMessage}
 use Rattle.fuse_msgs.specs.declared.fault.BadMessage.TheVariants as bad
 use Rattle.fuse_msgs.specs.Message.{IsMessage, refusal}
-use Rattle.fuse_msgs.specs.Decoding.{IsDecoding, IsUnlessMemory, TakesMemoryToRead}
+use Rattle.fuse_msgs.specs.Decoding.{IsUnlessMemory, TakesMemoryToRead}
+use Rattle.fuse_msgs.specs.steps.Reading.{IsDecoding}
 use Rattle.fuse_msgs.proofs.OneReading.{one_request}
 use Rattle.fuse_msgs.proofs.Refusals.{refusal-message}
 

@@ -1,9 +1,9 @@
-pub mod NameText
+pub mod TerminatedName
 pub mod OneReading
 pub mod Refusals
 pub mod Answers
 pub mod Replies
 pub mod Feeding
-pub mod Texts
+pub mod Encodings
 pub mod Run
 pub mod Loops

@@ -13,15 +13,15 @@ use Rattle.fuse_msgs.specs.Opcodes.{opcode_of}
 use Rattle.fuse_msgs.specs.Locks.{lock_type}
 use Rattle.fuse_msgs.specs.Body.{IsBody}
 use Rattle.fuse_msgs.specs.Message.{IsMessage, body_of}
-use Rattle.fuse_msgs.proofs.NameText.{name_before_zero}
+use Rattle.fuse_msgs.proofs.TerminatedName.{name_before_zero}
 
 -- the bytes before the last
-front : List ℕ → List ℕ
-front text = take (length text - 1) text
+all_but_last : List ℕ → List ℕ
+all_but_last bytes = take (length bytes - 1) bytes
 
-name_is_front : (text name : List ℕ) → text ≡ name ++ 0 ∷ [] → name ≡ front text
-unfolding front
-name_is_front text name e = name_before_zero text name e
+name_is_prefix : (bytes name : List ℕ) → bytes ≡ name ++ 0 ∷ [] → name ≡ all_but_last bytes
+unfolding all_but_last
+name_is_prefix bytes name e = name_before_zero bytes name e
 
 -- the lock that a type wishes for
 wish_at : ℕ → LockWish
@@ -40,12 +40,12 @@ wish_from n kind e = wish_is kind ∙ ap wish_at (sym e)
 
 -- the one operation of a body
 op_at : Opcode → List ℕ → Op
-op_at opcode.Lookup body = op.Lookup (front body)
+op_at opcode.Lookup body = op.Lookup (all_but_last body)
 op_at opcode.Forget body = op.Forget
 op_at opcode.Getattr body = op.Getattr
 op_at opcode.Setattr body = op.Setattr (given (is_set (le32_at 0 body) 3) (le64_at 16 body))
     (given (is_set (le32_at 0 body) 9) (le64_at 24 body))
-op_at opcode.Unlink body = op.Unlink (front body)
+op_at opcode.Unlink body = op.Unlink (all_but_last body)
 op_at opcode.Open body = op.Open
 op_at opcode.Read body = op.Read (le64_at 0 body) (le64_at 8 body) (le32_at 16 body)
     (given (is_set (le32_at 20 body) 1) (le64_at 24 body))
@@ -61,16 +61,16 @@ op_at opcode.Setlk body = op.Setlk (le64_at 0 body) (le64_at 8 body) (le64_at 16
     (wish_at (le32_at 32 body))
 op_at opcode.Setlkw body = op.Setlkw (le64_at 0 body) (le64_at 8 body) (le64_at 16 body) (le64_at 24 body)
     (wish_at (le32_at 32 body))
-op_at opcode.Create body = op.Create (front (drop 16 body))
+op_at opcode.Create body = op.Create (all_but_last (drop 16 body))
 op_at opcode.Destroy body = op.Destroy
 
 op_is : (body : List ℕ) (o : Op) → IsBody body o → o ≡ op_at (opcode_of o) body
 unfolding op_at
-op_is body (op.Lookup name) h = ap (λ n. op.Lookup n) (name_is_front body name h.1)
+op_is body (op.Lookup name) h = ap (λ n. op.Lookup n) (name_is_prefix body name h.1)
 op_is body op.Forget h = refl
 op_is body op.Getattr h = refl
 op_is body (op.Setattr size owner) h = cc
-op_is body (op.Unlink name) h = ap (λ n. op.Unlink n) (name_is_front body name h.1)
+op_is body (op.Unlink name) h = ap (λ n. op.Unlink n) (name_is_prefix body name h.1)
 op_is body op.Open h = refl
 op_is body (op.Read fh at size owner) h = cc
 op_is body (op.Write fh at owner bytes) h = cc
@@ -81,7 +81,7 @@ op_is body (op.Init major minor) h = cc
 op_is body (op.Getlk fh owner start end kind) h = cc (wish_from (le32_at 32 body) kind h.kind_is)
 op_is body (op.Setlk fh owner start end kind) h = cc (wish_from (le32_at 32 body) kind h.kind_is)
 op_is body (op.Setlkw fh owner start end kind) h = cc (wish_from (le32_at 32 body) kind h.kind_is)
-op_is body (op.Create name) h = ap (λ n. op.Create n) (name_is_front (drop 16 body) name h.1.1)
+op_is body (op.Create name) h = ap (λ n. op.Create n) (name_is_prefix (drop 16 body) name h.1.1)
 op_is body op.Destroy h = refl
 
 same_op : (body : List ℕ) (a b : Op) → opcode_of a ≡ opcode_of b → IsBody body a → IsBody body b → a ≡ b

@@ -12,7 +12,7 @@ use Rattle.fuse_msgs.specs.ReadWrite.{IsWriteIn, has_data}
 use Rattle.fuse_msgs.specs.Locks.{IsLkIn, lock_type, has_lock}
 use Rattle.fuse_msgs.specs.Body.{IsBody, has_shape, has_name}
 use Rattle.fuse_msgs.specs.Message.{IsMessage, refusal, body_of, len_of}
-use Rattle.fuse_msgs.proofs.NameText.{is_name_text-of}
+use Rattle.fuse_msgs.proofs.TerminatedName.{is_terminated_name-of}
 
 lock_type-below : (kind : LockWish) → lock_type kind ≤ 2
 lock_type-below wish.Read = omega arith
@@ -52,9 +52,9 @@ shape_has body (op.Create name) h = le-leb _ _ h.0
 shape_has body op.Destroy h = refl
 
 name_has : (body : List ℕ) (o : Op) → IsBody body o → has_name (opcode_of o) body ≡ true
-name_has body (op.Lookup name) h = is_name_text-of body name h
-name_has body (op.Unlink name) h = is_name_text-of body name h
-name_has body (op.Create name) h = is_name_text-of (drop 16 body) name h.1
+name_has body (op.Lookup name) h = is_terminated_name-of body name h
+name_has body (op.Unlink name) h = is_terminated_name-of body name h
+name_has body (op.Create name) h = is_terminated_name-of (drop 16 body) name h.1
 name_has body op.Forget h = refl
 name_has body op.Getattr h = refl
 name_has body (op.Setattr size owner) h = refl

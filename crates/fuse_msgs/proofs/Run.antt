@@ -1,4 +1,4 @@
--- Whatever the pieces of a text, its messages come whole and in order.
+-- Whatever the pieces of a stream, its messages come whole and in order.
 use Rattle.std.proofs.Common.{◌≡◌, ℕ, ◌-◌, ◌<◌, ◌≤◌, ◌⊎◌, Bool, true, false, List, [], ◌∷◌, ◌++◌, length, take, drop, Result, Ok, Err, refl, sym, ap, ◌∙◌, arith, append_assoc, inl, inr}
 use Rattle.std.specs.List.{flat_map, AllByRecursion}
 use Rattle.std.proofs.lemmas.Bool.{cases_lt}
@@ -10,13 +10,13 @@ use Rattle.fuse_msgs.specs.declared.feed.Fed.TheVariants as fed
 use Rattle.fuse_msgs.specs.declared.fault.BadMessage.{BadMessage}
 use Rattle.fuse_msgs.specs.declared.fault.BadMessage.TheVariants as bad
 use Rattle.fuse_msgs.specs.Message.{len_of, is_length}
-use Rattle.fuse_msgs.specs.Feed.{part, whole, broken, front_of, is_whole, is_whole_front, says_whole, UsesSome, unfinished, finished, fed_on, feed_answer, answer_at, taken_of, text_of, messages_of, left_of, IsWholeMessage, Splits}
-use Rattle.fuse_msgs.proofs.Feeding.{len_of-append, front_of-short, front_of-part, front_of-whole, front_of-broken, front_then_rest, length-front, length_is_40, unfinished_below}
+use Rattle.fuse_msgs.specs.Feed.{part, whole, broken, beginning_of, is_whole, is_whole_beginning, says_whole, UsesSome, unfinished, finished, fed_on, feed_answer, answer_at, taken_of, bytes_taken, messages_of, left_of, IsWholeMessage, Splits}
+use Rattle.fuse_msgs.proofs.Feeding.{len_of-append, beginning_of-short, beginning_of-part, beginning_of-whole, beginning_of-broken, prefix_then_rest, length-prefix, length_is_40, unfinished_below}
 
 pub clash : {A : Type 0} → true ≡ false → A
 clash e = absurd cc
 
--- ---- what a front says of the text
+-- ---- what a prefix says of the stream
 
 same_whole : (m n : ℕ) → whole m ≡ whole n → m ≡ n
 same_whole m n e = cc
@@ -24,48 +24,48 @@ same_whole m n e = cc
 same_broken : (m n : ℕ) → broken m ≡ broken n → m ≡ n
 same_broken m n e = cc
 
--- which way each test of a text went
-pub data Case (text : List ℕ) : Type 0 where
-  short : length text < 4 → front_of text ≡ part → Case text
-  bad_len : 4 ≤ length text → is_length (len_of text) ≡ false → front_of text ≡ broken (len_of text) → Case text
-  complete : 4 ≤ length text → is_length (len_of text) ≡ true → len_of text ≤ length text
-      → front_of text ≡ whole (len_of text) → Case text
-  partial : 4 ≤ length text → is_length (len_of text) ≡ true → length text < len_of text
-      → front_of text ≡ part → Case text
+-- which way each test of a stream went
+pub data Case (stream : List ℕ) : Type 0 where
+  short : length stream < 4 → beginning_of stream ≡ part → Case stream
+  bad_len : 4 ≤ length stream → is_length (len_of stream) ≡ false → beginning_of stream ≡ broken (len_of stream) → Case stream
+  complete : 4 ≤ length stream → is_length (len_of stream) ≡ true → len_of stream ≤ length stream
+      → beginning_of stream ≡ whole (len_of stream) → Case stream
+  partial : 4 ≤ length stream → is_length (len_of stream) ≡ true → length stream < len_of stream
+      → beginning_of stream ≡ part → Case stream
 
 pub bool_cases : (b : Bool) → (b ≡ true) ⊎ (b ≡ false)
 bool_cases true = inl refl
 bool_cases false = inr refl
 
-case_of : (text : List ℕ) → Case text
-case_of text =
-    elim (cases_lt (length text) 4) [
-      | inl lt ↦ short lt (front_of-short text lt)
-      | inr le ↦ elim (bool_cases (is_length (len_of text))) [
-        | inr b ↦ bad_len le b (front_of-broken text le b)
-        | inl g ↦ elim (cases_lt (length text) (len_of text)) [
-          | inl lt ↦ partial le g lt (front_of-part text le g lt)
-          | inr enough ↦ complete le g enough (front_of-whole text le g enough)
+case_of : (stream : List ℕ) → Case stream
+case_of stream =
+    elim (cases_lt (length stream) 4) [
+      | inl lt ↦ short lt (beginning_of-short stream lt)
+      | inr le ↦ elim (bool_cases (is_length (len_of stream))) [
+        | inr b ↦ bad_len le b (beginning_of-broken stream le b)
+        | inl g ↦ elim (cases_lt (length stream) (len_of stream)) [
+          | inl lt ↦ partial le g lt (beginning_of-part stream le g lt)
+          | inr enough ↦ complete le g enough (beginning_of-whole stream le g enough)
         ]
       ]
     ]
 
 -- ---- a whole message
 
--- what is held is a front of what it is with a piece
+-- what is held is a prefix of what it is with a piece
 taken_is : (held piece : List ℕ) (len : ℕ) → 4 ≤ len → len ≤ length (held ++ piece) → length held ≤ len
     → length (held ++ take (len - length held) piece) ≡ len
 taken_is held piece len four enough below =
     let within : len - length held ≤ length piece = omega (arith, length-append held piece) in
-    omega (arith, length-front held piece (len - length held) within)
+    omega (arith, length-prefix held piece (len - length held) within)
 
--- the length field of a front
-front_len : (held piece : List ℕ) (n : ℕ) → 4 ≤ length (held ++ take n piece)
+-- the length field of a prefix
+prefix_len : (held piece : List ℕ) (n : ℕ) → 4 ≤ length (held ++ take n piece)
     → len_of (held ++ take n piece) ≡ len_of (held ++ piece)
-front_len held piece n four = sym (ap len_of (front_then_rest held piece n)
+prefix_len held piece n four = sym (ap len_of (prefix_then_rest held piece n)
     ∙ len_of-append (held ++ take n piece) (drop n piece) four)
 
--- what is held ends before the message that the text begins with
+-- what is held ends before the message that the stream begins with
 held_before : (held piece : List ℕ) → is_whole held ≡ false → is_length (len_of (held ++ piece)) ≡ true
     → length held < len_of (held ++ piece)
 held_before held piece u g =
@@ -75,7 +75,7 @@ held_before held piece u g =
           (arith, same, unfinished_below held le (sym (ap is_length same) ∙ g) u)
     ]
 
--- where a text begins with a message, feeding ends with it
+-- where a stream begins with a message, feeding ends with it
 whole_fed : (held piece : List ℕ) → is_whole held ≡ false → 4 ≤ length (held ++ piece)
     → is_length (len_of (held ++ piece)) ≡ true → len_of (held ++ piece) ≤ length (held ++ piece)
     → IsWholeMessage (held ++ take (len_of (held ++ piece) - length held) piece)
@@ -85,41 +85,41 @@ whole_fed held piece u four g enough =
     = taken_is held piece (len_of (held ++ piece)) low enough
     (omega (arith, held_before held piece u g)) in
     let same : len_of (held ++ take (len_of (held ++ piece) - length held) piece) ≡ len_of (held ++ piece)
-    = front_len held piece (len_of (held ++ piece) - length held) (omega (arith, size)) in
-    front_of-whole (held ++ take (len_of (held ++ piece) - length held) piece) (omega (arith, size))
+    = prefix_len held piece (len_of (held ++ piece) - length held) (omega (arith, size)) in
+    beginning_of-whole (held ++ take (len_of (held ++ piece) - length held) piece) (omega (arith, size))
     (ap is_length same ∙ g) (omega (arith, size, same)) ∙ ap whole (same ∙ sym size)
 
--- where a text begins with no length field of a message, feeding holds that field
+-- where a stream begins with no length field of a message, feeding holds that field
 broken_fed : (held piece : List ℕ) → 4 ≤ length (held ++ piece) → is_length (len_of (held ++ piece)) ≡ false
-    → front_of (held ++ take (4 - length held) piece) ≡ broken (len_of (held ++ piece))
+    → beginning_of (held ++ take (4 - length held) piece) ≡ broken (len_of (held ++ piece))
 broken_fed held piece four b =
     let within : 4 - length held ≤ length piece = omega (arith, length-append held piece) in
     let size : 4 ≤ length (held ++ take (4 - length held) piece)
-    = omega (arith, length-front held piece (4 - length held) within) in
-    let same = front_len held piece (4 - length held) size in
-    front_of-broken (held ++ take (4 - length held) piece) size (ap is_length same ∙ b) ∙ ap broken same
+    = omega (arith, length-prefix held piece (4 - length held) within) in
+    let same = prefix_len held piece (4 - length held) size in
+    beginning_of-broken (held ++ take (4 - length held) piece) size (ap is_length same ∙ b) ∙ ap broken same
 
 -- what feeding makes whole is one message
 pub fed_message : (held piece : List ℕ) → is_whole held ≡ false → is_whole (fed_on held piece) ≡ true
     → IsWholeMessage (fed_on held piece)
 fed_message held piece u w =
     elim (case_of (held ++ piece)) [
-      | short lt f ↦ clash (sym w ∙ rw f (rw (take_all (length piece) piece (omega arith)) (ap is_whole_front f)))
+      | short lt f ↦ clash (sym w ∙ rw f (rw (take_all (length piece) piece (omega arith)) (ap is_whole_beginning f)))
       | partial four g lt f ↦ clash (sym w ∙ rw f
-          (rw (take_all (length piece) piece (omega arith)) (ap is_whole_front f)))
-      | bad_len four b f ↦ clash (sym w ∙ rw f (ap is_whole_front (broken_fed held piece four b)))
+          (rw (take_all (length piece) piece (omega arith)) (ap is_whole_beginning f)))
+      | bad_len four b f ↦ clash (sym w ∙ rw f (ap is_whole_beginning (broken_fed held piece four b)))
       | complete four g enough f ↦ rw f (whole_fed held piece u four g enough)
     ]
 
 -- whether a message is whole then is what the answer says
-pub whole_told : (held piece : List ℕ) → is_whole held ≡ false
+pub whole_as_answered : (held piece : List ℕ) → is_whole held ≡ false
     → is_whole (fed_on held piece) ≡ says_whole (feed_answer held piece)
-whole_told held piece u =
+whole_as_answered held piece u =
     elim (case_of (held ++ piece)) [
-      | short lt f ↦ rw f (rw (take_all (length piece) piece (omega arith)) (ap is_whole_front f))
-      | partial four g lt f ↦ rw f (rw (take_all (length piece) piece (omega arith)) (ap is_whole_front f))
-      | bad_len four b f ↦ rw f (ap is_whole_front (broken_fed held piece four b))
-      | complete four g enough f ↦ rw f (ap is_whole_front (whole_fed held piece u four g enough))
+      | short lt f ↦ rw f (rw (take_all (length piece) piece (omega arith)) (ap is_whole_beginning f))
+      | partial four g lt f ↦ rw f (rw (take_all (length piece) piece (omega arith)) (ap is_whole_beginning f))
+      | bad_len four b f ↦ rw f (ap is_whole_beginning (broken_fed held piece four b))
+      | complete four g enough f ↦ rw f (ap is_whole_beginning (whole_fed held piece u four g enough))
     ]
 
 -- a message that becomes whole uses some of the piece
@@ -139,19 +139,19 @@ some_used held piece u =
 -- ---- the run
 
 pub empty_unfinished : is_whole [] ≡ false
-empty_unfinished = ap is_whole_front (front_of-short [] (omega arith))
+empty_unfinished = ap is_whole_beginning (beginning_of-short [] (omega arith))
 
-pub unfinished_partial : (text : List ℕ) → is_whole (unfinished text) ≡ false
-unfinished_partial text =
-    elim (bool_cases (is_whole text)) [
+pub unfinished_partial : (stream : List ℕ) → is_whole (unfinished stream) ≡ false
+unfinished_partial stream =
+    elim (bool_cases (is_whole stream)) [
       | inl w ↦ rw w empty_unfinished
       | inr u ↦ rw u u
     ]
 
-apart : (text : List ℕ) → text ≡ flat_map (λ (m : List ℕ). m) (finished text) ++ unfinished text
-apart text =
-    elim (bool_cases (is_whole text)) [
-      | inl w ↦ rw w (sym (append-nil (text ++ []) ∙ append-nil text))
+apart : (stream : List ℕ) → stream ≡ flat_map (λ (m : List ℕ). m) (finished stream) ++ unfinished stream
+apart stream =
+    elim (bool_cases (is_whole stream)) [
+      | inl w ↦ rw w (sym (append-nil (stream ++ []) ∙ append-nil stream))
       | inr u ↦ rw u refl
     ]
 
@@ -169,29 +169,29 @@ each_append [] b p q = q
 each_append (x ∷ a) b p q = (p.0, each_append a b p.1 q)
 
 -- one more piece
-step : (now text : List ℕ) (messages : List (List ℕ)) (rest : List ℕ)
-    → unfinished now ++ text ≡ flat_map (λ (m : List ℕ). m) messages ++ rest
-    → now ++ text ≡ flat_map (λ (m : List ℕ). m) (finished now ++ messages) ++ rest
-step now text messages rest e =
-    ap (λ (x : List ℕ). x ++ text) (apart now)
-    ∙ append_assoc (flat_map (λ (m : List ℕ). m) (finished now)) (unfinished now) text
+step : (now stream : List ℕ) (messages : List (List ℕ)) (rest : List ℕ)
+    → unfinished now ++ stream ≡ flat_map (λ (m : List ℕ). m) messages ++ rest
+    → now ++ stream ≡ flat_map (λ (m : List ℕ). m) (finished now ++ messages) ++ rest
+step now stream messages rest e =
+    ap (λ (x : List ℕ). x ++ stream) (apart now)
+    ∙ append_assoc (flat_map (λ (m : List ℕ). m) (finished now)) (unfinished now) stream
     ∙ ap (λ (x : List ℕ). flat_map (λ (m : List ℕ). m) (finished now) ++ x) e
     ∙ sym (append_assoc (flat_map (λ (m : List ℕ). m) (finished now)) (flat_map (λ (m : List ℕ). m) messages) rest)
     ∙ ap (λ (x : List ℕ). x ++ rest) (sym (flat_map-append (λ (m : List ℕ). m) (finished now) messages))
 
 -- what is held and the bytes taken are the messages given and what is left
 run_splits : (held : List ℕ) (pieces : List (List ℕ)) → is_whole held ≡ false
-    → Splits (held ++ text_of held pieces) (messages_of held pieces) (left_of held pieces)
-run_splits held [] u = record { text_is = append-nil held; each = tt; partial = u }
+    → Splits (held ++ bytes_taken held pieces) (messages_of held pieces) (left_of held pieces)
+run_splits held [] u = record { stream_is = append-nil held; each = tt; partial = u }
 run_splits held (piece ∷ pieces) u =
     let next = run_splits (unfinished (fed_on held piece)) pieces (unfinished_partial (fed_on held piece)) in
-    let joined : held ++ (taken_of held piece ++ text_of (unfinished (fed_on held piece)) pieces)
-    ≡ fed_on held piece ++ text_of (unfinished (fed_on held piece)) pieces
-    = sym (append_assoc held (taken_of held piece) (text_of (unfinished (fed_on held piece)) pieces)) in
+    let joined : held ++ (taken_of held piece ++ bytes_taken (unfinished (fed_on held piece)) pieces)
+    ≡ fed_on held piece ++ bytes_taken (unfinished (fed_on held piece)) pieces
+    = sym (append_assoc held (taken_of held piece) (bytes_taken (unfinished (fed_on held piece)) pieces)) in
     record {
-      text_is = joined ∙ step (fed_on held piece) (text_of (unfinished (fed_on held piece)) pieces)
+      stream_is = joined ∙ step (fed_on held piece) (bytes_taken (unfinished (fed_on held piece)) pieces)
           (messages_of (unfinished (fed_on held piece)) pieces)
-          (left_of (unfinished (fed_on held piece)) pieces) next.text_is;
+          (left_of (unfinished (fed_on held piece)) pieces) next.stream_is;
       each = each_append (finished (fed_on held piece))
           (messages_of (unfinished (fed_on held piece)) pieces) (finished_each held piece u) next.each;
       partial = next.partial;
@@ -224,10 +224,10 @@ length_err : (a b : ℕ) → said (Err (bad.Length a)) ≡ Err (bad.Length b) �
 length_err a b e = cc
 
 begun : (m rest : List ℕ) → len_of m ≡ length m → 4 ≤ length m → is_length (len_of m) ≡ true
-    → front_of (m ++ rest) ≡ whole (length m)
+    → beginning_of (m ++ rest) ≡ whole (length m)
 begun m rest e four g =
     let same = len_of-append m rest four in
-    front_of-whole (m ++ rest) (omega (arith, length-append m rest)) (ap is_length same ∙ g)
+    beginning_of-whole (m ++ rest) (omega (arith, length-append m rest)) (ap is_length same ∙ g)
     (omega (arith, length-append m rest, same)) ∙ ap whole (same ∙ e)
 
 cons_flat : (m : List ℕ) (ms : List (List ℕ)) (r : List ℕ) → flat_map (λ (x : List ℕ). x) (m ∷ ms) ++ r ≡ m
@@ -239,11 +239,11 @@ refused_on : (held piece : List ℕ) (len : ℕ) → 4 ≤ length held → is_le
     → len_of held ≡ len → feed_answer held piece ≡ Err (bad.Length len)
 refused_on held piece len four b e =
     let same = len_of-append held piece four in
-    ap (answer_at (length held)) (front_of-broken (held ++ piece) (omega (arith, length-append held piece))
+    ap (answer_at (length held)) (beginning_of-broken (held ++ piece) (omega (arith, length-append held piece))
     (ap is_length same ∙ b) ∙ ap broken (same ∙ e))
 
--- a text that a whole message begins has its length field
-begins : (m rest : List ℕ) → IsWholeMessage m → front_of (m ++ rest) ≡ whole (length m)
+-- a stream that a whole message begins has its length field
+begins : (m rest : List ℕ) → IsWholeMessage m → beginning_of (m ++ rest) ≡ whole (length m)
 begins m rest h =
     elim (case_of m) [
       | short lt f ↦ absurd (part_whole (length m) (sym f ∙ h))
@@ -252,17 +252,17 @@ begins m rest h =
       | complete four g enough f ↦ begun m rest (same_whole (len_of m) (length m) (sym f ∙ h)) four g
     ]
 
--- two messages that begin one text are one
+-- two messages that begin one stream are one
 same_first : (m n x y : List ℕ) → IsWholeMessage m → IsWholeMessage n → m ++ x ≡ n ++ y → (m ≡ n) × (x ≡ y)
 same_first m n x y p q e =
     let size : length m ≡ length n = same_whole (length m) (length n)
-    (sym (begins m x p) ∙ ap front_of e ∙ begins n y q) in
-    let front : m ≡ n = sym (take_at m x (length m) refl) ∙ ap (take (length m)) e
+    (sym (begins m x p) ∙ ap beginning_of e ∙ begins n y q) in
+    let prefix : m ≡ n = sym (take_at m x (length m) refl) ∙ ap (take (length m)) e
     ∙ take_at n y (length m) (sym size) in
-    (front, append_cancel_left n x y (ap (λ (z : List ℕ). z ++ x) (sym front) ∙ e))
+    (prefix, append_cancel_left n x y (ap (λ (z : List ℕ). z ++ x) (sym prefix) ∙ e))
 
 no_more : (m rest end : List ℕ) → IsWholeMessage m → is_whole end ≡ false → end ≡ m ++ rest → ⊥
-no_more m rest end h u e = clash (sym (ap is_whole_front (ap front_of e ∙ begins m rest h)) ∙ u)
+no_more m rest end h u e = clash (sym (ap is_whole_beginning (ap beginning_of e ∙ begins m rest h)) ∙ u)
 
 split_once : (ms ns : List (List ℕ)) (r s : List ℕ) → AllByRecursion IsWholeMessage ms
     → AllByRecursion IsWholeMessage ns → is_whole r ≡ false → is_whole s ≡ false
@@ -278,19 +278,19 @@ split_once (m ∷ ms) (n ∷ ns) r s p q u v e =
     let others = split_once ms ns r s p.1 q.1 u v first.1 in
     (ap (λ (x : List ℕ). x ∷ ms) first.0 ∙ ap (λ (x : List (List ℕ)). n ∷ x) others.0, others.1)
 
--- a text has one splitting
-pub one_splitting : (text : List ℕ) (ms ns : List (List ℕ)) (r s : List ℕ) → Splits text ms r
-    → Splits text ns s → (ms ≡ ns) × (r ≡ s)
-one_splitting text ms ns r s p q = split_once ms ns r s p.each q.each p.partial q.partial (sym p.text_is ∙ q.text_is)
+-- a stream has one splitting
+pub one_splitting : (stream : List ℕ) (ms ns : List (List ℕ)) (r s : List ℕ) → Splits stream ms r
+    → Splits stream ns s → (ms ≡ ns) × (r ≡ s)
+one_splitting stream ms ns r s p q = split_once ms ns r s p.each q.each p.partial q.partial (sym p.stream_is ∙ q.stream_is)
 
--- the pieces of a text give its messages
-pub pieces_split : (pieces : List (List ℕ)) → Splits (text_of [] pieces) (messages_of [] pieces) (left_of [] pieces)
+-- the pieces of a stream give its messages
+pub pieces_split : (pieces : List (List ℕ)) → Splits (bytes_taken [] pieces) (messages_of [] pieces) (left_of [] pieces)
 pieces_split pieces = run_splits [] pieces empty_unfinished
 
 -- ---- a length field that no message has
 
 -- it is refused whatever follows
-pub refused_again : (held piece : List ℕ) (len : ℕ) → front_of held ≡ broken len
+pub refused_again : (held piece : List ℕ) (len : ℕ) → beginning_of held ≡ broken len
     → feed_answer held piece ≡ Err (bad.Length len)
 refused_again held piece len h =
     elim (case_of held) [
@@ -302,7 +302,7 @@ refused_again held piece len h =
 
 -- and is what is held then
 pub refused_held : (held piece : List ℕ) (len : ℕ) → feed_answer held piece ≡ Err (bad.Length len)
-    → front_of (fed_on held piece) ≡ broken len
+    → beginning_of (fed_on held piece) ≡ broken len
 refused_held held piece len h =
     elim (case_of (held ++ piece)) [
       | short lt f ↦ absurd (more_err len (sym (ap (answer_at (length held)) f) ∙ h))

@@ -4,7 +4,7 @@ use Rattle.fuse_msgs.specs.declared.request.Op.{Op}
 use Rattle.fuse_msgs.specs.declared.request.Op.TheVariants as op
 use Rattle.fuse_msgs.specs.declared.opcode.Opcode.{Opcode}
 use Rattle.fuse_msgs.specs.declared.opcode.Opcode.TheVariants as opcode
-use Rattle.fuse_msgs.specs.Names.{IsNameText, IsCreateIn, is_name_text}
+use Rattle.fuse_msgs.specs.Names.{IsTerminatedName, IsCreateIn, is_terminated_name}
 use Rattle.fuse_msgs.specs.Attributes.{IsGetattrIn, IsSetattrIn}
 use Rattle.fuse_msgs.specs.ReadWrite.{IsReadIn, IsWriteIn, has_data}
 use Rattle.fuse_msgs.specs.Handles.{IsOpenIn, IsReleaseIn, IsFlushIn, IsFsyncIn}
@@ -13,11 +13,11 @@ use Rattle.fuse_msgs.specs.Session.{IsInitIn, IsForgetIn}
 
 -- the bytes are the body of that operation
 abbrev pub IsBody : List ℕ → Op → Type 0
-IsBody body (op.Lookup name) = IsNameText body name
+IsBody body (op.Lookup name) = IsTerminatedName body name
 IsBody body op.Forget = IsForgetIn body
 IsBody body op.Getattr = IsGetattrIn body
 IsBody body (op.Setattr size owner) = IsSetattrIn body size owner
-IsBody body (op.Unlink name) = IsNameText body name
+IsBody body (op.Unlink name) = IsTerminatedName body name
 IsBody body op.Open = IsOpenIn body
 IsBody body (op.Read fh at size owner) = IsReadIn body fh at size owner
 IsBody body (op.Write fh at owner bytes) = IsWriteIn body fh at owner bytes
@@ -53,7 +53,7 @@ has_shape opcode.Destroy body = true
 
 -- whether the name of a body is one; most opcodes have none
 abbrev pub has_name : Opcode → List ℕ → Bool
-has_name opcode.Lookup body = is_name_text body
-has_name opcode.Unlink body = is_name_text body
-has_name opcode.Create body = is_name_text (drop 16 body)
+has_name opcode.Lookup body = is_terminated_name body
+has_name opcode.Unlink body = is_terminated_name body
+has_name opcode.Create body = is_terminated_name (drop 16 body)
 has_name _ body = true

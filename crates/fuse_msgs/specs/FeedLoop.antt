@@ -1,4 +1,4 @@
--- A loop that feeds the pieces of a text, and the rest of a piece again where a message ended in it.
+-- A loop that feeds the pieces of a stream, and the rest of a piece again where a message ended in it.
 use Rattle.std.specs.Prelude.{◌≡◌, ℕ, zero, suc, List, [], ◌∷◌, ◌++◌, drop, Result, Ok, Err}
 use Rattle.std.specs.List.{flat_map}
 use Rattle.fuse_msgs.specs.declared.feed.Fed.{Fed}
@@ -6,7 +6,7 @@ use Rattle.fuse_msgs.specs.declared.feed.Fed.TheVariants as fed
 use Rattle.fuse_msgs.specs.declared.fault.BadMessage.{BadMessage}
 use Rattle.fuse_msgs.specs.Feed.{feed_answer, fed_on}
 
--- the text of which these are the pieces
+-- the stream of which these are the pieces
 abbrev pub joined : List (List ℕ) → List ℕ
 joined pieces = flat_map (λ piece. piece) pieces
 

@@ -12,4 +12,5 @@ pub mod Decoding
 pub mod Reply
 pub mod Feed
 pub mod FeedLoop
-pub mod Text
+pub mod Encoding
+pub mod steps

@@ -1,5 +1,5 @@
 -- Which bytes are a request, and the first fault of those that are none.
-use Rattle.std.specs.Prelude.{◌≡◌, ℕ, ◌<◌, ◌≤◌, ◌==◌, ◌&&◌, not, nat_lt, nat_le, Bool, false, List, length, drop, Option, Some, None, if◌then◌else◌}
+use Rattle.std.specs.Prelude.{◌≡◌, ℕ, ◌≤◌, ◌==◌, ◌&&◌, not, nat_lt, nat_le, Bool, List, length, drop, Option, Some, None, if◌then◌else◌}
 use Rattle.fuse_msgs.specs.declared.request.Request.{Request}
 use Rattle.fuse_msgs.specs.declared.opcode.Opcode.{Opcode}
 use Rattle.fuse_msgs.specs.declared.fault.BadMessage.{BadMessage}
@@ -60,20 +60,3 @@ refusal bytes =
     if nat_lt (length bytes) 40 then Some bad.Short else
     if not (is_length (len_of bytes) && (len_of bytes == length bytes)) then Some (bad.Length (len_of bytes)) else
     opcode_refusal (opcode_named (opcode_field bytes)) bytes
-
--- the bytes begin with a header of these fields, and all of them are one message by its length
-pub record HasHeader (bytes : List ℕ) (number unique node pid : ℕ) : Type 0 where
-  pub header : 40 ≤ length bytes
-  pub limit : length bytes ≤ 135168
-  pub len_is : len_of bytes ≡ length bytes
-  pub opcode_is : number ≡ opcode_field bytes
-  pub unique_is : unique ≡ unique_of bytes
-  pub node_is : node ≡ node_of bytes
-  pub pid_is : pid ≡ pid_of bytes
-
--- the bytes have no such header, for this first reason
-abbrev pub LacksHeader : List ℕ → BadMessage → Type 0
-LacksHeader bytes bad.Short = length bytes < 40
-LacksHeader bytes (bad.Length len) = (40 ≤ length bytes) × (len ≡ len_of bytes)
-    × ((is_length len && (len == length bytes)) ≡ false)
-LacksHeader bytes _ = ⊥

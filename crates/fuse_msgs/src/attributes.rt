@@ -1,7 +1,7 @@
 //! GETATTR and SETATTR.
 
 ghost use Rattle.fuse_msgs.specs.declared.opcode.Opcode.TheVariants as opcode;
-ghost use Rattle.fuse_msgs.specs.Decoding.{IsReading};
+ghost use Rattle.fuse_msgs.specs.steps.Reading.{IsReading};
 
 use crate::fault::BodyFault;
 use crate::fields::{given, sized};

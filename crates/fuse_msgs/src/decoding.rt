@@ -5,7 +5,8 @@ ghost use Rattle.fuse_msgs.specs.declared.fault.BadMessage.{BadMessage};
 ghost use Rattle.fuse_msgs.specs.declared.fault.BadMessage.TheVariants as bad;
 ghost use Rattle.fuse_msgs.specs.declared.request.Request.{Request};
 ghost use Rattle.fuse_msgs.specs.Message.{IsMessage, refusal};
-ghost use Rattle.fuse_msgs.specs.Decoding.{IsReading, IsDecoding, IsUnlessMemory, TakesMemoryToRead};
+ghost use Rattle.fuse_msgs.specs.Decoding.{IsUnlessMemory, TakesMemoryToRead};
+ghost use Rattle.fuse_msgs.specs.steps.Reading.{IsReading, IsDecoding};
 
 use crate::fault::{BadMessage, BodyFault};
 use crate::header::{HEADER, header_in};

@@ -1,4 +1,4 @@
-//! Messages from a text that comes in pieces.
+//! Messages from a stream that comes in pieces.
 
 ghost use Rattle.std.specs.Prelude.{◌≡◌, ◌+◌, ◌-◌, ◌≤◌, ◌++◌, [], true, false, length, take, min, vec_len, vec_capacity, IfOk, IfErr};
 ghost use Rattle.fuse_msgs.specs.Feed.{is_whole, unfinished, feed_answer, fed_on, says_whole, UsesSome, TakesAll, BeginsRefused};
@@ -47,7 +47,7 @@ impl MessageFeed {
         Ok(MessageFeed { bytes })
     }
 
-    /// Takes a piece of the text, up to the end of a message. A length field that no message has is
+    /// Takes a piece of the stream, up to the end of a message. A length field that no message has is
     /// answered by `Length` as soon as its four bytes are there, and again at each later call.
     pub fn feed(&mut self, piece: &[u8]) -> Result<Fed, BadMessage>
         requires { is_whole self.old ≡ false }
@@ -57,7 +57,7 @@ impl MessageFeed {
         ensures used { UsesSome result (length piece.now) }
         // No byte is lost.
         ensures all { IfOk result (TakesAll self.old piece.now self.new) }
-        // No message has the length field with which the text begins, and from then on it is held.
+        // No message has the length field with which the stream begins, and from then on it is held.
         ensures refused { IfErr result (λ fault. BeginsRefused (self.old ++ piece.now) fault × BeginsRefused self.new fault) }
     {
         feed_into(&mut self.bytes, piece)
@@ -93,7 +93,7 @@ impl MessageFeed {
     }
 }
 
-#[tactic(auto, unfolding(crate::specs::Feed::front_of))]
+#[tactic(auto, unfolding(crate::specs::Feed::beginning_of))]
 fn is_whole(held: &[u8]) -> bool
     ensures { result ≡ is_whole held.now }
 {
@@ -136,7 +136,7 @@ fn fill(held: &mut Vec<u8>, target: usize, piece: &[u8]) -> usize
     ensures capacity { vec_capacity held.old ≤ vec_capacity held.new }
 {
     let count = target.saturating_sub(held.len()).min(piece.len());
-    let (front, _) = piece.split_at(count);
-    held.extend_from_slice(front).unwrap();
+    let (prefix, _) = piece.split_at(count);
+    held.extend_from_slice(prefix).unwrap();
     count
 }

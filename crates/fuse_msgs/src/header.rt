@@ -1,7 +1,8 @@
 //! The head of a request: `fuse_in_header` of fuse.h.
 
 ghost use Rattle.std.specs.Prelude.{◌≡◌, ◌≤◌, length, IfOk, IfErr};
-ghost use Rattle.fuse_msgs.specs.Message.{is_length, HasHeader, LacksHeader};
+ghost use Rattle.fuse_msgs.specs.Message.{is_length};
+ghost use Rattle.fuse_msgs.specs.steps.Reading.{HasHeader, LacksHeader};
 
 use crate::fault::BadMessage;
 use lf_base::{le32_at, le64_at};

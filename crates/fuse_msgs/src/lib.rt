@@ -31,7 +31,7 @@ pub use decoding::decode;
 pub use encoding::encode;
 pub use fault::BadMessage;
 pub use feed::{Fed, MessageFeed};
-pub use laws::{any_pieces, refused_for_good, request_texts, rests_fed_again};
+pub use laws::{any_pieces, refused_for_good, request_encodings, rests_fed_again};
 pub use reply::Reply;
 pub use request::{LockWish, Op, Request};
 

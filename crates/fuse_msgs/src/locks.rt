@@ -3,7 +3,7 @@
 ghost use Rattle.std.specs.Prelude.{◌≡◌, ◌<◌, false, IfOk, IfSome, IfNone, OnErr, IsErrOf};
 ghost use Rattle.fuse_msgs.specs.declared.opcode.Opcode.TheVariants as opcode;
 ghost use Rattle.fuse_msgs.specs.Locks.{IsLkIn, has_lock, lock_type};
-ghost use Rattle.fuse_msgs.specs.Decoding.{IsReading};
+ghost use Rattle.fuse_msgs.specs.steps.Reading.{IsReading};
 
 use crate::fault::BodyFault;
 use crate::fields::sized;

@@ -2,8 +2,9 @@
 
 ghost use Rattle.std.specs.Prelude.{◌≡◌, length, IfOk, IfErr};
 ghost use Rattle.fuse_msgs.specs.declared.opcode.Opcode.TheVariants as opcode;
-ghost use Rattle.fuse_msgs.specs.Names.{is_name, IsNameText, LacksName};
-ghost use Rattle.fuse_msgs.specs.Decoding.{IsReading};
+ghost use Rattle.fuse_msgs.specs.Names.{is_name, IsTerminatedName};
+ghost use Rattle.fuse_msgs.specs.steps.Reading.{LacksName};
+ghost use Rattle.fuse_msgs.specs.steps.Reading.{IsReading};
 
 use crate::fault::BodyFault;
 use crate::request::Op;
@@ -39,8 +40,8 @@ pub fn create(alloc: Global, body: &[u8]) -> Result<Op, BodyFault>
     if body.len() < CREATE_IN {
         return Err(BodyFault::Shape);
     }
-    let (_, text) = body.split_at(CREATE_IN);
-    let name = name_in(alloc, text)?;
+    let (_, bytes) = body.split_at(CREATE_IN);
+    let name = name_in(alloc, bytes)?;
     Ok(Op::Create { name })
 }
 
@@ -51,17 +52,17 @@ fn is_name(name: &[u8]) -> bool
 }
 
 /// The name that a zero byte ends.
-#[tactic(auto, unfolding(crate::specs::Names::is_name_text), using(crate::proofs::NameText::name_then_zero))]
-fn name_in(alloc: Global, text: &[u8]) -> Result<Bytes, BodyFault>
-    ensures ok { IfOk result (λ name. IsNameText text.now name) }
-    ensures err { IfErr result (λ fault. LacksName text.now fault) }
+#[tactic(auto, unfolding(crate::specs::Names::is_terminated_name), using(crate::proofs::TerminatedName::name_then_zero))]
+fn name_in(alloc: Global, bytes: &[u8]) -> Result<Bytes, BodyFault>
+    ensures ok { IfOk result (λ name. IsTerminatedName bytes.now name) }
+    ensures err { IfErr result (λ fault. LacksName bytes.now fault) }
 {
-    if text.is_empty() {
+    if bytes.is_empty() {
         return Err(BodyFault::Name);
     }
-    let end = text.len() - 1;
-    let (name, _) = text.split_at(end);
-    if !is_name(name) || text[end] != 0 {
+    let end = bytes.len() - 1;
+    let (name, _) = bytes.split_at(end);
+    if !is_name(name) || bytes[end] != 0 {
         return Err(BodyFault::Name);
     }
     Ok(Bytes::of(Vec::from_slice(alloc, name)?))

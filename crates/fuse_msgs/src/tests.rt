@@ -40,7 +40,7 @@ fn with_len(alloc: Global, bytes: &[u8], size: usize, field: usize) -> Result<Ve
 }
 
 /// How the operation prints that is read, or the name of the fault.
-fn told(alloc: Global, bytes: &[u8]) -> Result<String, AllocError> {
+fn printed(alloc: Global, bytes: &[u8]) -> Result<String, AllocError> {
     match decode(alloc, bytes) {
         Ok(request) => {
             let op = request.op;
@@ -147,14 +147,14 @@ fn refuses_the_first_fault(rt: HostRuntime) -> Result<(), Fail> {
 fn message(
     alloc: Global,
     opcode: u32,
-    front: &[u8],
+    fields: &[u8],
     size: usize,
     end: &[u8],
 ) -> Result<Vec<u8>, AllocError> {
     let mut message = hex(alloc, b"00000000")?;
     message.extend_from_slice(&opcode.to_le_bytes())?;
     message.resize(40, 0)?;
-    message.extend_from_slice(front)?;
+    message.extend_from_slice(fields)?;
     message.resize(message.len().saturating_add(size), 97)?;
     message.extend_from_slice(end)?;
     let len = message.len();
@@ -175,11 +175,11 @@ fn bounds_of_names(rt: HostRuntime) -> Result<(), Fail> {
 fn bounds_of_data(rt: HostRuntime) -> Result<(), Fail> {
     let alloc = rt.alloc();
     for (size, good) in [(0u32, true), (131_072, true), (131_073, false)] {
-        let mut front = Vec::new(alloc);
-        front.resize(16, 0)?;
-        front.extend_from_slice(&size.to_le_bytes())?;
-        front.resize(40, 0)?;
-        let message = message(alloc, 16, &front, size as usize, &[])?;
+        let mut fields = Vec::new(alloc);
+        fields.resize(16, 0)?;
+        fields.extend_from_slice(&size.to_le_bytes())?;
+        fields.resize(40, 0)?;
+        let message = message(alloc, 16, &fields, size as usize, &[])?;
         assert_eq!(rt; decode(alloc, &message).is_ok(), good, "{size}");
     }
     Ok(())

@@ -1,4 +1,4 @@
-//! A text of messages, in pieces of each size.
+//! A stream of messages, in pieces of each size.
 
 ghost use Rattle.std.specs.Prelude.{◌≡◌, false, OnOk};
 ghost use Rattle.fuse_msgs.specs.Feed.{is_whole};
@@ -9,15 +9,15 @@ use std::alloc::{AllocError, Global};
 use std::test::Fail;
 
 /// READ, DESTROY and the first ten bytes of READ.
-fn text(alloc: Global) -> Result<Vec<u8>, AllocError> {
+fn stream(alloc: Global) -> Result<Vec<u8>, AllocError> {
     let read = hex(alloc, read_request())?;
-    let mut text = read.clone()?;
-    text.extend_from_slice(&hex(
+    let mut stream = read.clone()?;
+    stream.extend_from_slice(&hex(
         alloc,
         b"28000000 26000000 0800000000000000 0100000000000000 0000000000000000 0000000000000000",
     )?)?;
-    text.extend_from_slice(read.get(..10).unwrap_or(&[]))?;
-    Ok(text)
+    stream.extend_from_slice(read.get(..10).unwrap_or(&[]))?;
+    Ok(stream)
 }
 
 /// Feeds a piece, appends the message that it ends, and gives the rest of the piece.
@@ -40,11 +40,11 @@ fn step<'a>(
     }
 }
 
-/// The messages of the text in pieces of this size, and how many bytes are left.
-fn messages_in(alloc: Global, text: &[u8], size: usize) -> Result<(Vec<u8>, usize), Fail> {
+/// The messages of the stream in pieces of this size, and how many bytes are left.
+fn messages_in(alloc: Global, stream: &[u8], size: usize) -> Result<(Vec<u8>, usize), Fail> {
     let mut feed = MessageFeed::new(alloc).ok().ok_or("memory")?;
     let mut messages = Vec::new(alloc);
-    let mut rest = text;
+    let mut rest = stream;
     while !rest.is_empty() {
         let (piece, after) = rest.split_at(size.min(rest.len()).max(1));
         let piece = step(&mut feed, &mut messages, piece)?;
@@ -59,13 +59,13 @@ fn messages_in(alloc: Global, text: &[u8], size: usize) -> Result<(Vec<u8>, usiz
 #[test]
 fn messages_in_pieces(rt: HostRuntime) -> Result<(), Fail> {
     let alloc = rt.alloc();
-    let text = text(alloc)?;
+    let stream = stream(alloc)?;
     for size in [1usize, 3, 4, 39, 40, 79, 80, 81, 119, 120, 200] {
-        let (messages, held) = messages_in(alloc, &text, size)?;
+        let (messages, held) = messages_in(alloc, &stream, size)?;
         assert_eq!(rt; held, 10, "{size}");
         assert_eq!(rt;
             messages.as_slice(),
-            text.get(..120).unwrap_or(&[]),
+            stream.get(..120).unwrap_or(&[]),
             "{size}"
         );
     }

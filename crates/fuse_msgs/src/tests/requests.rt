@@ -4,7 +4,7 @@
 
 ghost use Rattle.std.specs.Prelude.{◌<◌};
 
-use super::{hex, told, with_len};
+use super::{hex, printed, with_len};
 use std::test::Fail;
 
 /// A message, and how what is read of it prints; the same with a byte more and with a byte less.
@@ -186,11 +186,15 @@ fn each_opcode(rt: HostRuntime) -> Result<(), Fail> {
         let row = row_at(index);
         let bytes = hex(alloc, row.message)?;
         let len = bytes.len();
-        assert_eq!(rt; told(alloc, &bytes)?.as_bytes(), row.whole, "{index}");
+        assert_eq!(rt; printed(alloc, &bytes)?.as_bytes(), row.whole, "{index}");
         let longer = with_len(alloc, &bytes, len.saturating_add(1), len.saturating_add(1))?;
-        assert_eq!(rt; told(alloc, &longer)?.as_bytes(), row.longer, "{index}");
+        assert_eq!(rt; printed(alloc, &longer)?.as_bytes(), row.longer, "{index}");
         let shorter = with_len(alloc, &bytes, len.saturating_sub(1), len.saturating_sub(1))?;
-        assert_eq!(rt; told(alloc, &shorter)?.as_bytes(), row.shorter, "{index}");
+        assert_eq!(rt;
+            printed(alloc, &shorter)?.as_bytes(),
+            row.shorter,
+            "{index}"
+        );
     }
     Ok(())
 }
@@ -204,7 +208,7 @@ fn each_length_field(rt: HostRuntime) -> Result<(), Fail> {
         for field in [len.saturating_add(1), len.saturating_sub(1)] {
             let message = with_len(alloc, &bytes, len, field)?;
             assert_eq!(rt;
-                told(alloc, &message)?.as_bytes(),
+                printed(alloc, &message)?.as_bytes(),
                 b"Length".as_slice(),
                 "{index}"
             );

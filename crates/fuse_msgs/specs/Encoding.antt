@@ -1,4 +1,4 @@
--- The text that a plain client writes for a request.
+-- The bytes that a plain client writes for a request.
 use Rattle.std.specs.Prelude.{ℕ, ◌+◌, ◌^◌, ◌<◌, ◌≤◌, List, [], ◌∷◌, ◌++◌, length, Option, Some, None, IfSome, IsTrue, unwrap_or}
 use Rattle.fuse_msgs.specs.declared.request.Op.{Op}
 use Rattle.fuse_msgs.specs.declared.request.Op.TheVariants as op
@@ -15,8 +15,8 @@ flag bit None = 0
 flag bit (Some number) = 2 ^ bit
 
 -- a name and the zero byte that ends it
-abbrev pub name_text : List ℕ → List ℕ
-name_text name = name ++ 0 ∷ []
+abbrev pub terminated_name : List ℕ → List ℕ
+terminated_name name = name ++ 0 ∷ []
 
 -- the fields of a `fuse_setattr_in`, those without meaning 0
 abbrev pub setattr_in : Option ℕ → Option ℕ → List ℕ
@@ -39,11 +39,11 @@ lk_in fh owner start end kind =
 
 -- the body of each operation
 abbrev pub body_bytes : Op → List ℕ
-body_bytes (op.Lookup name) = name_text name
+body_bytes (op.Lookup name) = terminated_name name
 body_bytes op.Forget = le64 1
 body_bytes op.Getattr = zeros 16
 body_bytes (op.Setattr size owner) = setattr_in size owner
-body_bytes (op.Unlink name) = name_text name
+body_bytes (op.Unlink name) = terminated_name name
 body_bytes op.Open = zeros 8
 body_bytes (op.Read fh at size owner) = read_in fh at size owner
 body_bytes (op.Write fh at owner bytes) = read_in fh at (length bytes) owner ++ bytes
@@ -54,7 +54,7 @@ body_bytes (op.Init major minor) = le32 major ++ le32 minor ++ zeros 8
 body_bytes (op.Getlk fh owner start end kind) = lk_in fh owner start end kind
 body_bytes (op.Setlk fh owner start end kind) = lk_in fh owner start end kind
 body_bytes (op.Setlkw fh owner start end kind) = lk_in fh owner start end kind
-body_bytes (op.Create name) = zeros 16 ++ name_text name
+body_bytes (op.Create name) = zeros 16 ++ terminated_name name
 body_bytes op.Destroy = []
 
 -- a `fuse_in_header` of user 0 and group 0
@@ -62,7 +62,7 @@ abbrev pub in_header : ℕ → ℕ → ℕ → ℕ → ℕ → List ℕ
 in_header len number unique node pid =
     le32 len ++ le32 number ++ le64 unique ++ le64 node ++ zeros 8 ++ le32 pid ++ zeros 4
 
--- the text of a request
+-- the bytes of a request
 abbrev pub request_bytes : Request → List ℕ
 request_bytes request =
     in_header (40 + length (body_bytes request.op)) (number_of (opcode_of request.op)) request.unique
@@ -100,7 +100,7 @@ OpFits (op.Setlk fh owner start end kind) = LockFits fh owner start end
 OpFits (op.Setlkw fh owner start end kind) = LockFits fh owner start end
 OpFits _ = Unit {0}
 
--- a request that has a text
+-- a request that can be written
 pub record Fits (request : Request) : Type 0 where
   pub unique_fits : request.unique < 2 ^ 64
   pub node_fits : request.node < 2 ^ 64

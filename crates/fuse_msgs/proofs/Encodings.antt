@@ -1,4 +1,4 @@
--- The text of a request is a message of that request.
+-- The bytes that a plain client writes for a request are a message of that request.
 use Rattle.std.proofs.Common.{◌≡◌, ℕ, ◌+◌, ◌^◌, ◌<◌, ◌≤◌, Bool, true, false, ◌&&◌, leb, List, [], ◌∷◌, ◌++◌, length, drop, Option, Some, None, refl, sym, ap, ◌∙◌, arith, lit<}
 use Rattle.std.specs.Prelude.{IsTrue, IfSome}
 use Rattle.std.proofs.lemmas.Bool.{leb-true}
@@ -20,7 +20,7 @@ use Rattle.fuse_msgs.specs.ReadWrite.{IsReadIn, IsWriteIn}
 use Rattle.fuse_msgs.specs.Attributes.{IsSetattrIn}
 use Rattle.fuse_msgs.specs.Body.{IsBody}
 use Rattle.fuse_msgs.specs.Message.{IsMessage}
-use Rattle.fuse_msgs.specs.Text.{body_bytes, setattr_in, read_in, lk_in, in_header, request_bytes, OpFits, ReadFits, LockFits, Fits}
+use Rattle.fuse_msgs.specs.Encoding.{body_bytes, setattr_in, read_in, lk_in, in_header, request_bytes, OpFits, ReadFits, LockFits, Fits}
 
 -- each opcode has its number
 no_true : false ≡ true → ⊥
@@ -235,9 +235,9 @@ header_has len number unique node pid body hl hn hu hd hp = record {
   rest = refl;
 }
 
--- the text of a request is a message of that request
-pub text_is_message : (request : Request) → Fits request → IsMessage (request_bytes request) request
-text_is_message request h =
+-- the bytes of a request are a message of that request
+pub encoding_is_message : (request : Request) → Fits request → IsMessage (request_bytes request) request
+encoding_is_message request h =
     let short = body_short request.op h.op_fits in
     let f = header_has (40 + length (body_bytes request.op)) (number_of (opcode_of request.op))
     request.unique request.node request.pid (body_bytes request.op) (omega (arith, short))
