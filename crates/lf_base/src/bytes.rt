@@ -1,9 +1,10 @@
 ghost use Rattle.std.specs.Prelude.{◌≡◌};
 
+use std::fmt;
 use std::marker::Model;
 
 /// Bytes that a contract sees as a list. None of its calls takes memory.
-#[derive(Debug, Drop)]
+#[derive(Drop)]
 pub struct Bytes {
     inside: Vec<u8>,
 }
@@ -34,5 +35,12 @@ impl Bytes {
     {
         let Bytes { inside } = self;
         inside
+    }
+}
+
+/// Prints the list.
+impl fmt::Debug for Bytes {
+    fn fmt<W: fmt::Write>(&self, f: &mut fmt::Formatter<W>) -> fmt::Result {
+        fmt::Debug::fmt(&self.as_slice(), f)
     }
 }

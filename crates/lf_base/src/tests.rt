@@ -118,3 +118,14 @@ fn text_and_statuses(rt: HostRuntime) -> Result<(), Fail> {
     assert_eq!(rt; Status::WriteFault.text(), "cannot write");
     Ok(())
 }
+
+/// Bytes and texts print as what they hold.
+#[test]
+fn bytes_and_texts_print_plainly(rt: HostRuntime) -> Result<(), Fail> {
+    let alloc = rt.alloc();
+    let bytes = Bytes::of(Vec::from_slice(alloc, &[1, 20, 255])?);
+    assert_eq!(rt; format!(in alloc; "{bytes:?}")?.as_str(), "[1, 20, 255]");
+    let text = Text::of(alloc, "app").ok().ok_or("memory")?;
+    assert_eq!(rt; format!(in alloc; "{text:?}")?.as_str(), "\"app\"");
+    Ok(())
+}

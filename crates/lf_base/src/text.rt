@@ -2,10 +2,11 @@ ghost use Rattle.std.specs.Prelude.{◌≡◌, IfOk};
 
 use crate::memory::NoMemory;
 use std::alloc::Global;
+use std::fmt;
 use std::marker::Model;
 
 /// UTF-8 text that a contract sees as its bytes.
-#[derive(Debug, Drop)]
+#[derive(Drop)]
 pub struct Text {
     inside: String,
 }
@@ -44,5 +45,12 @@ impl Text {
     {
         let inside = self.inside.clone()?;
         Ok(Text { inside })
+    }
+}
+
+/// Prints the text in quotation marks.
+impl fmt::Debug for Text {
+    fn fmt<W: fmt::Write>(&self, f: &mut fmt::Formatter<W>) -> fmt::Result {
+        fmt::Debug::fmt(&self.inside.as_str(), f)
     }
 }
