@@ -3,7 +3,7 @@ use Rattle.std.proofs.Common.{◌≡◌, ℕ, ◌+◌, ◌-◌, ◌≤◌, ◌<�
 use Rattle.std.proofs.lemmas.Bool.{cases_lt}
 use Rattle.std.proofs.lemmas.List.{length-take, length-take-le, length-drop, length-append, length-replicate, get_or_append_left, get_or-append_right, get_or-take, get_or-drop, get_or_past, get_or-replicate, ext_get_or, take-append-le, take-take, take-append-drop, take-replicate, take_all, drop_all, drop_min, append-nil}
 use Rattle.std.proofs.Math.Seq.{take-append-add, drop-nil}
-use Rattle.lf_base.specs.FileBytes.{resized, overwritten, written}
+use Rattle.lf_base.specs.FileBytes.{resized, overwritten, written, read_into}
 
 -- bytes of a length that they have
 pub resized-there : (len : ℕ) (bytes : List ℕ) → len ≤ length bytes → resized len bytes ≡ take len bytes
@@ -184,3 +184,19 @@ pub filled-lengthened : (bytes piece : List ℕ) (at : ℕ) → take at (bytes +
 filled-lengthened bytes piece at =
     ap (λ (l : List ℕ). l ++ piece ++ drop (at + length piece) (bytes ++ replicate (at + length piece - length bytes) 0)) (take-lengthened bytes at (at + length piece - length bytes) (omega arith))
     ∙ ap (λ (l : List ℕ). resized at bytes ++ piece ++ l) (drop-lengthened bytes (at + length piece))
+
+-- what a read puts in front of a buffer, by how many bytes it gives
+pub read_into-count : (at n : ℕ) (bytes buffer : List ℕ) → n ≡ min (length buffer) (length bytes - at)
+    → take n (drop at bytes) ++ drop n buffer ≡ read_into at bytes buffer
+read_into-count at n bytes buffer count = elim (cases_lt (length bytes - at) (length buffer)) [
+  | inl short ↦
+      let all : n ≡ length bytes - at = omega arith in
+      ap (λ (k : ℕ). take k (drop at bytes) ++ drop k buffer) all
+      ∙ ap (λ (l : List ℕ). l ++ drop (length bytes - at) buffer)
+        (take_all (length bytes - at) (drop at bytes) (omega (arith, length-drop at bytes)) ∙ sym (take_all (length buffer) (drop at bytes) (omega (arith, length-drop at bytes))))
+  | inr full ↦
+      let all : n ≡ length buffer = omega arith in
+      ap (λ (k : ℕ). take k (drop at bytes) ++ drop k buffer) all
+      ∙ ap (λ (l : List ℕ). take (length buffer) (drop at bytes) ++ l)
+        (drop_all (length buffer) buffer (omega arith) ∙ sym (drop_all (length bytes - at) buffer (omega arith)))
+]

@@ -4,7 +4,8 @@ use Rattle.std.proofs.lemmas.Bool.{cases_Bool}
 use Rattle.std.proofs.lemmas.List.{append-nil}
 use Rattle.std.proofs.Math.Seq.{drop-nil}
 use Rattle.lf_disk.specs.declared.name.FileName.{FileName}
-use Rattle.lf_disk.specs.Folder.{Folder, overwritten, same_name, with_file, SameBut}
+use Rattle.lf_base.specs.FileBytes.{overwritten}
+use Rattle.lf_disk.specs.Folder.{Folder, same_name, with_file, SameBut}
 use Rattle.lf_disk.specs.Change.{Edit, Step, OnFile, Perhaps, Renames}
 use Rattle.lf_disk.specs.History.{History, may_leave, Moves}
 
@@ -24,11 +25,6 @@ perhaps_edited name f sees edit old new before moves c may n other =
       | inl same ↦ same n ∙ before from.0 from.1 n other
       | inr edit ↦ edit.elsewhere n other ∙ before from.0 from.1 n other
     ]
-
--- a piece written over an empty file is the file
-pub overwritten-empty : (piece bytes : List ℕ) → bytes ≡ [] → overwritten 0 piece bytes ≡ piece
-overwritten-empty piece bytes empty =
-    ap (λ (b : List ℕ). overwritten 0 piece b) empty ∙ ap (λ (l : List ℕ). piece ++ l) (drop-nil (0 + length piece)) ∙ append-nil piece
 
 -- where f has these bytes under another name, so has a folder in which that name was given to them
 pub renamed-whole : (from to : FileName) (f d c : Folder) (bytes : List ℕ) → SameBut from f d → d from ≡ Some bytes → Renames from to d c → SameBut from (with_file to (Some bytes) f) c

@@ -6,7 +6,8 @@ use Rattle.lf_disk.specs.declared.record.Call.{Call}
 use Rattle.lf_disk.specs.declared.record.Change.{Change}
 use Rattle.lf_disk.specs.declared.record.Change.TheVariants.{Write, Cut, Sync, Rename, Remove}
 use Rattle.lf_disk.specs.declared.slots.Slot.{Slot}
-use Rattle.lf_disk.specs.Folder.{Folder, Same, bytes_of, resized, overwritten}
+use Rattle.lf_base.specs.FileBytes.{resized, overwritten}
+use Rattle.lf_disk.specs.Folder.{Folder, Same, bytes_of}
 use Rattle.lf_disk.specs.Change.{Step, OnFile, Perhaps, Becomes, Writes, Cuts, Renames, Torn, Cropped, Stands}
 use Rattle.lf_disk.specs.Slots.{folder_of}
 use Rattle.lf_disk.specs.Replay.{State, after, replay, at_rest, changed, CrashStep}

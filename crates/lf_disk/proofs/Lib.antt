@@ -1,4 +1,3 @@
-mod Bytes
 mod Choices
 pub mod Folders
 mod Histories
@@ -7,3 +6,4 @@ mod NameList
 mod Publishing
 mod Records
 mod SlotLemmas
+pub mod Reading

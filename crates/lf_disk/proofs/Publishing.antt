@@ -6,7 +6,8 @@ use Rattle.lf_disk.specs.Change.{Step, OnFile, Perhaps, Becomes, Writes, Renames
 use Rattle.lf_disk.specs.History.{History, now, may_leave, Ticks, Moves, EachMoment}
 use Rattle.lf_disk.specs.Publish.{IsOldOrPublished, IsPublished, with_ltx}
 use Rattle.lf_disk.proofs.Moments.{started, goes_on}
-use Rattle.lf_disk.proofs.Folders.{LeavesBut, overwritten-empty, renamed-whole}
+use Rattle.lf_base.proofs.FileLemmas.{overwritten-empty}
+use Rattle.lf_disk.proofs.Folders.{LeavesBut, renamed-whole}
 
 module _ (h : History) (min max : ℕ) (bytes : List ℕ) where
   -- a crash at each moment leaves the files from before, or with the new one

@@ -5,7 +5,8 @@ use Rattle.lf_disk.specs.declared.record.Call.{Call}
 use Rattle.lf_disk.specs.declared.record.Change.{Change}
 use Rattle.lf_disk.specs.declared.record.Change.TheVariants.{Write, Cut, Sync, Rename, Remove}
 use Rattle.lf_disk.specs.declared.slots.Slot.{Slot}
-use Rattle.lf_disk.specs.Folder.{Folder, Same, bytes_of, resized, overwritten, same_name}
+use Rattle.lf_base.specs.FileBytes.{resized, overwritten}
+use Rattle.lf_disk.specs.Folder.{Folder, Same, bytes_of, same_name}
 use Rattle.lf_disk.specs.Slots.{folder_of, IsOrderly}
 use Rattle.lf_disk.specs.Replay.{State, after, replay, at_rest, changed}
 use Rattle.lf_disk.specs.MemDisk.{IsCurrent}

@@ -1,7 +1,8 @@
 -- What a changing call does to a folder, and what a crash may make of it until the file is synced.
 use Rattle.std.specs.Prelude.{◌≡◌, ◌⊎◌, ℕ, ◌+◌, ◌<◌, ◌≤◌, min, max, List, length, slice_index, Option, Some, IsSome}
 use Rattle.lf_disk.specs.declared.name.FileName.{FileName}
-use Rattle.lf_disk.specs.Folder.{Folder, bytes_of, resized, overwritten, Same, SameBut, renamed}
+use Rattle.lf_base.specs.FileBytes.{resized, overwritten}
+use Rattle.lf_disk.specs.Folder.{Folder, bytes_of, Same, SameBut, renamed}
 
 -- what a call does to one file
 abbrev pub Edit : Type 1

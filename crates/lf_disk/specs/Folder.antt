@@ -1,13 +1,15 @@
 -- The files of a disk by their names.
 use Rattle.std.specs.Prelude.{◌≡◌, ℕ, Bool, true, false, ◌&&◌, ◌==◌, List, [], ◌++◌, ◌+◌, ◌-◌, min, length, take, drop, replicate, Option, None, Some, if◌then◌else◌}
+use Rattle.lf_base.specs.FileBytes.{resized, overwritten}
 use Rattle.lf_disk.specs.declared.name.FileName.{FileName}
-use Rattle.lf_disk.specs.declared.name.FileName.TheVariants.{Database, Staged, Snapshot, Ltx}
+use Rattle.lf_disk.specs.declared.name.FileName.TheVariants.{Database, Staged, Snapshot, Dropped, Ltx}
 
 -- whether two names are one
 abbrev pub same_name : FileName → FileName → Bool
 same_name Database Database = true
 same_name Staged Staged = true
 same_name Snapshot Snapshot = true
+same_name Dropped Dropped = true
 same_name (Ltx a b) (Ltx c d) = a == c && b == d
 same_name _ _ = false
 
@@ -36,14 +38,6 @@ Same old new = (n : FileName) → new n ≡ old n
 abbrev pub SameBut : FileName → Folder → Folder → Type 0
 SameBut name old new = (n : FileName) → same_name n name ≡ false → new n ≡ old n
 
--- these bytes cut to a length, or filled up to it with zeros
-abbrev pub resized : ℕ → List ℕ → List ℕ
-resized len bytes = take len bytes ++ replicate (len - length bytes) 0
-
--- these bytes after others were written at an offset; a gap holds zeros
-abbrev pub overwritten : ℕ → List ℕ → List ℕ → List ℕ
-overwritten at piece bytes = resized at bytes ++ piece ++ drop (at + length piece) bytes
-
 -- the folder after a write into a file
 abbrev pub with_write : FileName → ℕ → List ℕ → Folder → Folder
 with_write name at piece folder = with_file name (Some (overwritten at piece (bytes_of (folder name)))) folder
@@ -51,8 +45,3 @@ with_write name at piece folder = with_file name (Some (overwritten at piece (by
 -- the folder after a file got a length
 abbrev pub with_length : FileName → ℕ → Folder → Folder
 with_length name len folder = with_file name (Some (resized len (bytes_of (folder name)))) folder
-
--- a read at an offset put the bytes that there are in front of out, and n says how many
-pub record Reads (bytes : List ℕ) (at : ℕ) (out out' : List ℕ) (n : ℕ) : Type 0 where
-  pub count : n ≡ min (length out) (length bytes - at)
-  pub front : out' ≡ take n (drop at bytes) ++ drop n out

@@ -5,7 +5,8 @@ use Rattle.lf_disk.specs.declared.name.FileName.{FileName}
 use Rattle.lf_disk.specs.declared.record.Call.{Call}
 use Rattle.lf_disk.specs.declared.record.Change.{Change}
 use Rattle.lf_disk.specs.declared.record.Change.TheVariants.{Write, Cut, Sync, Rename, Remove}
-use Rattle.lf_disk.specs.Folder.{Folder, Same, bytes_of, with_file, resized, overwritten}
+use Rattle.lf_base.specs.FileBytes.{resized, overwritten}
+use Rattle.lf_disk.specs.Folder.{Folder, Same, bytes_of, with_file}
 use Rattle.lf_disk.specs.Names.{same_name-refl}
 use Rattle.lf_disk.specs.Change.{Edit, OnFile, Becomes, Torn, Cropped, Stands}
 use Rattle.lf_disk.specs.Replay.{State, after, replay, at_rest, changed, CrashStep}

@@ -19,8 +19,8 @@ use std::rt::Files;
 /// At this moment every changing call fails.
 const LAST_MOMENT: u64 = 1 << 62;
 
-/// The files `database`, `staged`, `snapshot.ltx` and `ltx/MIN-MAX.ltx` of a folder, where MIN and
-/// MAX have 16 digits in base 16. Each call opens its file anew. After a name was made, given or
+/// The files `database`, `staged`, `snapshot.ltx`, `dropped` and `ltx/MIN-MAX.ltx` of a folder, where
+/// MIN and MAX have 16 digits in base 16. Each call opens its file anew. After a name was made, given or
 /// taken away, the folder that has it is synced.
 #[derive(Drop)]
 pub struct DirDisk<R: Files<File = File> + AllocGlobal + Copy> {

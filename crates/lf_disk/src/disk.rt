@@ -3,7 +3,8 @@
 ghost use Rattle.std.specs.Prelude.{◌≡◌, ◌≤◌, ◌↔◌, ℕ, Bool, length, IsTrue, IsSome, IfOk, OnOk, OnErr, Contains, option_map};
 ghost use Rattle.std.specs.List.{IsDistinct};
 ghost use Rattle.lf_base.specs.Faults.{CountsFaults};
-ghost use Rattle.lf_disk.specs.Folder.{same_name, Same, bytes_of, Reads};
+ghost use Rattle.lf_base.specs.FileBytes.{Reads};
+ghost use Rattle.lf_disk.specs.Folder.{same_name, Same, bytes_of};
 ghost use Rattle.lf_disk.specs.Change.{OnFile, Perhaps, Writes, Cuts, Renames, TearsFile, CropsFile, SetsFile};
 ghost use Rattle.lf_disk.specs.History.{History, now, Rests, Ticks, Moves};
 

@@ -65,6 +65,13 @@ impl MemDisk {
         self.schedule.stop_in(calls);
     }
 
+    /// The number of its calls so far.
+    pub fn calls(&self) -> u64
+        ensures { result ≡ self.now.plan.calls }
+    {
+        self.schedule.calls()
+    }
+
     /// A changing call.
     fn change(&mut self, change: Change) -> Result<(), Failed>
         ensures done { OnOk result

@@ -10,6 +10,8 @@ pub enum FileName {
     Staged,
     /// A whole database in one transaction file.
     Snapshot,
+    /// The mark of a database that was dropped.
+    Dropped,
     /// The transactions `min` to `max`.
     Ltx { min: u64, max: u64 },
 }
@@ -22,6 +24,7 @@ pub(crate) fn is_same(one: FileName, other: FileName) -> bool
         (FileName::Database, FileName::Database) => true,
         (FileName::Staged, FileName::Staged) => true,
         (FileName::Snapshot, FileName::Snapshot) => true,
+        (FileName::Dropped, FileName::Dropped) => true,
         (FileName::Ltx { min: a, max: b }, FileName::Ltx { min: c, max: d }) => a == c && b == d,
         _ => false,
     }

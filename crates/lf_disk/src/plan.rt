@@ -49,6 +49,13 @@ impl Schedule {
         self.failing.contains(&call) || is_stopped
     }
 
+    /// The number of calls so far.
+    pub fn calls(&self) -> u64
+        ensures { result ≡ self.now.calls }
+    {
+        self.calls
+    }
+
     /// Counts a fault.
     pub fn fail(&mut self) -> Failed
         ensures counted { self.new ≡ record self.old { faults = one_more self.old.faults } }

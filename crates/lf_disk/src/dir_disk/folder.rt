@@ -2,6 +2,7 @@
 ghost use Rattle.std.specs.Prelude.{◌≤◌, length, IfOk};
 
 use crate::name::FileName;
+use lf_base::read_hex16;
 use std::alloc::{AllocError, Global};
 use std::fs::{self, File, OpenOptions};
 use std::io::{self, ErrorKind};
@@ -38,6 +39,7 @@ impl<R: Files<File = File> + AllocGlobal + Copy> Folder<R> {
             FileName::Database => self.path_of("/database"),
             FileName::Staged => self.path_of("/staged"),
             FileName::Snapshot => self.path_of("/snapshot.ltx"),
+            FileName::Dropped => self.path_of("/dropped"),
             FileName::Ltx { min, max } => {
                 let name = format!(in self.rt.alloc(); "/ltx/{min:016x}-{max:016x}.ltx")?;
                 self.path_of(name.as_str())
@@ -153,7 +155,12 @@ impl<R: Files<File = File> + AllocGlobal + Copy> Folder<R> {
     /// The names of its files.
     pub(super) fn list(&self) -> io::Result<Vec<FileName>> {
         let mut names = Vec::new(self.rt.alloc());
-        for name in [FileName::Database, FileName::Staged, FileName::Snapshot] {
+        for name in [
+            FileName::Database,
+            FileName::Staged,
+            FileName::Snapshot,
+            FileName::Dropped,
+        ] {
             if self.size(name)?.is_some() {
                 names.push(name)?;
             }
@@ -194,18 +201,7 @@ fn make_folder<R: Files<File = File> + AllocGlobal + Copy>(rt: &R, path: &str) -
 fn transaction_name(text: &str) -> Option<FileName> {
     let (min, max) = text.strip_suffix(".ltx")?.split_once('-')?;
     Some(FileName::Ltx {
-        min: transaction_number(min)?,
-        max: transaction_number(max)?,
+        min: read_hex16(min.as_bytes())?,
+        max: read_hex16(max.as_bytes())?,
     })
-}
-
-/// The number that 16 lower-case digits in base 16 write.
-fn transaction_number(text: &str) -> Option<u64> {
-    let is_digits = text
-        .bytes()
-        .all(|b| b.is_ascii_digit() || (b'a'..=b'f').contains(&b));
-    if text.len() != 16 || !is_digits {
-        return None;
-    }
-    u64::from_str_radix(text, 16).ok()
 }

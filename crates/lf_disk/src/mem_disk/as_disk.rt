@@ -4,7 +4,8 @@ ghost use Rattle.std.specs.List.{IsDistinct};
 ghost use Rattle.lf_base.specs.Faults.{CountsFaults};
 ghost use Rattle.lf_disk.specs.ListFault.{CountsListFaults};
 ghost use Rattle.lf_disk.specs.declared.name.FileName.{FileName as Name};
-ghost use Rattle.lf_disk.specs.Folder.{same_name, Same, bytes_of, Reads};
+ghost use Rattle.lf_base.specs.FileBytes.{Reads};
+ghost use Rattle.lf_disk.specs.Folder.{same_name, Same, bytes_of};
 ghost use Rattle.lf_disk.specs.Change.{OnFile, Perhaps, Writes, Cuts, Renames, TearsFile, CropsFile, SetsFile};
 ghost use Rattle.lf_disk.specs.History.{now, Rests, Ticks, Moves};
 ghost use Rattle.lf_disk.specs.MemDisk.{history_of};
@@ -148,6 +149,7 @@ impl Disk for MemDisk {
 }
 
 /// Puts the bytes from an offset on in front of `out`, and answers how many.
+#[tactic(auto, using(crate::proofs::Reading::read_front))]
 fn read_from(bytes: &[u8], at: usize, out: &mut [u8]) -> usize
     ensures { Reads bytes.now at out.old out.new result }
 {

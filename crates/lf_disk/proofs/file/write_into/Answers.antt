@@ -1,6 +1,6 @@
 use Rattle.std.proofs.Common.{◌≡◌, ℕ, List, ◌+◌, ◌-◌, ◌++◌, length, take, drop, replicate, ◌∙◌, ap, arith}
 use Rattle.std.proofs.lemmas.Grind.{common_steps}
-use Rattle.lf_disk.proofs.Bytes.{filled-lengthened}
+use Rattle.lf_base.proofs.FileLemmas.{filled-lengthened}
 use Rattle.lf_disk.proofs.file.write_into.Goals as goal
 
 pub returns-clause-ok : goal.returns-clause-ok
