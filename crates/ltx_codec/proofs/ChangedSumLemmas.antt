@@ -1,5 +1,5 @@
 -- The sum of an image after a change, from the sum before it.
-use Rattle.std.proofs.Common.{◌≡◌, ℕ, zero, suc, ◌+◌, ◌-◌, ◌<◌, ◌≤◌, ◌≢◌, min, max, true, false, eqb, Option, Some, None, List, [], ◌∷◌, ◌++◌, ◌⊎◌, length, map, take, get_or, replicate, refl, sym, ap, subst, inl, inr, ◌∙◌, arith, unwrap_or, filter_map}
+use Rattle.std.proofs.Common.{◌≡◌, ℕ, zero, suc, ◌+◌, ◌-◌, ◌<◌, ◌≤◌, ◌≢◌, min, max, true, false, eqb, Option, Some, None, List, [], ◌∷◌, ◌++◌, ◌⊎◌, length, map, take, get_or, replicate, refl, sym, ap, inl, inr, ◌∙◌, arith, unwrap_or, filter_map}
 use Rattle.std.specs.Prelude.{◌==◌, if◌then◌else◌, bit_xor}
 use Rattle.std.specs.Int.Bits.{xor_assoc, xor_zero_l, xor_zero_r}
 use Rattle.std.specs.List.{range_with_len, All}
@@ -12,7 +12,7 @@ use Rattle.std.proofs.lemmas.Bool.Decides.{nat_tests}
 use Rattle.page_checksum.specs.Sums.{flagged, page_sum_of, joined}
 use Rattle.lf_sqlite_pages.specs.LockPage.{lock_page_of, IsDataPage}
 use Rattle.lf_sqlite_pages.specs.Change.{AscendsAbove, PageChange, IsChange, HoldsEveryPage, written}
-use Rattle.lf_sqlite_pages.specs.Image.{DatabaseImage, page_at}
+use Rattle.lf_sqlite_pages.specs.Image.{DatabaseImage, empty_image, page_at}
 use Rattle.lf_sqlite_pages.specs.Apply.{Fits, apply}
 use Rattle.lf_sqlite_pages.specs.Writes.{write_at, writes_of, data_page_at}
 use Rattle.lf_sqlite_pages.specs.declared.page_write.PageWrite.{PageWrite}
@@ -221,3 +221,8 @@ whole_of-fits image change fits differs some = elim fits [
 -- a snapshot says the sum of the image after it
 pub post-snapshot : (image : DatabaseImage) (file : Ltx) → IsFile file → file.header.min ≡ 1 → file.post ≡ image_sum (apply image file.change)
 post-snapshot image file valid first = valid.post.snapshot first ∙ image_sum-whole image file.change valid.block.pages (valid.block.snapshot_pages first)
+
+-- without pages the sum is bit 63 alone
+pub sum_of_none : (image : DatabaseImage) → image ≡ empty_image → flagged 0 ≡ image_sum image
+unfolding writes_of
+sum_of_none image none = ap image_sum (sym none)

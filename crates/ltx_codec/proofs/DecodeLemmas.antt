@@ -12,7 +12,7 @@ use Rattle.ltx_codec.specs.Places.{number_place, number_at, number_before, write
 use Rattle.ltx_codec.specs.Sums.{sum_of_writes}
 use Rattle.ltx_codec.specs.HeaderRules.{IsThere}
 use Rattle.ltx_codec.specs.Block.{HasHeader, IsRead, IsNextNumber}
-use Rattle.ltx_codec.specs.Trailer.{HasTrailer}
+use Rattle.ltx_codec.specs.steps.Trailer.{HasTrailer}
 use Rattle.ltx_codec.specs.declared.file.Ltx.{Ltx}
 use Rattle.ltx_codec.proofs.DataPages.{after-least, follows-end}
 use Rattle.ltx_codec.proofs.TextLemmas.{four_spelled, eight_spelled, four_below, eight_below}

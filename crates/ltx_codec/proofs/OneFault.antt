@@ -1,5 +1,5 @@
 -- At one place at most one rule is broken.
-use Rattle.std.proofs.Common.{◌≡◌, ◌≢◌, ℕ, ◌+◌, ◌<◌, ◌≤◌, List, length, take, arith, refl, sym, ap, subst, inl, inr, ◌∙◌}
+use Rattle.std.proofs.Common.{◌≡◌, ◌≢◌, ℕ, ◌+◌, ◌≤◌, List, length, take, arith, refl, sym, ap, subst, inl, inr, ◌∙◌}
 use Rattle.lf_sqlite_pages.specs.LockPage.{IsDataPage}
 use Rattle.ltx_codec.specs.Fields.{stated_page_size, stated_commit}
 use Rattle.ltx_codec.specs.Format.{file_sum}

@@ -1,5 +1,5 @@
 -- A page number, and a page, that come in pieces.
-use Rattle.std.proofs.Common.{◌≡◌, ◌≢◌, ℕ, suc, ◌+◌, ◌<◌, ◌≤◌, Bool, true, false, cond, List, [], ◌∷◌, ◌++◌, length, take, drop, arith, refl, sym, ap, subst, inl, inr, ◌∙◌, length-append, add-zero}
+use Rattle.std.proofs.Common.{◌≡◌, ◌≢◌, ℕ, ◌+◌, ◌<◌, ◌≤◌, Bool, true, false, cond, List, [], ◌∷◌, ◌++◌, length, take, drop, arith, refl, sym, ap, subst, inl, inr, ◌∙◌, length-append, add-zero}
 use Rattle.std.specs.Prelude.{bit_xor}
 use Rattle.std.specs.Int.Bits.{xor_assoc}
 use Rattle.std.proofs.lemmas.Nat.{xor_comm}
@@ -17,7 +17,7 @@ use Rattle.ltx_codec.specs.Sums.{joined_sums}
 use Rattle.ltx_codec.specs.Places.{number_place, number_at, number_before, page_in}
 use Rattle.ltx_codec.specs.Block.{HoldsPages, IsRead, IsNextNumber}
 use Rattle.ltx_codec.specs.Decoding.{HasFed, held_part, ShowsPage, IsRefusedWithin}
-use Rattle.ltx_codec.specs.Feeding.{HasPagesOf, HasNumber}
+use Rattle.ltx_codec.specs.steps.Feeding.{HasPagesOf, HasNumber}
 use Rattle.ltx_codec.specs.declared.decoder.Decoder.{Decoder}
 use Rattle.ltx_codec.specs.declared.header.Header.{Header}
 use Rattle.ltx_codec.specs.declared.fault.LtxFault.{LtxFault}

@@ -1,22 +1,20 @@
 -- Files that come or go part by part.
-use Rattle.std.proofs.Common.{◌≡◌, ℕ, ◌+◌, ◌-◌, ◌*◌, ◌/◌, ◌<◌, List, [], ◌∷◌, ◌++◌, length, drop, arith, refl, sym, ap, ◌∙◌, append_assoc}
-use Rattle.std.specs.Int.{w32, w64, to_be_bytes}
+use Rattle.std.proofs.Common.{◌≡◌, ℕ, ◌+◌, ◌-◌, ◌*◌, ◌/◌, List, [], ◌∷◌, ◌++◌, length, arith, refl, sym, ap, ◌∙◌, append_assoc}
 use Rattle.std.proofs.lemmas.List.{append-nil}
 use Rattle.std.proofs.Math.Nat.{mul-div_cancel}
 use Rattle.page_checksum.specs.Crc.{after_bytes, all_ones}
 use Rattle.page_checksum.proofs.CrcLemmas.{after_bytes-append}
-use Rattle.lf_sqlite_pages.specs.Change.{PageChange}
 use Rattle.lf_sqlite_pages.specs.declared.page_write.PageWrite.{PageWrite}
 use Rattle.lf_base.specs.Endian.{be64_at}
 use Rattle.ltx_codec.specs.Fields.{AreBytes, stated_page_size}
-use Rattle.ltx_codec.specs.Format.{header_text, no_meaning, page_text, pages_text, end_text, file_text, sealed, IsLtx}
+use Rattle.ltx_codec.specs.Format.{header_text, no_meaning, page_text, pages_text, file_text, IsLtx}
 use Rattle.ltx_codec.specs.Places.{number_place, writes_in}
 use Rattle.ltx_codec.specs.Encoding.{HasWritten, trailer_text}
 use Rattle.ltx_codec.specs.FileIn.{page_count_in, change_in, file_in}
 use Rattle.ltx_codec.specs.declared.header.Header.{Header}
 use Rattle.ltx_codec.specs.declared.file.Ltx.{Ltx}
 use Rattle.ltx_codec.proofs.LawLemmas.{change_alike, file_alike}
-use Rattle.ltx_codec.proofs.FileLemmas.{HasFile, file_is}
+use Rattle.ltx_codec.proofs.FileLemmas.{file_is}
 use Rattle.ltx_codec.proofs.TextLemmas.{pages_text-push}
 use Rattle.ltx_codec.proofs.WriteLemmas.{file_written}
 

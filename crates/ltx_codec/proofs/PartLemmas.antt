@@ -7,7 +7,7 @@ use Rattle.ltx_codec.specs.Fields.{AreBytes, stated_page_size}
 use Rattle.ltx_codec.specs.Places.{number_place, number_at}
 use Rattle.ltx_codec.specs.Block.{HasHeader, IsRead}
 use Rattle.ltx_codec.specs.Decoding.{NoneEndsBefore}
-use Rattle.ltx_codec.specs.Feeding.{HasPagesOf, HasNumber}
+use Rattle.ltx_codec.specs.steps.Feeding.{HasPagesOf, HasNumber}
 use Rattle.ltx_codec.specs.declared.decoder.Decoder.{Decoder}
 use Rattle.ltx_codec.specs.declared.header.Header.{Header}
 use Rattle.ltx_codec.proofs.BlockLemmas.{later_place, next_place}

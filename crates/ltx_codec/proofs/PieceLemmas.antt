@@ -13,7 +13,7 @@ use Rattle.ltx_codec.specs.Numbering.{MayFollow}
 use Rattle.ltx_codec.specs.HeaderRules.{IsThere}
 use Rattle.ltx_codec.specs.Block.{HasHeader, IsRead, IsNextNumber}
 use Rattle.ltx_codec.specs.Decoding.{HasFed, IsPart, held_part}
-use Rattle.ltx_codec.specs.Feeding.{HasPagesOf}
+use Rattle.ltx_codec.specs.steps.Feeding.{HasPagesOf}
 use Rattle.ltx_codec.specs.declared.decoder.Decoder.{Decoder}
 use Rattle.ltx_codec.specs.declared.fault.LtxFault.TheVariants as fault
 use Rattle.ltx_codec.proofs.AgreeLemmas.{Agree, longer, front_same, four_same, eight_same, place_same, number_same, before_same, pages_same, writes_same, header_same, numbers_same, sound_longer}

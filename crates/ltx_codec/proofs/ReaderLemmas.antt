@@ -6,7 +6,7 @@ use Rattle.lf_sqlite_pages.specs.PageSize.{IsPageSize, is_page_size}
 use Rattle.lf_sqlite_pages.specs.Change.{PageChange, empty_change, with_page}
 use Rattle.lf_sqlite_pages.proofs.Changes.{FitsAtEnd}
 use Rattle.ltx_codec.specs.Fields.{AreBytes, stated_page_size, stated_commit}
-use Rattle.ltx_codec.specs.Places.{IsBroken, IsEarliest, IsFound, HasPages, number_place, number_at, number_before, page_in}
+use Rattle.ltx_codec.specs.Places.{IsBroken, IsEarliest, IsFound, HasPages, number_place, number_at, page_in}
 use Rattle.ltx_codec.specs.Block.{HasHeader, IsRead, IsNextNumber}
 use Rattle.ltx_codec.specs.Decoding.{HasFed, NoneEndsBefore, ShowsHeader, ShowsPage, IsRefusedWithin}
 use Rattle.ltx_codec.specs.WholePages.{HoldsWholePages, HasTaken, largest_page}

@@ -1,22 +1,20 @@
 -- The sum of an image page by page.
-use Rattle.std.proofs.Common.{◌≡◌, ℕ, zero, suc, ◌+◌, ◌-◌, ◌<◌, ◌≤◌, max, true, false, eqb, Option, None, List, length, map, refl, sym, ap, inl, inr, ◌∙◌, arith, unwrap_or}
+use Rattle.std.proofs.Common.{◌≡◌, ℕ, zero, suc, ◌+◌, ◌-◌, ◌<◌, ◌≤◌, max, Option, None, List, length, refl, sym, ap, inl, inr, ◌∙◌, arith, unwrap_or}
 use Rattle.std.specs.Prelude.{bit_xor}
 use Rattle.std.specs.Int.Bits.{xor_assoc, xor_self, xor_zero_l}
-use Rattle.std.specs.List.{range_with_len}
 use Rattle.std.specs.Option.{option_map}
 use Rattle.std.proofs.lemmas.Nat.{xor_comm}
 use Rattle.std.proofs.lemmas.Bool.{cases_eq}
-use Rattle.std.proofs.lemmas.Bool.Decides.{nat_tests}
 use Rattle.page_checksum.specs.Sums.{flagged, page_sum_of, joined}
 use Rattle.page_checksum.proofs.Linear.{xor_turned}
 use Rattle.lf_sqlite_pages.specs.LockPage.{lock_page_of}
-use Rattle.lf_sqlite_pages.specs.Image.{DatabaseImage, page_at}
+use Rattle.lf_sqlite_pages.specs.Image.{DatabaseImage}
 use Rattle.lf_sqlite_pages.specs.Writes.{data_page_at, data_writes}
 use Rattle.lf_sqlite_pages.proofs.PageNumbers.{page_at-past}
 use Rattle.lf_sqlite_pages.proofs.DataWrites.{data_page_at-lock_page, data_page_at-data}
 use Rattle.ltx_codec.specs.Sums.{joined_sums, image_sum, page_sum_at, sum_table, sum_between}
 use Rattle.ltx_codec.specs.steps.ChangedSum.{joined_over}
-use Rattle.ltx_codec.proofs.SumLemmas.{map-same, joined_over-split, flagged-alike, flagged-twice}
+use Rattle.ltx_codec.proofs.SumLemmas.{joined_over-split, flagged-alike, flagged-twice}
 use Rattle.ltx_codec.proofs.ChangedSumLemmas.{joined-writes_of}
 
 -- the sums of the data pages are those of the table

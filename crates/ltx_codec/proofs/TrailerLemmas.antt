@@ -11,9 +11,9 @@ use Rattle.ltx_codec.specs.Fields.{AreBytes, stated_commit, stated_min, header_i
 use Rattle.ltx_codec.specs.Format.{file_sum, sealed, IsLtx}
 use Rattle.ltx_codec.specs.Sums.{sum_of_writes}
 use Rattle.ltx_codec.specs.Places.{IsWrongPost, IsWrongSum, number_place, number_at, writes_in}
-use Rattle.ltx_codec.specs.Trailer.{HasTrailer}
+use Rattle.ltx_codec.specs.steps.Trailer.{HasTrailer}
 use Rattle.ltx_codec.specs.Decoding.{HasFed, held_part, IsRefusedWithin, ShowsFile}
-use Rattle.ltx_codec.specs.Feeding.{HasNumber, HasRightSums, BreaksSums}
+use Rattle.ltx_codec.specs.steps.Feeding.{HasNumber, HasRightSums, BreaksSums}
 use Rattle.ltx_codec.specs.declared.decoder.Decoder.{Decoder}
 use Rattle.ltx_codec.specs.declared.header.Header.{Header}
 use Rattle.ltx_codec.specs.declared.fault.LtxFault.{LtxFault}

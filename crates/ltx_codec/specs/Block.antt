@@ -1,5 +1,5 @@
 -- How far a page block was read.
-use Rattle.std.specs.Prelude.{◌≡◌, ◌≢◌, ℕ, ◌+◌, ◌≤◌, List, ◌++◌, length, take, IsSome}
+use Rattle.std.specs.Prelude.{◌≡◌, ℕ, ◌+◌, ◌≤◌, List, ◌++◌, length, take, IsSome}
 use Rattle.lf_sqlite_pages.specs.LockPage.{IsDataPage}
 use Rattle.lf_sqlite_pages.specs.Change.{PageChange, last_number, written}
 use Rattle.ltx_codec.specs.Fields.{AreBytes, stated_page_size, stated_commit, stated_min, header_in}

@@ -9,9 +9,7 @@ pub mod Numbering
 pub mod Places
 pub mod HeaderRules
 pub mod Block
-pub mod Trailer
 pub mod Decoding
 pub mod Encoding
-pub mod Feeding
 pub mod WholePages
 pub mod Reading

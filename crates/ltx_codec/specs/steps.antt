@@ -1,1 +1,4 @@
 pub mod ChangedSum
+pub mod Feeding
+pub mod ReadingParts
+pub mod Trailer

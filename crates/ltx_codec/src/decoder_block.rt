@@ -5,7 +5,7 @@ ghost use Rattle.page_checksum.specs.Sums.{page_sum_of};
 ghost use Rattle.lf_sqlite_pages.specs.Change.{PageChange};
 ghost use Rattle.ltx_codec.specs.Block.{IsRead};
 ghost use Rattle.ltx_codec.specs.Decoding.{HasFed, FeedGives, KeepsShown};
-ghost use Rattle.ltx_codec.specs.Feeding.{HasNumber};
+ghost use Rattle.ltx_codec.specs.steps.Feeding.{HasNumber};
 
 use crate::decoder::Decoder;
 use crate::decoder_header::fill;

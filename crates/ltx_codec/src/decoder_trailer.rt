@@ -7,7 +7,7 @@ ghost use Rattle.page_checksum.specs.Sums.{flagged};
 ghost use Rattle.ltx_codec.specs.Places.{IsWrongPost};
 ghost use Rattle.ltx_codec.specs.Block.{IsRead};
 ghost use Rattle.ltx_codec.specs.Decoding.{FeedGives, KeepsShown};
-ghost use Rattle.ltx_codec.specs.Feeding.{HasNumber, HasRightSums, BreaksSums};
+ghost use Rattle.ltx_codec.specs.steps.Feeding.{HasNumber, HasRightSums, BreaksSums};
 
 use crate::decoder::Decoder;
 use crate::decoder_header::fill;

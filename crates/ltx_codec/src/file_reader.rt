@@ -30,7 +30,8 @@ pub struct FileReader {
 
 impl FileReader {
     ghost use Rattle.ltx_codec.specs.Decoding.{header_shown, post_shown};
-    ghost use Rattle.ltx_codec.specs.Reading.{HasBegun, HasStopped, Reads, ReadsPart, CountsSome};
+    ghost use Rattle.ltx_codec.specs.Reading.{HasBegun, HasStopped, Reads};
+    ghost use Rattle.ltx_codec.specs.steps.ReadingParts.{ReadsPart, CountsSome};
 
     pub fn new(alloc: Global) -> Result<FileReader, NoMemory>
         ensures { IfOk result (λ reader. HasBegun reader []) }

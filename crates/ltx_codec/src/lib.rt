@@ -44,4 +44,10 @@ pub use seen::Seen;
 pub use writing::encode;
 
 #[cfg(test)]
+mod lock_page_tests;
+#[cfg(test)]
+mod part_tests;
+#[cfg(test)]
+mod sample;
+#[cfg(test)]
 mod tests;

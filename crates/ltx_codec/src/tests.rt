@@ -1,17 +1,8 @@
-//! Files of the format's description, byte by byte. The sums were computed by another program.
+//! Files that are read, written and refused, against the files of `sample`.
 use super::*;
-use std::alloc::{AllocError, Global};
+use crate::sample::{DELTA, EMPTY, FILE_SUM_1, PAGE, SNAPSHOT, SUM_1, changed, header_of, text};
+use std::alloc::Global;
 use std::test::Fail;
-
-const SUM_1: u64 = 0xefb1_f44f_ecd9_9000;
-
-const SUM_2: u64 = 0x80d2_1cd0_0000_0000;
-
-const FILE_SUM_1: u64 = 0xb8dc_e586_6977_8c30;
-
-const FILE_SUM_2: u64 = 0xe529_06ba_6d3f_4924;
-
-const PAGE: [u8; 512] = [0; 512];
 
 /// WAL fields and node that are not 0, and the file sum of the snapshot with them.
 const STAMPED: [u8; 32] = [
@@ -20,74 +11,6 @@ const STAMPED: [u8; 32] = [
 ];
 
 const STAMPED_SUM: [u8; 8] = [0xbc, 0x6e, 0x30, 0xf3, 0x86, 0xcc, 0x0b, 0x22];
-
-/// The fields of a file of one page or none, of 512 bytes each.
-#[derive(Clone, Copy)]
-struct Fields {
-    commit: u32,
-    txid: u64,
-    pre: u64,
-    page: Option<u32>,
-    post: u64,
-    sum: u64,
-}
-
-const SNAPSHOT: Fields = Fields {
-    commit: 1,
-    txid: 1,
-    pre: 0,
-    page: Some(1),
-    post: SUM_1,
-    sum: FILE_SUM_1,
-};
-
-const DELTA: Fields = Fields {
-    commit: 2,
-    txid: 2,
-    pre: SUM_1,
-    page: Some(2),
-    post: SUM_2,
-    sum: FILE_SUM_2,
-};
-
-const EMPTY: Fields = Fields {
-    commit: 0,
-    txid: 1,
-    pre: 0,
-    page: None,
-    post: 1 << 63,
-    sum: 0x8106_fa82_9c65_6655,
-};
-
-fn text(alloc: Global, fields: &Fields) -> Result<Vec<u8>, AllocError> {
-    let mut bytes = Vec::new(alloc);
-    bytes.extend_from_slice(b"LTX1\0\0\0\0\0\0\x02\0")?;
-    bytes.extend_from_slice(&fields.commit.to_be_bytes())?;
-    bytes.extend_from_slice(&fields.txid.to_be_bytes())?;
-    bytes.extend_from_slice(&fields.txid.to_be_bytes())?;
-    bytes.extend_from_slice(&[0; 8])?;
-    bytes.extend_from_slice(&fields.pre.to_be_bytes())?;
-    bytes.extend_from_slice(&[0; 52])?;
-    if let Some(number) = fields.page {
-        bytes.extend_from_slice(&number.to_be_bytes())?;
-        bytes.extend_from_slice(&PAGE)?;
-    }
-    bytes.extend_from_slice(&[0; 4])?;
-    bytes.extend_from_slice(&fields.post.to_be_bytes())?;
-    bytes.extend_from_slice(&fields.sum.to_be_bytes())?;
-    Ok(bytes)
-}
-
-/// The snapshot with bytes replaced from a place on.
-fn changed(alloc: Global, place: usize, with: &[u8]) -> Result<Vec<u8>, AllocError> {
-    let mut bytes = text(alloc, &SNAPSHOT)?;
-    for (index, byte) in with.iter().enumerate() {
-        if let Some(old) = bytes.get_mut(place.saturating_add(index)) {
-            *old = *byte;
-        }
-    }
-    Ok(bytes)
-}
 
 fn refusal(alloc: Global, bytes: &[u8]) -> Option<LtxFault> {
     decode(alloc, bytes).err()
@@ -211,109 +134,5 @@ fn every_field_survives(rt: HostRuntime) -> Result<(), Fail> {
     let mut out = Vec::new(rt.alloc());
     encode(&file, &mut out).ok().ok_or("memory")?;
     assert_eq!(rt; out.as_slice(), bytes.as_slice());
-    Ok(())
-}
-
-fn header_of(fields: &Fields) -> Header {
-    Header {
-        page_size: 512,
-        commit: fields.commit,
-        min: fields.txid,
-        max: fields.txid,
-        stamp: 0,
-        pre: fields.pre,
-        wal_offset: 0,
-        wal_size: 0,
-        wal_salt1: 0,
-        wal_salt2: 0,
-        node: 0,
-    }
-}
-
-#[test]
-fn a_file_is_written_part_by_part(rt: HostRuntime) -> Result<(), Fail> {
-    for fields in [SNAPSHOT, DELTA, EMPTY] {
-        let mut out = Vec::new(rt.alloc());
-        let mut encoder = Encoder::start(&header_of(&fields), &mut out)?;
-        if let Some(number) = fields.page {
-            encoder.page(number, &PAGE, &mut out)?;
-        }
-        encoder.finish(fields.post, &mut out).ok().ok_or("memory")?;
-        let bytes = text(rt.alloc(), &fields)?;
-        assert_eq!(rt; out.as_slice(), bytes.as_slice());
-    }
-    Ok(())
-}
-
-/// Each byte is a piece: the header, the page and the file end with the bytes that they end with.
-#[test]
-fn a_file_comes_byte_by_byte(rt: HostRuntime) -> Result<(), Fail> {
-    let bytes = text(rt.alloc(), &SNAPSHOT)?;
-    let mut decoder = Decoder::new(rt.alloc(), 512).ok().ok_or("memory")?;
-    for (index, byte) in bytes.iter().enumerate() {
-        let expected = match index {
-            99 => Seen::Header { used: 1 },
-            615 => Seen::Page { used: 1, number: 1 },
-            635 => Seen::Whole { used: 1 },
-            _ => Seen::More,
-        };
-        assert_eq!(rt; decoder.feed(&[*byte]), Ok(expected), "{index}");
-        if index == 615 {
-            assert_eq!(rt; decoder.page(), PAGE.as_slice());
-        }
-    }
-    assert_eq!(rt; decoder.post(), SUM_1);
-    assert_eq!(rt; decoder.header().commit, 1);
-    assert_eq!(rt; decoder.finish(), Ok(()));
-    Ok(())
-}
-
-/// A page size past the limit is refused, and so is each piece after it.
-#[test]
-fn a_fault_is_answered_again(rt: HostRuntime) -> Result<(), Fail> {
-    let bytes = text(rt.alloc(), &SNAPSHOT)?;
-    let mut decoder = Decoder::new(rt.alloc(), 511).ok().ok_or("memory")?;
-    for _time in 0..2u8 {
-        assert_eq!(rt; decoder.feed(&bytes), Err(LtxFault::PageSize));
-    }
-    assert_eq!(rt; decoder.finish(), Err(LtxFault::PageSize));
-    Ok(())
-}
-
-/// The files that the bytes are, read in pieces of this size.
-fn read_pieces(alloc: Global, bytes: &[u8], size: usize) -> Result<Vec<Ltx>, Fail> {
-    let mut reader = FileReader::new(alloc).ok().ok_or("memory")?;
-    let mut files = Vec::new(alloc);
-    for piece in bytes.chunks(size.max(1)) {
-        let mut rest = piece;
-        for _byte in piece {
-            let Some((file, used)) = reader.feed(rest).ok().ok_or("no fault")? else {
-                break;
-            };
-            files.push(file)?;
-            rest = rest.get(used..).unwrap_or(&[]);
-        }
-    }
-    if !reader.is_between() {
-        return Err("the last file is whole".into());
-    }
-    Ok(files)
-}
-
-/// Two files one after another, in pieces of each size.
-#[test]
-fn files_come_in_pieces(rt: HostRuntime) -> Result<(), Fail> {
-    let mut bytes = text(rt.alloc(), &SNAPSHOT)?;
-    bytes.extend_from_slice(&text(rt.alloc(), &DELTA)?)?;
-    for size in [1usize, 7, 100, bytes.len()] {
-        let files = read_pieces(rt.alloc(), &bytes, size)?;
-        assert_eq!(rt; files.len(), 2, "{size}");
-        for (file, fields) in files.iter().zip([SNAPSHOT, DELTA]) {
-            assert_eq!(rt; file.header.commit, fields.commit, "{size}");
-            assert_eq!(rt; file.header.max, fields.txid, "{size}");
-            assert_eq!(rt; file.change.pages().len(), 1, "{size}");
-            assert_eq!(rt; file.post, fields.post, "{size}");
-        }
-    }
     Ok(())
 }

@@ -2,7 +2,7 @@
 ghost use Rattle.std.specs.Prelude.{◌≡◌, List, ℕ, IfOk, OnOk};
 ghost use Rattle.lf_sqlite_pages.specs.Change.{empty_change};
 ghost use Rattle.ltx_codec.specs.WholePages.{HasTaken, IsTaking};
-ghost use Rattle.ltx_codec.specs.Reading.{ReadsPart, CountsSome};
+ghost use Rattle.ltx_codec.specs.steps.ReadingParts.{ReadsPart, CountsSome};
 
 use crate::decoder::Decoder;
 use crate::fault::LtxFault;

@@ -1,5 +1,5 @@
 -- Of another page size the change writes each data page.
-use Rattle.std.proofs.Common.{◌≡◌, ◌∙◌, sym, ap, arith}
+use Rattle.std.proofs.Common.{◌∙◌, sym, ap, arith}
 use Rattle.ltx_codec.specs.Sums.{sum_of_writes}
 use Rattle.ltx_codec.proofs.ChangedSumLemmas.{image_sum-whole, whole_of-fits}
 use Rattle.ltx_codec.proofs.image_sum.changed_sum.Goals as goal

@@ -1,5 +1,4 @@
 -- One more page.
-use Rattle.std.proofs.Common.{ap}
 use Rattle.ltx_codec.proofs.ChangedSumLemmas.{joined_sums-more}
 use Rattle.ltx_codec.proofs.image_sum.sum_of_writes.Goals as goal
 

@@ -8,7 +8,7 @@ use Rattle.lf_sqlite_pages.specs.Change.{PageChange, empty_change, with_page}
 use Rattle.ltx_codec.specs.Fields.{AreBytes, stated_page_size}
 use Rattle.ltx_codec.specs.Decoding.{FeedGives}
 use Rattle.ltx_codec.specs.WholePages.{HasTaken, largest_page}
-use Rattle.ltx_codec.specs.Reading.{ReadsPart, CountsSome}
+use Rattle.ltx_codec.specs.steps.ReadingParts.{ReadsPart, CountsSome}
 use Rattle.ltx_codec.specs.declared.decoder.Decoder.{Decoder}
 use Rattle.ltx_codec.specs.declared.header.Header.{Header}
 use Rattle.ltx_codec.specs.declared.seen.Seen.{Seen}

@@ -1,7 +1,7 @@
 use Rattle.std.proofs.Common.{◌≡◌, ◌≤◌, ◌+◌, ◌-◌, ◌++◌, ℕ, List, length, take, drop, refl, sym, ap, arith, ◌∙◌, subst, inr, length-append}
 use Rattle.std.proofs.lemmas.List.{length-take, take_all}
 use Rattle.ltx_codec.specs.Decoding.{ShowsFile, IsRefusedWithin}
-use Rattle.ltx_codec.specs.Feeding.{HasRightSums, BreaksSums}
+use Rattle.ltx_codec.specs.steps.Feeding.{HasRightSums, BreaksSums}
 use Rattle.ltx_codec.specs.declared.decoder.Decoder.{Decoder}
 use Rattle.ltx_codec.proofs.TextLemmas.{AreBytes-take, AreBytes-drop}
 use Rattle.ltx_codec.proofs.FeedLemmas.{refused_first}

@@ -4,7 +4,8 @@ use Rattle.std.proofs.lemmas.Result.{err_from_is_err_and}
 use Rattle.ltx_codec.specs.Format.{IsLtx}
 use Rattle.ltx_codec.specs.Decoding.{HasFed}
 use Rattle.ltx_codec.specs.WholePages.{HasTaken, largest_page}
-use Rattle.ltx_codec.specs.Reading.{HasBegun, HasWhole, ReadsPart, IsRefusedAt, CountsSome, IsSomeOf}
+use Rattle.ltx_codec.specs.Reading.{HasBegun, IsRefusedAt}
+use Rattle.ltx_codec.specs.steps.ReadingParts.{HasWhole, ReadsPart, CountsSome, IsSomeOf}
 use Rattle.ltx_codec.specs.declared.decoder.Decoder.{Decoder}
 use Rattle.ltx_codec.specs.declared.file.Ltx.{Ltx}
 use Rattle.ltx_codec.specs.declared.file_reader.FileReader.{FileReader}

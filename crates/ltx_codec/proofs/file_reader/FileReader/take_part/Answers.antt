@@ -2,7 +2,7 @@ use Rattle.std.proofs.Common.{◌≡◌, ◌++◌, ℕ, List, [], Ok, Err, Resul
 use Rattle.std.proofs.Math.Logic.{∥∥₁_map}
 use Rattle.lf_sqlite_pages.specs.Change.{PageChange}
 use Rattle.ltx_codec.specs.WholePages.{HasTaken}
-use Rattle.ltx_codec.specs.Reading.{ReadsPart}
+use Rattle.ltx_codec.specs.steps.ReadingParts.{ReadsPart}
 use Rattle.ltx_codec.specs.declared.decoder.Decoder.{Decoder}
 use Rattle.ltx_codec.specs.declared.seen.Seen.{Seen}
 use Rattle.ltx_codec.specs.declared.seen.Seen.TheVariants as seen

@@ -1,0 +1,97 @@
+//! Files of the format's description, byte by byte. The sums were computed by another program.
+use crate::header::Header;
+use std::alloc::{AllocError, Global};
+
+pub const SUM_1: u64 = 0xefb1_f44f_ecd9_9000;
+
+pub const SUM_2: u64 = 0x80d2_1cd0_0000_0000;
+
+pub const FILE_SUM_1: u64 = 0xb8dc_e586_6977_8c30;
+
+pub const FILE_SUM_2: u64 = 0xe529_06ba_6d3f_4924;
+
+pub const PAGE: [u8; 512] = [0; 512];
+
+/// The fields of a file of one page or none, of 512 bytes each.
+#[derive(Clone, Copy)]
+pub struct Fields {
+    pub commit: u32,
+    pub txid: u64,
+    pub pre: u64,
+    pub page: Option<u32>,
+    pub post: u64,
+    pub sum: u64,
+}
+
+pub const SNAPSHOT: Fields = Fields {
+    commit: 1,
+    txid: 1,
+    pre: 0,
+    page: Some(1),
+    post: SUM_1,
+    sum: FILE_SUM_1,
+};
+
+pub const DELTA: Fields = Fields {
+    commit: 2,
+    txid: 2,
+    pre: SUM_1,
+    page: Some(2),
+    post: SUM_2,
+    sum: FILE_SUM_2,
+};
+
+pub const EMPTY: Fields = Fields {
+    commit: 0,
+    txid: 1,
+    pre: 0,
+    page: None,
+    post: 1 << 63,
+    sum: 0x8106_fa82_9c65_6655,
+};
+
+pub fn text(alloc: Global, fields: &Fields) -> Result<Vec<u8>, AllocError> {
+    let mut bytes = Vec::new(alloc);
+    bytes.extend_from_slice(b"LTX1\0\0\0\0\0\0\x02\0")?;
+    bytes.extend_from_slice(&fields.commit.to_be_bytes())?;
+    bytes.extend_from_slice(&fields.txid.to_be_bytes())?;
+    bytes.extend_from_slice(&fields.txid.to_be_bytes())?;
+    bytes.extend_from_slice(&[0; 8])?;
+    bytes.extend_from_slice(&fields.pre.to_be_bytes())?;
+    bytes.extend_from_slice(&[0; 52])?;
+    if let Some(number) = fields.page {
+        bytes.extend_from_slice(&number.to_be_bytes())?;
+        bytes.extend_from_slice(&PAGE)?;
+    }
+    bytes.extend_from_slice(&[0; 4])?;
+    bytes.extend_from_slice(&fields.post.to_be_bytes())?;
+    bytes.extend_from_slice(&fields.sum.to_be_bytes())?;
+    Ok(bytes)
+}
+
+/// The snapshot with bytes replaced from a place on.
+pub fn changed(alloc: Global, place: usize, with: &[u8]) -> Result<Vec<u8>, AllocError> {
+    let mut bytes = text(alloc, &SNAPSHOT)?;
+    for (index, byte) in with.iter().enumerate() {
+        if let Some(old) = bytes.get_mut(place.saturating_add(index)) {
+            *old = *byte;
+        }
+    }
+    Ok(bytes)
+}
+
+pub fn header_of(fields: &Fields) -> Header {
+    Header {
+        page_size: 512,
+        commit: fields.commit,
+        min: fields.txid,
+        max: fields.txid,
+        stamp: 0,
+        pre: fields.pre,
+        wal_offset: 0,
+        wal_size: 0,
+        wal_salt1: 0,
+        wal_salt2: 0,
+        node: 0,
+    }
+}
