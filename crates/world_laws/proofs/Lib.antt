@@ -9,7 +9,9 @@ pub mod Reading
 pub mod CatchUp
 pub mod Forwarding
 pub mod Images
+pub mod Made
 pub mod Stopping
+pub mod Restarting
 pub mod Actors
 pub mod Pages
 pub mod Scenes

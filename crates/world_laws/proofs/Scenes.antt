@@ -13,9 +13,10 @@ use Rattle.world_laws.specs.Lineage.{Lineage, position_of}
 use Rattle.world_laws.specs.Node.{Answer, Ask, Disk, File, IsSoundNode, NodeState, Primary, Refused, Replica, Role}
 use Rattle.world_laws.specs.Premises.{CommitsAsHolder, WasSent}
 use Rattle.world_laws.specs.Served.{HoldsBack, untouched}
-use Rattle.world_laws.specs.Step.{Makes, StepFacts, commits}
+use Rattle.world_laws.specs.Step.{Makes, commits}
 use Rattle.world_laws.specs.Store.{Apply, CanDo, CanDoAll, Commit, DropAll, FailedBefore, FailedIn, Failure, Install, StoreCall, StoreState, all_done, at, begun_by, empty_store}
 use Rattle.world_laws.specs.World.{Act, GrowsAlong, SentFrame, World, accepted_by, acts_along, failing_by, sent_by}
+use Rattle.world_laws.proofs.Made.{Made}
 
 -- a whole node that nobody uses
 abbrev pub node : Role → StoreState → Option Ltx → NodeState
@@ -47,12 +48,6 @@ node-sound role store waits = record { overlay = refl; shares = λ k d within. a
 -- nobody holds a lock
 no_lock : (image : DatabaseImage) (which : LockId) → HoldsBack (untouched image) image which → ⊥
 no_lock image which holds = let inside = holds.1.1.1 in omega (arith, inside)
-
--- a step in which these calls were done, and this failed
-pub record Made (old new : NodeState) (ask : Ask) (answer : Answer) (did : List StoreCall) (failed : Option Failure) : Type 0 where
-  pub facts : StepFacts old ask answer new
-  pub did_is : facts.did ≡ did
-  pub failed_is : facts.failed ≡ failed
 
 none_some : (let nothing_there : Option Failure = None in IsSome nothing_there) → ⊥
 none_some some = cc

@@ -5,9 +5,10 @@ use Rattle.world_laws.specs.Answers.{Answers, LeavesUndone}
 use Rattle.world_laws.specs.Node.{Answer, Ask, Disk, Done, Drop, File, Forward, Forwarded, Frame, Import, IsPlain, NodeState, Primary, Prune, Refused, Replica, Role}
 use Rattle.world_laws.specs.Served.{untouched}
 use Rattle.world_laws.specs.Step.{Makes, accepts, commits, commits_and_prunes, drops, finishes, imports, nothing, prunes, takes, unlinks}
-use Rattle.world_laws.specs.StopLaw.{IsCut, IsFailedStep, StopIsTwoEvents, StopOfBroken, StopsAreCuts}
-use Rattle.world_laws.specs.Store.{Apply, CanDoAll, Commit, DropAll, FailedBefore, FailedIn, Failure, Install, MayLeave, PruneTo, StoreCall, StoreState, all_done, begun_by, broken_by, done}
+use Rattle.world_laws.specs.StopLaw.{IsCut, StopIsTwoEvents, StopOfBroken, StopsAreCuts}
+use Rattle.world_laws.specs.Store.{Apply, CanDoAll, Commit, DropAll, FailedBefore, FailedIn, Failure, Install, MayBeFound, MayLeave, PruneTo, StoreCall, StoreState, all_done, begun_by, broken_by, done}
 use Rattle.world_laws.proofs.Calls.{CanDoAll-split}
+use Rattle.world_laws.proofs.Made.{Made}
 use Rattle.world_laws.proofs.Nodes.{some_none}
 
 -- a store after a call that went well is one that the call may leave
@@ -128,8 +129,20 @@ before_not_in call same = cc
 primary_plain : (n : NodeState) → n.role ≡ Primary → IsPlain n → ⊥
 primary_plain n primary plain = let other : Primary ≡ Replica = sym primary ∙ plain.role in cc
 
-failed-step : (old : NodeState) (ask : Ask) (role : Role) (calls : List StoreCall) (left : StoreState) → old.failed ≡ None → Makes role old.waits ask calls → CanDoAll old.store calls →
-    IsCut old.store calls left → IsFailedStep old ask left
+-- a step of the same ask that fails in one of its calls
+pub record FailedStep (old : NodeState) (ask : Ask) (calls : List StoreCall) (left : StoreState) : Type 0 where
+  pub did : List StoreCall
+  pub call : StoreCall
+  pub rest : List StoreCall
+  pub split : calls ≡ did ++ call ∷ rest
+  pub mid : NodeState
+  pub answer : Answer
+  pub made : Made old mid ask answer did (Some (FailedIn call))
+  pub failed : mid.failed ≡ Some (FailedIn call)
+  pub leaves : MayBeFound mid.store mid.failed left
+
+pub failed-step : (old : NodeState) (ask : Ask) (role : Role) (calls : List StoreCall) (left : StoreState) → old.failed ≡ None → Makes role old.waits ask calls → CanDoAll old.store calls →
+    IsCut old.store calls left → FailedStep old ask calls left
 failed-step old ask role calls left whole makes can cut =
     let mid : NodeState = record {
       store = all_done old.store cut.did;
@@ -143,24 +156,31 @@ failed-step old ask role calls left whole makes can cut =
     let regroup : (cut.did ++ cut.call ∷ []) ++ cut.rest ≡ calls = append_assoc cut.did (cut.call ∷ []) cut.rest ∙ sym cut.split in
     let told = cut-answer front cut.did cut.call refl old mid in
     record {
-      mid = mid;
+      did = cut.did;
       call = cut.call;
+      rest = cut.rest;
+      split = cut.split;
+      mid = mid;
       answer = told.answer;
-      facts = record {
-        role = role;
-        did = cut.did;
-        failed = Some (FailedIn cut.call);
-        makes = front;
-        tries = λ same. absurd (before_not_in cut.call same);
-        can = (CanDoAll-split old.store (cut.did ++ cut.call ∷ []) cut.rest (subst (λ (cs : List StoreCall). CanDoAll old.store cs) (sym regroup) can)).0;
-        whole = λ some. absurd (none_some (subst (λ (f : Option Failure). IsSome f) whole some));
-        store = refl;
-        broken = sym (ap (λ (f : Option Failure). broken_by f (Some (FailedIn cut.call))) whole);
-        rose = λ some. (omega arith, omega arith);
-        answers = told.answers;
-        refused = told.refused;
-        steady = λ plain again lock held. absurd (primary_plain mid refl again);
-        keeps = λ sound. record { overlay = refl; shares = λ k d within. absurd (omega arith); replica = λ same. refl };
+      made = record {
+        facts = record {
+          role = role;
+          did = cut.did;
+          failed = Some (FailedIn cut.call);
+          makes = front;
+          tries = λ same. absurd (before_not_in cut.call same);
+          can = (CanDoAll-split old.store (cut.did ++ cut.call ∷ []) cut.rest (subst (λ (cs : List StoreCall). CanDoAll old.store cs) (sym regroup) can)).0;
+          whole = λ some. absurd (none_some (subst (λ (f : Option Failure). IsSome f) whole some));
+          store = refl;
+          broken = sym (ap (λ (f : Option Failure). broken_by f (Some (FailedIn cut.call))) whole);
+          rose = λ some. (omega arith, omega arith);
+          answers = told.answers;
+          refused = told.refused;
+          steady = λ plain again lock held. absurd (primary_plain mid refl again);
+          keeps = λ sound. record { overlay = refl; shares = λ k d within. absurd (omega arith); replica = λ same. refl };
+        };
+        did_is = refl;
+        failed_is = refl;
       };
       failed = refl;
       leaves = cut.leaves;
@@ -170,7 +190,11 @@ pub stop_is_two_events-of : StopIsTwoEvents
 stop_is_two_events-of old new ask answer left facts whole candidate =
     elim (stops_are_cuts-of old.store left (facts.did ++ begun_by facts.failed) candidate) [
       | inl none_at ↦ inl none_at.1
-      | inr cut ↦ inr (failed-step old ask facts.role (facts.did ++ begun_by facts.failed) left whole facts.makes facts.can cut)
+      | inr cut ↦
+          let step : FailedStep old ask (facts.did ++ begun_by facts.failed) left =
+          failed-step old ask facts.role (facts.did ++ begun_by facts.failed) left whole facts.makes facts.can cut
+          in
+          inr record { mid = step.mid; call = step.call; answer = step.answer; facts = step.made.facts; failed = step.failed; leaves = step.leaves }
     ]
 
 broken-kept : (was : Option Failure) → IsSome was → broken_by was None ≡ was

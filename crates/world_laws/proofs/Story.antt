@@ -17,7 +17,8 @@ use Rattle.world_laws.specs.World.{Act, Committed, Departed, DropFrame, FileFram
 use Rattle.world_laws.proofs.Actors.{IsFirst, IsSecond, first-is, second-is}
 use Rattle.world_laws.proofs.CatchUp.{snapshot-first}
 use Rattle.world_laws.proofs.Lineages.{position_of-nothing}
-use Rattle.world_laws.proofs.Scenes.{Made, broken_node, fails, goes-apply, goes-commit, goes-drop, goes-idle, goes-install, leased, made, node, stays-2, turn-0, turn-1, turn-2, world}
+use Rattle.world_laws.proofs.Made.{Made}
+use Rattle.world_laws.proofs.Scenes.{broken_node, fails, goes-apply, goes-commit, goes-drop, goes-idle, goes-install, leased, made, node, stays-2, turn-0, turn-1, turn-2, world}
 use Rattle.world_laws.proofs.Stores.{end_of-none, end_of-one, end_of-push}
 use Rattle.world_laws.proofs.StoryParts.{at-first, call-first, can-commit-first, copy-at, copy_of, empty-at, joins-copy, joins-store, lacks-other, one-image, position-first, replica_primary, snapshot-sent, some-first, some_same}
 

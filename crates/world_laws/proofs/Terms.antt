@@ -15,10 +15,10 @@ use Rattle.world_laws.specs.World.{Act, Committed, Departed, World, acts_along, 
 use Rattle.world_laws.proofs.Scenes.{node}
 use Rattle.world_laws.proofs.Stores.{end_of-pruned, end_of-push}
 
-same_test : (n : ℕ) → eqb n n ≡ true
+pub same_test : (n : ℕ) → eqb n n ≡ true
 same_test n = grind (arith, nat_tests)
 
-other_test : (n m : ℕ) → n ≢ m → eqb n m ≡ false
+pub other_test : (n m : ℕ) → n ≢ m → eqb n m ≡ false
 other_test n m other = grind (arith, nat_tests)
 
 holder-within : (granted : List ℕ) (term k : ℕ) → holder_of granted term ≡ Some k → term ≤ length granted

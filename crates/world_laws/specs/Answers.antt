@@ -1,4 +1,9 @@
 -- What an answer of a node says of its step: which answers an ask has, and the cause of each refusal.
+--
+-- A follower is told that it is level, gets one file, or is told that the database is gone. A frame is applied, held
+-- back by a lock that somebody holds, or refused. A commit of a halted node is sent and kept, and its reply brings the
+-- node to where the file leads, or changes nothing. Of other asks no answer says anything, but that a refusal and Held
+-- leave every call undone.
 use Rattle.std.specs.Prelude.{◌≡◌, ◌≢◌, ◌⊎◌, ◌==◌, ◌≤◌, Bool, true, false, List, [], ◌∷◌, length, Contains, Option, None, Some, IsSome, if◌then◌else◌}
 use Rattle.lf_base.specs.declared.pos.Pos.{Pos}
 use Rattle.lf_base.specs.Faults.{Rose}

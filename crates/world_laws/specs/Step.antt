@@ -35,7 +35,7 @@ pub record Steady (old new : NodeState) : Type 0 where
   pub file : new.served.file ≡ old.served.file
   pub frames : new.served.frames ≡ old.served.frames
 
--- THE BRIDGE: what each step of a node publishes
+-- the facts of a step, which a node publishes with its relation of steps
 pub record StepFacts (old : NodeState) (ask : Ask) (answer : Answer) (new : NodeState) : Type 0 where
   pub role : Role  -- the role in this step, once its moment has ended what expired
   pub did : List StoreCall  -- the calls on the store that went well, in order

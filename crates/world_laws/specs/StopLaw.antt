@@ -1,9 +1,14 @@
 -- A law of the events: a stop inside a step is a step of the same ask that fails, and a restart. So the events need no
--- stops of their own, for every call, and for a commit that is followed by its prune.
-use Rattle.std.specs.Prelude.{◌≡◌, ◌⊎◌, List, [], ◌∷◌, ◌++◌, None, Some, IsSome}
+-- stops of their own, for every call, and for a commit that is followed by its prune. It is said of one node, and then of
+-- a cluster: whatever a stop leaves, a run of one or two events comes to it.
+use Rattle.std.specs.Prelude.{◌≡◌, ◌⊎◌, ℕ, List, [], ◌∷◌, ◌++◌, None, Some, IsSome}
+use Rattle.world_laws.specs.Events.{Happens, Opens, Runs, Steps}
 use Rattle.world_laws.specs.Node.{Answer, Ask, NodeState}
+use Rattle.world_laws.specs.Premises.{OneImagePerPosition}
+use Rattle.world_laws.specs.Safe.{IsSafe}
 use Rattle.world_laws.specs.Step.{StepFacts}
 use Rattle.world_laws.specs.Store.{FailedIn, IsCandidate, MayBeFound, MayLeave, StoreCall, StoreState, all_done, begun_by}
+use Rattle.world_laws.specs.World.{World}
 
 -- a stop inside one of the calls, after those before it went well
 pub record IsCut (store : StoreState) (calls : List StoreCall) (left : StoreState) : Type 0 where
@@ -36,3 +41,19 @@ StopIsTwoEvents = (old new : NodeState) (ask : Ask) (answer : Answer) (left : St
 abbrev pub StopOfBroken : Type 0
 StopOfBroken = (old new : NodeState) (ask : Ask) (answer : Answer) → (facts : StepFacts old ask answer new) → IsSome old.failed →
     (facts.did ++ begun_by facts.failed ≡ []) × (new.store ≡ old.store) × (new.failed ≡ old.failed)
+
+-- each store that a restart may find is found by a restart
+abbrev pub EachIsFound : Type 0
+EachIsFound = (w : World) (k : ℕ) (left : StoreState) → IsSafe w → MayBeFound (w.nodes k).store (w.nodes k).failed left → (v : World) × Happens w (Opens k left) v
+
+-- a run comes to this store by a restart, or by a step of this ask that fails and a restart
+pub record IsReached (w : World) (k : ℕ) (ask : Ask) (left : StoreState) : Type 0 where
+  pub answer : Answer
+  pub last : World
+  pub runs : Runs w (Opens k left ∷ []) last ⊎ Runs w (Steps k ask answer ∷ Opens k left ∷ []) last
+
+-- wherever a step may happen, a run comes to each store that a stop inside it may leave
+abbrev pub StopIsReached : Type 0
+StopIsReached = (w v : World) (k : ℕ) (ask : Ask) (answer : Answer) (left : StoreState) → IsSafe w → OneImagePerPosition v.tree →
+    (turn : Happens w (Steps k ask answer) v) → (w.nodes k).failed ≡ None → IsCandidate (w.nodes k).store (turn.facts.did ++ begun_by turn.facts.failed) left →
+    IsReached w k ask left

@@ -3,7 +3,7 @@ ghost use Rattle.world_laws.specs.SafetyLaw.{SafeKept};
 ghost use Rattle.world_laws.specs.ReaderLaw.{ReaderSteady};
 ghost use Rattle.world_laws.specs.CatchUpLaw.{AnswersByWhole, SnapshotInstalls, DropInstalls, SentFileApplies};
 ghost use Rattle.world_laws.specs.ForwardLaw.{ForwardedStands, SendLeaves, RefusalLeaves};
-ghost use Rattle.world_laws.specs.StopLaw.{StopsAreCuts, StopIsTwoEvents, StopOfBroken};
+ghost use Rattle.world_laws.specs.StopLaw.{StopsAreCuts, StopIsTwoEvents, StopOfBroken, EachIsFound, StopIsReached};
 ghost use Rattle.world_laws.specs.SnapshotLaw.{SnapshotIsSound};
 ghost use Rattle.world_laws.specs.Scenario.{SomethingHappens, PagesDiffer};
 
@@ -36,11 +36,14 @@ pub fn forwarded_once()
     ensures refusal { RefusalLeaves }
 {}
 
-/// A stop inside a step is a step of the same ask that fails, and a restart.
+/// A stop inside a step is a step of the same ask that fails, and a restart: so of a node, and of a cluster,
+/// where a run of one or two events comes to whatever the stop leaves.
 pub fn stops_are_failures()
     ensures store { StopsAreCuts }
     ensures node { StopIsTwoEvents }
     ensures broken { StopOfBroken }
+    ensures restart { EachIsFound }
+    ensures run { StopIsReached }
 {}
 
 /// The snapshot of a store that was written is a file within the limits.
