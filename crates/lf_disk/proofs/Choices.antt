@@ -39,7 +39,7 @@ seen-same (Sync name) false f g d c same (inr step) = inr (record { here = step.
 seen-same (Rename from to) done f g d c same step = step
 seen-same (Remove name) done f g d c same step = step
 
-shown-same : (call : Call) (f g : Folder) → Same f g → Same (shown_after call f) (shown_after call g)
+pub shown-same : (call : Call) (f g : Folder) → Same f g → Same (shown_after call f) (shown_after call g)
 shown-same call f g same n = go call.done
   where
     go : (done : Bool) → cond done (changed call.change g) g n ≡ cond done (changed call.change f) f n

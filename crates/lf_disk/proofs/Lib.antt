@@ -7,3 +7,4 @@ mod Publishing
 mod Records
 mod SlotLemmas
 pub mod Reading
+pub mod Crashes

@@ -1,4 +1,5 @@
 pub mod Change
+pub mod Crash
 pub mod Folder
 pub mod History
 pub mod Laws

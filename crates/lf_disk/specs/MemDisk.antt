@@ -1,10 +1,11 @@
 -- What contracts see of a disk in memory.
-use Rattle.std.specs.Prelude.{ℕ, List, [], length, take, None}
+use Rattle.std.specs.Prelude.{◌≡◌, ◌⊎◌, ◌≤◌, ◌^◌, ℕ, List, [], length, take, None, IsTrue}
+use Rattle.lf_base.specs.Faults.{one_more}
 use Rattle.lf_disk.specs.declared.record.Call.{Call}
 use Rattle.lf_disk.specs.declared.slots.Slot.{Slot}
 use Rattle.lf_disk.specs.Folder.{Same}
 use Rattle.lf_disk.specs.Slots.{folder_of, IsOrderly}
-use Rattle.lf_disk.specs.Plan.{Plan}
+use Rattle.lf_disk.specs.Plan.{Plan, fails_next}
 use Rattle.lf_disk.specs.Replay.{State, at_rest, replay}
 use Rattle.lf_disk.specs.History.{History}
 
@@ -24,7 +25,12 @@ history_of r = record { moment = length r.calls; seen = λ t. (state_at r t).see
 
 -- a disk with these files, on which nothing is pending and no call is to fail
 abbrev pub fresh : List Slot → Recording
-fresh first = record { first = first; calls = []; plan = record { failing = []; stop_after = None; calls = 0; faults = 0 } }
+fresh first = record { first = first; calls = []; plan = record { failing = []; stop_after = None; calls = 0; faults = 0; short = 0 } }
+
+-- a changing call failed: it was told to, no moment was left for it, or there was no memory, which is counted. It counts one fault
+pub record FailsFor (old new : Recording) : Type 0 where
+  pub cause : IsTrue (fails_next old.plan) ⊎ (2 ^ 62 ≤ length old.calls) ⊎ (new.plan.short ≡ one_more old.plan.short)
+  pub one : new.plan.faults ≡ one_more old.plan.faults
 
 -- the files in memory are those that the record gives, and no name stands twice
 pub record IsCurrent (first : List Slot) (calls : List Call) (now : List Slot) : Type 0 where

@@ -1,14 +1,16 @@
 -- Which calls of a disk in memory fail.
-use Rattle.std.specs.Prelude.{◌≡◌, ℕ, ◌+◌, min, Bool, false, ◌||◌, ◌==◌, nat_le, List, Option, None, Some, IsTrue, Result, IsErr}
+use Rattle.std.specs.Prelude.{◌≡◌, ℕ, ◌+◌, min, Bool, false, ◌||◌, ◌==◌, nat_le, List, Option, None, Some, IsTrue, Result, IsErr, OnOk}
 use Rattle.std.specs.List.{list_any}
 use Rattle.lf_base.specs.Faults.{one_more}
 
--- the numbers of the calls that fail, and the number from which on all do; the calls and the faults so far
+-- the numbers of the calls that fail, and the number from which on all do; the calls and the faults so far, and how many
+-- of the changing calls found no memory
 pub record Plan : Type 0 where
   pub failing : List ℕ
   pub stop_after : Option ℕ
   pub calls : ℕ
   pub faults : ℕ
+  pub short : ℕ
 
 -- whether the call of this number comes at the stop or after it
 abbrev pub is_after : Option ℕ → ℕ → Bool
@@ -34,3 +36,4 @@ pub record Follows {T E : Type 0} (result : Result T E) (old new : Plan) : Type 
   pub calls : new.calls ≡ one_more old.calls
   pub failing : new.failing ≡ old.failing
   pub stop_after : new.stop_after ≡ old.stop_after
+  pub short : OnOk result (new.short ≡ old.short)

@@ -3,6 +3,7 @@ ghost use Rattle.std.specs.Prelude.{◌≡◌, ◌≤◌, min, max, length, IfOk
 ghost use Rattle.lf_disk.specs.Folder.{Same, bytes_of};
 ghost use Rattle.lf_disk.specs.Slots.{folder_of, IsOrderly};
 ghost use Rattle.lf_disk.specs.Change.{TearsFile, CropsFile};
+ghost use Rattle.lf_disk.specs.Crash.{choice_of, turned, is_taken, half_way, left_of_write, left_of_cut, left_of, left_as};
 ghost use Rattle.lf_disk.specs.Replay.{CrashStep, shown_after, replay, at_rest};
 
 use crate::name::FileName;
@@ -19,11 +20,32 @@ enum Choice {
 }
 
 /// The choice that the last two bits of a number make.
-fn choice_of(number: u64) -> Choice {
-    match number & 3 {
-        0 => Choice::Lost,
-        1 => Choice::Torn,
-        _ => Choice::Whole,
+fn choice_of(number: u64) -> Choice
+    ensures { result ≡ choice_of number }
+{
+    if number % 4 == 0 {
+        Choice::Lost
+    } else if number % 4 == 1 {
+        Choice::Torn
+    } else {
+        Choice::Whole
+    }
+}
+
+/// The number for the next call: two bits further, round a u64.
+fn turned(number: u64) -> u64
+    ensures { result ≡ turned number }
+{
+    number / 4 + number % 4 * (1 << 62)
+}
+
+/// Whether a call that is whole or not at all is taken.
+fn is_taken(choice: Choice, done: bool) -> bool
+    ensures { result ≡ is_taken choice done }
+{
+    match choice {
+        Choice::Whole => true,
+        _ => done,
     }
 }
 
@@ -38,6 +60,8 @@ fn leave_write(
 ) -> Result<(), AllocError>
     ensures step { OnOk result (TearsFile name at (length piece.now)
         (folder_of image.old.items) (folder_of image.new.items)) }
+    ensures chosen { OnOk result (Same (left_of_write choice name at piece.now (folder_of image.old.items))
+        (folder_of image.new.items)) }
     ensures orderly { IsOrderly image.old.items → IsOrderly image.new.items }
 {
     match choice {
@@ -54,6 +78,7 @@ fn leave_write(
 fn half_way(from: usize, to: usize) -> usize
     ensures low { min from to ≤ result }
     ensures high { result ≤ max from to }
+    ensures value { result ≡ half_way from to }
 {
     if from < to {
         from + (to - from) / 2
@@ -72,6 +97,8 @@ fn leave_cut(
 ) -> Result<(), AllocError>
     ensures step { OnOk result (CropsFile name len
         (folder_of image.old.items) (folder_of image.new.items)) }
+    ensures chosen { OnOk result (Same (left_of_cut choice name len (folder_of image.old.items))
+        (folder_of image.new.items)) }
     ensures orderly { IsOrderly image.old.items → IsOrderly image.new.items }
 {
     match choice {
@@ -103,9 +130,12 @@ fn leave(
 ) -> Result<(), AllocError>
     ensures step { OnOk result (CrashStep call.now (folder_of seen.now)
         (folder_of image.old.items) (folder_of image.new.items)) }
+    ensures chosen { OnOk result (Same
+        (left_of choice call.now.done call.now.change (folder_of seen.now) (folder_of image.old.items))
+        (folder_of image.new.items)) }
     ensures orderly { IsOrderly image.old.items → IsOrderly image.new.items }
 {
-    let is_taken = call.done || matches!(choice, Choice::Whole);
+    let is_taken = is_taken(choice, call.done);
     match &call.change {
         Change::Write { name, at, piece } => {
             leave_write(alloc, image, *name, *at as usize, piece.as_slice(), choice)
@@ -141,6 +171,8 @@ pub fn crashed(
     requires { IsOrderly first.now }
     ensures left { IfOk result
         (λ image. (replay (at_rest (folder_of first.now)) calls.now).leaves (folder_of image.items)) }
+    ensures chosen { IfOk result (λ image. Same
+        (left_as calls.now number (folder_of first.now) (folder_of first.now)) (folder_of image.items)) }
     ensures orderly { IfOk result (λ image. IsOrderly image.items) }
 {
     let mut seen = slots::copied(alloc, first)?;
@@ -149,7 +181,7 @@ pub fn crashed(
     for call in calls {
         leave(alloc, &mut image, call, &seen, choice_of(choices))?;
         follow(alloc, &mut seen, call)?;
-        choices = choices.rotate_right(2);
+        choices = turned(choices);
     }
     Ok(image)
 }

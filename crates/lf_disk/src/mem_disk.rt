@@ -3,12 +3,13 @@
 ghost use Rattle.std.specs.Prelude.{◌≡◌, ◌⊎◌, ◌≤◌, ◌^◌, ◌++◌, ◌∷◌, [], true, false, length, IsErr, IfOk, IsOk, OnOk, OnErr};
 ghost use Rattle.lf_base.specs.Faults.{CountsFaults};
 ghost use Rattle.lf_disk.specs.Plan.{stopped_in, Follows};
+ghost use Rattle.lf_disk.specs.MemDisk.{FailsFor};
 
 mod as_disk;
 mod reopen;
 
 use crate::plan::Schedule;
-use crate::record::{Call, Change, enact, note_failed};
+use crate::record::{Call, Change, LAST_MOMENT, enact, note_failed};
 use crate::slots::Slot;
 use lf_base::{Failed, NoMemory};
 use std::alloc::Global;
@@ -45,7 +46,7 @@ impl MemDisk {
         stop_after: Option<u64>,
     ) -> Result<MemDisk, NoMemory>
         ensures empty { IfOk result (λ disk. disk ≡ record (fresh []) {
-          plan = record { failing = failing.items; stop_after = stop_after; calls = 0; faults = 0 };
+          plan = record { failing = failing.items; stop_after = stop_after; calls = 0; faults = 0; short = 0 };
         }) }
         ensures made { IsOk result }
     {
@@ -72,6 +73,13 @@ impl MemDisk {
         self.schedule.calls()
     }
 
+    /// How many of its changing calls failed because there was no memory for them.
+    pub fn short(&self) -> u64
+        ensures { result ≡ self.now.plan.short }
+    {
+        self.schedule.short()
+    }
+
     /// A changing call.
     fn change(&mut self, change: Change) -> Result<(), Failed>
         ensures done { OnOk result
@@ -82,14 +90,18 @@ impl MemDisk {
         ensures last { 2 ^ 62 ≤ length self.old.calls → IsErr result × (self.new.calls ≡ self.old.calls) }
         ensures plan { Follows result self.old.plan self.new.plan }
         ensures cause { CountsFaults self.old.plan.faults self.new.plan.faults result }
+        ensures fault { IsErr result → FailsFor self.old self.new }
     {
         if self.schedule.begin() {
             note_failed(&mut self.calls, change);
             return Err(self.schedule.fail());
         }
+        if self.calls.len() >= LAST_MOMENT {
+            return Err(self.schedule.fail());
+        }
         match enact(self.alloc, &mut self.calls, &mut self.files, change) {
             Ok(()) => Ok(()),
-            Err(_) => Err(self.schedule.fail()),
+            Err(_) => Err(self.schedule.lack()),
         }
     }
 
@@ -99,8 +111,9 @@ impl MemDisk {
         ensures same { (self.new.first ≡ self.old.first) × (self.new.calls ≡ self.old.calls) }
         ensures plan { Follows result self.old.plan self.new.plan }
         ensures cause { CountsFaults self.old.plan.faults self.new.plan.faults result }
+        ensures fault { IsErr result → FailsFor self.old self.new }
     {
         let _ = self.schedule.begin();
-        Err(self.schedule.fail())
+        Err(self.schedule.lack())
     }
 }

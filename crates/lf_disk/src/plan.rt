@@ -13,6 +13,7 @@ pub struct Schedule {
     stop_after: Option<u64>,
     calls: u64,
     faults: u64,
+    short: u64,
 }
 
 impl Model for Schedule {
@@ -20,18 +21,19 @@ impl Model for Schedule {
 
     ghost Value = { Plan };
 
-    ghost view = { λ s. record { failing = s.failing.items; stop_after = s.stop_after; calls = s.calls; faults = s.faults } };
+    ghost view = { λ s. record { failing = s.failing.items; stop_after = s.stop_after; calls = s.calls; faults = s.faults; short = s.short } };
 }
 
 impl Schedule {
     pub fn new(failing: Vec<u64>, stop_after: Option<u64>) -> Schedule
-        ensures { result ≡ record { failing = failing.items; stop_after = stop_after; calls = 0; faults = 0 } }
+        ensures { result ≡ record { failing = failing.items; stop_after = stop_after; calls = 0; faults = 0; short = 0 } }
     {
         Schedule {
             failing,
             stop_after,
             calls: 0,
             faults: 0,
+            short: 0,
         }
     }
 
@@ -63,6 +65,23 @@ impl Schedule {
     {
         self.faults = self.faults.saturating_add(1);
         Failed
+    }
+
+    /// Counts a fault of a call that found no memory.
+    pub fn lack(&mut self) -> Failed
+        ensures counted { self.new ≡ record self.old { faults = one_more self.old.faults; short = one_more self.old.short } }
+        ensures rose { Rose self.old.faults self.new.faults }
+    {
+        self.faults = self.faults.saturating_add(1);
+        self.short = self.short.saturating_add(1);
+        Failed
+    }
+
+    /// How many calls found no memory.
+    pub fn short(&self) -> u64
+        ensures { result ≡ self.now.short }
+    {
+        self.short
     }
 
     /// Lets every call after the next ones fail.

@@ -1,5 +1,5 @@
 //! The changing calls of a disk in memory, as it keeps them.
-ghost use Rattle.std.specs.Prelude.{◌≡◌, ◌⊎◌, ◌≤◌, ◌^◌, ◌++◌, ◌∷◌, [], true, false, length, IsErr, OnOk, OnErr};
+ghost use Rattle.std.specs.Prelude.{◌≡◌, ◌⊎◌, ◌≤◌, ◌<◌, ◌^◌, vec_len, vec_capacity, ◌++◌, ◌∷◌, [], true, false, length, IsErr, OnOk, OnErr};
 ghost use Rattle.lf_disk.specs.Folder.{Same};
 ghost use Rattle.lf_disk.specs.Slots.{folder_of, IsOrderly};
 ghost use Rattle.lf_disk.specs.Replay.{changed};
@@ -10,7 +10,7 @@ use lf_base::Bytes;
 use std::alloc::{AllocError, Global};
 
 /// At this moment every changing call fails.
-const LAST_MOMENT: usize = 1 << 62;
+pub const LAST_MOMENT: usize = 1 << 62;
 
 /// What a call changes.
 #[derive(Debug, Drop)]
@@ -88,10 +88,12 @@ pub fn enact(
     }
 }
 
-/// Records a call that failed, as far as there is memory.
+/// Records a call that failed, wherever there is room for it.
 pub fn note_failed(calls: &mut Vec<Call>, change: Change)
     ensures noted { (calls.new.items ≡ calls.old.items)
         ⊎ (calls.new.items ≡ calls.old.items ++ record { change = change; done = false } ∷ []) }
+    ensures room { vec_len calls.old < vec_capacity calls.old → vec_len calls.old < 2 ^ 62 →
+        calls.new.items ≡ calls.old.items ++ record { change = change; done = false } ∷ [] }
     ensures last { 2 ^ 62 ≤ length calls.old.items → calls.new.items ≡ calls.old.items }
 {
     if calls.len() < LAST_MOMENT {

@@ -1,14 +1,14 @@
 //! A disk in memory meets the contract of a disk, and fails the calls that it was told to fail.
-ghost use Rattle.std.specs.Prelude.{◌≡◌, ◌↔◌, ◌≤◌, length, true, None, option_map, IsTrue, IsSome, IsErr, IfOk, OnOk, OnErr, Contains};
+ghost use Rattle.std.specs.Prelude.{◌≡◌, ◌↔◌, ◌≤◌, length, true, None, option_map, IsTrue, IsSome, IsErr, IsErrOf, IfOk, OnOk, OnErr, Contains};
 ghost use Rattle.std.specs.List.{IsDistinct};
-ghost use Rattle.lf_base.specs.Faults.{CountsFaults};
+ghost use Rattle.lf_base.specs.Faults.{CountsFaults, one_more};
 ghost use Rattle.lf_disk.specs.ListFault.{CountsListFaults};
 ghost use Rattle.lf_disk.specs.declared.name.FileName.{FileName as Name};
 ghost use Rattle.lf_base.specs.FileBytes.{Reads};
 ghost use Rattle.lf_disk.specs.Folder.{same_name, Same, bytes_of};
 ghost use Rattle.lf_disk.specs.Change.{OnFile, Perhaps, Writes, Cuts, Renames, TearsFile, CropsFile, SetsFile};
 ghost use Rattle.lf_disk.specs.History.{now, Rests, Ticks, Moves};
-ghost use Rattle.lf_disk.specs.MemDisk.{history_of};
+ghost use Rattle.lf_disk.specs.MemDisk.{history_of, FailsFor};
 ghost use Rattle.lf_disk.specs.Plan.{fails_next, Follows};
 ghost use Rattle.lf_disk.specs.Laws.{as_it_read};
 
@@ -35,6 +35,7 @@ impl Disk for MemDisk {
         ensures cause { CountsFaults self.old.plan.faults self.new.plan.faults result }
         ensures plan { Follows result self.old.plan self.new.plan }
         ensures only { IsErr result → IsTrue (fails_next self.old.plan) }
+        ensures one { IsErr result → self.new.plan.faults ≡ one_more self.old.plan.faults }
     {
         if self.schedule.begin() {
             return Err(self.schedule.fail());
@@ -49,6 +50,7 @@ impl Disk for MemDisk {
         ensures cause { CountsFaults self.old.plan.faults self.new.plan.faults result }
         ensures plan { Follows result self.old.plan self.new.plan }
         ensures only { IsErr result → IsTrue (fails_next self.old.plan) }
+        ensures one { IsErr result → self.new.plan.faults ≡ one_more self.old.plan.faults }
     {
         if self.schedule.begin() {
             return Err(self.schedule.fail());
@@ -68,6 +70,7 @@ impl Disk for MemDisk {
         ensures ticks { Ticks result (history_of self.old) (history_of self.new) }
         ensures cause { CountsFaults self.old.plan.faults self.new.plan.faults result }
         ensures plan { Follows result self.old.plan self.new.plan }
+        ensures fault { IsErr result → FailsFor self.old self.new }
     {
         match Vec::from_slice(self.alloc, bytes) {
             Ok(copy) => self.change(Change::Write {
@@ -87,6 +90,7 @@ impl Disk for MemDisk {
         ensures ticks { Ticks result (history_of self.old) (history_of self.new) }
         ensures cause { CountsFaults self.old.plan.faults self.new.plan.faults result }
         ensures plan { Follows result self.old.plan self.new.plan }
+        ensures fault { IsErr result → FailsFor self.old self.new }
     {
         self.change(Change::Cut { name, len })
     }
@@ -99,6 +103,7 @@ impl Disk for MemDisk {
         ensures ticks { Ticks result (history_of self.old) (history_of self.new) }
         ensures cause { CountsFaults self.old.plan.faults self.new.plan.faults result }
         ensures plan { Follows result self.old.plan self.new.plan }
+        ensures fault { IsErr result → FailsFor self.old self.new }
     {
         self.change(Change::Sync { name })
     }
@@ -112,6 +117,7 @@ impl Disk for MemDisk {
         ensures ticks { Ticks result (history_of self.old) (history_of self.new) }
         ensures cause { CountsFaults self.old.plan.faults self.new.plan.faults result }
         ensures plan { Follows result self.old.plan self.new.plan }
+        ensures fault { IsErr result → FailsFor self.old self.new }
     {
         self.change(Change::Rename { from, to })
     }
@@ -124,6 +130,7 @@ impl Disk for MemDisk {
         ensures ticks { Ticks result (history_of self.old) (history_of self.new) }
         ensures cause { CountsFaults self.old.plan.faults self.new.plan.faults result }
         ensures plan { Follows result self.old.plan self.new.plan }
+        ensures fault { IsErr result → FailsFor self.old self.new }
     {
         self.change(Change::Remove { name })
     }
@@ -134,6 +141,7 @@ impl Disk for MemDisk {
         ensures distinct { IfOk result (λ names. IsDistinct same_name names.items) }
         ensures rests { Rests (history_of self.old) (history_of self.new) }
         ensures cause { CountsListFaults self.old.plan.faults self.new.plan.faults result }
+        ensures only { IsErrOf result ListFault.Failed → IsTrue (fails_next self.old.plan) }
         ensures plan { Follows result self.old.plan self.new.plan }
     {
         if self.schedule.begin() {

@@ -1,6 +1,8 @@
 //! A disk in memory after a crash.
 ghost use Rattle.std.specs.Prelude.{◌≡◌, IfOk, IfErr};
 ghost use Rattle.lf_disk.specs.Slots.{folder_of, IsOrderly};
+ghost use Rattle.lf_disk.specs.Folder.{Same};
+ghost use Rattle.lf_disk.specs.Crash.{left_as};
 ghost use Rattle.lf_disk.specs.History.{may_leave};
 ghost use Rattle.lf_disk.specs.MemDisk.{history_of, fresh};
 
@@ -16,6 +18,7 @@ impl MemDisk {
     /// to fail. A refusal hands the disk back as it was.
     pub fn reopen(self) -> Result<MemDisk, (NoMemory, MemDisk)>
         ensures left { IfOk result (λ disk. may_leave (history_of self) (folder_of disk.first)) }
+        ensures lost { IfOk result (λ disk. Same (left_as self.calls 0 (folder_of self.first) (folder_of self.first)) (folder_of disk.first)) }
         ensures fresh { IfOk result (λ disk. disk ≡ fresh disk.first) }
         ensures back { IfErr result (λ e. e.1 ≡ self) }
     {
@@ -27,6 +30,7 @@ impl MemDisk {
     /// it, 1 a part, and 2 and 3 all.
     pub fn reopen_as(self, number: u64) -> Result<MemDisk, (NoMemory, MemDisk)>
         ensures left { IfOk result (λ disk. may_leave (history_of self) (folder_of disk.first)) }
+        ensures chosen { IfOk result (λ disk. Same (left_as self.calls number (folder_of self.first) (folder_of self.first)) (folder_of disk.first)) }
         ensures fresh { IfOk result (λ disk. disk ≡ fresh disk.first) }
         ensures back { IfErr result (λ e. e.1 ≡ self) }
     {
@@ -45,6 +49,7 @@ impl MemDisk {
     /// What a crash leaves, twice.
     fn left(&self, number: u64) -> Result<(Vec<Slot>, Vec<Slot>), AllocError>
         ensures left { IfOk result (λ both. may_leave (history_of self.now) (folder_of both.0.items)) }
+        ensures chosen { IfOk result (λ both. Same (left_as self.now.calls number (folder_of self.now.first) (folder_of self.now.first)) (folder_of both.0.items)) }
         ensures orderly { IfOk result (λ both. IsOrderly both.0.items) }
         ensures same { IfOk result (λ both. both.1.items ≡ both.0.items) }
     {
