@@ -394,3 +394,19 @@ take-same blocks k count is = elim (cases_lt count (length blocks)) [
 pub some-true : (b : Bool) (bytes : List ℕ) → IsSome (if b then Some bytes else None) → b ≡ true
 some-true true bytes is = refl
 some-true false bytes is = absurd cc
+
+-- a piece is that part of a block where each of its bytes is
+pub part-same : (block : List ℕ) (within : ℕ) (piece : List ℕ) → within + length piece ≤ length block → ((k : ℕ) → k < length piece → get_or block (within + k) 0 ≡ get_or piece k 0)
+    → take (within + length piece - within) (drop within block) ≡ piece
+part-same block within piece fits each =
+    ext_get_or 0 (take (within + length piece - within) (drop within block)) piece
+    (omega (arith, length-take (within + length piece - within) (drop within block), length-drop within block))
+    (λ k under.
+    let less : k < length piece = omega (arith, under, length-take (within + length piece - within) (drop within block)) in
+    get_or-take (within + length piece - within) (drop within block) k 0 (omega (arith, less)) ∙ get_or-drop within block k 0 ∙ each k less)
+
+pub same-part : (block : List ℕ) (within : ℕ) (piece : List ℕ) → take (within + length piece - within) (drop within block) ≡ piece
+    → (k : ℕ) → k < length piece → get_or block (within + k) 0 ≡ get_or piece k 0
+same-part block within piece same k less =
+    sym (get_or-drop within block k 0) ∙ sym (get_or-take (within + length piece - within) (drop within block) k 0 (omega (arith, less)))
+    ∙ ap (λ (l : List ℕ). get_or l k 0) same

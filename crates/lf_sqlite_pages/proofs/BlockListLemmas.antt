@@ -4,7 +4,7 @@ use Rattle.std.proofs.lemmas.Bool.{cases_lt, cond-false, ne_eqb}
 use Rattle.std.proofs.lemmas.List.{get_or_past, ext_get_or, get_or-take, get_or-drop, length-take, length-drop, drop_all, take_all}
 use Rattle.lf_base.specs.FileBytes.{resized, overwritten, written, Reads}
 use Rattle.lf_base.proofs.FileLemmas.{length-resized, get_or-resized, length-overwritten, overwritten_before, overwritten_within, overwritten_behind, written-some, length-written, written_before, written_within, written_behind}
-use Rattle.lf_sqlite_pages.specs.BlockTable.{byte_in, bytes_in, block_at, blocks_in, kept_in, IsWhole, IsReady, AreReady, AreKept, IsPut, IsFilled, IsSaved, IsRead, IsTable, IsCut}
+use Rattle.lf_sqlite_pages.specs.BlockTable.{byte_in, bytes_in, block_at, blocks_in, kept_in, IsWhole, IsReady, AreReady, AreKept, IsPut, IsFilled, IsSaved, IsRead, IsTable, IsCut, HoldsAll}
 use Rattle.lf_sqlite_pages.specs.Blocks.{touched}
 use Rattle.lf_sqlite_pages.proofs.BlockLemmas.{length-bytes_in, get_or-bytes_in, same-bytes_in, same-count}
 
@@ -152,4 +152,34 @@ pub ready-put : (old new ready : List (List ℕ)) (first from to : ℕ) → ((n 
 ready-put old new ready first from to sizes are some n low high = elim (are some n low high) [
   | inl whole ↦ inl (sizes n ∙ whole)
   | inr blank ↦ inr blank
+]
+
+-- bytes stand at a place where each of them does
+pub piece-there : (len : ℕ) (blocks : List (List ℕ)) (at : ℕ) (piece : List ℕ) → at + length piece ≤ len → HoldsAll piece (λ k. byte_in blocks (at + k))
+    → take (length piece) (drop at (bytes_in len blocks)) ≡ piece
+piece-there len blocks at piece fits each =
+    ext_get_or 0 (take (length piece) (drop at (bytes_in len blocks))) piece
+    (omega (arith, length-take (length piece) (drop at (bytes_in len blocks)), length-drop at (bytes_in len blocks), length-bytes_in len blocks))
+    (λ k under.
+    let less : k < length piece = omega (arith, under, length-take (length piece) (drop at (bytes_in len blocks))) in
+    get_or-take (length piece) (drop at (bytes_in len blocks)) k 0 less ∙ get_or-drop at (bytes_in len blocks) k 0
+    ∙ get_or-bytes_in len blocks (at + k) (omega (arith, less, fits)) ∙ each k less)
+
+pub there-piece : (len : ℕ) (blocks : List (List ℕ)) (at : ℕ) (piece : List ℕ) → at + length piece ≤ len → take (length piece) (drop at (bytes_in len blocks)) ≡ piece
+    → HoldsAll piece (λ k. byte_in blocks (at + k))
+there-piece len blocks at piece fits same k less =
+    sym (get_or-bytes_in len blocks (at + k) (omega (arith, less, fits))) ∙ sym (get_or-drop at (bytes_in len blocks) k 0)
+    ∙ sym (get_or-take (length piece) (drop at (bytes_in len blocks)) k 0 less) ∙ ap (λ (l : List ℕ). get_or l k 0) same
+
+-- one piece more stands there
+pub held-more : (blocks : List (List ℕ)) (at done count : ℕ) (piece part : List ℕ) → ((k : ℕ) → k < done → byte_in blocks (at + k) ≡ get_or piece k 0)
+    → length part ≡ count → ((k : ℕ) → k < count → get_or part k 0 ≡ get_or piece (done + k) 0) → HoldsAll part (λ k. byte_in blocks (at + done + k))
+    → (k : ℕ) → k < done + count → byte_in blocks (at + k) ≡ get_or piece k 0
+held-more blocks at done count piece part held size part-is more k less = elim (cases_lt k done) [
+  | inl low ↦ held k low
+  | inr from ↦
+      let place : at + done + (k - done) ≡ at + k = omega (arith, from) in
+      let back : done + (k - done) ≡ k = omega (arith, from) in
+      ap (λ (i : ℕ). byte_in blocks i) (sym place) ∙ more (k - done) (omega (arith, less, from, size)) ∙ part-is (k - done) (omega (arith, less, from))
+      ∙ ap (λ (i : ℕ). get_or piece i 0) back
 ]

@@ -67,6 +67,10 @@ pub record IsRead (blocks : List (List ℕ)) (at count : ℕ) (old new : List �
   pub read : (k : ℕ) → k < count → slice_index new k ≡ byte_in blocks (at + k)
   pub rest : (k : ℕ) → count ≤ k → slice_index new k ≡ slice_index old k
 
+-- each byte of a piece is the one that a function tells
+abbrev pub HoldsAll : List ℕ → (ℕ → ℕ) → Type 0
+HoldsAll piece byte = (k : ℕ) → k < length piece → byte k ≡ slice_index piece k
+
 -- block n is kept, or a blank one lies ready for it
 abbrev pub IsReady : List (List ℕ) → ℕ → List (List ℕ) → ℕ → Type 0
 IsReady blocks first ready n = IsWhole blocks n ⊎ IsBlank (block_at ready (n - first))

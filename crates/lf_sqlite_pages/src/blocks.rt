@@ -1,6 +1,6 @@
 //! A list of bytes kept in blocks of 4,096. A block in which nothing was written isn't kept, and reads
 //! as zeros.
-ghost use Rattle.std.specs.Prelude.{◌≡◌, ◌+◌, ◌≤◌, ◌<◌, ◌↔◌, Some, None, length, IsTrue, IsSome, IsOk, OnOk, OnErr};
+ghost use Rattle.std.specs.Prelude.{◌≡◌, ◌+◌, ◌≤◌, ◌<◌, ◌↔◌, Some, None, length, take, drop, IsTrue, IsSome, IsOk, OnOk, OnErr};
 ghost use Rattle.lf_base.specs.FileBytes.{Reads};
 ghost use Rattle.lf_sqlite_pages.specs.BlockTable.{blocks_in};
 ghost use Rattle.lf_sqlite_pages.specs.Blocks.{no_blocks, is_within, room_with, IsWithin, IsWritten, IsUndone, IsResized};
@@ -93,6 +93,15 @@ impl Blocks {
         let (front, _) = out.split_at_mut(count);
         table::read(self.blocks.as_slice(), at, front);
         count
+    }
+
+    /// Whether these bytes stand from a place on.
+    pub fn holds(&self, at: u64, piece: &[u8]) -> bool
+        requires { at + length piece.now ≤ length self.now.bytes }
+        ensures { IsTrue result ↔ (take (length piece.now) (drop at self.now.bytes) ≡ piece.now) }
+    {
+        let _limit = self.len;
+        table::holds(self.blocks.as_slice(), at as usize, piece)
     }
 
     /// Whether a write of `count` bytes at a place takes no memory.

@@ -1,6 +1,6 @@
 //! One block of bytes in memory.
-ghost use Rattle.std.specs.Prelude.{◌≡◌, ◌+◌, ◌-◌, ◌<◌, ◌≤◌, ◌↔◌, ℕ, [], false, length, replicate, slice_index, IsTrue, IfOk};
-ghost use Rattle.lf_sqlite_pages.specs.BlockTable.{block_size, is_kept, replaced, cleared_from, IsBlank};
+ghost use Rattle.std.specs.Prelude.{◌≡◌, ◌+◌, ◌-◌, ◌<◌, ◌≤◌, ◌↔◌, ℕ, [], false, length, replicate, slice_index, EachIndex, IsTrue, IfOk};
+ghost use Rattle.lf_sqlite_pages.specs.BlockTable.{block_size, is_kept, replaced, cleared_from, IsBlank, HoldsAll};
 
 use lf_base::NoMemory;
 use std::alloc::Global;
@@ -90,4 +90,23 @@ impl Block {
             out.copy_from_slice(&self.bytes[within..within + out.len()]);
         }
     }
+
+    /// Whether these bytes stand from a place on, zeros where no block is kept.
+    pub fn holds(&self, within: usize, piece: &[u8]) -> bool
+        requires { within + length piece.now ≤ block_size }
+        ensures { IsTrue result ↔ HoldsAll piece.now (λ k. slice_index self.now (within + k)) }
+    {
+        if self.bytes.is_empty() {
+            is_blank(piece)
+        } else {
+            &self.bytes[within..within + piece.len()] == piece
+        }
+    }
+}
+
+/// Whether all bytes are zeros.
+pub fn is_blank(piece: &[u8]) -> bool
+    ensures { IsTrue result ↔ EachIndex piece.now (λ k. slice_index piece.now k ≡ 0) }
+{
+    piece.iter().all(|byte| *byte == 0)
 }

@@ -1,8 +1,8 @@
 //! Blocks in a row, seen as one run of bytes: a byte of a block that isn't kept is 0.
-ghost use Rattle.std.specs.Prelude.{◌≡◌, ◌≢◌, ◌+◌, ◌-◌, ◌/◌, ◌%◌, ◌<◌, ◌≤◌, ◌^◌, ℕ, [], length, max, slice_index, slice_index_or, vec_len, vec_capacity, ◌⊎◌, IfOk, replicate};
-ghost use Rattle.lf_sqlite_pages.specs.BlockTable.{block_size, blocks_in, block_at, byte_in, kept_in, AreKept, IsPut, IsReady, AreReady, IsWhole, IsBlank, IsFilled, IsGivenBack, IsReleased, IsRead, IsSaved, IsTable, IsCut};
+ghost use Rattle.std.specs.Prelude.{◌≡◌, ◌≢◌, ◌+◌, ◌-◌, ◌/◌, ◌%◌, ◌<◌, ◌≤◌, ◌^◌, ℕ, [], length, max, slice_index, slice_index_or, vec_len, vec_capacity, ◌⊎◌, ◌↔◌, IsTrue, IfOk};
+ghost use Rattle.lf_sqlite_pages.specs.BlockTable.{block_size, blocks_in, block_at, byte_in, kept_in, AreKept, IsPut, IsReady, AreReady, IsWhole, IsBlank, IsFilled, IsGivenBack, IsReleased, IsRead, IsSaved, IsTable, IsCut, HoldsAll};
 
-use crate::blocks::block::{BLOCK_SIZE, Block};
+use crate::blocks::block::{BLOCK_SIZE, Block, is_blank};
 use lf_base::NoMemory;
 use std::alloc::Global;
 use std::mem;
@@ -54,6 +54,34 @@ fn read_piece(blocks: &[Block], place: usize, out: &mut [u8])
     match blocks.get(place / BLOCK_SIZE) {
         Some(block) => block.read(place % BLOCK_SIZE, out),
         None => out.fill(0),
+    }
+}
+
+/// Whether these bytes stand from `at` on.
+pub fn holds(blocks: &[Block], at: usize, piece: &[u8]) -> bool
+    requires { at + length piece.now < 2 ^ 63 }
+    ensures { IsTrue result ↔ HoldsAll piece.now (λ k. byte_in blocks.now (at + k)) }
+{
+    let mut done = 0;
+    while done < piece.len() {
+        let within = (at + done) % BLOCK_SIZE;
+        let count = (piece.len() - done).min(BLOCK_SIZE - within);
+        if !holds_piece(blocks, at + done, &piece[done..done + count]) {
+            return false;
+        }
+        done += count;
+    }
+    true
+}
+
+/// Whether these bytes stand in one block.
+fn holds_piece(blocks: &[Block], place: usize, piece: &[u8]) -> bool
+    requires { place % 4096 + length piece.now ≤ block_size }
+    ensures { IsTrue result ↔ HoldsAll piece.now (λ k. byte_in blocks.now (place + k)) }
+{
+    match blocks.get(place / BLOCK_SIZE) {
+        Some(block) => block.holds(place % BLOCK_SIZE, piece),
+        None => is_blank(piece),
     }
 }
 
