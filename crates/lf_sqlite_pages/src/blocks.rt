@@ -65,6 +65,11 @@ impl Blocks {
         }
     }
 
+    /// The allocator that the blocks are taken from.
+    pub fn allocator(&self) -> &Global {
+        self.blocks.allocator()
+    }
+
     /// How many bytes there are.
     pub fn len(&self) -> u64
         ensures value { result ≡ length self.now.bytes }

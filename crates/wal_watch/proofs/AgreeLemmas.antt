@@ -2,9 +2,9 @@
 use Rattle.std.proofs.Common.{◌≡◌, ℕ, zero, suc, ◌+◌, ◌-◌, ◌*◌, ◌/◌, ◌≤◌, Bool, true, List, length, take, drop, refl, sym, ap, subst, ◌∙◌, inl, inr, add-one, arith}
 use Rattle.std.proofs.lemmas.Bool.{cases_eq, le-leb}
 use Rattle.std.proofs.lemmas.List.{take-take, drop-take}
-use Rattle.wal_watch.specs.Words.{four_at, little_four_at, word_at}
-use Rattle.wal_watch.specs.Sums.{with_pairs, stand_at, no_sums}
-use Rattle.wal_watch.specs.Frames.{is_header, is_little, header_sums, page_size_in, frame_place, frame_sums, sums_after, is_head, is_frame, is_frame_at, are_valid, is_commit, committed_count, size_in}
+use Rattle.lf_base.specs.Endian.{be32_at, le32_at}
+use Rattle.wal_watch.specs.Sums.{word_at, with_pairs, stand_at, no_sums}
+use Rattle.wal_watch.specs.Frames.{is_header, is_little, header_sums, page_size_in, frame_place, frame_sums, sums_after, is_head, is_frame, is_frame_at, are_valid, is_commit, commits_among, committed_count, size_in}
 use Rattle.wal_watch.specs.declared.sums.Sums.{Sums}
 use Rattle.wal_watch.proofs.ScanLemmas.{next_place}
 use Rattle.wal_watch.proofs.CommitLemmas.{has_committed, commit_committed}
@@ -17,12 +17,12 @@ module _ (a b : List ℕ) (p : ℕ) (same : take p a ≡ take p b) where
       (sym (take-take (place + n) p a le) ∙ ap (λ (t : List ℕ). take (place + n) t) same ∙ take-take (place + n) p b le)
       ∙ drop-take place n b
 
-  pub same_four : (place : ℕ) → place + 4 ≤ p → four_at place a ≡ four_at place b
-  unfolding four_at
+  pub same_four : (place : ℕ) → place + 4 ≤ p → be32_at place a ≡ be32_at place b
+  unfolding be32_at
   same_four place le = rw (same_piece place 4 le) refl
 
   same_word : (little : Bool) (place : ℕ) → place + 4 ≤ p → word_at little place a ≡ word_at little place b
-  unfolding word_at four_at little_four_at
+  unfolding word_at be32_at le32_at
   same_word little place le = rw (same_piece place 4 le) refl
 
   same_pairs : (little : Bool) (s : Sums) (place n : ℕ) → place + 8 * n ≤ p → with_pairs little s place a n ≡ with_pairs little s place b n
@@ -37,7 +37,7 @@ module _ (a b : List ℕ) (p : ℕ) (same : take p a ≡ take p b) where
   same_stand s place le = rw (same_four place (omega arith), same_four (place + 4) (omega arith)) refl
 
   module _ (head : 32 ≤ p) where
-    same_little : is_little a ≡ is_little b
+    pub same_little : is_little a ≡ is_little b
     same_little = rw (same_four 0 (omega arith)) refl
 
     pub same_size : page_size_in a ≡ page_size_in b
@@ -46,7 +46,7 @@ module _ (a b : List ℕ) (p : ℕ) (same : take p a ≡ take p b) where
     pub same_place : (k : ℕ) → frame_place a k ≡ frame_place b k
     same_place k = rw same_size refl
 
-    same_header_sums : header_sums a ≡ header_sums b
+    pub same_header_sums : header_sums a ≡ header_sums b
     unfolding header_sums
     same_header_sums = rw same_little (same_pairs (is_little b) no_sums 0 3 (omega arith))
 
@@ -56,7 +56,7 @@ module _ (a b : List ℕ) (p : ℕ) (same : take p a ≡ take p b) where
         let fits : place + 24 + 8 * (page_size_in a / 8) ≤ p = omega arith in
         rw (← same_little, ← same_size, same_pairs (is_little a) s place 1 (omega arith)) (same_pairs (is_little a) (with_pairs (is_little a) s place b 1) (place + 24) (page_size_in a / 8) fits)
 
-    same_sums_after : (k : ℕ) → frame_place a k ≤ p → sums_after a k ≡ sums_after b k
+    pub same_sums_after : (k : ℕ) → frame_place a k ≤ p → sums_after a k ≡ sums_after b k
     unfolding sums_after
     same_sums_after zero le = same_header_sums
     same_sums_after (suc k) le =
@@ -116,11 +116,18 @@ module _ (a b : List ℕ) (p : ℕ) (same : take p a ≡ take p b) where
       same_sized : (k : ℕ) → frame_place a (k + 1) ≤ p → size_in a k ≡ size_in b k
       same_sized k le =
           let fits : frame_place a k + (24 + page_size_in a) ≤ p = omega (arith, next_place a k) in
-          same_four (frame_place a k + 4) (omega arith) ∙ ap (λ (place : ℕ). four_at (place + 4) b) (same_place k)
+          same_four (frame_place a k + 4) (omega arith) ∙ ap (λ (place : ℕ). be32_at (place + 4) b) (same_place k)
 
       pub same_commit : (k : ℕ) → frame_place a (k + 1) ≤ p → is_commit a k ≡ is_commit b k
       unfolding is_commit
       same_commit k le = rw (same_valid (k + 1) le, same_sized k le) refl
+
+      pub same_commits : (k : ℕ) → frame_place a k ≤ p → commits_among a k ≡ commits_among b k
+      unfolding commits_among
+      same_commits zero le = refl
+      same_commits (suc k) le =
+          let fits : frame_place a (k + 1) ≤ p = subst (λ (m : ℕ). frame_place a m ≤ p) (sym (add-one k)) le in
+          rw (same_commit k fits, same_commits k (omega (arith, fits, next_place a k))) refl
 
 -- a text that another begins with has no more committed frames
 pub front_counts : (a b : List ℕ) (p : ℕ) → take p a ≡ take p b → length a ≡ p → p ≤ length b → committed_count a ≤ committed_count b

@@ -1,9 +1,9 @@
 -- A text that is cut has no more committed frames.
 use Rattle.std.proofs.Common.{◌≡◌, ℕ, ◌-◌, ◌≤◌, List, length, take, replicate, arith, ◌∙◌}
 use Rattle.std.proofs.lemmas.List.{take-append-le, take-take, length-take}
-use Rattle.wal_watch.specs.File.{resized}
+use Rattle.lf_base.specs.FileBytes.{resized}
 use Rattle.wal_watch.specs.Frames.{committed_count}
-use Rattle.wal_watch.proofs.TextLemmas.{length-resized}
+use Rattle.lf_base.proofs.FileLemmas.{length-resized}
 use Rattle.wal_watch.proofs.AgreeLemmas.{front_counts}
 
 pub cut_counts : (text : List ℕ) (len : ℕ) → len ≤ length text → committed_count (resized len text) ≤ committed_count text

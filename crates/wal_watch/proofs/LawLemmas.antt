@@ -2,9 +2,10 @@
 use Rattle.std.proofs.Common.{◌≡◌, ℕ, ◌+◌, ◌-◌, ◌≤◌, ◌<◌, true, List, length, take, drop, refl, sym, ap, ◌∙◌, inl, inr, arith}
 use Rattle.std.proofs.lemmas.Bool.{cases_eq, cond-false, ne_eqb}
 use Rattle.std.proofs.lemmas.List.{length-take}
-use Rattle.wal_watch.specs.Words.{four_at}
+use Rattle.lf_base.specs.Endian.{be32_at}
 use Rattle.wal_watch.specs.Frames.{frame_place, page_size_in, committed_count, committed_end, is_commit}
-use Rattle.wal_watch.specs.News.{IsSameFrame, HasSameFrames}
+use Rattle.wal_watch.specs.Frames.{size_in}
+use Rattle.wal_watch.specs.News.{IsSameFrame, HasSameFrames, last_size}
 use Rattle.wal_watch.proofs.ScanLemmas.{next_place}
 use Rattle.wal_watch.proofs.CommitLemmas.{has_committed, commit_committed, place_up}
 use Rattle.wal_watch.proofs.AgreeLemmas.{same_four, same_piece, same_size, same_place, same_commit}
@@ -38,8 +39,8 @@ module _ (old new : List ℕ) (same : take (committed_end old) new ≡ take (com
       let fits : place + (24 + page_size_in old) ≤ committed_end old = omega (arith, next_place old k, place_up old (k + 1) (committed_count old) (omega arith), end_is old some) in
       let to_new = same_place old new (committed_end old) (sym same) head k in
       record {
-        number = ap (λ (p : ℕ). four_at p new) (sym to_new) ∙ sym (same_four old new (committed_end old) (sym same) place (omega arith));
-        size = ap (λ (p : ℕ). four_at (p + 4) new) (sym to_new) ∙ sym (same_four old new (committed_end old) (sym same) (place + 4) (omega arith));
+        number = ap (λ (p : ℕ). be32_at p new) (sym to_new) ∙ sym (same_four old new (committed_end old) (sym same) place (omega arith));
+        size = ap (λ (p : ℕ). be32_at (p + 4) new) (sym to_new) ∙ sym (same_four old new (committed_end old) (sym same) (place + 4) (omega arith));
         page =
             ap (λ (n : ℕ). take n (drop (frame_place new k + 24) new)) (sym (same_size old new (committed_end old) (sym same) head))
             ∙ ap (λ (p : ℕ). take (page_size_in old) (drop (p + 24) new)) (sym to_new)
@@ -54,3 +55,13 @@ keeps_count old new same = elim (cases_eq (committed_count old) 0) [
 
 pub keeps_frames : (old new : List ℕ) → take (committed_end old) new ≡ take (committed_end old) old → HasSameFrames old new
 keeps_frames old new same k less = kept_frame old new same (omega arith) k less
+
+-- and the page size stays
+pub keeps_size : (old new : List ℕ) → take (committed_end old) new ≡ take (committed_end old) old → 0 < committed_count old → page_size_in new ≡ page_size_in old
+keeps_size old new same some = sym (same_size old new (committed_end old) (sym same) (head old new same some))
+
+-- what a log with committed frames has
+pub last_some : (text : List ℕ) → 0 < committed_count text → 0 < last_size text
+last_some text some =
+    let own : last_size text ≡ size_in text (committed_count text - 1) = cond-false _ _ _ (ne_eqb (committed_count text) 0 (λ none. omega (arith, none, some))) in
+    omega (arith, own, (has_committed text (committed_count text) refl some).size)

@@ -1,9 +1,13 @@
 pub mod Steps
+pub mod PieceLemmas
 pub mod ScanLemmas
 pub mod CommitLemmas
 pub mod AgreeLemmas
+pub mod FrontLemmas
+pub mod StayLemmas
+pub mod WriteLemmas
 pub mod ChangeLemmas
-pub mod TextLemmas
 pub mod CheckLemmas
 pub mod CutLemmas
 pub mod LawLemmas
+pub mod PartLemmas

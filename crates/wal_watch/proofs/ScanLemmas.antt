@@ -1,11 +1,14 @@
 -- A scan goes on by one frame, or ends.
 use Rattle.std.proofs.Common.{◌≡◌, ℕ, zero, suc, ◌+◌, ◌*◌, ◌≤◌, true, false, List, length, refl, sym, ap, ◌∙◌, inl, inr, add-one, arith, if◌then◌else◌, ◌==◌}
-use Rattle.std.proofs.lemmas.Bool.{and_from, cases_eq, cond-true, cond-false, and_left, and_right, not_from_true, not_from_false, ne_eqb, eq-eqb}
+use Rattle.std.proofs.lemmas.Bool.{and_from, cases_eq, cond-true, cond-false, and_left, and_right, not_from_true, not_from_false, ne_eqb, eq-eqb, and_parts, leb-true}
 use Rattle.std.proofs.Math.Nat.{mul-le-mul_left}
-use Rattle.wal_watch.specs.Words.{four_at}
+use Rattle.lf_base.specs.Endian.{be32_at}
 use Rattle.wal_watch.specs.Frames.{is_header, page_size_in, frame_place, frame_sums, header_sums, is_frame, is_frame_at, are_valid, is_commit, commits_among, committed_count, size_in}
-use Rattle.wal_watch.specs.Scanning.{IsScanned}
-use Rattle.wal_watch.specs.declared.scan.Scan.{Scan}
+use Rattle.wal_watch.specs.Scanning.{IsMark, AreMarks, AreFinal, IsNextFrame}
+use Rattle.wal_watch.specs.declared.scan.Mark.{Mark}
+use Rattle.wal_watch.specs.declared.scan.Marks.{Marks}
+use Rattle.wal_watch.specs.declared.scan.NextFrame.{NextFrame}
+use Rattle.wal_watch.specs.declared.sums.Sums.{Sums}
 use Rattle.wal_watch.proofs.Steps.{sums_more, sums_none, valid_more, valid_none, commits_more, commits_none}
 
 -- where frame n isn't valid, no later frame is
@@ -32,18 +35,6 @@ commits_stay text k (suc n) h le = elim (cases_eq k (suc n)) [
       ap (λ m. commits_among text m) (sym (add-one n)) ∙ commits_more text n ∙ cond-false _ _ _ (no_commit text n off) ∙ commits_stay text k n h (omega arith)
 ]
 
--- a scan that stands before the first frame
-pub scan_none : (text : List ℕ) (scan : Scan) → is_header text ≡ true → 32 ≤ length text → scan.frames ≡ 0 → scan.page_size ≡ page_size_in text
-    → scan.place ≡ 32 → scan.sums ≡ header_sums text → scan.committed ≡ 0 → IsScanned text scan
-scan_none text scan header room frames size place sums committed = record {
-  valid = rw frames (valid_none text ∙ header);
-  page_size = size;
-  place = rw frames (omega (arith, place));
-  there = omega arith;
-  sums = sums ∙ rw frames (sym (sums_none text));
-  committed = committed ∙ rw frames (sym (commits_none text));
-}
-
 -- where a frame ends, all of it is there
 pub next_place : (text : List ℕ) (k : ℕ) → frame_place text (k + 1) ≡ frame_place text k + (24 + page_size_in text)
 next_place text k = omega arith
@@ -62,38 +53,65 @@ commits_next text k size valid size-is = elim (cases_eq size 0) [
       commits_more text k ∙ cond-true _ _ _ on ∙ sym (cond-false _ _ _ (ne_eqb _ _ some))
 ]
 
--- a scan that passed one more valid frame
-pub scan_more : (text : List ℕ) (scan next : Scan) (size : ℕ) → IsScanned text scan → is_frame_at text scan.place scan.sums ≡ true
-    → scan.place + (24 + scan.page_size) ≤ length text → size ≡ four_at (scan.place + 4) text
-    → next.frames ≡ scan.frames + 1 → next.page_size ≡ scan.page_size → next.place ≡ scan.place + (24 + scan.page_size)
-    → next.sums ≡ frame_sums text scan.place scan.sums → next.committed ≡ (if size == 0 then scan.committed else scan.frames + 1) → IsScanned text next
-scan_more text scan next size h frame room size-is frames page place sums committed =
-    let k = scan.frames in
-    let here : is_frame text k ≡ true = rw (← h.place, ← h.sums) frame in
-    let valid : are_valid text (k + 1) ≡ true = valid_more text k ∙ and_from _ _ h.valid here in
-    let size_at : size ≡ size_in text k = size-is ∙ ap (λ (p : ℕ). four_at (p + 4) text) h.place in
-    record {
-      valid = rw frames valid;
-      page_size = page ∙ h.page_size;
-      place = rw frames (place ∙ omega (arith, h.place, h.page_size, next_place text k));
-      there = omega (arith, place, room);
-      sums = sums ∙ rw (h.place, h.sums, frames) (sym (sums_more text k));
-      committed = committed ∙ ap (λ (c : ℕ). if size == 0 then c else k + 1) h.committed ∙ rw frames (sym (commits_next text k size valid size_at));
-    }
+-- a valid frame is there
+pub frame_room_at : (text : List ℕ) (place : ℕ) (sums : Sums) (k : ℕ) → place ≡ frame_place text k → is_frame_at text place sums ≡ true → frame_place text (k + 1) ≤ length text
+unfolding is_frame_at
+frame_room_at text place sums k at h =
+    let fits : place + (24 + page_size_in text) ≤ length text = leb-true _ _ (and_parts _ _ h).0 in
+    omega (arith, fits, at, next_place text k)
+
+-- the marks behind one more valid frame
+pub marks-more : (text : List ℕ) (marks : Marks) (frame : NextFrame) (last committed : Mark) → AreMarks text marks → IsNextFrame text marks frame
+    → last ≡ record { frames = marks.last.frames + 1; place = marks.last.place + 24 + marks.header.page_size; sums = frame.sums }
+    → committed ≡ (if frame.size == 0 then marks.committed else last)
+    → AreMarks text (record { header = marks.header; committed = committed; last = last })
+marks-more text marks frame last committed h is last-is committed-is =
+    let k = marks.last.frames in
+    let here : is_frame text k ≡ true = rw (← h.last.place, ← h.last.sums) is.valid in
+    let valid : are_valid text (k + 1) ≡ true = valid_more text k ∙ and_from _ _ h.last.valid here in
+    let size-is : frame.size ≡ size_in text k = is.size ∙ ap (λ (p : ℕ). be32_at (p + 4) text) h.last.place in
+    let place-is : last.place ≡ frame_place text (k + 1) = ap (λ (m : Mark). m.place) last-is ∙ omega (arith, h.last.place, h.header.page_size, next_place text k) in
+    let frames-is : last.frames ≡ k + 1 = ap (λ (m : Mark). m.frames) last-is in
+    let mark : IsMark text last = record {
+      valid = rw frames-is valid;
+      place = rw frames-is place-is;
+      there = rw place-is (frame_room_at text marks.last.place marks.last.sums k h.last.place is.valid);
+      sums = ap (λ (m : Mark). m.sums) last-is ∙ is.sums ∙ rw (h.last.place, h.last.sums, frames-is) (sym (sums_more text k));
+    } in
+    let count-is : commits_among text (k + 1) ≡ (if frame.size == 0 then commits_among text k else k + 1) = commits_next text k frame.size valid size-is in
+    elim (cases_eq frame.size 0) [
+      | inl none ↦
+          let same : committed ≡ marks.committed = committed-is ∙ cond-true _ _ _ (eq-eqb _ _ none) in
+          record {
+            header = h.header;
+            last = mark;
+            committed = rw same h.committed;
+            count = rw (same, frames-is) (h.count ∙ sym (count-is ∙ cond-true _ _ _ (eq-eqb _ _ none)));
+          }
+      | inr some ↦
+          let own : committed ≡ last = committed-is ∙ cond-false _ _ _ (ne_eqb _ _ some) in
+          record {
+            header = h.header;
+            last = mark;
+            committed = rw own mark;
+            count = rw (own, frames-is) (sym (count-is ∙ cond-false _ _ _ (ne_eqb _ _ some)));
+          }
+    ]
 
 -- each frame takes room
 pub frames_fit : (text : List ℕ) (k : ℕ) → frame_place text k ≤ length text → k ≤ length text
 frames_fit text k there = let some : k * 1 ≤ k * (24 + page_size_in text) = mul-le-mul_left k (omega arith) in omega (arith, some)
 
 -- where a scan ends, all commits are behind it
-pub scan_ends : (text : List ℕ) (scan : Scan) → IsScanned text scan → is_frame_at text scan.place scan.sums ≡ false → scan.committed ≡ committed_count text
+pub final-count : (text : List ℕ) (marks : Marks) → AreFinal text marks → marks.committed.frames ≡ committed_count text
 unfolding committed_count
-scan_ends text scan h off =
-    let k = scan.frames in
-    let here : is_frame text k ≡ false = rw (← h.place, ← h.sums) off in
+final-count text marks final =
+    let h = final.behind in
+    let k = marks.last.frames in
+    let here : is_frame text k ≡ false = rw (← h.last.place, ← h.last.sums) final.ends in
     let invalid : are_valid text (k + 1) ≡ false = valid_more text k ∙ and_right _ _ here in
-    let there : frame_place text k ≤ length text = rw (← h.place) h.there in
-    h.committed ∙ sym (commits_stay text k (length text) invalid (frames_fit text k there))
+    let there : frame_place text k ≤ length text = rw (← h.last.place) h.last.there in
+    h.count ∙ sym (commits_stay text k (length text) invalid (frames_fit text k there))
 
 -- a text without a valid header has no committed frame
 pub none_committed : (text : List ℕ) → is_header text ≡ false → committed_count text ≡ 0

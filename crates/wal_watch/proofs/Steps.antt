@@ -1,7 +1,7 @@
 -- One more step of each recursion.
 use Rattle.std.proofs.Common.{◌≡◌, ℕ, ◌+◌, ◌*◌, Bool, true, ◌&&◌, List, refl, ap, add-one, if◌then◌else◌}
 use Rattle.std.proofs.lemmas.Bool.{and_parts, leb-true}
-use Rattle.wal_watch.specs.Words.{word_at}
+use Rattle.wal_watch.specs.Sums.{word_at}
 use Rattle.wal_watch.specs.Sums.{with_pair, with_pairs}
 use Rattle.wal_watch.specs.Frames.{is_header, frame_place, frame_sums, header_sums, sums_after, is_frame, are_valid, is_commit, commits_among}
 use Rattle.wal_watch.specs.Scanning.{HasHeader}

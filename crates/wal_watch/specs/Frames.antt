@@ -2,20 +2,20 @@
 -- Every definition is over the whole text of the file; frames are counted from 0.
 use Rattle.std.specs.Prelude.{ℕ, suc, zero, ◌+◌, ◌*◌, ◌/◌, Bool, ◌&&◌, ◌||◌, ◌==◌, not, nat_le, List, length, take, drop, if◌then◌else◌}
 use Rattle.lf_sqlite_pages.specs.PageSize.{is_page_size}
-use Rattle.wal_watch.specs.Words.{four_at}
+use Rattle.lf_base.specs.Endian.{be32_at}
 use Rattle.wal_watch.specs.Sums.{with_pairs, no_sums, stand_at}
 use Rattle.wal_watch.specs.declared.sums.Sums.{Sums}
 
 -- the first magic number says that the words of the sums are little-endian, the second that they are big-endian
 abbrev pub is_little : List ℕ → Bool
-is_little text = four_at 0 text == 0x377f0682
+is_little text = be32_at 0 text == 0x377f0682
 
 abbrev pub is_big : List ℕ → Bool
-is_big text = four_at 0 text == 0x377f0683
+is_big text = be32_at 0 text == 0x377f0683
 
 -- the page size that the header states
 abbrev pub page_size_in : List ℕ → ℕ
-page_size_in text = four_at 8 text
+page_size_in text = be32_at 8 text
 
 -- the sums of the first 24 bytes
 unfoldable pub header_sums : List ℕ → Sums
@@ -24,7 +24,7 @@ header_sums text = with_pairs (is_little text) no_sums 0 text 3
 -- the text begins with a valid header: a magic number, version 3007000, a page size and the right sums
 unfoldable pub is_header : List ℕ → Bool
 is_header text =
-    nat_le 32 (length text) && ((is_little text || is_big text) && ((four_at 4 text == 3007000)
+    nat_le 32 (length text) && ((is_little text || is_big text) && ((be32_at 4 text == 3007000)
     && (is_page_size (page_size_in text) && stand_at (header_sums text) 24 text)))
 
 -- where frame k begins: 24 bytes and a page each, behind the 32 bytes of the header
@@ -33,10 +33,10 @@ frame_place text k = 32 + k * (24 + page_size_in text)
 
 -- frame k: its page number, the database size in pages after a commit or 0, and its page
 abbrev pub number_in : List ℕ → ℕ → ℕ
-number_in text k = four_at (frame_place text k) text
+number_in text k = be32_at (frame_place text k) text
 
 abbrev pub size_in : List ℕ → ℕ → ℕ
-size_in text k = four_at (frame_place text k + 4) text
+size_in text k = be32_at (frame_place text k + 4) text
 
 abbrev pub page_in : List ℕ → ℕ → List ℕ
 page_in text k = take (page_size_in text) (drop (frame_place text k + 24) text)
@@ -54,7 +54,7 @@ sums_after text (suc k) = frame_sums text (frame_place text k) (sums_after text 
 -- the head of the frame at a place: a page number that isn't 0, and the salts of the header
 unfoldable pub is_head : List ℕ → ℕ → Bool
 is_head text place =
-    not (four_at place text == 0) && ((four_at (place + 8) text == four_at 16 text) && (four_at (place + 12) text == four_at 20 text))
+    not (be32_at place text == 0) && ((be32_at (place + 8) text == be32_at 16 text) && (be32_at (place + 12) text == be32_at 20 text))
 
 -- the frame at a place is whole, has a right head, and its sums continue the chain from the sums before it
 unfoldable pub is_frame_at : List ℕ → ℕ → Sums → Bool

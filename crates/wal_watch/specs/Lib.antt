@@ -1,4 +1,3 @@
-pub mod Words
 pub mod Sums
 pub mod Frames
 pub mod Scanning

@@ -3,6 +3,7 @@ use Rattle.std.specs.Prelude.{◌≡◌, ◌<◌, ℕ, suc, zero, ◌+◌, ◌-�
 use Rattle.std.specs.Option.{option_map}
 use Rattle.std.specs.Str.{bytes_eq}
 use Rattle.lf_sqlite_pages.specs.Change.{PageChange}
+use Rattle.lf_sqlite_pages.specs.LockPage.{lock_page_of}
 use Rattle.lf_sqlite_pages.specs.declared.page_write.PageWrite.{PageWrite}
 use Rattle.wal_watch.specs.declared.news.WalNews.{WalNews}
 use Rattle.wal_watch.specs.declared.news.WalNews.TheVariants.{Stored, Committed}
@@ -18,13 +19,17 @@ latest_frame text page first (suc k) =
 abbrev pub write_in : List ℕ → ℕ → ℕ → PageWrite
 write_in text page k = record { number = page; bytes = page_in text k }
 
--- of each page from 1 to a count the latest frame, in order, of the frames from first on among the first n
+-- the frame that a change takes a page from: the latest that holds it; a change doesn't hold the lock page
+abbrev pub change_frame : List ℕ → ℕ → ℕ → ℕ → Option ℕ
+change_frame text page first n = if page == lock_page_of (page_size_in text) then None else latest_frame text page first n
+
+-- of each data page from 1 to a count the latest frame, in order, of the frames from first on among the first n
 unfoldable pub latest_pages : List ℕ → ℕ → ℕ → ℕ → List PageWrite
 latest_pages text first n zero = []
 latest_pages text first n (suc page) =
-    latest_pages text first n page ++ option_to_list (option_map (write_in text (page + 1)) (latest_frame text (page + 1) first n))
+    latest_pages text first n page ++ option_to_list (option_map (write_in text (page + 1)) (change_frame text (page + 1) first n))
 
--- the change that the frames from first to n make: within the size of the last commit, the latest of each page
+-- the change that the frames from first to n make: within the size of the last commit, the latest of each data page
 abbrev pub change_of : List ℕ → ℕ → ℕ → PageChange
 change_of text first n =
     record { page_size = page_size_in text; commit = size_in text (n - 1); pages = latest_pages text first n (size_in text (n - 1)) }
@@ -54,6 +59,14 @@ pub record HoldsAt (text : List ℕ) (count page : ℕ) (bytes : List ℕ) (k : 
 -- a committed frame holds this page with these bytes
 abbrev pub HoldsFrame : List ℕ → ℕ → List ℕ → Type 0
 HoldsFrame text page bytes = (k : ℕ) × HoldsAt text (committed_count text) page bytes k
+
+-- a committed frame states this database size
+abbrev pub HasSize : List ℕ → ℕ → Type 0
+HasSize text pages = (k : ℕ) × (k < committed_count text) × (size_in text k ≡ pages)
+
+-- the database size in pages after the last commit, 0 where there is none
+abbrev pub last_size : List ℕ → ℕ
+last_size text = if committed_count text == 0 then 0 else size_in text (committed_count text - 1)
 
 -- the bytes of the latest committed frame of a page
 abbrev pub latest_page : List ℕ → ℕ → Option (List ℕ)

@@ -1,7 +1,7 @@
 -- Why a write or a cut is refused.
 use Rattle.std.specs.Prelude.{◌≡◌, ◌≢◌, ℕ, ◌+◌, ◌<◌, ◌≤◌, ◌⊎◌, true, false, List, length, take}
 use Rattle.wal_watch.specs.Frames.{is_header, page_size_in, committed_count, committed_end}
-use Rattle.wal_watch.specs.File.{written, resized}
+use Rattle.lf_base.specs.FileBytes.{written, resized}
 use Rattle.wal_watch.specs.declared.fault.WalFault.{WalFault}
 use Rattle.wal_watch.specs.declared.fault.WalFault.TheVariants.{TooLong, Header, Part, NoMemory}
 
@@ -47,15 +47,9 @@ pub record IsSoundCut (old : List ℕ) (len : ℕ) : Type 0 where
   pub short : len ≤ wal_limit
   pub part : CutsCommitted old len → ⊥
 
--- why a cut is refused; only one that makes the file longer takes memory
+-- why a cut is refused: the first of these that holds. It takes no memory
 abbrev pub IsCutFault : List ℕ → ℕ → WalFault → Type 0
 IsCutFault old len TooLong = wal_limit < len
 IsCutFault old len Header = ⊥
 IsCutFault old len Part = (len ≤ wal_limit) × CutsCommitted old len
-IsCutFault old len NoMemory = (len ≤ wal_limit) × (length old < len)
-
--- why a file isn't made longer: zeros would complete a transaction, or memory ran out
-abbrev pub IsGrowthFault : List ℕ → ℕ → WalFault → Type 0
-IsGrowthFault old len Part = committed_count old < committed_count (resized len old)
-IsGrowthFault old len NoMemory = length old < len
-IsGrowthFault old len _ = ⊥
+IsCutFault old len NoMemory = ⊥

@@ -1,22 +1,54 @@
 -- How far a text was scanned.
-use Rattle.std.specs.Prelude.{◌≡◌, ℕ, ◌-◌, ◌<◌, ◌≤◌, true, List, length}
-use Rattle.lf_sqlite_pages.specs.PageSize.{is_page_size}
-use Rattle.wal_watch.specs.Frames.{frame_place, are_valid, sums_after, commits_among, is_commit, size_in, page_size_in}
-use Rattle.wal_watch.specs.declared.scan.Scan.{Scan}
+use Rattle.std.specs.Prelude.{◌≡◌, ℕ, ◌+◌, ◌-◌, ◌<◌, ◌≤◌, true, false, Option, Some, None, List, length}
+use Rattle.lf_base.specs.Endian.{be32_at}
+use Rattle.lf_sqlite_pages.specs.PageSize.{IsPageSize}
+use Rattle.wal_watch.specs.Frames.{is_header, is_little, frame_place, are_valid, sums_after, commits_among, is_commit, is_frame_at, frame_sums, size_in, page_size_in}
+use Rattle.wal_watch.specs.declared.header.Header.{Header}
+use Rattle.wal_watch.specs.declared.scan.Mark.{Mark}
+use Rattle.wal_watch.specs.declared.scan.Marks.{Marks}
+use Rattle.wal_watch.specs.declared.scan.NextFrame.{NextFrame}
 
--- the scan passed valid frames alone, and stands before the next
-pub record IsScanned (text : List ℕ) (scan : Scan) : Type 0 where
-  pub valid : are_valid text scan.frames ≡ true
-  pub page_size : scan.page_size ≡ page_size_in text
-  pub place : scan.place ≡ frame_place text scan.frames
-  pub there : scan.place ≤ length text
-  pub sums : scan.sums ≡ sums_after text scan.frames
-  pub committed : scan.committed ≡ commits_among text scan.frames
+-- the header of a text is a valid one, and this is what it states
+pub record StatesHeader (text : List ℕ) (header : Header) : Type 0 where
+  pub valid : is_header text ≡ true
+  pub little : header.little ≡ is_little text
+  pub page_size : header.page_size ≡ page_size_in text
+  pub first_salt : header.first_salt ≡ be32_at 16 text
+  pub second_salt : header.second_salt ≡ be32_at 20 text
+
+-- a mark stands behind valid frames alone, with the sums there
+pub record IsMark (text : List ℕ) (mark : Mark) : Type 0 where
+  pub valid : are_valid text mark.frames ≡ true
+  pub place : mark.place ≡ frame_place text mark.frames
+  pub there : mark.place ≤ length text
+  pub sums : mark.sums ≡ sums_after text mark.frames
+
+-- one mark stands behind some valid frames, another behind those of them that are committed
+pub record AreMarks (text : List ℕ) (marks : Marks) : Type 0 where
+  pub header : StatesHeader text marks.header
+  pub last : IsMark text marks.last
+  pub committed : IsMark text marks.committed
+  pub count : marks.committed.frames ≡ commits_among text marks.last.frames
+
+-- a valid frame comes next
+pub record IsNextFrame (text : List ℕ) (marks : Marks) (frame : NextFrame) : Type 0 where
+  pub valid : is_frame_at text marks.last.place marks.last.sums ≡ true
+  pub sums : frame.sums ≡ frame_sums text marks.last.place marks.last.sums
+  pub size : frame.size ≡ be32_at (marks.last.place + 4) text
+
+-- and behind the first no valid frame follows; without a valid header there are no marks
+pub record AreFinal (text : List ℕ) (marks : Marks) : Type 0 where
+  pub behind : AreMarks text marks
+  pub ends : is_frame_at text marks.last.place marks.last.sums ≡ false
+
+abbrev pub IsMarked : List ℕ → Option Marks → Type 0
+IsMarked text None = is_header text ≡ false
+IsMarked text (Some marks) = AreFinal text marks
 
 -- a valid header is there, and states a page size
 pub record HasHeader (text : List ℕ) : Type 0 where
   pub room : 32 ≤ length text
-  pub page_size : is_page_size (page_size_in text) ≡ true
+  pub page_size : IsPageSize (page_size_in text)
 
 -- the first frames are valid, there, and end with a commit
 pub record HasCommitted (text : List ℕ) (count : ℕ) : Type 0 where

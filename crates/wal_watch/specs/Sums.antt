@@ -1,7 +1,11 @@
 -- The checksums of a write-ahead log (SQLite file format, section 4.2).
-use Rattle.std.specs.Prelude.{ℕ, suc, zero, ◌+◌, ◌*◌, ◌%◌, ◌^◌, Bool, ◌&&◌, ◌==◌, List}
-use Rattle.wal_watch.specs.Words.{four_at, word_at}
+use Rattle.std.specs.Prelude.{ℕ, suc, zero, ◌+◌, ◌*◌, ◌%◌, ◌^◌, Bool, ◌&&◌, ◌==◌, List, if◌then◌else◌}
+use Rattle.lf_base.specs.Endian.{be32_at, le32_at}
 use Rattle.wal_watch.specs.declared.sums.Sums.{Sums}
+
+-- the word of the four bytes from a place on, in either byte order
+unfoldable pub word_at : Bool → ℕ → List ℕ → ℕ
+word_at little place text = if little then le32_at place text else be32_at place text
 
 -- the sums with one more pair of words: s0 += a + s1, then s1 += b + s0, modulo 2^32
 abbrev pub first_after : Sums → ℕ → ℕ
@@ -22,4 +26,4 @@ no_sums = record { first = 0; second = 0 }
 
 -- whether the eight bytes from a place on, big-endian, are these sums
 unfoldable pub stand_at : Sums → ℕ → List ℕ → Bool
-stand_at s place text = (s.first == four_at place text) && (s.second == four_at (place + 4) text)
+stand_at s place text = (s.first == be32_at place text) && (s.second == be32_at (place + 4) text)

@@ -1,15 +1,16 @@
 //! The change that committed frames make.
-ghost use Rattle.std.specs.Prelude.{◌≡◌, ◌+◌, ◌≤◌, ◌<◌, ◌↔◌, length, IsTrue, IfOk};
-ghost use Rattle.wal_watch.specs.Frames.{frame_place, committed_count};
+ghost use Rattle.std.specs.Prelude.{◌≡◌, ◌+◌, ◌-◌, ◌≤◌, ◌<◌, ◌↔◌, ◌^◌, length, IsTrue, IfOk};
+ghost use Rattle.lf_sqlite_pages.specs.LockPage.{lock_page_of, IsDataPage};
+ghost use Rattle.lf_sqlite_pages.specs.Change.{empty_change};
+ghost use Rattle.wal_watch.specs.Frames.{frame_place, page_size_in, size_in, committed_count};
 ghost use Rattle.wal_watch.specs.News.{change_of, change_from, news_change};
 ghost use Rattle.wal_watch.specs.Scanning.{HasCommitted};
 ghost use Rattle.wal_watch.specs.Searching.{IsNext, limit_of};
 
-use crate::frames::{number_in, page_in, size_in};
+use crate::frames::{fill_page, number_in, size_in};
 use crate::news::WalNews;
-use crate::numbers::u32_at;
 use lf_base::NoMemory;
-use lf_sqlite_pages::Change;
+use lf_sqlite_pages::{Blocks, Change, lock_page};
 use std::alloc::Global;
 
 /// A page, and the frame that holds it.
@@ -19,44 +20,65 @@ pub struct Found {
     pub frame: usize,
 }
 
-/// Whether a page is above `above`, and not behind what was found.
-fn is_closer(page: u32, above: u32, commit: u32, found: Option<Found>) -> bool
-    ensures { IsTrue result ↔ ((above < page) × (page ≤ limit_of commit found)) }
+/// Whether a page holds data, is above `above`, and not behind what was found.
+fn is_closer(page: u32, lock: u32, above: u32, commit: u32, found: Option<Found>) -> bool
+    ensures { IsTrue result ↔ ((page ≡ lock → ⊥) × (above < page) × (page ≤ limit_of commit found)) }
 {
     match found {
-        None => above < page && page <= commit,
-        Some(found) => above < page && page <= found.page,
+        None => page != lock && above < page && page <= commit,
+        Some(found) => page != lock && above < page && page <= found.page,
     }
 }
 
-/// The least page above `above` and within `commit` that a frame from `first` on holds, and the
+/// The least data page above `above` and within `commit` that a frame from `first` on holds, and the
 /// latest such frame.
-fn next_found(text: &[u8], first: usize, count: usize, above: u32, commit: u32) -> Option<Found>
-    requires room { frame_place text.now count ≤ length text.now }
+fn next_found(
+    text: &Blocks,
+    page_size: u32,
+    first: usize,
+    count: usize,
+    above: u32,
+    commit: u32,
+) -> Option<Found>
+    requires size { page_size ≡ page_size_in text.now.bytes }
+    requires some { 0 < page_size }
+    requires room { frame_place text.now.bytes count ≤ length text.now.bytes }
+    requires short { length text.now.bytes < 2 ^ 62 }
     requires order { first ≤ count }
-    ensures { IsNext text.now first count above commit result }
+    ensures { IsNext text.now.bytes first count above commit result }
 {
+    let lock = lock_page(page_size);
     let mut found = None;
     for frame in first..count {
-        let page = number_in(text, frame);
-        if is_closer(page, above, commit, found) {
+        let page = number_in(text, page_size, frame);
+        if is_closer(page, lock, above, commit, found) {
             found = Some(Found { page, frame });
         }
     }
     found
 }
 
-/// The change that the frames from `first` to `count` make.
-fn change_of(alloc: Global, text: &[u8], first: usize, count: usize) -> Result<Change, NoMemory>
-    requires committed { HasCommitted text.now count }
+/// The change that the frames from `first` to `count` make. `page` is a buffer of one page.
+fn change_by(
+    text: &Blocks,
+    first: usize,
+    count: usize,
+    mut change: Change,
+    page: &mut [u8],
+) -> Result<Change, NoMemory>
+    requires committed { HasCommitted text.now.bytes count }
+    requires short { length text.now.bytes < 2 ^ 62 }
     requires order { first ≤ count }
-    ensures { IfOk result (λ change. change ≡ change_of text.now first count) }
+    requires empty { change ≡ empty_change (page_size_in text.now.bytes) (size_in text.now.bytes (count - 1)) }
+    requires buffer { length page.old ≡ page_size_in text.now.bytes }
+    ensures { IfOk result (λ change. change ≡ change_of text.now.bytes first count) }
 {
-    let commit = size_in(text, count - 1);
-    let mut change = Change::new(alloc, u32_at(text, 8), commit);
+    let page_size = change.page_size();
+    let commit = change.commit();
     let mut above = 0;
-    while let Some(found) = next_found(text, first, count, above, commit) {
-        change.push(found.page, page_in(text, found.frame))?;
+    while let Some(found) = next_found(text, page_size, first, count, above, commit) {
+        fill_page(text, page_size, found.frame, page);
+        change.push(found.page, page)?;
         above = found.page;
     }
     Ok(change)
@@ -65,15 +87,30 @@ fn change_of(alloc: Global, text: &[u8], first: usize, count: usize) -> Result<C
 /// What the frames from `first` on commit, where `count` are committed.
 pub fn news_from(
     alloc: Global,
-    text: &[u8],
+    text: &Blocks,
+    page_size: u32,
     first: usize,
     count: usize,
 ) -> Result<WalNews, NoMemory>
-    requires { count ≡ committed_count text.now }
-    ensures { IfOk result (λ news. news_change news ≡ change_from first text.now) }
+    requires count { count ≡ committed_count text.now.bytes }
+    requires size { 0 < count → page_size ≡ page_size_in text.now.bytes }
+    requires short { length text.now.bytes < 2 ^ 62 }
+    ensures { IfOk result (λ news. news_change news ≡ change_from first text.now.bytes) }
 {
     if first >= count {
         return Ok(WalNews::Stored);
     }
-    Ok(WalNews::Committed(change_of(alloc, text, first, count)?))
+    let commit = size_in(text, page_size, count - 1);
+    let mut page = buffer(alloc, page_size as usize)?;
+    let change = Change::new(alloc, page_size, commit);
+    let change = change_by(text, first, count, change, page.as_mut_slice())?;
+    Ok(WalNews::Committed(change))
+}
+
+/// So many zeros.
+fn buffer(alloc: Global, count: usize) -> Result<Vec<u8>, NoMemory>
+    ensures { IfOk result (λ bytes. length bytes.items ≡ count) }
+{
+    let bytes = vec![in alloc; 0; count]?;
+    Ok(bytes)
 }

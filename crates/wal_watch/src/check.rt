@@ -1,39 +1,62 @@
 //! What stands against a write, memory aside.
-ghost use Rattle.std.specs.Prelude.{◌≡◌, ◌≢◌, ◌+◌, ◌≤◌, ◌<◌, ◌↔◌, ◌⊎◌, true, false, length, take, IsTrue, IfNone, IfSome, OnSome, IfOk, OnOk, IfErr};
+ghost use Rattle.std.specs.Prelude.{◌≡◌, ◌≢◌, ◌+◌, ◌≤◌, ◌<◌, ◌↔◌, ◌⊎◌, ◌^◌, true, false, length, take, Err, IsTrue, IfNone, IfSome, OnSome, IfOk, OnOk, IfErr};
 ghost use Rattle.std.specs.Bool.{OnTrue, OnFalse};
+ghost use Rattle.lf_base.specs.FileBytes.{written};
 ghost use Rattle.wal_watch.specs.Frames.{is_header, page_size_in, committed_count, committed_end};
-ghost use Rattle.wal_watch.specs.File.{written, overwritten};
 ghost use Rattle.wal_watch.specs.News.{first_new};
 ghost use Rattle.wal_watch.specs.Refusals.{wal_limit, BreaksHeader, IsSoundWrite, IsWriteFault};
 
 use crate::fault::WalFault;
-use crate::frames::end_of;
 use crate::header::{HEADER_LENGTH, is_header};
-use crate::numbers::u32_at;
-use crate::text::{byte_after, keeps, start_of};
+use crate::reader::fill;
+use lf_base::be32_at;
+use lf_sqlite_pages::Blocks;
 
 /// The greatest length of the file in bytes.
-pub const LIMIT: u64 = 268_435_456;
+pub const WAL_LIMIT: u64 = 268_435_456;
+
+/// Puts a piece in place of the bytes at a place.
+fn replace(front: &mut [u8], at: usize, piece: &[u8])
+    requires { at + length piece.now ≤ length front.old }
+    ensures { front.new ≡ written at piece.now front.old }
+{
+    front[at..at + piece.len()].copy_from_slice(piece);
+}
 
 /// Puts the first 32 bytes after a write into `header`.
-fn fill_header(text: &[u8], at: usize, bytes: &[u8], header: &mut [u8])
+fn fill_header(text: &Blocks, at: usize, bytes: &[u8], header: &mut [u8])
     requires size { length header.old ≡ 32 }
-    requires there { 32 ≤ length (overwritten at bytes.now text.now) }
-    ensures { header.new ≡ take 32 (overwritten at bytes.now text.now) }
+    requires there { 32 ≤ length (written at bytes.now text.now.bytes) }
+    ensures { header.new ≡ take 32 (written at bytes.now text.now.bytes) }
 {
-    for place in 0..header.len() {
-        header[place] = byte_after(text, at, bytes, place);
+    fill(text, 0, header);
+    if at < HEADER_LENGTH {
+        let (piece, _) = bytes.split_at(bytes.len().min(HEADER_LENGTH - at));
+        replace(header, at, piece);
+    }
+}
+
+/// How many bytes there are after a write.
+fn length_after(text: &Blocks, at: usize, bytes: &[u8]) -> usize
+    requires { at + length bytes.now ≤ wal_limit }
+    ensures { result ≡ length (written at bytes.now text.now.bytes) }
+{
+    let len = text.len() as usize;
+    if bytes.is_empty() {
+        len
+    } else {
+        len.max(at + bytes.len())
     }
 }
 
 /// The page size that the header states after a write, if it is a valid one.
-fn page_size_after(text: &[u8], at: usize, bytes: &[u8]) -> Option<u32>
+fn page_size_after(text: &Blocks, at: usize, bytes: &[u8]) -> Option<u32>
     requires { at + length bytes.now ≤ wal_limit }
-    ensures none { IfNone result (is_header (overwritten at bytes.now text.now) ≡ false) }
-    ensures valid { OnSome result (is_header (overwritten at bytes.now text.now) ≡ true) }
-    ensures size { IfSome result (λ size. size ≡ page_size_in (overwritten at bytes.now text.now)) }
+    ensures none { IfNone result (is_header (written at bytes.now text.now.bytes) ≡ false) }
+    ensures valid { OnSome result (is_header (written at bytes.now text.now.bytes) ≡ true) }
+    ensures size { IfSome result (λ size. size ≡ page_size_in (written at bytes.now text.now.bytes)) }
 {
-    if text.len().max(at + bytes.len()) < HEADER_LENGTH {
+    if length_after(text, at, bytes) < HEADER_LENGTH {
         return None;
     }
     let mut header = [0; HEADER_LENGTH];
@@ -41,13 +64,13 @@ fn page_size_after(text: &[u8], at: usize, bytes: &[u8]) -> Option<u32>
     if !is_header(&header) {
         return None;
     }
-    Some(u32_at(&header, 8))
+    Some(be32_at(&header, 8))
 }
 
 /// Whether a write touches the header and leaves no valid one, or leaves one of another page size.
-fn breaks_header(page_size: u32, text: &[u8], at: usize, bytes: &[u8]) -> bool
+fn breaks_header(page_size: u32, text: &Blocks, at: usize, bytes: &[u8]) -> bool
     requires { at + length bytes.now ≤ wal_limit }
-    ensures { IsTrue result ↔ (BreaksHeader page_size at bytes.now (overwritten at bytes.now text.now)) }
+    ensures { IsTrue result ↔ (BreaksHeader page_size at bytes.now (written at bytes.now text.now.bytes)) }
 {
     match page_size_after(text, at, bytes) {
         None => at < HEADER_LENGTH && !bytes.is_empty(),
@@ -55,38 +78,61 @@ fn breaks_header(page_size: u32, text: &[u8], at: usize, bytes: &[u8]) -> bool
     }
 }
 
-/// Whether a write leaves the header as it is. Without a header there are no frames to keep.
-fn keeps_header(text: &[u8], at: usize, bytes: &[u8]) -> bool
-    ensures same { OnTrue result (take 32 (overwritten at bytes.now text.now) ≡ take 32 text.now) }
-    ensures other { OnFalse result ((take 32 (overwritten at bytes.now text.now) ≢ take 32 text.now) ⊎ (committed_count text.now ≡ 0)) }
+/// Whether a write leaves the bytes before `end` as they are.
+pub fn keeps(text: &Blocks, at: usize, bytes: &[u8], end: usize) -> bool
+    requires { end ≤ length text.now.bytes }
+    ensures { IsTrue result ↔ (take end (written at bytes.now text.now.bytes) ≡ take end text.now.bytes) }
 {
-    text.len() >= HEADER_LENGTH && keeps(text, at, bytes, HEADER_LENGTH)
+    if end <= at {
+        return true;
+    }
+    let (piece, _) = bytes.split_at(bytes.len().min(end - at));
+    text.holds(at as u64, piece)
+}
+
+/// Whether a write leaves the first 32 bytes as they are.
+pub fn keeps_header(text: &Blocks, at: usize, bytes: &[u8]) -> bool
+    requires { at + length bytes.now ≤ wal_limit }
+    ensures { IsTrue result ↔ (take 32 (written at bytes.now text.now.bytes) ≡ take 32 text.now.bytes) }
+{
+    let len = text.len() as usize;
+    if len >= HEADER_LENGTH {
+        return keeps(text, at, bytes, HEADER_LENGTH);
+    }
+    if length_after(text, at, bytes) != len {
+        return false;
+    }
+    keeps(text, at, bytes, len)
 }
 
 /// The first frame that only the text after a write may commit, or what stands against the write.
+/// `committed` frames are committed, and they end at `end`.
 pub fn check_write(
-    text: &[u8],
+    text: &Blocks,
     committed: usize,
+    end: usize,
     page_size: u32,
     at: u64,
     bytes: &[u8],
 ) -> Result<usize, WalFault>
-    requires { committed ≡ committed_count text.now }
-    ensures first { IfOk result (λ first. first ≡ first_new text.now (written at bytes.now text.now)) }
-    ensures sound { OnOk result (IsSoundWrite text.now page_size at bytes.now) }
-    ensures fault { IfErr result (IsWriteFault text.now page_size at bytes.now) }
+    requires count { committed ≡ committed_count text.now.bytes }
+    requires end { end ≡ committed_end text.now.bytes }
+    ensures first { IfOk result (λ first. first ≡ first_new text.now.bytes (written at bytes.now text.now.bytes)) }
+    ensures sound { OnOk result (IsSoundWrite text.now.bytes page_size at bytes.now) }
+    ensures fault { IfErr result (IsWriteFault text.now.bytes page_size at bytes.now) }
+    ensures memory { result ≢ Err WalFault.NoMemory }
 {
-    if at > LIMIT || bytes.len() as u64 > LIMIT - at {
+    if at > WAL_LIMIT || bytes.len() as u64 > WAL_LIMIT - at {
         return Err(WalFault::TooLong);
     }
-    let at = start_of(text, at as usize, bytes);
+    let at = at as usize;
     if breaks_header(page_size, text, at, bytes) {
         return Err(WalFault::Header);
     }
     if !keeps_header(text, at, bytes) {
         return Ok(0);
     }
-    if !keeps(text, at, bytes, end_of(text, committed)) {
+    if !keeps(text, at, bytes, end) {
         return Err(WalFault::Part);
     }
     Ok(committed)

@@ -1,26 +1,37 @@
 //! A file cut, or made longer with zeros.
-ghost use Rattle.std.specs.Prelude.{◌≡◌, ◌≢◌, ◌≤◌, ◌<◌, ◌↔◌, Some, length, IsSome, IsTrue, OnOk, OnErr, IfErr};
-ghost use Rattle.wal_watch.specs.File.{text_of, resized, with_text, IsUnchanged, IsCut};
+ghost use Rattle.std.specs.Prelude.{◌≡◌, ◌≢◌, ◌≤◌, ◌<◌, ◌↔◌, Some, length, IsSome, IsTrue, IfOk, OnOk, OnErr, IfErr, IfSome};
+ghost use Rattle.lf_base.specs.FileBytes.{resized};
+ghost use Rattle.wal_watch.specs.File.{text_of, after_cut};
 ghost use Rattle.wal_watch.specs.Frames.{committed_count, committed_end};
-ghost use Rattle.wal_watch.specs.Refusals.{wal_limit, IsSoundCut, IsCutFault, IsGrowthFault};
+ghost use Rattle.wal_watch.specs.Refusals.{wal_limit, IsSoundCut, IsCutFault};
+ghost use Rattle.wal_watch.specs.Scanning.{AreMarks, IsMarked};
 
-use crate::check::LIMIT;
+use crate::check::WAL_LIMIT;
 use crate::fault::WalFault;
 use crate::file::WalFile;
-use crate::scan::committed_count;
+use crate::scan::{Marks, committed_in, marks_of};
+use lf_sqlite_pages::Blocks;
+
+/// The marks that a cut to a length leaves: those behind the last valid frame or behind the committed
+/// ones, if they aren't behind it.
+fn marks_within(text: &Blocks, marks: Option<Marks>, len: usize) -> Option<Marks>
+    requires { IsMarked text.now.bytes marks }
+    ensures { IfSome result (AreMarks (resized len text.now.bytes)) }
+{
+    let _text = text;
+    let Some(marks) = marks else {
+        return None;
+    };
+    if marks.last.place <= len {
+        return Some(marks);
+    }
+    if marks.committed.place <= len {
+        return Some(marks.back());
+    }
+    None
+}
 
 impl WalFile {
-    /// Cuts the file to a length within its room, or fills it up with zeros.
-    fn resize(&mut self, len: u64)
-        requires there { IsSome self.old.text }
-        requires room { len ≤ self.old.room }
-        ensures { self.new ≡ with_text self.old (Some (resized len (text_of self.old))) }
-    {
-        self.can_undo = false;
-        self.text.resize(len as usize, 0).unwrap();
-        self.committed = committed_count(self.text.as_slice());
-    }
-
     /// Whether a length is below the committed end, and not 0.
     fn ends_below(&self, len: u64) -> bool
         ensures { IsTrue result ↔ ((len ≢ 0) × (len < committed_end (text_of self.now))) }
@@ -28,45 +39,56 @@ impl WalFile {
         len != 0 && len < self.committed_end()
     }
 
-    /// Makes the file longer, unless zeros would complete a transaction.
-    fn grow(&mut self, len: u64) -> Result<(), WalFault>
-        requires there { IsSome self.old.text }
-        requires short { len ≤ wal_limit }
-        requires longer { length (text_of self.old) < len }
-        ensures ok { OnOk result (IsCut self.old len self.new) }
-        ensures sound { OnOk result (committed_count (resized len (text_of self.old)) ≤ committed_count (text_of self.old)) }
-        ensures err { OnErr result (IsUnchanged self.old self.new) }
-        ensures cause { IfErr result (IsGrowthFault (text_of self.old) len) }
+    /// The marks after a cut to a length.
+    fn marks_after(&self, len: u64) -> Option<Marks>
+        requires { len ≤ wal_limit }
+        ensures { IsMarked (resized len (text_of self.now)) result }
     {
-        let had = self.text_length() as u64;
-        let committed = self.committed();
-        self.reserve(len, 0)?;
-        self.resize(len);
-        if self.committed() > committed {
-            self.resize(had);
-            return Err(WalFault::Part);
-        }
-        Ok(())
+        let from = marks_within(&self.text, self.marks, len as usize);
+        marks_of(&self.text, len as usize, from)
     }
 
-    /// Cuts the file to a length, or fills it up with zeros. Making it longer alone takes memory.
-    pub fn cut(&mut self, len: u64) -> Result<(), WalFault>
-        requires { IsSome self.old.text }
-        ensures ok { OnOk result (IsCut self.old len self.new) }
-        ensures sound { OnOk result (IsSoundCut (text_of self.old) len) }
-        ensures err { OnErr result (IsUnchanged self.old self.new) }
-        ensures cause { IfErr result (IsCutFault (text_of self.old) len) }
+    /// The marks after a cut to a length, or what stands against it.
+    fn cut_marks(&self, len: u64) -> Result<Option<Marks>, WalFault>
+        ensures marks { IfOk result (IsMarked (resized len (text_of self.now))) }
+        ensures sound { OnOk result (IsSoundCut (text_of self.now) len) }
+        ensures cause { IfErr result (IsCutFault (text_of self.now) len) }
     {
-        if len > LIMIT {
+        if len > WAL_LIMIT {
             return Err(WalFault::TooLong);
         }
         if self.ends_below(len) {
             return Err(WalFault::Part);
         }
-        if len > self.text_length() as u64 {
-            return self.grow(len);
+        let marks = self.marks_after(len);
+        if committed_in(marks) > self.committed() {
+            return Err(WalFault::Part);
         }
-        self.resize(len);
+        Ok(marks)
+    }
+
+    /// Whether a cut would be refused and why, told without doing it.
+    pub fn check_cut(&self, len: u64) -> Result<(), WalFault>
+        ensures sound { OnOk result (IsSoundCut (text_of self.now) len) }
+        ensures cause { IfErr result (IsCutFault (text_of self.now) len) }
+    {
+        match self.cut_marks(len) {
+            Ok(_marks) => Ok(()),
+            Err(fault) => Err(fault),
+        }
+    }
+
+    /// Cuts the file to a length, or fills it up with zeros. It takes no memory.
+    pub fn cut(&mut self, len: u64) -> Result<(), WalFault>
+        requires { IsSome self.old.text }
+        ensures ok { OnOk result (self.new ≡ after_cut self.old len) }
+        ensures sound { OnOk result (IsSoundCut (text_of self.old) len) }
+        ensures err { OnErr result (self.new ≡ self.old) }
+        ensures cause { IfErr result (IsCutFault (text_of self.old) len) }
+    {
+        let marks = self.cut_marks(len)?;
+        self.text.cut(len).unwrap();
+        self.marks = marks;
         Ok(())
     }
 }

@@ -1,27 +1,28 @@
 //! The write-ahead log as a file.
-ghost use Rattle.std.specs.Prelude.{◌≡◌, ◌+◌, ◌-◌, ◌≤◌, ◌<◌, Option, None, Some, [], length, IsSome, OnOk, OnErr, IfOk, IfErr};
-ghost use Rattle.wal_watch.specs.File.{no_wal, text_of, written, resized, HasRoom, with_room, after_write, undone, with_text};
+ghost use Rattle.std.specs.Prelude.{◌≡◌, ◌+◌, ◌-◌, ◌≤◌, ◌<◌, ◌↔◌, ◌^◌, Option, None, Some, Err, [], length, take, IsTrue, IsSome, IsOk, IfSome, OnOk, OnErr};
+ghost use Rattle.lf_base.specs.FileBytes.{written, resized};
+ghost use Rattle.lf_sqlite_pages.specs.Blocks.{is_within, IsWithin};
+ghost use Rattle.wal_watch.specs.File.{no_wal, text_of, with_room, after_write, undone, with_text};
 ghost use Rattle.wal_watch.specs.Frames.{committed_count, committed_end};
 ghost use Rattle.wal_watch.specs.Refusals.{wal_limit};
+ghost use Rattle.wal_watch.specs.Scanning.{AreMarks, IsMarked};
 
-use crate::scan::committed_count;
-use crate::text::{make_room, put, start_of, take_back};
-use lf_base::NoMemory;
+use crate::check::{WAL_LIMIT, keeps};
+use crate::fault::WalFault;
+use crate::scan::{Marks, marks_of};
+use lf_sqlite_pages::Blocks;
 use std::alloc::Global;
 use std::marker::Model;
 
-/// The file of a write-ahead log: absent, or its bytes. It knows which of its frames are committed.
+/// The file of a write-ahead log: absent, or its bytes. It knows how far they were scanned, so that a
+/// write is scanned from the last valid frame on.
 #[derive(Drop)]
 pub struct WalFile {
     pub(crate) present: bool,
-    pub(crate) text: Vec<u8>,
-    pub(crate) room: usize,
-    pub(crate) committed: usize,
-    /// The bytes that the last write displaced, from `saved_at` on.
-    pub(crate) saved: Vec<u8>,
-    pub(crate) saved_at: usize,
-    pub(crate) can_undo: bool,
-    pub(crate) spare: usize,
+    pub(crate) text: Blocks,
+    pub(crate) marks: Option<Marks>,
+    /// The marks before the last write.
+    pub(crate) saved: Option<Marks>,
 }
 
 impl Model for WalFile {
@@ -36,69 +37,93 @@ impl Model for WalFile {
     ghost invariant = { IsKept };
 }
 
+/// The marks that a write leaves: those behind the last valid frame or behind the committed ones, if
+/// no byte before them changes.
+fn kept_marks(text: &Blocks, marks: Option<Marks>, at: usize, bytes: &[u8]) -> Option<Marks>
+    requires { IsMarked text.now.bytes marks }
+    ensures { IfSome result (AreMarks (written at bytes.now text.now.bytes)) }
+{
+    let Some(marks) = marks else {
+        return None;
+    };
+    if keeps(text, at, bytes, marks.last.place) {
+        return Some(marks);
+    }
+    if keeps(text, at, bytes, marks.committed.place) {
+        return Some(marks.back());
+    }
+    None
+}
+
 impl WalFile {
     /// No file, and no room.
-    #[tactic(auto, using(crate::proofs::CheckLemmas::short_none))]
     pub fn new(alloc: Global) -> WalFile
         ensures { result ≡ no_wal }
     {
         WalFile {
             present: false,
-            text: Vec::new(alloc),
-            room: 0,
-            committed: 0,
-            saved: Vec::new(alloc),
-            saved_at: 0,
-            can_undo: false,
-            spare: 0,
+            text: Blocks::new(alloc),
+            marks: None,
+            saved: None,
         }
     }
 
     /// Makes the file, without bytes.
     pub fn create(&mut self)
         requires { self.old.text ≡ None }
-        ensures { self.new ≡ with_text self.old (Some []) }
+        ensures { self.new ≡ with_text self.old [] }
     {
         self.present = true;
-        self.can_undo = false;
     }
 
-    /// Removes the file. The room stays.
-    #[tactic(auto, using(crate::proofs::CheckLemmas::short_none))]
+    /// Removes the file, and gives its room back.
     pub fn remove(&mut self)
-        ensures { self.new ≡ with_text self.old None }
+        ensures { self.new ≡ no_wal }
     {
-        self.text.clear();
-        self.committed = 0;
         self.present = false;
-        self.can_undo = false;
+        self.text.clear();
+        self.marks = None;
+        self.saved = None;
     }
 
-    /// Reserves room for a write of `count` bytes at a place; after want of memory nothing changed.
-    pub fn reserve(&mut self, at: u64, count: u64) -> Result<(), NoMemory>
-        requires { at + count ≤ wal_limit }
-        ensures ok { OnOk result (self.new ≡ with_room self.old at count) }
-        ensures err { OnErr result (self.new ≡ self.old) }
+    /// Whether a write of `count` bytes at a place takes no memory.
+    pub fn has_room(&self, at: u64, count: u64) -> bool
+        ensures value { result ≡ is_within self.now.room at count }
+        ensures within { IsTrue result ↔ IsWithin self.now.room at count }
+        ensures limited { IsTrue result → at + count ≤ wal_limit }
     {
-        let at = at as usize;
-        let count = count as usize;
-        make_room(&mut self.text, &mut self.saved, at, count)?;
-        self.room = self.room.max(at + count);
-        self.spare = self.spare.max(self.text.len().saturating_sub(at));
+        self.text.has_room(at, count)
+    }
+
+    /// Sees to it that a write of `count` bytes at a place takes no memory: it takes the blocks of that
+    /// range alone, and what taking the write back needs. Where the room doesn't hold the write, it is
+    /// given up for room for this write.
+    pub fn reserve(&mut self, at: u64, count: u64) -> Result<(), WalFault>
+        ensures ok { OnOk result (self.new ≡ with_room self.old at count) }
+        ensures too_long { (result ≡ Err WalFault.TooLong) ↔ (wal_limit < at + count) }
+        ensures err { OnErr result (self.new ≡ self.old) }
+        ensures enough { IsWithin self.old.room at count → IsOk result }
+    {
+        if self.has_room(at, count) {
+            return Ok(());
+        }
+        if at > WAL_LIMIT || count > WAL_LIMIT - at {
+            return Err(WalFault::TooLong);
+        }
+        self.text.reserve(at, count)?;
         Ok(())
     }
 
-    /// Writes within the reserved room, whatever the bytes. It takes no memory.
+    /// Writes within the room, whatever the bytes. It takes no memory.
     pub fn write_within(&mut self, at: u64, bytes: &[u8])
         requires there { IsSome self.old.text }
-        requires room { HasRoom self.old at (length bytes.now) }
+        requires room { IsWithin self.old.room at (length bytes.now) }
         ensures { self.new ≡ after_write self.old at bytes.now }
     {
-        let at = start_of(self.text.as_slice(), at as usize, bytes);
-        self.saved_at = at.min(self.text.len());
-        put(&mut self.text, &mut self.saved, at, bytes);
-        self.committed = committed_count(self.text.as_slice());
-        self.can_undo = true;
+        let from = kept_marks(&self.text, self.marks, at as usize, bytes);
+        self.text.write_within(at, bytes);
+        self.saved = self.marks;
+        self.marks = marks_of(&self.text, self.text.len() as usize, from);
     }
 
     /// Takes the last write back. It takes no memory.
@@ -106,8 +131,7 @@ impl WalFile {
         requires { IsSome self.old.before }
         ensures { self.new ≡ undone self.old }
     {
-        take_back(&mut self.text, self.saved.as_slice(), self.saved_at);
-        self.committed = committed_count(self.text.as_slice());
-        self.can_undo = false;
+        self.text.undo();
+        self.marks = self.saved;
     }
 }

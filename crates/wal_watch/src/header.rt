@@ -1,11 +1,12 @@
 //! The header of a write-ahead log (SQLite file format, section 4.1).
-ghost use Rattle.std.specs.Prelude.{◌≡◌, ◌≤◌, length};
-ghost use Rattle.wal_watch.specs.Frames.{is_header, is_little, is_big, header_sums, page_size_in};
+ghost use Rattle.std.specs.Prelude.{◌≡◌, ◌≤◌, length, true};
 ghost use Rattle.std.specs.Bool.{OnTrue};
 ghost use Rattle.lf_sqlite_pages.specs.PageSize.{IsPageSize};
+ghost use Rattle.wal_watch.specs.Frames.{is_header, is_little, is_big, header_sums, page_size_in};
+ghost use Rattle.wal_watch.specs.Scanning.{StatesHeader};
 
-use crate::numbers::u32_at;
 use crate::sums::{Sums, stand_at, with_pairs};
+use lf_base::be32_at;
 use lf_sqlite_pages::is_page_size;
 
 /// The length of the header in bytes.
@@ -19,12 +20,37 @@ const BIG_MAGIC: u32 = 0x377f_0683;
 
 const VERSION: u32 = 3_007_000;
 
+/// What a valid header states: the byte order of the sums, the page size and the two salts.
+#[derive(Clone, Copy)]
+pub struct Header {
+    pub little: bool,
+    pub page_size: u32,
+    pub first_salt: u32,
+    pub second_salt: u32,
+}
+
+impl Header {
+    /// What the valid header states that bytes begin with.
+    pub fn of(bytes: &[u8]) -> Header
+        requires valid { is_header bytes.now ≡ true }
+        requires room { 32 ≤ length bytes.now }
+        ensures { StatesHeader bytes.now result }
+    {
+        Header {
+            little: is_little(bytes),
+            page_size: be32_at(bytes, 8),
+            first_salt: be32_at(bytes, 16),
+            second_salt: be32_at(bytes, 20),
+        }
+    }
+}
+
 /// Whether the words of the sums are little-endian.
-pub fn is_little(text: &[u8]) -> bool
+fn is_little(text: &[u8]) -> bool
     requires { 32 ≤ length text.now }
     ensures { result ≡ is_little text.now }
 {
-    u32_at(text, 0) == LITTLE_MAGIC
+    be32_at(text, 0) == LITTLE_MAGIC
 }
 
 /// The sums of the first 24 bytes.
@@ -50,8 +76,8 @@ pub fn is_header(text: &[u8]) -> bool
     if text.len() < HEADER_LENGTH {
         return false;
     }
-    (is_little(text) || u32_at(text, 0) == BIG_MAGIC)
-        && u32_at(text, 4) == VERSION
-        && is_page_size(u32_at(text, 8))
+    (is_little(text) || be32_at(text, 0) == BIG_MAGIC)
+        && be32_at(text, 4) == VERSION
+        && is_page_size(be32_at(text, 8))
         && stand_at(header_sums(text), 24, text)
 }

@@ -10,20 +10,20 @@ mod check;
 mod cutting;
 mod fault;
 mod file;
+mod finding;
 mod frames;
 mod header;
 mod laws;
 mod news;
-mod numbers;
+mod reader;
 mod reading;
 mod scan;
 mod sums;
-#[cfg(test)]
-mod tests;
-mod text;
 mod writing;
 
+pub use check::WAL_LIMIT;
 pub use fault::WalFault;
 pub use file::WalFile;
-pub use laws::keep_committed_frames;
+pub use laws::{committed_frames_say, keep_committed_frames, scans_go_on};
 pub use news::WalNews;
+pub use scan::Marks;

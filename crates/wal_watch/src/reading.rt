@@ -1,27 +1,29 @@
 //! What a file tells: its bytes, and its committed frames. None of these takes memory.
-ghost use Rattle.std.specs.Prelude.{◌≡◌, ◌+◌, ◌-◌, ◌≤◌, ◌↔◌, ◌++◌, length, take, drop, min, IsTrue};
-ghost use Rattle.std.specs.Option.{option_copied, option_map};
+ghost use Rattle.std.specs.Prelude.{◌≡◌, ◌+◌, ◌-◌, ◌≤◌, ◌<◌, ◌↔◌, ◌^◌, ℕ, length, IsTrue, IsSome, IfSome, IfNone, Some, None};
+ghost use Rattle.std.specs.Option.{option_map};
+ghost use Rattle.lf_base.specs.FileBytes.{Reads};
 ghost use Rattle.wal_watch.specs.File.{text_of};
-ghost use Rattle.wal_watch.specs.Frames.{committed_count, committed_end};
-ghost use Rattle.wal_watch.specs.News.{HoldsFrame, latest_page};
+ghost use Rattle.wal_watch.specs.Frames.{committed_count, committed_end, page_size_in, size_in};
+ghost use Rattle.wal_watch.specs.News.{HoldsFrame, HasSize, last_size, latest_page};
 
 use crate::file::WalFile;
-use crate::frames::{end_of, holds_frame, latest_frame, page_in};
+use crate::finding::{holds_frame, holds_size, latest_frame};
+use crate::frames::{fill_page, size_in};
+use crate::scan::{committed_in, end_in, page_size_of};
 
 impl WalFile {
     /// How many frames are committed.
     pub(crate) fn committed(&self) -> usize
         ensures { result ≡ committed_count (text_of self.now) }
     {
-        self.committed
+        committed_in(self.marks)
     }
 
-    /// How many bytes there are, none where there is no file.
-    pub(crate) fn text_length(&self) -> usize
-        ensures len { result ≡ length (text_of self.now) }
-        ensures room { result ≤ self.now.room }
+    /// The page size that the committed frames have.
+    pub(crate) fn page_size(&self) -> u32
+        ensures { 0 < committed_count (text_of self.now) → result ≡ page_size_in (text_of self.now) }
     {
-        self.text.len()
+        page_size_of(self.marks)
     }
 
     /// How many bytes the file has, if it is there.
@@ -29,7 +31,7 @@ impl WalFile {
         ensures { result ≡ option_map length self.now.text }
     {
         if self.present {
-            Some(self.text.len() as u64)
+            Some(self.text.len())
         } else {
             None
         }
@@ -39,38 +41,71 @@ impl WalFile {
     pub fn committed_end(&self) -> u64
         ensures { result ≡ committed_end (text_of self.now) }
     {
-        end_of(self.text.as_slice(), self.committed) as u64
+        end_in(self.marks) as u64
+    }
+
+    /// How many frames are committed.
+    pub fn committed_frames(&self) -> u64
+        ensures { result ≡ committed_count (text_of self.now) }
+    {
+        self.committed() as u64
+    }
+
+    /// Reads as many bytes from `at` on as there are and `out` has room for, and answers how many.
+    pub fn read(&self, at: u64, out: &mut [u8]) -> usize
+        ensures { Reads (text_of self.now) at out.old out.new result }
+    {
+        self.text.read(at, out)
+    }
+
+    /// The database size in pages after the last commit, 0 where there is none.
+    pub fn last_size(&self) -> u32
+        ensures { result ≡ last_size (text_of self.now) }
+    {
+        let count = self.committed();
+        let _limit = self.text.len();
+        if count == 0 {
+            0
+        } else {
+            size_in(&self.text, self.page_size(), count - 1)
+        }
+    }
+
+    /// Whether a committed frame states this database size.
+    pub fn has_size(&self, pages: u32) -> bool
+        ensures { IsTrue result ↔ (HasSize (text_of self.now) pages) }
+    {
+        let _limit = self.text.len();
+        holds_size(&self.text, self.page_size(), self.committed(), pages)
     }
 
     /// Whether a committed frame of page `n` has these bytes.
     pub fn has_frame(&self, n: u32, page: &[u8]) -> bool
         ensures { IsTrue result ↔ (HoldsFrame (text_of self.now) n page.now) }
     {
-        holds_frame(self.text.as_slice(), self.committed, n, page)
-    }
-
-    /// The bytes of the latest committed frame of page `n`, if there is one.
-    pub fn latest(&self, n: u32) -> Option<&[u8]>
-        ensures { option_copied result ≡ latest_page (text_of self.now) n }
-    {
-        let text = self.text.as_slice();
-        match latest_frame(text, n, self.committed) {
-            None => None,
-            Some(frame) => Some(page_in(text, frame)),
+        let _limit = self.text.len();
+        let page_size = self.page_size();
+        if page.len() != page_size as usize {
+            return false;
         }
+        holds_frame(&self.text, page_size, self.committed(), n, page)
     }
 
-    /// Puts the bytes from `at` on into `out`, as many as there are, and says how many.
-    pub fn read(&self, at: u64, out: &mut [u8]) -> usize
-        ensures count { result ≡ min (length out.old) (length (text_of self.now) - at) }
-        ensures bytes { out.new ≡ take (length out.old) (drop at (text_of self.now)) ++ drop result out.old }
+    /// Puts the bytes of the latest committed frame of page `n` into `out`, which is one page. False,
+    /// and `out` as it was, exactly where there is none.
+    pub fn latest(&self, n: u32, out: &mut [u8]) -> bool
+        requires { 0 < committed_count (text_of self.now) → length out.old ≡ page_size_in (text_of self.now) }
+        ensures found { IsTrue result ↔ IsSome (latest_page (text_of self.now) n) }
+        ensures page { IfSome (latest_page (text_of self.now) n) (λ page. out.new ≡ page) }
+        ensures none { IfNone (latest_page (text_of self.now) n) (out.new ≡ out.old) }
     {
-        let text = self.text.as_slice();
-        let (_, rest) = text.split_at((at as usize).min(text.len()));
-        let count = out.len().min(rest.len());
-        let (front, _) = rest.split_at(count);
-        let (to, _) = out.split_at_mut(count);
-        to.copy_from_slice(front);
-        count
+        let _limit = self.text.len();
+        match latest_frame(&self.text, self.page_size(), n, self.committed()) {
+            None => false,
+            Some(frame) => {
+                fill_page(&self.text, self.page_size(), frame, out);
+                true
+            }
+        }
     }
 }

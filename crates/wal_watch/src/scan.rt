@@ -1,118 +1,227 @@
-//! A scan over the frames of a write-ahead log, from its header on.
-ghost use Rattle.std.specs.Prelude.{◌≡◌, ◌+◌, ◌*◌, ◌≤◌, ◌<◌, true, false, length, IfNone, IfSome, OnSome};
-ghost use Rattle.wal_watch.specs.Frames.{is_header, is_head, is_frame_at, frame_sums, page_size_in, committed_count};
-ghost use Rattle.wal_watch.specs.Scanning.{IsScanned};
+//! A scan over the frames of a write-ahead log, which goes on where an earlier one stopped.
+ghost use Rattle.std.specs.Prelude.{◌≡◌, ◌+◌, ◌-◌, ◌*◌, ◌/◌, ◌≤◌, ◌<◌, ◌^◌, ℕ, List, true, false, length, take, drop, IfNone, IfSome, OnSome};
+ghost use Rattle.lf_base.specs.FileBytes.{resized};
+ghost use Rattle.wal_watch.specs.Frames.{is_header, is_head, is_frame_at, frame_sums, page_size_in, committed_count, committed_end};
+ghost use Rattle.wal_watch.specs.Scanning.{StatesHeader, AreMarks, AreFinal, IsMarked, IsNextFrame};
 
-use crate::header::{HEADER_LENGTH, header_sums, is_header, is_little};
-use crate::numbers::u32_at;
-use crate::sums::{Sums, stand_at, with_pairs};
+use crate::header::{HEADER_LENGTH, Header, header_sums, is_header};
+use crate::reader::fill;
+use crate::sums::{Sums, stand_at, sums_on, with_pairs};
+use lf_base::be32_at;
+use lf_sqlite_pages::Blocks;
 
-/// How far a text was scanned: the valid frames so far, and where the next begins.
+/// A place behind valid frames: how many there are, where the next begins, and the sums up to there.
 #[derive(Clone, Copy)]
-pub struct Scan {
+pub struct Mark {
     pub frames: usize,
-    pub page_size: u32,
     pub place: usize,
-    /// The sums up to that place.
     pub sums: Sums,
-    /// The frames up to the last commit.
-    pub committed: usize,
 }
 
-/// Whether the frame at a place has a page number and the salts of the header.
-#[tactic(auto, unfolding(crate::specs::Frames::is_head))]
-fn is_head(text: &[u8], place: usize) -> bool
-    requires header { 32 ≤ length text.now }
-    requires frame { place + 24 ≤ length text.now }
-    ensures { result ≡ is_head text.now place }
-{
-    u32_at(text, place) != 0
-        && u32_at(text, place + 8) == u32_at(text, 16)
-        && u32_at(text, place + 12) == u32_at(text, 20)
+/// How far a log was scanned: the header, the place behind the committed frames, and the place behind
+/// the last valid frame.
+#[derive(Clone, Copy)]
+pub struct Marks {
+    pub header: Header,
+    pub committed: Mark,
+    pub last: Mark,
 }
 
-/// The sums after the frame at a place.
-#[tactic(auto, unfolding(crate::specs::Frames::frame_sums))]
-fn frame_sums(text: &[u8], place: usize, sums: Sums) -> Sums
-    requires header { 32 ≤ length text.now }
-    requires frame { place + (24 + page_size_in text.now) ≤ length text.now }
-    ensures { result ≡ frame_sums text.now place sums }
-{
-    let little = is_little(text);
-    let size = u32_at(text, 8) as usize;
-    let head = with_pairs(little, sums, place, text, 1);
-    with_pairs(little, head, place + 24, text, size / 8)
+/// A valid frame that comes next: the sums behind it, and the database size if it commits, else 0.
+#[derive(Clone, Copy)]
+pub struct NextFrame {
+    pub sums: Sums,
+    pub size: u32,
 }
 
-impl Scan {
-    /// A scan that stands before the first frame.
-    fn start(text: &[u8]) -> Scan
-        requires header { is_header text.now ≡ true }
-        requires room { 32 ≤ length text.now }
-        ensures { IsScanned text.now result }
+impl Header {
+    /// Whether a frame's head has a page number and the salts of the header.
+    fn is_head(&self, head: &[u8]) -> bool
+        requires { length head.now ≡ 24 }
+        ensures { (text : List ℕ) (place : ℕ) → StatesHeader text self.now → head.now ≡ take 24 (drop place text) → result ≡ is_head text place }
     {
-        Scan {
-            frames: 0,
-            page_size: u32_at(text, 8),
-            place: HEADER_LENGTH,
-            sums: header_sums(text),
-            committed: 0,
+        if be32_at(head, 0) == 0 {
+            return false;
+        }
+        if be32_at(head, 8) != self.first_salt {
+            return false;
+        }
+        be32_at(head, 12) == self.second_salt
+    }
+
+    /// The sums behind the frame at a place.
+    fn frame_sums(&self, blocks: &Blocks, place: usize, sums: Sums, head: &[u8]) -> Sums
+        requires head { length head.now ≡ 24 }
+        requires short { place + (24 + self.now.page_size) < 2 ^ 62 }
+        ensures { (len : ℕ) → StatesHeader (resized len blocks.now.bytes) self.now → place + (24 + self.now.page_size) ≤ len
+            → head.now ≡ take 24 (drop place (resized len blocks.now.bytes)) → result ≡ frame_sums (resized len blocks.now.bytes) place sums }
+    {
+        let behind_head = with_pairs(self.little, sums, 0, head, 1);
+        sums_on(
+            blocks,
+            self.little,
+            behind_head,
+            place + 24,
+            self.page_size as usize / 8,
+        )
+    }
+}
+
+impl Marks {
+    /// The marks as if the scan had ended behind the committed frames.
+    pub fn back(self) -> Marks
+        ensures { result ≡ record { header = self.header; committed = self.committed; last = self.committed } }
+    {
+        Marks {
+            header: self.header,
+            committed: self.committed,
+            last: self.committed,
         }
     }
 
-    /// The sums after the frame that comes, if it is a valid one.
-    #[tactic(auto, unfolding(crate::specs::Frames::is_frame_at))]
-    fn next(&self, text: &[u8]) -> Option<Sums>
-        requires header { 32 ≤ length text.now }
-        requires size { self.now.page_size ≡ page_size_in text.now }
-        requires there { self.now.place ≤ length text.now }
-        ensures none { IfNone result (is_frame_at text.now self.now.place self.now.sums ≡ false) }
-        ensures valid { OnSome result (is_frame_at text.now self.now.place self.now.sums ≡ true) }
-        ensures sums { IfSome result (λ s. s ≡ frame_sums text.now self.now.place self.now.sums) }
-        ensures room { OnSome result (self.now.place + (24 + self.now.page_size) ≤ length text.now) }
+    /// The byte after the committed frames, 0 where there are none.
+    fn committed_end(self) -> usize
+        ensures { (text : List ℕ) → AreFinal text self → result ≡ committed_end text }
     {
-        if text.len() - self.place < 24 + self.page_size as usize {
+        if self.committed.frames == 0 {
+            0
+        } else {
+            self.committed.place
+        }
+    }
+
+    /// The marks before the first frame, if there is a valid header.
+    fn start(blocks: &Blocks, len: usize) -> Option<Marks>
+        ensures none { IfNone result (is_header (resized len blocks.now.bytes) ≡ false) }
+        ensures some { IfSome result (AreMarks (resized len blocks.now.bytes)) }
+    {
+        if len < HEADER_LENGTH {
             return None;
         }
-        let sums = frame_sums(text, self.place, self.sums);
-        if is_head(text, self.place) && stand_at(sums, self.place + 16, text) {
-            Some(sums)
-        } else {
-            None
+        let mut bytes = [0; HEADER_LENGTH];
+        fill(blocks, 0, &mut bytes);
+        if !is_header(&bytes) {
+            return None;
+        }
+        let mark = Mark {
+            frames: 0,
+            place: HEADER_LENGTH,
+            sums: header_sums(&bytes),
+        };
+        Some(Marks {
+            header: Header::of(&bytes),
+            committed: mark,
+            last: mark,
+        })
+    }
+
+    /// The valid frame that comes next, if there is one.
+    fn next(&self, blocks: &Blocks, len: usize) -> Option<NextFrame>
+        requires marks { AreMarks (resized len blocks.now.bytes) self.now }
+        requires short { len < 2 ^ 62 }
+        ensures none { IfNone result (is_frame_at (resized len blocks.now.bytes) self.now.last.place self.now.last.sums ≡ false) }
+        ensures some { IfSome result (IsNextFrame (resized len blocks.now.bytes) self.now) }
+        ensures room { OnSome result (self.now.last.place + (24 + self.now.header.page_size) ≤ len) }
+    {
+        let place = self.last.place;
+        if len - place < 24 + self.header.page_size as usize {
+            return None;
+        }
+        let mut head = [0; 24];
+        fill(blocks, place, &mut head);
+        if !self.header.is_head(&head) {
+            return None;
+        }
+        let sums = self.header.frame_sums(blocks, place, self.last.sums, &head);
+        if !stand_at(sums, 16, &head) {
+            return None;
+        }
+        Some(NextFrame {
+            sums,
+            size: be32_at(&head, 4),
+        })
+    }
+
+    /// The marks behind the valid frame that comes next.
+    fn pass(self, frame: NextFrame) -> Marks
+        requires short { self.last.place + (24 + self.header.page_size) < 2 ^ 62 }
+        requires few { self.last.frames < 2 ^ 62 }
+        ensures marks { (text : List ℕ) → AreMarks text self → IsNextFrame text self frame → AreMarks text result }
+        ensures progress { self.last.place < result.last.place }
+    {
+        let last = Mark {
+            frames: self.last.frames + 1,
+            place: self.last.place + 24 + self.header.page_size as usize,
+            sums: frame.sums,
+        };
+        Marks {
+            header: self.header,
+            committed: if frame.size == 0 {
+                self.committed
+            } else {
+                last
+            },
+            last,
         }
     }
 
-    /// Passes the frame that comes, a valid one.
-    fn pass(&mut self, text: &[u8], sums: Sums)
-        requires scanned { IsScanned text.now self.old }
-        requires valid { is_frame_at text.now self.old.place self.old.sums ≡ true }
-        requires sums { sums ≡ frame_sums text.now self.old.place self.old.sums }
-        requires room { self.old.place + (24 + self.old.page_size) ≤ length text.now }
-        ensures scanned { IsScanned text.now self.new }
-        ensures progress { self.old.place < self.new.place }
+    /// Goes on over all valid frames.
+    fn go_on(self, blocks: &Blocks, len: usize) -> Marks
+        requires marks { AreMarks (resized len blocks.now.bytes) self }
+        requires short { len < 2 ^ 62 }
+        ensures { AreFinal (resized len blocks.now.bytes) result }
     {
-        let size = u32_at(text, self.place + 4);
-        self.committed = if size == 0 {
-            self.committed
-        } else {
-            self.frames + 1
-        };
-        self.frames += 1;
-        self.place += 24 + self.page_size as usize;
-        self.sums = sums;
+        let mut marks = self;
+        while let Some(frame) = marks.next(blocks, len) {
+            marks = marks.pass(frame);
+        }
+        marks
     }
 }
 
-/// How many frames of a text are committed.
-pub fn committed_count(text: &[u8]) -> usize
-    ensures { result ≡ committed_count text.now }
+/// The marks of the first `len` bytes of a file, with zeros behind its end. It goes on from marks of
+/// these bytes, or begins anew where there are none.
+pub fn marks_of(blocks: &Blocks, len: usize, from: Option<Marks>) -> Option<Marks>
+    requires marks { IfSome from (AreMarks (resized len blocks.now.bytes)) }
+    requires short { len < 2 ^ 62 }
+    ensures { IsMarked (resized len blocks.now.bytes) result }
 {
-    if !is_header(text) {
-        return 0;
+    let from = match from {
+        None => Marks::start(blocks, len),
+        Some(marks) => Some(marks),
+    };
+    match from {
+        None => None,
+        Some(marks) => Some(marks.go_on(blocks, len)),
     }
-    let mut scan = Scan::start(text);
-    while let Some(sums) = scan.next(text) {
-        scan.pass(text, sums);
+}
+
+/// How many frames are committed.
+pub fn committed_in(marks: Option<Marks>) -> usize
+    ensures { (text : List ℕ) → IsMarked text marks → result ≡ committed_count text }
+{
+    match marks {
+        None => 0,
+        Some(marks) => marks.committed.frames,
     }
-    scan.committed
+}
+
+/// The byte after the committed frames, 0 where there are none.
+pub fn end_in(marks: Option<Marks>) -> usize
+    ensures { (text : List ℕ) → IsMarked text marks → result ≡ committed_end text }
+{
+    match marks {
+        None => 0,
+        Some(marks) => marks.committed_end(),
+    }
+}
+
+/// The page size that the header states, 0 without a valid one.
+pub fn page_size_of(marks: Option<Marks>) -> u32
+    ensures { (text : List ℕ) → IsMarked text marks → 0 < committed_count text → result ≡ page_size_in text }
+{
+    match marks {
+        None => 0,
+        Some(marks) => marks.header.page_size,
+    }
 }

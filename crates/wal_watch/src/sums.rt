@@ -1,14 +1,30 @@
 //! The checksums of a write-ahead log (SQLite file format, section 4.2).
-ghost use Rattle.std.specs.Prelude.{◌≡◌, ◌+◌, ◌*◌, ◌≤◌, length};
-ghost use Rattle.wal_watch.specs.Sums.{with_pair, with_pairs, stand_at};
+ghost use Rattle.std.specs.Prelude.{◌≡◌, ◌+◌, ◌*◌, ◌≤◌, ◌<◌, ◌^◌, ℕ, length};
+ghost use Rattle.lf_base.specs.FileBytes.{resized};
+ghost use Rattle.wal_watch.specs.Sums.{word_at, with_pair, with_pairs, stand_at};
 
-use crate::numbers::{u32_at, word_at};
+use crate::reader::fill;
+use lf_base::{be32_at, le32_at};
+use lf_sqlite_pages::Blocks;
 
 /// The two running sums.
-#[derive(Clone, Copy)]
+#[derive(Clone, Copy, Debug, PartialEq, Eq)]
 pub struct Sums {
     pub first: u32,
     pub second: u32,
+}
+
+/// The word of the four bytes from `place` on, in either byte order.
+#[tactic(auto, unfolding(crate::specs::Sums::word_at))]
+fn word_at(little: bool, text: &[u8], place: usize) -> u32
+    requires { place + 4 ≤ length text.now }
+    ensures { result ≡ word_at little place text.now }
+{
+    if little {
+        le32_at(text, place)
+    } else {
+        be32_at(text, place)
+    }
 }
 
 /// The sums with one more pair of words.
@@ -48,5 +64,39 @@ pub fn stand_at(sums: Sums, place: usize, text: &[u8]) -> bool
     requires { place + 8 ≤ length text.now }
     ensures { result ≡ stand_at sums place text.now }
 {
-    sums.first == u32_at(text, place) && sums.second == u32_at(text, place + 4)
+    sums.first == be32_at(text, place) && sums.second == be32_at(text, place + 4)
+}
+
+/// The sums with `count` more pairs of words of a file, read by way of a buffer.
+fn sums_by(
+    blocks: &Blocks,
+    little: bool,
+    sums: Sums,
+    place: usize,
+    count: usize,
+    buffer: &mut [u8],
+) -> Sums
+    requires buffer { 8 ≤ length buffer.old }
+    requires short { place + 8 * count < 2 ^ 62 }
+    ensures { (len : ℕ) → place + 8 * count ≤ len → result ≡ with_pairs little sums place (resized len blocks.now.bytes) count }
+{
+    let mut sums = sums;
+    let mut done = 0;
+    while done < count {
+        let pairs = (count - done).min(buffer.len() / 8);
+        let (part, _) = buffer.split_at_mut(8 * pairs);
+        fill(blocks, place + 8 * done, part);
+        sums = with_pairs(little, sums, 0, part, pairs);
+        done += pairs;
+    }
+    sums
+}
+
+/// The sums with `count` more pairs of words of a file, which stand from `place` on.
+pub fn sums_on(blocks: &Blocks, little: bool, sums: Sums, place: usize, count: usize) -> Sums
+    requires { place + 8 * count < 2 ^ 62 }
+    ensures { (len : ℕ) → place + 8 * count ≤ len → result ≡ with_pairs little sums place (resized len blocks.now.bytes) count }
+{
+    let mut buffer = [0; 1024];
+    sums_by(blocks, little, sums, place, count, &mut buffer)
 }

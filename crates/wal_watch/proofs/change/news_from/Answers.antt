@@ -1,6 +1,19 @@
-use Rattle.std.proofs.Common.{arith}
+use Rattle.std.proofs.Common.{◌≡◌, ◌+◌, ◌-◌, ◌<◌, ◌≤◌, length, ℕ, sym, subst, arith}
+use Rattle.lf_sqlite_pages.specs.PageSize.{IsPageSize}
+use Rattle.wal_watch.specs.Frames.{frame_place}
 use Rattle.wal_watch.proofs.CommitLemmas.{has_committed}
 use Rattle.wal_watch.proofs.change.news_from.Goals as goal
 
-pub change_of-requires-clause-committed : goal.change_of-requires-clause-committed
-change_of-requires-clause-committed c = has_committed c.args.text.now c.args.count c.requires (omega arith)
+pub size_in-commit-requires-clause-there : goal.size_in-commit-requires-clause-there
+size_in-commit-requires-clause-there c =
+    let there = has_committed c.args.text.now.bytes c.args.count c.requires.count (omega arith) in
+    let back : c.args.count - 1 + 1 ≡ c.args.count = omega arith in
+    rw back there.room
+
+pub new-change-requires : goal.new-change-requires
+new-change-requires c =
+    let there = has_committed c.args.text.now.bytes c.args.count c.requires.count (omega arith) in
+    rw (c.requires.size (omega arith)) there.header.page_size
+
+pub change_by-requires-clause-committed : goal.change_by-requires-clause-committed
+change_by-requires-clause-committed c = has_committed c.args.text.now.bytes c.args.count c.requires.count (omega arith)

@@ -1,24 +1,16 @@
-use Rattle.std.proofs.Common.{arith, List, ℕ, ap, ◌∙◌}
-use Rattle.wal_watch.specs.File.{overwritten, written}
-use Rattle.wal_watch.specs.News.{first_new}
-use Rattle.wal_watch.proofs.CheckLemmas.{first_other, first_same, breaks_at}
+use Rattle.std.proofs.Common.{◌∙◌, arith, inl}
+use Rattle.lf_base.specs.FileBytes.{written}
+use Rattle.wal_watch.proofs.CheckLemmas.{first_other, first_same}
+use Rattle.wal_watch.proofs.WriteLemmas.{end_there}
 use Rattle.wal_watch.proofs.check.check_write.Goals as goal
 
 pub returns-then-not-keeps_header-clause-first : goal.returns-then-not-keeps_header-clause-first
 returns-then-not-keeps_header-clause-first c =
-    first_other c.args.text.now (overwritten c.start_of-at.result c.args.bytes.now c.args.text.now) c.if-not-keeps_header.ensures.other
-    ∙ ap (λ (new : List ℕ). first_new c.args.text.now new) c.start_of-at.ensures.written
+    first_other c.args.text.now.bytes (written c.args.at c.args.bytes.now c.args.text.now.bytes) (inl (λ same. let on = c.keeps_header.ensures.1 same in cc (on, c.if-not-keeps_header.true)))
+
+pub keeps-requires : goal.keeps-requires
+keeps-requires c = omega (arith, c.requires.end, end_there c.args.text.now.bytes)
 
 pub returns-clause-first : goal.returns-clause-first
 returns-clause-first c =
-    c.requires
-    ∙ first_same c.args.text.now (overwritten c.start_of-at.result c.args.bytes.now c.args.text.now) c.if-not-keeps_header.ensures.same
-    ∙ ap (λ (new : List ℕ). first_new c.args.text.now new) c.start_of-at.ensures.written
-
-pub returns-then-breaks_header-clause-fault : goal.returns-then-breaks_header-clause-fault
-returns-then-breaks_header-clause-fault c = (
-  omega arith,
-  breaks_at c.args.page_size c.start_of-at.result c.args.at c.args.bytes.now (overwritten c.start_of-at.result c.args.bytes.now c.args.text.now)
-      (written c.args.at c.args.bytes.now c.args.text.now) c.start_of-at.ensures.some c.start_of-at.ensures.written
-      (c.breaks_header.ensures.0 c.if-breaks_header.true),
-)
+    c.requires.count ∙ first_same c.args.text.now.bytes (written c.args.at c.args.bytes.now c.args.text.now.bytes) (c.keeps_header.ensures.0 c.if-not-keeps_header.false)

@@ -1,0 +1,100 @@
+-- The marks of a text are those of another that begins alike, and a scan goes on from them.
+use Rattle.std.proofs.Common.{◌≡◌, ℕ, zero, suc, ◌+◌, ◌-◌, ◌≤◌, ◌<◌, true, false, Option, Some, None, List, length, take, replicate, subst, refl, sym, ap, ◌∙◌, inl, inr, add-one, arith}
+use Rattle.std.proofs.lemmas.Bool.{cases_Bool, cond-true, cond-false}
+use Rattle.std.proofs.lemmas.List.{take-take, take-append-le, length-take}
+use Rattle.lf_base.specs.FileBytes.{resized, written}
+use Rattle.lf_base.proofs.FileLemmas.{length-resized}
+use Rattle.wal_watch.specs.Frames.{is_header, is_commit, commits_among, frame_place}
+use Rattle.wal_watch.specs.Scanning.{StatesHeader, IsMark, AreMarks, AreFinal, IsMarked}
+use Rattle.wal_watch.specs.declared.header.Header.{Header}
+use Rattle.wal_watch.specs.declared.scan.Mark.{Mark}
+use Rattle.wal_watch.specs.declared.scan.Marks.{Marks}
+use Rattle.wal_watch.proofs.Steps.{commits_more}
+use Rattle.wal_watch.proofs.CommitLemmas.{place_up}
+use Rattle.wal_watch.proofs.WriteLemmas.{written-longer}
+use Rattle.wal_watch.proofs.AgreeLemmas.{same_four, same_little, same_header, same_size, same_place, same_valid, same_sums_after, same_commits}
+
+-- the commits among the first commits are all of these
+pub commits_again : (text : List ℕ) (n : ℕ) → commits_among text (commits_among text n) ≡ commits_among text n
+unfolding commits_among
+commits_again text zero = refl
+commits_again text (suc k) = elim (cases_Bool (is_commit text k)) [
+  | inl on ↦
+      let own : commits_among text (suc k) ≡ k + 1 = cond-true _ _ _ on in
+      ap (λ (n : ℕ). commits_among text n) (own ∙ add-one k)
+  | inr off ↦
+      let own : commits_among text (suc k) ≡ commits_among text k = cond-false _ _ _ off in
+      ap (λ (n : ℕ). commits_among text n) own ∙ commits_again text k ∙ sym own
+]
+
+commits_le : (text : List ℕ) (n : ℕ) → commits_among text n ≤ n
+unfolding commits_among
+commits_le text zero = omega arith
+commits_le text (suc k) = elim (cases_Bool (is_commit text k)) [
+  | inl on ↦ let own : commits_among text (suc k) ≡ k + 1 = cond-true _ _ _ on in omega (arith, own, add-one k)
+  | inr off ↦ let own : commits_among text (suc k) ≡ commits_among text k = cond-false _ _ _ off in omega (arith, own, commits_le text k)
+]
+
+-- the marks as if the scan had ended behind the committed frames
+pub marks-back : (text : List ℕ) (marks : Marks) → AreMarks text marks → AreMarks text (record { header = marks.header; committed = marks.committed; last = marks.committed })
+marks-back text marks h = record {
+  header = h.header;
+  last = h.committed;
+  committed = h.committed;
+  count = h.count ∙ sym (commits_again text marks.last.frames) ∙ ap (λ (n : ℕ). commits_among text n) (sym h.count);
+}
+
+module _ (old new : List ℕ) (p : ℕ) (same : take p new ≡ take p old) (room_old : p ≤ length old) (room_new : p ≤ length new) where
+  pub mark-stays : (mark : Mark) → IsMark old mark → mark.place ≤ p → IsMark new mark
+  mark-stays mark h le =
+      let head : 32 ≤ p = omega (arith, h.place, le) in
+      let fits : frame_place old mark.frames ≤ p = omega (arith, h.place, le) in
+      record {
+        valid = sym (same_valid old new p (sym same) head room_old room_new mark.frames fits) ∙ h.valid;
+        place = h.place ∙ same_place old new p (sym same) head mark.frames;
+        there = omega (arith, le, room_new);
+        sums = h.sums ∙ same_sums_after old new p (sym same) head mark.frames fits;
+      }
+
+  pub header-stays : (header : Header) → StatesHeader old header → 32 ≤ p → StatesHeader new header
+  header-stays header h head = record {
+    valid = sym (same_header old new p (sym same) head room_old room_new) ∙ h.valid;
+    little = h.little ∙ same_little old new p (sym same) head;
+    page_size = h.page_size ∙ same_size old new p (sym same) head;
+    first_salt = h.first_salt ∙ same_four old new p (sym same) 16 (omega (arith, head));
+    second_salt = h.second_salt ∙ same_four old new p (sym same) 20 (omega (arith, head));
+  }
+
+  pub marks-stay : (marks : Marks) → AreMarks old marks → marks.last.place ≤ p → AreMarks new marks
+  marks-stay marks h le =
+      let head : 32 ≤ p = omega (arith, h.last.place, le) in
+      let before : marks.committed.place ≤ marks.last.place =
+      omega (arith, h.committed.place, h.last.place, place_up old marks.committed.frames marks.last.frames (omega (arith, h.count, commits_le old marks.last.frames))) in
+      record {
+        header = header-stays marks.header h.header head;
+        last = mark-stays marks.last h.last le;
+        committed = mark-stays marks.committed h.committed (omega (arith, before, le));
+        count = h.count ∙ same_commits old new p (sym same) head room_old room_new marks.last.frames (omega (arith, h.last.place, le));
+      }
+
+-- what marks say of their text
+pub marked-none : (text : List ℕ) (marks : Option Marks) → marks ≡ None → IsMarked text marks → is_header text ≡ false
+marked-none text marks is h = let P : Option Marks → Type 0 = λ o. IsMarked text o in subst P is h
+
+pub marked-some : (text : List ℕ) (marks : Option Marks) (m : Marks) → marks ≡ Some m → IsMarked text marks → AreFinal text m
+marked-some text marks m is h = let P : Option Marks → Type 0 = λ o. IsMarked text o in subst P is h
+
+-- the first bytes of a text that was cut behind them, or filled up
+pub take-resized : (text : List ℕ) (place len : ℕ) → place ≤ len → place ≤ length text → take place (resized len text) ≡ take place text
+take-resized text place len below within =
+    take-append-le place (take len text) (replicate (len - length text) 0) (omega (arith, below, within, length-take len text)) ∙ take-take place len text below
+
+-- the marks that a write leaves, and those that a cut leaves
+pub marks-written : (text : List ℕ) (at : ℕ) (piece : List ℕ) (marks : Marks) → AreMarks text marks → take marks.last.place (written at piece text) ≡ take marks.last.place text
+    → AreMarks (written at piece text) marks
+marks-written text at piece marks h same =
+    marks-stay text (written at piece text) marks.last.place same h.last.there (omega (arith, h.last.there, written-longer at piece text)) marks h (omega arith)
+
+pub marks-cut : (text : List ℕ) (len : ℕ) (marks : Marks) → AreMarks text marks → marks.last.place ≤ len → AreMarks (resized len text) marks
+marks-cut text len marks h le =
+    marks-stay text (resized len text) marks.last.place (take-resized text marks.last.place len le h.last.there) h.last.there (omega (arith, length-resized len text, le)) marks h (omega arith)

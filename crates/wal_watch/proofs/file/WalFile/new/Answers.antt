@@ -1,0 +1,11 @@
+use Rattle.std.proofs.Common.{refl, [], arith}
+use Rattle.wal_watch.proofs.FrontLemmas.{short_header}
+use Rattle.wal_watch.proofs.file.WalFile.new.Goals as goal
+
+pub invariant_of-result : goal.invariant_of-result
+invariant_of-result c = rw c.new.ensures record {
+  absent = λ off. refl;
+  gone = λ off. refl;
+  marks = short_header [] (omega arith);
+  saved = λ old is. cc;
+}

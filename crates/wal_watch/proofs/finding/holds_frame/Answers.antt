@@ -1,0 +1,8 @@
+use Rattle.wal_watch.proofs.CommitLemmas.{frame_there}
+use Rattle.wal_watch.proofs.finding.holds_frame.Goals as goal
+
+pub number_in-requires-clause-there : goal.number_in-requires-clause-there
+number_in-requires-clause-there c = frame_there c.args.text.now.bytes c.args.count c.loop-frame.frame c.requires.count c.loop-frame-test.true
+
+pub holds_page-requires-clause-there : goal.holds_page-requires-clause-there
+holds_page-requires-clause-there c = frame_there c.args.text.now.bytes c.args.count c.loop-frame.frame c.requires.count c.loop-frame-test.true
