@@ -1,13 +1,17 @@
 -- A change as the pages in slots are added to it.
-use Rattle.std.proofs.Common.{◌≡◌, ℕ, zero, suc, ◌+◌, ◌-◌, ◌<◌, ◌≤◌, Option, Some, None, List, [], ◌++◌, length, get_or, refl, sym, ◌∙◌, ap, subst, arith, add-zero, Bor}
+use Rattle.std.proofs.Common.{◌≡◌, ℕ, zero, suc, ◌+◌, ◌-◌, ◌≤◌, Option, Some, None, List, [], ◌++◌, length, get_or, refl, sym, ◌∙◌, ap, subst, arith, add-zero, Bor}
+use Rattle.std.specs.Prelude.{◌==◌, if◌then◌else◌}
 use Rattle.std.specs.List.{All, filter_map, cons_option, range_with_len}
 use Rattle.std.specs.Option.{IfSome, option_copied}
 use Rattle.std.proofs.lemmas.List.{get_or_default}
+use Rattle.lf_sqlite_pages.specs.LockPage.{lock_page_of}
+use Rattle.lf_sqlite_pages.specs.Writes.{writes_of}
+use Rattle.lf_sqlite_pages.proofs.Writes.{writes_of-same}
 use Rattle.lf_sqlite_pages.specs.Change.{PageChange, IsChange, last_number}
 use Rattle.lf_sqlite_pages.specs.declared.page_write.PageWrite.{PageWrite}
 use Rattle.ltx_codec.specs.declared.file.Ltx.{Ltx}
-use Rattle.ltx_compact.specs.Compaction.{page_of, pages_of}
-use Rattle.ltx_compact.specs.Slots.{Slots, page_in, page_to_write, pages_in, HoldPages}
+use Rattle.ltx_compact.specs.Compaction.{page_of, data_page_of, pages_of}
+use Rattle.ltx_compact.specs.Slots.{Slots, page_to_write, data_page_in, pages_in, HoldPages}
 use Rattle.ltx_compact.proofs.Left.{page_of-whole}
 
 -- an item before lists
@@ -27,58 +31,51 @@ filter_map-more h a (suc n) =
     in
     rw (more, rest) (cons_option-append (h a) (filter_map h (range_with_len (a + 1) n)) (cons_option (h (a + suc n)) []))
 
--- functions that agree on a range
-filter_map-same : (g h : ℕ → Option PageWrite) (a len : ℕ) → ((n : ℕ) → a ≤ n → n < a + len → g n ≡ h n) →
-    filter_map g (range_with_len a len) ≡ filter_map h (range_with_len a len)
-filter_map-same g h a zero same = refl
-filter_map-same g h a (suc len) same =
-    let rest : filter_map g (range_with_len (a + 1) len) ≡ filter_map h (range_with_len (a + 1) len) =
-    filter_map-same g h (a + 1) len (λ n first last. same n (omega arith) (omega arith))
-    in
-    ap (λ (o : Option PageWrite). cons_option o (filter_map g (range_with_len (a + 1) len))) (same a (omega arith) (omega arith)) ∙ ap (cons_option (h a)) rest
+-- the page in the slot behind some others, where it is a data page
+abbrev slot_page : ℕ → Slots → ℕ → Option (List ℕ)
+slot_page size slots count = if count + 1 == lock_page_of size then None else option_copied (get_or slots count None)
 
 -- one more page
-pages_in-more : (slots : Slots) (count : ℕ) →
-    pages_in slots (count + 1) ≡ pages_in slots count ++ cons_option (page_to_write (count + 1) (option_copied (get_or slots count None))) []
-unfolding pages_in
-pages_in-more slots count =
+pages_in-more : (size : ℕ) (slots : Slots) (count : ℕ) →
+    pages_in size slots (count + 1) ≡ pages_in size slots count ++ cons_option (page_to_write (count + 1) (slot_page size slots count)) []
+unfolding writes_of
+pages_in-more size slots count =
     let next : 1 + count ≡ count + 1 = omega arith in
     let back : count + 1 - 1 ≡ count = omega arith in
-    let add : ℕ → Option (List ℕ) → List PageWrite = λ k page. pages_in slots count ++ cons_option (page_to_write k page) [] in
-    filter_map-more (λ n. page_to_write n (page_in slots n)) 1 count
-    ∙ ap (λ (k : ℕ). add k (page_in slots k)) next
-    ∙ ap (λ (k : ℕ). add (count + 1) (option_copied (get_or slots k None))) back
+    let add : ℕ → Option (List ℕ) → List PageWrite = λ k page. pages_in size slots count ++ cons_option (page_to_write k page) [] in
+    filter_map-more (λ n. page_to_write n (data_page_in size slots n)) 1 count
+    ∙ ap (λ (k : ℕ). add k (data_page_in size slots k)) next
+    ∙ ap (λ (k : ℕ). add (count + 1) (if count + 1 == lock_page_of size then None else option_copied (get_or slots k None))) back
 
 -- no page
-pages_in-none : (slots : Slots) → pages_in slots 0 ≡ []
-unfolding pages_in
-pages_in-none slots = refl
+pages_in-none : (size : ℕ) (slots : Slots) → pages_in size slots 0 ≡ []
+unfolding writes_of
+pages_in-none size slots = refl
 
 -- a change without pages has those up to 0
-pub pages-begun : (change : PageChange) (slots : Slots) → change.pages ≡ [] → change ≡ record change { pages = pages_in slots 0 }
+pub pages-begun : (change : PageChange) (slots : Slots) → change.pages ≡ [] → change ≡ record change { pages = pages_in change.page_size slots 0 }
 pages-begun change slots empty =
     let with_pages : List PageWrite → PageChange = λ ps. record change { pages = ps } in
-    ap with_pages (empty ∙ sym (pages_in-none slots))
+    ap with_pages (empty ∙ sym (pages_in-none change.page_size slots))
 
 -- and no last number
 pub last_number-begun : (pages : List PageWrite) → pages ≡ [] → last_number pages ≤ 0
 last_number-begun pages empty = let P : List PageWrite → Type 0 = λ ps. last_number ps ≤ 0 in subst P (sym empty) (omega arith)
 
 -- a change with one more page
-pub pages-grown : (start now next : PageChange) (slots : Slots) (n : ℕ) → now ≡ record start { pages = pages_in slots n } →
-    next ≡ record now { pages = now.pages ++ cons_option (page_to_write (n + 1) (option_copied (get_or slots n None))) [] } →
-    next ≡ record start { pages = pages_in slots (n + 1) }
+pub pages-grown : (start now next : PageChange) (slots : Slots) (n : ℕ) → now ≡ record start { pages = pages_in start.page_size slots n } →
+    next ≡ record now { pages = now.pages ++ cons_option (page_to_write (n + 1) (slot_page start.page_size slots n)) [] } →
+    next ≡ record start { pages = pages_in start.page_size slots (n + 1) }
 pages-grown start now next slots n now-is next-is =
-    let grow : PageChange → PageChange = λ c. record c { pages = c.pages ++ cons_option (page_to_write (n + 1) (option_copied (get_or slots n None))) [] } in
+    let grow : PageChange → PageChange = λ c. record c { pages = c.pages ++ cons_option (page_to_write (n + 1) (slot_page start.page_size slots n)) [] } in
     let with_pages : List PageWrite → PageChange = λ ps. record start { pages = ps } in
-    next-is ∙ ap grow now-is ∙ ap with_pages (sym (pages_in-more slots n))
+    next-is ∙ ap grow now-is ∙ ap with_pages (sym (pages_in-more start.page_size slots n))
 
 -- slots that hold what files leave hold the pages that they leave
-pub pages_in-held : (files : List Ltx) (commit : ℕ) (slots : Slots) → HoldPages files commit slots → pages_in slots commit ≡ pages_of files commit
-unfolding pages_in pages_of
-pages_in-held files commit slots held =
-    filter_map-same (λ n. page_to_write n (page_in slots n)) (λ n. page_to_write n (page_of files n)) 1 commit
-    (λ n first last. ap (page_to_write n) (held.pages n first (omega arith)))
+pub pages_in-held : (size : ℕ) (files : List Ltx) (commit : ℕ) (slots : Slots) → HoldPages files commit slots → pages_in size slots commit ≡ pages_of size files commit
+pages_in-held size files commit slots held =
+    writes_of-same (data_page_in size slots) (data_page_of size files) commit
+    (λ n first last. ap (λ (p : Option (List ℕ)). if n == lock_page_of size then None else p) (held.pages n first last))
 
 -- a slot whose page is whole
 slot-whole : (size : ℕ) (slot : Option (Bor (List ℕ))) (page : Option (List ℕ)) → option_copied slot ≡ page → IfSome page (λ bytes. length bytes ≡ size) →

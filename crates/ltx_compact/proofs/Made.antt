@@ -1,25 +1,27 @@
 -- The one file that is made of files that join one another.
-use Rattle.std.proofs.Common.{◌≡◌, ℕ, zero, suc, ◌-◌, ◌^◌, ◌<◌, ◌≤◌, Some, List, [], ◌∷◌, length, map, get_or, refl, sym, ◌∙◌, ap, subst, arith, lit<}
-use Rattle.std.specs.List.{All, slice_get, range_with_len}
+use Rattle.std.proofs.Common.{◌≡◌, ℕ, zero, suc, ◌-◌, ◌^◌, ◌<◌, ◌≤◌, false, eqb, Some, List, [], ◌∷◌, length, get_or, refl, sym, ◌∙◌, ap, subst, arith, lit<}
+use Rattle.std.specs.List.{All, slice_get}
 use Rattle.std.specs.Option.{IsSome}
 use Rattle.std.proofs.lemmas.Option.{slice_get_read, slice_get-get_or, get_or_from_slice_get}
-use Rattle.lf_sqlite_pages.specs.Change.{PageChange, IsChange}
+use Rattle.std.proofs.lemmas.Bool.Decides.{nat_tests}
+use Rattle.lf_sqlite_pages.specs.LockPage.{lock_page_of, IsDataPage}
+use Rattle.lf_sqlite_pages.specs.Change.{PageChange, IsChange, written}
+use Rattle.lf_sqlite_pages.proofs.Writes.{written-writes_of}
 use Rattle.ltx_codec.specs.Format.{IsFile, IsHeader, IsFlagged}
 use Rattle.ltx_codec.specs.declared.header.Header.{Header}
 use Rattle.ltx_codec.specs.declared.file.Ltx.{Ltx}
-use Rattle.ltx_compact.specs.Compaction.{Compacts, HoldsWhatIsLeft, IsFileButSum, header_of, page_of, pages_of}
+use Rattle.ltx_compact.specs.Compaction.{Compacts, HoldsWhatIsLeft, IsFileButSum, header_of, page_of, data_page_of, pages_of}
 use Rattle.ltx_compact.specs.Joining.{Joins, AllJoin}
 use Rattle.ltx_compact.specs.Application.{DoesAsFiles}
-use Rattle.ltx_compact.proofs.Written.{written-pages_of, numbers-pages_of, IsSome-numbered}
 use Rattle.ltx_compact.proofs.Applied.{apply-left, Fits-left, IsSome-page_of}
 
 -- the parts make the one file
 pub Compacts-made : (files : List Ltx) (first last : Ltx) (header : Header) (change : PageChange) → 0 < length files →
     first ≡ get_or files 0 first → last ≡ get_or files (length files - 1) last → header ≡ header_of first last →
-    change ≡ record { page_size = header.page_size; commit = header.commit; pages = pages_of files header.commit } →
+    change ≡ record { page_size = header.page_size; commit = header.commit; pages = pages_of header.page_size files header.commit } →
     Compacts files (record { header = header; change = change; post = last.post })
 Compacts-made files first last header change some first-read last-read header-is change-is =
-    let left : Header → PageChange = λ h. record { page_size = h.page_size; commit = h.commit; pages = pages_of files h.commit } in
+    let left : Header → PageChange = λ h. record { page_size = h.page_size; commit = h.commit; pages = pages_of h.page_size files h.commit } in
     record {
       first = first;
       last = last;
@@ -29,6 +31,12 @@ Compacts-made files first last header change some first-read last-read header-is
       change = change-is ∙ ap left header-is;
       post = refl;
     }
+
+-- a data page that files leave
+data_page_of-data : (size : ℕ) (files : List Ltx) (n : ℕ) → IsDataPage size n → data_page_of size files n ≡ page_of files n
+data_page_of-data size files n data_page =
+    let test : eqb n (lock_page_of size) ≡ false = grind (arith, nat_tests) in
+    rw test refl
 
 -- files that join, each of them sound
 module _ (files : List Ltx) (joined : AllJoin files) (sound : All IsFile files) where
@@ -71,7 +79,8 @@ module _ (files : List Ltx) (joined : AllJoin files) (sound : All IsFile files) 
     pub holds : HoldsWhatIsLeft files file.change
     holds =
         let P : PageChange → Type 0 = λ c. HoldsWhatIsLeft files c in
-        subst P (sym made.change) (λ n first last. written-pages_of files made.last.header.commit n first last)
+        subst P (sym made.change) (λ n first last data_page.
+        written-writes_of (data_page_of made.last.header.page_size files) made.last.header.commit n first last ∙ data_page_of-data made.last.header.page_size files n data_page)
 
     last_sound : IsFile made.last
     last_sound = sound-at (length files - 1) made.last (omega (arith, joined.some)) made.is_last
@@ -92,6 +101,11 @@ module _ (files : List Ltx) (joined : AllJoin files) (sound : All IsFile files) 
               (commit ∙ sym last_sound.block.commit) holds;
         }
 
+    first-of_size : (size : ℕ) → All (λ f. f.change.page_size ≡ size) files → made.first.change.page_size ≡ size
+    first-of_size size sized =
+        let d = made.first in
+        ap (λ (f : Ltx). f.change.page_size) (sym (get_or_from_slice_get files 0 made.first d made.is_first)) ∙ sized 0 d joined.some
+
     begins_before_end : made.first.header.min ≤ made.last.header.max
     begins_before_end =
         let d = made.first in
@@ -101,17 +115,16 @@ module _ (files : List Ltx) (joined : AllJoin files) (sound : All IsFile files) 
         let Q : Ltx → Type 0 = λ f. (get_or files 0 d).header.min ≤ f.header.max in
         subst P start (subst Q end (ends-at (length files - 1) d (omega (arith, joined.some))))
 
-    -- of a snapshot and the files after it every page is left
-    every_page : made.first.header.min ≡ 1 → (n : ℕ) → 1 ≤ n → IsSome (page_of files n)
+    -- of a snapshot and the files after it every data page is left
+    every_page : made.first.header.min ≡ 1 → (n : ℕ) → 1 ≤ n → IsDataPage made.first.change.page_size n → IsSome (page_of files n)
     every_page snapshot = of_list files made.is_first
       where
-        of_list : (list : List Ltx) → slice_get list 0 ≡ Some made.first → (n : ℕ) → 1 ≤ n → IsSome (page_of list n)
-        of_list [] is_first n above = absurd cc
-        of_list (f ∷ fs) is_first n above =
+        of_list : (list : List Ltx) → slice_get list 0 ≡ Some made.first → (n : ℕ) → 1 ≤ n → IsDataPage made.first.change.page_size n → IsSome (page_of list n)
+        of_list [] is_first n above data_page = absurd cc
+        of_list (f ∷ fs) is_first n above data_page =
             let same : made.first ≡ f = cc in
             let P : Ltx → Type 0 = λ g. IsSome (page_of (g ∷ fs) n) in
-            subst P same (IsSome-page_of made.first fs n
-            (λ m low high. IsSome-numbered made.first.change.pages made.first.change.commit m (first_sound.block.snapshot_pages snapshot) low high) above)
+            subst P same (IsSome-page_of made.first fs n (first_sound.block.snapshot_pages snapshot) above data_page)
 
     header_sound : IsHeader (header_of made.first made.last)
     header_sound = record {
@@ -145,15 +158,17 @@ module _ (files : List Ltx) (joined : AllJoin files) (sound : All IsFile files) 
         let size : file.header.page_size ≡ made.last.header.page_size = ap (λ (h : Header). h.page_size) made.header in
         let commit : file.header.commit ≡ made.last.header.commit = ap (λ (h : Header). h.commit) made.header in
         let W : ℕ → Type 0 = λ s. s < 2 ^ 64 in
-        let N : PageChange → Type 0 = λ c. map (λ w. w.number) c.pages ≡ range_with_len 1 c.commit in
+        let change_size : file.change.page_size ≡ made.last.header.page_size = ap (λ (c : PageChange). c.page_size) made.change in
+        let first_size : made.first.change.page_size ≡ made.last.header.page_size = first-of_size made.last.header.page_size (sizes made.last made.is_last) in
         record {
           header = head;
           block = record {
             page_size = ap (λ (c : PageChange). c.page_size) made.change ∙ sym size;
             commit = ap (λ (c : PageChange). c.commit) made.change ∙ sym commit;
             pages = valid;
-            snapshot_pages = λ snapshot. subst N (sym made.change)
-                (numbers-pages_of files made.last.header.commit (λ n first last. every_page (sym min ∙ snapshot) n first));
+            snapshot_pages = λ snapshot n first last data_page.
+                let held : written file.change.pages n ≡ page_of files n = holds n first last data_page in
+                rw held (every_page (sym min ∙ snapshot) n first (λ lock. data_page (lock ∙ ap lock_page_of (first_size ∙ sym change_size))));
           };
           post = λ sum. record {
             width = subst W (sym made.post) last_sound.post.width;

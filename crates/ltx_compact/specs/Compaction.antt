@@ -1,10 +1,11 @@
 -- What one file holds that stands for a list of LTX files.
-use Rattle.std.specs.Prelude.{◌≡◌, ℕ, ◌-◌, ◌≤◌, Option, Some, None, List, length, map, replicate, fold, nat_lt, if◌then◌else◌, slice_get}
-use Rattle.std.specs.List.{filter_map, range_with_len}
-use Rattle.std.specs.Option.{option_map, option_or}
-use Rattle.page_checksum.specs.Sums.{database_sum}
+use Rattle.std.specs.Prelude.{◌≡◌, ℕ, ◌-◌, ◌≤◌, ◌==◌, Option, Some, None, List, length, replicate, fold, nat_lt, if◌then◌else◌, slice_get}
+use Rattle.std.specs.Option.{option_or}
+use Rattle.lf_sqlite_pages.specs.LockPage.{lock_page_of, IsDataPage}
+use Rattle.lf_sqlite_pages.specs.Writes.{writes_of}
 use Rattle.lf_sqlite_pages.specs.Change.{PageChange, written}
 use Rattle.lf_sqlite_pages.specs.declared.page_write.PageWrite.{PageWrite}
+use Rattle.ltx_codec.specs.Sums.{sum_of_writes}
 use Rattle.ltx_codec.specs.Format.{IsHeader, IsBlock, IsPostSum}
 use Rattle.ltx_codec.specs.declared.header.Header.{Header}
 use Rattle.ltx_codec.specs.declared.file.Ltx.{Ltx}
@@ -19,13 +20,13 @@ page_past n before file =
 unfoldable pub page_of : List Ltx → ℕ → Option (List ℕ)
 page_of files n = fold (page_past n) None files
 
--- page n as a page to write, where the files leave one
-abbrev pub write_of : List Ltx → ℕ → Option PageWrite
-write_of files n = option_map (λ bytes. record { number = n; bytes = bytes }) (page_of files n)
+-- the same of data pages alone, for files of a page size
+abbrev pub data_page_of : ℕ → List Ltx → ℕ → Option (List ℕ)
+data_page_of size files n = if n == lock_page_of size then None else page_of files n
 
--- the pages up to a number that the files leave, in order
-unfoldable pub pages_of : List Ltx → ℕ → List PageWrite
-pages_of files count = filter_map (write_of files) (range_with_len 1 count)
+-- the data pages up to a number that the files leave, in order
+abbrev pub pages_of : ℕ → List Ltx → ℕ → List PageWrite
+pages_of size files count = writes_of (data_page_of size files) count
 
 -- the header: the first file's beginning, the last file's end, and no place in a WAL
 abbrev pub header_of : Ltx → Ltx → Header
@@ -43,12 +44,12 @@ header_of first last = record {
   node = last.header.node;
 }
 
--- the change: to the last file's number of pages, with what all files leave of them
+-- the change: to the last file's number of pages, with what all files leave of the data pages
 abbrev pub change_of : List Ltx → Ltx → PageChange
 change_of files last = record {
   page_size = last.header.page_size;
   commit = last.header.commit;
-  pages = pages_of files last.header.commit;
+  pages = pages_of last.header.page_size files last.header.commit;
 }
 
 -- the file that a list of files becomes
@@ -61,15 +62,17 @@ pub record Compacts (files : List Ltx) (file : Ltx) : Type 0 where
   pub change : file.change ≡ change_of files last
   pub post : file.post ≡ last.post
 
--- each page up to the change's number of pages is what the files leave there
+-- each data page up to the change's number of pages is what the files leave there
 abbrev pub HoldsWhatIsLeft : List Ltx → PageChange → Type 0
-HoldsWhatIsLeft files change = (n : ℕ) → 1 ≤ n → n ≤ change.commit → written change.pages n ≡ page_of files n
+HoldsWhatIsLeft files change =
+    (n : ℕ) → 1 ≤ n → n ≤ change.commit → IsDataPage change.page_size n → written change.pages n ≡ page_of files n
 
 -- in a snapshot the sum is that of its pages
 abbrev pub HasSnapshotSum : Ltx → Type 0
-HasSnapshotSum file = file.header.min ≡ 1 → file.post ≡ database_sum (map (λ w. w.bytes) file.change.pages)
+HasSnapshotSum file = file.header.min ≡ 1 → file.post ≡ sum_of_writes file.change.pages
 
--- a file, but that a snapshot may say another sum than that of its pages
+-- A file, but that a snapshot may say another sum than that of its pages: of what encoding asks, the rules of the
+-- header and of the page block are met, and those of the sum where a snapshot says the sum of its pages.
 pub record IsFileButSum (file : Ltx) : Type 0 where
   pub header : IsHeader file.header
   pub block : IsBlock file.header file.change

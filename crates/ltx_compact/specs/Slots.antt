@@ -1,8 +1,9 @@
 -- Slots for pages: the first is that of page 1, and so on.
-use Rattle.std.specs.Prelude.{◌≡◌, ℕ, ◌-◌, ◌≤◌, Option, Some, None, List, length, slice_index_or, nat_lt, if◌then◌else◌}
+use Rattle.std.specs.Prelude.{◌≡◌, ℕ, ◌-◌, ◌≤◌, ◌==◌, Option, Some, None, List, length, slice_index_or, nat_lt, if◌then◌else◌}
 use Rattle.std.specs.Option.{option_or, option_map, option_copied}
-use Rattle.std.specs.List.{filter_map, range_with_len}
 use Rattle.std.specs.Borrow.{Bor}
+use Rattle.lf_sqlite_pages.specs.LockPage.{lock_page_of}
+use Rattle.lf_sqlite_pages.specs.Writes.{writes_of}
 use Rattle.lf_sqlite_pages.specs.declared.page_write.PageWrite.{PageWrite}
 use Rattle.ltx_codec.specs.declared.file.Ltx.{Ltx}
 use Rattle.ltx_compact.specs.Compaction.{page_of}
@@ -33,6 +34,10 @@ pub record HoldPages (files : List Ltx) (commit : ℕ) (slots : Slots) : Type 0 
 abbrev pub page_to_write : ℕ → Option (List ℕ) → Option PageWrite
 page_to_write n page = option_map (λ bytes. record { number = n; bytes = bytes }) page
 
--- the pages up to a number that slots hold, in order
-unfoldable pub pages_in : Slots → ℕ → List PageWrite
-pages_in slots count = filter_map (λ n. page_to_write n (page_in slots n)) (range_with_len 1 count)
+-- the page in the slot of page n, where it is a data page of this page size
+abbrev pub data_page_in : ℕ → Slots → ℕ → Option (List ℕ)
+data_page_in size slots n = if n == lock_page_of size then None else page_in slots n
+
+-- the data pages up to a number that slots hold, in order
+abbrev pub pages_in : ℕ → Slots → ℕ → List PageWrite
+pages_in size slots count = writes_of (data_page_in size slots) count

@@ -10,10 +10,11 @@ use crate::leaving::change_of;
 use ltx_codec::{Header, Ltx};
 use std::alloc::Global;
 
-/// One file that does what files do that join one another. It may be encoded where it is no
-/// snapshot, or says the sum of its pages: whether the last file says the right sum is not looked
-/// at. A page that was cut off comes back as zeros, so its size is bounded by the last file's number
-/// of pages alone.
+/// One file that does what files do that join one another: its data pages are those that the files
+/// leave. Of what `encode` asks, it meets the rules of the header and of the page block, and those
+/// of the sum where it is no snapshot or says the sum of its pages: whether the last file says the
+/// right sum is not looked at. A page that was cut off comes back as zeros, so its size is bounded
+/// by the last file's number of pages alone.
 pub fn compact(alloc: Global, files: &[Ltx]) -> Result<Ltx, CompactFault>
     requires { All IsFile files.now }
     ensures ok { IfOk result (Compacts files.now) }

@@ -14,7 +14,7 @@ pub enum CompactFault {
     /// The file's first transaction does not follow the last of the file before.
     #[error("file {at} does not follow the one before it")]
     Gap { at: usize },
-    /// The file before leaves the sum `want`, and this one begins with `got`.
+    /// The file before leaves the sum `want`, and this one begins with the sum `got`.
     #[error("file {at} begins with the sum {got:016x}, and the one before it ends with {want:016x}")]
     SumGap { at: usize, want: u64, got: u64 },
     /// The file has another page size than the one before.

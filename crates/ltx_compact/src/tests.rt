@@ -211,6 +211,22 @@ fn a_page_is_cut_off_twice(rt: HostRuntime) -> Result<(), Fail> {
     expect(&rt, rt.alloc(), &files, (5, 9, 4), &[(3, 0), (4, 0)])
 }
 
+/// The lock page of 65,536 bytes is page 16,385. It is cut off, and does not come back.
+#[test]
+fn the_lock_page_is_not_held(rt: HostRuntime) -> Result<(), Fail> {
+    let wide = |txid: u64, commit: u32, page: Filled| Sample {
+        page_size: 65_536,
+        ..delta(txid, commit, [page, NONE, NONE])
+    };
+    let files = [
+        wide(5, 16_387, (16_386, 5)),
+        wide(6, 16_384, NONE),
+        wide(7, 16_387, (16_387, 7)),
+    ];
+    let pages = [(16_386, 0), (16_387, 7)];
+    expect(&rt, rt.alloc(), &files, (5, 7, 16_387), &pages)
+}
+
 fn fault_of(alloc: Global, samples: &[Sample]) -> Result<Option<CompactFault>, Fail> {
     Ok(one_of(alloc, samples)?.err())
 }

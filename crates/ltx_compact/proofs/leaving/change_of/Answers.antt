@@ -21,6 +21,6 @@ returns-clause-value c =
     let with_pages : PageChange → List PageWrite → PageChange = λ x ps. record x { pages = ps } in
     let empty : PageChange = empty_change c.args.page_size c.args.commit in
     c.in_ok-add_pages.ensures
-    ∙ ap (λ (x : PageChange). with_pages x (pages_in c.as_slice-2.result.now c.args.commit)) c.new-change.ensures
-    ∙ ap (λ (s : Slots). with_pages empty (pages_in s c.args.commit)) c.as_slice-2.ensures.value
-    ∙ ap (with_pages empty) (pages_in-held c.args.files.now c.args.commit c.in_ok-slots.slots.items c.in_ok-slots.ensures)
+    ∙ ap (λ (x : PageChange). with_pages x (pages_in x.page_size c.as_slice-2.result.now c.args.commit)) c.new-change.ensures
+    ∙ ap (λ (s : Slots). with_pages empty (pages_in c.args.page_size s c.args.commit)) c.as_slice-2.ensures.value
+    ∙ ap (with_pages empty) (pages_in-held c.args.page_size c.args.files.now c.args.commit c.in_ok-slots.slots.items c.in_ok-slots.ensures)
