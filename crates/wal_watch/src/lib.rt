@@ -19,6 +19,8 @@ mod reader;
 mod reading;
 mod scan;
 mod sums;
+#[cfg(test)]
+mod tests;
 mod writing;
 
 pub use check::WAL_LIMIT;
@@ -27,3 +29,4 @@ pub use file::WalFile;
 pub use laws::{committed_frames_say, keep_committed_frames, scans_go_on};
 pub use news::WalNews;
 pub use scan::Marks;
+pub use sums::{Sums, sums_of};

@@ -19,8 +19,8 @@ impl WalFile {
         committed_in(self.marks)
     }
 
-    /// The page size that the committed frames have.
-    pub(crate) fn page_size(&self) -> u32
+    /// The page size that the committed frames have, if there are any.
+    pub fn page_size(&self) -> u32
         ensures { 0 < committed_count (text_of self.now) → result ≡ page_size_in (text_of self.now) }
     {
         page_size_of(self.marks)

@@ -1,7 +1,7 @@
 //! The checksums of a write-ahead log (SQLite file format, section 4.2).
-ghost use Rattle.std.specs.Prelude.{◌≡◌, ◌+◌, ◌*◌, ◌≤◌, ◌<◌, ◌^◌, ℕ, length};
+ghost use Rattle.std.specs.Prelude.{◌≡◌, ◌+◌, ◌*◌, ◌/◌, ◌≤◌, ◌<◌, ◌^◌, ℕ, length};
 ghost use Rattle.lf_base.specs.FileBytes.{resized};
-ghost use Rattle.wal_watch.specs.Sums.{word_at, with_pair, with_pairs, stand_at};
+ghost use Rattle.wal_watch.specs.Sums.{word_at, no_sums, with_pair, with_pairs, stand_at};
 
 use crate::reader::fill;
 use lf_base::{be32_at, le32_at};
@@ -99,4 +99,15 @@ pub fn sums_on(blocks: &Blocks, little: bool, sums: Sums, place: usize, count: u
 {
     let mut buffer = [0; 1024];
     sums_by(blocks, little, sums, place, count, &mut buffer)
+}
+
+/// The sums of bytes, a multiple of eight, from (0, 0) on, in either byte order.
+pub fn sums_of(little: bool, bytes: &[u8]) -> Sums
+    ensures { result ≡ with_pairs little no_sums 0 bytes.now (length bytes.now / 8) }
+{
+    let start = Sums {
+        first: 0,
+        second: 0,
+    };
+    with_pairs(little, start, 0, bytes, bytes.len() / 8)
 }
