@@ -9,13 +9,13 @@ use Rattle.ltx_codec.specs.Places.{IsBroken, IsEarliest, StandsInside}
 use Rattle.ltx_codec.specs.declared.file.Ltx.{Ltx}
 use Rattle.ltx_codec.specs.declared.fault.LtxFault.{LtxFault}
 use Rattle.ltx_codec.specs.declared.fault.LtxFault.TheVariants as fault
-use Rattle.litefs_tool.specs.Files.{Applies, Refuses, Joins, after, broken, refused, last, more}
+use Rattle.litefs_tool.specs.Files.{Applies, Refuses, JoinsTo, after, broken, refused, last, more}
 use Rattle.litefs_tool.specs.declared.database.Database.{Database}
 use Rattle.litefs_tool.specs.declared.refusal.Refusal.{Refusal}
 use Rattle.litefs_tool.specs.declared.refusal.Refusal.TheVariants as refusal
 
 -- a file that joins is not refused
-joins_or_refuses : (database : Database) (file : Ltx) (why : Refusal) → Joins database file → Refuses database file why → ⊥
+joins_or_refuses : (database : Database) (file : Ltx) (why : Refusal) → JoinsTo database file → Refuses database file why → ⊥
 joins_or_refuses database file (refusal.NotNext have want) joins refuses = refuses.2 (refuses.1 ∙ joins.next ∙ sym refuses.0)
 joins_or_refuses database file refusal.PageSize joins refuses = refuses.1 joins.fits
 joins_or_refuses database file (refusal.SumDiffers want got) joins refuses = refuses.4 (refuses.2 ∙ sym joins.sum ∙ sym refuses.3)

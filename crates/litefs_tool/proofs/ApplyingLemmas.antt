@@ -1,8 +1,14 @@
 -- What the files of an input come to while they are applied, piece by piece.
 use Rattle.std.proofs.Common.{◌≡◌, ◌≢◌, ℕ, ◌<◌, ◌≤◌, ◌⊎◌, inl, inr, Bool, true, false, List, [], ◌∷◌, ◌++◌, length, take, Result, Ok, Err, IfOk, OnOk, refl, sym, subst, ap, ◌∙◌, arith, length-append, append_assoc, append-nil}
 use Rattle.std.proofs.lemmas.List.{length-take-le}
+use Rattle.page_checksum.specs.Sums.{flagged}
 use Rattle.lf_sqlite_pages.specs.Image.{DatabaseImage}
+use Rattle.lf_sqlite_pages.specs.Apply.{apply}
+use Rattle.lf_sqlite_pages.specs.Writes.{writes_of, data_writes}
 use Rattle.ltx_codec.specs.Places.{IsEarliest}
+use Rattle.ltx_codec.specs.Positions.{sum_after}
+use Rattle.ltx_codec.specs.Sums.{joined_sums}
+use Rattle.ltx_codec.proofs.SumLemmas.{flagged-twice}
 use Rattle.ltx_codec.specs.Reading.{HasBegun, IsRefusedAt}
 use Rattle.ltx_codec.specs.declared.fault.LtxFault.{LtxFault}
 use Rattle.ltx_codec.specs.declared.fault.LtxFault.TheVariants as fault
@@ -10,10 +16,9 @@ use Rattle.ltx_codec.specs.declared.file.Ltx.{Ltx}
 use Rattle.ltx_codec.specs.declared.file_reader.FileReader.{FileReader}
 use Rattle.ltx_codec.proofs.AgreeLemmas.{fault_stays_lem}
 use Rattle.ltx_codec.proofs.NumberLemmas.{found_there, found_inside}
-use Rattle.litefs_tool.specs.steps.Applying.{GoesOn, HasApplied, EndsFile, IsApplying}
-use Rattle.litefs_tool.specs.Files.{Applies, MakesOf, Refuses, Joins, after, never_written, broken, refused, last, more}
+use Rattle.litefs_tool.specs.steps.Applying.{HasSum, GoesOn, HasApplied, EndsFile, IsApplying}
+use Rattle.litefs_tool.specs.Files.{Applies, MakesOf, Refuses, JoinsTo, after, never_written, broken, refused, last, more}
 use Rattle.litefs_tool.specs.Refusal.{refusal_of}
-use Rattle.litefs_tool.specs.steps.ChangedSum.{HasSum}
 use Rattle.lf_base.specs.declared.memory.NoMemory.{NoMemory}
 use Rattle.litefs_tool.specs.declared.applying.Applying.{Applying}
 use Rattle.litefs_tool.specs.declared.applying.Applying.TheVariants.{Refused}
@@ -21,6 +26,16 @@ use Rattle.litefs_tool.specs.declared.applying.Progress.{Progress}
 use Rattle.litefs_tool.specs.declared.database.Database.{Database}
 use Rattle.litefs_tool.specs.declared.refusal.Refusal.{Refusal}
 use Rattle.litefs_tool.specs.declared.refusal.Refusal.TheVariants as refusal
+
+-- a database that was never written has the sum of no pages
+pub HasSum-never_written : HasSum never_written
+unfolding writes_of
+HasSum-never_written = refl
+
+-- a file that joins leaves a database that has its sum
+pub HasSum-after : (database now : Database) (file : Ltx) → now ≡ after database file → sum_after database.image file ≡ file.post → HasSum now
+HasSum-after database now file is sum =
+    rw is (ap flagged (sym sum) ∙ flagged-twice (joined_sums (data_writes (apply database.image file.change))))
 
 -- with a part of some bytes the unfinished is not empty
 some-behind : (unfinished part tail : List ℕ) → 0 < length part → 0 < length (unfinished ++ (part ++ tail))
@@ -50,7 +65,7 @@ HasApplied-more progress reader bytes piece so_far begun some = record {
 
 -- the file that ended joins
 pub HasApplied-joins : (progress : Progress) (now : Database) (bytes part : List ℕ) (file : Ltx) → EndsFile progress bytes part file →
-    Joins progress.database file → now ≡ after progress.database file → HasSum now →
+    JoinsTo progress.database file → now ≡ after progress.database file → HasSum now →
     HasApplied (record progress { database = now; is_first = false }) (bytes ++ part)
 HasApplied-joins progress now bytes part file ends joins is sum = record {
   unfinished = [];

@@ -126,20 +126,3 @@ MayRefuse-list bytes files (list.PageSize at) encodings why = inr (files, encodi
 -- with the right sum it is a file
 pub IsFile-by_sum : (file : Ltx) → IsFileButSum file → HasSnapshotSum file → IsFile file
 IsFile-by_sum file sound sum = record { header = sound.header; block = sound.block; post = sound.post sum }
-
--- as many numbers as pages
-length-numbers : (pages : List PageWrite) → length (map (λ w. w.number) pages) ≡ length pages
-length-numbers [] = refl
-length-numbers (w ∷ ws) = ap (λ (n : ℕ). suc n) (length-numbers ws)
-
--- a snapshot holds as many pages as the database has
-pub count-snapshot : (file : Ltx) → IsFileButSum file → file.header.min ≡ 1 → length file.change.pages ≡ file.change.commit
-count-snapshot file sound snapshot =
-    sym (length-numbers file.change.pages) ∙ ap length (sound.block.snapshot_pages snapshot) ∙ length-range_with_len 1 file.change.commit
-
--- the bytes of a page that was read
-pub page-read : (pages : List PageWrite) (k : ℕ) (page : PageWrite) (bytes : List ℕ) → k < length pages → page ≡ get_or pages k page →
-    bytes ≡ page.bytes → slice_get (map (λ w. w.bytes) pages) k ≡ Some bytes
-page-read pages k page bytes within read same =
-    let get : Option PageWrite → Option (List ℕ) = λ o. option_map (λ w. w.bytes) o in
-    slice_get-map (λ (w : PageWrite). w.bytes) pages k ∙ ap get (slice_get_read pages (length pages) k page refl within read) ∙ ap Some (sym same)

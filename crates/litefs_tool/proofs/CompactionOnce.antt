@@ -3,10 +3,10 @@ use Rattle.std.proofs.Common.{◌≡◌, ℕ, ◌-◌, ◌<◌, ◌≤◌, ◌�
 use Rattle.std.specs.List.{slice_get}
 use Rattle.std.proofs.lemmas.Bool.{cases_lt}
 use Rattle.std.proofs.lemmas.Option.{slice_get_within}
-use Rattle.page_checksum.specs.Sums.{database_sum}
 use Rattle.lf_sqlite_pages.specs.Change.{PageChange}
 use Rattle.ltx_codec.specs.Fields.{AreBytes}
 use Rattle.ltx_codec.specs.Format.{file_text, no_meaning}
+use Rattle.ltx_codec.specs.Sums.{sum_of_writes}
 use Rattle.ltx_codec.specs.Places.{IsBroken, IsEarliest, StandsInside}
 use Rattle.ltx_codec.specs.declared.file.Ltx.{Ltx}
 use Rattle.ltx_codec.specs.declared.header.Header.{Header}
@@ -229,7 +229,7 @@ module _ (reading : OneReading) (sound : BreaksNoRule) (one_fault : OneFault) wh
   sums_once bytes want got wants gets small one two =
       let same : one.0 ≡ two.0 = become_once bytes one.0 two.0 small one.1 two.1 in
       let want_same : want ≡ wants = one.2.want_is ∙ ap (λ (x : Ltx). x.post) same ∙ sym two.2.want_is in
-      let got_same : got ≡ gets = one.2.got_is ∙ ap (λ (x : Ltx). database_sum (map (λ w. w.bytes) x.change.pages)) same ∙ sym two.2.got_is in
+      let got_same : got ≡ gets = one.2.got_is ∙ ap (λ (x : Ltx). sum_of_writes x.change.pages) same ∙ sym two.2.got_is in
       cc
 
   pub one_compaction-of : (bytes : List ℕ) (answer other : Result (List ℕ) CompactRefusal) → AreBytes bytes → CompactsTo bytes answer → CompactsTo bytes other → answer ≡ other

@@ -1,12 +1,10 @@
 pub mod AnswerLemmas
 pub mod ApplyingLemmas
-pub mod ChangedSumLemmas
 pub mod CompactionLemmas
 pub mod CompactionOnce
+pub mod FileLemmas
+pub mod GatherLemmas
 pub mod InputLemmas
 pub mod OutputLemmas
-pub mod PageLemmas
 pub mod PerformLemmas
-pub mod SumLemmas
 pub mod ConsumerLemmas
-pub mod WholeChange

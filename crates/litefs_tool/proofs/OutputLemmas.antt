@@ -1,17 +1,17 @@
 -- A sink that takes bytes in several calls.
-use Rattle.std.proofs.Common.{◌≡◌, ℕ, ◌+◌, ◌≤◌, List, [], ◌∷◌, ◌++◌, Option, Some, Result, Ok, Err, OnErr, IfErr, take, drop, arith, sym, ap, ◌∙◌, append_assoc, append-nil}
-use Rattle.std.proofs.Math.Seq.{take-add}
+use Rattle.std.proofs.Common.{◌≡◌, ℕ, ◌+◌, ◌<◌, ◌≤◌, List, [], ◌∷◌, ◌++◌, Option, Some, Result, Ok, Err, OnErr, IfErr, length, get_or, take, drop, refl, arith, sym, ap, ◌∙◌, add-one, append_assoc, append-nil}
+use Rattle.std.proofs.Math.Seq.{take-add, drop-cons}
 use Rattle.std.specs.Io.KnownBytes.{Appends}
 use Rattle.std.specs.List.{concat, slice_get}
 use Rattle.std.specs.Result.{IsErrAnd}
 use Rattle.std.proofs.KnownBytes.{Appends-trans}
 use Rattle.std.proofs.lemmas.List.{take-append-drop}
 use Rattle.std.proofs.lemmas.List.Folds.{concat-append}
+use Rattle.std.proofs.lemmas.Option.{slice_get_within, get_or_from_slice_get}
 use Rattle.std.proofs.lemmas.Bool.Decides.{nat_tests}
 use Rattle.lf_sqlite_pages.specs.PageSize.{IsPageSize, is_page_size}
 use Rattle.litefs_tool.specs.Output.{AppendsPrefix}
 use Rattle.litefs_tool.specs.steps.Buffer.{AppendsAllBut}
-use Rattle.litefs_tool.proofs.PageLemmas.{drop-page}
 
 -- some bytes were taken whole, and then a prefix of more
 pub AppendsPrefix-after : (a b c : Option (List ℕ)) (bytes more all : List ℕ) → all ≡ bytes ++ more → Appends a b bytes → AppendsPrefix b c more → AppendsPrefix a c all
@@ -46,6 +46,13 @@ pub AppendsPrefix-held : (a b c : Option (List ℕ)) (bytes held more all : List
 AppendsPrefix-held a b c bytes held more all so_far prefix is =
     let split : all ≡ so_far.0 ++ (held ++ more) = is ∙ ap (λ l. l ++ more) so_far.1 ∙ append_assoc so_far.0 held more in
     AppendsPrefix-middle a b c so_far.0 held more all split so_far.2 prefix
+
+-- the pages from one on: that page, and those after it
+drop-page : (pages : List (List ℕ)) (k : ℕ) (page : List ℕ) → slice_get pages k ≡ Some page → drop k pages ≡ page ∷ drop (k + 1) pages
+drop-page pages k page found =
+    let within : k < length pages = slice_get_within pages k page found in
+    let here : get_or pages k page ≡ page = get_or_from_slice_get pages k page page found in
+    rw (add-one, drop-cons pages k page within, here) refl
 
 -- the bytes of the pages up to one, and those after it
 pub concat-split : (pages : List (List ℕ)) (k : ℕ) → concat pages ≡ concat (take k pages) ++ concat (drop k pages)

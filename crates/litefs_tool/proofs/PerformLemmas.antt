@@ -1,11 +1,14 @@
 -- What a command comes to where it doesn't come to write, or doesn't write all.
 use Rattle.std.proofs.Common.{◌≡◌, ℕ, List, [], Option, Result, Ok, Err, ◌⊎◌, inl, inr, refl}
 use Rattle.std.specs.Result.{IsErrAnd}
+use Rattle.std.specs.Io.KnownBytes.{Appends}
 use Rattle.std.proofs.KnownBytes.{Appends-nil}
 use Rattle.lf_base.specs.declared.status.Status.TheVariants as status
 use Rattle.lf_sqlite_pages.specs.Image.{DatabaseImage, image_bytes}
 use Rattle.litefs_tool.specs.Command.{WritesFor, RefusesBy}
-use Rattle.litefs_tool.specs.Compaction.{MayRefuse}
+use Rattle.ltx_codec.specs.Format.{IsFile, file_text, no_meaning}
+use Rattle.ltx_codec.specs.declared.file.Ltx.{Ltx}
+use Rattle.litefs_tool.specs.Compaction.{MayRefuse, Become}
 use Rattle.litefs_tool.specs.Files.{MakesOf}
 use Rattle.litefs_tool.specs.Output.{AppendsPrefix}
 use Rattle.litefs_tool.specs.Run.{Stream, Gives, Holds, Fails, CommandOutcome, input_limit}
@@ -76,6 +79,15 @@ Stops-compact bytes why may = elim may [ inl memory ↦ cc | inr refuses ↦ inr
 pub WritesFor-apply : (bytes : List ℕ) (image : DatabaseImage) → MakesOf bytes (Ok image) → WritesFor Apply bytes (image_bytes image)
 WritesFor-apply bytes image makes = elim makes [ inl memory ↦ absurd (cc) | inr applies ↦ (image, applies, refl) ]
 
+-- the one file is written by its encoding
+pub WritesFor-compact : (bytes : List ℕ) (file : Ltx) → Become bytes file → IsFile file → WritesFor Compact bytes (file_text file no_meaning)
+WritesFor-compact bytes file become valid = record {
+  file = file;
+  become = become;
+  encoding = refl;
+  is_file = record { valid = valid; reserved = no_meaning; room = refl; text = refl };
+}
+
 -- the input was read whole, and the command ends before it writes
 pub Performs-stopped : (command : Command) (input : Stream) (taken : Option (List ℕ)) (count : ℕ) (bytes : List ℕ) (why : Failure)
     (result : Result (Unit {0}) Failure) → ReadsWhole input_limit input.bytes input.bytes_after bytes → Holds input → Stops command bytes why →
@@ -108,3 +120,14 @@ Performs-unwritten command input output bytes written result whole holds writes 
       record { reads = whole.read; writes = prefix.2; read_to_end = whole.to_the_end; cause = (holds, fails) },
       (written, whole.within, writes, prefix.1),
     )
+
+-- it was
+pub Performs-written : (command : Command) (input output : Stream) (bytes written : List ℕ) →
+    ReadsWhole input_limit input.bytes input.bytes_after bytes → Holds input → WritesFor command bytes written →
+    Appends output.bytes output.bytes_after written → Holds output → Performs (CommandOutcome command) input output (Ok tt)
+Performs-written command input output bytes written whole holds writes appends kept = (
+  bytes,
+  written,
+  record { reads = whole.read; writes = appends; read_to_end = whole.to_the_end; cause = (holds, kept) },
+  (whole.within, writes),
+)

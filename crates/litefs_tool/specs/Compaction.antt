@@ -1,7 +1,7 @@
 -- What compacting the LTX files in some bytes comes to.
-use Rattle.std.specs.Prelude.{◌≡◌, ◌≢◌, ℕ, ◌<◌, ◌⊎◌, List, [], ◌∷◌, ◌++◌, length, map, Result, Ok, Err}
-use Rattle.page_checksum.specs.Sums.{database_sum}
+use Rattle.std.specs.Prelude.{◌≡◌, ◌≢◌, ℕ, ◌<◌, ◌⊎◌, List, [], ◌∷◌, ◌++◌, length, Result, Ok, Err}
 use Rattle.ltx_codec.specs.Format.{IsLtx, file_text, no_meaning}
+use Rattle.ltx_codec.specs.Sums.{sum_of_writes}
 use Rattle.ltx_codec.specs.Places.{IsEarliest, StandsInside}
 use Rattle.ltx_codec.specs.declared.fault.LtxFault.{LtxFault}
 use Rattle.ltx_codec.specs.declared.file.Ltx.{Ltx}
@@ -40,7 +40,7 @@ pub record Become (bytes : List ℕ) (file : Ltx) : Type 0 where
 pub record SaysOtherSum (file : Ltx) (want got : ℕ) : Type 0 where
   pub snapshot : file.header.min ≡ 1
   pub want_is : want ≡ file.post
-  pub got_is : got ≡ database_sum (map (λ w. w.bytes) file.change.pages)
+  pub got_is : got ≡ sum_of_writes file.change.pages
   pub differ : want ≢ got
 
 -- why the files in the bytes do not become one

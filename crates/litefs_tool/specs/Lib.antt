@@ -3,7 +3,6 @@ pub mod CompactRefusal
 pub mod Compaction
 pub mod Files
 pub mod Output
-pub mod Position
 pub mod Refusal
 pub mod Run
 pub mod steps

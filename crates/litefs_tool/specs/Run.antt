@@ -46,7 +46,7 @@ Holds stream = stream.faults_after ≡ stream.faults
 
 -- the longest input that is read
 abbrev pub input_limit : ℕ
-input_limit = 67108864
+input_limit = 2147483648
 
 -- the input is no longer than that
 abbrev pub IsWithin : List ℕ → Type 0

@@ -1,7 +1,6 @@
 -- Definitions that follow the code's steps. No public contract cites them.
 pub mod Applying
 pub mod Buffer
-pub mod ChangedSum
 pub mod Failure
 pub mod Gathering
 pub mod Input

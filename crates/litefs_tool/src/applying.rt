@@ -1,11 +1,10 @@
 //! LTX files that are applied as their bytes come.
 ghost use Rattle.std.specs.Prelude.{◌≡◌, ◌≢◌, ◌<◌, ◌≤◌, ◌++◌, List, ℕ, [], length, take, IfOk, IfErr, OnOk};
 ghost use Rattle.ltx_codec.specs.Format.{IsFile};
-ghost use Rattle.litefs_tool.specs.steps.Applying.{HasApplied, EndsFile, IsApplying};
+ghost use Rattle.litefs_tool.specs.steps.Applying.{HasSum, HasApplied, EndsFile, IsApplying};
 ghost use Rattle.litefs_tool.specs.Files.{MakesOf};
-ghost use Rattle.litefs_tool.specs.steps.ChangedSum.{HasSum};
 
-use crate::consumer::{Consumer, consume_all};
+use crate::input::{Consumer, consume_all};
 use crate::database::Database;
 use crate::refusal::Refusal;
 use lf_base::NoMemory;

@@ -1,17 +1,13 @@
 //! A database while LTX files are applied to it, one after another.
-ghost use Rattle.std.specs.Prelude.{◌≡◌, ◌≤◌, ◌↔◌, ◌⊎◌, IsTrue, IfOk, OnOk, IfErr};
-ghost use Rattle.lf_sqlite_pages.specs.Change.{HoldsEveryPage};
-ghost use Rattle.lf_sqlite_pages.specs.Apply.{Fits};
+ghost use Rattle.std.specs.Prelude.{◌≡◌, ◌⊎◌, IfOk, OnOk, IfErr};
 ghost use Rattle.ltx_codec.specs.Format.{IsFile};
-ghost use Rattle.litefs_tool.specs.Position as position;
-ghost use Rattle.litefs_tool.specs.Files.{never_written, Joins, after, Refuses};
-ghost use Rattle.litefs_tool.specs.steps.ChangedSum.{HasSum};
+ghost use Rattle.litefs_tool.specs.Files.{never_written, JoinsTo, after, Refuses};
+ghost use Rattle.litefs_tool.specs.steps.Applying.{HasSum};
 
-use crate::changed_sum::sum_after;
 use crate::refusal::Refusal;
 use lf_base::Pos;
-use lf_sqlite_pages::{Change, Image};
-use ltx_codec::Ltx;
+use lf_sqlite_pages::Image;
+use ltx_codec::{Ltx, sum_after};
 use std::alloc::Global;
 
 /// A database and its position.
@@ -37,64 +33,27 @@ impl Database {
     pub fn apply(self, alloc: Global, file: Ltx) -> Result<Database, Refusal>
         requires valid { IsFile file }
         requires sum { HasSum self }
-        ensures joins { OnOk result (Joins self file) }
+        ensures joins { OnOk result (JoinsTo self file) }
         ensures ok { IfOk result (λ database. database ≡ after self file) }
         ensures sum { IfOk result HasSum }
         ensures refused { IfErr result (λ why. (why ≡ Refusal.NoMemory) ⊎ Refuses self file why) }
     {
         let have = self.pos;
-        let want = position_before(&file);
+        let want = file.before();
         if want != have {
             return Err(Refusal::NotNext { have, want });
         }
-        if !fits(&self.image, &file.change) {
+        if !self.image.fits(&file.change) {
             return Err(Refusal::PageSize);
         }
         let want = file.post;
-        let got = sum_after(alloc, &self, &file)?;
+        let got = sum_after(alloc, self.pos.sum, &self.image, &file)?;
         if want != got {
             return Err(Refusal::SumDiffers { want, got });
         }
-        let pos = position_after(&file);
+        let pos = file.after();
         let Database { image, pos: _ } = self;
         let image = image.after(file.change)?;
         Ok(Database { image, pos })
     }
-}
-
-/// The position that a file follows.
-fn position_before(file: &Ltx) -> Pos
-    requires { 1 ≤ file.now.header.min }
-    ensures { result ≡ position.before file.now }
-{
-    Pos {
-        txid: file.header.min - 1,
-        sum: file.header.pre,
-    }
-}
-
-/// The position that a file leads to.
-fn position_after(file: &Ltx) -> Pos
-    ensures { result ≡ position.after file.now }
-{
-    Pos {
-        txid: file.header.max,
-        sum: file.post,
-    }
-}
-
-/// Whether a change can be applied to an image: the page sizes are equal, or no page of the image is
-/// left in place.
-fn fits(image: &Image, change: &Change) -> bool
-    ensures { IsTrue result ↔ Fits image.now change.now }
-{
-    image.page_size() == change.page_size() || image.commit() == 0 || holds_every_page(change)
-}
-
-/// Whether a change writes each page from 1 to its last. As its numbers ascend, it does where it
-/// has that many.
-fn holds_every_page(change: &Change) -> bool
-    ensures { IsTrue result ↔ HoldsEveryPage change.now }
-{
-    change.pages().len() == change.commit() as usize
 }

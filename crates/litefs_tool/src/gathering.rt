@@ -5,7 +5,7 @@ ghost use Rattle.litefs_tool.specs.Compaction.{AreEncodings, MayRefuse};
 ghost use Rattle.litefs_tool.specs.steps.Gathering.{HasGathered, EndsOneMore, IsGathering};
 
 use crate::compact_refusal::CompactRefusal;
-use crate::consumer::Consumer;
+use crate::input::Consumer;
 use lf_base::NoMemory;
 use ltx_codec::{FileReader, Ltx, LtxFault};
 use std::alloc::Global;

@@ -5,13 +5,12 @@
 #![tactic(auto)]
 
 mod applying;
-mod changed_sum;
 mod command;
 mod compact_refusal;
 mod compaction;
-mod consumer;
 mod database;
 mod failure;
+mod file_output;
 mod gathering;
 mod input;
 mod laws;

@@ -26,7 +26,7 @@ pub fn write_whole<S: Sink>(sink: &mut S, bytes: &[u8]) -> Result<(), Failed>
 }
 
 /// How many bytes of pages are gathered before they are written.
-const BUFFER: usize = 131_072;
+pub const BUFFER: usize = 131_072;
 
 /// An empty buffer for pages.
 pub fn new_buffer(alloc: Global) -> Result<Vec<u8>, NoMemory>
@@ -48,24 +48,24 @@ pub fn write_image<S: Sink>(sink: &mut S, image: &Image, buffer: &mut Vec<u8>) -
     let mut number = 0;
     while number < image.commit() {
         number += 1;
-        add_page(sink, image.page(number), buffer)?;
+        add_bytes(sink, image.page(number), buffer)?;
     }
     let rest = buffer.as_slice();
     write_whole(sink, rest)
 }
 
-/// Puts a page behind those in the buffer. Where it has no room, they are written first.
-fn add_page<S: Sink>(sink: &mut S, page: &[u8], buffer: &mut Vec<u8>) -> Result<(), Failed>
-    requires fits { length page.now ≤ vec_capacity buffer.old }
-    ensures whole { OnOk result (AppendsAllBut (S.taken sink.old) (S.taken sink.new) (buffer.old.items ++ page.now) buffer.new.items) }
+/// Puts bytes behind those in the buffer. Where it has no room, those are written first.
+pub fn add_bytes<S: Sink>(sink: &mut S, bytes: &[u8], buffer: &mut Vec<u8>) -> Result<(), Failed>
+    requires fits { length bytes.now ≤ vec_capacity buffer.old }
+    ensures whole { OnOk result (AppendsAllBut (S.taken sink.old) (S.taken sink.new) (buffer.old.items ++ bytes.now) buffer.new.items) }
     ensures prefix { OnErr result (AppendsPrefix (S.taken sink.old) (S.taken sink.new) buffer.old.items) }
     ensures cause { CountsFaults (S.faults sink.old) (S.faults sink.new) result }
     ensures room { vec_capacity buffer.old ≤ vec_capacity buffer.new }
 {
-    if buffer.capacity() - buffer.len() < page.len() {
+    if buffer.capacity() - buffer.len() < bytes.len() {
         write_whole(sink, buffer.as_slice())?;
         buffer.clear();
     }
-    buffer.extend_from_slice(page).unwrap();
+    buffer.extend_from_slice(bytes).unwrap();
     Ok(())
 }

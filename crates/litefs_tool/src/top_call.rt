@@ -4,17 +4,18 @@ ghost use Rattle.litefs_tool.specs.steps.Performing.{Performs};
 
 use crate::applying::Applying;
 use crate::command::{Command, read_arguments};
-use crate::compaction::encoding_of_one;
+use crate::compaction::one_file;
 use crate::failure::Failure;
+use crate::file_output::write_file;
 use crate::gathering::Gathering;
 use crate::input::read_to_end;
-use crate::output::{new_buffer, write_image, write_whole};
+use crate::output::{new_buffer, write_image};
 use crate::report::report;
 use lf_base::{Sink, Source, Status, Text};
 use std::alloc::Global;
 
 /// The longest input that is read, in bytes.
-const INPUT_LIMIT: usize = 67_108_864;
+const INPUT_LIMIT: usize = 2_147_483_648;
 
 /// What a run of the program reads from, writes to, and says its failure on.
 #[derive(Drop)]
@@ -81,7 +82,8 @@ fn compact<I: Source, O: Sink>(alloc: Global, input: &mut I, output: &mut O) -> 
     ensures { Performs (CommandOutcome Command.Compact) (stream I.left I.faults input.old input.new) (stream O.taken O.faults output.old output.new) result }
 {
     let gathering = read_to_end(alloc, input, INPUT_LIMIT, Gathering::new(alloc)?)?;
-    let encoding = encoding_of_one(alloc, gathering.finish()?)?;
-    write_whole(output, encoding.as_slice())?;
+    let file = one_file(alloc, gathering.finish()?)?;
+    let mut buffer = new_buffer(alloc)?;
+    write_file(output, &file, &mut buffer)?;
     Ok(())
 }

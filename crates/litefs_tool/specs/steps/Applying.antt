@@ -1,16 +1,21 @@
 -- LTX files applied as their bytes come.
 use Rattle.std.specs.Prelude.{◌≡◌, ℕ, ◌<◌, ◌⊎◌, Bool, true, false, List, [], ◌++◌, length, Result, Ok, Err}
+use Rattle.page_checksum.specs.Sums.{flagged}
 use Rattle.lf_sqlite_pages.specs.Image.{DatabaseImage}
 use Rattle.ltx_codec.specs.Format.{IsLtx}
 use Rattle.ltx_codec.specs.Reading.{HasBegun}
+use Rattle.ltx_codec.specs.Sums.{image_sum}
 use Rattle.ltx_codec.specs.declared.file.Ltx.{Ltx}
 use Rattle.litefs_tool.specs.Files.{Applies, never_written}
-use Rattle.litefs_tool.specs.steps.ChangedSum.{HasSum}
 use Rattle.litefs_tool.specs.declared.applying.Applying.{Applying}
 use Rattle.litefs_tool.specs.declared.applying.Applying.TheVariants.{Sound, Refused}
 use Rattle.litefs_tool.specs.declared.applying.Progress.{Progress}
 use Rattle.litefs_tool.specs.declared.database.Database.{Database}
 use Rattle.litefs_tool.specs.declared.refusal.Refusal.{Refusal}
+
+-- the position says the sum of the image, bit 63 aside
+abbrev pub HasSum : Database → Type 0
+HasSum database = flagged database.pos.sum ≡ image_sum database.image
 
 -- what the bytes of an unfinished file come to for the database, all bytes so far come to for one never written, whatever follows
 abbrev pub GoesOn : Database → Bool → List ℕ → List ℕ → Type 0

@@ -28,11 +28,11 @@ fn limit_of_the_input(rt: HostRuntime) -> Result<(), Fail> {
     let arguments = arguments(alloc, &["apply"])?;
     for (length, status, line) in [
         (
-            67_108_864,
+            2_147_483_648,
             Status::InputRefused,
             "litefs: input refused: Magic\n",
         ),
-        (67_108_865, Status::Limit, "litefs: limit reached\n"),
+        (2_147_483_649, Status::Limit, "litefs: limit reached\n"),
     ] {
         let mut host = Host {
             input: Bytes(length),

@@ -1,6 +1,6 @@
 use Rattle.std.proofs.Common.{length}
 use Rattle.litefs_tool.proofs.ConsumerLemmas.{HasConsumedPrefix}
-use Rattle.litefs_tool.proofs.consumer.consume_all.Given as goal
+use Rattle.litefs_tool.proofs.input.consume_all.Given as goal
 
 -- a prefix of the bytes was taken
 abbrev pub invariant-loop-rest : goal.invariant-loop-rest

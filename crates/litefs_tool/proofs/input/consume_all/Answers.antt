@@ -1,5 +1,5 @@
 use Rattle.litefs_tool.proofs.ConsumerLemmas.{HasConsumedPrefix-more}
-use Rattle.litefs_tool.proofs.consumer.consume_all.Goals as goal
+use Rattle.litefs_tool.proofs.input.consume_all.Goals as goal
 
 pub loop-rest-preserved : goal.loop-rest-preserved
 loop-rest-preserved g c = rw c.split_at.ensures.back (HasConsumedPrefix-more g.T.Consumer.has_consumed c.args.consumer c.loop-rest.consumer c.in_ok-next.next
