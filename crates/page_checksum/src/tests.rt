@@ -21,6 +21,23 @@ fn sums_of_empty_pages(rt: HostRuntime) {
     assert_eq!(rt; page_sum(2, &page), 0xef63_e89f_ecd9_9000);
 }
 
+/// A table of two zero pages, then of the first alone, and of none.
+#[test]
+fn table_of_two_pages(rt: HostRuntime) -> Result<(), Fail> {
+    let page = [0u8; 512];
+    let mut sums = Sums::new(rt.alloc());
+    sums.reserve(2)?;
+    sums.resize(2);
+    sums.set(1, page_sum(1, &page));
+    sums.set(2, page_sum(2, &page));
+    assert_eq!(rt; sums.total(), 0x80d2_1cd0_0000_0000);
+    sums.resize(1);
+    assert_eq!(rt; sums.total(), 0xefb1_f44f_ecd9_9000);
+    sums.resize(0);
+    assert_eq!(rt; sums.total(), 1 << 63);
+    Ok(())
+}
+
 /// The blocks and tables as they run, beside the definition's plain program.
 #[test]
 fn blocks_and_tables_beside_bits(rt: HostRuntime) -> Result<(), Fail> {
