@@ -193,10 +193,10 @@ read_into-count at n bytes buffer count = elim (cases_lt (length bytes - at) (le
       let all : n ≡ length bytes - at = omega arith in
       ap (λ (k : ℕ). take k (drop at bytes) ++ drop k buffer) all
       ∙ ap (λ (l : List ℕ). l ++ drop (length bytes - at) buffer)
-        (take_all (length bytes - at) (drop at bytes) (omega (arith, length-drop at bytes)) ∙ sym (take_all (length buffer) (drop at bytes) (omega (arith, length-drop at bytes))))
+      (take_all (length bytes - at) (drop at bytes) (omega (arith, length-drop at bytes)) ∙ sym (take_all (length buffer) (drop at bytes) (omega (arith, length-drop at bytes))))
   | inr full ↦
       let all : n ≡ length buffer = omega arith in
       ap (λ (k : ℕ). take k (drop at bytes) ++ drop k buffer) all
       ∙ ap (λ (l : List ℕ). take (length buffer) (drop at bytes) ++ l)
-        (drop_all (length buffer) buffer (omega arith) ∙ sym (drop_all (length bytes - at) buffer (omega arith)))
+      (drop_all (length buffer) buffer (omega arith) ∙ sym (drop_all (length bytes - at) buffer (omega arith)))
 ]

@@ -1,5 +1,5 @@
 -- What a crash leaves by a number tells of the files alone, and not of how they are kept.
-use Rattle.std.proofs.Common.{◌≡◌, ℕ, ◌+◌, ◌/◌, Bool, true, false, List, [], ◌∷◌, length, take, cond, Some, None}
+use Rattle.std.proofs.Common.{ℕ, ◌/◌, Bool, List, [], ◌∷◌, length, take, cond, Some, None}
 use Rattle.lf_base.specs.FileBytes.{resized}
 use Rattle.lf_disk.specs.declared.record.Call.{Call}
 use Rattle.lf_disk.specs.declared.record.Change.{Change}

@@ -1,10 +1,7 @@
 -- What a crash leaves beside one file that is edited, and where that file gets a name.
-use Rattle.std.proofs.Common.{◌≡◌, inl, inr, ℕ, ◌+◌, List, [], ◌++◌, length, Some, ◌∙◌, ap}
+use Rattle.std.proofs.Common.{◌≡◌, inl, inr, ℕ, List, Some, ◌∙◌}
 use Rattle.std.proofs.lemmas.Bool.{cases_Bool}
-use Rattle.std.proofs.lemmas.List.{append-nil}
-use Rattle.std.proofs.Math.Seq.{drop-nil}
 use Rattle.lf_disk.specs.declared.name.FileName.{FileName}
-use Rattle.lf_base.specs.FileBytes.{overwritten}
 use Rattle.lf_disk.specs.Folder.{Folder, same_name, with_file, SameBut}
 use Rattle.lf_disk.specs.Change.{Edit, Step, OnFile, Perhaps, Renames}
 use Rattle.lf_disk.specs.History.{History, may_leave, Moves}

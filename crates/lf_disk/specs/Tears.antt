@@ -1,7 +1,6 @@
 -- What a whole write or cut, a part of one, or none of it makes of a file is what a crash may.
-use Rattle.std.specs.Prelude.{◌≡◌, ℕ, ◌+◌, ◌-◌, ◌<◌, ◌≤◌, min, max, List, ◌++◌, length, take, drop, replicate, slice_index, refl}
-use Rattle.std.proofs.Common.{◌∙◌, ap, arith, length-append, length-take, length-drop, get_or-take, get_or-drop}
-use Rattle.std.proofs.lemmas.List.{get_or_append_left, get_or-append_right, length-replicate}
+use Rattle.std.specs.Prelude.{ℕ, ◌≤◌, min, max, List, length, refl}
+use Rattle.std.proofs.Common.{arith}
 use Rattle.lf_base.specs.FileBytes.{resized, overwritten}
 use Rattle.lf_base.proofs.FileLemmas.{length-resized, length-overwritten, get_or-resized, overwritten_before, overwritten_behind}
 use Rattle.lf_disk.specs.Change.{Torn, Cropped}

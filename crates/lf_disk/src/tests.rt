@@ -2,6 +2,7 @@ mod crashes;
 
 use crate::{DirDisk, Disk, FileName, ListFault, MemDisk};
 use lf_base::Failed;
+use std::alloc::Global;
 use std::fs;
 use std::process::Abort;
 use std::test::Fail;
@@ -54,6 +55,59 @@ fn a_disk_in_memory(rt: HostRuntime) {
     assert!(&rt; write_and_read(&rt, &mut disk).is_ok());
     assert!(&rt; name_and_remove(&rt, &mut disk).is_ok());
     assert!(&rt; list_only(&rt, &mut disk, LTX).is_ok());
+    assert_eq!(&rt; (disk.calls(), disk.short()), (17, 0));
+}
+
+/// Bytes of which no two neighbours are the same.
+fn many(alloc: Global) -> Option<Vec<u8>> {
+    let mut bytes = Vec::new(alloc);
+    for at in 0..50_000u32 {
+        bytes.push((at % 251) as u8).ok()?;
+    }
+    Some(bytes)
+}
+
+/// Reads what was written from offset 3 on, in parts, and answers how many bytes are as they were.
+fn reads_back<D: Disk>(disk: &mut D, bytes: &[u8]) -> Result<usize, Failed> {
+    let mut same = 0usize;
+    let mut out = [0u8; 4096];
+    for (part, want) in bytes.chunks(4096).enumerate() {
+        let at = 3 + (part as u64).saturating_mul(4096);
+        let count = disk.read(DATABASE, at, &mut out)?;
+        if out[..count.min(4096)].starts_with(want) {
+            same = same.saturating_add(want.len());
+        }
+    }
+    Ok(same)
+}
+
+/// A large file is whole, names that are none are not listed, and what cannot be opened fails.
+#[test]
+fn a_folder_with_others(rt: HostRuntime) -> Result<(), Fail> {
+    let _ = fs::remove_dir_all(&rt, "lf_disk_others");
+    let mut disk = DirDisk::open(rt, "lf_disk_others/x").expect(&rt, "a folder");
+    let bytes = many(rt.alloc()).ok_or("memory")?;
+    assert_eq!(&rt; disk.write(DATABASE, 3, bytes.as_slice()), Ok(()));
+    assert_eq!(&rt; disk.size(DATABASE), Ok(Some(50_003)));
+    assert_eq!(&rt; reads_back(&mut disk, bytes.as_slice()), Ok(50_000));
+    assert_eq!(&rt; disk.remove(DATABASE), Ok(()));
+
+    for name in [
+        "lf_disk_others/x/ltx/0000000000000001-000000000000001A.ltx",
+        "lf_disk_others/x/ltx/1-1a.ltx",
+        "lf_disk_others/x/ltx/0000000000000001-000000000000001a.tmp",
+        "lf_disk_others/x/other",
+    ] {
+        fs::write(&rt, name, b"x")?;
+    }
+    assert_eq!(&rt; disk.write(FileName::Dropped, 0, b""), Ok(()));
+    assert!(&rt; list_only(&rt, &mut disk, FileName::Dropped).is_ok());
+
+    fs::create_dir(&rt, "lf_disk_others/x/staged")?;
+    assert_eq!(&rt; disk.write(STAGED, 0, b"s"), Err(Failed));
+    assert!(&rt; DirDisk::open(rt, "lf_disk_others/x/other").is_err());
+    fs::remove_dir_all(&rt, "lf_disk_others")?;
+    Ok(())
 }
 
 const FOLDER: &str = "lf_disk_test/dbs/x";
