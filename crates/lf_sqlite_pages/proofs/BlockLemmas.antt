@@ -314,7 +314,7 @@ ready-push blocks ready longer block from n size order is before own m low high 
         | inr blank ↦
             let none : m - from - length ready ≡ 0 = omega arith in
             inr (subst IsBlank (sym (ap (λ (bs : List (List ℕ)). get_or bs (m - from) []) is ∙ get_or-append_right ready (block ∷ []) (length ready) (m - from) [] refl (omega arith)
-                ∙ ap (λ (k : ℕ). get_or (block ∷ []) k []) none)) blank)
+            ∙ ap (λ (k : ℕ). get_or (block ∷ []) k []) none)) blank)
       ]
 ]
 

@@ -80,14 +80,14 @@ module _ (old mid new ready left : List (List ℕ)) (len at first : ℕ) (piece 
   written-back start count saved start-is count-is is =
       taken-back len start saved (bytes_in (max len (at + length piece)) new) (bytes_in len old) (length-bytes_in len old)
       (λ i low less. get_or-bytes_in (max len (at + length piece)) new i (omega (arith, less)) ∙ put.before i (omega (arith, low, start-is)) ∙ filled.bytes i
-          ∙ sym (get_or-bytes_in len old i less))
+      ∙ sym (get_or-bytes_in len old i less))
       (λ i from under.
       let inside : i - start < count = omega (arith, from, under, is.size) in
       let back : start + (i - start) ≡ i = omega (arith, from) in
       is.each (i - start) inside ∙ ap (λ (k : ℕ). byte_in mid k) back ∙ filled.bytes i
-          ∙ sym (get_or-bytes_in len old i (omega (arith, inside, from, count-is))))
+      ∙ sym (get_or-bytes_in len old i (omega (arith, inside, from, count-is))))
       (λ i past less. get_or-bytes_in (max len (at + length piece)) new i (omega (arith, less)) ∙ put.behind i (omega (arith, past, less, start-is, count-is, is.size)) ∙ filled.bytes i
-          ∙ sym (get_or-bytes_in len old i less))
+      ∙ sym (get_or-bytes_in len old i less))
 
 -- cut to a length
 pub cut-bytes : (old new ready left : List (List ℕ)) (len at first : ℕ) → IsTable old len → IsCut old first ready at new left → bytes_in at new ≡ resized at (bytes_in len old)

@@ -142,11 +142,7 @@ impl Blocks {
         ensures ok { OnOk result (self.new ≡ record self.old { room = record { from = from; to = to } }) }
         ensures err { OnErr result (self.new ≡ self.old) }
     {
-        let end = if from < to {
-            table::blocks_in(to)
-        } else {
-            0
-        };
+        let end = if from < to { table::blocks_in(to) } else { 0 };
         let alloc = *self.blocks.allocator();
         let ready = table::blanks(alloc, self.blocks.as_slice(), from / BLOCK_SIZE, end)?;
         self.blocks.reserve(end.saturating_sub(self.blocks.len()))?;

@@ -32,4 +32,3 @@ none_changed old new (inl other) changed = other changed.0
 none_changed old new (inr none) changed =
     let end : committed_end old ≡ 0 = cond-true _ _ _ (eq-eqb _ _ none) in
     changed.1 (rw end refl)
-

@@ -32,9 +32,7 @@ pub fn holds_frame(text: &Blocks, page_size: u32, count: usize, number: u32, pag
     ensures { IsTrue result ↔ (HoldsFrame text.now.bytes number page.now) }
 {
     for frame in 0..count {
-        if number_in(text, page_size, frame) == number
-            && holds_page(text, page_size, frame, page)
-        {
+        if number_in(text, page_size, frame) == number && holds_page(text, page_size, frame, page) {
             return true;
         }
     }

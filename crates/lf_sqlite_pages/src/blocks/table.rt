@@ -148,7 +148,12 @@ fn blank_for(alloc: Global, blocks: &[Block], n: usize) -> Result<Block, NoMemor
 }
 
 /// Blank blocks for those from `from` to `to` that aren't kept.
-pub fn blanks(alloc: Global, blocks: &[Block], from: usize, to: usize) -> Result<Vec<Block>, NoMemory>
+pub fn blanks(
+    alloc: Global,
+    blocks: &[Block],
+    from: usize,
+    to: usize,
+) -> Result<Vec<Block>, NoMemory>
     ensures len { IfOk result (λ ready. vec_len ready ≡ to - from) }
     ensures ready { IfOk result (λ ready. (n : ℕ) → from ≤ n → n < to → IsReady blocks.now from ready.items n) }
 {

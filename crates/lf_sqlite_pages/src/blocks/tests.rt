@@ -9,7 +9,10 @@ fn a_far_byte_keeps_one_block(rt: HostRuntime) -> Result<(), Fail> {
     blocks.write(BLOCKS_LIMIT - 1, b"x")?;
     assert_eq!(rt; (blocks.len(), blocks.held()), (268_435_456, 1));
     let mut out = *b"....";
-    assert_eq!(rt; (blocks.read(BLOCKS_LIMIT - 3, &mut out), &out), (3, b"\0\0x."));
+    assert_eq!(rt;
+        (blocks.read(BLOCKS_LIMIT - 3, &mut out), &out),
+        (3, b"\0\0x.")
+    );
     assert_eq!(rt; (blocks.read(BLOCKS_LIMIT, &mut out), &out), (0, b"\0\0x."));
     blocks.undo();
     assert_eq!(rt; (blocks.len(), blocks.held()), (0, 0));
@@ -48,7 +51,9 @@ fn reserved_room_stays_through_undo(rt: HostRuntime) -> Result<(), Fail> {
     blocks.reserve(8190, 4)?;
     assert_eq!(rt; (blocks.len(), blocks.held()), (0, 0));
     for _again in 0..2 {
-        assert!(rt; blocks.has_room(8190, 4) && !blocks.has_room(8189, 4) && !blocks.has_room(8190, 5));
+        assert!(rt;
+            blocks.has_room(8190, 4) && !blocks.has_room(8189, 4) && !blocks.has_room(8190, 5)
+        );
         blocks.write_within(8190, b"abcd");
         assert_eq!(rt; (blocks.len(), blocks.held()), (8194, 2));
         blocks.undo();

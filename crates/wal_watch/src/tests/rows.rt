@@ -262,7 +262,10 @@ fn a_frame_behind_many_is_taken_back(rt: HostRuntime) -> Result<(), Fail> {
         sums = next;
         at = at.saturating_add(4120);
     }
-    assert_eq!(rt; (wal.committed_frames(), wal.committed_end()), (1000, 4_120_032));
+    assert_eq!(rt;
+        (wal.committed_frames(), wal.committed_end()),
+        (1000, 4_120_032)
+    );
     let (head, _) = next_head(sums, 3, 3, page.as_slice());
     assert_eq!(rt; told(&wal.write(4096, 4_120_032, &head)?), (0, 0));
     for _again in 0..2 {

@@ -10,8 +10,16 @@ returns-then-length_after-len c = (
   λ same.
       let text = c.args.text.now.bytes in
       let new = written c.args.at c.args.bytes.now c.args.text.now.bytes in
-      absurd (c.if-length_after-len.true (omega (arith, c.length_after.ensures, c.len-len.ensures.value, c.if-len-ge-HEADER_LENGTH.false, written-longer c.args.at c.args.bytes.now text,
-      ap (λ (l : List ℕ). length l) same, length-take 32 new, length-take 32 text))),
+      absurd (c.if-length_after-len.true (omega (
+        arith,
+        c.length_after.ensures,
+        c.len-len.ensures.value,
+        c.if-len-ge-HEADER_LENGTH.false,
+        written-longer c.args.at c.args.bytes.now text,
+        ap (λ (l : List ℕ). length l) same,
+        length-take 32 new,
+        length-take 32 text,
+      ))),
 )
 
 pub returns : goal.returns
@@ -23,8 +31,7 @@ returns c =
     let here : length c.args.text.now.bytes ≤ c.len-len.result = omega (arith, c.len-len.ensures.value) in
     let same_size : length (written c.args.at c.args.bytes.now c.args.text.now.bytes) ≡ c.len-len.result = sym c.length_after.ensures ∙ c.if-length_after-len.false in
     let new_here : length (written c.args.at c.args.bytes.now c.args.text.now.bytes) ≤ c.len-len.result = omega (arith, same_size) in
-    let new_short : length (written c.args.at c.args.bytes.now c.args.text.now.bytes) ≤ 32 = omega (arith, same_size, short, c.len-len.ensures.value) in
-    (
+    let new_short : length (written c.args.at c.args.bytes.now c.args.text.now.bytes) ≤ 32 = omega (arith, same_size, short, c.len-len.ensures.value) in (
       λ yes. take_all 32 new new_short ∙ sym (take_all len new new_here) ∙ c.keeps-2.ensures.0 yes ∙ take_all len text here ∙ sym (take_all 32 text short),
       λ same. c.keeps-2.ensures.1 (take_all len new new_here ∙ sym (take_all 32 new new_short) ∙ same ∙ take_all 32 text short ∙ sym (take_all len text here)),
     )

@@ -38,7 +38,7 @@ invariant_of-self c =
           rw (now, left)
           (λ some n low high.
           written-ready b.blocks.items c.fill.new.blocks.items c.put.new.blocks b.ready.items c.fill.new.ready b.len at first piece c.requires.some inv.table filled size put own n low
-              (inv.ready some n low high));
+          (inv.ready some n low high));
       capacity = λ some. omega (arith, inv.capacity some, c.fill.ensures.capacity);
       spare = omega (arith, inv.spare, c.save.ensures.capacity);
       shorter = λ can. omega (arith, c.max-self-inside.ensures);

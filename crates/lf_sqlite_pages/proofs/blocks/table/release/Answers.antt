@@ -28,7 +28,7 @@ loop-blocks-preserved c =
           (released-more old c.args.ready.now cur c.loop-blocks.ready c.pop.new.self.items c.give_back.new.ready c.args.first c.unwrap-block.result released some
           (c.pop.ensures.rest ∙ ap (λ (k : ℕ). take (k - 1) cur) size) (at ∙ ap (λ (k : ℕ). block_at cur (k - 1)) size) (omega arith)
           (λ le. subst (λ (k : ℕ). IsGivenBack c.loop-blocks.ready (k - c.args.first) c.unwrap-block.result c.give_back.new.ready) (c.len-in-loop-blocks.ensures ∙ shorter)
-              (c.give_back.ensures.back (omega (arith, le, shorter, c.len-in-loop-blocks.ensures))))
+          (c.give_back.ensures.back (omega (arith, le, shorter, c.len-in-loop-blocks.ensures))))
           (λ under. c.give_back.ensures.before (omega (arith, under, shorter, c.len-in-loop-blocks.ensures))));
       capacity = omega (arith, c.pop.ensures.capacity, c.loop-blocks.invariant.capacity);
     }

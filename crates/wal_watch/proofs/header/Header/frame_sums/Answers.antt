@@ -14,6 +14,6 @@ returns c = λ len states fits is.
     let header = c.args.self.now in
     c.sums_on.ensures len (omega (arith, fits))
     ∙ ap (λ (s : Sums). with_pairs header.little s (place + 24) text (header.page_size / 8))
-        (c.with_pairs-behind_head.ensures ∙ part-pairs text c.args.head.now place 24 is header.little c.args.sums 1 (omega arith))
+    (c.with_pairs-behind_head.ensures ∙ part-pairs text c.args.head.now place 24 is header.little c.args.sums 1 (omega arith))
     ∙ ap (λ (little : Bool). with_pairs little (with_pairs little c.args.sums place text 1) (place + 24) text (header.page_size / 8)) states.little
     ∙ ap (λ (size : ℕ). with_pairs (is_little text) (with_pairs (is_little text) c.args.sums place text 1) (place + 24) text (size / 8)) states.page_size
