@@ -4,8 +4,8 @@ ghost use Rattle.ltx_codec.specs.Format.{IsFile};
 ghost use Rattle.litefs_tool.specs.steps.Applying.{HasSum, HasApplied, EndsFile, IsApplying};
 ghost use Rattle.litefs_tool.specs.Files.{MakesOf};
 
-use crate::input::{Consumer, consume_all};
 use crate::database::Database;
+use crate::input::{Consumer, consume_all};
 use crate::refusal::Refusal;
 use lf_base::NoMemory;
 use lf_sqlite_pages::Image;

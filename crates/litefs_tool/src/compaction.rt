@@ -5,8 +5,8 @@ ghost use Rattle.ltx_compact.specs.Compaction.{IsFileButSum};
 ghost use Rattle.litefs_tool.specs.Compaction.{AreEncodings, Become, MayRefuse, BecomesEncoding, SaysOtherSum};
 
 use crate::compact_refusal::CompactRefusal;
-use crate::input::consume_all;
 use crate::gathering::Gathering;
+use crate::input::consume_all;
 use ltx_codec::{Ltx, encode, sum_of_writes};
 use ltx_compact::compact;
 use std::alloc::Global;

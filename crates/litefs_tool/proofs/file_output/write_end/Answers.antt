@@ -2,7 +2,6 @@ use Rattle.std.proofs.Common.{◌≡◌, ◌++◌, List, ℕ, ap, ◌∙◌}
 use Rattle.std.specs.Int.{w64, to_be_bytes}
 use Rattle.page_checksum.specs.Crc.{after_bytes}
 use Rattle.ltx_codec.specs.Format.{end_text, sealed}
-use Rattle.litefs_tool.specs.Output.{AppendsPrefix}
 use Rattle.litefs_tool.proofs.GatherLemmas.{HasAdded-start, HasAdded-more, HasAdded-last, HasAdded-fails, Appends-held, AppendsPrefix-all, map_on_ok}
 use Rattle.litefs_tool.proofs.OutputLemmas.{on_err, map_on_err}
 use Rattle.litefs_tool.proofs.file_output.write_end.Goals as goal

@@ -1,5 +1,3 @@
-use Rattle.std.proofs.Common.{subst, sym}
-use Rattle.litefs_tool.specs.steps.Applying.{HasSum}
 use Rattle.litefs_tool.proofs.ApplyingLemmas.{HasSum-never_written}
 use Rattle.litefs_tool.proofs.database.Database.new.Goals as goal
 
