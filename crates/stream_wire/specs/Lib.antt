@@ -1,3 +1,6 @@
+pub mod Call
 pub mod Frame
 pub mod Front
+pub mod Head
+pub mod Writing
 pub mod Feeding

@@ -90,6 +90,11 @@ impl FrameFeed {
         self.ready.take()
     }
 
+    #[cfg(test)]
+    pub(crate) fn room(&self) -> usize {
+        self.bytes.capacity()
+    }
+
     /// The number of bytes of the unfinished frame.
     pub fn held(&self) -> u64
         ensures { result ≡ length self.now.held }

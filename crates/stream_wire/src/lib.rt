@@ -4,13 +4,28 @@
 //! node is said here, and nothing of what a call does.
 #![tactic(auto)]
 
+mod call;
 mod encoding;
 mod feed;
 mod frame;
+mod framing;
 mod front;
+mod head_reading;
+mod head_writing;
+mod naming;
+mod request;
+mod response;
 mod wire_fault;
 
+pub use call::Call;
 pub use encoding::encode_frame;
 pub use feed::{Fed, FrameFeed};
 pub use frame::Frame;
+pub use head_reading::{read_request, read_response};
+pub use head_writing::{write_head, write_request};
+pub use request::Heard;
+pub use response::Told;
 pub use wire_fault::WireFault;
+
+#[cfg(test)]
+mod tests;

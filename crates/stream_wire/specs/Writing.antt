@@ -1,0 +1,44 @@
+-- The heads that the node writes.
+use Rattle.std.specs.Prelude.{◌≡◌, ℕ, ◌<◌, ◌≤◌, List, [], ◌∷◌, ◌++◌, length, codes, decimal, Option, Some, None, unwrap_or}
+use Rattle.httparse.specs.Ascii.{crlf_bytes}
+use Rattle.http.specs.StatusCode.{code_digits, reason_phrase}
+use Rattle.stream_wire.specs.declared.call.Call.{Call}
+use Rattle.stream_wire.specs.Call.{method_of, target_of}
+
+-- a field's line
+unfoldable pub line : List ℕ → List ℕ → List ℕ
+line name value = name ++ codes ": " ++ value ++ crlf_bytes
+
+abbrev pub length_line : Option ℕ → List ℕ
+length_line None = []
+length_line (Some n) = line (codes "Content-Length") (decimal n)
+
+-- the words of the first lines
+unfoldable pub blank : List ℕ
+blank = codes " "
+
+unfoldable pub end_line : List ℕ
+end_line = crlf_bytes
+
+unfoldable pub version : List ℕ
+version = codes "HTTP/1.1"
+
+unfoldable pub status_digits : ℕ → List ℕ
+status_digits status = code_digits status
+
+-- the status with its phrase, which may be empty
+unfoldable pub status_line : ℕ → List ℕ
+status_line status = version ++ blank ++ status_digits status ++ blank ++ unwrap_or (reason_phrase status) [] ++ end_line
+
+-- the head of a reply: the status, the length where it is known, and that the connection ends with it
+unfoldable pub reply_head : ℕ → Option ℕ → List ℕ
+reply_head status len = status_line status ++ length_line len ++ line (codes "Connection") (codes "close") ++ crlf_bytes
+
+-- method and target
+unfoldable pub request_line : Call → List ℕ
+request_line call = method_of call ++ blank ++ target_of call ++ blank ++ version ++ end_line
+
+-- the head of a request with a body of so many bytes
+unfoldable pub request_head : Call → List ℕ → ℕ → List ℕ
+request_head call host len =
+    request_line call ++ line (codes "Host") host ++ line (codes "Content-Length") (decimal len) ++ crlf_bytes
