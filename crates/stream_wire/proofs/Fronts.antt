@@ -1,7 +1,7 @@
 -- What bytes begin with stays when more bytes come.
-use Rattle.std.proofs.Common.{◌≡◌, ℕ, ◌⊎◌, inl, inr, ◌+◌, ◌-◌, ◌<◌, ◌≤◌, List, [], ◌++◌, length, take, drop, Option, Some, None, IsTrue, subst, refl, sym, ap, ◌∙◌, arith, length-append}
+use Rattle.std.proofs.Common.{◌≡◌, ℕ, ◌⊎◌, inl, inr, ◌+◌, ◌-◌, ◌<◌, ◌≤◌, List, [], ◌++◌, length, take, drop, Bool, true, false, cond, not, nat_lt, Option, Some, None, IsTrue, subst, refl, sym, ap, ◌∙◌, arith, length-append}
 use Rattle.std.proofs.lemmas.Grind.{common_steps}
-use Rattle.std.proofs.lemmas.Bool.{cases_lt}
+use Rattle.std.proofs.lemmas.Bool.{cases_lt, le-ltb, ltb-false}
 use Rattle.std.proofs.lemmas.Bool.Decides.{nat_tests}
 use Rattle.std.proofs.lemmas.List.{take-append-drop, drop-take, take-take}
 use Rattle.std.proofs.Math.Seq.{take-append-add}
@@ -10,7 +10,9 @@ use Rattle.stream_wire.specs.declared.frame.Frame.{Frame}
 use Rattle.stream_wire.specs.Frame.{frame_text}
 use Rattle.stream_wire.specs.Feeding.{EndsFrame}
 use Rattle.lf_base.specs.Endian.{be32_at, be64_at}
+use Rattle.lf_base.specs.Name.{IsName}
 use Rattle.stream_wire.specs.declared.wire_fault.WireFault.{WireFault}
+use Rattle.stream_wire.specs.declared.wire_fault.WireFault.TheVariants as fault
 use Rattle.stream_wire.specs.Front.{kind_at, name_len_at, body_len_at, name_at, named_len_at, frame_len_at, head_fault, HasBadName, BeginsWith, whole, broken, IsShort, IsWholeFrame, GivesName, is_kind, is_name_len, is_body_len}
 
 cut_front : (place n : ℕ) (xs ys : List ℕ) → place + n ≤ length xs → take n (drop place (xs ++ ys)) ≡ take n (drop place xs)
@@ -91,3 +93,102 @@ ends_frame limit len held piece frame short w text =
       ends = (w.0, w.1, w.2, w.3, sum ∙ w.4);
       text = text ∙ ap (λ (n : ℕ). take n (held ++ piece)) (sym sum) ∙ take-append-add held piece (len - length held);
     }
+
+-- ---- more bytes
+
+name_at-append : (xs ys : List ℕ) → named_len_at xs ≤ length xs → name_at (xs ++ ys) ≡ name_at xs
+name_at-append xs ys h =
+    let n : name_len_at (xs ++ ys) ≡ name_len_at xs = be32_at-append 4 xs ys (omega (arith, h)) in
+    ap (λ (k : ℕ). take k (drop 16 (xs ++ ys))) n ∙ cut_front 16 (name_len_at xs) xs ys h
+
+-- one field: too little of it, or a fault, or what the rest says
+abbrev gate : Bool → Bool → WireFault → Option WireFault → Option WireFault
+gate short sound fault rest = cond short None (cond (not sound) (Some fault) rest)
+
+gate_stays : (s s' ok ok' : Bool) (f f' g : WireFault) (r r' : Option WireFault) → gate s ok f r ≡ Some g
+    → (s ≡ false → (s' ≡ false) × (ok' ≡ ok) × (f' ≡ f)) → (s ≡ false → r ≡ Some g → r' ≡ Some g) → gate s' ok' f' r' ≡ Some g
+gate_stays true s' ok ok' f f' g r r' e h k = cc
+gate_stays false s' true ok' f f' g r r' e h k = let x = h refl in rw (x.0, x.1) (k refl e)
+gate_stays false s' false ok' f f' g r r' e h k = let x = h refl in rw (x.0, x.1, x.2) e
+
+abbrev fields_fault : ℕ → ℕ → ℕ → ℕ → ℕ → Option WireFault
+fields_fault limit l k n b =
+    gate (nat_lt l 4) (is_kind k) (fault.Kind k) (gate (nat_lt l 8) (is_name_len k n) fault.NameText
+    (cond (nat_lt l 16) None (cond (nat_lt limit b) (Some (fault.TooLong b)) (cond (not (is_body_len k b)) (Some fault.Length) None))))
+
+fields_are : (limit : ℕ) (xs : List ℕ) → head_fault limit xs ≡ fields_fault limit (length xs) (kind_at xs) (name_len_at xs) (body_len_at xs)
+unfolding head_fault
+fields_are limit xs = refl
+
+longer : (l l' m : ℕ) → l ≤ l' → nat_lt l m ≡ false → nat_lt l' m ≡ false
+longer l l' m h e = le-ltb l' m (omega (arith, ltb-false l m e))
+
+fault_stays : (limit : ℕ) (xs ys : List ℕ) (f : WireFault) → head_fault limit xs ≡ Some f → head_fault limit (xs ++ ys) ≡ Some f
+fault_stays limit xs ys f e =
+    let up : length xs ≤ length (xs ++ ys) = omega (arith, length-append xs ys) in
+    let from : fields_fault limit (length xs) (kind_at xs) (name_len_at xs) (body_len_at xs) ≡ Some f = sym (fields_are limit xs) ∙ e in
+    let kind : 4 ≤ length xs → kind_at (xs ++ ys) ≡ kind_at xs = λ h. be32_at-append 0 xs ys (omega arith) in
+    let name : 8 ≤ length xs → name_len_at (xs ++ ys) ≡ name_len_at xs = λ h. be32_at-append 4 xs ys (omega arith) in
+    let body : 16 ≤ length xs → body_len_at (xs ++ ys) ≡ body_len_at xs = λ h. be64_at-append 8 xs ys (omega arith) in
+    fields_are limit (xs ++ ys)
+    ∙ gate_stays _ _ _ _ _ _ f _ _ from
+    (λ s. (longer (length xs) (length (xs ++ ys)) 4 up s, ap is_kind (kind (ltb-false (length xs) 4 s)), ap fault.Kind (kind (ltb-false (length xs) 4 s))))
+    (λ s r. gate_stays _ _ _ _ _ _ f _ _ r
+    (λ t. let h = ltb-false (length xs) 8 t in (longer (length xs) (length (xs ++ ys)) 8 up t, ap (λ (k : ℕ). is_name_len k (name_len_at (xs ++ ys))) (kind (omega arith)) ∙ ap (is_name_len (kind_at xs)) (name h), refl))
+    (λ t q. last (nat_lt (length xs) 16) refl q up (kind (omega (arith, ltb-false (length xs) 8 t))) body))
+  where
+    last : (b : Bool) → nat_lt (length xs) 16 ≡ b
+        → cond (nat_lt (length xs) 16) None (cond (nat_lt limit (body_len_at xs)) (Some (fault.TooLong (body_len_at xs))) (cond (not (is_body_len (kind_at xs) (body_len_at xs))) (Some fault.Length) None)) ≡ Some f
+        → length xs ≤ length (xs ++ ys) → kind_at (xs ++ ys) ≡ kind_at xs → (16 ≤ length xs → body_len_at (xs ++ ys) ≡ body_len_at xs)
+        → cond (nat_lt (length (xs ++ ys)) 16) None (cond (nat_lt limit (body_len_at (xs ++ ys))) (Some (fault.TooLong (body_len_at (xs ++ ys)))) (cond (not (is_body_len (kind_at (xs ++ ys)) (body_len_at (xs ++ ys)))) (Some fault.Length) None)) ≡ Some f
+    last true s q up k body = let none : None ≡ Some f = rw s at q in cc
+    last false s q up k body =
+        let b = body (ltb-false (length xs) 16 s) in
+        rw (longer (length xs) (length (xs ++ ys)) 16 up s, k, b) (rw s at q)
+
+sound_stays : (limit : ℕ) (xs ys : List ℕ) → 16 ≤ length xs → head_fault limit xs ≡ None → head_fault limit (xs ++ ys) ≡ None
+sound_stays limit xs ys long e =
+    let up : length xs ≤ length (xs ++ ys) = omega (arith, length-append xs ys) in
+    let from : fields_fault limit (length xs) (kind_at xs) (name_len_at xs) (body_len_at xs) ≡ None = sym (fields_are limit xs) ∙ e in
+    let kind : kind_at (xs ++ ys) ≡ kind_at xs = be32_at-append 0 xs ys (omega arith) in
+    let name : name_len_at (xs ++ ys) ≡ name_len_at xs = be32_at-append 4 xs ys (omega arith) in
+    let body : body_len_at (xs ++ ys) ≡ body_len_at xs = be64_at-append 8 xs ys (omega arith) in
+    fields_are limit (xs ++ ys) ∙ ap (λ (k : ℕ). fields_fault limit (length (xs ++ ys)) k (name_len_at (xs ++ ys)) (body_len_at (xs ++ ys))) kind
+    ∙ ap (λ (n : ℕ). fields_fault limit (length (xs ++ ys)) (kind_at xs) n (body_len_at (xs ++ ys))) name
+    ∙ ap (λ (b : ℕ). fields_fault limit (length (xs ++ ys)) (kind_at xs) (name_len_at xs) b) body
+    ∙ same_length limit (length xs) (length (xs ++ ys)) (kind_at xs) (name_len_at xs) (body_len_at xs) long (omega arith) ∙ from
+  where
+    same_length : (limit l l' k n b : ℕ) → 16 ≤ l → 16 ≤ l' → fields_fault limit l' k n b ≡ fields_fault limit l k n b
+    same_length limit l l' k n b h h' =
+        rw (le-ltb l 4 (omega arith), le-ltb l' 4 (omega arith), le-ltb l 8 (omega arith), le-ltb l' 8 (omega arith), le-ltb l 16 (omega arith), le-ltb l' 16 (omega arith)) refl
+
+bad_stays : (xs ys : List ℕ) → HasBadName xs → HasBadName (xs ++ ys)
+bad_stays xs ys bad =
+    let l = length-append xs ys in
+    let n : name_len_at (xs ++ ys) ≡ name_len_at xs = be32_at-append 4 xs ys (omega (arith, bad.fields)) in
+    record {
+      fields = omega (arith, bad.fields);
+      there = omega (arith, bad.there);
+      some = omega (arith, bad.some);
+      bad = λ is. bad.bad (subst IsName (name_at-append xs ys bad.there) is);
+    }
+
+good_stays : (xs ys : List ℕ) → 16 ≤ length xs → frame_len_at xs ≤ length xs → (HasBadName xs → ⊥) → HasBadName (xs ++ ys) → ⊥
+good_stays xs ys long fits good bad =
+    let n : name_len_at (xs ++ ys) ≡ name_len_at xs = be32_at-append 4 xs ys (omega arith) in
+    good (record {
+      fields = long;
+      there = omega arith;
+      some = omega (arith, bad.some);
+      bad = λ is. bad.bad (subst IsName (sym (name_at-append xs ys (omega arith))) is);
+    })
+
+pub frame_stays : (limit len : ℕ) (bytes more : List ℕ) → BeginsWith limit bytes (whole len) → BeginsWith limit (bytes ++ more) (whole len)
+frame_stays limit len bytes more (sound, good, long, fits, e) =
+    let l = length-append bytes more in
+    let n = frame_len_at-append bytes more long in
+    (sound_stays limit bytes more long sound, good_stays bytes more long fits good, omega arith, omega arith, e ∙ sym n)
+
+pub refusal_stays : (limit : ℕ) (bytes more : List ℕ) (f : WireFault) → BeginsWith limit bytes (broken f) → BeginsWith limit (bytes ++ more) (broken f)
+refusal_stays limit bytes more f (inl e) = inl (fault_stays limit bytes more f e)
+refusal_stays limit bytes more f (inr (sound, bad, e)) = inr (sound_stays limit bytes more bad.fields sound, bad_stays bytes more bad, e)

@@ -1,3 +1,4 @@
 pub mod Cutting
 pub mod Fronts
 pub mod Heads
+pub mod Reading

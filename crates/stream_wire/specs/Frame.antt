@@ -42,3 +42,10 @@ body_of (frame.Drop name) = []
 -- the bytes of a frame
 abbrev pub frame_text : Frame → List ℕ
 frame_text f = frame_of (kind_of f) (name_of f) (body_of f)
+
+-- the parts of a frame: names of databases, and numbers of 64 bits
+abbrev pub FitsFrame : Frame → Type 0
+FitsFrame (frame.Ltx name bytes) = IsName name × (length bytes < 2 ^ 64)
+FitsFrame (frame.Ready name pos) = IsName name × (pos.txid < 2 ^ 64) × (pos.sum < 2 ^ 64)
+FitsFrame frame.End = Unit {0}
+FitsFrame (frame.Drop name) = IsName name
