@@ -1,0 +1,5 @@
+pub mod TextLemmas
+pub mod PutLemmas
+pub mod ZeroLemmas
+pub mod WriteLemmas
+pub mod ReadLemmas

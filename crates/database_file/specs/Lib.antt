@@ -1,0 +1,4 @@
+pub mod DatabaseFile
+pub mod Fault
+pub mod Writing
+pub mod WritingParts

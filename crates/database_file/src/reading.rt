@@ -1,0 +1,148 @@
+//! The database file read over the committed image.
+ghost use Rattle.std.specs.Prelude.{◌≡◌, ◌+◌, ◌-◌, ◌*◌, ◌≤◌, ◌<◌, length, map, IfSome, ◌++◌, [], IfOk, IfErr, OnOk, replicate};
+ghost use Rattle.std.specs.List.{concat, range_with_len};
+ghost use Rattle.lf_base.specs.Faults.{CountsFaults};
+ghost use Rattle.lf_sqlite_pages.specs.Image.{image_bytes};
+ghost use Rattle.database_file.specs.DatabaseFile.{size_over, count_over, page_of, as_read, FitsShape, bytes_from};
+ghost use Rattle.database_file.specs.Fault.{HasCause, SameBase};
+
+use crate::database_file::DatabaseFile;
+use crate::fault::FileFault;
+use crate::span::span;
+use lf_base::{Failed, NoMemory};
+use lf_sqlite_pages::PageStore;
+use std::alloc::Global;
+
+/// A page of zeros.
+pub(crate) fn zeros(alloc: Global, size: usize) -> Result<Vec<u8>, NoMemory>
+    ensures zeros { IfOk result (λ page. page.items ≡ replicate size 0) }
+    ensures size { IfOk result (λ page. length page.items ≡ size) }
+{
+    let bytes = vec![in alloc; 0; size]?;
+    Ok(bytes)
+}
+
+/// A copy of the bytes from one place to another.
+fn copied(alloc: Global, text: &[u8], from: usize, to: usize) -> Result<Vec<u8>, NoMemory>
+    requires order { from ≤ to }
+    requires within { to ≤ length text.now }
+    ensures { IfOk result (λ bytes. bytes.items ≡ bytes_from text.now from (to - from)) }
+{
+    let bytes = Vec::from_slice(alloc, &text[from..to])?;
+    Ok(bytes)
+}
+
+impl DatabaseFile {
+    /// Puts page `n` into `out`, which is one page long, as the file reads: a kept page, else the
+    /// image's, else zeros.
+    pub fn read_page<S: PageStore>(
+        &self,
+        base: &mut S,
+        n: u32,
+        out: &mut [u8],
+    ) -> Result<(), Failed>
+        requires fits { FitsShape self.now (S.page_size base.old) (S.commit base.old) }
+        requires first { 1 ≤ n }
+        requires whole { length out.old ≡ size_over self.now (S.page_size base.old) (S.commit base.old) }
+        ensures bytes { OnOk result (IfSome (S.image base.old) (λ i. out.new ≡ page_of self.now i n)) }
+        ensures cause { CountsFaults (S.faults base.old) (S.faults base.new) result }
+        ensures base { SameBase (S.image base.old) (S.image base.new) (S.page_size base.old) (S.page_size base.new) (S.commit base.old) (S.commit base.new) (S.wal_mode base.old) (S.wal_mode base.new) (S.is_broken base.old) (S.is_broken base.new) }
+    {
+        let _page_size = base.page_size();
+        let commit = base.commit();
+        if let Some(page) = self.kept(n) {
+            out.copy_from_slice(page);
+            return Ok(());
+        }
+        if n <= commit {
+            return base.page(n, out);
+        }
+        out.fill(0);
+        Ok(())
+    }
+
+    /// Puts page `n`, as the file reads, behind a text. The page is read into a buffer of its size.
+    fn append<S: PageStore>(
+        &self,
+        base: &mut S,
+        n: u32,
+        page: &mut [u8],
+        text: &mut Vec<u8>,
+    ) -> Result<(), FileFault>
+        requires fits { FitsShape self.now (S.page_size base.old) (S.commit base.old) }
+        requires first { 1 ≤ n }
+        requires whole { length page.old ≡ size_over self.now (S.page_size base.old) (S.commit base.old) }
+        ensures bytes { OnOk result (IfSome (S.image base.old) (λ i. text.new.items ≡ text.old.items ++ page_of self.now i n)) }
+        ensures length { OnOk result (length text.new.items ≡ length text.old.items + length page.old) }
+        ensures faults { OnOk result (S.faults base.new ≡ S.faults base.old) }
+        ensures cause { IfErr result (HasCause (S.faults base.old) (S.faults base.new)) }
+        ensures base { SameBase (S.image base.old) (S.image base.new) (S.page_size base.old) (S.page_size base.new) (S.commit base.old) (S.commit base.new) (S.wal_mode base.old) (S.wal_mode base.new) (S.is_broken base.old) (S.is_broken base.new) }
+    {
+        self.read_page(base, n, page)?;
+        text.extend_from_slice(page).map_err(NoMemory::from)?;
+        Ok(())
+    }
+
+    /// Puts the pages behind the first `before` pages up to the first `after`, as the file reads,
+    /// behind an empty text, one after another.
+    fn append_all<S: PageStore>(
+        &self,
+        base: &mut S,
+        before: u32,
+        after: u32,
+        page: &mut [u8],
+        text: &mut Vec<u8>,
+    ) -> Result<(), FileFault>
+        requires fits { FitsShape self.now (S.page_size base.old) (S.commit base.old) }
+        requires order { before ≤ after }
+        requires whole { length page.old ≡ size_over self.now (S.page_size base.old) (S.commit base.old) }
+        requires empty { text.old.items ≡ [] }
+        ensures bytes { OnOk result (IfSome (S.image base.old) (λ i. text.new.items ≡ concat (map (page_of self.now i) (range_with_len (before + 1) (after - before))))) }
+        ensures length { OnOk result (length text.new.items ≡ (after - before) * length page.old) }
+        ensures faults { OnOk result (S.faults base.new ≡ S.faults base.old) }
+        ensures cause { IfErr result (HasCause (S.faults base.old) (S.faults base.new)) }
+        ensures base { SameBase (S.image base.old) (S.image base.new) (S.page_size base.old) (S.page_size base.new) (S.commit base.old) (S.commit base.new) (S.wal_mode base.old) (S.wal_mode base.new) (S.is_broken base.old) (S.is_broken base.new) }
+    {
+        for number in before..after {
+            self.append(base, number + 1, page, text)?;
+        }
+        Ok(())
+    }
+
+    /// Reads as many bytes from `at` on as there are, at most `size`.
+    pub fn read<S: PageStore>(
+        &self,
+        alloc: Global,
+        base: &mut S,
+        at: u64,
+        size: u32,
+    ) -> Result<Vec<u8>, FileFault>
+        requires fits { FitsShape self.now (S.page_size base.old) (S.commit base.old) }
+        ensures bytes { IfOk result (λ bytes. IfSome (S.image base.old) (λ i. bytes.items ≡ bytes_from (image_bytes (as_read self.now i)) at size)) }
+        ensures faults { OnOk result (S.faults base.new ≡ S.faults base.old) }
+        ensures cause { IfErr result (HasCause (S.faults base.old) (S.faults base.new)) }
+        ensures base { SameBase (S.image base.old) (S.image base.new) (S.page_size base.old) (S.page_size base.new) (S.commit base.old) (S.commit base.new) (S.wal_mode base.old) (S.wal_mode base.new) (S.is_broken base.old) (S.is_broken base.new) }
+    {
+        let commit = base.commit();
+        let page_size = self.size_over(base.page_size(), commit);
+        let count = self.count_over(commit);
+        let length = u64::from(count) * u64::from(page_size);
+        let end = at.saturating_add(u64::from(size)).min(length);
+        if at >= end {
+            return Ok(Vec::new(alloc));
+        }
+        let (before, after) = span(at, end, u64::from(page_size), u64::from(count));
+        let mut page = zeros(alloc, page_size as usize)?;
+        let mut text = Vec::new(alloc);
+        self.append_all(
+            base,
+            before as u32,
+            after as u32,
+            page.as_mut_slice(),
+            &mut text,
+        )?;
+        let from = (at - before * u64::from(page_size)) as usize;
+        let bytes = copied(alloc, text.as_slice(), from, from + (end - at) as usize)?;
+        Ok(bytes)
+    }
+}
