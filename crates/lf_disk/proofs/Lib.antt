@@ -3,8 +3,9 @@ pub mod Folders
 mod Histories
 pub mod Moments
 mod NameList
-mod Publishing
+pub mod Publishing
 mod Records
 mod SlotLemmas
+pub mod Stretches
 pub mod Reading
 pub mod Crashes

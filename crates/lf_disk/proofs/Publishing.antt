@@ -1,57 +1,83 @@
--- The three calls that publish a file.
-use Rattle.std.proofs.Common.{◌≡◌, inl, inr, ℕ, List, [], Some, Result, sym, ◌∙◌, ap}
-use Rattle.lf_disk.specs.declared.name.FileName.TheVariants.{Staged, Ltx}
-use Rattle.lf_disk.specs.Folder.{Folder, bytes_of, Same, SameBut}
-use Rattle.lf_disk.specs.Change.{Step, OnFile, Perhaps, Becomes, Writes, Renames}
-use Rattle.lf_disk.specs.History.{History, now, may_leave, Ticks, Moves, EachMoment}
-use Rattle.lf_disk.specs.Publish.{IsOldOrPublished, IsPublished, with_ltx}
-use Rattle.lf_disk.proofs.Moments.{started, goes_on}
+-- The calls that publish a file.
+use Rattle.std.proofs.Common.{◌≡◌, inl, inr, ℕ, ◌≤◌, true, false, List, [], ◌∷◌, Some, Option, None, IsSome, length, Result, refl, sym, ◌∙◌, ap, subst, arith, option_map, unwrap_or}
+use Rattle.std.proofs.lemmas.Bool.{cases_Bool}
+use Rattle.lf_disk.specs.declared.name.FileName.{FileName}
+use Rattle.lf_disk.specs.declared.name.FileName.TheVariants.{Staged}
+use Rattle.lf_disk.specs.Folder.{Folder, bytes_of, Same, SameBut, same_name, renamed}
+use Rattle.lf_disk.specs.Names.{same_name-one}
+use Rattle.lf_disk.specs.Change.{Step, OnFile, Perhaps, Becomes, Writes, Cuts, CropsFile, TearsFile, SetsFile, Renames}
+use Rattle.lf_disk.specs.History.{History, now, may_leave, Rests, Ticks, Moves, EachMoment, IsSettledBut}
+use Rattle.lf_disk.specs.Publish.{IsEmptied, IsStaged, IsOldOrPublished, IsPublished, with_bytes}
 use Rattle.lf_base.proofs.FileLemmas.{overwritten-empty}
-use Rattle.lf_disk.proofs.Folders.{LeavesBut, renamed-whole}
+use Rattle.lf_disk.proofs.Moments.{started, goes_on, rests_on}
+use Rattle.lf_disk.proofs.Folders.{LeavesBut, edited, perhaps_edited, renamed-whole}
 
-module _ (h : History) (min max : ℕ) (bytes : List ℕ) where
-  -- a crash at each moment leaves the files from before, or with the new one
+-- a file of no length has no bytes
+pub no_bytes : (file : Option (List ℕ)) (size : Option ℕ) → size ≡ option_map length file → unwrap_or size 0 ≡ 0 → bytes_of file ≡ []
+no_bytes None size is none = refl
+no_bytes (Some []) size is none = refl
+no_bytes (Some (b ∷ bs)) size is none =
+    let more : unwrap_or (option_map length (Some (b ∷ bs))) 0 ≡ 0 = ap (λ (o : Option ℕ). unwrap_or o 0) (sym is) ∙ none in
+    absurd (omega (arith, more))
+
+module _ (h : History) where
+  -- a crash at each moment leaves every file but the staged one as before
   abbrev pub Runs : History → Type 0
-  Runs new = EachMoment h new (IsOldOrPublished (now h) min max bytes)
+  Runs new = EachMoment h new (SameBut Staged (now h))
 
-  pub begins : LeavesBut Staged (now h) h → Runs h
-  begins settled = started h (IsOldOrPublished (now h) min max bytes) (λ c may. inl (settled c may))
+  pub begins : IsSettledBut Staged h → Runs h
+  begins settled = started h (SameBut Staged (now h)) settled
 
-  -- one call more, which leaves every file but the staged one
+  pub here : (mid : History) → Runs mid → LeavesBut Staged (now h) mid
+  here mid runs c may = runs.each mid.moment c runs.later (omega arith) may
+
+  -- one call more
   pub stages : {T E : Type 0} (result : Result T E) (mid new : History) → Runs mid → Ticks result mid new → LeavesBut Staged (now h) new → Runs new
-  stages result mid new so_far ticks leaves = goes_on result h mid new (IsOldOrPublished (now h) min max bytes) so_far ticks (λ c may. inl (leaves c may))
+  stages result mid new so_far ticks leaves = goes_on result h mid new (SameBut Staged (now h)) so_far ticks leaves
 
-  -- the staged file has these bytes, in what a crash leaves too
-  pub staged-whole : (wrote synced : History) (sees : Step) → bytes_of (now h Staged) ≡ [] → OnFile Staged (Writes 0 bytes) (now h) (now wrote)
-      → Moves sees (OnFile Staged (Becomes (now wrote Staged))) wrote synced → (c : Folder) → may_leave synced c → c Staged ≡ Some bytes
-  staged-whole wrote synced sees empty written moves c may =
-      (moves.left c may).2.here ∙ written.here ∙ ap (λ (b : List ℕ). Some b) (overwritten-empty bytes (bytes_of (now h Staged)) empty)
+  -- the staged file is written and synced
+  pub staged : (mid wrote synced : History) (bytes : List ℕ) (sees : Step) → IsEmptied (now h) mid → OnFile Staged (Writes 0 bytes) (now mid) (now wrote)
+      → Same (now wrote) (now synced) → Moves sees (SetsFile Staged (now wrote Staged)) wrote synced → LeavesBut Staged (now h) synced → IsStaged (now h) bytes synced
+  staged mid wrote synced bytes sees empty written same moves others =
+      let made : now wrote Staged ≡ Some bytes = written.here ∙ ap (λ (b : List ℕ). Some b) (overwritten-empty bytes (bytes_of (now mid Staged)) empty.none) in
+      record {
+        seen = λ n other. same n ∙ written.elsewhere n other ∙ empty.seen n other;
+        here = same Staged ∙ made;
+        others = others;
+        whole = λ c may. (moves.left c may).2.here ∙ made;
+      }
 
-  -- and then the rename publishes it
-  pub renames : (synced new : History) (sees : Step) → LeavesBut Staged (now h) synced → ((c : Folder) → may_leave synced c → c Staged ≡ Some bytes)
-      → Moves sees (Renames Staged (Ltx min max)) synced new → (c : Folder) → may_leave new c → SameBut Staged (with_ltx min max bytes (now h)) c
-  renames synced new sees others whole moves c may =
+module _ (before : Folder) (name : FileName) (bytes : List ℕ) (h : History) (staged : IsStaged before bytes h) where
+  -- the rename publishes it
+  pub renames : (new : History) (sees : Step) → Moves sees (Renames Staged name) h new → (c : Folder) → may_leave new c → SameBut Staged (with_bytes name bytes before) c
+  renames new sees moves c may =
       let from = moves.left c may in
-      renamed-whole Staged (Ltx min max) (now h) from.0 c bytes (others from.0 from.1) (whole from.0 from.1) from.2
+      renamed-whole Staged name before from.0 c bytes (staged.others from.0 from.1) (staged.whole from.0 from.1) from.2
 
-  pub perhaps_renames : (synced new : History) (sees : Step) → LeavesBut Staged (now h) synced → ((c : Folder) → may_leave synced c → c Staged ≡ Some bytes)
-      → Moves sees (Perhaps (Renames Staged (Ltx min max))) synced new → (c : Folder) → may_leave new c → IsOldOrPublished (now h) min max bytes c
-  perhaps_renames synced new sees others whole moves c may =
+  pub perhaps_renames : (new : History) (sees : Step) → Moves sees (Perhaps (Renames Staged name)) h new → (c : Folder) → may_leave new c → IsOldOrPublished before name bytes c
+  perhaps_renames new sees moves c may =
       let from = moves.left c may in
       elim from.2 [
-        | inl same ↦ inl (λ n other. same n ∙ others from.0 from.1 n other)
-        | inr done ↦ inr (renamed-whole Staged (Ltx min max) (now h) from.0 c bytes (others from.0 from.1) (whole from.0 from.1) done)
+        | inl same ↦ inl (λ n other. same n ∙ staged.others from.0 from.1 n other)
+        | inr done ↦ inr (renamed-whole Staged name before from.0 c bytes (staged.others from.0 from.1) (staged.whole from.0 from.1) done)
       ]
 
+  pub moments : {T E : Type 0} (result : Result T E) (new : History) → Ticks result h new → ((c : Folder) → may_leave new c → IsOldOrPublished before name bytes c)
+      → EachMoment h new (IsOldOrPublished before name bytes)
+  moments result new ticks left = goes_on result h h new (IsOldOrPublished before name bytes) (started h (IsOldOrPublished before name bytes) (λ c may. inl (staged.others c may))) ticks left
+
   -- the files as they read then
-  pub published : (wrote synced new : History) → bytes_of (now h Staged) ≡ [] → OnFile Staged (Writes 0 bytes) (now h) (now wrote) → Same (now wrote) (now synced)
-      → Renames Staged (Ltx min max) (now synced) (now new) → ((c : Folder) → may_leave new c → SameBut Staged (with_ltx min max bytes (now h)) c) → IsPublished (now h) min max bytes new
-  published wrote synced new empty written same renamed left =
-      let seen = renamed-whole Staged (Ltx min max) (now h) (now synced) (now new) bytes
-      (λ n other. same n ∙ written.elsewhere n other)
-      (same Staged ∙ written.here ∙ ap (λ (b : List ℕ). Some b) (overwritten-empty bytes (bytes_of (now h Staged)) empty)) renamed in
+  pub published : (new : History) (other : same_name name Staged ≡ false) → Moves (Renames Staged name) (Renames Staged name) h new → IsPublished before name bytes new
+  published new other moves =
+      let seen = renamed-whole Staged name before (now h) (now new) bytes staged.seen staged.here moves.seen in
       record {
         seen = seen;
-        staged = renamed Staged;
-        settled = λ c may n other. left c may n other ∙ sym (seen n other);
+        staged = moves.seen Staged ∙ gone;
+        settled = λ c may n differs. renames new _ moves c may n differs ∙ sym (seen n differs);
       }
+    where
+      gone : renamed Staged name (now h) Staged ≡ None
+      gone = elim (cases_Bool (same_name Staged name)) [
+        | inl is ↦ let no : true ≡ false = sym (ap (λ (n : FileName). same_name n Staged) (sym (same_name-one Staged name is))) ∙ other in absurd (cc)
+        | inr isnt ↦ rw isnt refl
+      ]

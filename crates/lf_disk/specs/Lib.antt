@@ -10,4 +10,5 @@ pub mod Plan
 pub mod Publish
 pub mod Replay
 pub mod Slots
+pub mod Stretch
 pub mod Tears

@@ -1,25 +1,38 @@
 -- The files before and after one is published.
-use Rattle.std.specs.Prelude.{◌≡◌, ◌⊎◌, ℕ, List, Some, None}
-use Rattle.lf_disk.specs.declared.name.FileName.TheVariants.{Staged, Ltx}
-use Rattle.lf_disk.specs.Folder.{Folder, with_file, SameBut}
-use Rattle.lf_disk.specs.History.{History, now, IsSettledBut}
+use Rattle.std.specs.Prelude.{◌≡◌, ◌≢◌, ◌⊎◌, ℕ, List, [], Some, None}
+use Rattle.lf_disk.specs.declared.name.FileName.{FileName}
+use Rattle.lf_disk.specs.declared.name.FileName.TheVariants.{Staged}
+use Rattle.lf_disk.specs.Folder.{Folder, bytes_of, with_file, SameBut}
+use Rattle.lf_disk.specs.History.{History, now, may_leave, IsSettledBut}
 
--- the folder with these bytes as the transaction file min to max
-abbrev pub with_ltx : ℕ → ℕ → List ℕ → Folder → Folder
-with_ltx min max bytes = with_file (Ltx min max) (Some bytes)
+-- the staged file has no bytes, and the others are as before
+pub record IsEmptied (before : Folder) (h : History) : Type 0 where
+  pub seen : SameBut Staged before (now h)
+  pub none : bytes_of (now h Staged) ≡ []
+
+-- the staged file has these bytes, also in what a crash leaves, and the others are as before
+pub record IsStaged (before : Folder) (bytes : List ℕ) (h : History) : Type 0 where
+  pub seen : SameBut Staged before (now h)
+  pub here : now h Staged ≡ Some bytes
+  pub others : (c : Folder) → may_leave h c → SameBut Staged before c
+  pub whole : (c : Folder) → may_leave h c → c Staged ≡ Some bytes
+
+-- the folder with these bytes under this name
+abbrev pub with_bytes : FileName → List ℕ → Folder → Folder
+with_bytes name bytes = with_file name (Some bytes)
 
 -- in every file but the staged one, a folder is as before or has the file whole
-abbrev pub IsOldOrPublished : Folder → ℕ → ℕ → List ℕ → Folder → Type 0
-IsOldOrPublished before min max bytes c = SameBut Staged before c ⊎ SameBut Staged (with_ltx min max bytes before) c
+abbrev pub IsOldOrPublished : Folder → FileName → List ℕ → Folder → Type 0
+IsOldOrPublished before name bytes c = SameBut Staged before c ⊎ SameBut Staged (with_bytes name bytes before) c
 
 -- the file is there, the staged one is gone, and a crash leaves that alone
-pub record IsPublished (before : Folder) (min max : ℕ) (bytes : List ℕ) (h : History) : Type 0 where
-  pub seen : SameBut Staged (with_ltx min max bytes before) (now h)
+pub record IsPublished (before : Folder) (name : FileName) (bytes : List ℕ) (h : History) : Type 0 where
+  pub seen : SameBut Staged (with_bytes name bytes before) (now h)
   pub staged : now h Staged ≡ None
   pub settled : IsSettledBut Staged h
 
 -- in every file but the staged one, a folder is as before, has the first file whole, or has both
-abbrev pub IsOneOfThree : Folder → ℕ × ℕ → List ℕ → ℕ × ℕ → List ℕ → Folder → Type 0
+abbrev pub IsOneOfThree : Folder → FileName → List ℕ → FileName → List ℕ → Folder → Type 0
 IsOneOfThree before first first_bytes second second_bytes c =
-    let then = with_ltx first.0 first.1 first_bytes before in
-    SameBut Staged before c ⊎ (SameBut Staged then c ⊎ SameBut Staged (with_ltx second.0 second.1 second_bytes then) c)
+    let then = with_bytes first first_bytes before in
+    SameBut Staged before c ⊎ (SameBut Staged then c ⊎ SameBut Staged (with_bytes second second_bytes then) c)

@@ -25,4 +25,4 @@ pub use disk::Disk;
 pub use list_fault::ListFault;
 pub use mem_disk::MemDisk;
 pub use name::FileName;
-pub use publication::{publish, publish_two};
+pub use publication::{publish, publish_two, put_in_place, stage};

@@ -76,7 +76,13 @@ fn a_call_is_lost_torn_or_whole(rt: HostRuntime) {
 fn published(alloc: Global, calls: u64, choice: u64) -> Result<(bool, bool), Failed> {
     let mut disk = MemDisk::new(alloc, Vec::new(alloc), Some(9)).unwrap();
     disk.stop_in(calls);
-    let _ = publish_two(&mut disk, (1, 1), b"one", (2, 2), b"two");
+    let _ = publish_two(
+        &mut disk,
+        FileName::Ltx { min: 1, max: 1 },
+        b"one",
+        FileName::Ltx { min: 2, max: 2 },
+        b"two",
+    );
     let Ok(mut disk) = disk.reopen_as(choice) else {
         return Err(Failed);
     };
@@ -95,12 +101,12 @@ fn a_stop_leaves_one_of_three(rt: HostRuntime) {
     let alloc = rt.alloc();
     for (calls, lost, whole) in [
         (0, (false, false), (false, false)),
-        (1, (false, false), (false, false)),
-        (2, (false, false), (true, false)),
-        (3, (true, false), (true, false)),
+        (2, (false, false), (false, false)),
+        (3, (false, false), (true, false)),
         (4, (true, false), (true, false)),
-        (5, (true, false), (true, true)),
-        (6, (true, true), (true, true)),
+        (6, (true, false), (true, false)),
+        (7, (true, false), (true, true)),
+        (8, (true, true), (true, true)),
     ] {
         assert_eq!(&rt; published(alloc, calls, 0), Ok(lost), "lost {calls}");
         assert_eq!(&rt; published(alloc, calls, ALL / 3), Ok(lost), "torn {calls}");
