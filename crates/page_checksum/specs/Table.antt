@@ -25,7 +25,7 @@ with_pages table count = record {
 abbrev pub with_sum : PageSums → ℕ → ℕ → PageSums
 with_sum table n sum = record { sums = slice_set table.sums (n - 1) sum; spare = table.spare }
 
--- the sum of page n
+-- the sum of page n, 0 past the last page
 abbrev pub sum_at : PageSums → ℕ → ℕ
 sum_at table n = slice_index table.sums (n - 1)
 

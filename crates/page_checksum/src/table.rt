@@ -67,13 +67,17 @@ impl Sums {
         self.sums[n as usize - 1] = sum;
     }
 
-    /// The sum of page `n`.
+    /// The sum of page `n`, 0 past the last page.
     pub fn get(&self, n: u32) -> u64
-        requires first { 1 ≤ n }
-        requires last { n ≤ length self.now.sums }
+        requires { 1 ≤ n }
         ensures { result ≡ sum_at self.now n }
     {
-        self.sums[n as usize - 1]
+        let place = n as usize - 1;
+        if place < self.sums.len() {
+            self.sums[place]
+        } else {
+            0
+        }
     }
 
     /// The sum of the database: all sums taken together by XOR, with bit 63 set.

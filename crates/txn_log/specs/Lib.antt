@@ -1,0 +1,9 @@
+pub mod Calls
+pub mod Draft
+pub mod Durable
+pub mod FaultNumber
+pub mod Kept
+pub mod Pages
+pub mod Putting
+pub mod Rewriting
+pub mod Store

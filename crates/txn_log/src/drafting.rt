@@ -1,0 +1,83 @@
+//! The file that a commit would publish.
+ghost use Rattle.std.specs.Prelude.{◌≡◌, ◌↔◌, ◌<◌, ◌^◌, IsTrue, IfOk};
+ghost use Rattle.lf_base.specs.declared.pos.Pos.{Pos as Position};
+ghost use Rattle.ltx_codec.specs.Format.{IsFile, FitsWidths};
+ghost use Rattle.txn_log.specs.Store.{end_of_entries};
+ghost use Rattle.txn_log.specs.Draft.{file_with, IsWithin, Drafts};
+
+use crate::copying::copy_of;
+use crate::fault::StoreFault;
+use crate::store::Store;
+use crate::sums::total_after;
+use lf_base::Pos;
+use lf_disk::Disk;
+use lf_sqlite_pages::{Change, is_within_limit};
+use ltx_codec::{Header, Ltx};
+use page_checksum::Sums;
+
+/// Whether there is a next number, and the database stays within its limit.
+fn is_within(position: Pos, change: &Change) -> bool
+    ensures { IsTrue result ↔ IsWithin position change.now }
+{
+    position.txid < u64::MAX && is_within_limit(change.page_size(), change.commit())
+}
+
+/// The file of a complete change behind a position.
+fn file_behind(position: Pos, sums: &Sums, change: Change, stamp: u64, node: u64) -> Ltx
+    requires { IsWithin position change }
+    ensures value { result ≡ file_with position sums.now.sums change stamp node }
+    ensures widths { FitsWidths result.header × (result.post < 2 ^ 64) }
+{
+    let next = position.txid + 1;
+    let post = total_after(sums, &change);
+    let header = Header {
+        page_size: change.page_size(),
+        commit: change.commit(),
+        min: next,
+        max: next,
+        stamp,
+        pre: position.sum,
+        wal_offset: 0,
+        wal_size: 0,
+        wal_salt1: 0,
+        wal_salt2: 0,
+        node,
+    };
+    Ltx {
+        header,
+        change,
+        post,
+    }
+}
+
+impl<D: Disk> Store<D> {
+    /// The file that `commit` of this change would publish, or why it would refuse: the change made
+    /// complete, the sums and the limits. The disk is not asked. `stamp` is in milliseconds since the
+    /// Unix epoch.
+    pub fn draft(&self, change: &Change, stamp: u64, node: u64) -> Result<Ltx, StoreFault>
+        ensures drafts { Drafts self.now.broken (end_of_entries self.now.entries.items) self.now.page_size self.now.commit
+            self.now.sums.sums change.now stamp node result }
+        ensures valid { IfOk result IsFile }
+    {
+        if self.broken {
+            return Err(StoreFault::Broken);
+        }
+        if !change.fits(self.page_size, self.commit) {
+            return Err(StoreFault::PageSize {
+                have: self.page_size,
+                want: change.page_size(),
+            });
+        }
+        let position = self.pos();
+        if !is_within(position, change) {
+            return Err(StoreFault::Limit);
+        }
+        let Ok(mut complete) = copy_of(*self.entries.allocator(), change) else {
+            return Err(StoreFault::NoMemory);
+        };
+        match complete.complete(self.commit) {
+            Ok(()) => Ok(file_behind(position, &self.sums, complete, stamp, node)),
+            Err(_) => Err(StoreFault::NoMemory),
+        }
+    }
+}

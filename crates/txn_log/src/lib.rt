@@ -1,0 +1,22 @@
+//! The store.
+#![tactic(auto)]
+
+mod attempt;
+mod copying;
+mod drafting;
+mod entry;
+mod fault;
+mod position;
+mod putting;
+mod rewriting;
+mod store;
+mod sums;
+mod writing;
+
+pub use attempt::Attempt;
+pub use entry::Entry;
+pub use fault::StoreFault;
+pub use putting::put;
+pub use rewriting::rewrite;
+pub use store::Store;
+pub use writing::write_pages;

@@ -1,0 +1,34 @@
+ghost use Rattle.std.specs.Prelude.{IsTrue};
+ghost use Rattle.std.proofs.Props.{props};
+ghost use Rattle.txn_log.specs.Calls.{RestsAs};
+ghost use Rattle.txn_log.specs.Kept.{Ascends-prop};
+ghost use Rattle.txn_log.specs.Store.{IsStore, IsShaped, state_of, failed_of};
+ghost use Rattle.world_laws.specs.Store.{MayBeFound};
+
+use crate::attempt::Attempt;
+use crate::entry::Entry;
+use lf_disk::Disk;
+use page_checksum::Sums;
+
+/// A database on a disk: its image in the database file, and its log in transaction files.
+#[derive(Drop)]
+pub struct Store<D: Disk> {
+    pub disk: D,
+    /// The files of the log, the oldest first.
+    pub entries: Vec<Entry>,
+    /// The sum of each page, 0 for the lock page.
+    pub sums: Sums,
+    pub page_size: u32,
+    /// The number of pages.
+    pub commit: u32,
+    /// A changing call answered Disk. Nothing is done any more.
+    pub broken: bool,
+    /// The disk's moment before the last changing call.
+    pub whole: u64,
+    /// What the last changing call tried, and the disk's moment when it tried to publish.
+    pub attempt: Attempt,
+    pub tried: u64,
+    ghost shaped: { IsShaped commit entries.items sums.sums },
+    ghost kept: { IsTrue (D.honest disk) → IsStore (D.history disk) page_size commit entries.items sums.sums broken whole tried } by { Prim.hlevel (props, Ascends-prop) },
+    ghost left: { IsTrue (D.honest disk) → RestsAs (MayBeFound (state_of (D.history disk) page_size commit entries.items broken whole) (failed_of (D.history disk) broken attempt tried)) (D.history disk) } by { Prim.hlevel props },
+}
