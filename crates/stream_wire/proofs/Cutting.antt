@@ -1,14 +1,12 @@
 -- A frame's bytes are its fields, its name and its body, one after another.
-use Rattle.std.proofs.Common.{◌≡◌, ◌≢◌, ℕ, ◌∷◌, ◌+◌, ◌-◌, ◌<◌, ◌≤◌, List, [], ◌++◌, length, take, drop, get_or, refl, sym, ap, ◌∙◌, arith, length-drop, IsTrue, subst, ◌⊎◌, inl, inr, None}
+use Rattle.std.proofs.Common.{◌≡◌, ◌≢◌, ℕ, ◌∷◌, ◌+◌, ◌<◌, ◌≤◌, List, [], ◌++◌, length, take, drop, get_or, refl, sym, ap, ◌∙◌, arith, IsTrue, subst, ◌⊎◌, inl, inr, None}
 use Rattle.std.proofs.lemmas.Grind.{common_steps}
 use Rattle.std.proofs.lemmas.Bool.{cases_lt}
 use Rattle.std.proofs.lemmas.Bool.Decides.{nat_tests}
 use Rattle.std.proofs.lemmas.List.{take-append-drop, take_all}
 use Rattle.std.proofs.lemmas.Nat.{be_bytes_4, be_bytes_8}
 use Rattle.std.proofs.Math.Seq.{take-add}
-use Rattle.std.specs.Int.{w32, w64, to_be_bytes}
 use Rattle.lf_base.specs.Endian.{be32_at, be64_at}
-use Rattle.lf_base.specs.declared.pos.Pos.{Pos}
 use Rattle.stream_wire.specs.Frame.{be32, be64, frame_of, pos_body}
 use Rattle.stream_wire.specs.Front.{kind_at, name_len_at, body_len_at, name_at, named_len_at, frame_len_at, is_kind, is_name_len, is_body_len, IsWholeFrame, GivesName}
 

@@ -1,12 +1,12 @@
 -- Which heads are never taken.
-use Rattle.std.proofs.Common.{◌≡◌, ℕ, ◌+◌, ◌<◌, ◌≤◌, List, [], ◌∷◌, ◌++◌, length, map, take, drop, Option, Some, None, refl, sym, ap, ◌∙◌, arith, length-append}
+use Rattle.std.proofs.Common.{◌≡◌, ℕ, ◌<◌, ◌≤◌, List, ◌++◌, length, map, take, drop, Some, None, sym, ap, ◌∙◌, arith}
 use Rattle.std.proofs.lemmas.Grind.{common_steps}
 use Rattle.std.proofs.lemmas.List.{take-append-drop, take-append-le}
 use Rattle.httparse.specs.Grammar.{Field, RequestHead, print_request, ReadsRequest, HasNoRequest, ResponseHead, print_response, ReadsResponse, HasNoResponse}
 use Rattle.httparse.specs.declared.spans.HeaderSpan.{HeaderSpan}
 use Rattle.httparse.specs.Spans.{RequestOverflows, ResponseOverflows, name_and_value, header_bytes}
 use Rattle.httparse.proofs.GrammarLemmas.{request_prefix_free, response_prefix_free}
-use Rattle.stream_wire.specs.Head.{IsTaken, framing_of, NeverTakesRequest, NeverTakesResponse}
+use Rattle.stream_wire.specs.Head.{framing_of, NeverTakesRequest, NeverTakesResponse}
 
 -- no more fields than there is room for
 pub few_fields : (bytes : List ℕ) (headers : List HeaderSpan) (count : ℕ) (fields : List Field)

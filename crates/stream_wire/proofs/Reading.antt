@@ -1,16 +1,13 @@
 -- The fields of a frame's bytes are those of the frame.
-use Rattle.std.proofs.Common.{◌≡◌, ℕ, ◌+◌, ◌<◌, ◌≤◌, ◌^◌, List, [], ◌∷◌, ◌++◌, length, take, drop, refl, sym, ap, ◌∙◌, arith, length-append, inl, inr, Some, None}
+use Rattle.std.proofs.Common.{◌≡◌, ℕ, ◌+◌, ◌<◌, ◌^◌, List, ◌++◌, length, take, drop, refl, sym, ap, ◌∙◌, arith, length-append}
 use Rattle.std.proofs.lemmas.Grind.{common_steps}
-use Rattle.std.proofs.lemmas.Bool.Decides.{nat_tests}
 use Rattle.std.proofs.lemmas.Nat.{from_be_bytes-to_be_bytes_4, from_be_bytes-to_be_bytes_8}
-use Rattle.std.specs.Int.{w32, w64, to_be_bytes}
 use Rattle.lf_base.specs.Endian.{be32_at, be64_at}
-use Rattle.lf_base.specs.Name.{IsName}
 use Rattle.lf_base.specs.declared.pos.Pos.{Pos}
 use Rattle.stream_wire.specs.declared.frame.Frame.{Frame}
 use Rattle.stream_wire.specs.declared.frame.Frame.TheVariants as frame
 use Rattle.stream_wire.specs.Frame.{be32, be64, frame_of, pos_body, frame_text, kind_of, name_of, body_of, FitsFrame}
-use Rattle.stream_wire.specs.Front.{kind_at, name_len_at, body_len_at, name_at, named_len_at}
+use Rattle.stream_wire.specs.Front.{kind_at, name_len_at, body_len_at}
 
 pub kind_in : (k : ℕ) (name body : List ℕ) → k < 2 ^ 32 → kind_at (frame_of k name body) ≡ k
 unfolding frame_of be32 be64 be32_at

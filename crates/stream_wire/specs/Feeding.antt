@@ -1,5 +1,5 @@
 -- Frames from bytes that come in pieces.
-use Rattle.std.specs.Prelude.{◌≡◌, ℕ, ◌+◌, ◌≤◌, ◌<◌, List, [], ◌++◌, length, take, Option, Some, None, Result, Ok, Err}
+use Rattle.std.specs.Prelude.{◌≡◌, ℕ, ◌+◌, ◌≤◌, List, [], ◌++◌, length, take, Option, Some, None, Result, Ok, Err}
 use Rattle.stream_wire.specs.declared.frame.Frame.{Frame}
 use Rattle.stream_wire.specs.declared.feed.Fed.{Fed}
 use Rattle.stream_wire.specs.declared.feed.Fed.TheVariants.{More, Whole}

@@ -1,5 +1,5 @@
 -- Frames of a stream (layout of this project): kind 4, name length 4, body length 8, all big-endian; the name; the body.
-use Rattle.std.specs.Prelude.{◌≡◌, ℕ, ◌^◌, ◌<◌, ◌≤◌, List, [], ◌++◌, length}
+use Rattle.std.specs.Prelude.{ℕ, ◌^◌, ◌<◌, List, [], ◌++◌, length}
 use Rattle.std.specs.Int.{w32, w64, to_be_bytes}
 use Rattle.lf_base.specs.Name.{IsName}
 use Rattle.lf_base.specs.declared.pos.Pos.{Pos}

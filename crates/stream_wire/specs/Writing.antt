@@ -1,5 +1,5 @@
 -- The heads that the node writes.
-use Rattle.std.specs.Prelude.{◌≡◌, ℕ, ◌<◌, ◌≤◌, List, [], ◌∷◌, ◌++◌, length, codes, decimal, Option, Some, None, unwrap_or}
+use Rattle.std.specs.Prelude.{ℕ, List, [], ◌++◌, codes, decimal, Option, Some, None, unwrap_or}
 use Rattle.httparse.specs.Ascii.{crlf_bytes}
 use Rattle.http.specs.StatusCode.{code_digits, reason_phrase}
 use Rattle.stream_wire.specs.declared.call.Call.{Call}

@@ -1,4 +1,4 @@
-use Rattle.std.proofs.Common.{rules, ◌≡◌, ◌+◌, ◌-◌, ◌<◌, ◌≤◌, ◌++◌, length, take, sym, ap, ◌∙◌, arith, subst, Some, List, ℕ}
+use Rattle.std.proofs.Common.{rules, ◌≡◌, ◌++◌, length, take, ap, ◌∙◌, arith, subst, List, ℕ}
 use Rattle.stream_wire.specs.Front.{BeginsWith, whole, GivesName}
 use Rattle.stream_wire.proofs.Fronts.{front_is_whole, front_name, ends_behind, ends_frame}
 use Rattle.stream_wire.proofs.feed.feed_into.Goals as goal

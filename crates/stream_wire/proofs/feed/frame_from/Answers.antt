@@ -1,6 +1,6 @@
-use Rattle.std.proofs.Common.{rules, ◌≡◌, ◌≢◌, ◌<◌, ◌∙◌, sym, ap, arith, length, drop, subst, Option, Some, None}
-use Rattle.stream_wire.specs.Frame.{pos_body, frame_of}
-use Rattle.stream_wire.specs.Front.{kind_at, name_len_at, body_len_at, named_len_at, name_at, GivesName}
+use Rattle.std.proofs.Common.{rules, ◌≡◌, ◌∙◌, sym, ap, arith, subst, Some}
+use Rattle.stream_wire.specs.Frame.{pos_body}
+use Rattle.stream_wire.specs.Front.{kind_at, GivesName}
 use Rattle.stream_wire.proofs.Cutting.{AreBytes, are_bytes, frame_is, end_frame, drop_frame, nameless}
 use Rattle.stream_wire.proofs.feed.frame_from.Goals as goal
 

@@ -1,6 +1,4 @@
-use Rattle.std.proofs.Common.{rules, ◌≡◌, ◌∙◌, ap, arith}
-use Rattle.lf_base.specs.declared.pos.Pos.{Pos}
-use Rattle.stream_wire.specs.Frame.{pos_body}
+use Rattle.std.proofs.Common.{rules}
 use Rattle.stream_wire.proofs.Cutting.{AreBytes, are_bytes, cut_pos}
 use Rattle.stream_wire.proofs.feed.pos_of.Goals as goal
 

@@ -1,4 +1,4 @@
-use Rattle.std.proofs.Common.{◌≡◌, arith, sym, ap, ◌∙◌, None, List, ℕ}
+use Rattle.std.proofs.Common.{arith, sym, ap, ◌∙◌, None, List, ℕ}
 use Rattle.stream_wire.specs.Head.{framing}
 use Rattle.stream_wire.proofs.Heads.{never_large_response, never_framed_response}
 use Rattle.stream_wire.proofs.head_reading.told.Goals as goal
