@@ -1,8 +1,12 @@
+mod Commits
 mod Copies
 mod Drafts
 mod Entries
+mod Moves
 mod Places
+mod Placings
 mod Puttings
 mod Rewritings
+mod Stores
 mod SumTables
 mod Wearing

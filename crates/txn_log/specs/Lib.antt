@@ -1,9 +1,12 @@
 pub mod Calls
+pub mod Causes
 pub mod Draft
 pub mod Durable
 pub mod FaultNumber
 pub mod Kept
 pub mod Pages
+pub mod Placing
+pub mod Publishing
 pub mod Putting
 pub mod Rewriting
 pub mod Store

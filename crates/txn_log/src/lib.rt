@@ -4,9 +4,13 @@
 mod attempt;
 mod copying;
 mod drafting;
+mod encoding;
 mod entry;
 mod fault;
+mod placed;
+mod placing;
 mod position;
+mod publishing;
 mod putting;
 mod rewriting;
 mod store;

@@ -1,0 +1,61 @@
+-- A staged file is ready to be put in place.
+use Rattle.std.proofs.Common.{◌≡◌, ◌⊎◌, inl, inr, ℕ, ◌≤◌, false, true, is_some, List, ◌∷◌, [], ◌++◌, refl, sym, ◌∙◌, ap, subst, arith, IsSome, Some, Option}
+use Rattle.std.proofs.lemmas.Bool.{cases_Bool}
+use Rattle.lf_disk.specs.declared.name.FileName.{FileName}
+use Rattle.lf_disk.specs.declared.name.FileName.TheVariants.{Database, Staged, Snapshot, Dropped, Ltx}
+use Rattle.lf_disk.specs.Folder.{Folder, bytes_of, SameBut, same_name}
+use Rattle.lf_disk.specs.Names.{same_name-one}
+use Rattle.lf_disk.specs.History.{History, now, may_leave, EachMoment}
+use Rattle.lf_disk.specs.Publish.{IsStaged}
+use Rattle.lf_disk.proofs.Moments.{joined, weakened}
+use Rattle.lf_sqlite_pages.specs.Image.{DatabaseImage}
+use Rattle.lf_sqlite_pages.specs.Change.{PageChange}
+use Rattle.lf_sqlite_pages.specs.Apply.{apply}
+use Rattle.txn_log.specs.Kept.{LogFile, Kept, IsDecided, last_of}
+use Rattle.txn_log.specs.Putting.{IsSettled, IsReady, IsBeforeOrAfter}
+use Rattle.txn_log.specs.Placing.{IsOver, IsTried}
+
+-- the staged file is of no account
+pub kept_same : (image : DatabaseImage) (files : List LogFile) (dropped : _) (f c : Folder) → Kept image files dropped f → SameBut Staged f c → Kept image files dropped c
+kept_same image files dropped f c kept same = record {
+  log = λ a b. same (Ltx a b) refl ∙ kept.log a b;
+  no_snapshot = same Snapshot refl ∙ kept.no_snapshot;
+  mark = ap is_some (same Dropped refl) ∙ kept.mark;
+  decided = subst (λ (o : Option (List ℕ)). IsDecided (last_of files) image (bytes_of o)) (sym (same Database refl)) kept.decided;
+}
+
+pub settled : (before : Folder) (bytes : List ℕ) (h : History) → IsStaged before bytes h → IsSettled h
+settled before bytes h staged c may n = elim (cases_Bool (same_name n Staged)) [
+  | inl is ↦ let name : n ≡ Staged = same_name-one n Staged is in ap c name ∙ staged.whole c may ∙ sym (ap (now h) name ∙ staged.here)
+  | inr isnt ↦ staged.others c may n isnt ∙ sym (staged.seen n isnt)
+]
+
+pub there : (before : Folder) (bytes : List ℕ) (h : History) → IsStaged before bytes h → IsSome (now h Staged)
+there before bytes h staged = subst (λ (o : Option (List ℕ)). IsSome o) (sym staged.here) refl
+
+module _ (image : DatabaseImage) (files : List LogFile) (text : List ℕ) (change : PageChange) (h mid : History) (over : IsOver image files text change h) where
+  pub stays : EachMoment h mid (SameBut Staged (now h)) → EachMoment h mid (Kept image files false)
+  stays runs = weakened h mid (SameBut Staged (now h)) (Kept image files false) runs (λ c same. kept_same image files false (now h) c over.rest.kept same)
+
+  pub ready : IsStaged (now h) text mid → IsReady image files false text change mid
+  ready staged = record {
+    before = now h;
+    staged = staged;
+    kept = over.rest.kept;
+    shows = over.rest.shows;
+    tells = over.tells;
+    valid = over.valid;
+    complete = over.complete;
+  }
+
+  pub moments : (new : History) (file : LogFile) → EachMoment h mid (SameBut Staged (now h)) → EachMoment mid new (IsBeforeOrAfter image files (apply image change) (files ++ file ∷ []))
+      → EachMoment h new (IsBeforeOrAfter image files (apply image change) (files ++ file ∷ []))
+  moments new file first second =
+      joined h mid new (IsBeforeOrAfter image files (apply image change) (files ++ file ∷ []))
+      (weakened h mid (Kept image files false) (IsBeforeOrAfter image files (apply image change) (files ++ file ∷ [])) (stays first) (λ c kept. inl kept)) second
+
+  pub tried : (new : History) (P : Folder → Type 0) → IsStaged (now h) text mid → EachMoment mid new P → IsTried text mid.moment new
+  tried new P staged run = record {
+    past = run.later;
+    read = ap bytes_of (run.past.seen mid.moment Staged (omega arith) ∙ staged.here);
+  }

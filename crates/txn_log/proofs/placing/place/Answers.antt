@@ -1,0 +1,30 @@
+use Rattle.std.proofs.Common.{◌≡◌, ◌∙◌, ℕ, sym, subst}
+use Rattle.lf_disk.specs.History.{History, now}
+use Rattle.txn_log.specs.Kept.{LogFile}
+use Rattle.txn_log.specs.Placing.{IsTried}
+use Rattle.txn_log.proofs.Placings.{ready, moments, tried}
+use Rattle.txn_log.proofs.placing.place.Goals as goal
+
+pub returns-in-Ok-put-clause-places : goal.returns-in-Ok-put-clause-places
+returns-in-Ok-put-clause-places g c honest image files over =
+    let h = g.D.Disk.history c.args.disk.now in
+    let mid = g.D.Disk.history c.stage.new.disk in
+    let new = g.D.Disk.history c.put.new.disk in
+    let still = c.stage.ensures.honest ∙ honest in
+    let file : LogFile = record { min = c.args.min; max = c.args.max; text = c.args.text.now } in
+    let is = ready image files c.args.text.now c.args.change.now h mid over (c.in-Ok.ensures.staged honest) in
+    (moments image files c.args.text.now c.args.change.now h mid over new file (c.stage.ensures.moments honest) (c.put.ensures.moments still image files c.args.text.now is),
+      c.in-Ok-put.ensures.done still image files c.args.text.now is)
+
+pub returns-in-Err-put-clause-places : goal.returns-in-Err-put-clause-places
+returns-in-Err-put-clause-places g c honest image files over =
+    let h = g.D.Disk.history c.args.disk.now in
+    let mid = g.D.Disk.history c.stage.new.disk in
+    let new = g.D.Disk.history c.put.new.disk in
+    let still = c.stage.ensures.honest ∙ honest in
+    let file : LogFile = record { min = c.args.min; max = c.args.max; text = c.args.text.now } in
+    let staged = c.in-Ok.ensures.staged honest in
+    let is = ready image files c.args.text.now c.args.change.now h mid over staged in
+    let run = c.put.ensures.moments still image files c.args.text.now is in
+    (moments image files c.args.text.now c.args.change.now h mid over new file (c.stage.ensures.moments honest) run,
+      subst (λ (t : ℕ). IsTried c.args.text.now t new) (sym c.moment-tried.ensures) (tried image files c.args.text.now c.args.change.now h mid over new _ staged run))

@@ -1,0 +1,194 @@
+use Rattle.std.proofs.Common.{◌≡◌, ◌∙◌, ◌≤◌, ◌++◌, ◌∷◌, [], ℕ, List, Bool, true, false, inl, inr, refl, sym, ap, subst, arith}
+use Rattle.lf_disk.specs.History.{now}
+use Rattle.ltx_codec.specs.Format.{IsLtx}
+use Rattle.txn_log.specs.Kept.{file_of}
+use Rattle.txn_log.specs.Publishing.{CanTake}
+use Rattle.txn_log.specs.Store.{IsStore, state_in, state_of}
+use Rattle.txn_log.proofs.Moves.{moved-none, image, files, over, stands, left_done, went_done, left_before, went_before, left_in, went_in, shaped-after}
+use Rattle.txn_log.proofs.Stores.{broken}
+use Rattle.txn_log.proofs.publishing.publish.Goals as goal
+
+pub returns-in_default-clause-went : goal.returns-in_default-clause-went
+returns-in_default-clause-went g c honest = moved-none _ _ _ (c.args.store.now.left honest)
+
+pub invariant_of-store : goal.invariant_of-store
+invariant_of-store g c =
+    let s = c.args.store.now in
+    rw (c.reserve.ensures.items) (record { shaped = s.shaped; kept = s.kept; left = s.left })
+
+pub returns-then-is_err-clause-went : goal.returns-then-is_err-clause-went
+returns-then-is_err-clause-went g c honest = rw (c.reserve.ensures.items) (moved-none _ _ _ (c.args.store.now.left honest))
+
+pub invariant_of-store-in-Err : goal.invariant_of-store-in-Err
+invariant_of-store-in-Err g c =
+    let s = c.args.store.now in
+    rw (c.reserve.ensures.items, c.in-Err.ensures.err) (record { shaped = s.shaped; kept = s.kept; left = s.left })
+
+pub returns-in-Err-clause-went : goal.returns-in-Err-clause-went
+returns-in-Err-clause-went g c honest = rw (c.reserve.ensures.items) (moved-none _ _ _ (c.args.store.now.left honest))
+
+pub place-requires : goal.place-requires
+place-requires g c honest =
+    let s = c.args.store.now in
+    let h = g.D.Disk.history s.disk in
+    (subst (λ (b : Bool). IsStore h s.page_size s.commit s.entries.items s.sums.sums b s.whole s.tried) c.requires.open_ (s.kept honest)).rest.settled
+
+pub invariant_of-store-in-Whole : goal.invariant_of-store-in-Whole
+invariant_of-store-in-Whole g c = record {
+  shaped =
+    let s = c.args.store.now in
+    let file = c.args.file.now in
+    rw (c.push_reserved.ensures.items, c.entry_of.ensures, c.reserve.ensures.items, c.update.ensures, c.in-Ok-reserve.ensures.ok)
+    (shaped-after s.commit s.entries.items s.sums.sums file (sym c.requires.valid.block.commit) c.requires.valid.header.widths.commit
+      (omega (arith, c.requires.valid.header.min, c.requires.valid.header.max)) c.requires.sum);
+  kept = λ still.
+    let honest = sym c.place.ensures.honest ∙ still in
+    let s = c.args.store.now in
+    let h = g.D.Disk.history s.disk in
+    let new = g.D.Disk.history c.place.new.disk in
+    let file = c.args.file.now in
+    let text : List ℕ = c.as_slice.result.now in
+    let kept : IsStore h s.page_size s.commit s.entries.items s.sums.sums false s.whole s.tried =
+    subst (λ (b : Bool). IsStore h s.page_size s.commit s.entries.items s.sums.sums b s.whole s.tried) c.requires.open_ (s.kept honest) in
+    let can : CanTake (state_in s.page_size s.commit s.entries.items (now h)) file =
+    subst (λ (b : Bool). CanTake (state_of h s.page_size s.commit s.entries.items b s.whole) file) c.requires.open_ (c.requires.can honest) in
+    let is : IsLtx text file = subst (λ (t : List ℕ). IsLtx t file) (sym c.as_slice.ensures.value) c.in-Ok.ensures.text in
+    let read : file_of text ≡ file = ap file_of c.as_slice.ensures.value ∙ c.in-Ok.ensures.read in
+    let places = c.in-Whole.ensures.places honest (image h s.page_size s.commit s.entries.items s.sums.sums s.whole s.tried s.shaped kept) (files h s.page_size s.commit s.entries.items s.sums.sums s.whole s.tried s.shaped kept) (over h s.page_size s.commit s.entries.items s.sums.sums s.whole s.tried s.shaped kept file text can is read) in
+    rw (c.push_reserved.ensures.items, c.entry_of.ensures, c.reserve.ensures.items, c.update.ensures, c.in-Ok-reserve.ensures.ok, c.requires.open_) (stands h s.page_size s.commit s.entries.items s.sums.sums s.whole s.tried s.shaped kept file text can is read new places.0 places.1 c.moment-store.result s.tried);
+  left = λ still.
+    let honest = sym c.place.ensures.honest ∙ still in
+    let s = c.args.store.now in
+    let h = g.D.Disk.history s.disk in
+    let new = g.D.Disk.history c.place.new.disk in
+    let file = c.args.file.now in
+    let text : List ℕ = c.as_slice.result.now in
+    let kept : IsStore h s.page_size s.commit s.entries.items s.sums.sums false s.whole s.tried =
+    subst (λ (b : Bool). IsStore h s.page_size s.commit s.entries.items s.sums.sums b s.whole s.tried) c.requires.open_ (s.kept honest) in
+    let can : CanTake (state_in s.page_size s.commit s.entries.items (now h)) file =
+    subst (λ (b : Bool). CanTake (state_of h s.page_size s.commit s.entries.items b s.whole) file) c.requires.open_ (c.requires.can honest) in
+    let is : IsLtx text file = subst (λ (t : List ℕ). IsLtx t file) (sym c.as_slice.ensures.value) c.in-Ok.ensures.text in
+    let read : file_of text ≡ file = ap file_of c.as_slice.ensures.value ∙ c.in-Ok.ensures.read in
+    let places = c.in-Whole.ensures.places honest (image h s.page_size s.commit s.entries.items s.sums.sums s.whole s.tried s.shaped kept) (files h s.page_size s.commit s.entries.items s.sums.sums s.whole s.tried s.shaped kept) (over h s.page_size s.commit s.entries.items s.sums.sums s.whole s.tried s.shaped kept file text can is read) in
+    rw (c.push_reserved.ensures.items, c.entry_of.ensures, c.reserve.ensures.items, c.requires.open_) (left_done h s.page_size s.commit s.entries.items s.sums.sums s.whole s.tried s.shaped kept file text can is read new places.0 places.1);
+}
+
+pub returns-in-Whole-clause-went : goal.returns-in-Whole-clause-went
+returns-in-Whole-clause-went g c honest =
+    let s = c.args.store.now in
+    let h = g.D.Disk.history s.disk in
+    let new = g.D.Disk.history c.place.new.disk in
+    let file = c.args.file.now in
+    let text : List ℕ = c.as_slice.result.now in
+    let kept : IsStore h s.page_size s.commit s.entries.items s.sums.sums false s.whole s.tried =
+    subst (λ (b : Bool). IsStore h s.page_size s.commit s.entries.items s.sums.sums b s.whole s.tried) c.requires.open_ (s.kept honest) in
+    let can : CanTake (state_in s.page_size s.commit s.entries.items (now h)) file =
+    subst (λ (b : Bool). CanTake (state_of h s.page_size s.commit s.entries.items b s.whole) file) c.requires.open_ (c.requires.can honest) in
+    let is : IsLtx text file = subst (λ (t : List ℕ). IsLtx t file) (sym c.as_slice.ensures.value) c.in-Ok.ensures.text in
+    let read : file_of text ≡ file = ap file_of c.as_slice.ensures.value ∙ c.in-Ok.ensures.read in
+    let places = c.in-Whole.ensures.places honest (image h s.page_size s.commit s.entries.items s.sums.sums s.whole s.tried s.shaped kept) (files h s.page_size s.commit s.entries.items s.sums.sums s.whole s.tried s.shaped kept) (over h s.page_size s.commit s.entries.items s.sums.sums s.whole s.tried s.shaped kept file text can is read) in
+    rw (c.push_reserved.ensures.items, c.entry_of.ensures, c.reserve.ensures.items, c.requires.open_) (went_done h s.page_size s.commit s.entries.items s.sums.sums s.whole s.tried s.shaped kept file text can is read new places.0 places.1)
+
+pub invariant_of-store-in-Unpublished : goal.invariant_of-store-in-Unpublished
+invariant_of-store-in-Unpublished g c = record {
+  shaped = rw (c.reserve.ensures.items, c.in-Ok-reserve.ensures.ok) c.args.store.now.shaped;
+  kept = λ still.
+    let honest = sym c.place.ensures.honest ∙ still in
+    let s = c.args.store.now in
+    let h = g.D.Disk.history s.disk in
+    let new = g.D.Disk.history c.place.new.disk in
+    let file = c.args.file.now in
+    let text : List ℕ = c.as_slice.result.now in
+    let kept : IsStore h s.page_size s.commit s.entries.items s.sums.sums false s.whole s.tried =
+    subst (λ (b : Bool). IsStore h s.page_size s.commit s.entries.items s.sums.sums b s.whole s.tried) c.requires.open_ (s.kept honest) in
+    let can : CanTake (state_in s.page_size s.commit s.entries.items (now h)) file =
+    subst (λ (b : Bool). CanTake (state_of h s.page_size s.commit s.entries.items b s.whole) file) c.requires.open_ (c.requires.can honest) in
+    let is : IsLtx text file = subst (λ (t : List ℕ). IsLtx t file) (sym c.as_slice.ensures.value) c.in-Ok.ensures.text in
+    let read : file_of text ≡ file = ap file_of c.as_slice.ensures.value ∙ c.in-Ok.ensures.read in
+    let places = c.in-Unpublished.ensures.places honest (image h s.page_size s.commit s.entries.items s.sums.sums s.whole s.tried s.shaped kept) (files h s.page_size s.commit s.entries.items s.sums.sums s.whole s.tried s.shaped kept) (over h s.page_size s.commit s.entries.items s.sums.sums s.whole s.tried s.shaped kept file text can is read) in
+    rw (c.reserve.ensures.items, c.in-Ok-reserve.ensures.ok, c.moment-store.ensures)
+    (broken s.page_size s.commit s.entries.items s.sums.sums h new places.past s.whole s.tried h.moment places.later places.later kept);
+  left = λ still.
+    let honest = sym c.place.ensures.honest ∙ still in
+    let s = c.args.store.now in
+    let h = g.D.Disk.history s.disk in
+    let new = g.D.Disk.history c.place.new.disk in
+    let file = c.args.file.now in
+    let text : List ℕ = c.as_slice.result.now in
+    let kept : IsStore h s.page_size s.commit s.entries.items s.sums.sums false s.whole s.tried =
+    subst (λ (b : Bool). IsStore h s.page_size s.commit s.entries.items s.sums.sums b s.whole s.tried) c.requires.open_ (s.kept honest) in
+    let can : CanTake (state_in s.page_size s.commit s.entries.items (now h)) file =
+    subst (λ (b : Bool). CanTake (state_of h s.page_size s.commit s.entries.items b s.whole) file) c.requires.open_ (c.requires.can honest) in
+    let is : IsLtx text file = subst (λ (t : List ℕ). IsLtx t file) (sym c.as_slice.ensures.value) c.in-Ok.ensures.text in
+    let read : file_of text ≡ file = ap file_of c.as_slice.ensures.value ∙ c.in-Ok.ensures.read in
+    let places = c.in-Unpublished.ensures.places honest (image h s.page_size s.commit s.entries.items s.sums.sums s.whole s.tried s.shaped kept) (files h s.page_size s.commit s.entries.items s.sums.sums s.whole s.tried s.shaped kept) (over h s.page_size s.commit s.entries.items s.sums.sums s.whole s.tried s.shaped kept file text can is read) in
+    rw (c.reserve.ensures.items, c.moment-store.ensures) (left_before h s.page_size s.commit s.entries.items s.sums.sums s.whole s.tried s.shaped kept new places);
+}
+
+pub returns-in-Unpublished-clause-went : goal.returns-in-Unpublished-clause-went
+returns-in-Unpublished-clause-went g c honest =
+    let s = c.args.store.now in
+    let h = g.D.Disk.history s.disk in
+    let new = g.D.Disk.history c.place.new.disk in
+    let file = c.args.file.now in
+    let text : List ℕ = c.as_slice.result.now in
+    let kept : IsStore h s.page_size s.commit s.entries.items s.sums.sums false s.whole s.tried =
+    subst (λ (b : Bool). IsStore h s.page_size s.commit s.entries.items s.sums.sums b s.whole s.tried) c.requires.open_ (s.kept honest) in
+    let can : CanTake (state_in s.page_size s.commit s.entries.items (now h)) file =
+    subst (λ (b : Bool). CanTake (state_of h s.page_size s.commit s.entries.items b s.whole) file) c.requires.open_ (c.requires.can honest) in
+    let is : IsLtx text file = subst (λ (t : List ℕ). IsLtx t file) (sym c.as_slice.ensures.value) c.in-Ok.ensures.text in
+    let read : file_of text ≡ file = ap file_of c.as_slice.ensures.value ∙ c.in-Ok.ensures.read in
+    let places = c.in-Unpublished.ensures.places honest (image h s.page_size s.commit s.entries.items s.sums.sums s.whole s.tried s.shaped kept) (files h s.page_size s.commit s.entries.items s.sums.sums s.whole s.tried s.shaped kept) (over h s.page_size s.commit s.entries.items s.sums.sums s.whole s.tried s.shaped kept file text can is read) in
+    rw (c.reserve.ensures.items, c.moment-store.ensures, c.requires.open_) (inl (went_before h s.page_size s.commit s.entries.items s.sums.sums s.whole s.tried s.shaped kept new places))
+
+pub invariant_of-store-in-From : goal.invariant_of-store-in-From
+invariant_of-store-in-From g c = record {
+  shaped = rw (c.reserve.ensures.items, c.in-Ok-reserve.ensures.ok) c.args.store.now.shaped;
+  kept = λ still.
+    let honest = sym c.place.ensures.honest ∙ still in
+    let s = c.args.store.now in
+    let h = g.D.Disk.history s.disk in
+    let new = g.D.Disk.history c.place.new.disk in
+    let file = c.args.file.now in
+    let text : List ℕ = c.as_slice.result.now in
+    let kept : IsStore h s.page_size s.commit s.entries.items s.sums.sums false s.whole s.tried =
+    subst (λ (b : Bool). IsStore h s.page_size s.commit s.entries.items s.sums.sums b s.whole s.tried) c.requires.open_ (s.kept honest) in
+    let can : CanTake (state_in s.page_size s.commit s.entries.items (now h)) file =
+    subst (λ (b : Bool). CanTake (state_of h s.page_size s.commit s.entries.items b s.whole) file) c.requires.open_ (c.requires.can honest) in
+    let is : IsLtx text file = subst (λ (t : List ℕ). IsLtx t file) (sym c.as_slice.ensures.value) c.in-Ok.ensures.text in
+    let read : file_of text ≡ file = ap file_of c.as_slice.ensures.value ∙ c.in-Ok.ensures.read in
+    let places = c.in-From.ensures.places honest (image h s.page_size s.commit s.entries.items s.sums.sums s.whole s.tried s.shaped kept) (files h s.page_size s.commit s.entries.items s.sums.sums s.whole s.tried s.shaped kept) (over h s.page_size s.commit s.entries.items s.sums.sums s.whole s.tried s.shaped kept file text can is read) in
+    rw (c.reserve.ensures.items, c.in-Ok-reserve.ensures.ok, c.moment-store.ensures)
+    (broken s.page_size s.commit s.entries.items s.sums.sums h new places.0.past s.whole s.tried c.in-From.tried places.0.later places.1.past kept);
+  left = λ still.
+    let honest = sym c.place.ensures.honest ∙ still in
+    let s = c.args.store.now in
+    let h = g.D.Disk.history s.disk in
+    let new = g.D.Disk.history c.place.new.disk in
+    let file = c.args.file.now in
+    let text : List ℕ = c.as_slice.result.now in
+    let kept : IsStore h s.page_size s.commit s.entries.items s.sums.sums false s.whole s.tried =
+    subst (λ (b : Bool). IsStore h s.page_size s.commit s.entries.items s.sums.sums b s.whole s.tried) c.requires.open_ (s.kept honest) in
+    let can : CanTake (state_in s.page_size s.commit s.entries.items (now h)) file =
+    subst (λ (b : Bool). CanTake (state_of h s.page_size s.commit s.entries.items b s.whole) file) c.requires.open_ (c.requires.can honest) in
+    let is : IsLtx text file = subst (λ (t : List ℕ). IsLtx t file) (sym c.as_slice.ensures.value) c.in-Ok.ensures.text in
+    let read : file_of text ≡ file = ap file_of c.as_slice.ensures.value ∙ c.in-Ok.ensures.read in
+    let places = c.in-From.ensures.places honest (image h s.page_size s.commit s.entries.items s.sums.sums s.whole s.tried s.shaped kept) (files h s.page_size s.commit s.entries.items s.sums.sums s.whole s.tried s.shaped kept) (over h s.page_size s.commit s.entries.items s.sums.sums s.whole s.tried s.shaped kept file text can is read) in
+    rw (c.reserve.ensures.items, c.moment-store.ensures) (left_in h s.page_size s.commit s.entries.items s.sums.sums s.whole s.tried s.shaped kept file text can is read new c.in-From.tried places.0 places.1);
+}
+
+pub returns-clause-went : goal.returns-clause-went
+returns-clause-went g c honest =
+    let s = c.args.store.now in
+    let h = g.D.Disk.history s.disk in
+    let new = g.D.Disk.history c.place.new.disk in
+    let file = c.args.file.now in
+    let text : List ℕ = c.as_slice.result.now in
+    let kept : IsStore h s.page_size s.commit s.entries.items s.sums.sums false s.whole s.tried =
+    subst (λ (b : Bool). IsStore h s.page_size s.commit s.entries.items s.sums.sums b s.whole s.tried) c.requires.open_ (s.kept honest) in
+    let can : CanTake (state_in s.page_size s.commit s.entries.items (now h)) file =
+    subst (λ (b : Bool). CanTake (state_of h s.page_size s.commit s.entries.items b s.whole) file) c.requires.open_ (c.requires.can honest) in
+    let is : IsLtx text file = subst (λ (t : List ℕ). IsLtx t file) (sym c.as_slice.ensures.value) c.in-Ok.ensures.text in
+    let read : file_of text ≡ file = ap file_of c.as_slice.ensures.value ∙ c.in-Ok.ensures.read in
+    let places = c.in-From.ensures.places honest (image h s.page_size s.commit s.entries.items s.sums.sums s.whole s.tried s.shaped kept) (files h s.page_size s.commit s.entries.items s.sums.sums s.whole s.tried s.shaped kept) (over h s.page_size s.commit s.entries.items s.sums.sums s.whole s.tried s.shaped kept file text can is read) in
+    rw (c.reserve.ensures.items, c.moment-store.ensures, c.requires.open_) (inr (went_in h s.page_size s.commit s.entries.items s.sums.sums s.whole s.tried s.shaped kept file text can is read new c.in-From.tried places.0 places.1))

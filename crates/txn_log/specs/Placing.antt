@@ -1,0 +1,37 @@
+-- A transaction file is staged, put into the log, and its change written over the database file.
+use Rattle.std.specs.Prelude.{◌≡◌, ℕ, ◌≤◌, false, List, [], ◌∷◌, ◌++◌}
+use Rattle.lf_base.specs.Faults.{Rose}
+use Rattle.lf_disk.specs.declared.name.FileName.TheVariants.{Staged}
+use Rattle.lf_disk.specs.Folder.{bytes_of}
+use Rattle.lf_disk.specs.History.{History, EachMoment}
+use Rattle.lf_sqlite_pages.specs.Image.{DatabaseImage}
+use Rattle.lf_sqlite_pages.specs.Change.{PageChange, IsChange}
+use Rattle.lf_sqlite_pages.specs.Apply.{apply}
+use Rattle.txn_log.specs.declared.placed.Placed.{Placed}
+use Rattle.txn_log.specs.declared.placed.Placed.TheVariants as placed
+use Rattle.txn_log.specs.Kept.{LogFile, change_of, Kept, IsAtRest, IsComplete}
+use Rattle.txn_log.specs.Putting.{IsBeforeOrAfter}
+
+-- the text is that of a complete change over a store at rest
+pub record IsOver (image : DatabaseImage) (files : List LogFile) (text : List ℕ) (change : PageChange) (h : History) : Type 0 where
+  pub rest : IsAtRest image files false h
+  pub tells : change_of text ≡ change
+  pub valid : IsChange change
+  pub complete : IsComplete image change
+
+-- the file's rename was tried at this moment
+pub record IsTried (text : List ℕ) (tried : ℕ) (h : History) : Type 0 where
+  pub past : tried ≤ h.moment
+  pub read : bytes_of (h.seen tried Staged) ≡ text
+
+-- what a crash leaves, by the outcome: before the rename the store from before, and from there on also the one after it
+abbrev pub Places : DatabaseImage → List LogFile → DatabaseImage → LogFile → History → Placed → History → Type 0
+Places image files made file start placed.Unpublished end = EachMoment start end (Kept image files false)
+Places image files made file start (placed.From tried) end = EachMoment start end (IsBeforeOrAfter image files made (files ++ file ∷ [])) × IsTried file.text tried end
+Places image files made file start placed.Whole end = EachMoment start end (IsBeforeOrAfter image files made (files ++ file ∷ [])) × IsAtRest made (files ++ file ∷ []) false end
+
+-- only a disk that failed raises its count
+abbrev pub CountsPlaced : ℕ → ℕ → Placed → Type 0
+CountsPlaced before now placed.Whole = now ≡ before
+CountsPlaced before now placed.Unpublished = Rose before now
+CountsPlaced before now (placed.From tried) = Rose before now

@@ -1,0 +1,87 @@
+//! A file is published as the next of a store.
+ghost use Rattle.std.specs.Prelude.{◌≡◌, ◌∷◌, false, IsTrue, IfOk, IfErr};
+ghost use Rattle.ltx_codec.specs.Format.{IsFile};
+ghost use Rattle.ltx_codec.specs.Positions.{after};
+ghost use Rattle.world_laws.specs.Store.{Commit};
+ghost use Rattle.txn_log.specs.Calls.{Went};
+ghost use Rattle.txn_log.specs.Causes.{Breaks, IsDiskOrMemory};
+ghost use Rattle.txn_log.specs.Publishing.{CanTake, IsSummedBy};
+ghost use Rattle.txn_log.specs.Store.{state_of, failed_of, entry_of as entry};
+
+use crate::attempt::Attempt;
+use crate::encoding::text_of;
+use crate::entry::Entry;
+use crate::fault::StoreFault;
+use crate::placed::Placed;
+use crate::placing::place;
+use crate::store::Store;
+use crate::sums::update;
+use lf_base::Pos;
+use lf_disk::Disk;
+use ltx_codec::Ltx;
+
+/// The entry of a file.
+fn entry_of(file: &Ltx) -> Entry
+    requires { IsFile file.now }
+    ensures { result ≡ entry file.now }
+{
+    Entry {
+        min: file.header.min,
+        max: file.header.max,
+        pre: file.before(),
+        post: file.after(),
+    }
+}
+
+/// Publishes a file that follows the store, and writes its change over the database file.
+pub fn publish<D: Disk>(store: &mut Store<D>, file: &Ltx) -> Result<Pos, StoreFault>
+    requires open_ { store.old.broken ≡ false }
+    requires valid { IsFile file.now }
+    requires sum { IsSummedBy store.old.sums.sums file.now }
+    requires can { IsTrue (D.honest store.old.disk) → CanTake (state_of (D.history store.old.disk)
+        store.old.page_size store.old.commit store.old.entries.items store.old.broken store.old.whole) file.now }
+    ensures went { IsTrue (D.honest store.old.disk) → Went
+        (state_of (D.history store.old.disk) store.old.page_size store.old.commit store.old.entries.items store.old.broken store.old.whole)
+        (failed_of (D.history store.old.disk) store.old.broken store.old.attempt store.old.tried)
+        (D.history store.old.disk) (Commit file.now) result
+        (state_of (D.history store.new.disk) store.new.page_size store.new.commit store.new.entries.items store.new.broken store.new.whole)
+        (failed_of (D.history store.new.disk) store.new.broken store.new.attempt store.new.tried)
+        (D.history store.new.disk) }
+    ensures told { IfOk result (λ position. position ≡ after file.now) }
+    ensures refusal { IfErr result IsDiskOrMemory }
+    ensures cause { Breaks store.old.broken (D.faults store.old.disk) result store.new.broken (D.faults store.new.disk) }
+    ensures honest { D.honest store.new.disk ≡ D.honest store.old.disk }
+{
+    let Ok(text) = text_of(*store.entries.allocator(), file) else {
+        return Err(StoreFault::NoMemory);
+    };
+    if store.entries.reserve(1).is_err() {
+        return Err(StoreFault::NoMemory);
+    }
+    match store.sums.reserve(file.header.commit) {
+        Ok(()) => {}
+        Err(_) => return Err(StoreFault::NoMemory),
+    }
+    store.whole = store.disk.moment();
+    match place(&mut store.disk, text.as_slice(), file.header.min, file.header.max, &file.change) {
+        Placed::Whole => {
+            store.page_size = file.header.page_size;
+            store.commit = file.header.commit;
+            store.entries.push_reserved(entry_of(file));
+            update(&mut store.sums, &file.change);
+            Ok(file.after())
+        }
+        Placed::Unpublished => {
+            store.broken = true;
+            store.attempt = Attempt::Unpublished;
+            store.tried = store.whole;
+            Err(StoreFault::Disk)
+        }
+        Placed::From(tried) => {
+            store.broken = true;
+            store.attempt = Attempt::Commit;
+            store.tried = tried;
+            Err(StoreFault::Disk)
+        }
+    }
+}
