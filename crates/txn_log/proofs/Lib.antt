@@ -9,4 +9,5 @@ mod Puttings
 mod Rewritings
 mod Stores
 mod SumTables
+mod Taking
 mod Wearing

@@ -17,7 +17,9 @@ use Rattle.world_laws.specs.Store.{StoreState, StoreCall, Commit, Failure, Faile
 use Rattle.txn_log.specs.declared.entry.Entry.{Entry}
 use Rattle.txn_log.specs.declared.attempt.Attempt.{Attempt}
 use Rattle.txn_log.specs.declared.attempt.Attempt.TheVariants as attempt
-use Rattle.txn_log.specs.Calls.{StandsForOne, RestsAs, MayFind, Moved}
+use Rattle.txn_log.specs.declared.fault.StoreFault.{StoreFault}
+use Rattle.txn_log.specs.declared.fault.StoreFault.TheVariants as fault
+use Rattle.txn_log.specs.Calls.{StandsForOne, RestsAs, MayFind, Moved, Went}
 use Rattle.txn_log.specs.Draft.{sums_after}
 use Rattle.txn_log.specs.Durable.{Durable, IsText, log_of, IsLog, IsSummed}
 use Rattle.txn_log.specs.Kept.{LogFile, file_of, Kept, IsAtRest, IsAtRestAt, IsComplete}
@@ -269,3 +271,14 @@ shaped-after commit entries sums file same low first summed = record {
     not_none : (es : List Entry) → es ++ entry_of file ∷ [] ≡ [] → ⊥
     not_none [] none = cc
     not_none (e ∷ es) none = cc
+
+-- a call that was refused
+pub went-none : (T : Type 0) (store : StoreState) (was : Option Failure) (h : History) (call : StoreCall) (why : StoreFault) → (why ≡ fault.Disk → ⊥) → RestsAs (MayBeFound store was) h
+    → Went {T = T} store was h call (Err why) store was h
+went-none T store was h call fault.Disk refused rests = absurd (refused refl)
+went-none T store was h call fault.Broken refused rests = moved-none store was h rests
+went-none T store was h call (fault.NotNext have want) refused rests = moved-none store was h rests
+went-none T store was h call (fault.SumDiffers want got) refused rests = moved-none store was h rests
+went-none T store was h call fault.Limit refused rests = moved-none store was h rests
+went-none T store was h call fault.NoMemory refused rests = moved-none store was h rests
+went-none T store was h call (fault.PageSize have want) refused rests = moved-none store was h rests

@@ -7,6 +7,7 @@ use Rattle.lf_base.specs.declared.pos.Pos.{Pos}
 use Rattle.lf_sqlite_pages.specs.LockPage.{lock_page_of, IsWithinLimit}
 use Rattle.lf_sqlite_pages.specs.Change.{PageChange, FitsOver, written}
 use Rattle.lf_sqlite_pages.specs.Complete.{completed}
+use Rattle.ltx_codec.specs.Positions.{after}
 use Rattle.ltx_codec.specs.declared.file.Ltx.{Ltx}
 use Rattle.txn_log.specs.declared.fault.StoreFault.{StoreFault}
 use Rattle.txn_log.specs.declared.fault.StoreFault.TheVariants as fault
@@ -59,3 +60,10 @@ Drafts broken position size commit sums change stamp node (Err fault.NoMemory) =
 Drafts broken position size commit sums change stamp node (Err why) = ⊥
 Drafts broken position size commit sums change stamp node (Ok file) =
     (broken ≡ false) × FitsOver size commit change × IsWithin position change × (file ≡ drafted position commit sums change stamp node)
+
+-- what a commit of a change answers: as its draft, or the disk failed
+abbrev pub Commits : Bool → Pos → ℕ → ℕ → List ℕ → PageChange → ℕ → ℕ → Result Pos StoreFault → Type 0
+Commits broken position size commit sums change stamp node (Err fault.Disk) = (broken ≡ false) × FitsOver size commit change × IsWithin position change
+Commits broken position size commit sums change stamp node (Err why) = Drafts broken position size commit sums change stamp node (Err why)
+Commits broken position size commit sums change stamp node (Ok told) =
+    (broken ≡ false) × FitsOver size commit change × IsWithin position change × (told ≡ after (drafted position commit sums change stamp node))

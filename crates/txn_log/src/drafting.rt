@@ -1,6 +1,7 @@
 //! The file that a commit would publish.
-ghost use Rattle.std.specs.Prelude.{◌≡◌, ◌↔◌, ◌<◌, ◌^◌, IsTrue, IfOk};
+ghost use Rattle.std.specs.Prelude.{◌≡◌, ◌↔◌, ◌<◌, ◌^◌, IsTrue, IfOk, OnOk};
 ghost use Rattle.lf_base.specs.declared.pos.Pos.{Pos as Position};
+ghost use Rattle.lf_sqlite_pages.specs.Change.{IsChange};
 ghost use Rattle.ltx_codec.specs.Format.{IsFile, FitsWidths};
 ghost use Rattle.txn_log.specs.Store.{end_of_entries};
 ghost use Rattle.txn_log.specs.Draft.{file_with, IsWithin, Drafts};
@@ -58,6 +59,7 @@ impl<D: Disk> Store<D> {
         ensures drafts { Drafts self.now.broken (end_of_entries self.now.entries.items) self.now.page_size self.now.commit
             self.now.sums.sums change.now stamp node result }
         ensures valid { IfOk result IsFile }
+        ensures change { OnOk result (IsChange change.now) }
     {
         if self.broken {
             return Err(StoreFault::Broken);

@@ -2,6 +2,7 @@
 #![tactic(auto)]
 
 mod attempt;
+mod committing;
 mod copying;
 mod drafting;
 mod encoding;
