@@ -2,4 +2,9 @@ pub mod TextLemmas
 pub mod PutLemmas
 pub mod ZeroLemmas
 pub mod WriteLemmas
+pub mod KeyLemmas
+pub mod KeptLemmas
+pub mod HeaderLemmas
+pub mod DifferenceLemmas
+pub mod CleanLemmas
 pub mod ReadLemmas

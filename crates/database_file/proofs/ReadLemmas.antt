@@ -66,7 +66,7 @@ read_pages f size before m r from wanted span each fits end =
     (elim end [ inl e ↦ inl e | inr h ↦ inr (h.0, rw h.1 refl, rw b h.2) ]))
 
 -- each page that the file reads has its size
-page_of-length : (file : DatabaseFile) (image : DatabaseImage) (n : ℕ) → FitsShape file image.page_size (length image.pages) → IsImage image → 1 ≤ n →
+pub page_of-length : (file : DatabaseFile) (image : DatabaseImage) (n : ℕ) → FitsShape file image.page_size (length image.pages) → IsImage image → 1 ≤ n →
     length (page_of file image n) ≡ size_of file image
 page_of-length file image n fits valid first = looked (get file.kept n) (page_at image n) refl refl where
   looked : (kept at_image : Option (List ℕ)) → get file.kept n ≡ kept → page_at image n ≡ at_image →

@@ -16,7 +16,7 @@ use Rattle.lf_sqlite_pages.proofs.PageNumbers.{page_at-first, page_at-past}
 use Rattle.database_file.specs.DatabaseFile.{DatabaseFile, size_over, size_of, count_over, count_of, page_of, as_read, FitsShape, KeepsDifferences}
 use Rattle.database_file.specs.Writing.{page_or_zeros, page_in, page_written, with_pages, sized, AreDataPages, TakesPages}
 use Rattle.database_file.specs.WritingParts.{Pages, counted, KeepsZeros, MayKeepZeros, TellAllSame, ArePut}
-use Rattle.database_file.proofs.ZeroLemmas.{get-cut}
+use Rattle.database_file.proofs.ZeroLemmas.{get_cut}
 
 -- the count as it is kept is the count
 pub counted-over : (count commit : ℕ) → unwrap_or (counted count commit) commit ≡ count
@@ -111,13 +111,13 @@ resized_file mid size commit count = record { kept = pages.retain_keys mid (λ n
 get-within : (m : Pages) (count n : ℕ) → n ≤ count → pages.get (pages.retain_keys m (λ k. nat_le k count)) n ≡ pages.get m n
 get-within m count n within =
     let test : nat_le n count ≡ true = grind (arith, nat_tests) in
-    get-cut m count n ∙ rw test refl
+    get_cut m count n ∙ rw test refl
 
 kept-within : (m : Pages) (count n : ℕ) (page : List ℕ) → pages.get (pages.retain_keys m (λ k. nat_le k count)) n ≡ Some page → (n ≤ count) × (pages.get m n ≡ Some page)
 kept-within m count n page is = elim (cases_lt count n) [
   | inl past ↦
       let test : nat_le n count ≡ false = grind (arith, nat_tests) in
-      let none : pages.get (pages.retain_keys m (λ k. nat_le k count)) n ≡ None = get-cut m count n ∙ rw test refl in
+      let none : pages.get (pages.retain_keys m (λ k. nat_le k count)) n ≡ None = get_cut m count n ∙ rw test refl in
       absurd (cc (none, is))
   | inr within ↦ (within, sym (get-within m count n within) ∙ is)
 ]

@@ -23,8 +23,8 @@ lock_page_same (Some i) commit n blank size count valid is within zeros =
     (λ _. sym (ap (page_at i) here) ∙ valid.blank reaches ∙ ap Some same, λ no. absurd (cc))
 
 -- what a cut map has
-pub get-cut : (m : Pages) (count n : ℕ) → pages.get (pages.retain_keys m (λ k. nat_le k count)) n ≡ cond (nat_le n count) (pages.get m n) None
-get-cut m count n =
+pub get_cut : (m : Pages) (count n : ℕ) → pages.get (pages.retain_keys m (λ k. nat_le k count)) n ≡ cond (nat_le n count) (pages.get m n) None
+get_cut m count n =
     let p : ℕ → Bool = λ k. nat_le k count in
     get-retain_keys m p n (λ x tied. ap p (sym (nat_cmp-IsAntisymmetric n x tied)))
 
@@ -131,7 +131,7 @@ zeros_end old m from at to size reached end zeros = record {
 pub cut_back : (old m : Pages) (from : ℕ) → ((n : ℕ) → n ≤ from → pages.get m n ≡ pages.get old n) →
     ((n : ℕ) (page : List ℕ) → pages.get old n ≡ Some page → n ≤ from) → pages.retain_keys m (λ n. nat_le n from) ≡ old
 cut_back old m from before none =
-    same_map nat_cmp_total nat_cmp-IsAntisymmetric (pages.retain_keys m (λ n. nat_le n from)) old (λ q. get-cut m from q ∙ back q) where
+    same_map nat_cmp_total nat_cmp-IsAntisymmetric (pages.retain_keys m (λ n. nat_le n from)) old (λ q. get_cut m from q ∙ back q) where
       missing : (q : ℕ) (o : Option (List ℕ)) → pages.get old q ≡ o → from < q → pages.get old q ≡ None
       missing q None e past = e
       missing q (Some page) e past = absurd (omega (arith, past, none q page e))

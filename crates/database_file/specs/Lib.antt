@@ -1,4 +1,6 @@
 pub mod DatabaseFile
+pub mod Commit
+pub mod CommitParts
 pub mod Fault
 pub mod Writing
 pub mod WritingParts

@@ -4,13 +4,19 @@
 //! It keeps those pages alone that differ from the image, and knows no journal, lock or request.
 #![tactic(auto)]
 
+mod commit_change;
 mod comparing;
 mod database_file;
 mod fault;
 mod keeping;
+mod laws;
 mod reading;
 mod span;
 mod writing;
 
 pub use database_file::DatabaseFile;
 pub use fault::FileFault;
+pub use laws::{
+    change_leads_to_the_file, clean_file_is_the_image, difference_leads_to_the_other_image,
+    file_reads_as_an_image,
+};
