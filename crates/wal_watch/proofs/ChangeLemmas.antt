@@ -10,8 +10,7 @@ use Rattle.std.proofs.lemmas.Bool.{cases_eq}
 use Rattle.wal_watch.specs.Frames.{number_in, page_size_in, frame_place, committed_count}
 use Rattle.wal_watch.proofs.CommitLemmas.{frame_there}
 use Rattle.wal_watch.specs.News.{latest_frame, change_frame, latest_pages, write_in}
-use Rattle.wal_watch.specs.Searching.{HoldsNone, IsLeast, IsNext, limit_of}
-use Rattle.wal_watch.specs.declared.change.Found.{Found}
+use Rattle.wal_watch.specs.Searching.{HoldsNone, IsLeast}
 
 pub latest_more : (text : List ℕ) (page first k : ℕ) → latest_frame text page first (k + 1)
     ≡ (if nat_le first k && (number_in text k == page) then Some k else latest_frame text page first k)
@@ -55,59 +54,6 @@ change_none text page first n le = elim (cases_eq page (lock_page_of (page_size_
   | inr holds ↦ change_data text page first n holds ∙ latest_none text page first n le
 ]
 
--- nothing is found yet
-pub next_none : (text : List ℕ) (first above commit : ℕ) → IsNext text first first above commit None
-next_none text first above commit = record { none = λ page over under. change_none text page first first (omega arith) }
-
--- a frame that is no closer
-none_more : (text : List ℕ) (first k above below : ℕ) → HoldsNone text first k above below
-    → ((above < number_in text k) → (number_in text k < below) → number_in text k ≡ lock_page_of (page_size_in text)) → HoldsNone text first (k + 1) above below
-none_more text first k above below h far = record {
-  none = λ page over under.
-      change_other text page first k (λ is. let at_page : number_in text k ≡ page = is in sym is ∙ far (omega (arith, over, at_page)) (omega (arith, under, at_page)))
-      ∙ h.none page over under;
-}
-
--- whether a frame is closer
-abbrev pub IsCloser : List ℕ → ℕ → ℕ → ℕ → Option Found → Type 0
-IsCloser text k above commit found = IsDataPage (page_size_in text) (number_in text k) × (above < number_in text k) × (number_in text k ≤ limit_of commit found)
-
-pub next_same : (text : List ℕ) (first k above commit : ℕ) (found : Option Found) → IsNext text first k above commit found
-    → (IsCloser text k above commit found → ⊥) → IsNext text first (k + 1) above commit found
-next_same text first k above commit None h far = none_more text first k above (commit + 1) h (λ over under.
-    elim (cases_eq (number_in text k) (lock_page_of (page_size_in text))) [ inl lock ↦ lock | inr holds ↦ absurd (far (holds, over, omega (arith, under))) ])
-next_same text first k above commit (Some found) h far = record {
-  over = h.over;
-  within = h.within;
-  among = omega (arith, h.among);
-  holds_data = h.holds_data;
-  latest = change_other text found.page first k (λ is. absurd (let at_page : number_in text k ≡ found.page = is in
-      far ((λ lock. h.holds_data (sym is ∙ lock)), omega (arith, at_page, h.over), omega (arith, at_page)))) ∙ h.latest;
-  between = none_more text first k above found.page h.between (λ over under.
-      elim (cases_eq (number_in text k) (lock_page_of (page_size_in text))) [ inl lock ↦ lock | inr holds ↦ absurd (far (holds, over, omega (arith, under))) ]);
-}
-
--- a frame that is closer
-pub next_closer : (text : List ℕ) (first k above commit : ℕ) (found : Option Found) (page : ℕ) → IsNext text first k above commit found → first ≤ k
-    → page ≡ number_in text k → IsDataPage (page_size_in text) page → above < page → page ≤ limit_of commit found
-    → IsNext text first (k + 1) above commit (Some (record { page = page; frame = k }))
-next_closer text first k above commit None page h le is holds over under = record {
-  over = over;
-  within = under;
-  among = omega arith;
-  holds_data = holds;
-  latest = change_here text page first k le holds (sym is);
-  between = none_more text first k above page (record { none = λ other from to. h.none other from (omega arith) }) (λ from to. absurd (omega (arith, is, to)));
-}
-next_closer text first k above commit (Some found) page h le is holds over under = record {
-  over = over;
-  within = omega (arith, h.within);
-  among = omega arith;
-  holds_data = holds;
-  latest = change_here text page first k le holds (sym is);
-  between = none_more text first k above page (record { none = λ other from to. h.between.none other from (omega arith) }) (λ from to. absurd (omega (arith, is, to)));
-}
-
 pages_none : (text : List ℕ) (first n page : ℕ) → change_frame text (page + 1) first n ≡ None → latest_pages text first n (page + 1) ≡ latest_pages text first n page
 unfolding latest_pages
 pages_none text first n page none = ap (λ (m : ℕ). latest_pages text first n m) (add-one page) ∙ rw none (append-nil _)
@@ -128,15 +74,15 @@ pages_skip text first n above (suc more) h =
     ∙ pages_skip text first n above more (record { none = λ other from to. h.none other from (omega (arith, add-one more)) })
 
 -- the pages up to the one that was found
-pub pages_next : (text : List ℕ) (first n above commit : ℕ) (found : Found) → IsLeast text first n above commit found
-    → latest_pages text first n found.page ≡ latest_pages text first n above ++ write_in text found.page found.frame ∷ []
-pages_next text first n above commit found h =
-    let more = found.page - 1 - above in
+pub pages_next : (text : List ℕ) (first n above commit page frame : ℕ) → IsLeast text first n above commit page frame
+    → latest_pages text first n page ≡ latest_pages text first n above ++ write_in text page frame ∷ []
+pages_next text first n above commit page frame h =
+    let more = page - 1 - above in
     let over = h.over in
-    let page_is : above + more + 1 ≡ found.page = omega arith in
+    let page_is : above + more + 1 ≡ page = omega arith in
     let skipped : latest_pages text first n (above + more) ≡ latest_pages text first n above = pages_skip text first n above more (rw page_is h.between) in
-    let some : change_frame text (above + more + 1) first n ≡ Some found.frame = rw page_is h.latest in
-    ap (λ (m : ℕ). latest_pages text first n m) (sym page_is) ∙ pages_push text first n (above + more) found.frame some ∙ rw (skipped, page_is) refl
+    let some : change_frame text (above + more + 1) first n ≡ Some frame = rw page_is h.latest in
+    ap (λ (m : ℕ). latest_pages text first n m) (sym page_is) ∙ pages_push text first n (above + more) frame some ∙ rw (skipped, page_is) refl
 
 -- all pages, where nothing more was found
 pub pages_end : (text : List ℕ) (first n above commit : ℕ) → above ≤ commit → HoldsNone text first n above (commit + 1)
@@ -173,7 +119,3 @@ pub latest_there : (text : List ℕ) (page count n : ℕ) (frame : Option ℕ) �
     → IfSome frame (λ k. frame_place text (k + 1) ≤ length text)
 latest_there text page count n None is le latest = tt
 latest_there text page count n (Some k) is le latest = frame_there text count k is (omega (arith, le, latest_among text page 0 n k (sym latest)))
-
--- a page that isn't the lock page of the size that the text states
-pub closer-data : (text : List ℕ) (page lock size : ℕ) → lock ≡ lock_page_of size → size ≡ page_size_in text → (page ≡ lock → ⊥) → IsDataPage (page_size_in text) page
-closer-data text page lock size lock-is size-is other = λ is. other (is ∙ ap (λ (n : ℕ). lock_page_of n) (sym size-is) ∙ sym lock-is)

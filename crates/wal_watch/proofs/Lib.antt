@@ -7,6 +7,7 @@ pub mod FrontLemmas
 pub mod StayLemmas
 pub mod WriteLemmas
 pub mod ChangeLemmas
+pub mod TakenLemmas
 pub mod CheckLemmas
 pub mod CutLemmas
 pub mod LawLemmas

@@ -1,29 +1,38 @@
--- How the pages of a change are found, one after another. No public clause cites these.
-use Rattle.std.specs.Prelude.{◌≡◌, ℕ, ◌+◌, ◌≤◌, ◌<◌, Option, Some, None, List}
+-- How the pages of a change are collected and taken, one after another. No public clause cites these.
+use Rattle.std.specs.Prelude.{◌≡◌, ℕ, ◌≤◌, ◌<◌, nat_le, Option, Some, None, List, if◌then◌else◌}
+use Rattle.std.specs.BTreeMap.{BTreeMap, get}
+use Rattle.std.specs.Ordering.{nat_cmp}
+use Rattle.lf_sqlite_pages.specs.Change.{PageChange, last_number}
 use Rattle.lf_sqlite_pages.specs.LockPage.{IsDataPage}
 use Rattle.wal_watch.specs.Frames.{page_size_in}
-use Rattle.wal_watch.specs.News.{change_frame}
-use Rattle.wal_watch.specs.declared.change.Found.{Found}
+use Rattle.wal_watch.specs.News.{change_frame, latest_pages}
 
--- the greatest page that comes before what was found
-abbrev pub limit_of : ℕ → Option Found → ℕ
-limit_of commit None = commit
-limit_of commit (Some found) = found.page
+-- the frame that a change takes a page from, of the pages up to a count
+unfoldable pub frame_within : List ℕ → ℕ → ℕ → ℕ → ℕ → Option ℕ
+frame_within text commit first n page = if nat_le page commit then change_frame text page first n else None
+
+-- the map has each page that the frames from first on, among the first n, hold, with the latest frame of it
+pub record HoldsPages (text : List ℕ) (commit first n : ℕ) (pages : BTreeMap ℕ ℕ) : Type 0 where
+  pub at : (page : ℕ) → get nat_cmp pages page ≡ frame_within text commit first n page
 
 -- the frames from first on, among the first n, hold no page between two numbers
 pub record HoldsNone (text : List ℕ) (first n above below : ℕ) : Type 0 where
   pub none : (page : ℕ) → above < page → page < below → change_frame text page first n ≡ None
 
 -- the least page above a number, and the latest frame of it
-pub record IsLeast (text : List ℕ) (first n above commit : ℕ) (found : Found) : Type 0 where
-  pub over : above < found.page
-  pub within : found.page ≤ commit
-  pub among : found.frame < n
-  pub holds_data : IsDataPage (page_size_in text) found.page
-  pub latest : change_frame text found.page first n ≡ Some found.frame
-  pub between : HoldsNone text first n above found.page
+pub record IsLeast (text : List ℕ) (first n above commit page frame : ℕ) : Type 0 where
+  pub over : above < page
+  pub within : page ≤ commit
+  pub among : frame < n
+  pub holds_data : IsDataPage (page_size_in text) page
+  pub latest : change_frame text page first n ≡ Some frame
+  pub between : HoldsNone text first n above page
 
--- what was found, if anything
-abbrev pub IsNext : List ℕ → ℕ → ℕ → ℕ → ℕ → Option Found → Type 0
-IsNext text first n above commit None = HoldsNone text first n above (commit + 1)
-IsNext text first n above commit (Some found) = IsLeast text first n above commit found
+-- the change has the pages up to its last one, and the map has the others
+pub record AreTaken (text : List ℕ) (commit first n : ℕ) (pages : BTreeMap ℕ ℕ) (change : PageChange) : Type 0 where
+  pub taken : change.pages ≡ latest_pages text first n (last_number change.pages)
+  pub page_size : change.page_size ≡ page_size_in text
+  pub of_size : change.commit ≡ commit
+  pub within : last_number change.pages ≤ commit
+  pub gone : (page : ℕ) → page ≤ last_number change.pages → get nat_cmp pages page ≡ None
+  pub left : (page : ℕ) → last_number change.pages < page → get nat_cmp pages page ≡ frame_within text commit first n page

@@ -1,65 +1,49 @@
 //! The change that committed frames make.
-ghost use Rattle.std.specs.Prelude.{◌≡◌, ◌+◌, ◌-◌, ◌≤◌, ◌<◌, ◌↔◌, ◌^◌, length, IsTrue, IfOk};
-ghost use Rattle.lf_sqlite_pages.specs.LockPage.{lock_page_of, IsDataPage};
+ghost use Rattle.std.specs.Prelude.{◌≡◌, ◌-◌, ◌≤◌, ◌<◌, ◌^◌, length, IfOk};
 ghost use Rattle.lf_sqlite_pages.specs.Change.{empty_change};
 ghost use Rattle.wal_watch.specs.Frames.{frame_place, page_size_in, size_in, committed_count};
 ghost use Rattle.wal_watch.specs.News.{change_of, change_from, news_change};
 ghost use Rattle.wal_watch.specs.Scanning.{HasCommitted};
-ghost use Rattle.wal_watch.specs.Searching.{IsNext, limit_of};
+ghost use Rattle.wal_watch.specs.Searching.{HoldsPages};
 
 use crate::frames::{fill_page, number_in, size_in};
 use crate::news::WalNews;
 use lf_base::NoMemory;
 use lf_sqlite_pages::{Blocks, Change, lock_page};
 use std::alloc::Global;
+use std::collections::BTreeMap;
 
-/// A page, and the frame that holds it.
-#[derive(Clone, Copy)]
-pub struct Found {
-    pub page: u32,
-    pub frame: usize,
-}
-
-/// Whether a page holds data, is above `above`, and not behind what was found.
-fn is_closer(page: u32, lock: u32, above: u32, commit: u32, found: Option<Found>) -> bool
-    ensures { IsTrue result ↔ ((page ≡ lock → ⊥) × (above < page) × (page ≤ limit_of commit found)) }
-{
-    match found {
-        None => page != lock && above < page && page <= commit,
-        Some(found) => page != lock && above < page && page <= found.page,
-    }
-}
-
-/// The least data page above `above` and within `commit` that a frame from `first` on holds, and the
-/// latest such frame.
-fn next_found(
+/// The data pages within `commit` that the frames from `first` to `count` hold, each with the latest
+/// frame of it.
+fn pages_held(
+    alloc: Global,
     text: &Blocks,
-    page_size: u32,
     first: usize,
     count: usize,
-    above: u32,
+    page_size: u32,
     commit: u32,
-) -> Option<Found>
+) -> Result<BTreeMap<u32, usize>, NoMemory>
     requires size { page_size ≡ page_size_in text.now.bytes }
     requires some { 0 < page_size }
     requires room { frame_place text.now.bytes count ≤ length text.now.bytes }
     requires short { length text.now.bytes < 2 ^ 62 }
     requires order { first ≤ count }
-    ensures { IsNext text.now.bytes first count above commit result }
+    ensures { IfOk result (HoldsPages text.now.bytes commit first count) }
 {
     let lock = lock_page(page_size);
-    let mut found = None;
+    let mut pages = BTreeMap::new(alloc);
     for frame in first..count {
         let page = number_in(text, page_size, frame);
-        if is_closer(page, lock, above, commit, found) {
-            found = Some(Found { page, frame });
+        if page <= commit && page != lock {
+            pages.insert(page, frame)?;
         }
     }
-    found
+    Ok(pages)
 }
 
 /// The change that the frames from `first` to `count` make. `page` is a buffer of one page.
 fn change_by(
+    alloc: Global,
     text: &Blocks,
     first: usize,
     count: usize,
@@ -75,11 +59,10 @@ fn change_by(
 {
     let page_size = change.page_size();
     let commit = change.commit();
-    let mut above = 0;
-    while let Some(found) = next_found(text, page_size, first, count, above, commit) {
-        fill_page(text, page_size, found.frame, page);
-        change.push(found.page, page)?;
-        above = found.page;
+    let mut pages = pages_held(alloc, text, first, count, page_size, commit)?;
+    while let Some((number, frame)) = pages.pop_first() {
+        fill_page(text, page_size, frame, page);
+        change.push(number, page)?;
     }
     Ok(change)
 }
@@ -103,7 +86,7 @@ pub fn news_from(
     let commit = size_in(text, page_size, count - 1);
     let mut page = buffer(alloc, page_size as usize)?;
     let change = Change::new(alloc, page_size, commit);
-    let change = change_by(text, first, count, change, page.as_mut_slice())?;
+    let change = change_by(alloc, text, first, count, change, page.as_mut_slice())?;
     Ok(WalNews::Committed(change))
 }
 

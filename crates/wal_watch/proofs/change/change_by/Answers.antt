@@ -1,54 +1,72 @@
-use Rattle.std.proofs.Common.{◌≡◌, ℕ, ◌-◌, List, ◌∷◌, [], ◌++◌, length, refl, sym, ap, ◌∙◌, arith}
+use Rattle.std.proofs.Common.{◌≡◌, ℕ, ◌+◌, ◌-◌, ◌≤◌, ◌<◌, ◌∙◌, sym, ap, inl, inr, arith}
+use Rattle.std.proofs.lemmas.Bool.{cases_eq}
+use Rattle.std.specs.BTreeMap.{btree_map_len}
 use Rattle.lf_sqlite_pages.specs.Change.{PageChange}
-use Rattle.lf_sqlite_pages.specs.declared.page_write.PageWrite.{PageWrite}
-use Rattle.wal_watch.specs.News.{latest_pages, write_in}
-use Rattle.wal_watch.specs.Frames.{size_in}
-use Rattle.wal_watch.proofs.ChangeLemmas.{no_pages, pages_next, pages_end, same_change}
+use Rattle.lf_sqlite_pages.specs.LockPage.{lock_page_of}
 use Rattle.lf_sqlite_pages.proofs.LockPages.{page_size-positive}
+use Rattle.wal_watch.specs.Frames.{size_in, frame_place}
+use Rattle.wal_watch.specs.News.{latest_pages}
+use Rattle.wal_watch.proofs.CommitLemmas.{place_up}
+use Rattle.wal_watch.proofs.TakenLemmas.{taken_none, taken_least, taken_more, taken_all, same_pages}
 use Rattle.wal_watch.proofs.change.change_by.Goals as goal
 
-pub loop-found-init : goal.loop-found-init
-loop-found-init c =
-    let made = c.requires.empty in
+pub pages_held-requires-clause-some : goal.pages_held-requires-clause-some
+pages_held-requires-clause-some c = page_size-positive c.page_size-page_size.result c.page_size-page_size.ensures.sqlite
+
+pub loop-number-init : goal.loop-number-init
+loop-number-init c =
+    let commit-is = c.commit-commit.ensures ∙ ap (λ (ch : PageChange). ch.commit) c.requires.empty in
     record {
-      pages = ap (λ (ch : PageChange). ch.pages) made ∙ sym (no_pages c.args.text.now.bytes c.args.first c.args.count);
-      page_size = ap (λ (ch : PageChange). ch.page_size) made;
-      commit = sym c.commit-commit.ensures;
-      last = rw made refl;
-      within = omega arith;
+      taken = taken_none c.args.text.now.bytes c.commit-commit.result c.args.first c.args.count c.in_ok-pages.pages c.args.change c.requires.committed.valid c.in_ok-pages.ensures
+          (rw commit-is c.requires.empty);
       buffer = c.requires.buffer;
     }
 
-pub next_found-requires-clause-some : goal.next_found-requires-clause-some
-next_found-requires-clause-some c = page_size-positive c.page_size-page_size.result c.page_size-page_size.ensures.sqlite
-
-pub loop-found-preserved : goal.loop-found-preserved
-loop-found-preserved c =
+pub fill_page-requires-clause-there : goal.fill_page-requires-clause-there
+fill_page-requires-clause-there c =
     let text = c.args.text.now.bytes in
-    let found = c.in-Some.found in
-    let before = c.loop-found.change in
+    let e = c.in-Some.ensures in
+    let least = taken_least text c.commit-commit.result c.args.first c.args.count c.loop-number.pages c.loop-number.change c.in-Some.number c.in-Some.frame c.loop-number.invariant.taken e.value e.least in
+    omega (arith, place_up text (c.in-Some.frame + 1) c.args.count (omega (arith, least.among)), c.requires.committed.room)
+
+pub push-requires-clause-within : goal.push-requires-clause-within
+push-requires-clause-within c =
+    let text = c.args.text.now.bytes in
+    let e = c.in-Some.ensures in
+    let least = taken_least text c.commit-commit.result c.args.first c.args.count c.loop-number.pages c.loop-number.change c.in-Some.number c.in-Some.frame c.loop-number.invariant.taken e.value e.least in
+    omega (arith, least.within, c.loop-number.invariant.taken.of_size)
+
+pub push-requires-clause-ascending : goal.push-requires-clause-ascending
+push-requires-clause-ascending c =
+    let text = c.args.text.now.bytes in
+    let e = c.in-Some.ensures in
+    (taken_least text c.commit-commit.result c.args.first c.args.count c.loop-number.pages c.loop-number.change c.in-Some.number c.in-Some.frame c.loop-number.invariant.taken e.value e.least).over
+
+pub push-requires-clause-holds_data : goal.push-requires-clause-holds_data
+push-requires-clause-holds_data c =
+    let text = c.args.text.now.bytes in
+    let e = c.in-Some.ensures in
+    let least = taken_least text c.commit-commit.result c.args.first c.args.count c.loop-number.pages c.loop-number.change c.in-Some.number c.in-Some.frame c.loop-number.invariant.taken e.value e.least in
+    λ lock. least.holds_data (lock ∙ ap (λ (n : ℕ). lock_page_of n) c.loop-number.invariant.taken.page_size)
+
+pub loop-number-preserved : goal.loop-number-preserved
+loop-number-preserved c =
+    let text = c.args.text.now.bytes in
+    let e = c.in-Some.ensures in
     let pushed = c.in_ok-push.ensures.ok in
-    let more : before.pages ++ record { number = found.page; bytes = c.fill_page.new.out } ∷ []
-    ≡ latest_pages text c.args.first c.args.count found.page =
-    ap (λ (bytes : List ℕ). before.pages ++ record { number = found.page; bytes = bytes } ∷ []) c.fill_page.ensures
-    ∙ ap (λ (ws : List PageWrite). ws ++ write_in text found.page found.frame ∷ []) c.loop-found.invariant.pages
-    ∙ sym (pages_next text c.args.first c.args.count c.loop-found.above c.commit-commit.result found c.in-Some.ensures) in
     record {
-      pages = ap (λ (ch : PageChange). ch.pages) pushed ∙ more;
-      page_size = ap (λ (ch : PageChange). ch.page_size) pushed ∙ c.loop-found.invariant.page_size;
-      commit = ap (λ (ch : PageChange). ch.commit) pushed ∙ c.loop-found.invariant.commit;
-      last = c.in_ok-push.ensures.last;
-      within = c.in-Some.ensures.within;
-      buffer = omega (arith, c.fill_page.auto.out, c.loop-found.invariant.buffer);
+      taken = taken_more text c.commit-commit.result c.args.first c.args.count c.loop-number.pages _ c.loop-number.change c.push.new.self c.in-Some.number c.in-Some.frame c.loop-number.invariant.taken
+          e.value e.least e.updates (rw (← c.fill_page.ensures) pushed) c.in_ok-push.ensures.last;
+      buffer = omega (arith, c.fill_page.auto.out, c.loop-number.invariant.buffer);
     }
 
 pub returns : goal.returns
 returns c =
     let text = c.args.text.now.bytes in
-    let commit = c.commit-commit.result in
-    let commit-is : commit ≡ size_in text (c.args.count - 1) = c.commit-commit.ensures ∙ ap (λ (ch : PageChange). ch.commit) c.requires.empty in
-    let pages : c.loop-found.change.pages ≡ latest_pages text c.args.first c.args.count commit =
-    c.loop-found.invariant.pages
-    ∙ sym (pages_end text c.args.first c.args.count c.loop-found.above commit c.loop-found.invariant.within c.in_default.ensures) in
-    same_change c.loop-found.change _ _ _ c.loop-found.invariant.page_size (c.loop-found.invariant.commit ∙ commit-is)
-    (pages ∙ ap (λ (n : ℕ). latest_pages text c.args.first c.args.count n) commit-is)
+    let commit-is : c.commit-commit.result ≡ size_in text (c.args.count - 1) = c.commit-commit.ensures ∙ ap (λ (ch : PageChange). ch.commit) c.requires.empty in
+    let none : btree_map_len c.loop-number.pages ≡ 0 = elim (cases_eq (btree_map_len c.loop-number.pages) 0) [
+      | inl zero_is ↦ zero_is
+      | inr some ↦ absurd (let on = c.in_default.ensures.variant.1 (omega (arith, some)) in cc)
+    ] in
+    taken_all text c.commit-commit.result c.args.first c.args.count c.loop-number.pages c.loop-number.change c.loop-number.invariant.taken none
+    ∙ same_pages text c.args.first c.args.count c.commit-commit.result (size_in text (c.args.count - 1)) commit-is
