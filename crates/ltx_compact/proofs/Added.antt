@@ -1,9 +1,9 @@
 -- A change as the pages in slots are added to it.
-use Rattle.std.proofs.Common.{◌≡◌, ℕ, zero, suc, ◌+◌, ◌-◌, ◌≤◌, Option, Some, None, List, [], ◌++◌, length, get_or, refl, sym, ◌∙◌, ap, subst, arith, add-zero, Bor}
+use Rattle.std.proofs.Common.{◌≡◌, ℕ, zero, suc, ◌+◌, ◌-◌, ◌<◌, ◌≤◌, Option, Some, None, List, [], ◌++◌, length, drop, get_or, refl, sym, ◌∙◌, ap, subst, arith, add-zero}
 use Rattle.std.specs.Prelude.{◌==◌, if◌then◌else◌}
 use Rattle.std.specs.List.{All, filter_map, cons_option, range_with_len}
-use Rattle.std.specs.Option.{IfSome, option_copied}
-use Rattle.std.proofs.lemmas.List.{get_or_default}
+use Rattle.std.specs.Option.{IfSome}
+use Rattle.std.proofs.lemmas.List.{get_or_default, get_or-drop, drop_more}
 use Rattle.lf_sqlite_pages.specs.LockPage.{lock_page_of}
 use Rattle.lf_sqlite_pages.specs.Writes.{writes_of}
 use Rattle.lf_sqlite_pages.proofs.Writes.{writes_of-same}
@@ -33,7 +33,7 @@ filter_map-more h a (suc n) =
 
 -- the page in the slot behind some others, where it is a data page
 abbrev slot_page : ℕ → Slots → ℕ → Option (List ℕ)
-slot_page size slots count = if count + 1 == lock_page_of size then None else option_copied (get_or slots count None)
+slot_page size slots count = if count + 1 == lock_page_of size then None else get_or slots count None
 
 -- one more page
 pages_in-more : (size : ℕ) (slots : Slots) (count : ℕ) →
@@ -45,7 +45,7 @@ pages_in-more size slots count =
     let add : ℕ → Option (List ℕ) → List PageWrite = λ k page. pages_in size slots count ++ cons_option (page_to_write k page) [] in
     filter_map-more (λ n. page_to_write n (data_page_in size slots n)) 1 count
     ∙ ap (λ (k : ℕ). add k (data_page_in size slots k)) next
-    ∙ ap (λ (k : ℕ). add (count + 1) (if count + 1 == lock_page_of size then None else option_copied (get_or slots k None))) back
+    ∙ ap (λ (k : ℕ). add (count + 1) (if count + 1 == lock_page_of size then None else get_or slots k None)) back
 
 -- no page
 pages_in-none : (size : ℕ) (slots : Slots) → pages_in size slots 0 ≡ []
@@ -77,19 +77,28 @@ pages_in-held size files commit slots held =
     writes_of-same (data_page_in size slots) (data_page_of size files) commit
     (λ n first last. ap (λ (p : Option (List ℕ)). if n == lock_page_of size then None else p) (held.pages n first last))
 
--- a slot whose page is whole
-slot-whole : (size : ℕ) (slot : Option (Bor (List ℕ))) (page : Option (List ℕ)) → option_copied slot ≡ page → IfSome page (λ bytes. length bytes ≡ size) →
-    IfSome slot (λ bytes. length bytes.now ≡ size)
-slot-whole size None page same whole = tt
-slot-whole size (Some bytes) page same whole = let P : Option (List ℕ) → Type 0 = λ o. IfSome o (λ b. length b ≡ size) in subst P (sym same) whole
-
 -- and every page in them is whole
 pub slots-whole : (files : List Ltx) (size commit : ℕ) (slots : Slots) → HoldPages files commit slots → All (λ file. file.change.page_size ≡ size) files →
-    All (λ file. IsChange file.change) files → All (λ slot. IfSome slot (λ bytes. length bytes.now ≡ size)) slots
+    All (λ file. IsChange file.change) files → All (λ slot. IfSome slot (λ bytes. length bytes ≡ size)) slots
 slots-whole files size commit slots held sized sound k d within =
     let back : k ≡ k + 1 - 1 = omega arith in
-    let page : option_copied (get_or slots k d) ≡ page_of files (k + 1) =
-    ap option_copied (get_or_default slots k d None within) ∙ ap (λ (j : ℕ). option_copied (get_or slots j None)) back
-    ∙ held.pages (k + 1) (omega arith) (omega (arith, held.count))
+    let page : get_or slots k d ≡ page_of files (k + 1) =
+    get_or_default slots k d None within ∙ ap (λ (j : ℕ). get_or slots j None) back ∙ held.pages (k + 1) (omega arith) (omega (arith, held.count))
     in
-    slot-whole size (get_or slots k d) (page_of files (k + 1)) page (page_of-whole files size (k + 1) sized sound)
+    let P : Option (List ℕ) → Type 0 = λ o. IfSome o (λ b. length b ≡ size) in
+    subst P (sym page) (page_of-whole files size (k + 1) sized sound)
+
+-- slots of which those from a place on are the same, are the same at it
+pub get_or-left : (now old : Slots) (n : ℕ) (d : Option (List ℕ)) → n < length now → length now ≡ length old → drop n now ≡ drop n old → get_or now n d ≡ get_or old n None
+get_or-left now old n d inside count left =
+    let zero_on : n + 0 ≡ n = omega arith in
+    let there : n < length old = omega (arith, inside, count) in
+    ap (λ (k : ℕ). get_or now k d) (sym zero_on) ∙ sym (get_or-drop n now 0 d) ∙ ap (λ (s : Slots). get_or s 0 d) left
+    ∙ get_or-drop n old 0 d ∙ ap (λ (k : ℕ). get_or old k d) zero_on ∙ get_or_default old n d None there
+
+-- and behind it
+pub left-more : (now old : Slots) (n : ℕ) → n < length now → length now ≡ length old → drop n now ≡ drop n old → drop (n + 1) now ≡ drop (n + 1) old
+left-more now old n inside count left =
+    let tail : Slots → Slots = λ s. drop 1 s in
+    let there : n < length old = omega (arith, inside, count) in
+    sym (ap tail (drop_more now n None inside)) ∙ ap tail left ∙ ap tail (drop_more old n None there)

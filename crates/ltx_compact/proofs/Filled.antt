@@ -1,7 +1,7 @@
 -- Filling slots, one after another, and what slots hold that files filled.
 use Rattle.std.proofs.Common.{◌≡◌, ℕ, ◌+◌, ◌-◌, ◌<◌, ◌≤◌, Bool, true, false, ltb, eqb, cond, Option, Some, None, List, [], ◌∷◌, ◌++◌, length, take, drop, get_or, min, replicate, refl, sym, ◌∙◌, ap, subst, inl, inr, arith}
 use Rattle.std.specs.List.{All, find}
-use Rattle.std.specs.Option.{IsSome, option_or, option_map, option_copied}
+use Rattle.std.specs.Option.{IsSome, option_or, option_map}
 use Rattle.std.proofs.lemmas.Bool.{cases_eq, cases_lt}
 use Rattle.std.proofs.lemmas.Bool.Decides.{nat_tests}
 use Rattle.std.proofs.lemmas.List.{take_more, drop_more, get_or-replicate, length-replicate}
@@ -69,7 +69,7 @@ HoldPages-none commit slots empty = record {
   count = ap length empty ∙ length-replicate commit None;
   pages = λ n first last.
       let inside : n - 1 < commit = omega arith in
-      ap (λ (s : Slots). page_in s n) empty ∙ ap option_copied (get_or-replicate commit (n - 1) None None inside) ∙ sym (page_of-none n);
+      ap (λ (s : Slots). page_in s n) empty ∙ get_or-replicate commit (n - 1) None None inside ∙ sym (page_of-none n);
 }
 
 -- what one file fills, where a page past low is there
@@ -135,3 +135,19 @@ pub drop-before : (files : List Ltx) (at : ℕ) (d : Ltx) → 0 < at → at ≤ 
 drop-before files at d some within =
     let next : at - 1 + 1 ≡ at = omega arith in
     drop_more files (at - 1) d (omega arith) ∙ ap (λ (k : ℕ). get_or files (at - 1) d ∷ drop k files) next
+
+-- a page of a list, then those behind it
+pub written-cons : (w : PageWrite) (rest : List PageWrite) (index n : ℕ) → index + 1 ≡ w.number →
+    written (w ∷ rest) n ≡ option_or (cond (eqb n (index + 1)) (Some w.bytes) None) (written rest n)
+written-cons w rest index n number =
+    let p : PageWrite → Bool = λ v. eqb v.number n in
+    ap (option_map (λ (v : PageWrite). v.bytes)) (find-append p (w ∷ []) rest)
+    ∙ option_map-or (λ (v : PageWrite). v.bytes) (find p (w ∷ [])) (find p rest)
+    ∙ ap (λ o. option_or o (written rest n)) (written-one w index n number)
+
+-- no page fills no slot
+pub AreFilled-none : (slots : Slots) → AreFilled slots (written []) slots
+AreFilled-none slots = record {
+  count = refl;
+  pages = λ n first last. sym (option_or-none (page_in slots n));
+}

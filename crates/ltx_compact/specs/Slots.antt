@@ -1,7 +1,6 @@
 -- Slots for pages: the first is that of page 1, and so on.
 use Rattle.std.specs.Prelude.{◌≡◌, ℕ, ◌-◌, ◌≤◌, ◌==◌, Option, Some, None, List, length, slice_index_or, nat_lt, if◌then◌else◌}
-use Rattle.std.specs.Option.{option_or, option_map, option_copied}
-use Rattle.std.specs.Borrow.{Bor}
+use Rattle.std.specs.Option.{option_or, option_map}
 use Rattle.lf_sqlite_pages.specs.LockPage.{lock_page_of}
 use Rattle.lf_sqlite_pages.specs.Writes.{writes_of}
 use Rattle.lf_sqlite_pages.specs.declared.page_write.PageWrite.{PageWrite}
@@ -10,11 +9,11 @@ use Rattle.ltx_compact.specs.Compaction.{page_of}
 
 -- a list of slots, some of them empty
 abbrev pub Slots : Type 0
-Slots = List (Option (Bor (List ℕ)))
+Slots = List (Option (List ℕ))
 
 -- the page in the slot of page n
 abbrev pub page_in : Slots → ℕ → Option (List ℕ)
-page_in slots n = option_copied (slice_index_or slots (n - 1) None)
+page_in slots n = slice_index_or slots (n - 1) None
 
 -- the empty slots are filled with the pages that there are, and the others stay
 pub record AreFilled (before : Slots) (page : ℕ → Option (List ℕ)) (slots : Slots) : Type 0 where

@@ -6,7 +6,7 @@ ghost use Rattle.ltx_compact.specs.Application.{DoesAsFiles};
 
 use crate::fault::CompactFault;
 use crate::joining::check_all;
-use crate::leaving::change_of;
+use crate::leaving::{change_of, change_of_owned};
 use ltx_codec::{Header, Ltx};
 use std::alloc::Global;
 
@@ -33,6 +33,31 @@ pub fn compact(alloc: Global, files: &[Ltx]) -> Result<Ltx, CompactFault>
         header,
         change,
         post: last.post,
+    })
+}
+
+/// The same of files that are given up: their pages move into the one file, and those that it does not
+/// hold are let go file by file, so that no page is held twice.
+pub fn compact_owned(alloc: Global, files: Vec<Ltx>) -> Result<Ltx, CompactFault>
+    requires { All IsFile files.items }
+    ensures ok { IfOk result (Compacts files.items) }
+    ensures pages { IfOk result (λ file. HoldsWhatIsLeft files.items file.change) }
+    ensures same { IfOk result (λ file. DoesAsFiles files.items file.change) }
+    ensures encodes { IfOk result IsFileButSum }
+    ensures joined { OnOk result (AllJoin files.items) }
+    ensures fault { IfErr result (IsWhy files.items) }
+{
+    let list = files.as_slice();
+    check_all(list)?;
+    let first = &list[0];
+    let last = &list[list.len() - 1];
+    let header = header_of(&first.header, &last.header);
+    let post = last.post;
+    let change = change_of_owned(alloc, files, header.page_size, header.commit)?;
+    Ok(Ltx {
+        header,
+        change,
+        post,
     })
 }
 

@@ -5,12 +5,14 @@
 #![tactic(auto)]
 
 mod compacting;
+mod copying;
 mod fault;
 mod joining;
 mod leaving;
+mod moving;
 mod slots;
 
-pub use compacting::compact;
+pub use compacting::{compact, compact_owned};
 pub use fault::CompactFault;
 
 #[cfg(test)]

@@ -1,74 +1,61 @@
-//! The pages that files leave, each in a slot of its own. The files are taken from the last to the
-//! first, and a slot that is filled stays as it is, since a later file decides before an earlier one.
-ghost use Rattle.std.specs.Prelude.{◌≡◌, ◌+◌, ◌<◌, ◌≤◌, ◌==◌, All, IfOk, length, replicate, Some, None, if◌then◌else◌};
-ghost use Rattle.lf_sqlite_pages.specs.Change.{written};
-ghost use Rattle.ltx_compact.specs.Slots.{HoldPages, AreFilled, cut_page};
+//! Slots for the pages that files leave, one for each page. A slot that is filled stays as it is.
+ghost use Rattle.std.specs.Prelude.{◌≡◌, ◌+◌, ◌==◌, IfOk, OnOk, replicate, Some, None, if◌then◌else◌};
+ghost use Rattle.ltx_compact.specs.Slots.{AreFilled, cut_page};
 
-use lf_sqlite_pages::PageWrite;
-use ltx_codec::Ltx;
+use lf_base::{Bytes, NoMemory};
 use std::alloc::{AllocError, Global};
 
-/// The pages from 1 to `commit` that files leave, each in its slot. `zeros` is a page of zeros.
-pub fn slots_of<'a>(
-    alloc: Global,
-    files: &'a [Ltx],
-    commit: usize,
-    zeros: &'a [u8],
-) -> Result<Vec<Option<&'a [u8]>>, AllocError>
-    requires { All (λ file. zeros.now ≡ replicate file.change.page_size 0) files.now }
-    ensures { IfOk result (λ slots. HoldPages files.now commit slots.items) }
+/// One slot for each page up to `commit`, with nothing in it.
+pub fn empty_slots(alloc: Global, commit: usize) -> Result<Vec<Option<Bytes>>, NoMemory>
+    ensures { IfOk result (λ slots. slots.items ≡ replicate commit None) }
 {
-    let mut slots = empty_slots(alloc, commit)?;
-    fill_all(slots.as_mut_slice(), files, zeros);
+    let mut slots = Vec::with_capacity(alloc, commit)?;
+    for _added in 0..commit {
+        slots.push(None)?;
+    }
     Ok(slots)
 }
 
-/// One slot for each page up to `commit`, with nothing in it.
-fn empty_slots<'a>(alloc: Global, commit: usize) -> Result<Vec<Option<&'a [u8]>>, AllocError>
-    ensures { IfOk result (λ slots. slots.items ≡ replicate commit None) }
+pub fn zero_page(alloc: Global, size: usize) -> Result<Vec<u8>, AllocError>
+    ensures { IfOk result (λ page. page.items ≡ replicate size 0) }
 {
-    vec![in alloc; None; commit]
+    vec![in alloc; 0u8; size]
 }
 
-/// Fills empty slots with the pages that files leave.
-fn fill_all<'a>(slots: &mut [Option<&'a [u8]>], files: &'a [Ltx], zeros: &'a [u8])
-    requires empty { slots.old ≡ replicate (length slots.old) None }
-    requires zeros { All (λ file. zeros.now ≡ replicate file.change.page_size 0) files.now }
-    ensures { HoldPages files.now (length slots.old) slots.new }
-{
-    // No slot from this place on is empty.
-    let mut low = slots.len();
-    for index in (0..files.len()).rev() {
-        let change = &files[index].change;
-        let commit = change.commit() as usize;
-        cut(slots, commit, low, zeros);
-        write(slots, change.pages());
-        low = low.min(commit);
-    }
-}
-
-/// Fills the slots of the pages past `commit`, up to `low`, with zeros.
-fn cut<'a>(slots: &mut [Option<&'a [u8]>], commit: usize, low: usize, zeros: &'a [u8])
-    ensures { AreFilled slots.old (cut_page commit low zeros.now) slots.new }
+/// Fills the slots of the pages past `commit`, up to `low`, with copies of a page of zeros.
+pub fn cut(
+    alloc: Global,
+    slots: &mut [Option<Bytes>],
+    commit: usize,
+    low: usize,
+    zeros: &[u8],
+) -> Result<(), NoMemory>
+    ensures { OnOk result (AreFilled slots.old (cut_page commit low zeros.now) slots.new) }
 {
     for index in commit..low {
-        fill(slots, index, zeros);
+        fill_copy(alloc, slots, index, zeros)?;
     }
+    Ok(())
 }
 
-/// Fills the slots of the pages that a file writes.
-fn write<'a>(slots: &mut [Option<&'a [u8]>], pages: &'a [PageWrite])
-    requires { All (λ page. 1 ≤ page.number) pages.now }
-    ensures { AreFilled slots.old (written pages.now) slots.new }
+/// Fills a slot with a copy of a page, if the slot is there and empty.
+pub fn fill_copy(
+    alloc: Global,
+    slots: &mut [Option<Bytes>],
+    index: usize,
+    page: &[u8],
+) -> Result<(), NoMemory>
+    ensures { OnOk result (AreFilled slots.old (λ n. if n == index + 1 then Some page.now else None) slots.new) }
 {
-    for page in pages {
-        fill(slots, page.number as usize - 1, page.bytes.as_slice());
+    if index < slots.len() && slots[index].is_none() {
+        slots[index] = Some(Bytes::of(Vec::from_slice(alloc, page)?));
     }
+    Ok(())
 }
 
-/// Fills a slot with a page, if the slot is there and empty.
-fn fill<'a>(slots: &mut [Option<&'a [u8]>], index: usize, page: &'a [u8])
-    ensures { AreFilled slots.old (λ n. if n == index + 1 then Some page.now else None) slots.new }
+/// Moves a page into a slot, if the slot is there and empty. Else the page is let go.
+pub fn fill(slots: &mut [Option<Bytes>], index: usize, page: Bytes)
+    ensures { AreFilled slots.old (λ n. if n == index + 1 then Some page else None) slots.new }
 {
     if index < slots.len() && slots[index].is_none() {
         slots[index] = Some(page);

@@ -125,6 +125,12 @@ fn one_of(alloc: Global, samples: &[Sample]) -> Result<Result<Ltx, CompactFault>
     Ok(compact(alloc, files.as_slice()))
 }
 
+/// The same of files that are given up.
+fn moved_of(alloc: Global, samples: &[Sample]) -> Result<Result<Ltx, CompactFault>, Fail> {
+    let files = files_of(alloc, samples)?;
+    Ok(compact_owned(alloc, files))
+}
+
 /// Whether a file holds these pages and no others.
 fn holds(file: &Ltx, pages: &[Filled]) -> bool {
     let held = file.change.pages();
@@ -134,7 +140,7 @@ fn holds(file: &Ltx, pages: &[Filled]) -> bool {
         })
 }
 
-/// Looks at the header and the pages of what files become.
+/// Looks at what files become, lent and given up.
 fn expect(
     rt: &impl Abort,
     alloc: Global,
@@ -143,13 +149,26 @@ fn expect(
     pages: &[Filled],
 ) -> Result<(), Fail> {
     let file = one_of(alloc, samples)?.ok().ok_or("one file")?;
+    expect_file(rt, &file, samples, ends, pages)?;
+    let moved = moved_of(alloc, samples)?.ok().ok_or("one file")?;
+    expect_file(rt, &moved, samples, ends, pages)
+}
+
+/// Looks at the header and the pages of what files became.
+fn expect_file(
+    rt: &impl Abort,
+    file: &Ltx,
+    samples: &[Sample],
+    ends: (u64, u64, u32),
+    pages: &[Filled],
+) -> Result<(), Fail> {
     let last = samples.last().ok_or("a last file")?;
     let header = file.header;
     assert_eq!(rt; (header.min, header.max, header.commit), ends);
     assert_eq!(rt; (header.stamp, header.node), (last.stamp, last.stamp));
     assert_eq!(rt; (header.wal_offset, header.wal_size), (0, 0));
     assert_eq!(rt; (header.wal_salt1, header.wal_salt2), (0, 0));
-    assert!(rt; holds(&file, pages));
+    assert!(rt; holds(file, pages));
     Ok(())
 }
 
@@ -254,6 +273,7 @@ fn the_first_file_that_does_not_join_is_named(rt: HostRuntime) -> Result<(), Fai
         ([five, larger, late], CompactFault::PageSize { at: 2 }),
     ] {
         assert_eq!(rt; fault_of(rt.alloc(), &files)?, Some(fault));
+        assert_eq!(rt; moved_of(rt.alloc(), &files)?.err(), Some(fault));
     }
     assert_eq!(rt; fault_of(rt.alloc(), &[])?, Some(CompactFault::Empty));
     Ok(())

@@ -1,7 +1,7 @@
 use Rattle.std.proofs.Common.{◌≤◌, length, drop}
 use Rattle.ltx_compact.specs.Slots.{HoldPages}
 use Rattle.ltx_compact.proofs.Filled.{AreLeftPast}
-use Rattle.ltx_compact.proofs.slots.fill_all.Given as goal
+use Rattle.ltx_compact.proofs.copying.copy_all.Given as goal
 
 -- the slots hold what the files from one place on leave, and every page past low is there
 abbrev pub invariant-loop-index : goal.invariant-loop-index
