@@ -8,7 +8,7 @@ use crate::compact_refusal::CompactRefusal;
 use crate::gathering::Gathering;
 use crate::input::consume_all;
 use ltx_codec::{Ltx, encode, sum_of_writes};
-use ltx_compact::compact;
+use ltx_compact::compact_owned;
 use std::alloc::Global;
 
 /// The encoding of the one file that LTX files become, one after another.
@@ -37,14 +37,14 @@ pub fn one_file(alloc: Global, files: Vec<Ltx>) -> Result<Ltx, CompactRefusal>
     Ok(file)
 }
 
-/// The one file that files become, which are not held longer.
+/// The one file that files become. Their pages move into it.
 fn join(alloc: Global, files: Vec<Ltx>) -> Result<Ltx, CompactRefusal>
     requires { All IsFile files.items }
     ensures ok { (bytes : List ℕ) → AreEncodings bytes files.items → IfOk result (Become bytes) }
     ensures sound { IfOk result IsFileButSum }
     ensures refused { (bytes : List ℕ) → AreEncodings bytes files.items → IfErr result (MayRefuse bytes) }
 {
-    Ok(compact(alloc, files.as_slice())?)
+    Ok(compact_owned(alloc, files)?)
 }
 
 /// The sum that a snapshot says and that of its pages, where they differ.
