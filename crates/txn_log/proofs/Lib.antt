@@ -1,3 +1,4 @@
+mod Cleanings
 mod Commits
 mod Copies
 mod Drafts
@@ -5,6 +6,7 @@ mod Entries
 mod Moves
 mod Places
 mod Placings
+mod Prunings
 mod Puttings
 mod Rewritings
 mod Stores

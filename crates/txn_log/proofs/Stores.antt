@@ -19,12 +19,8 @@ use Rattle.txn_log.specs.declared.entry.Entry.{Entry}
 use Rattle.txn_log.specs.Pages.{page_in}
 use Rattle.txn_log.specs.Kept.{LogFile, text_of, file_of, Kept, Shows, IsAtRestAt, IsAtRest, Ascends}
 use Rattle.txn_log.specs.Durable.{log_of, IsLog}
+use Rattle.txn_log.specs.Entries.{AreNamed}
 use Rattle.txn_log.specs.Store.{image_in, files_in, state_in, state_of, meant, entry_of, AreEntries, IsStore}
-
--- these entries have the numbers of these files
-pub record AreNamed (entries : List Entry) (files : List LogFile) : Type 0 where
-  pub min : (k : ℕ) (e : Entry) (f : LogFile) → k < length entries → (get_or files k f).min ≡ (get_or entries k e).min
-  pub max : (k : ℕ) (e : Entry) (f : LogFile) → k < length entries → (get_or files k f).max ≡ (get_or entries k e).max
 
 -- the text under a name, where one was found before
 abbrev pub text_from : Option (List ℕ) → List LogFile → ℕ → ℕ → Option (List ℕ)

@@ -2,10 +2,12 @@ pub mod Calls
 pub mod Causes
 pub mod Draft
 pub mod Durable
+pub mod Entries
 pub mod FaultNumber
 pub mod Kept
 pub mod Pages
 pub mod Placing
+pub mod Pruning
 pub mod Publishing
 pub mod Putting
 pub mod Rewriting

@@ -1,0 +1,63 @@
+//! A log loses its first files.
+ghost use Rattle.std.specs.Prelude.{◌≡◌, ◌≤◌, length, drop, IsTrue};
+ghost use Rattle.world_laws.specs.Store.{PruneTo};
+ghost use Rattle.txn_log.specs.Calls.{Went};
+ghost use Rattle.txn_log.specs.Causes.{Breaks};
+ghost use Rattle.txn_log.specs.Pruning.{Prunes};
+ghost use Rattle.txn_log.specs.Store.{state_of, failed_of};
+
+use crate::attempt::Attempt;
+use crate::entry::Entry;
+use crate::fault::StoreFault;
+use crate::removing::remove_files;
+use crate::store::Store;
+use lf_disk::Disk;
+
+fn forget_front(entries: &mut Vec<Entry>, count: usize)
+    requires { count ≤ length entries.old.items }
+    ensures { entries.new.items ≡ drop count entries.old.items }
+{
+    for _i in 0..count {
+        entries.remove(0);
+    }
+}
+
+impl<D: Disk> Store<D> {
+    /// Removes all but the last `keep` files of the log, the oldest first, and answers how many.
+    pub fn prune(&mut self, keep: u64) -> Result<u64, StoreFault>
+        requires { 1 ≤ keep }
+        ensures prunes { Prunes self.old.broken (length self.old.entries.items) keep result }
+        ensures cause { Breaks self.old.broken (D.faults self.old.disk) result self.new.broken (D.faults self.new.disk) }
+
+        // What a crash leaves at each moment.
+        ensures went { IsTrue (D.honest self.old.disk) → Went
+            (state_of (D.history self.old.disk) self.old.page_size self.old.commit self.old.entries.items self.old.broken self.old.whole)
+            (failed_of (D.history self.old.disk) self.old.broken self.old.attempt self.old.tried) (D.history self.old.disk)
+            (PruneTo keep) result
+            (state_of (D.history self.new.disk) self.new.page_size self.new.commit self.new.entries.items self.new.broken self.new.whole)
+            (failed_of (D.history self.new.disk) self.new.broken self.new.attempt self.new.tried) (D.history self.new.disk) }
+        ensures honest { D.honest self.new.disk ≡ D.honest self.old.disk }
+    {
+        if self.broken {
+            return Err(StoreFault::Broken);
+        }
+        let gone = (self.entries.len() as u64).saturating_sub(keep) as usize;
+        if gone == 0 {
+            return Ok(0);
+        }
+        self.whole = self.disk.moment();
+        let (front, _) = self.entries.as_slice().split_at(gone);
+        match remove_files(&mut self.disk, front) {
+            Ok(()) => {
+                forget_front(&mut self.entries, gone);
+                Ok(gone as u64)
+            }
+            Err(_) => {
+                self.broken = true;
+                self.attempt = Attempt::Prune { keep };
+                self.tried = self.whole;
+                Err(StoreFault::Disk)
+            }
+        }
+    }
+}
