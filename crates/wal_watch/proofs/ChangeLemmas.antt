@@ -1,14 +1,12 @@
 -- The latest frames of the pages, found one after another.
-use Rattle.std.proofs.Common.{◌≡◌, ℕ, zero, suc, ◌+◌, ◌-◌, ◌≤◌, ◌<◌, ◌&&◌, ◌==◌, Option, Some, None, List, [], ◌∷◌, ◌++◌, length, refl, sym, ap, ◌∙◌, inl, inr, add-one, arith, if◌then◌else◌, nat_le}
-use Rattle.std.proofs.lemmas.Bool.{cases_lt, cond-true, cond-false, le-leb, lt-leb, eq-eqb, ne_eqb, and_from, and_left, and_right, cases_Bool}
+use Rattle.std.proofs.Common.{◌≡◌, ℕ, zero, suc, ◌+◌, ◌-◌, ◌≤◌, ◌<◌, ◌&&◌, ◌==◌, Some, None, List, [], ◌∷◌, ◌++◌, refl, sym, ap, ◌∙◌, inl, inr, add-one, arith, if◌then◌else◌, nat_le}
+use Rattle.std.proofs.lemmas.Bool.{cond-true, cond-false, le-leb, lt-leb, eq-eqb, ne_eqb, and_from, and_left, and_right, cases_Bool}
 use Rattle.std.proofs.lemmas.List.{append-nil}
 use Rattle.lf_sqlite_pages.specs.Change.{PageChange}
 use Rattle.lf_sqlite_pages.specs.declared.page_write.PageWrite.{PageWrite}
-use Rattle.std.specs.Option.{IfSome}
 use Rattle.lf_sqlite_pages.specs.LockPage.{lock_page_of, IsDataPage}
 use Rattle.std.proofs.lemmas.Bool.{cases_eq}
-use Rattle.wal_watch.specs.Frames.{number_in, page_size_in, frame_place, committed_count}
-use Rattle.wal_watch.proofs.CommitLemmas.{frame_there}
+use Rattle.wal_watch.specs.Frames.{number_in, page_size_in}
 use Rattle.wal_watch.specs.News.{latest_frame, change_frame, latest_pages, write_in}
 use Rattle.wal_watch.specs.Searching.{HoldsNone, IsLeast}
 
@@ -113,9 +111,3 @@ latest_among text page first (suc n) k is = elim (cases_Bool (nat_le first n && 
   | inl here ↦ let same : Some n ≡ Some k = sym (cond-true _ _ _ here) ∙ is in let at_k : n ≡ k = cc in omega (arith, at_k, add-one n)
   | inr other ↦ omega (arith, latest_among text page first n k (sym (cond-false _ _ _ other) ∙ is), add-one n)
 ]
-
--- so it is there
-pub latest_there : (text : List ℕ) (page count n : ℕ) (frame : Option ℕ) → count ≡ committed_count text → n ≤ count → frame ≡ latest_frame text page 0 n
-    → IfSome frame (λ k. frame_place text (k + 1) ≤ length text)
-latest_there text page count n None is le latest = tt
-latest_there text page count n (Some k) is le latest = frame_there text count k is (omega (arith, le, latest_among text page 0 n k (sym latest)))

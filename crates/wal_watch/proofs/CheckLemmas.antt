@@ -1,15 +1,11 @@
 -- What stands against a write.
-use Rattle.std.proofs.Common.{◌≡◌, ◌≢◌, ℕ, ◌≤◌, ◌<◌, ◌⊎◌, false, List, length, take, get_or, refl, sym, ap, ◌∙◌, inl, inr, arith}
+use Rattle.std.proofs.Common.{◌≡◌, ◌≢◌, ℕ, ◌⊎◌, List, take, refl, sym, ◌∙◌, inl, inr}
 use Rattle.std.specs.Str.{bytes_eq}
 use Rattle.std.proofs.lemmas.Bool.{cases_Bool, cond-true, cond-false, eq-eqb, false_from_ne_true}
-use Rattle.std.proofs.lemmas.List.{length-take, get_or-take, ext_get_or, take-take}
 use Rattle.std.proofs.lemmas.Slice.Eq.{bytes_eq-Decides}
-use Rattle.wal_watch.specs.Frames.{is_header, page_size_in, committed_count, committed_end}
+use Rattle.wal_watch.specs.Frames.{committed_count, committed_end}
 use Rattle.wal_watch.specs.News.{first_new}
-use Rattle.wal_watch.specs.Refusals.{ChangesCommitted, BreaksHeader}
-use Rattle.wal_watch.proofs.Steps.{header_facts}
-use Rattle.wal_watch.proofs.ScanLemmas.{none_committed}
-use Rattle.wal_watch.proofs.AgreeLemmas.{same_header, same_size}
+use Rattle.wal_watch.specs.Refusals.{ChangesCommitted}
 
 -- where the header stays, the new frames are those behind the committed ones
 pub first_same : (old new : List ℕ) → take 32 new ≡ take 32 old → committed_count old ≡ first_new old new

@@ -1,8 +1,7 @@
 -- The first 32 bytes of a text have its header.
-use Rattle.std.proofs.Common.{◌≡◌, ◌≢◌, ℕ, ◌≤◌, ◌<◌, true, false, List, length, take, get_or, refl, sym, ap, ◌∙◌, arith}
+use Rattle.std.proofs.Common.{◌≡◌, ℕ, ◌≤◌, ◌<◌, false, List, length, take, sym, ap, ◌∙◌, arith}
 use Rattle.std.proofs.lemmas.Bool.{false_from_ne_true}
-use Rattle.std.proofs.lemmas.List.{length-take, get_or-take, ext_get_or, take-take}
-use Rattle.lf_base.specs.Endian.{be32_at}
+use Rattle.std.proofs.lemmas.List.{length-take, take-take}
 use Rattle.wal_watch.specs.Frames.{is_header, header_sums, page_size_in, committed_count}
 use Rattle.wal_watch.specs.Scanning.{StatesHeader, IsMark, AreMarks}
 use Rattle.wal_watch.specs.declared.header.Header.{Header}

@@ -11,7 +11,7 @@ use Rattle.wal_watch.proofs.CommitLemmas.{has_committed, commit_committed, place
 use Rattle.wal_watch.proofs.AgreeLemmas.{same_four, same_piece, same_size, same_place, same_commit}
 
 -- where there are committed frames, their end is behind the last
-end_is : (old : List ℕ) → 0 < committed_count old → committed_end old ≡ frame_place old (committed_count old)
+pub end_is : (old : List ℕ) → 0 < committed_count old → committed_end old ≡ frame_place old (committed_count old)
 end_is old some = cond-false _ _ _ (ne_eqb (committed_count old) 0 (λ none. omega (arith, none, some)))
 
 module _ (old new : List ℕ) (same : take (committed_end old) new ≡ take (committed_end old) old) (some : 0 < committed_count old) where

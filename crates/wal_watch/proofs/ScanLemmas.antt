@@ -3,13 +3,13 @@ use Rattle.std.proofs.Common.{◌≡◌, ℕ, zero, suc, ◌+◌, ◌*◌, ◌�
 use Rattle.std.proofs.lemmas.Bool.{and_from, cases_eq, cond-true, cond-false, and_left, and_right, not_from_true, not_from_false, ne_eqb, eq-eqb, and_parts, leb-true}
 use Rattle.std.proofs.Math.Nat.{mul-le-mul_left}
 use Rattle.lf_base.specs.Endian.{be32_at}
-use Rattle.wal_watch.specs.Frames.{is_header, page_size_in, frame_place, frame_sums, header_sums, is_frame, is_frame_at, are_valid, is_commit, commits_among, committed_count, size_in}
+use Rattle.wal_watch.specs.Frames.{is_header, page_size_in, frame_place, is_frame, is_frame_at, are_valid, is_commit, commits_among, committed_count, size_in}
 use Rattle.wal_watch.specs.Scanning.{IsMark, AreMarks, AreFinal, IsNextFrame}
 use Rattle.wal_watch.specs.declared.scan.Mark.{Mark}
 use Rattle.wal_watch.specs.declared.scan.Marks.{Marks}
 use Rattle.wal_watch.specs.declared.scan.NextFrame.{NextFrame}
 use Rattle.wal_watch.specs.declared.sums.Sums.{Sums}
-use Rattle.wal_watch.proofs.Steps.{sums_more, sums_none, valid_more, valid_none, commits_more, commits_none}
+use Rattle.wal_watch.proofs.Steps.{sums_more, valid_more, valid_none, commits_more, commits_none}
 
 -- where frame n isn't valid, no later frame is
 pub invalid_from : (text : List ℕ) (k n : ℕ) → are_valid text k ≡ false → k ≤ n → are_valid text n ≡ false

@@ -1,17 +1,16 @@
 -- The marks of a text are those of another that begins alike, and a scan goes on from them.
-use Rattle.std.proofs.Common.{◌≡◌, ℕ, zero, suc, ◌+◌, ◌-◌, ◌≤◌, ◌<◌, true, false, Option, Some, None, List, length, take, replicate, subst, refl, sym, ap, ◌∙◌, inl, inr, add-one, arith}
+use Rattle.std.proofs.Common.{◌≡◌, ℕ, zero, suc, ◌+◌, ◌-◌, ◌≤◌, false, Option, Some, None, List, length, take, replicate, subst, refl, sym, ap, ◌∙◌, inl, inr, add-one, arith}
 use Rattle.std.proofs.lemmas.Bool.{cases_Bool, cond-true, cond-false}
 use Rattle.std.proofs.lemmas.List.{take-take, take-append-le, length-take}
 use Rattle.lf_base.specs.FileBytes.{resized, written}
 use Rattle.lf_base.proofs.FileLemmas.{length-resized}
-use Rattle.wal_watch.specs.Frames.{is_header, is_commit, commits_among, frame_place}
+use Rattle.wal_watch.specs.Frames.{is_header, is_commit, commits_among, committed_count, frame_place}
 use Rattle.wal_watch.specs.Scanning.{StatesHeader, IsMark, AreMarks, AreFinal, IsMarked}
 use Rattle.wal_watch.specs.declared.header.Header.{Header}
 use Rattle.wal_watch.specs.declared.scan.Mark.{Mark}
 use Rattle.wal_watch.specs.declared.scan.Marks.{Marks}
-use Rattle.wal_watch.proofs.Steps.{commits_more}
 use Rattle.wal_watch.proofs.CommitLemmas.{place_up}
-use Rattle.wal_watch.proofs.WriteLemmas.{written-longer}
+use Rattle.wal_watch.proofs.WriteLemmas.{written-longer, resized-whole}
 use Rattle.wal_watch.proofs.AgreeLemmas.{same_four, same_little, same_header, same_size, same_place, same_valid, same_sums_after, same_commits}
 
 -- the commits among the first commits are all of these
@@ -44,6 +43,16 @@ marks-back text marks h = record {
   count = h.count ∙ sym (commits_again text marks.last.frames) ∙ ap (λ (n : ℕ). commits_among text n) (sym h.count);
 }
 
+-- the committed frames end before the last
+pub marks-order : (text : List ℕ) (marks : Marks) → AreMarks text marks → marks.committed.place ≤ marks.last.place
+marks-order text marks h =
+    omega (arith, h.committed.place, h.last.place, place_up text marks.committed.frames marks.last.frames (omega (arith, h.count, commits_le text marks.last.frames)))
+
+-- no more frames are committed than there are bytes
+pub count-fits : (text : List ℕ) → committed_count text ≤ length text
+unfolding committed_count
+count-fits text = commits_le text (length text)
+
 module _ (old new : List ℕ) (p : ℕ) (same : take p new ≡ take p old) (room_old : p ≤ length old) (room_new : p ≤ length new) where
   pub mark-stays : (mark : Mark) → IsMark old mark → mark.place ≤ p → IsMark new mark
   mark-stays mark h le =
@@ -68,8 +77,7 @@ module _ (old new : List ℕ) (p : ℕ) (same : take p new ≡ take p old) (room
   pub marks-stay : (marks : Marks) → AreMarks old marks → marks.last.place ≤ p → AreMarks new marks
   marks-stay marks h le =
       let head : 32 ≤ p = omega (arith, h.last.place, le) in
-      let before : marks.committed.place ≤ marks.last.place =
-      omega (arith, h.committed.place, h.last.place, place_up old marks.committed.frames marks.last.frames (omega (arith, h.count, commits_le old marks.last.frames))) in
+      let before : marks.committed.place ≤ marks.last.place = marks-order old marks h in
       record {
         header = header-stays marks.header h.header head;
         last = mark-stays marks.last h.last le;
@@ -83,6 +91,10 @@ marked-none text marks is h = let P : Option Marks → Type 0 = λ o. IsMarked t
 
 pub marked-some : (text : List ℕ) (marks : Option Marks) (m : Marks) → marks ≡ Some m → IsMarked text marks → AreFinal text m
 marked-some text marks m is h = let P : Option Marks → Type 0 = λ o. IsMarked text o in subst P is h
+
+-- marks of all bytes
+pub marked-whole : (text : List ℕ) (len : ℕ) (marks : Option Marks) → len ≡ length text → IsMarked (resized len text) marks → IsMarked text marks
+marked-whole text len marks is h = let P : List ℕ → Type 0 = λ t. IsMarked t marks in subst P (ap (λ (n : ℕ). resized n text) is ∙ resized-whole text) h
 
 -- the first bytes of a text that was cut behind them, or filled up
 pub take-resized : (text : List ℕ) (place len : ℕ) → place ≤ len → place ≤ length text → take place (resized len text) ≡ take place text

@@ -1,24 +1,22 @@
 -- The pages of the new frames, collected in a map and taken out of it in order.
-use Rattle.std.proofs.Common.{◌≡◌, ℕ, zero, suc, ◌+◌, ◌-◌, ◌≤◌, ◌<◌, ◌&&◌, ◌==◌, cond, Option, Some, None, true, false, List, [], ◌∷◌, ◌++◌, length, refl, sym, ap, subst, ◌∙◌, inl, inr, add-one, arith, nat_le, nat_lt, not}
-use Rattle.std.specs.Option.{is_some, IsSome}
+use Rattle.std.proofs.Common.{◌≡◌, ℕ, zero, suc, ◌+◌, ◌≤◌, ◌<◌, ◌&&◌, ◌==◌, cond, Option, Some, None, true, false, List, [], ◌∷◌, ◌++◌, refl, sym, ap, ◌∙◌, inl, inr, add-one, arith, nat_lt, not}
+use Rattle.std.specs.Option.{is_some}
 use Rattle.std.specs.Map.{lookup}
 use Rattle.std.specs.BTreeMap.{BTreeMap, get, IsLowerBound, Updates, is_at, btree_map_len}
 use Rattle.std.specs.Ordering.{nat_cmp, is_eq}
 use Rattle.std.specs.declared.cmp.Ordering.{Ordering}
 use Rattle.std.specs.declared.cmp.Ordering.TheVariants.{Less, Equal, Greater}
-use Rattle.std.proofs.lemmas.Bool.{cases_lt, cases_eq, cases_Bool, cond-true, cond-false, le-leb, leb-true, ne_eqb, eq-eqb, lt-leb, and_parts, not_from_true}
+use Rattle.std.proofs.lemmas.Bool.{cases_lt, cases_eq, cases_Bool, cond-true, cond-false, le-leb, ne_eqb, eq-eqb, lt-leb, and_parts, not_from_true}
 use Rattle.std.proofs.lemmas.Map.Keys.{le_from_not_gt}
 use Rattle.std.proofs.lemmas.List.{nil_from_length}
 use Rattle.lf_base.specs.Endian.{be32_at}
 use Rattle.lf_sqlite_pages.specs.Change.{PageChange, last_number}
 use Rattle.lf_sqlite_pages.specs.LockPage.{lock_page_of, IsDataPage}
 use Rattle.lf_sqlite_pages.specs.declared.page_write.PageWrite.{PageWrite}
-use Rattle.wal_watch.specs.Frames.{number_in, page_size_in, size_in, page_in, is_frame, is_frame_at, is_head, frame_place, sums_after, are_valid}
+use Rattle.wal_watch.specs.Frames.{number_in, page_size_in, page_in, is_frame, is_frame_at, is_head, frame_place, are_valid}
 use Rattle.wal_watch.specs.News.{latest_frame, change_frame, latest_pages, write_in}
-use Rattle.wal_watch.specs.Scanning.{HasCommitted}
 use Rattle.wal_watch.specs.Searching.{frame_within, HoldsPages, HoldsNone, IsLeast, AreTaken}
 use Rattle.wal_watch.proofs.Steps.{valid_more}
-use Rattle.wal_watch.proofs.CommitLemmas.{valid_before}
 use Rattle.wal_watch.proofs.ChangeLemmas.{latest_other, latest_none, latest_among, change_data, change_lock, change_here, change_other, change_none, no_pages, pages_next, pages_end}
 
 -- a page within the commit, and one past it

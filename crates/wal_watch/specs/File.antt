@@ -1,5 +1,5 @@
 -- A write-ahead log as a file: its bytes, and which write takes no memory.
-use Rattle.std.specs.Prelude.{◌≡◌, ℕ, Option, Some, None, List, [], length, unwrap_or, ◌⊎◌}
+use Rattle.std.specs.Prelude.{◌≡◌, ℕ, Option, Some, None, List, [], unwrap_or, ◌⊎◌}
 use Rattle.lf_base.specs.FileBytes.{resized, written}
 use Rattle.lf_sqlite_pages.specs.Blocks.{ByteRoom, no_room, room_with}
 

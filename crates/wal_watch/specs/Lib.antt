@@ -3,6 +3,7 @@ pub mod Frames
 pub mod Scanning
 pub mod News
 pub mod Searching
+pub mod Indexing
 pub mod File
 pub mod Refusals
 pub mod FileParts

@@ -3,6 +3,7 @@ ghost use Rattle.std.specs.Prelude.{◌≡◌, ◌≢◌, ◌≤◌, ◌<◌, �
 ghost use Rattle.lf_base.specs.FileBytes.{resized};
 ghost use Rattle.wal_watch.specs.File.{text_of, after_cut};
 ghost use Rattle.wal_watch.specs.Frames.{committed_count, committed_end};
+ghost use Rattle.wal_watch.specs.Indexing.{AreShared};
 ghost use Rattle.wal_watch.specs.Refusals.{wal_limit, IsSoundCut, IsCutFault};
 ghost use Rattle.wal_watch.specs.Scanning.{AreMarks, IsMarked};
 
@@ -78,6 +79,14 @@ impl WalFile {
         }
     }
 
+    /// How many committed frames stay in a cut to a length.
+    fn shared_with_cut(&self, len: u64) -> usize
+        requires { IsSoundCut (text_of self.now) len }
+        ensures { AreShared (text_of self.now) (resized len (text_of self.now)) result }
+    {
+        if len == 0 { 0 } else { self.committed() }
+    }
+
     /// Cuts the file to a length, or fills it up with zeros. It takes no memory.
     pub fn cut(&mut self, len: u64) -> Result<(), WalFault>
         requires { IsSome self.old.text }
@@ -87,6 +96,8 @@ impl WalFile {
         ensures cause { IfErr result (IsCutFault (text_of self.old) len) }
     {
         let marks = self.cut_marks(len)?;
+        let shared = self.shared_with_cut(len);
+        self.index.go_over(shared);
         self.text.cut(len).unwrap();
         self.marks = marks;
         Ok(())

@@ -4,15 +4,21 @@ ghost use Rattle.lf_base.specs.FileBytes.{written, resized};
 ghost use Rattle.lf_sqlite_pages.specs.Blocks.{is_within, IsWithin};
 ghost use Rattle.wal_watch.specs.File.{no_wal, text_of, with_room, after_write, undone, with_text};
 ghost use Rattle.wal_watch.specs.Frames.{committed_count, committed_end};
+ghost use Rattle.wal_watch.specs.Indexing.{AreShared};
 ghost use Rattle.wal_watch.specs.Refusals.{wal_limit};
 ghost use Rattle.wal_watch.specs.Scanning.{AreMarks, IsMarked};
 
 use crate::check::{WAL_LIMIT, keeps};
 use crate::fault::WalFault;
-use crate::scan::{Marks, marks_of};
+use crate::index::FrameIndex;
+use crate::scan::{Marks, committed_in, marks_of, page_size_of};
+use lf_base::NoMemory;
 use lf_sqlite_pages::Blocks;
 use std::alloc::Global;
 use std::marker::Model;
+
+/// The least length of a frame in bytes: its head and a page of 512.
+const LEAST_FRAME: usize = 536;
 
 /// The file of a write-ahead log: absent, or its bytes. It knows how far they were scanned, so that a
 /// write is scanned from the last valid frame on.
@@ -23,6 +29,9 @@ pub struct WalFile {
     pub(crate) marks: Option<Marks>,
     /// The marks before the last write.
     pub(crate) saved: Option<Marks>,
+    pub(crate) index: FrameIndex,
+    /// How many committed frames the text before the last write shares with this one.
+    pub(crate) shared: usize,
 }
 
 impl Model for WalFile {
@@ -41,7 +50,8 @@ impl Model for WalFile {
 /// no byte before them changes.
 fn kept_marks(text: &Blocks, marks: Option<Marks>, at: usize, bytes: &[u8]) -> Option<Marks>
     requires { IsMarked text.now.bytes marks }
-    ensures { IfSome result (AreMarks (written at bytes.now text.now.bytes)) }
+    ensures marks { IfSome result (AreMarks (written at bytes.now text.now.bytes)) }
+    ensures shared { IfSome result (λ marks. AreShared text.now.bytes (written at bytes.now text.now.bytes) marks.committed.frames) }
 {
     let Some(marks) = marks else {
         return None;
@@ -65,6 +75,8 @@ impl WalFile {
             text: Blocks::new(alloc),
             marks: None,
             saved: None,
+            index: FrameIndex::new(alloc),
+            shared: 0,
         }
     }
 
@@ -80,10 +92,13 @@ impl WalFile {
     pub fn remove(&mut self)
         ensures { self.new ≡ no_wal }
     {
+        let alloc = *self.text.allocator();
         self.present = false;
         self.text.clear();
         self.marks = None;
         self.saved = None;
+        self.index = FrameIndex::new(alloc);
+        self.shared = 0;
     }
 
     /// Whether a write of `count` bytes at a place takes no memory.
@@ -110,7 +125,33 @@ impl WalFile {
         if at > WAL_LIMIT || count > WAL_LIMIT - at {
             return Err(WalFault::TooLong);
         }
+        self.make_room(at, count)?;
+        Ok(())
+    }
+
+    /// Makes room for a write, and for the frames that it may complete.
+    pub(crate) fn make_room(&mut self, at: u64, count: u64) -> Result<(), NoMemory>
+        requires { at + count ≤ wal_limit }
+        ensures ok { OnOk result (self.new ≡ with_room self.old at count) }
+        ensures err { OnErr result (self.new ≡ self.old) }
+    {
+        self.make_index_room(count as usize)?;
         self.text.reserve(at, count)?;
+        Ok(())
+    }
+
+    /// Makes room in the index for the frames that a write of so many bytes may complete, and adds the
+    /// committed ones that it lacks.
+    fn make_index_room(&mut self, count: usize) -> Result<(), NoMemory>
+        requires { count ≤ wal_limit }
+        ensures { self.new ≡ self.old }
+    {
+        let _limit = self.text.len();
+        let committed = self.committed();
+        let lacking = committed - self.index.len();
+        self.index.reserve(lacking + count / LEAST_FRAME + 1)?;
+        self.index
+            .extend(&self.text, page_size_of(self.marks), committed);
         Ok(())
     }
 
@@ -124,6 +165,11 @@ impl WalFile {
         self.text.write_within(at, bytes);
         self.saved = self.marks;
         self.marks = marks_of(&self.text, self.text.len() as usize, from);
+        self.shared = committed_in(from);
+        self.index.go_over(self.shared);
+        let committed = committed_in(self.marks);
+        self.index
+            .extend(&self.text, page_size_of(self.marks), committed);
     }
 
     /// Takes the last write back. It takes no memory.
@@ -131,6 +177,9 @@ impl WalFile {
         requires { IsSome self.old.before }
         ensures { self.new ≡ undone self.old }
     {
+        let _limit = self.text.len();
+        let page_size = page_size_of(self.marks);
+        self.index.truncate(&self.text, page_size, self.shared);
         self.text.undo();
         self.marks = self.saved;
     }

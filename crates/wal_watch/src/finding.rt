@@ -1,21 +1,29 @@
-//! The frames that hold a page, found by walking over them.
+//! The frames that hold a page. Those that the index lacks are found by walking over them.
 ghost use Rattle.std.specs.Prelude.{◌≡◌, ◌+◌, ◌≤◌, ◌<◌, ◌^◌, length, IfSome, IsTrue, ◌↔◌};
-ghost use Rattle.wal_watch.specs.Frames.{frame_place, page_size_in, committed_count, size_in};
+ghost use Rattle.wal_watch.specs.Frames.{frame_place, number_in, page_size_in, committed_count, size_in};
+ghost use Rattle.wal_watch.specs.Indexing.{indexed, IsIndex};
 ghost use Rattle.wal_watch.specs.News.{latest_frame, HoldsFrame, HasSize};
 
 use crate::frames::{holds_page, number_in, size_in};
+use crate::index::FrameIndex;
 use lf_sqlite_pages::Blocks;
 
-/// The latest of the first `count` frames, the committed ones, that holds a page.
-pub fn latest_frame(text: &Blocks, page_size: u32, page: u32, count: usize) -> Option<usize>
-    requires count { count ≡ committed_count text.now.bytes }
-    requires size { 0 < count → page_size ≡ page_size_in text.now.bytes }
+/// The latest of the frames from `from` on, among the first `count`, that holds a page.
+fn latest_since(
+    text: &Blocks,
+    page_size: u32,
+    page: u32,
+    from: usize,
+    count: usize,
+) -> Option<usize>
+    requires among { count ≤ committed_count text.now.bytes }
+    requires size { 0 < committed_count text.now.bytes → page_size ≡ page_size_in text.now.bytes }
     requires short { length text.now.bytes < 2 ^ 62 }
-    ensures latest { result ≡ latest_frame text.now.bytes page 0 count }
-    ensures there { IfSome result (λ frame. frame_place text.now.bytes (frame + 1) ≤ length text.now.bytes) }
+    requires order { from ≤ count }
+    ensures { result ≡ latest_frame text.now.bytes page from count }
 {
     let mut latest = None;
-    for frame in 0..count {
+    for frame in from..count {
         if number_in(text, page_size, frame) == page {
             latest = Some(frame);
         }
@@ -23,18 +31,74 @@ pub fn latest_frame(text: &Blocks, page_size: u32, page: u32, count: usize) -> O
     latest
 }
 
-/// Whether one of the first `count` frames, the committed ones, holds a page with these bytes.
-pub fn holds_frame(text: &Blocks, page_size: u32, count: usize, number: u32, page: &[u8]) -> bool
-    requires count { count ≡ committed_count text.now.bytes }
-    requires size { 0 < count → page_size ≡ page_size_in text.now.bytes }
+/// The latest of the first `count` frames that holds a page. The index has no more frames than these.
+pub fn latest_frame(
+    text: &Blocks,
+    index: &FrameIndex,
+    page_size: u32,
+    page: u32,
+    count: usize,
+) -> Option<usize>
+    requires among { count ≤ committed_count text.now.bytes }
+    requires size { 0 < committed_count text.now.bytes → page_size ≡ page_size_in text.now.bytes }
     requires short { length text.now.bytes < 2 ^ 62 }
+    requires index { IsIndex text.now.bytes index.now }
+    requires few { indexed index.now ≤ count }
+    ensures latest { result ≡ latest_frame text.now.bytes page 0 count }
+    ensures there { IfSome result (λ frame. frame_place text.now.bytes (frame + 1) ≤ length text.now.bytes) }
+{
+    match latest_since(text, page_size, page, index.len(), count) {
+        None => index.latest(page),
+        Some(frame) => Some(frame),
+    }
+}
+
+/// The latest frame before a frame that holds the same page.
+fn frame_before(
+    text: &Blocks,
+    index: &FrameIndex,
+    page_size: u32,
+    page: u32,
+    frame: usize,
+) -> Option<usize>
+    requires among { frame < committed_count text.now.bytes }
+    requires size { 0 < committed_count text.now.bytes → page_size ≡ page_size_in text.now.bytes }
+    requires short { length text.now.bytes < 2 ^ 62 }
+    requires index { IsIndex text.now.bytes index.now }
+    requires page { page ≡ number_in text.now.bytes frame }
+    ensures { result ≡ latest_frame text.now.bytes page 0 frame }
+{
+    if frame < index.len() {
+        index.earlier(frame)
+    } else {
+        latest_frame(text, index, page_size, page, frame)
+    }
+}
+
+/// Whether one of the first `count` frames, the committed ones, holds a page with these bytes. It looks
+/// at the frames of that page alone, the latest first.
+pub fn holds_frame(
+    text: &Blocks,
+    index: &FrameIndex,
+    page_size: u32,
+    count: usize,
+    number: u32,
+    page: &[u8],
+) -> bool
+    requires count { count ≡ committed_count text.now.bytes }
+    requires size { 0 < committed_count text.now.bytes → page_size ≡ page_size_in text.now.bytes }
+    requires short { length text.now.bytes < 2 ^ 62 }
+    requires index { IsIndex text.now.bytes index.now }
+    requires few { indexed index.now ≤ count }
     requires whole { length page.now ≡ page_size }
     ensures { IsTrue result ↔ (HoldsFrame text.now.bytes number page.now) }
 {
-    for frame in 0..count {
-        if number_in(text, page_size, frame) == number && holds_page(text, page_size, frame, page) {
+    let mut next = latest_frame(text, index, page_size, number, count);
+    while let Some(frame) = next {
+        if holds_page(text, page_size, frame, page) {
             return true;
         }
+        next = frame_before(text, index, page_size, number, frame);
     }
     false
 }

@@ -13,6 +13,7 @@ mod file;
 mod finding;
 mod frames;
 mod header;
+mod index;
 mod laws;
 mod news;
 mod reader;

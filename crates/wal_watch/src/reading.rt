@@ -3,8 +3,8 @@ ghost use Rattle.std.specs.Prelude.{◌≡◌, ◌+◌, ◌-◌, ◌≤◌, ◌<
 ghost use Rattle.std.specs.Option.{option_map};
 ghost use Rattle.lf_base.specs.FileBytes.{Reads};
 ghost use Rattle.wal_watch.specs.File.{text_of};
-ghost use Rattle.wal_watch.specs.Frames.{committed_count, committed_end, page_size_in, size_in};
-ghost use Rattle.wal_watch.specs.News.{HoldsFrame, HasSize, last_size, latest_page};
+ghost use Rattle.wal_watch.specs.Frames.{frame_place, committed_count, committed_end, page_size_in, size_in};
+ghost use Rattle.wal_watch.specs.News.{HoldsFrame, HasSize, last_size, latest_frame, latest_page};
 
 use crate::file::WalFile;
 use crate::finding::{holds_frame, holds_size, latest_frame};
@@ -88,7 +88,24 @@ impl WalFile {
         if page.len() != page_size as usize {
             return false;
         }
-        holds_frame(&self.text, page_size, self.committed(), n, page)
+        holds_frame(
+            &self.text,
+            &self.index,
+            page_size,
+            self.committed(),
+            n,
+            page,
+        )
+    }
+
+    /// The latest committed frame of page `n`.
+    fn latest_frame(&self, n: u32) -> Option<usize>
+        ensures latest { result ≡ latest_frame (text_of self.now) n 0 (committed_count (text_of self.now)) }
+        ensures there { IfSome result (λ frame. frame_place (text_of self.now) (frame + 1) ≤ length (text_of self.now)) }
+    {
+        let _limit = self.text.len();
+        let page_size = self.page_size();
+        latest_frame(&self.text, &self.index, page_size, n, self.committed())
     }
 
     /// Puts the bytes of the latest committed frame of page `n` into `out`, which is one page. False,
@@ -100,7 +117,7 @@ impl WalFile {
         ensures none { IfNone (latest_page (text_of self.now) n) (out.new ≡ out.old) }
     {
         let _limit = self.text.len();
-        match latest_frame(&self.text, self.page_size(), n, self.committed()) {
+        match self.latest_frame(n) {
             None => false,
             Some(frame) => {
                 fill_page(&self.text, self.page_size(), frame, out);

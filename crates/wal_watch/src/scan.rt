@@ -198,7 +198,9 @@ pub fn marks_of(blocks: &Blocks, len: usize, from: Option<Marks>) -> Option<Mark
 
 /// How many frames are committed.
 pub fn committed_in(marks: Option<Marks>) -> usize
-    ensures { (text : List ℕ) → IsMarked text marks → result ≡ committed_count text }
+    ensures count { (text : List ℕ) → IsMarked text marks → result ≡ committed_count text }
+    ensures none { IfNone marks (result ≡ 0) }
+    ensures some { IfSome marks (λ marks. result ≡ marks.committed.frames) }
 {
     match marks {
         None => 0,

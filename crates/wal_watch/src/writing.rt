@@ -77,7 +77,7 @@ impl WalFile {
     {
         let first = self.first_after(page_size, at, bytes)?;
         let alloc = *self.text.allocator();
-        self.text.reserve(at, bytes.len() as u64)?;
+        self.make_room(at, bytes.len() as u64)?;
         self.write_within(at, bytes);
         match self.news(alloc, first) {
             Ok(news) => Ok(news),

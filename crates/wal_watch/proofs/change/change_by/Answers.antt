@@ -1,11 +1,10 @@
-use Rattle.std.proofs.Common.{◌≡◌, ℕ, ◌+◌, ◌-◌, ◌≤◌, ◌<◌, ◌∙◌, sym, ap, inl, inr, arith}
+use Rattle.std.proofs.Common.{◌≡◌, ℕ, ◌+◌, ◌-◌, ◌∙◌, ap, inl, inr, arith}
 use Rattle.std.proofs.lemmas.Bool.{cases_eq}
 use Rattle.std.specs.BTreeMap.{btree_map_len}
 use Rattle.lf_sqlite_pages.specs.Change.{PageChange}
 use Rattle.lf_sqlite_pages.specs.LockPage.{lock_page_of}
 use Rattle.lf_sqlite_pages.proofs.LockPages.{page_size-positive}
-use Rattle.wal_watch.specs.Frames.{size_in, frame_place}
-use Rattle.wal_watch.specs.News.{latest_pages}
+use Rattle.wal_watch.specs.Frames.{size_in}
 use Rattle.wal_watch.proofs.CommitLemmas.{place_up}
 use Rattle.wal_watch.proofs.TakenLemmas.{taken_none, taken_least, taken_more, taken_all, same_pages}
 use Rattle.wal_watch.proofs.change.change_by.Goals as goal

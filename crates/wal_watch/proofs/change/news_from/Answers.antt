@@ -1,6 +1,4 @@
-use Rattle.std.proofs.Common.{◌≡◌, ◌+◌, ◌-◌, ◌<◌, ◌≤◌, length, ℕ, sym, subst, arith}
-use Rattle.lf_sqlite_pages.specs.PageSize.{IsPageSize}
-use Rattle.wal_watch.specs.Frames.{frame_place}
+use Rattle.std.proofs.Common.{◌≡◌, ◌+◌, ◌-◌, arith}
 use Rattle.wal_watch.proofs.CommitLemmas.{has_committed}
 use Rattle.wal_watch.proofs.change.news_from.Goals as goal
 

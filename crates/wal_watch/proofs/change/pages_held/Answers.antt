@@ -1,4 +1,4 @@
-use Rattle.std.proofs.Common.{◌∙◌, sym, ap, ℕ, arith}
+use Rattle.std.proofs.Common.{◌∙◌, ap, ℕ, arith}
 use Rattle.lf_sqlite_pages.specs.LockPage.{lock_page_of}
 use Rattle.wal_watch.proofs.TakenLemmas.{within_start, within_more, within_same}
 use Rattle.wal_watch.proofs.change.pages_held.Goals as goal

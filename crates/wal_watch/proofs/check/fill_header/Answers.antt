@@ -1,5 +1,4 @@
-use Rattle.std.proofs.Common.{◌≡◌, ◌≤◌, take, length, arith, ap, sym, ◌∙◌, List, ℕ}
-use Rattle.lf_base.specs.FileBytes.{resized, written}
+use Rattle.std.proofs.Common.{arith, ◌∙◌}
 use Rattle.wal_watch.proofs.WriteLemmas.{front-past, front-within}
 use Rattle.wal_watch.proofs.check.fill_header.Goals as goal
 

@@ -1,4 +1,4 @@
-use Rattle.std.proofs.Common.{◌≡◌, ◌≤◌, length, take, ap, sym, ◌∙◌, arith, List, ℕ}
+use Rattle.std.proofs.Common.{◌≡◌, ◌≤◌, length, ap, sym, ◌∙◌, arith, List, ℕ}
 use Rattle.std.proofs.lemmas.List.{length-take, take_all}
 use Rattle.lf_base.specs.FileBytes.{written}
 use Rattle.wal_watch.proofs.WriteLemmas.{written-longer}

@@ -1,4 +1,4 @@
-use Rattle.std.proofs.Common.{◌≡◌, ◌≤◌, length, arith, sym, ◌∙◌}
+use Rattle.std.proofs.Common.{◌≤◌, length, arith, sym, ◌∙◌}
 use Rattle.lf_base.specs.FileBytes.{written}
 use Rattle.wal_watch.proofs.FrontLemmas.{short_header, front_header, front_size}
 use Rattle.wal_watch.proofs.check.page_size_after.Goals as goal

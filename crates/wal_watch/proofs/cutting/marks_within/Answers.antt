@@ -1,4 +1,3 @@
-use Rattle.std.proofs.Common.{sym}
 use Rattle.wal_watch.proofs.StayLemmas.{marked-some, marks-back, marks-cut}
 use Rattle.wal_watch.proofs.cutting.marks_within.Goals as goal
 

@@ -1,7 +1,11 @@
-use Rattle.std.proofs.Common.{◌<◌, ℕ}
-use Rattle.wal_watch.specs.News.{HoldsAt}
+use Rattle.std.proofs.Common.{◌+◌}
+use Rattle.std.specs.Option.{option_map, unwrap_or}
+use Rattle.wal_watch.specs.Indexing.{AreLeft}
 use Rattle.wal_watch.proofs.finding.holds_frame.Given as goal
 
--- none of the frames so far holds the page with these bytes
-abbrev pub invariant-loop-frame : goal.invariant-loop-frame
-invariant-loop-frame l = (k : ℕ) → k < l.frame → HoldsAt l.text.bytes l.count l.number l.page k → ⊥
+-- the frames that hold the page with these bytes are still to be looked at
+abbrev pub invariant-loop-next : goal.invariant-loop-next
+invariant-loop-next l = AreLeft l.text.bytes l.count l.number l.page l.next
+
+abbrev pub decreases-loop-next : goal.decreases-loop-next
+decreases-loop-next l = unwrap_or (option_map (λ k. k + 1) l.next) 0

@@ -1,23 +1,19 @@
-use Rattle.std.proofs.Common.{sym, ◌∙◌, arith}
-use Rattle.wal_watch.proofs.ChangeLemmas.{latest_none, latest_here, latest_other, latest_there}
-use Rattle.wal_watch.proofs.CommitLemmas.{frame_there}
+use Rattle.std.proofs.Common.{Some, ℕ, sym, ap, ◌∙◌, arith}
+use Rattle.wal_watch.specs.News.{latest_frame}
+use Rattle.wal_watch.proofs.IndexLemmas.{split_none, split_some, latest_there}
 use Rattle.wal_watch.proofs.finding.latest_frame.Goals as goal
-use Rattle.wal_watch.proofs.finding.latest_frame.Goals.{then-number_in-page, else-number_in-page}
 
-pub loop-frame-init : goal.loop-frame-init
-loop-frame-init c = sym (latest_none c.args.text.now.bytes c.args.page 0 0 (omega arith))
+pub returns-in-None-clause-latest : goal.returns-in-None-clause-latest
+returns-in-None-clause-latest c =
+    let text = c.args.text.now.bytes in
+    c.latest.ensures text c.requires.index ∙ ap (λ (m : ℕ). latest_frame text c.args.page 0 m) (sym c.len.ensures)
+    ∙ sym (split_none text c.args.page c.len.result c.args.count (omega (arith, c.len.ensures, c.requires.few)) (sym c.in-None.ensures))
 
-pub loop-frame-preserved : goal.loop-frame-preserved
-loop-frame-preserved c =
-    let k = c.loop-frame.frame in
-    elim c.if-number_in-page.branch [
-      | then-number_in-page w ↦ w.latest-is ∙ sym (latest_here c.args.text.now.bytes c.args.page 0 k (omega arith) (sym c.number_in.ensures ∙ w.if-number_in-page.true))
-      | else-number_in-page w ↦ w.latest-is ∙ c.loop-frame.invariant
-          ∙ sym (latest_other c.args.text.now.bytes c.args.page 0 k (λ is. w.if-number_in-page.false (c.number_in.ensures ∙ is)))
-    ]
+pub returns-in-None-clause-there : goal.returns-in-None-clause-there
+returns-in-None-clause-there c = latest_there c.args.text.now.bytes c.args.page c.args.count c.latest.result c.requires.among (returns-in-None-clause-latest c)
 
-pub number_in-requires-clause-there : goal.number_in-requires-clause-there
-number_in-requires-clause-there c = frame_there c.args.text.now.bytes c.args.count c.loop-frame.frame c.requires.count c.loop-frame-test.true
+pub returns-in-Some-clause-latest : goal.returns-in-Some-clause-latest
+returns-in-Some-clause-latest c = sym (split_some c.args.text.now.bytes c.args.page c.len.result c.args.count c.in-Some.frame (sym c.in-Some.ensures))
 
-pub returns-clause-there : goal.returns-clause-there
-returns-clause-there c = latest_there c.args.text.now.bytes c.args.page c.args.count c.loop-frame.frame c.loop-frame.latest c.requires.count (omega arith) c.loop-frame.invariant
+pub returns-in-Some-clause-there : goal.returns-in-Some-clause-there
+returns-in-Some-clause-there c = latest_there c.args.text.now.bytes c.args.page c.args.count (Some c.in-Some.frame) c.requires.among (returns-in-Some-clause-latest c)

@@ -1,4 +1,4 @@
-use Rattle.std.proofs.Common.{◌≡◌, ◌+◌, ◌≤◌, length, take, drop, ap, ◌∙◌, ℕ, List, arith}
+use Rattle.std.proofs.Common.{◌+◌, length, take, drop, ap, ◌∙◌, ℕ, List, arith}
 use Rattle.wal_watch.specs.Frames.{frame_place}
 use Rattle.wal_watch.proofs.ScanLemmas.{next_place}
 use Rattle.wal_watch.proofs.WriteLemmas.{resized-whole}

@@ -1,4 +1,4 @@
-use Rattle.std.proofs.Common.{◌≡◌, ◌+◌, ◌≤◌, length, ap, ◌∙◌, ℕ, List, arith}
+use Rattle.std.proofs.Common.{◌+◌, length, ap, ◌∙◌, ℕ, List, arith}
 use Rattle.lf_base.specs.Endian.{be32_at}
 use Rattle.wal_watch.proofs.ScanLemmas.{next_place}
 use Rattle.wal_watch.proofs.WriteLemmas.{resized-whole}

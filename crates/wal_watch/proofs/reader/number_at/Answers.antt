@@ -1,4 +1,4 @@
-use Rattle.std.proofs.Common.{◌≡◌, ◌+◌, ◌∙◌, ap, ℕ, arith, add-zero}
+use Rattle.std.proofs.Common.{◌∙◌, ap, ℕ, arith, add-zero}
 use Rattle.lf_base.specs.FileBytes.{resized}
 use Rattle.lf_base.specs.Endian.{be32_at}
 use Rattle.wal_watch.proofs.PieceLemmas.{part-be32}

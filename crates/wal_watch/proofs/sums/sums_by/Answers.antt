@@ -1,4 +1,4 @@
-use Rattle.std.proofs.Common.{◌≡◌, ◌+◌, ◌*◌, ◌≤◌, ◌∙◌, sym, ap, List, ℕ, take, drop, arith}
+use Rattle.std.proofs.Common.{◌+◌, ◌*◌, ◌≤◌, sym, arith}
 use Rattle.lf_base.specs.FileBytes.{resized}
 use Rattle.wal_watch.proofs.Steps.{with_pairs_none}
 use Rattle.wal_watch.proofs.PieceLemmas.{sums-more}

@@ -1,4 +1,4 @@
-use Rattle.std.proofs.Common.{◌≡◌, ◌+◌, ◌*◌, ◌-◌, ◌≤◌, ℕ, length}
+use Rattle.std.proofs.Common.{◌≡◌, ◌+◌, ◌*◌, ◌-◌, ◌≤◌, ℕ}
 use Rattle.lf_base.specs.FileBytes.{resized}
 use Rattle.wal_watch.specs.Sums.{with_pairs}
 use Rattle.wal_watch.proofs.sums.sums_by.Given as goal

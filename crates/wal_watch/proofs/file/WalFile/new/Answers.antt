@@ -8,4 +8,7 @@ invariant_of-result c = rw c.new.ensures record {
   gone = λ off. refl;
   marks = short_header [] (omega arith);
   saved = λ old is. cc;
+  index = c.new-2.ensures.index [];
+  few = omega (arith, c.new-2.ensures.none);
+  shared = λ old is. cc;
 }

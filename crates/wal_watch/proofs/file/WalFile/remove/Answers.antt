@@ -8,4 +8,7 @@ invariant_of-self c = rw c.clear.ensures record {
   gone = λ off. refl;
   marks = short_header [] (omega arith);
   saved = λ old is. cc;
+  index = c.new.ensures.index [];
+  few = omega (arith, c.new.ensures.none);
+  shared = λ old is. cc;
 }

@@ -1,7 +1,7 @@
-use Rattle.std.proofs.Common.{◌≡◌, ◌+◌, ◌*◌, ◌/◌, ◌≤◌, ◌∙◌, sym, ap, List, ℕ, Bool, arith}
+use Rattle.std.proofs.Common.{◌+◌, ◌/◌, ◌∙◌, ap, ℕ, Bool, arith}
 use Rattle.lf_base.specs.FileBytes.{resized}
 use Rattle.wal_watch.specs.Sums.{with_pairs}
-use Rattle.wal_watch.specs.Frames.{frame_sums, is_little, page_size_in}
+use Rattle.wal_watch.specs.Frames.{frame_sums, is_little}
 use Rattle.wal_watch.specs.declared.sums.Sums.{Sums}
 use Rattle.wal_watch.proofs.PieceLemmas.{part-pairs}
 use Rattle.wal_watch.proofs.header.Header.frame_sums.Goals as goal

@@ -1,7 +1,6 @@
-use Rattle.std.proofs.Common.{◌≡◌, ◌+◌, ◌<◌, ◌≤◌, length, ◌∙◌, sym, ap, refl, arith, ℕ, true, false}
+use Rattle.std.proofs.Common.{◌+◌, ◌∙◌, sym, ap, arith}
 use Rattle.lf_base.specs.FileBytes.{resized}
 use Rattle.lf_base.proofs.FileLemmas.{length-resized}
-use Rattle.wal_watch.specs.Frames.{frame_sums, is_head}
 use Rattle.wal_watch.specs.Sums.{stand_at}
 use Rattle.wal_watch.specs.declared.sums.Sums.{Sums}
 use Rattle.wal_watch.proofs.PieceLemmas.{frame-short, frame-headless, frame-unsummed, frame-valid, part-stand, part-be32}

@@ -1,4 +1,4 @@
-use Rattle.std.proofs.Common.{◌≡◌, ◌≤◌, length, ◌∙◌, sym, refl, arith}
+use Rattle.std.proofs.Common.{◌≤◌, length, ◌∙◌, sym, refl, arith}
 use Rattle.lf_base.specs.FileBytes.{resized}
 use Rattle.lf_base.proofs.FileLemmas.{length-resized}
 use Rattle.wal_watch.proofs.FrontLemmas.{short_header, front_header, front_sums, front_states, marks-none}

@@ -1,7 +1,7 @@
 use Rattle.std.proofs.Common.{◌≡◌}
 use Rattle.wal_watch.specs.News.{latest_frame}
-use Rattle.wal_watch.proofs.finding.latest_frame.Given as goal
+use Rattle.wal_watch.proofs.finding.latest_since.Given as goal
 
 -- the latest of the frames so far
 abbrev pub invariant-loop-frame : goal.invariant-loop-frame
-invariant-loop-frame l = l.latest ≡ latest_frame l.text.bytes l.page 0 l.frame
+invariant-loop-frame l = l.latest ≡ latest_frame l.text.bytes l.page l.from l.frame

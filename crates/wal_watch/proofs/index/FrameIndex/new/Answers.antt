@@ -1,0 +1,5 @@
+use Rattle.wal_watch.proofs.IndexLemmas.{index-none}
+use Rattle.wal_watch.proofs.index.FrameIndex.new.Goals as goal
+
+pub returns-clause-index : goal.returns-clause-index
+returns-clause-index c = λ text. index-none text _ c.new-2.ensures.len c.new.ensures.empty
