@@ -1,5 +1,6 @@
 mod Cleanings
 mod Commits
+mod Composing
 mod Copies
 mod Drafts
 mod Entries

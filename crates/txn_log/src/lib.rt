@@ -1,6 +1,8 @@
 //! The store.
 #![tactic(auto)]
 
+mod answer;
+mod answering;
 mod attempt;
 mod committing;
 mod copying;
@@ -20,6 +22,7 @@ mod store;
 mod sums;
 mod writing;
 
+pub use answer::Answer;
 pub use attempt::Attempt;
 pub use entry::Entry;
 pub use fault::StoreFault;

@@ -1,0 +1,26 @@
+-- What a follower at a position is owed.
+use Rattle.std.specs.Prelude.{◌≡◌, ◌≢◌, ◌⊎◌, ℕ, ◌<◌, List, [], length, get_or}
+use Rattle.lf_base.specs.declared.pos.Pos.{Pos}
+use Rattle.txn_log.specs.declared.entry.Entry.{Entry}
+use Rattle.txn_log.specs.declared.answer.Answer.{Answer}
+use Rattle.txn_log.specs.declared.answer.Answer.TheVariants as answer
+use Rattle.txn_log.specs.Store.{end_of_entries}
+
+-- there is nothing to be owed: the log is empty, or its end is the position
+abbrev pub IsLevel : List Entry → Pos → Type 0
+IsLevel entries position = (entries ≡ []) ⊎ (position ≡ end_of_entries entries)
+
+-- the first file that follows the position
+pub record IsFirstBehind (entries : List Entry) (position : Pos) (first : ℕ) : Type 0 where
+  pub there : first < length entries
+  pub follows : (d : Entry) → (get_or entries first d).pre ≡ position
+  pub none : (k : ℕ) (d : Entry) → k < first → (get_or entries k d).pre ≢ position
+
+-- no file follows the position
+abbrev pub IsLacking : List Entry → Pos → Type 0
+IsLacking entries position = (k : ℕ) (d : Entry) → k < length entries → (get_or entries k d).pre ≢ position
+
+abbrev pub Answers : List Entry → Pos → Answer → Type 0
+Answers entries position answer.Level = IsLevel entries position
+Answers entries position (answer.Files first) = (IsLevel entries position → ⊥) × IsFirstBehind entries position first
+Answers entries position answer.Snapshot = (IsLevel entries position → ⊥) × IsLacking entries position
