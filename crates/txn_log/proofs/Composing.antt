@@ -1,5 +1,5 @@
 -- Calls on a store, after others.
-use Rattle.std.proofs.Common.{◌≡◌, ℕ, ◌≤◌, List, [], ◌∷◌, ◌++◌, Option, None, Some, IsSome, inl, inr, refl, sym, ap, subst, ◌∙◌, arith, append_assoc}
+use Rattle.std.proofs.Common.{◌≡◌, ℕ, ◌≤◌, List, [], ◌∷◌, ◌++◌, Option, None, Some, IsSome, Bool, true, false, Result, Ok, Err, inl, inr, refl, sym, ap, subst, ◌∙◌, arith, append_assoc}
 use Rattle.std.proofs.lemmas.List.{append-nil}
 use Rattle.std.proofs.lemmas.List.Sums.{fold-append}
 use Rattle.std.proofs.Math.Logic.{∥∥₁_map}
@@ -7,7 +7,10 @@ use Rattle.lf_disk.specs.Folder.{Folder}
 use Rattle.lf_disk.specs.History.{History, EachMoment, may_leave}
 use Rattle.lf_disk.proofs.Moments.{joined, weakened}
 use Rattle.world_laws.specs.Store.{StoreState, StoreCall, Commit, Apply, Install, PruneTo, DropAll, Failure, FailedBefore, FailedIn, CanDoAll, all_done, done, begun_by, broken_by, MayLeave, MayBeFound, IsCandidate}
-use Rattle.txn_log.specs.Calls.{StandsForOne, MayFind, Moved}
+use Rattle.txn_log.specs.declared.fault.StoreFault.{StoreFault}
+use Rattle.txn_log.specs.declared.fault.StoreFault.TheVariants as fault
+use Rattle.txn_log.specs.Calls.{StandsForOne, MayFind, Moved, Went, ThenPruned}
+use Rattle.txn_log.specs.Pruning.{Prunes}
 
 -- a store is a candidate of whatever is done to it
 before-leaves : (store : StoreState) (call : StoreCall) → MayLeave store call store
@@ -46,7 +49,7 @@ moved-then old mid new then now start middle end did more failed first second =
     let first_can : CanDoAll old did = subst (λ (ds : List StoreCall). CanDoAll old ds) front first.can in
     record {
       can = subst (λ (ds : List StoreCall). CanDoAll old ds) (sym regroup) (can-join old did rest first_can second_can);
-      whole = λ some. absurd (none_some some);
+      whole = λ some. let no_way : false ≡ true = some in absurd (false_true no_way);
       store = second.store ∙ ap (λ (s : StoreState). all_done s more) first.store ∙ sym (fold-append done old did more);
       broken = second.broken ∙ ap (λ (w : Option Failure). broken_by w failed) same;
       moments = subst (λ (ds : List StoreCall). EachMoment start end (StandsForOne (IsCandidate old ds))) (sym regroup)
@@ -59,5 +62,30 @@ moved-then old mid new then now start middle end did more failed first second =
       rests = second.rests;
     }
   where
-    none_some : IsSome {A = Failure} None → ⊥
-    none_some some = let same : Rattle.std.proofs.Common.false ≡ Rattle.std.proofs.Common.true = some in cc
+    false_true : false ≡ true → ⊥
+    false_true same = cc
+
+-- a prune behind a call
+pub then-pruned : (old mid new : StoreState) (was then now : Option Failure) (start middle end : History) (call : StoreCall) (broken : Bool) (count keep : ℕ) (pruned : Result ℕ StoreFault) →
+    was ≡ None → broken ≡ false → Prunes broken count keep pruned → Moved old was start (call ∷ []) None mid then middle → Went mid then middle (PruneTo keep) pruned new now end
+    → ThenPruned old was start call keep new now end
+then-pruned old mid new was then now start middle end call broken count keep (Ok gone) whole open_ prunes first second =
+    inl (subst (λ (w : Option Failure). Moved old w start (call ∷ PruneTo keep ∷ []) None new now end) (sym whole)
+      (moved-then old mid new then now start middle end (call ∷ []) (PruneTo keep ∷ []) None (subst (λ (w : Option Failure). Moved old w start (call ∷ []) None mid then middle) whole first) second))
+then-pruned old mid new was then now start middle end call broken count keep (Err fault.Disk) whole open_ prunes first second =
+    let known : Moved old None start (call ∷ []) None mid then middle = subst (λ (w : Option Failure). Moved old w start (call ∷ []) None mid then middle) whole first in
+    elim second [
+      | inl before ↦ inr (inl (subst (λ (w : Option Failure). Moved old w start (call ∷ []) (Some FailedBefore) new now end) (sym whole)
+          (moved-then old mid new then now start middle end (call ∷ []) [] (Some FailedBefore) known before)))
+      | inr later ↦ inr (inr (subst (λ (w : Option Failure). Moved old w start (call ∷ []) (Some (FailedIn (PruneTo keep))) new now end) (sym whole)
+          (moved-then old mid new then now start middle end (call ∷ []) [] (Some (FailedIn (PruneTo keep))) known later)))
+    ]
+then-pruned old mid new was then now start middle end call broken count keep (Err fault.Broken) whole open_ prunes first second = absurd (true_false (sym prunes ∙ open_))
+  where
+    true_false : true ≡ false → ⊥
+    true_false same = cc
+then-pruned old mid new was then now start middle end call broken count keep (Err (fault.NotNext have want)) whole open_ prunes first second = absurd prunes
+then-pruned old mid new was then now start middle end call broken count keep (Err (fault.SumDiffers want got)) whole open_ prunes first second = absurd prunes
+then-pruned old mid new was then now start middle end call broken count keep (Err fault.Limit) whole open_ prunes first second = absurd prunes
+then-pruned old mid new was then now start middle end call broken count keep (Err fault.NoMemory) whole open_ prunes first second = absurd prunes
+then-pruned old mid new was then now start middle end call broken count keep (Err (fault.PageSize have want)) whole open_ prunes first second = absurd prunes

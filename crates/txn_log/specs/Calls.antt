@@ -1,8 +1,8 @@
 -- What a call on a store did to it, and what a crash leaves at each moment of the call.
-use Rattle.std.specs.Prelude.{◌≡◌, ◌⊎◌, List, [], ◌∷◌, ◌++◌, Option, None, Some, IsSome, Result, Ok, Err}
+use Rattle.std.specs.Prelude.{◌≡◌, ◌⊎◌, ℕ, List, [], ◌∷◌, ◌++◌, Option, None, Some, IsSome, Result, Ok, Err}
 use Rattle.lf_disk.specs.Folder.{Folder}
 use Rattle.lf_disk.specs.History.{History, EachMoment, may_leave}
-use Rattle.world_laws.specs.Store.{StoreState, StoreCall, Failure, FailedBefore, FailedIn, CanDoAll, all_done, begun_by, broken_by, MayBeFound, IsCandidate}
+use Rattle.world_laws.specs.Store.{StoreState, StoreCall, Failure, FailedBefore, FailedIn, PruneTo, CanDoAll, all_done, begun_by, broken_by, MayBeFound, IsCandidate}
 use Rattle.txn_log.specs.declared.fault.StoreFault.{StoreFault}
 use Rattle.txn_log.specs.declared.fault.StoreFault.TheVariants as fault
 use Rattle.txn_log.specs.Durable.{Durable}
@@ -39,3 +39,15 @@ abbrev pub Went : {T : Type 0} → StoreState → Option Failure → History →
 Went old was start call (Ok told) new now end = Moved old was start (call ∷ []) None new now end
 Went old was start call (Err fault.Disk) new now end = Failed old was start call new now end
 Went old was start call (Err why) new now end = Moved old was start [] None new now end
+
+-- a call that went well, and a prune behind it, which may have failed
+abbrev pub ThenPruned : StoreState → Option Failure → History → StoreCall → ℕ → StoreState → Option Failure → History → Type 0
+ThenPruned old was start call keep new now end =
+    Moved old was start (call ∷ PruneTo keep ∷ []) None new now end
+    ⊎ (Moved old was start (call ∷ []) (Some FailedBefore) new now end
+    ⊎ Moved old was start (call ∷ []) (Some (FailedIn (PruneTo keep))) new now end)
+
+-- how a call and a prune behind it went, by the result of the call
+abbrev pub WentPruned : {T : Type 0} → StoreState → Option Failure → History → StoreCall → ℕ → Result T StoreFault → StoreState → Option Failure → History → Type 0
+WentPruned old was start call keep (Ok told) new now end = ThenPruned old was start call keep new now end
+WentPruned {T = T} old was start call keep (Err why) new now end = Went {T = T} old was start call (Err why) new now end

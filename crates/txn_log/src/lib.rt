@@ -18,6 +18,7 @@ mod publishing;
 mod putting;
 mod removing;
 mod rewriting;
+mod step;
 mod store;
 mod sums;
 mod writing;
