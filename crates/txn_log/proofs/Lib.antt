@@ -1,3 +1,4 @@
+mod Blank
 mod Cleanings
 mod Commits
 mod Composing

@@ -10,6 +10,7 @@ mod drafting;
 mod encoding;
 mod entry;
 mod fault;
+mod opening;
 mod placed;
 mod placing;
 mod position;
