@@ -52,11 +52,11 @@ change_none text page first n le = elim (cases_eq page (lock_page_of (page_size_
   | inr holds ↦ change_data text page first n holds ∙ latest_none text page first n le
 ]
 
-pages_none : (text : List ℕ) (first n page : ℕ) → change_frame text (page + 1) first n ≡ None → latest_pages text first n (page + 1) ≡ latest_pages text first n page
+pub pages_none : (text : List ℕ) (first n page : ℕ) → change_frame text (page + 1) first n ≡ None → latest_pages text first n (page + 1) ≡ latest_pages text first n page
 unfolding latest_pages
 pages_none text first n page none = ap (λ (m : ℕ). latest_pages text first n m) (add-one page) ∙ rw none (append-nil _)
 
-pages_push : (text : List ℕ) (first n page k : ℕ) → change_frame text (page + 1) first n ≡ Some k
+pub pages_push : (text : List ℕ) (first n page k : ℕ) → change_frame text (page + 1) first n ≡ Some k
     → latest_pages text first n (page + 1) ≡ latest_pages text first n page ++ write_in text (page + 1) k ∷ []
 unfolding latest_pages
 pages_push text first n page k some = ap (λ (m : ℕ). latest_pages text first n m) (add-one page) ∙ rw some refl

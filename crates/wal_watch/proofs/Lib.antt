@@ -13,3 +13,5 @@ pub mod CheckLemmas
 pub mod CutLemmas
 pub mod LawLemmas
 pub mod PartLemmas
+pub mod OnLemmas
+pub mod WritesLemmas

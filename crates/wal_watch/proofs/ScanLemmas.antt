@@ -40,7 +40,7 @@ pub next_place : (text : List ℕ) (k : ℕ) → frame_place text (k + 1) ≡ fr
 next_place text k = omega arith
 
 -- the commits among one more valid frame
-commits_next : (text : List ℕ) (k size : ℕ) → are_valid text (k + 1) ≡ true → size ≡ size_in text k
+pub commits_next : (text : List ℕ) (k size : ℕ) → are_valid text (k + 1) ≡ true → size ≡ size_in text k
     → commits_among text (k + 1) ≡ (if size == 0 then commits_among text k else k + 1)
 unfolding is_commit
 commits_next text k size valid size-is = elim (cases_eq size 0) [

@@ -29,6 +29,10 @@ latest_pages text first n zero = []
 latest_pages text first n (suc page) =
     latest_pages text first n page ++ option_to_list (option_map (write_in text (page + 1)) (change_frame text (page + 1) first n))
 
+-- what a change writes at a page: what the frame holds that it takes the page from
+abbrev pub changed_page : List ℕ → ℕ → ℕ → ℕ → Option (List ℕ)
+changed_page text first n page = option_map (page_in text) (change_frame text page first n)
+
 -- the change that the frames from first to n make: within the size of the last commit, the latest of each data page
 abbrev pub change_of : List ℕ → ℕ → ℕ → PageChange
 change_of text first n =

@@ -24,6 +24,10 @@ abbrev pub ChangesCommitted : List ℕ → List ℕ → Type 0
 ChangesCommitted old new =
     (take 32 new ≡ take 32 old) × (take (committed_end old) new ≢ take (committed_end old) old)
 
+-- under the same header the bytes of the committed frames stay
+abbrev pub KeepsCommitted : List ℕ → List ℕ → Type 0
+KeepsCommitted old new = take 32 new ≡ take 32 old → take (committed_end old) new ≡ take (committed_end old) old
+
 -- nothing stands against a write
 pub record IsSoundWrite (old : List ℕ) (page_size at : ℕ) (bytes : List ℕ) : Type 0 where
   pub short : at + length bytes ≤ wal_limit

@@ -1,5 +1,5 @@
 -- How far a text was scanned.
-use Rattle.std.specs.Prelude.{◌≡◌, ℕ, ◌+◌, ◌-◌, ◌<◌, ◌≤◌, true, false, Option, Some, None, List, length}
+use Rattle.std.specs.Prelude.{◌≡◌, ℕ, suc, zero, ◌+◌, ◌-◌, ◌<◌, ◌≤◌, ◌==◌, true, false, Option, Some, None, List, length, if◌then◌else◌}
 use Rattle.lf_base.specs.Endian.{be32_at}
 use Rattle.lf_sqlite_pages.specs.PageSize.{IsPageSize}
 use Rattle.wal_watch.specs.Frames.{is_header, is_little, frame_place, are_valid, sums_after, commits_among, is_commit, is_frame_at, frame_sums, size_in, page_size_in}
@@ -7,6 +7,7 @@ use Rattle.wal_watch.specs.declared.header.Header.{Header}
 use Rattle.wal_watch.specs.declared.scan.Mark.{Mark}
 use Rattle.wal_watch.specs.declared.scan.Marks.{Marks}
 use Rattle.wal_watch.specs.declared.scan.NextFrame.{NextFrame}
+use Rattle.wal_watch.specs.declared.sums.Sums.{Sums}
 
 -- the header of a text is a valid one, and this is what it states
 pub record StatesHeader (text : List ℕ) (header : Header) : Type 0 where
@@ -29,6 +30,15 @@ pub record AreMarks (text : List ℕ) (marks : Marks) : Type 0 where
   pub last : IsMark text marks.last
   pub committed : IsMark text marks.committed
   pub count : marks.committed.frames ≡ commits_among text marks.last.frames
+
+-- how many frames are committed, where k valid frames end at a place with these sums and c of them are committed: the frames
+-- are walked from there on, at most n of them
+unfoldable pub committed_from : List ℕ → ℕ → ℕ → ℕ → Sums → ℕ → ℕ
+committed_from text c k place s zero = c
+committed_from text c k place s (suc n) =
+    if is_frame_at text place s
+    then committed_from text (if be32_at (place + 4) text == 0 then c else k + 1) (k + 1) (place + (24 + page_size_in text)) (frame_sums text place s) n
+    else c
 
 -- a valid frame comes next
 pub record IsNextFrame (text : List ℕ) (marks : Marks) (frame : NextFrame) : Type 0 where

@@ -1,9 +1,10 @@
 //! What holds of every text, as the contracts of calls that do nothing.
-ghost use Rattle.std.specs.Prelude.{◌≡◌, ◌≤◌, ◌<◌, ℕ, List, length, take};
-ghost use Rattle.wal_watch.specs.Frames.{committed_count, committed_end, page_size_in};
-ghost use Rattle.wal_watch.specs.News.{HasSameFrames, last_size};
+ghost use Rattle.std.specs.Prelude.{◌≡◌, ◌≤◌, ◌<◌, ℕ, List, Some, None, true, length, take};
+ghost use Rattle.wal_watch.specs.Frames.{are_valid, commits_among, committed_count, committed_end, frame_place, page_size_in, sums_after};
+ghost use Rattle.wal_watch.specs.News.{HasSameFrames, changed_page, last_size, latest_frame, latest_pages};
 ghost use Rattle.lf_sqlite_pages.specs.PageSize.{IsPageSize};
-ghost use Rattle.wal_watch.specs.Scanning.{AreMarks, AreFinal};
+ghost use Rattle.lf_sqlite_pages.specs.Writes.{writes_of};
+ghost use Rattle.wal_watch.specs.Scanning.{AreMarks, AreFinal, committed_from};
 
 use crate::scan::Marks;
 
@@ -32,3 +33,22 @@ pub fn scans_go_on(marks: &Marks)
 {
     let _marks = marks;
 }
+
+/// A scan that begins behind valid frames of a text, with the sums there, finds how many frames are
+/// committed in any text that agrees with it up to there.
+pub fn scans_begin_at_a_place()
+    ensures { (old new : List ℕ) (k : ℕ) → are_valid old k ≡ true → take (frame_place old k) new ≡ take (frame_place old k) old
+        → committed_count new ≡ committed_from new (commits_among old k) k (frame_place old k) (sums_after old k) (length new) }
+{}
+
+/// The latest frame of a page splits at a frame number: it is that of the frames from there on, where
+/// there is one, else that of the frames before.
+pub fn latest_frame_splits()
+    ensures behind { (text : List ℕ) (page first n k : ℕ) → latest_frame text page first n ≡ Some k → latest_frame text page 0 n ≡ Some k }
+    ensures before { (text : List ℕ) (page first n : ℕ) → first ≤ n → latest_frame text page first n ≡ None → latest_frame text page 0 n ≡ latest_frame text page 0 first }
+{}
+
+/// The pages of a change, as what is written at each number.
+pub fn latest_pages_are_writes()
+    ensures { (text : List ℕ) (first n count : ℕ) → latest_pages text first n count ≡ writes_of (changed_page text first n) count }
+{}

@@ -27,7 +27,10 @@ mod writing;
 pub use check::WAL_LIMIT;
 pub use fault::WalFault;
 pub use file::WalFile;
-pub use laws::{committed_frames_say, keep_committed_frames, scans_go_on};
+pub use laws::{
+    committed_frames_say, keep_committed_frames, latest_frame_splits, latest_pages_are_writes,
+    scans_begin_at_a_place, scans_go_on,
+};
 pub use news::WalNews;
 pub use scan::Marks;
 pub use sums::{Sums, sums_of};

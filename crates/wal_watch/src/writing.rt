@@ -4,7 +4,7 @@ ghost use Rattle.lf_base.specs.FileBytes.{written};
 ghost use Rattle.wal_watch.specs.File.{text_of, after_write, with_room, IsUnchanged};
 ghost use Rattle.wal_watch.specs.Frames.{committed_count, committed_end};
 ghost use Rattle.wal_watch.specs.News.{news_change, change_from, change_between, first_new};
-ghost use Rattle.wal_watch.specs.Refusals.{wal_limit, IsSoundWrite, IsWriteFault};
+ghost use Rattle.wal_watch.specs.Refusals.{wal_limit, IsSoundWrite, IsWriteFault, KeepsCommitted};
 
 use crate::change::news_from;
 use crate::check::{check_write, keeps_header};
@@ -68,6 +68,7 @@ impl WalFile {
         ensures news { IfOk result (λ news. news_change news ≡ change_between (text_of self.old) (text_of self.new)) }
         ensures text { OnOk result (self.new ≡ after_write (with_room self.old at (length bytes.now)) at bytes.now) }
         ensures sound { OnOk result (IsSoundWrite (text_of self.old) page_size at bytes.now) }
+        ensures kept { OnOk result (KeepsCommitted (text_of self.old) (text_of self.new)) }
 
         // A refused write leaves the bytes, and what there was to undo. NoMemory comes only where
         // nothing else would.
