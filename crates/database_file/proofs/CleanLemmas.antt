@@ -17,7 +17,7 @@ use Rattle.lf_sqlite_pages.specs.Apply.{apply}
 use Rattle.lf_sqlite_pages.proofs.PageNumbers.{page_at-next, page_at-past}
 use Rattle.lf_sqlite_pages.proofs.LockPages.{lock_page-first}
 use Rattle.lf_sqlite_pages.proofs.ApplyWrites.{apply-writes_of}
-use Rattle.database_file.specs.DatabaseFile.{DatabaseFile, size_of, count_of, page_of, as_read, clean, is_clean, FitsShape, KeepsDifferences}
+use Rattle.database_file.specs.DatabaseFile.{DatabaseFile, size_of, count_of, page_of, as_read, clean, is_clean, new_file, KeepsNothing, FitsShape, KeepsDifferences}
 use Rattle.database_file.specs.Commit.{cut_to, has_page, page_changed, difference}
 use Rattle.database_file.proofs.WriteLemmas.{read-at, length-read}
 use Rattle.database_file.proofs.ReadLemmas.{page_of-length}
@@ -161,3 +161,28 @@ commit-leads file image count fits valid low =
     (λ within.
     let reach : lock_page_of (size_of file image) ≤ count = rw (length-read_to file image count low) at within in
     read_to-at file image count (lock_page_of (size_of file image)) low (lock_page-first (size_of file image)) reach ∙ ap Some (lock-zeros file image fits valid))
+
+-- a file that keeps nothing fits each shape, and keeps no page that an image has
+pub empty-none : (n : ℕ) (page : List ℕ) → pages.get (pages.empty {X = List ℕ} {R = nat_cmp}) n ≡ Some page → ⊥
+empty-none n page is = let gone : pages.get (pages.empty {X = List ℕ} {R = nat_cmp}) n ≡ None = get-empty nat_cmp n in cc (gone, is)
+
+keeps_nothing : (size : ℕ) → KeepsNothing (record { kept = pages.empty; page_size = size; count = None })
+keeps_nothing size = record {
+  fits = λ page_size commit sqlite. record {
+    sized = λ some. let test : (commit == 0) ≡ false = grind (arith, nat_tests, some) in rw test (sqlite some);
+    whole = λ n page is. absurd (empty-none n page is);
+    within = λ n page is. absurd (empty-none n page is);
+    data_pages = λ n page is. absurd (empty-none n page is);
+    count = λ other. absurd (cc (other));
+  };
+  differs = λ image. record { pages = λ n page is. absurd (empty-none n page is) };
+}
+
+pub new_keeps_nothing : KeepsNothing new_file
+new_keeps_nothing = keeps_nothing 0
+
+pub cleared_keeps_nothing : (file : DatabaseFile) (size : ℕ) → file.kept ≡ pages.empty → file.count ≡ None → KeepsNothing file
+cleared_keeps_nothing file size kept count =
+    let P : pages.FinMap nat_cmp (List ℕ) → Option ℕ → Type 0 = λ k c. KeepsNothing (record { kept = k; page_size = file.page_size; count = c }) in
+    let made : P file.kept file.count = rw (kept, count) (keeps_nothing file.page_size) in
+    made

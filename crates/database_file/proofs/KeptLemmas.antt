@@ -34,18 +34,18 @@ found-first true x r s t h = refl
 found-first false x r s t h = h
 
 -- what writes one after another write
-written-append : (xs ys : List PageWrite) (n : ℕ) → written (xs ++ ys) n ≡ option_or (written xs n) (written ys n)
+pub written-append : (xs ys : List PageWrite) (n : ℕ) → written (xs ++ ys) n ≡ option_or (written xs n) (written ys n)
 written-append [] ys n = refl
 written-append (x ∷ xs) ys n =
     found-first (x.number == n) x (find (λ w. w.number == n) xs) (find (λ w. w.number == n) (xs ++ ys)) (written ys n) (written-append xs ys n)
 
-written-one : (n : ℕ) (o : Option (List ℕ)) → written (one_write n o) n ≡ o
+pub written-one : (n : ℕ) (o : Option (List ℕ)) → written (one_write n o) n ≡ o
 written-one n None = refl
 written-one n (Some page) =
     let test : eqb n n ≡ true = grind (arith, nat_tests) in
     rw test refl
 
-written-one_other : (k n : ℕ) (o : Option (List ℕ)) → n ≢ k → written (one_write k o) n ≡ None
+pub written-one_other : (k n : ℕ) (o : Option (List ℕ)) → n ≢ k → written (one_write k o) n ≡ None
 written-one_other k n None ne = refl
 written-one_other k n (Some page) ne =
     let test : eqb k n ≡ false = grind (arith, nat_tests) in
@@ -56,7 +56,7 @@ either-one true None = refl
 either-one true (Some x) = refl
 either-one false o = refl
 
-or_none : (o : Option (List ℕ)) → option_or o None ≡ o
+pub or_none : (o : Option (List ℕ)) → option_or o None ≡ o
 or_none None = refl
 or_none (Some x) = refl
 

@@ -7,4 +7,6 @@ pub mod KeptLemmas
 pub mod HeaderLemmas
 pub mod DifferenceLemmas
 pub mod CleanLemmas
+pub mod WalLemmas
+pub mod UnderLemmas
 pub mod ReadLemmas

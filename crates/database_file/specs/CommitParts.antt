@@ -1,7 +1,7 @@
 -- The steps in which the code makes a change. No public clause cites them.
-use Rattle.std.specs.Prelude.{ℕ, Bool, ◌==◌, ◌&&◌, length, nat_le, Option, Some, None, List, [], ◌∷◌}
+use Rattle.std.specs.Prelude.{◌≡◌, if◌then◌else◌, ℕ, Bool, ◌==◌, ◌&&◌, length, nat_le, Option, Some, None, List, [], ◌∷◌}
 use Rattle.std.specs.FinMap as pages
-use Rattle.lf_sqlite_pages.specs.Change.{PageChange}
+use Rattle.lf_sqlite_pages.specs.Change.{PageChange, written}
 use Rattle.lf_sqlite_pages.specs.declared.page_write.PageWrite.{PageWrite}
 use Rattle.database_file.specs.DatabaseFile.{DatabaseFile}
 
@@ -17,3 +17,7 @@ kept_to file count n = pages.get (pages.retain_keys file.kept (λ k. nat_le k co
 -- whether a change changes nothing of an image of a count of pages, since it writes only what differs
 abbrev pub changes_nothing : PageChange → ℕ → Bool
 changes_nothing change commit = (change.commit == commit) && (length change.pages == 0)
+
+-- up to a number some writes are what a function says, and there is none past it
+abbrev pub WritesTo : (ℕ → Option (List ℕ)) → ℕ → List PageWrite → Type 0
+WritesTo page count writes = (n : ℕ) → written writes n ≡ (if nat_le n count then page n else None)

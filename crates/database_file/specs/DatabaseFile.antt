@@ -65,6 +65,11 @@ pub record FitsShape (file : DatabaseFile) (page_size commit : ℕ) : Type 0 whe
 pub record KeepsDifferences (file : DatabaseFile) (image : DatabaseImage) : Type 0 where
   pub pages : (n : ℕ) (page : List ℕ) → pages.get file.kept n ≡ Some page → page_at image n ≢ Some page
 
+-- the file keeps nothing, so it fits each shape of an image and keeps no page that an image has
+pub record KeepsNothing (file : DatabaseFile) : Type 0 where
+  pub fits : (page_size commit : ℕ) → (0 < commit → IsPageSize page_size) → FitsShape file page_size commit
+  pub differs : (image : DatabaseImage) → KeepsDifferences file image
+
 -- as many bytes from a place on as there are, at most so many
 abbrev pub bytes_from : List ℕ → ℕ → ℕ → List ℕ
 bytes_from bytes at size = take size (drop at bytes)

@@ -1,7 +1,7 @@
 ghost use Rattle.std.specs.Prelude.{◌≡◌};
 ghost use Rattle.std.specs.Option.{option_copied};
 ghost use Rattle.std.specs.FinMap as pages;
-ghost use Rattle.database_file.specs.DatabaseFile.{new_file, clean, is_clean, size_over, count_over};
+ghost use Rattle.database_file.specs.DatabaseFile.{KeepsNothing, new_file, clean, is_clean, size_over, count_over};
 
 use lf_sqlite_pages::Overlay;
 use std::alloc::Global;
@@ -28,8 +28,10 @@ impl Model for DatabaseFile {
 
 impl DatabaseFile {
     /// A file that keeps nothing: it is the committed image, whatever that is.
+    #[tactic(auto, using(crate::proofs::CleanLemmas::new_keeps_nothing))]
     pub fn new(alloc: Global) -> DatabaseFile
-        ensures { result ≡ new_file }
+        ensures value { result ≡ new_file }
+        ensures fits { KeepsNothing result }
     {
         DatabaseFile {
             kept: Overlay::new(alloc),
@@ -80,7 +82,8 @@ impl DatabaseFile {
     /// Makes it the committed image, whatever that is: after a commit of what it kept, or to drop
     /// what is not committed.
     pub fn clear(&mut self)
-        ensures { self.new ≡ clean self.old }
+        ensures value { self.new ≡ clean self.old }
+        ensures fits { KeepsNothing self.new }
     {
         self.kept.clear();
         self.count = None;

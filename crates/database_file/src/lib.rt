@@ -12,11 +12,15 @@ mod keeping;
 mod laws;
 mod reading;
 mod span;
+#[cfg(test)]
+mod tests;
+mod wal_change;
 mod writing;
 
 pub use database_file::DatabaseFile;
 pub use fault::FileFault;
 pub use laws::{
     change_leads_to_the_file, clean_file_is_the_image, difference_leads_to_the_other_image,
-    file_reads_as_an_image,
+    file_reads_as_an_image, log_change_leads_to_the_database_under_the_log,
 };
+pub use writing::are_data_pages;

@@ -1,5 +1,5 @@
 //! Pages of the database file written, and its size changed.
-ghost use Rattle.std.specs.Prelude.{◌≡◌, ◌≤◌, ◌<◌, length, IfSome, IfErr, OnOk, OnErr};
+ghost use Rattle.std.specs.Prelude.{◌≡◌, ◌↔◌, IsTrue, ◌≤◌, ◌<◌, length, IfSome, IfErr, OnOk, OnErr};
 ghost use Rattle.database_file.specs.DatabaseFile.{FitsShape, KeepsDifferences, as_read};
 ghost use Rattle.database_file.specs.Fault.{HasCause, SameBase};
 ghost use Rattle.database_file.specs.Writing.{AreDataPages, TakesPages, sized, with_pages};
@@ -10,10 +10,34 @@ use crate::database_file::DatabaseFile;
 use crate::fault::FileFault;
 use crate::keeping::{counted, keep_zeros, put_all};
 use crate::reading::zeros;
-use lf_sqlite_pages::PageStore;
+use lf_sqlite_pages::{PageStore, is_page_size, lock_page};
 use std::alloc::Global;
 
+/// Whether some bytes are whole data pages of `page_size` bytes from page `first` on.
+
+pub fn are_data_pages(page_size: u32, first: u32, bytes: &[u8]) -> bool
+    requires { 0 < page_size }
+    ensures { IsTrue result ↔ AreDataPages page_size first bytes.now }
+{
+    let count = (bytes.len() / page_size as usize) as u64;
+    let whole = bytes.len() % page_size as usize == 0;
+    let end = u64::from(first) + count;
+    let lock_page = u64::from(lock_page(page_size));
+    let holds_data = lock_page < u64::from(first) || end <= lock_page;
+    count > 0 && whole && first > 0 && end < 0x1_0000_0000 && holds_data
+}
+
 impl DatabaseFile {
+    /// Whether the file takes pages of `size` bytes over an image of `commit` pages of `page_size`
+    /// bytes: it is a page size, and that of the image and of the file where they have pages.
+    pub fn takes_pages(&self, page_size: u32, commit: u32, size: u32) -> bool
+        ensures { IsTrue result ↔ TakesPages self.now page_size commit size }
+    {
+        is_page_size(size)
+            && (commit == 0 || size == page_size)
+            && (self.count_over(commit) == 0 || size == self.size_over(page_size, commit))
+    }
+
     /// Writes whole data pages of `page_size` bytes from page `first` on. A gap before them holds
     /// zeros. Each page is compared with the image's, and kept only where it is another.
     pub fn write_pages<S: PageStore>(
