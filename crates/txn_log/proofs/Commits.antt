@@ -60,10 +60,10 @@ follow-more log g follow next k d within =
     let long : length (log ++ g ∷ []) ≡ length log + 1 = length-append log (g ∷ []) in
     elim (cases_lt (k + 1) (length log)) [
       | inl inside ↦
-        ap before (get_or_append_left log (g ∷ []) d (k + 1) inside) ∙ follow k d inside ∙ sym (ap after (get_or_append_left log (g ∷ []) d k (omega (arith, inside))))
+          ap before (get_or_append_left log (g ∷ []) d (k + 1) inside) ∙ follow k d inside ∙ sym (ap after (get_or_append_left log (g ∷ []) d k (omega (arith, inside))))
       | inr past ↦
-        let last : k + 1 ≡ length log = omega (arith, past, within, long) in
-        ap before (get_or_at log g [] d (k + 1) (sym last)) ∙ next ∙ end-last log k d last ∙ sym (ap after (get_or_append_left log (g ∷ []) d k (omega (arith, last))))
+          let last : k + 1 ≡ length log = omega (arith, past, within, long) in
+          ap before (get_or_at log g [] d (k + 1) (sym last)) ∙ next ∙ end-last log k d last ∙ sym (ap after (get_or_append_left log (g ∷ []) d k (omega (arith, last))))
     ]
 
 -- the number of the last file
@@ -94,8 +94,8 @@ each-more : (P : LogFile → Type 0) (files : List LogFile) (file : LogFile) →
 each-more P files file each here k d within = elim (cases_lt k (length files)) [
   | inl inside ↦ subst P (sym (get_or_append_left files (file ∷ []) d k inside)) (each k d inside)
   | inr past ↦
-    let last : length files ≡ k = omega (arith, past, within, length-append files (file ∷ [])) in
-    subst P (sym (get_or_at files file [] d k last)) here
+      let last : length files ≡ k = omega (arith, past, within, length-append files (file ∷ [])) in
+      subst P (sym (get_or_at files file [] d k last)) here
 ]
 
 pub is_log-more : (files : List LogFile) (file : LogFile) → IsLog files → Follows files file → IsLog (files ++ file ∷ [])
@@ -135,28 +135,28 @@ module _ (image : DatabaseImage) (change : PageChange) (complete : IsComplete im
   each : (n : ℕ) → 1 ≤ n → n ≤ change.commit → page_sum_at (apply image change) n ≡ sum_after (sum_table image) change n
   each n first last = elim (cases_eq n (lock_page_of change.page_size)) [
     | inl lock ↦
-      let test : eqb n (lock_page_of change.page_size) ≡ true = grind (arith, nat_tests) in
-      ap (λ (o : Option (List ℕ)). unwrap_or (option_map (page_sum_of n) o) 0) (ap (data_page_at (apply image change)) lock ∙ data_page_at-lock_page (apply image change))
-      ∙ rw test refl
+        let test : eqb n (lock_page_of change.page_size) ≡ true = grind (arith, nat_tests) in
+        ap (λ (o : Option (List ℕ)). unwrap_or (option_map (page_sum_of n) o) 0) (ap (data_page_at (apply image change)) lock ∙ data_page_at-lock_page (apply image change))
+        ∙ rw test refl
     | inr other ↦
-      let test : eqb n (lock_page_of change.page_size) ≡ false = grind (arith, nat_tests) in
-      let there : data_page_at (apply image change) n ≡ Some (unwrap_or (written change.pages n) (unwrap_or (page_at image n) (replicate change.page_size 0))) =
-      data_page_at-data (apply image change) n other ∙ page_at-apply image change n first last ∙ ap (λ (p : List ℕ). Some p) (page_after-data image change n other) in
-      ap (λ (o : Option (List ℕ)). unwrap_or (option_map (page_sum_of n) o) 0) there
-      ∙ elim (cases_option (written change.pages n)) [
-        | inl none ↦
-          let size : image.page_size ≡ change.page_size = sized n first last other none in
-          let within : n ≤ length image.pages = inside n last other none in
-          let page : List ℕ = get_or image.pages (n - 1) [] in
-          let at : page_at image n ≡ Some page = page_at-first image n first ∙ slice_get-get_or image.pages (n - 1) [] (omega (arith, first, within)) in
-          let data_page : IsDataPage image.page_size n = λ lock. other (lock ∙ ap lock_page_of size) in
-          let sum : page_sum_at image n ≡ page_sum_of n page =
-          ap (λ (o : Option (List ℕ)). unwrap_or (option_map (page_sum_of n) o) 0) (data_page_at-data image n data_page ∙ at) in
-          let entry : slice_index (sum_table image) (n - 1) ≡ page_sum_at image n =
-          get_or-map-range_with_len (page_sum_at image) 1 (length image.pages) (n - 1) n 0 (omega (arith, first, within)) (omega (arith, first)) in
-          rw (none, at, test) (sym (entry ∙ sum))
-        | inr some ↦ rw (some.1, test) refl
-      ]
+        let test : eqb n (lock_page_of change.page_size) ≡ false = grind (arith, nat_tests) in
+        let there : data_page_at (apply image change) n ≡ Some (unwrap_or (written change.pages n) (unwrap_or (page_at image n) (replicate change.page_size 0))) =
+        data_page_at-data (apply image change) n other ∙ page_at-apply image change n first last ∙ ap (λ (p : List ℕ). Some p) (page_after-data image change n other) in
+        ap (λ (o : Option (List ℕ)). unwrap_or (option_map (page_sum_of n) o) 0) there
+        ∙ elim (cases_option (written change.pages n)) [
+          | inl none ↦
+              let size : image.page_size ≡ change.page_size = sized n first last other none in
+              let within : n ≤ length image.pages = inside n last other none in
+              let page : List ℕ = get_or image.pages (n - 1) [] in
+              let at : page_at image n ≡ Some page = page_at-first image n first ∙ slice_get-get_or image.pages (n - 1) [] (omega (arith, first, within)) in
+              let data_page : IsDataPage image.page_size n = λ lock. other (lock ∙ ap lock_page_of size) in
+              let sum : page_sum_at image n ≡ page_sum_of n page =
+              ap (λ (o : Option (List ℕ)). unwrap_or (option_map (page_sum_of n) o) 0) (data_page_at-data image n data_page ∙ at) in
+              let entry : slice_index (sum_table image) (n - 1) ≡ page_sum_at image n =
+              get_or-map-range_with_len (page_sum_at image) 1 (length image.pages) (n - 1) n 0 (omega (arith, first, within)) (omega (arith, first)) in
+              rw (none, at, test) (sym (entry ∙ sum))
+          | inr some ↦ rw (some.1, test) refl
+        ]
   ]
 
   pub sum_table-apply : sum_table (apply image change) ≡ sums_after (sum_table image) change

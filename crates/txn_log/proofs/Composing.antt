@@ -54,11 +54,11 @@ moved-then old mid new then now start middle end did more failed first second =
       broken = second.broken ∙ ap (λ (w : Option Failure). broken_by w failed) same;
       moments = subst (λ (ds : List StoreCall). EachMoment start end (StandsForOne (IsCandidate old ds))) (sym regroup)
           (joined start middle end (StandsForOne (IsCandidate old (did ++ rest)))
-            (weakened start middle (StandsForOne (IsCandidate old (did ++ []))) (StandsForOne (IsCandidate old (did ++ rest))) first.moments
-              (λ c one. ∥∥₁_map one (λ x. (x.0, front-candidate old x.0 did rest (subst (λ (ds : List StoreCall). IsCandidate old ds x.0) front x.1), x.2))))
-            (weakened middle end (StandsForOne (MayFind mid then rest)) (StandsForOne (IsCandidate old (did ++ rest))) second.moments
-              (λ c one. ∥∥₁_map one (λ x.
-                (x.0, rest-candidate old x.0 did rest (subst (λ (s : StoreState). IsCandidate s rest x.0) first.store (subst (λ (w : Option Failure). MayFind mid w rest x.0) same x.1)), x.2)))));
+          (weakened start middle (StandsForOne (IsCandidate old (did ++ []))) (StandsForOne (IsCandidate old (did ++ rest))) first.moments
+          (λ c one. ∥∥₁_map one (λ x. (x.0, front-candidate old x.0 did rest (subst (λ (ds : List StoreCall). IsCandidate old ds x.0) front x.1), x.2))))
+          (weakened middle end (StandsForOne (MayFind mid then rest)) (StandsForOne (IsCandidate old (did ++ rest))) second.moments
+          (λ c one. ∥∥₁_map one (λ x.
+          (x.0, rest-candidate old x.0 did rest (subst (λ (s : StoreState). IsCandidate s rest x.0) first.store (subst (λ (w : Option Failure). MayFind mid w rest x.0) same x.1)), x.2)))));
       rests = second.rests;
     }
   where
@@ -71,7 +71,7 @@ pub then-pruned : (old mid new : StoreState) (was then now : Option Failure) (st
     → ThenPruned old was start call keep new now end
 then-pruned old mid new was then now start middle end call broken count keep (Ok gone) whole open_ prunes first second =
     inl (subst (λ (w : Option Failure). Moved old w start (call ∷ PruneTo keep ∷ []) None new now end) (sym whole)
-      (moved-then old mid new then now start middle end (call ∷ []) (PruneTo keep ∷ []) None (subst (λ (w : Option Failure). Moved old w start (call ∷ []) None mid then middle) whole first) second))
+    (moved-then old mid new then now start middle end (call ∷ []) (PruneTo keep ∷ []) None (subst (λ (w : Option Failure). Moved old w start (call ∷ []) None mid then middle) whole first) second))
 then-pruned old mid new was then now start middle end call broken count keep (Err fault.Disk) whole open_ prunes first second =
     let known : Moved old None start (call ∷ []) None mid then middle = subst (λ (w : Option Failure). Moved old w start (call ∷ []) None mid then middle) whole first in
     elim second [

@@ -40,12 +40,12 @@ sum-first change valid =
     each : (n : ℕ) → 1 ≤ n → n ≤ change.commit → sum_after [] (completed change 0) n ≡ sum_at (completed_page change 0) n
     each n first last = elim (cases_eq n (lock_page_of change.page_size)) [
       | inl lock ↦
-        let test : eqb n (lock_page_of change.page_size) ≡ true = grind (arith, nat_tests) in
-        rw test refl
+          let test : eqb n (lock_page_of change.page_size) ≡ true = grind (arith, nat_tests) in
+          rw test refl
       | inr other ↦
-        let test : eqb n (lock_page_of change.page_size) ≡ false = grind (arith, nat_tests) in
-        let here : written (completed change 0).pages n ≡ completed_page change 0 n = written-writes_of (completed_page change 0) change.commit n first last in
-        sum-other n test ∙ ap (λ (o : Option (List ℕ)). unwrap_or (option_map (page_sum_of n) o) 0) here
+          let test : eqb n (lock_page_of change.page_size) ≡ false = grind (arith, nat_tests) in
+          let here : written (completed change 0).pages n ≡ completed_page change 0 n = written-writes_of (completed_page change 0) change.commit n first last in
+          sum-other n test ∙ ap (λ (o : Option (List ℕ)). unwrap_or (option_map (page_sum_of n) o) 0) here
     ]
       where
         sum-other : (n : ℕ) → eqb n (lock_page_of change.page_size) ≡ false → sum_after [] (completed change 0) n ≡ unwrap_or (option_map (page_sum_of n) (written (completed change 0).pages n)) 0

@@ -196,7 +196,7 @@ module _ (h : History) (size commit : ℕ) (entries : List Entry) (sums : List �
         let P : ℕ → ℕ → Ltx → Type 0 = λ s c f. Tells made (files ++ log_file ∷ []) s c (entries ++ entry_of f ∷ []) (sums_after sums file.change) in
         subst (λ (s : ℕ). P s file.header.commit file) is.valid.block.page_size
         (subst (λ (c : ℕ). P file.change.page_size c file) is.valid.block.commit
-          (subst (λ (f : Ltx). P file.change.page_size file.change.commit f) read all))
+        (subst (λ (f : Ltx). P file.change.page_size file.change.commit f) read all))
 
     module _ (new : History) where
       -- the file is published and its change written
@@ -234,14 +234,14 @@ module _ (h : History) (size commit : ℕ) (entries : List Entry) (sums : List �
         left_in =
             subst (λ (f : Failure). RestsAs (MayBeFound (state_of new size commit entries true h.moment) (Some f)) new) same_file
             (subst (λ (s : StoreState). RestsAs (MayBeFound s (Some (FailedIn (Commit file)))) new) (sym same_store)
-              (λ c may. leaves c (at_last h new (IsBeforeOrAfter image files made (files ++ log_file ∷ [])) run c may)))
+            (λ c may. leaves c (at_last h new (IsBeforeOrAfter image files made (files ++ log_file ∷ [])) run c may)))
 
         pub went_in : Moved store None h [] (Some (FailedIn (Commit file))) (state_of new size commit entries true h.moment) (Some failure) new
         went_in =
             subst (λ (f : Failure). Moved store None h [] (Some (FailedIn (Commit file))) (state_of new size commit entries true h.moment) (Some f) new) same_file
             (moved-in store (state_of new size commit entries true h.moment) (Commit file) h new can.can same_store
-              (weakened h new (IsBeforeOrAfter image files made (files ++ log_file ∷ [])) (StandsForOne (IsCandidate store (Commit file ∷ []))) run candidate)
-              (subst (λ (f : Failure). RestsAs (MayBeFound (state_of new size commit entries true h.moment) (Some f)) new) (sym same_file) left_in))
+            (weakened h new (IsBeforeOrAfter image files made (files ++ log_file ∷ [])) (StandsForOne (IsCandidate store (Commit file ∷ []))) run candidate)
+            (subst (λ (f : Failure). RestsAs (MayBeFound (state_of new size commit entries true h.moment) (Some f)) new) (sym same_file) left_in))
 
   -- a call failed before it published anything
   module _ (new : History) (run : EachMoment h new (Kept image files false)) where

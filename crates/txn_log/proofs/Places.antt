@@ -32,8 +32,8 @@ pub same_page : (size n : ℕ) (old new : List ℕ) → 1 ≤ n → n * size ≤
 same_page size n old new first long long' each = record {
   long = long';
   same =
-    same_number_lists (in_place size n new) (in_place size n old) (length-in_place size n new first long' ∙ sym (length-in_place size n old first long))
-    (λ k within.
+      same_number_lists (in_place size n new) (in_place size n old) (length-in_place size n new first long' ∙ sym (length-in_place size n old first long))
+      (λ k within.
       let h : k < size = omega (arith, length-in_place size n new first long') in
       get_or-take size (drop ((n - 1) * size) new) k 0 h ∙ get_or-drop ((n - 1) * size) new k 0
       ∙ each ((n - 1) * size + k) (omega arith) (omega (arith, page_end size n first))

@@ -28,13 +28,13 @@ module _ (image : DatabaseImage) (file : LogFile) (rest : List LogFile) (some : 
   one_less f c kept sets = record {
     log = λ a b. elim (cases_Bool (a == file.min && b == file.max)) [
       | inl is ↦
-        let both = and_parts (a == file.min) (b == file.max) is in
-        let low : a ≡ file.min = eqb-true a file.min both.0 in
-        let high : b ≡ file.max = eqb-true b file.max both.1 in
-        let at : c (Ltx a b) ≡ c (Ltx file.min file.max) = λ i. c (Ltx (low i) (high i)) in
-        at ∙ sets.here ∙ sym (unnamed None file.max rest a b ascends (omega (arith, low)))
+          let both = and_parts (a == file.min) (b == file.max) is in
+          let low : a ≡ file.min = eqb-true a file.min both.0 in
+          let high : b ≡ file.max = eqb-true b file.max both.1 in
+          let at : c (Ltx a b) ≡ c (Ltx file.min file.max) = λ i. c (Ltx (low i) (high i)) in
+          at ∙ sets.here ∙ sym (unnamed None file.max rest a b ascends (omega (arith, low)))
       | inr isnt ↦
-        sets.elsewhere (Ltx a b) isnt ∙ kept.log a b ∙ ap (λ (x : Bool). text_from (cond x (Some file.text) None) rest a b) isnt
+          sets.elsewhere (Ltx a b) isnt ∙ kept.log a b ∙ ap (λ (x : Bool). text_from (cond x (Some file.text) None) rest a b) isnt
     ];
     no_snapshot = sets.elsewhere Snapshot refl ∙ kept.no_snapshot;
     mark = ap is_some (sets.elsewhere Dropped refl) ∙ kept.mark;
@@ -51,8 +51,8 @@ module _ (image : DatabaseImage) (file : LogFile) (rest : List LogFile) (some : 
         let from = moves.left c may in
         elim (cases_Bool (same_name n (Ltx file.min file.max))) [
           | inl is ↦
-            let same : n ≡ Ltx file.min file.max = same_name-one n (Ltx file.min file.max) is in
-            ap c same ∙ from.2.here ∙ sym (ap (now new) same ∙ moves.seen.here)
+              let same : n ≡ Ltx file.min file.max = same_name-one n (Ltx file.min file.max) is in
+              ap c same ∙ from.2.here ∙ sym (ap (now new) same ∙ moves.seen.here)
           | inr isnt ↦ from.2.elsewhere n isnt ∙ before.settled from.0 from.1 n staged ∙ sym (moves.seen.elsewhere n isnt)
         ];
   }

@@ -94,16 +94,16 @@ decides image change bytes valid shows complete = record {
     page : (n : ℕ) → 1 ≤ n → n ≤ change.commit → page_after image change n ≡ unwrap_or (written change.pages n) (page_in change.page_size bytes n)
     page n first last = elim (cases_eq n (lock_page_of change.page_size)) [
       | inl lock ↦
-        ap (page_after image change) lock ∙ page_after-lock_page image change
-        ∙ sym (ap (λ (o : Option (List ℕ)). unwrap_or o (page_in change.page_size bytes n)) (ap (written change.pages) lock ∙ written-lock_page change valid) ∙ page_in-lock change.page_size bytes n lock)
+          ap (page_after image change) lock ∙ page_after-lock_page image change
+          ∙ sym (ap (λ (o : Option (List ℕ)). unwrap_or o (page_in change.page_size bytes n)) (ap (written change.pages) lock ∙ written-lock_page change valid) ∙ page_in-lock change.page_size bytes n lock)
       | inr other ↦
-        page_after-data image change n other
-        ∙ unwrap_or_same (written change.pages n) _ (page_in change.page_size bytes n)
+          page_after-data image change n other
+          ∙ unwrap_or_same (written change.pages n) _ (page_in change.page_size bytes n)
           (λ none.
-            let within : n ≤ length image.pages = inside n last other none in
-            let size : image.page_size ≡ change.page_size = sized n first last within other none in
-            ap (λ (o : Option (List ℕ)). unwrap_or o (replicate change.page_size 0)) (shows.pages n first within)
-            ∙ ap (λ (s : ℕ). page_in s bytes n) size)
+          let within : n ≤ length image.pages = inside n last other none in
+          let size : image.page_size ≡ change.page_size = sized n first last within other none in
+          ap (λ (o : Option (List ℕ)). unwrap_or o (replicate change.page_size 0)) (shows.pages n first within)
+          ∙ ap (λ (s : ℕ). page_in s bytes n) size)
     ]
 
 -- and whatever the change's own pages become
@@ -115,7 +115,7 @@ still_decides change image old new before keeps = record {
       before.pages n first last
       ∙ ap (λ (p : List ℕ). Some p)
       (unwrap_or_same (written change.pages n) (page_in change.page_size old n) (page_in change.page_size new n)
-        (λ none. sym (page_in-same change.page_size old new n (λ data_page. (keeps n first (last, none) (before.left n first last data_page none)).same))));
+      (λ none. sym (page_in-same change.page_size old new n (λ data_page. (keeps n first (last, none) (before.left n first last data_page none)).same))));
   left = λ n first last data_page none. (keeps n first (last, none) (before.left n first last data_page none)).long;
 }
 
@@ -212,17 +212,17 @@ patched_written size number (w ∷ ws) bytes n piece ascending whole first some 
     let one : length w.bytes ≡ size = whole 0 w (omega arith) in
     elim (cases_Bool (eqb w.number n)) [
       | inl is ↦
-        let number_is : w.number ≡ n = eqb-true w.number n is in
-        let same : Some w.bytes ≡ Some piece = rw is at some in
-        let none : written ws n ≡ None = written-above w.number ws ascending.1 n (omega (arith, number_is)) in
-        let there : in_place size w.number over ≡ w.bytes = in_place_written size w.number w.bytes bytes one in
-        let long : w.number * size ≤ length over = long_written size w.number w.bytes bytes (omega (arith, ascending.0)) one in
-        let long' : n * size ≤ length over = subst (λ (m : ℕ). m * size ≤ length over) number_is long in
-        let after : SamePage size n over (patched size over ws) = patched_left size w.number ws over n ascending.1 (λ k d within. whole (suc k) d (omega arith)) first none long' in
-        (after.same ∙ ap (λ (m : ℕ). in_place size m over) (sym number_is) ∙ there ∙ same_Some w.bytes piece same, after.long)
+          let number_is : w.number ≡ n = eqb-true w.number n is in
+          let same : Some w.bytes ≡ Some piece = rw is at some in
+          let none : written ws n ≡ None = written-above w.number ws ascending.1 n (omega (arith, number_is)) in
+          let there : in_place size w.number over ≡ w.bytes = in_place_written size w.number w.bytes bytes one in
+          let long : w.number * size ≤ length over = long_written size w.number w.bytes bytes (omega (arith, ascending.0)) one in
+          let long' : n * size ≤ length over = subst (λ (m : ℕ). m * size ≤ length over) number_is long in
+          let after : SamePage size n over (patched size over ws) = patched_left size w.number ws over n ascending.1 (λ k d within. whole (suc k) d (omega arith)) first none long' in
+          (after.same ∙ ap (λ (m : ℕ). in_place size m over) (sym number_is) ∙ there ∙ same_Some w.bytes piece same, after.long)
       | inr isnt ↦
-        let rest : written ws n ≡ Some piece = rw isnt at some in
-        patched_written size w.number ws over n piece ascending.1 (λ k d within. whole (suc k) d (omega arith)) first rest
+          let rest : written ws n ≡ Some piece = rw isnt at some in
+          patched_written size w.number ws over n piece ascending.1 (λ k d within. whole (suc k) d (omega arith)) first rest
     ]
 
 -- the file after the change is the image
@@ -249,16 +249,16 @@ shows_after change made before valid is =
         let cropped : Cropped len over (resized len over) = Cropped-resized len len over (omega arith) (omega arith) in
         elim (cases_option (written change.pages n)) [
           | inl none ↦
-            ap (λ (o : Option (List ℕ)). unwrap_or o (page_in size before n)) none
-            ∙ sym (page_in-same size before (resized len over) n (λ data_page.
+              ap (λ (o : Option (List ℕ)). unwrap_or o (page_in size before n)) none
+              ∙ sym (page_in-same size before (resized len over) n (λ data_page.
               let left : SamePage size n before over = patched_left size 0 change.pages before n valid.ascending valid.whole first none (is.left n first last data_page none) in
               let after : SamePage size n over (resized len over) = cropped_page size len n over (resized len over) first room cropped left.long in
               after.same ∙ left.same))
           | inr some ↦
-            let made = patched_written size 0 change.pages before n some.0 valid.ascending valid.whole first some.1 in
-            let after : SamePage size n over (resized len over) = cropped_page size len n over (resized len over) first room cropped made.1 in
-            ap (λ (o : Option (List ℕ)). unwrap_or o (page_in size before n)) some.1
-            ∙ sym (page_in-data size (resized len over) n (written-data change valid n some.0 some.1) ∙ after.same ∙ made.0)
+              let made = patched_written size 0 change.pages before n some.0 valid.ascending valid.whole first some.1 in
+              let after : SamePage size n over (resized len over) = cropped_page size len n over (resized len over) first room cropped made.1 in
+              ap (λ (o : Option (List ℕ)). unwrap_or o (page_in size before n)) some.1
+              ∙ sym (page_in-data size (resized len over) n (written-data change valid n some.0 some.1) ∙ after.same ∙ made.0)
         ]
 
 -- what is staged and settled is staged over what the files read as
@@ -295,6 +295,6 @@ module _ (h mid new : History) (image : DatabaseImage) (files : List LogFile) (c
     shows =
         subst (λ (o : Option (List ℕ)). Shows (apply image change) (bytes_of o)) (sym done.database)
         (shows_after change (apply image change) (bytes_of (now mid Database)) ready.valid
-          (undecided image files change file ready.tells (apply image change) (bytes_of (now mid Database)) kept_published.decided));
+        (undecided image files change file ready.tells (apply image change) (bytes_of (now mid Database)) kept_published.decided));
     settled = done.settled;
   }

@@ -44,8 +44,8 @@ module _ (change : PageChange) (h : History) where
   cuts result mid new sees len size runs ticks moves =
       goes_on result h mid new (IsWorn change (now h)) runs ticks
       (λ c may.
-        let from = moves.left c may in
-        worn_step from.0 c (here mid runs from.0 from.1) (cut_wears change from.0 c (subst (λ (l : ℕ). CropsFile Database l from.0 c) size from.2)))
+      let from = moves.left c may in
+      worn_step from.0 c (here mid runs from.0 from.1) (cut_wears change from.0 c (subst (λ (l : ℕ). CropsFile Database l from.0 c) size from.2)))
 
   set : (mid : History) → Runs mid → may_leave mid (now mid) → (d c : Folder) → may_leave mid d → SetsFile Database (now mid Database) d c → IsWorn change (now h) c
   set mid runs real d c may sets = record {
@@ -64,16 +64,16 @@ module _ (change : PageChange) (h : History) where
   perhaps_syncs result mid new sees runs real ticks moves =
       goes_on result h mid new (IsWorn change (now h)) runs ticks
       (λ c may.
-        let from = moves.left c may in
-        elim from.2 [
-          | inl same ↦
+      let from = moves.left c may in
+      elim from.2 [
+        | inl same ↦
             let worn = here mid runs from.0 from.1 in
             record {
               database = subst (λ (f : _). Wears change (now h Database) f) (sym (same Database)) worn.database;
               others = λ n one two. same n ∙ worn.others n one two;
             }
-          | inr sets ↦ set mid runs real from.0 c from.1 sets
-        ])
+        | inr sets ↦ set mid runs real from.0 c from.1 sets
+      ])
 
   -- what is there then
   pub rewritten : (wrote cut new : History) (len : ℕ) → len ≡ change.commit * change.page_size → IsSettledBut Staged h → Runs cut
@@ -81,14 +81,14 @@ module _ (change : PageChange) (h : History) where
       → Moves Same (SetsFile Database (now cut Database)) cut new → IsRewritten change (now h) new
   rewritten wrote cut new len size settled runs written cuts moves = record {
     database =
-      moves.seen Database ∙ cuts.here
-      ∙ ap (λ (l : ℕ). Some (resized l (bytes_of (now wrote Database)))) size
-      ∙ ap (λ (b : _). Some (resized (change.commit * change.page_size) b)) written.here;
+        moves.seen Database ∙ cuts.here
+        ∙ ap (λ (l : ℕ). Some (resized l (bytes_of (now wrote Database)))) size
+        ∙ ap (λ (b : _). Some (resized (change.commit * change.page_size) b)) written.here;
     others = λ n other. moves.seen n ∙ cuts.elsewhere n other ∙ written.elsewhere n other;
     settled = λ c may n staged.
-      let from = moves.left c may in
-      elim (cases_Bool (same_name n Database)) [
-        | inl is ↦ subst (λ (m : FileName). c m ≡ now new m) (sym (same_name-one n Database is)) (from.2.here ∙ sym (moves.seen Database))
-        | inr isnt ↦ from.2.elsewhere n isnt ∙ (here cut runs from.0 from.1).others n isnt staged ∙ sym (moves.seen n ∙ cuts.elsewhere n isnt ∙ written.elsewhere n isnt)
-      ];
+        let from = moves.left c may in
+        elim (cases_Bool (same_name n Database)) [
+          | inl is ↦ subst (λ (m : FileName). c m ≡ now new m) (sym (same_name-one n Database is)) (from.2.here ∙ sym (moves.seen Database))
+          | inr isnt ↦ from.2.elsewhere n isnt ∙ (here cut runs from.0 from.1).others n isnt staged ∙ sym (moves.seen n ∙ cuts.elsewhere n isnt ∙ written.elsewhere n isnt)
+        ];
   }

@@ -58,17 +58,17 @@ pub files_are : (entries : List Entry) (files : List LogFile) (f : Folder) → A
 files_are entries files f ascends named same log =
     same_lists (files_in entries f) files (length-map entries (file_at f) ∙ same)
     (λ k d within.
-      let more : k < length entries = omega (arith, length-map entries (file_at f)) in
-      let e = get_or entries k no_entry in
-      let low : (get_or files k d).min ≡ e.min = named.min k no_entry d more in
-      let high : (get_or files k d).max ≡ e.max = named.max k no_entry d more in
-      let found : f (LtxName e.min e.max) ≡ Some (get_or files k d).text =
-      log e.min e.max
-      ∙ ap (λ (a : ℕ). text_of files a e.max) (sym low) ∙ ap (λ (b : ℕ). text_of files (get_or files k d).min b) (sym high)
-      ∙ lookup None 0 files k d ascends (omega arith)
-      in
-      get_or-map (file_at f) entries k no_entry d more
-      ∙ (λ i. record { min = sym low i; max = sym high i; text = bytes_of (found i) }))
+    let more : k < length entries = omega (arith, length-map entries (file_at f)) in
+    let e = get_or entries k no_entry in
+    let low : (get_or files k d).min ≡ e.min = named.min k no_entry d more in
+    let high : (get_or files k d).max ≡ e.max = named.max k no_entry d more in
+    let found : f (LtxName e.min e.max) ≡ Some (get_or files k d).text =
+    log e.min e.max
+    ∙ ap (λ (a : ℕ). text_of files a e.max) (sym low) ∙ ap (λ (b : ℕ). text_of files (get_or files k d).min b) (sym high)
+    ∙ lookup None 0 files k d ascends (omega arith)
+    in
+    get_or-map (file_at f) entries k no_entry d more
+    ∙ (λ i. record { min = sym low i; max = sym high i; text = bytes_of (found i) }))
 
 pub named_in : (entries : List Entry) (f : Folder) → AreNamed entries (files_in entries f)
 named_in entries f = record {
@@ -84,17 +84,17 @@ pub named_more : (entries : List Entry) (files : List LogFile) (e : Entry) (file
 named_more entries files e file named same low high = record {
   min = λ k d g within. elim (cases_lt k (length entries)) [
     | inl before ↦
-      ap (λ (f : LogFile). f.min) (get_or_append_left files (file ∷ []) g k (omega arith)) ∙ named.min k d g before ∙ sym (ap (λ (x : Entry). x.min) (get_or_append_left entries (e ∷ []) d k before))
+        ap (λ (f : LogFile). f.min) (get_or_append_left files (file ∷ []) g k (omega arith)) ∙ named.min k d g before ∙ sym (ap (λ (x : Entry). x.min) (get_or_append_left entries (e ∷ []) d k before))
     | inr last ↦
-      let at : k ≡ length entries = omega (arith, length-append entries (e ∷ [])) in
-      ap (λ (f : LogFile). f.min) (get_or_at files file [] g k (omega (arith, at))) ∙ low ∙ sym (ap (λ (x : Entry). x.min) (get_or_at entries e [] d k (sym at)))
+        let at : k ≡ length entries = omega (arith, length-append entries (e ∷ [])) in
+        ap (λ (f : LogFile). f.min) (get_or_at files file [] g k (omega (arith, at))) ∙ low ∙ sym (ap (λ (x : Entry). x.min) (get_or_at entries e [] d k (sym at)))
   ];
   max = λ k d g within. elim (cases_lt k (length entries)) [
     | inl before ↦
-      ap (λ (f : LogFile). f.max) (get_or_append_left files (file ∷ []) g k (omega arith)) ∙ named.max k d g before ∙ sym (ap (λ (x : Entry). x.max) (get_or_append_left entries (e ∷ []) d k before))
+        ap (λ (f : LogFile). f.max) (get_or_append_left files (file ∷ []) g k (omega arith)) ∙ named.max k d g before ∙ sym (ap (λ (x : Entry). x.max) (get_or_append_left entries (e ∷ []) d k before))
     | inr last ↦
-      let at : k ≡ length entries = omega (arith, length-append entries (e ∷ [])) in
-      ap (λ (f : LogFile). f.max) (get_or_at files file [] g k (omega (arith, at))) ∙ high ∙ sym (ap (λ (x : Entry). x.max) (get_or_at entries e [] d k (sym at)))
+        let at : k ≡ length entries = omega (arith, length-append entries (e ∷ [])) in
+        ap (λ (f : LogFile). f.max) (get_or_at files file [] g k (omega (arith, at))) ∙ high ∙ sym (ap (λ (x : Entry). x.max) (get_or_at entries e [] d k (sym at)))
   ];
 }
 
@@ -111,13 +111,13 @@ image_is image f shows =
     let pages : map page (range_with_len 1 (length image.pages)) ≡ image.pages =
     same_lists (map page (range_with_len 1 (length image.pages))) image.pages count
     (λ k d within.
-      let inside : k < length image.pages = omega (arith, count) in
-      let back : k + 1 - 1 ≡ k = omega arith in
-      let test : (k + 1 == 0) ≡ false = grind (arith, nat_tests) in
-      let is : page_at image (k + 1) ≡ Some (page (k + 1)) = shows.pages (k + 1) (omega arith) (omega arith) in
-      let at : slice_get image.pages (k + 1 - 1) ≡ Some (page (k + 1)) = sym (ap (λ (b : Bool). cond b None (slice_get image.pages (k + 1 - 1))) test) ∙ is in
-      get_or-map-range_with_len page 1 (length image.pages) k (k + 1) d inside (omega arith)
-      ∙ sym (get_or_from_slice_get image.pages k (page (k + 1)) d (ap (λ (i : ℕ). slice_get image.pages i) (sym back) ∙ at)))
+    let inside : k < length image.pages = omega (arith, count) in
+    let back : k + 1 - 1 ≡ k = omega arith in
+    let test : (k + 1 == 0) ≡ false = grind (arith, nat_tests) in
+    let is : page_at image (k + 1) ≡ Some (page (k + 1)) = shows.pages (k + 1) (omega arith) (omega arith) in
+    let at : slice_get image.pages (k + 1 - 1) ≡ Some (page (k + 1)) = sym (ap (λ (b : Bool). cond b None (slice_get image.pages (k + 1 - 1))) test) ∙ is in
+    get_or-map-range_with_len page 1 (length image.pages) k (k + 1) d inside (omega arith)
+    ∙ sym (get_or_from_slice_get image.pages k (page (k + 1)) d (ap (λ (i : ℕ). slice_get image.pages i) (sym back) ∙ at)))
     in
     λ i. record { page_size = image.page_size; pages = pages i }
 

@@ -44,7 +44,7 @@ updates old change page table sum within is so_far =
       count = length-set table.sums (page + 1 - 1) sum ∙ so_far.count;
       done = λ k below. elim (cases_eq k page) [
         | inl here ↦
-          get_or-set_at table.sums (page + 1 - 1) k sum 0 (omega (arith, here)) (omega (arith, so_far.count, within)) ∙ now ∙ ap (λ (m : ℕ). sum_after old change (m + 1)) (sym here)
+            get_or-set_at table.sums (page + 1 - 1) k sum 0 (omega (arith, here)) (omega (arith, so_far.count, within)) ∙ now ∙ ap (λ (m : ℕ). sum_after old change (m + 1)) (sym here)
         | inr other ↦ get_or-set_other table.sums (page + 1 - 1) k sum 0 (λ e. other (e ∙ place)) ∙ so_far.done k (omega (arith, below, other))
       ];
       left = λ k above inside. get_or-set_other table.sums (page + 1 - 1) k sum 0 (λ e. absurd (omega (arith, e, above))) ∙ so_far.left k (omega (arith, above)) inside;
@@ -56,5 +56,5 @@ ended old change sums all =
     let long : length (sums_after old change) ≡ change.commit = length-map-range_with_len (sum_after old change) 1 change.commit in
     same_number_lists sums (sums_after old change) (all.count ∙ sym long)
     (λ k within.
-      let inside : k < change.commit = omega (arith, all.count, within) in
-      all.done k inside ∙ sym (get_or-map-range_with_len (sum_after old change) 1 change.commit k (k + 1) 0 inside (omega arith)))
+    let inside : k < change.commit = omega (arith, all.count, within) in
+    all.done k inside ∙ sym (get_or-map-range_with_len (sum_after old change) 1 change.commit k (k + 1) 0 inside (omega arith)))

@@ -70,12 +70,14 @@ module _ (h : History) (size commit : ℕ) (entries : List Entry) (sums : List �
 
   pub can_take : IsFile (drafted (end_of_entries entries) commit sums change stamp node) → CanTake (state_in size commit entries (now h)) (drafted (end_of_entries entries) commit sums change stamp node)
   can_take is = record {
-    can = (is,
+    can = (
+      is,
       record {
         next = next ∙ end-log entries (files_in entries (now h)) kept.log;
         fits = fits_whole;
         sum = image_sum-apply image (completed change commit) complete ∙ sym (ap (λ (s : List ℕ). flagged (joined (sums_after s (completed change commit)))) kept.table);
       },
-      refl);
+      refl,
+    );
     complete = complete;
   }

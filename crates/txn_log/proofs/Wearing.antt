@@ -47,11 +47,11 @@ other_number [] n none k d within = absurd (omega arith)
 other_number (w ∷ ws) n none k d within = elim (cases_Bool (eqb w.number n)) [
   | inl is ↦ let here : Some w.bytes ≡ None = rw is at none in absurd (cc)
   | inr isnt ↦
-    let rest : written ws n ≡ None = rw isnt at none in
-    elim k as (λ (i : ℕ). i < length (w ∷ ws) → (get_or (w ∷ ws) i d).number ≢ n) [
-      | zero ↦ λ _ e. let is : eqb w.number n ≡ true = grind (arith, nat_tests) in absurd (cc)
-      | suc i ↦ λ inside. other_number ws n rest i d (omega arith)
-    ] within
+      let rest : written ws n ≡ None = rw isnt at none in
+      elim k as (λ (i : ℕ). i < length (w ∷ ws) → (get_or (w ∷ ws) i d).number ≢ n) [
+        | zero ↦ λ _ e. let is : eqb w.number n ≡ true = grind (arith, nat_tests) in absurd (cc)
+        | suc i ↦ λ inside. other_number ws n rest i d (omega arith)
+      ] within
 ]
 
 pub written_rest : (w : PageWrite) (ws : List PageWrite) (n : ℕ) → written (w ∷ ws) n ≡ None → written ws n ≡ None
@@ -93,12 +93,12 @@ pub patches_more : (size : ℕ) (ws : List PageWrite) (i : ℕ) (w : PageWrite) 
     → OnFile Database (Writes ((w.number - 1) * size) w.bytes) g h → OnFile Database (Patches size (take (i + 1) ws)) f h
 patches_more size ws i w f g h within read so_far more = record {
   here =
-    let step : patched size (bytes_of (f Database)) (take (i + 1) ws) ≡ overwritten (((get_or ws i w).number - 1) * size) (get_or ws i w).bytes (patched size (bytes_of (f Database)) (take i ws)) =
-    fold_more (λ b (v : PageWrite). overwritten ((v.number - 1) * size) v.bytes b) (bytes_of (f Database)) ws i w within in
-    ap bytes_of more.here
-    ∙ ap (λ (b : List ℕ). overwritten ((w.number - 1) * size) w.bytes b) so_far.here
-    ∙ ap (λ (v : PageWrite). overwritten ((v.number - 1) * size) v.bytes (patched size (bytes_of (f Database)) (take i ws))) read
-    ∙ sym step;
+      let step : patched size (bytes_of (f Database)) (take (i + 1) ws) ≡ overwritten (((get_or ws i w).number - 1) * size) (get_or ws i w).bytes (patched size (bytes_of (f Database)) (take i ws)) =
+      fold_more (λ b (v : PageWrite). overwritten ((v.number - 1) * size) v.bytes b) (bytes_of (f Database)) ws i w within in
+      ap bytes_of more.here
+      ∙ ap (λ (b : List ℕ). overwritten ((w.number - 1) * size) w.bytes b) so_far.here
+      ∙ ap (λ (v : PageWrite). overwritten ((v.number - 1) * size) v.bytes (patched size (bytes_of (f Database)) (take i ws))) read
+      ∙ sym step;
   elsewhere = λ n other. more.elsewhere n other ∙ so_far.elsewhere n other;
 }
 
@@ -110,7 +110,7 @@ pub wears_more : {T E : Type 0} (result : Result T E) (change : PageChange) (w :
 wears_more result change w k at piece sees old mid new valid within read place same so_far ticks moves =
     goes_on result old mid new (OnFile Database (Wears change)) sees (TearsFile Database at (length piece)) (wears_path change) so_far ticks moves
     (λ f g tears. page_wears change w k valid within read f g
-      (subst (λ (b : List ℕ). TearsFile Database ((w.number - 1) * change.page_size) (length b) f g) same (subst (λ (a : ℕ). TearsFile Database a (length piece) f g) place tears)))
+    (subst (λ (b : List ℕ). TearsFile Database ((w.number - 1) * change.page_size) (length b) f g) same (subst (λ (a : ℕ). TearsFile Database a (length piece) f g) place tears)))
 
 pub patches_by : (size at : ℕ) (piece : List ℕ) (ws : List PageWrite) (i : ℕ) (w : PageWrite) (f g h : Folder) → i < length ws → w ≡ get_or ws i w → at ≡ (w.number - 1) * size → piece ≡ w.bytes
     → OnFile Database (Patches size (take i ws)) f g → OnFile Database (Writes at piece) g h → OnFile Database (Patches size (take (i + 1) ws)) f h

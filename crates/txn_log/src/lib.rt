@@ -1,4 +1,9 @@
-//! The store.
+//! The store of a database: its pages in one file, and its log in transaction files.
+//!
+//! `Durable` in the specifications says which store the files of a folder stand for, `Store` what a
+//! store's fields and its disk stand for, and `Calls` what a call did to it and what a crash leaves
+//! at each moment. Above those, no clause speaks of bytes. `placing` publishes one file and writes
+//! its change; below it nothing knows a store.
 #![tactic(auto)]
 
 mod answer;
@@ -28,7 +33,5 @@ pub use answer::Answer;
 pub use attempt::Attempt;
 pub use entry::Entry;
 pub use fault::StoreFault;
-pub use putting::put;
 pub use rewriting::rewrite;
 pub use store::Store;
-pub use writing::write_pages;

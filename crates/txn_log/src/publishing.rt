@@ -63,7 +63,13 @@ pub fn publish<D: Disk>(store: &mut Store<D>, file: &Ltx) -> Result<Pos, StoreFa
         Err(_) => return Err(StoreFault::NoMemory),
     }
     store.whole = store.disk.moment();
-    match place(&mut store.disk, text.as_slice(), file.header.min, file.header.max, &file.change) {
+    match place(
+        &mut store.disk,
+        text.as_slice(),
+        file.header.min,
+        file.header.max,
+        &file.change,
+    ) {
         Placed::Whole => {
             store.page_size = file.header.page_size;
             store.commit = file.header.commit;

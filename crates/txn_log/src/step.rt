@@ -14,7 +14,13 @@ use lf_sqlite_pages::Change;
 impl<D: Disk> Store<D> {
     /// Commits a change, and removes all but the last `keep` files. The answer is the commit's, also
     /// where the prune failed.
-    pub fn commit_and_prune(&mut self, change: &Change, stamp: u64, node: u64, keep: u64) -> Result<Pos, StoreFault>
+    pub fn commit_and_prune(
+        &mut self,
+        change: &Change,
+        stamp: u64,
+        node: u64,
+        keep: u64,
+    ) -> Result<Pos, StoreFault>
         requires { 1 ≤ keep }
         ensures commits { Commits self.old.broken (end_of_entries self.old.entries.items) self.old.page_size self.old.commit
             self.old.sums.sums change.now stamp node result }

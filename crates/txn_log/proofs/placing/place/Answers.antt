@@ -12,9 +12,10 @@ returns-in-Ok-put-clause-places g c honest image files over =
     let new = g.D.Disk.history c.put.new.disk in
     let still = c.stage.ensures.honest ∙ honest in
     let file : LogFile = record { min = c.args.min; max = c.args.max; text = c.args.text.now } in
-    let is = ready image files c.args.text.now c.args.change.now h mid over (c.in-Ok.ensures.staged honest) in
-    (moments image files c.args.text.now c.args.change.now h mid over new file (c.stage.ensures.moments honest) (c.put.ensures.moments still image files c.args.text.now is),
-      c.in-Ok-put.ensures.done still image files c.args.text.now is)
+    let is = ready image files c.args.text.now c.args.change.now h mid over (c.in-Ok.ensures.staged honest) in (
+      moments image files c.args.text.now c.args.change.now h mid over new file (c.stage.ensures.moments honest) (c.put.ensures.moments still image files c.args.text.now is),
+      c.in-Ok-put.ensures.done still image files c.args.text.now is,
+    )
 
 pub returns-in-Err-put-clause-places : goal.returns-in-Err-put-clause-places
 returns-in-Err-put-clause-places g c honest image files over =
@@ -25,6 +26,7 @@ returns-in-Err-put-clause-places g c honest image files over =
     let file : LogFile = record { min = c.args.min; max = c.args.max; text = c.args.text.now } in
     let staged = c.in-Ok.ensures.staged honest in
     let is = ready image files c.args.text.now c.args.change.now h mid over staged in
-    let run = c.put.ensures.moments still image files c.args.text.now is in
-    (moments image files c.args.text.now c.args.change.now h mid over new file (c.stage.ensures.moments honest) run,
-      subst (λ (t : ℕ). IsTried c.args.text.now t new) (sym c.moment-tried.ensures) (tried image files c.args.text.now c.args.change.now h mid over new _ staged run))
+    let run = c.put.ensures.moments still image files c.args.text.now is in (
+      moments image files c.args.text.now c.args.change.now h mid over new file (c.stage.ensures.moments honest) run,
+      subst (λ (t : ℕ). IsTried c.args.text.now t new) (sym c.moment-tried.ensures) (tried image files c.args.text.now c.args.change.now h mid over new _ staged run),
+    )

@@ -36,41 +36,41 @@ place-requires g c honest =
 pub invariant_of-store-in-Whole : goal.invariant_of-store-in-Whole
 invariant_of-store-in-Whole g c = record {
   shaped =
-    let s = c.args.store.now in
-    let file = c.args.file.now in
-    rw (c.push_reserved.ensures.items, c.entry_of.ensures, c.reserve.ensures.items, c.update.ensures, c.in-Ok-reserve.ensures.ok)
-    (shaped-after s.commit s.entries.items s.sums.sums file (sym c.requires.valid.block.commit) c.requires.valid.header.widths.commit
+      let s = c.args.store.now in
+      let file = c.args.file.now in
+      rw (c.push_reserved.ensures.items, c.entry_of.ensures, c.reserve.ensures.items, c.update.ensures, c.in-Ok-reserve.ensures.ok)
+      (shaped-after s.commit s.entries.items s.sums.sums file (sym c.requires.valid.block.commit) c.requires.valid.header.widths.commit
       (omega (arith, c.requires.valid.header.min, c.requires.valid.header.max)) c.requires.sum);
   kept = λ still.
-    let honest = sym c.place.ensures.honest ∙ still in
-    let s = c.args.store.now in
-    let h = g.D.Disk.history s.disk in
-    let new = g.D.Disk.history c.place.new.disk in
-    let file = c.args.file.now in
-    let text : List ℕ = c.as_slice.result.now in
-    let kept : IsStore h s.page_size s.commit s.entries.items s.sums.sums false s.whole s.tried =
-    subst (λ (b : Bool). IsStore h s.page_size s.commit s.entries.items s.sums.sums b s.whole s.tried) c.requires.open_ (s.kept honest) in
-    let can : CanTake (state_in s.page_size s.commit s.entries.items (now h)) file =
-    subst (λ (b : Bool). CanTake (state_of h s.page_size s.commit s.entries.items b s.whole) file) c.requires.open_ (c.requires.can honest) in
-    let is : IsLtx text file = subst (λ (t : List ℕ). IsLtx t file) (sym c.as_slice.ensures.value) c.in-Ok.ensures.text in
-    let read : file_of text ≡ file = ap file_of c.as_slice.ensures.value ∙ c.in-Ok.ensures.read in
-    let places = c.in-Whole.ensures.places honest (image h s.page_size s.commit s.entries.items s.sums.sums s.whole s.tried s.shaped kept) (files h s.page_size s.commit s.entries.items s.sums.sums s.whole s.tried s.shaped kept) (over h s.page_size s.commit s.entries.items s.sums.sums s.whole s.tried s.shaped kept file text can is read) in
-    rw (c.push_reserved.ensures.items, c.entry_of.ensures, c.reserve.ensures.items, c.update.ensures, c.in-Ok-reserve.ensures.ok, c.requires.open_) (stands h s.page_size s.commit s.entries.items s.sums.sums s.whole s.tried s.shaped kept file text can is read new places.0 places.1 c.moment-store.result s.tried);
+      let honest = sym c.place.ensures.honest ∙ still in
+      let s = c.args.store.now in
+      let h = g.D.Disk.history s.disk in
+      let new = g.D.Disk.history c.place.new.disk in
+      let file = c.args.file.now in
+      let text : List ℕ = c.as_slice.result.now in
+      let kept : IsStore h s.page_size s.commit s.entries.items s.sums.sums false s.whole s.tried =
+      subst (λ (b : Bool). IsStore h s.page_size s.commit s.entries.items s.sums.sums b s.whole s.tried) c.requires.open_ (s.kept honest) in
+      let can : CanTake (state_in s.page_size s.commit s.entries.items (now h)) file =
+      subst (λ (b : Bool). CanTake (state_of h s.page_size s.commit s.entries.items b s.whole) file) c.requires.open_ (c.requires.can honest) in
+      let is : IsLtx text file = subst (λ (t : List ℕ). IsLtx t file) (sym c.as_slice.ensures.value) c.in-Ok.ensures.text in
+      let read : file_of text ≡ file = ap file_of c.as_slice.ensures.value ∙ c.in-Ok.ensures.read in
+      let places = c.in-Whole.ensures.places honest (image h s.page_size s.commit s.entries.items s.sums.sums s.whole s.tried s.shaped kept) (files h s.page_size s.commit s.entries.items s.sums.sums s.whole s.tried s.shaped kept) (over h s.page_size s.commit s.entries.items s.sums.sums s.whole s.tried s.shaped kept file text can is read) in
+      rw (c.push_reserved.ensures.items, c.entry_of.ensures, c.reserve.ensures.items, c.update.ensures, c.in-Ok-reserve.ensures.ok, c.requires.open_) (stands h s.page_size s.commit s.entries.items s.sums.sums s.whole s.tried s.shaped kept file text can is read new places.0 places.1 c.moment-store.result s.tried);
   left = λ still.
-    let honest = sym c.place.ensures.honest ∙ still in
-    let s = c.args.store.now in
-    let h = g.D.Disk.history s.disk in
-    let new = g.D.Disk.history c.place.new.disk in
-    let file = c.args.file.now in
-    let text : List ℕ = c.as_slice.result.now in
-    let kept : IsStore h s.page_size s.commit s.entries.items s.sums.sums false s.whole s.tried =
-    subst (λ (b : Bool). IsStore h s.page_size s.commit s.entries.items s.sums.sums b s.whole s.tried) c.requires.open_ (s.kept honest) in
-    let can : CanTake (state_in s.page_size s.commit s.entries.items (now h)) file =
-    subst (λ (b : Bool). CanTake (state_of h s.page_size s.commit s.entries.items b s.whole) file) c.requires.open_ (c.requires.can honest) in
-    let is : IsLtx text file = subst (λ (t : List ℕ). IsLtx t file) (sym c.as_slice.ensures.value) c.in-Ok.ensures.text in
-    let read : file_of text ≡ file = ap file_of c.as_slice.ensures.value ∙ c.in-Ok.ensures.read in
-    let places = c.in-Whole.ensures.places honest (image h s.page_size s.commit s.entries.items s.sums.sums s.whole s.tried s.shaped kept) (files h s.page_size s.commit s.entries.items s.sums.sums s.whole s.tried s.shaped kept) (over h s.page_size s.commit s.entries.items s.sums.sums s.whole s.tried s.shaped kept file text can is read) in
-    rw (c.push_reserved.ensures.items, c.entry_of.ensures, c.reserve.ensures.items, c.requires.open_) (left_done h s.page_size s.commit s.entries.items s.sums.sums s.whole s.tried s.shaped kept file text can is read new places.0 places.1);
+      let honest = sym c.place.ensures.honest ∙ still in
+      let s = c.args.store.now in
+      let h = g.D.Disk.history s.disk in
+      let new = g.D.Disk.history c.place.new.disk in
+      let file = c.args.file.now in
+      let text : List ℕ = c.as_slice.result.now in
+      let kept : IsStore h s.page_size s.commit s.entries.items s.sums.sums false s.whole s.tried =
+      subst (λ (b : Bool). IsStore h s.page_size s.commit s.entries.items s.sums.sums b s.whole s.tried) c.requires.open_ (s.kept honest) in
+      let can : CanTake (state_in s.page_size s.commit s.entries.items (now h)) file =
+      subst (λ (b : Bool). CanTake (state_of h s.page_size s.commit s.entries.items b s.whole) file) c.requires.open_ (c.requires.can honest) in
+      let is : IsLtx text file = subst (λ (t : List ℕ). IsLtx t file) (sym c.as_slice.ensures.value) c.in-Ok.ensures.text in
+      let read : file_of text ≡ file = ap file_of c.as_slice.ensures.value ∙ c.in-Ok.ensures.read in
+      let places = c.in-Whole.ensures.places honest (image h s.page_size s.commit s.entries.items s.sums.sums s.whole s.tried s.shaped kept) (files h s.page_size s.commit s.entries.items s.sums.sums s.whole s.tried s.shaped kept) (over h s.page_size s.commit s.entries.items s.sums.sums s.whole s.tried s.shaped kept file text can is read) in
+      rw (c.push_reserved.ensures.items, c.entry_of.ensures, c.reserve.ensures.items, c.requires.open_) (left_done h s.page_size s.commit s.entries.items s.sums.sums s.whole s.tried s.shaped kept file text can is read new places.0 places.1);
 }
 
 pub returns-in-Whole-clause-went : goal.returns-in-Whole-clause-went
@@ -93,36 +93,36 @@ pub invariant_of-store-in-Unpublished : goal.invariant_of-store-in-Unpublished
 invariant_of-store-in-Unpublished g c = record {
   shaped = rw (c.reserve.ensures.items, c.in-Ok-reserve.ensures.ok) c.args.store.now.shaped;
   kept = λ still.
-    let honest = sym c.place.ensures.honest ∙ still in
-    let s = c.args.store.now in
-    let h = g.D.Disk.history s.disk in
-    let new = g.D.Disk.history c.place.new.disk in
-    let file = c.args.file.now in
-    let text : List ℕ = c.as_slice.result.now in
-    let kept : IsStore h s.page_size s.commit s.entries.items s.sums.sums false s.whole s.tried =
-    subst (λ (b : Bool). IsStore h s.page_size s.commit s.entries.items s.sums.sums b s.whole s.tried) c.requires.open_ (s.kept honest) in
-    let can : CanTake (state_in s.page_size s.commit s.entries.items (now h)) file =
-    subst (λ (b : Bool). CanTake (state_of h s.page_size s.commit s.entries.items b s.whole) file) c.requires.open_ (c.requires.can honest) in
-    let is : IsLtx text file = subst (λ (t : List ℕ). IsLtx t file) (sym c.as_slice.ensures.value) c.in-Ok.ensures.text in
-    let read : file_of text ≡ file = ap file_of c.as_slice.ensures.value ∙ c.in-Ok.ensures.read in
-    let places = c.in-Unpublished.ensures.places honest (image h s.page_size s.commit s.entries.items s.sums.sums s.whole s.tried s.shaped kept) (files h s.page_size s.commit s.entries.items s.sums.sums s.whole s.tried s.shaped kept) (over h s.page_size s.commit s.entries.items s.sums.sums s.whole s.tried s.shaped kept file text can is read) in
-    rw (c.reserve.ensures.items, c.in-Ok-reserve.ensures.ok, c.moment-store.ensures)
-    (broken s.page_size s.commit s.entries.items s.sums.sums h new places.past s.whole s.tried h.moment places.later places.later kept);
+      let honest = sym c.place.ensures.honest ∙ still in
+      let s = c.args.store.now in
+      let h = g.D.Disk.history s.disk in
+      let new = g.D.Disk.history c.place.new.disk in
+      let file = c.args.file.now in
+      let text : List ℕ = c.as_slice.result.now in
+      let kept : IsStore h s.page_size s.commit s.entries.items s.sums.sums false s.whole s.tried =
+      subst (λ (b : Bool). IsStore h s.page_size s.commit s.entries.items s.sums.sums b s.whole s.tried) c.requires.open_ (s.kept honest) in
+      let can : CanTake (state_in s.page_size s.commit s.entries.items (now h)) file =
+      subst (λ (b : Bool). CanTake (state_of h s.page_size s.commit s.entries.items b s.whole) file) c.requires.open_ (c.requires.can honest) in
+      let is : IsLtx text file = subst (λ (t : List ℕ). IsLtx t file) (sym c.as_slice.ensures.value) c.in-Ok.ensures.text in
+      let read : file_of text ≡ file = ap file_of c.as_slice.ensures.value ∙ c.in-Ok.ensures.read in
+      let places = c.in-Unpublished.ensures.places honest (image h s.page_size s.commit s.entries.items s.sums.sums s.whole s.tried s.shaped kept) (files h s.page_size s.commit s.entries.items s.sums.sums s.whole s.tried s.shaped kept) (over h s.page_size s.commit s.entries.items s.sums.sums s.whole s.tried s.shaped kept file text can is read) in
+      rw (c.reserve.ensures.items, c.in-Ok-reserve.ensures.ok, c.moment-store.ensures)
+      (broken s.page_size s.commit s.entries.items s.sums.sums h new places.past s.whole s.tried h.moment places.later places.later kept);
   left = λ still.
-    let honest = sym c.place.ensures.honest ∙ still in
-    let s = c.args.store.now in
-    let h = g.D.Disk.history s.disk in
-    let new = g.D.Disk.history c.place.new.disk in
-    let file = c.args.file.now in
-    let text : List ℕ = c.as_slice.result.now in
-    let kept : IsStore h s.page_size s.commit s.entries.items s.sums.sums false s.whole s.tried =
-    subst (λ (b : Bool). IsStore h s.page_size s.commit s.entries.items s.sums.sums b s.whole s.tried) c.requires.open_ (s.kept honest) in
-    let can : CanTake (state_in s.page_size s.commit s.entries.items (now h)) file =
-    subst (λ (b : Bool). CanTake (state_of h s.page_size s.commit s.entries.items b s.whole) file) c.requires.open_ (c.requires.can honest) in
-    let is : IsLtx text file = subst (λ (t : List ℕ). IsLtx t file) (sym c.as_slice.ensures.value) c.in-Ok.ensures.text in
-    let read : file_of text ≡ file = ap file_of c.as_slice.ensures.value ∙ c.in-Ok.ensures.read in
-    let places = c.in-Unpublished.ensures.places honest (image h s.page_size s.commit s.entries.items s.sums.sums s.whole s.tried s.shaped kept) (files h s.page_size s.commit s.entries.items s.sums.sums s.whole s.tried s.shaped kept) (over h s.page_size s.commit s.entries.items s.sums.sums s.whole s.tried s.shaped kept file text can is read) in
-    rw (c.reserve.ensures.items, c.moment-store.ensures) (left_before h s.page_size s.commit s.entries.items s.sums.sums s.whole s.tried s.shaped kept new places);
+      let honest = sym c.place.ensures.honest ∙ still in
+      let s = c.args.store.now in
+      let h = g.D.Disk.history s.disk in
+      let new = g.D.Disk.history c.place.new.disk in
+      let file = c.args.file.now in
+      let text : List ℕ = c.as_slice.result.now in
+      let kept : IsStore h s.page_size s.commit s.entries.items s.sums.sums false s.whole s.tried =
+      subst (λ (b : Bool). IsStore h s.page_size s.commit s.entries.items s.sums.sums b s.whole s.tried) c.requires.open_ (s.kept honest) in
+      let can : CanTake (state_in s.page_size s.commit s.entries.items (now h)) file =
+      subst (λ (b : Bool). CanTake (state_of h s.page_size s.commit s.entries.items b s.whole) file) c.requires.open_ (c.requires.can honest) in
+      let is : IsLtx text file = subst (λ (t : List ℕ). IsLtx t file) (sym c.as_slice.ensures.value) c.in-Ok.ensures.text in
+      let read : file_of text ≡ file = ap file_of c.as_slice.ensures.value ∙ c.in-Ok.ensures.read in
+      let places = c.in-Unpublished.ensures.places honest (image h s.page_size s.commit s.entries.items s.sums.sums s.whole s.tried s.shaped kept) (files h s.page_size s.commit s.entries.items s.sums.sums s.whole s.tried s.shaped kept) (over h s.page_size s.commit s.entries.items s.sums.sums s.whole s.tried s.shaped kept file text can is read) in
+      rw (c.reserve.ensures.items, c.moment-store.ensures) (left_before h s.page_size s.commit s.entries.items s.sums.sums s.whole s.tried s.shaped kept new places);
 }
 
 pub returns-in-Unpublished-clause-went : goal.returns-in-Unpublished-clause-went
@@ -145,36 +145,36 @@ pub invariant_of-store-in-From : goal.invariant_of-store-in-From
 invariant_of-store-in-From g c = record {
   shaped = rw (c.reserve.ensures.items, c.in-Ok-reserve.ensures.ok) c.args.store.now.shaped;
   kept = λ still.
-    let honest = sym c.place.ensures.honest ∙ still in
-    let s = c.args.store.now in
-    let h = g.D.Disk.history s.disk in
-    let new = g.D.Disk.history c.place.new.disk in
-    let file = c.args.file.now in
-    let text : List ℕ = c.as_slice.result.now in
-    let kept : IsStore h s.page_size s.commit s.entries.items s.sums.sums false s.whole s.tried =
-    subst (λ (b : Bool). IsStore h s.page_size s.commit s.entries.items s.sums.sums b s.whole s.tried) c.requires.open_ (s.kept honest) in
-    let can : CanTake (state_in s.page_size s.commit s.entries.items (now h)) file =
-    subst (λ (b : Bool). CanTake (state_of h s.page_size s.commit s.entries.items b s.whole) file) c.requires.open_ (c.requires.can honest) in
-    let is : IsLtx text file = subst (λ (t : List ℕ). IsLtx t file) (sym c.as_slice.ensures.value) c.in-Ok.ensures.text in
-    let read : file_of text ≡ file = ap file_of c.as_slice.ensures.value ∙ c.in-Ok.ensures.read in
-    let places = c.in-From.ensures.places honest (image h s.page_size s.commit s.entries.items s.sums.sums s.whole s.tried s.shaped kept) (files h s.page_size s.commit s.entries.items s.sums.sums s.whole s.tried s.shaped kept) (over h s.page_size s.commit s.entries.items s.sums.sums s.whole s.tried s.shaped kept file text can is read) in
-    rw (c.reserve.ensures.items, c.in-Ok-reserve.ensures.ok, c.moment-store.ensures)
-    (broken s.page_size s.commit s.entries.items s.sums.sums h new places.0.past s.whole s.tried c.in-From.tried places.0.later places.1.past kept);
+      let honest = sym c.place.ensures.honest ∙ still in
+      let s = c.args.store.now in
+      let h = g.D.Disk.history s.disk in
+      let new = g.D.Disk.history c.place.new.disk in
+      let file = c.args.file.now in
+      let text : List ℕ = c.as_slice.result.now in
+      let kept : IsStore h s.page_size s.commit s.entries.items s.sums.sums false s.whole s.tried =
+      subst (λ (b : Bool). IsStore h s.page_size s.commit s.entries.items s.sums.sums b s.whole s.tried) c.requires.open_ (s.kept honest) in
+      let can : CanTake (state_in s.page_size s.commit s.entries.items (now h)) file =
+      subst (λ (b : Bool). CanTake (state_of h s.page_size s.commit s.entries.items b s.whole) file) c.requires.open_ (c.requires.can honest) in
+      let is : IsLtx text file = subst (λ (t : List ℕ). IsLtx t file) (sym c.as_slice.ensures.value) c.in-Ok.ensures.text in
+      let read : file_of text ≡ file = ap file_of c.as_slice.ensures.value ∙ c.in-Ok.ensures.read in
+      let places = c.in-From.ensures.places honest (image h s.page_size s.commit s.entries.items s.sums.sums s.whole s.tried s.shaped kept) (files h s.page_size s.commit s.entries.items s.sums.sums s.whole s.tried s.shaped kept) (over h s.page_size s.commit s.entries.items s.sums.sums s.whole s.tried s.shaped kept file text can is read) in
+      rw (c.reserve.ensures.items, c.in-Ok-reserve.ensures.ok, c.moment-store.ensures)
+      (broken s.page_size s.commit s.entries.items s.sums.sums h new places.0.past s.whole s.tried c.in-From.tried places.0.later places.1.past kept);
   left = λ still.
-    let honest = sym c.place.ensures.honest ∙ still in
-    let s = c.args.store.now in
-    let h = g.D.Disk.history s.disk in
-    let new = g.D.Disk.history c.place.new.disk in
-    let file = c.args.file.now in
-    let text : List ℕ = c.as_slice.result.now in
-    let kept : IsStore h s.page_size s.commit s.entries.items s.sums.sums false s.whole s.tried =
-    subst (λ (b : Bool). IsStore h s.page_size s.commit s.entries.items s.sums.sums b s.whole s.tried) c.requires.open_ (s.kept honest) in
-    let can : CanTake (state_in s.page_size s.commit s.entries.items (now h)) file =
-    subst (λ (b : Bool). CanTake (state_of h s.page_size s.commit s.entries.items b s.whole) file) c.requires.open_ (c.requires.can honest) in
-    let is : IsLtx text file = subst (λ (t : List ℕ). IsLtx t file) (sym c.as_slice.ensures.value) c.in-Ok.ensures.text in
-    let read : file_of text ≡ file = ap file_of c.as_slice.ensures.value ∙ c.in-Ok.ensures.read in
-    let places = c.in-From.ensures.places honest (image h s.page_size s.commit s.entries.items s.sums.sums s.whole s.tried s.shaped kept) (files h s.page_size s.commit s.entries.items s.sums.sums s.whole s.tried s.shaped kept) (over h s.page_size s.commit s.entries.items s.sums.sums s.whole s.tried s.shaped kept file text can is read) in
-    rw (c.reserve.ensures.items, c.moment-store.ensures) (left_in h s.page_size s.commit s.entries.items s.sums.sums s.whole s.tried s.shaped kept file text can is read new c.in-From.tried places.0 places.1);
+      let honest = sym c.place.ensures.honest ∙ still in
+      let s = c.args.store.now in
+      let h = g.D.Disk.history s.disk in
+      let new = g.D.Disk.history c.place.new.disk in
+      let file = c.args.file.now in
+      let text : List ℕ = c.as_slice.result.now in
+      let kept : IsStore h s.page_size s.commit s.entries.items s.sums.sums false s.whole s.tried =
+      subst (λ (b : Bool). IsStore h s.page_size s.commit s.entries.items s.sums.sums b s.whole s.tried) c.requires.open_ (s.kept honest) in
+      let can : CanTake (state_in s.page_size s.commit s.entries.items (now h)) file =
+      subst (λ (b : Bool). CanTake (state_of h s.page_size s.commit s.entries.items b s.whole) file) c.requires.open_ (c.requires.can honest) in
+      let is : IsLtx text file = subst (λ (t : List ℕ). IsLtx t file) (sym c.as_slice.ensures.value) c.in-Ok.ensures.text in
+      let read : file_of text ≡ file = ap file_of c.as_slice.ensures.value ∙ c.in-Ok.ensures.read in
+      let places = c.in-From.ensures.places honest (image h s.page_size s.commit s.entries.items s.sums.sums s.whole s.tried s.shaped kept) (files h s.page_size s.commit s.entries.items s.sums.sums s.whole s.tried s.shaped kept) (over h s.page_size s.commit s.entries.items s.sums.sums s.whole s.tried s.shaped kept file text can is read) in
+      rw (c.reserve.ensures.items, c.moment-store.ensures) (left_in h s.page_size s.commit s.entries.items s.sums.sums s.whole s.tried s.shaped kept file text can is read new c.in-From.tried places.0 places.1);
 }
 
 pub returns-clause-went : goal.returns-clause-went

@@ -11,5 +11,5 @@ invariant-loop-entry g l = record {
   faults : g.D.Disk.faults l.disk ≡ g.D.Disk.faults l.initial.disk;
   runs : IsTrue (g.D.Disk.honest l.initial.disk) → (image : DatabaseImage) (files : List LogFile) → IsAtRest image files false (g.D.Disk.history l.initial.disk)
       → Ascends 0 files → AreNamed l.entries files → length l.entries < length files
-      → Pruning image files (length l.entries) l.entry-index (g.D.Disk.history l.initial.disk) (g.D.Disk.history l.disk)
+      → Pruning image files (length l.entries) l.entry-index (g.D.Disk.history l.initial.disk) (g.D.Disk.history l.disk);
 }

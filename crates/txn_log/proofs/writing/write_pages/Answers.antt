@@ -42,14 +42,14 @@ loop-page-preserved g c =
     let read : c.page-item.result ≡ get_or c.args.change.now.pages c.loop-page.page-index c.page-item.result =
     c.page-item.is ∙ ap (λ vs. get_or vs c.loop-page.page-index c.page-item.result) c.pages-page-items.ensures.value in
     record {
-  honest = c.write.ensures.honest ∙ c.loop-page.invariant.honest;
-  faults = c.in_ok-write.ensures.cause ∙ c.loop-page.invariant.faults;
-  moments = λ honest.
-      wears_more _ c.args.change.now c.page-item.result c.loop-page.page-index _ _ _ (g.D.Disk.history c.args.disk.now) (g.D.Disk.history c.loop-page.disk) (g.D.Disk.history c.write.new.self)
-      c.pages-page-items.ensures.valid within read place c.as_slice.ensures
-      (c.loop-page.invariant.moments honest) c.write.ensures.ticks (c.in_ok-write.ensures.done (c.loop-page.invariant.honest ∙ honest));
-  seen = λ honest.
-      patches_by c.args.change.now.page_size _ _ c.args.change.now.pages c.loop-page.page-index c.page-item.result (now (g.D.Disk.history c.args.disk.now)) (now (g.D.Disk.history c.loop-page.disk)) (now (g.D.Disk.history c.write.new.self))
-      within read place c.as_slice.ensures
-      (c.loop-page.invariant.seen honest) (c.in_ok-write.ensures.done (c.loop-page.invariant.honest ∙ honest)).seen;
-}
+      honest = c.write.ensures.honest ∙ c.loop-page.invariant.honest;
+      faults = c.in_ok-write.ensures.cause ∙ c.loop-page.invariant.faults;
+      moments = λ honest.
+          wears_more _ c.args.change.now c.page-item.result c.loop-page.page-index _ _ _ (g.D.Disk.history c.args.disk.now) (g.D.Disk.history c.loop-page.disk) (g.D.Disk.history c.write.new.self)
+          c.pages-page-items.ensures.valid within read place c.as_slice.ensures
+          (c.loop-page.invariant.moments honest) c.write.ensures.ticks (c.in_ok-write.ensures.done (c.loop-page.invariant.honest ∙ honest));
+      seen = λ honest.
+          patches_by c.args.change.now.page_size _ _ c.args.change.now.pages c.loop-page.page-index c.page-item.result (now (g.D.Disk.history c.args.disk.now)) (now (g.D.Disk.history c.loop-page.disk)) (now (g.D.Disk.history c.write.new.self))
+          within read place c.as_slice.ensures
+          (c.loop-page.invariant.seen honest) (c.in_ok-write.ensures.done (c.loop-page.invariant.honest ∙ honest)).seen;
+    }

@@ -11,5 +11,5 @@ invariant-loop-page g l = record {
   honest : g.D.Disk.honest l.disk ≡ g.D.Disk.honest l.initial.disk;
   faults : g.D.Disk.faults l.disk ≡ g.D.Disk.faults l.initial.disk;
   moments : IsTrue (g.D.Disk.honest l.initial.disk) → Stretch (OnFile Database (Wears l.change)) (g.D.Disk.history l.initial.disk) (g.D.Disk.history l.disk);
-  seen : IsTrue (g.D.Disk.honest l.initial.disk) → OnFile Database (Patches l.change.page_size (take l.page-index l.change.pages)) (now (g.D.Disk.history l.initial.disk)) (now (g.D.Disk.history l.disk))
+  seen : IsTrue (g.D.Disk.honest l.initial.disk) → OnFile Database (Patches l.change.page_size (take l.page-index l.change.pages)) (now (g.D.Disk.history l.initial.disk)) (now (g.D.Disk.history l.disk));
 }

@@ -24,4 +24,4 @@ returns-in-Ok-complete-clause-valid g c =
     let width : c.file_behind.result.post < 2 ^ 64 = c.file_behind.ensures.widths.1 in
     subst (λ (f : Ltx). IsFile f) (sym is)
     (is_file s.commit s.entries.items s.sums.sums c.args.change.now c.args.stamp c.args.node s.shaped c.copy_of.ensures.valid within
-      (subst (λ (f : Ltx). FitsWidths f.header) is widths) (subst (λ (f : Ltx). f.post < 2 ^ 64) is width))
+    (subst (λ (f : Ltx). FitsWidths f.header) is widths) (subst (λ (f : Ltx). f.post < 2 ^ 64) is width))

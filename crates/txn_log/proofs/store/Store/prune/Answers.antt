@@ -19,79 +19,79 @@ returns-then-gone-eq0-clause-went g c honest =
     let none : length (state_in s.page_size s.commit s.entries.items (now h)).log - c.args.keep ≡ 0 =
     omega (arith, log_count s.entries.items (now h), c.saturating_sub-gone.ensures, c.len.ensures, c.if-gone-eq0.true) in
     rw (c.if-self.false) (went_idle (state_in s.page_size s.commit s.entries.items (now h)) c.args.keep h c.requires none
-      (rests h s.page_size s.commit s.entries.items s.sums.sums s.whole s.tried s.shaped kept))
+    (rests h s.page_size s.commit s.entries.items s.sums.sums s.whole s.tried s.shaped kept))
 
 pub invariant_of-self-in-Ok : goal.invariant_of-self-in-Ok
 invariant_of-self-in-Ok g c = record {
   shaped =
-    let s = c.args.self.now in
-    let gone : ℕ = c.saturating_sub-gone.result in
-    let amount : gone ≡ length s.entries.items - c.args.keep = omega (arith, c.saturating_sub-gone.ensures, c.len.ensures) in
-    let fits : gone < length s.entries.items = omega (arith, amount, c.if-gone-eq0.false, c.requires) in
-    rw (c.forget_front.ensures) (shaped-drop s.commit s.entries.items s.sums.sums gone fits s.shaped);
+      let s = c.args.self.now in
+      let gone : ℕ = c.saturating_sub-gone.result in
+      let amount : gone ≡ length s.entries.items - c.args.keep = omega (arith, c.saturating_sub-gone.ensures, c.len.ensures) in
+      let fits : gone < length s.entries.items = omega (arith, amount, c.if-gone-eq0.false, c.requires) in
+      rw (c.forget_front.ensures) (shaped-drop s.commit s.entries.items s.sums.sums gone fits s.shaped);
   kept = λ still.
-    let honest = sym c.remove_files.ensures.honest ∙ still in
-    let s = c.args.self.now in
-    let h = g.D.Disk.history s.disk in
-    let new = g.D.Disk.history c.remove_files.new.disk in
-    let kept : IsStore h s.page_size s.commit s.entries.items s.sums.sums false s.whole s.tried =
-    subst (λ (b : Bool). IsStore h s.page_size s.commit s.entries.items s.sums.sums b s.whole s.tried) c.if-self.false (s.kept honest) in
-    let gone : ℕ = c.saturating_sub-gone.result in
-    let front : List Entry = c.split_at.result.0.now in
-    let taken : front ≡ take gone s.entries.items = c.split_at.ensures.front ∙ ap (λ (es : List Entry). take gone es) c.as_slice.ensures.value in
-    let amount : gone ≡ length s.entries.items - c.args.keep = omega (arith, c.saturating_sub-gone.ensures, c.len.ensures) in
-    let fits : gone < length s.entries.items = omega (arith, amount, c.if-gone-eq0.false, c.requires) in
-    let runs = c.remove_files.ensures.moments honest (old_image h s.page_size s.commit s.entries.items s.sums.sums s.whole s.tried s.shaped kept front gone c.args.keep taken fits c.requires amount) (old_files h s.page_size s.commit s.entries.items s.sums.sums s.whole s.tried s.shaped kept front gone c.args.keep taken fits c.requires amount) kept.rest (ascends h s.page_size s.commit s.entries.items s.sums.sums s.whole s.tried s.shaped kept front gone c.args.keep taken fits c.requires amount) (named h s.page_size s.commit s.entries.items s.sums.sums s.whole s.tried s.shaped kept front gone c.args.keep taken fits c.requires amount) (room h s.page_size s.commit s.entries.items s.sums.sums s.whole s.tried s.shaped kept front gone c.args.keep taken fits c.requires amount) in
-    let done = c.in-Ok.ensures.done honest (old_image h s.page_size s.commit s.entries.items s.sums.sums s.whole s.tried s.shaped kept front gone c.args.keep taken fits c.requires amount) (old_files h s.page_size s.commit s.entries.items s.sums.sums s.whole s.tried s.shaped kept front gone c.args.keep taken fits c.requires amount) kept.rest (ascends h s.page_size s.commit s.entries.items s.sums.sums s.whole s.tried s.shaped kept front gone c.args.keep taken fits c.requires amount) (named h s.page_size s.commit s.entries.items s.sums.sums s.whole s.tried s.shaped kept front gone c.args.keep taken fits c.requires amount) (room h s.page_size s.commit s.entries.items s.sums.sums s.whole s.tried s.shaped kept front gone c.args.keep taken fits c.requires amount) in
-    rw (c.forget_front.ensures, c.if-self.false) (stands h s.page_size s.commit s.entries.items s.sums.sums s.whole s.tried s.shaped kept front gone c.args.keep taken fits c.requires amount new runs done c.moment-self.result s.tried);
+      let honest = sym c.remove_files.ensures.honest ∙ still in
+      let s = c.args.self.now in
+      let h = g.D.Disk.history s.disk in
+      let new = g.D.Disk.history c.remove_files.new.disk in
+      let kept : IsStore h s.page_size s.commit s.entries.items s.sums.sums false s.whole s.tried =
+      subst (λ (b : Bool). IsStore h s.page_size s.commit s.entries.items s.sums.sums b s.whole s.tried) c.if-self.false (s.kept honest) in
+      let gone : ℕ = c.saturating_sub-gone.result in
+      let front : List Entry = c.split_at.result.0.now in
+      let taken : front ≡ take gone s.entries.items = c.split_at.ensures.front ∙ ap (λ (es : List Entry). take gone es) c.as_slice.ensures.value in
+      let amount : gone ≡ length s.entries.items - c.args.keep = omega (arith, c.saturating_sub-gone.ensures, c.len.ensures) in
+      let fits : gone < length s.entries.items = omega (arith, amount, c.if-gone-eq0.false, c.requires) in
+      let runs = c.remove_files.ensures.moments honest (old_image h s.page_size s.commit s.entries.items s.sums.sums s.whole s.tried s.shaped kept front gone c.args.keep taken fits c.requires amount) (old_files h s.page_size s.commit s.entries.items s.sums.sums s.whole s.tried s.shaped kept front gone c.args.keep taken fits c.requires amount) kept.rest (ascends h s.page_size s.commit s.entries.items s.sums.sums s.whole s.tried s.shaped kept front gone c.args.keep taken fits c.requires amount) (named h s.page_size s.commit s.entries.items s.sums.sums s.whole s.tried s.shaped kept front gone c.args.keep taken fits c.requires amount) (room h s.page_size s.commit s.entries.items s.sums.sums s.whole s.tried s.shaped kept front gone c.args.keep taken fits c.requires amount) in
+      let done = c.in-Ok.ensures.done honest (old_image h s.page_size s.commit s.entries.items s.sums.sums s.whole s.tried s.shaped kept front gone c.args.keep taken fits c.requires amount) (old_files h s.page_size s.commit s.entries.items s.sums.sums s.whole s.tried s.shaped kept front gone c.args.keep taken fits c.requires amount) kept.rest (ascends h s.page_size s.commit s.entries.items s.sums.sums s.whole s.tried s.shaped kept front gone c.args.keep taken fits c.requires amount) (named h s.page_size s.commit s.entries.items s.sums.sums s.whole s.tried s.shaped kept front gone c.args.keep taken fits c.requires amount) (room h s.page_size s.commit s.entries.items s.sums.sums s.whole s.tried s.shaped kept front gone c.args.keep taken fits c.requires amount) in
+      rw (c.forget_front.ensures, c.if-self.false) (stands h s.page_size s.commit s.entries.items s.sums.sums s.whole s.tried s.shaped kept front gone c.args.keep taken fits c.requires amount new runs done c.moment-self.result s.tried);
   left = λ still.
-    let honest = sym c.remove_files.ensures.honest ∙ still in
-    let s = c.args.self.now in
-    let h = g.D.Disk.history s.disk in
-    let new = g.D.Disk.history c.remove_files.new.disk in
-    let kept : IsStore h s.page_size s.commit s.entries.items s.sums.sums false s.whole s.tried =
-    subst (λ (b : Bool). IsStore h s.page_size s.commit s.entries.items s.sums.sums b s.whole s.tried) c.if-self.false (s.kept honest) in
-    let gone : ℕ = c.saturating_sub-gone.result in
-    let front : List Entry = c.split_at.result.0.now in
-    let taken : front ≡ take gone s.entries.items = c.split_at.ensures.front ∙ ap (λ (es : List Entry). take gone es) c.as_slice.ensures.value in
-    let amount : gone ≡ length s.entries.items - c.args.keep = omega (arith, c.saturating_sub-gone.ensures, c.len.ensures) in
-    let fits : gone < length s.entries.items = omega (arith, amount, c.if-gone-eq0.false, c.requires) in
-    let runs = c.remove_files.ensures.moments honest (old_image h s.page_size s.commit s.entries.items s.sums.sums s.whole s.tried s.shaped kept front gone c.args.keep taken fits c.requires amount) (old_files h s.page_size s.commit s.entries.items s.sums.sums s.whole s.tried s.shaped kept front gone c.args.keep taken fits c.requires amount) kept.rest (ascends h s.page_size s.commit s.entries.items s.sums.sums s.whole s.tried s.shaped kept front gone c.args.keep taken fits c.requires amount) (named h s.page_size s.commit s.entries.items s.sums.sums s.whole s.tried s.shaped kept front gone c.args.keep taken fits c.requires amount) (room h s.page_size s.commit s.entries.items s.sums.sums s.whole s.tried s.shaped kept front gone c.args.keep taken fits c.requires amount) in
-    let done = c.in-Ok.ensures.done honest (old_image h s.page_size s.commit s.entries.items s.sums.sums s.whole s.tried s.shaped kept front gone c.args.keep taken fits c.requires amount) (old_files h s.page_size s.commit s.entries.items s.sums.sums s.whole s.tried s.shaped kept front gone c.args.keep taken fits c.requires amount) kept.rest (ascends h s.page_size s.commit s.entries.items s.sums.sums s.whole s.tried s.shaped kept front gone c.args.keep taken fits c.requires amount) (named h s.page_size s.commit s.entries.items s.sums.sums s.whole s.tried s.shaped kept front gone c.args.keep taken fits c.requires amount) (room h s.page_size s.commit s.entries.items s.sums.sums s.whole s.tried s.shaped kept front gone c.args.keep taken fits c.requires amount) in
-    rw (c.forget_front.ensures, c.if-self.false) (left_done h s.page_size s.commit s.entries.items s.sums.sums s.whole s.tried s.shaped kept front gone c.args.keep taken fits c.requires amount new runs done);
+      let honest = sym c.remove_files.ensures.honest ∙ still in
+      let s = c.args.self.now in
+      let h = g.D.Disk.history s.disk in
+      let new = g.D.Disk.history c.remove_files.new.disk in
+      let kept : IsStore h s.page_size s.commit s.entries.items s.sums.sums false s.whole s.tried =
+      subst (λ (b : Bool). IsStore h s.page_size s.commit s.entries.items s.sums.sums b s.whole s.tried) c.if-self.false (s.kept honest) in
+      let gone : ℕ = c.saturating_sub-gone.result in
+      let front : List Entry = c.split_at.result.0.now in
+      let taken : front ≡ take gone s.entries.items = c.split_at.ensures.front ∙ ap (λ (es : List Entry). take gone es) c.as_slice.ensures.value in
+      let amount : gone ≡ length s.entries.items - c.args.keep = omega (arith, c.saturating_sub-gone.ensures, c.len.ensures) in
+      let fits : gone < length s.entries.items = omega (arith, amount, c.if-gone-eq0.false, c.requires) in
+      let runs = c.remove_files.ensures.moments honest (old_image h s.page_size s.commit s.entries.items s.sums.sums s.whole s.tried s.shaped kept front gone c.args.keep taken fits c.requires amount) (old_files h s.page_size s.commit s.entries.items s.sums.sums s.whole s.tried s.shaped kept front gone c.args.keep taken fits c.requires amount) kept.rest (ascends h s.page_size s.commit s.entries.items s.sums.sums s.whole s.tried s.shaped kept front gone c.args.keep taken fits c.requires amount) (named h s.page_size s.commit s.entries.items s.sums.sums s.whole s.tried s.shaped kept front gone c.args.keep taken fits c.requires amount) (room h s.page_size s.commit s.entries.items s.sums.sums s.whole s.tried s.shaped kept front gone c.args.keep taken fits c.requires amount) in
+      let done = c.in-Ok.ensures.done honest (old_image h s.page_size s.commit s.entries.items s.sums.sums s.whole s.tried s.shaped kept front gone c.args.keep taken fits c.requires amount) (old_files h s.page_size s.commit s.entries.items s.sums.sums s.whole s.tried s.shaped kept front gone c.args.keep taken fits c.requires amount) kept.rest (ascends h s.page_size s.commit s.entries.items s.sums.sums s.whole s.tried s.shaped kept front gone c.args.keep taken fits c.requires amount) (named h s.page_size s.commit s.entries.items s.sums.sums s.whole s.tried s.shaped kept front gone c.args.keep taken fits c.requires amount) (room h s.page_size s.commit s.entries.items s.sums.sums s.whole s.tried s.shaped kept front gone c.args.keep taken fits c.requires amount) in
+      rw (c.forget_front.ensures, c.if-self.false) (left_done h s.page_size s.commit s.entries.items s.sums.sums s.whole s.tried s.shaped kept front gone c.args.keep taken fits c.requires amount new runs done);
 }
 
 pub invariant_of-self-in-Err : goal.invariant_of-self-in-Err
 invariant_of-self-in-Err g c = record {
   shaped = c.args.self.now.shaped;
   kept = λ still.
-    let honest = sym c.remove_files.ensures.honest ∙ still in
-    let s = c.args.self.now in
-    let h = g.D.Disk.history s.disk in
-    let new = g.D.Disk.history c.remove_files.new.disk in
-    let kept : IsStore h s.page_size s.commit s.entries.items s.sums.sums false s.whole s.tried =
-    subst (λ (b : Bool). IsStore h s.page_size s.commit s.entries.items s.sums.sums b s.whole s.tried) c.if-self.false (s.kept honest) in
-    let gone : ℕ = c.saturating_sub-gone.result in
-    let front : List Entry = c.split_at.result.0.now in
-    let taken : front ≡ take gone s.entries.items = c.split_at.ensures.front ∙ ap (λ (es : List Entry). take gone es) c.as_slice.ensures.value in
-    let amount : gone ≡ length s.entries.items - c.args.keep = omega (arith, c.saturating_sub-gone.ensures, c.len.ensures) in
-    let fits : gone < length s.entries.items = omega (arith, amount, c.if-gone-eq0.false, c.requires) in
-    let runs = c.remove_files.ensures.moments honest (old_image h s.page_size s.commit s.entries.items s.sums.sums s.whole s.tried s.shaped kept front gone c.args.keep taken fits c.requires amount) (old_files h s.page_size s.commit s.entries.items s.sums.sums s.whole s.tried s.shaped kept front gone c.args.keep taken fits c.requires amount) kept.rest (ascends h s.page_size s.commit s.entries.items s.sums.sums s.whole s.tried s.shaped kept front gone c.args.keep taken fits c.requires amount) (named h s.page_size s.commit s.entries.items s.sums.sums s.whole s.tried s.shaped kept front gone c.args.keep taken fits c.requires amount) (room h s.page_size s.commit s.entries.items s.sums.sums s.whole s.tried s.shaped kept front gone c.args.keep taken fits c.requires amount) in
-    rw (c.moment-self.ensures) (broken s.page_size s.commit s.entries.items s.sums.sums h new runs.past s.whole s.tried h.moment runs.later runs.later kept);
+      let honest = sym c.remove_files.ensures.honest ∙ still in
+      let s = c.args.self.now in
+      let h = g.D.Disk.history s.disk in
+      let new = g.D.Disk.history c.remove_files.new.disk in
+      let kept : IsStore h s.page_size s.commit s.entries.items s.sums.sums false s.whole s.tried =
+      subst (λ (b : Bool). IsStore h s.page_size s.commit s.entries.items s.sums.sums b s.whole s.tried) c.if-self.false (s.kept honest) in
+      let gone : ℕ = c.saturating_sub-gone.result in
+      let front : List Entry = c.split_at.result.0.now in
+      let taken : front ≡ take gone s.entries.items = c.split_at.ensures.front ∙ ap (λ (es : List Entry). take gone es) c.as_slice.ensures.value in
+      let amount : gone ≡ length s.entries.items - c.args.keep = omega (arith, c.saturating_sub-gone.ensures, c.len.ensures) in
+      let fits : gone < length s.entries.items = omega (arith, amount, c.if-gone-eq0.false, c.requires) in
+      let runs = c.remove_files.ensures.moments honest (old_image h s.page_size s.commit s.entries.items s.sums.sums s.whole s.tried s.shaped kept front gone c.args.keep taken fits c.requires amount) (old_files h s.page_size s.commit s.entries.items s.sums.sums s.whole s.tried s.shaped kept front gone c.args.keep taken fits c.requires amount) kept.rest (ascends h s.page_size s.commit s.entries.items s.sums.sums s.whole s.tried s.shaped kept front gone c.args.keep taken fits c.requires amount) (named h s.page_size s.commit s.entries.items s.sums.sums s.whole s.tried s.shaped kept front gone c.args.keep taken fits c.requires amount) (room h s.page_size s.commit s.entries.items s.sums.sums s.whole s.tried s.shaped kept front gone c.args.keep taken fits c.requires amount) in
+      rw (c.moment-self.ensures) (broken s.page_size s.commit s.entries.items s.sums.sums h new runs.past s.whole s.tried h.moment runs.later runs.later kept);
   left = λ still.
-    let honest = sym c.remove_files.ensures.honest ∙ still in
-    let s = c.args.self.now in
-    let h = g.D.Disk.history s.disk in
-    let new = g.D.Disk.history c.remove_files.new.disk in
-    let kept : IsStore h s.page_size s.commit s.entries.items s.sums.sums false s.whole s.tried =
-    subst (λ (b : Bool). IsStore h s.page_size s.commit s.entries.items s.sums.sums b s.whole s.tried) c.if-self.false (s.kept honest) in
-    let gone : ℕ = c.saturating_sub-gone.result in
-    let front : List Entry = c.split_at.result.0.now in
-    let taken : front ≡ take gone s.entries.items = c.split_at.ensures.front ∙ ap (λ (es : List Entry). take gone es) c.as_slice.ensures.value in
-    let amount : gone ≡ length s.entries.items - c.args.keep = omega (arith, c.saturating_sub-gone.ensures, c.len.ensures) in
-    let fits : gone < length s.entries.items = omega (arith, amount, c.if-gone-eq0.false, c.requires) in
-    let runs = c.remove_files.ensures.moments honest (old_image h s.page_size s.commit s.entries.items s.sums.sums s.whole s.tried s.shaped kept front gone c.args.keep taken fits c.requires amount) (old_files h s.page_size s.commit s.entries.items s.sums.sums s.whole s.tried s.shaped kept front gone c.args.keep taken fits c.requires amount) kept.rest (ascends h s.page_size s.commit s.entries.items s.sums.sums s.whole s.tried s.shaped kept front gone c.args.keep taken fits c.requires amount) (named h s.page_size s.commit s.entries.items s.sums.sums s.whole s.tried s.shaped kept front gone c.args.keep taken fits c.requires amount) (room h s.page_size s.commit s.entries.items s.sums.sums s.whole s.tried s.shaped kept front gone c.args.keep taken fits c.requires amount) in
-    rw (c.moment-self.ensures) (left_in h s.page_size s.commit s.entries.items s.sums.sums s.whole s.tried s.shaped kept front gone c.args.keep taken fits c.requires amount new runs);
+      let honest = sym c.remove_files.ensures.honest ∙ still in
+      let s = c.args.self.now in
+      let h = g.D.Disk.history s.disk in
+      let new = g.D.Disk.history c.remove_files.new.disk in
+      let kept : IsStore h s.page_size s.commit s.entries.items s.sums.sums false s.whole s.tried =
+      subst (λ (b : Bool). IsStore h s.page_size s.commit s.entries.items s.sums.sums b s.whole s.tried) c.if-self.false (s.kept honest) in
+      let gone : ℕ = c.saturating_sub-gone.result in
+      let front : List Entry = c.split_at.result.0.now in
+      let taken : front ≡ take gone s.entries.items = c.split_at.ensures.front ∙ ap (λ (es : List Entry). take gone es) c.as_slice.ensures.value in
+      let amount : gone ≡ length s.entries.items - c.args.keep = omega (arith, c.saturating_sub-gone.ensures, c.len.ensures) in
+      let fits : gone < length s.entries.items = omega (arith, amount, c.if-gone-eq0.false, c.requires) in
+      let runs = c.remove_files.ensures.moments honest (old_image h s.page_size s.commit s.entries.items s.sums.sums s.whole s.tried s.shaped kept front gone c.args.keep taken fits c.requires amount) (old_files h s.page_size s.commit s.entries.items s.sums.sums s.whole s.tried s.shaped kept front gone c.args.keep taken fits c.requires amount) kept.rest (ascends h s.page_size s.commit s.entries.items s.sums.sums s.whole s.tried s.shaped kept front gone c.args.keep taken fits c.requires amount) (named h s.page_size s.commit s.entries.items s.sums.sums s.whole s.tried s.shaped kept front gone c.args.keep taken fits c.requires amount) (room h s.page_size s.commit s.entries.items s.sums.sums s.whole s.tried s.shaped kept front gone c.args.keep taken fits c.requires amount) in
+      rw (c.moment-self.ensures) (left_in h s.page_size s.commit s.entries.items s.sums.sums s.whole s.tried s.shaped kept front gone c.args.keep taken fits c.requires amount new runs);
 }
 
 pub returns-in-Ok-clause-went : goal.returns-in-Ok-clause-went
