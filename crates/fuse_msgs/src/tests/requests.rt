@@ -20,7 +20,7 @@ const ROWS: [Row; 22] = [
     // LOOKUP
     Row {
         message: b"2c000000 01000000 8877665544332211 0200000000000000 e8030000 64000000 92100000 00000000 61707000",
-        whole: b"Lookup { name: Bytes { inside: [97, 112, 112] } }",
+        whole: b"Lookup { name: [97, 112, 112] }",
         longer: b"NameText",
         shorter: b"NameText",
     },
@@ -62,7 +62,7 @@ const ROWS: [Row; 22] = [
     // UNLINK
     Row {
         message: b"34000000 0a000000 8877665544332211 0200000000000000 e8030000 64000000 92100000 00000000 6170702d6a6f75726e616c00",
-        whole: b"Unlink { name: Bytes { inside: [97, 112, 112, 45, 106, 111, 117, 114, 110, 97, 108] } }",
+        whole: b"Unlink { name: [97, 112, 112, 45, 106, 111, 117, 114, 110, 97, 108] }",
         longer: b"NameText",
         shorter: b"NameText",
     },
@@ -90,14 +90,14 @@ const ROWS: [Row; 22] = [
     // WRITE
     Row {
         message: b"53000000 10000000 8877665544332211 0200000000000000 e8030000 64000000 92100000 00000000 0300000000000000000200000000000003000000020000000900000000000000ffffffffffffffff010203",
-        whole: b"Write { fh: 3, at: 512, owner: Some(9), bytes: Bytes { inside: [1, 2, 3] } }",
+        whole: b"Write { fh: 3, at: 512, owner: Some(9), bytes: [1, 2, 3] }",
         longer: b"Body",
         shorter: b"Body",
     },
     // WRITE
     Row {
         message: b"53000000 10000000 8877665544332211 0200000000000000 e8030000 64000000 92100000 00000000 0300000000000000000200000000000003000000000000000900000000000000ffffffffffffffff010203",
-        whole: b"Write { fh: 3, at: 512, owner: None, bytes: Bytes { inside: [1, 2, 3] } }",
+        whole: b"Write { fh: 3, at: 512, owner: None, bytes: [1, 2, 3] }",
         longer: b"Body",
         shorter: b"Body",
     },
@@ -160,7 +160,7 @@ const ROWS: [Row; 22] = [
     // CREATE
     Row {
         message: b"40000000 23000000 8877665544332211 0200000000000000 e8030000 64000000 92100000 00000000 ffffffffffffffffffffffffffffffff6170702d77616c00",
-        whole: b"Create { name: Bytes { inside: [97, 112, 112, 45, 119, 97, 108] } }",
+        whole: b"Create { name: [97, 112, 112, 45, 119, 97, 108] }",
         longer: b"NameText",
         shorter: b"NameText",
     },
