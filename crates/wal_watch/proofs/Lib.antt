@@ -8,6 +8,7 @@ pub mod StayLemmas
 pub mod WriteLemmas
 pub mod ChangeLemmas
 pub mod TakenLemmas
+pub mod SoFarLemmas
 pub mod IndexLemmas
 pub mod CheckLemmas
 pub mod CutLemmas

@@ -20,11 +20,11 @@ use Rattle.wal_watch.proofs.Steps.{valid_more}
 use Rattle.wal_watch.proofs.ChangeLemmas.{latest_other, latest_none, latest_among, change_data, change_lock, change_here, change_other, change_none, no_pages, pages_next, pages_end}
 
 -- a page within the commit, and one past it
-within_is : (text : List ℕ) (commit first n page : ℕ) → page ≤ commit → frame_within text commit first n page ≡ change_frame text page first n
+pub within_is : (text : List ℕ) (commit first n page : ℕ) → page ≤ commit → frame_within text commit first n page ≡ change_frame text page first n
 unfolding frame_within
 within_is text commit first n page le = cond-true _ _ _ (le-leb page commit le)
 
-past_is : (text : List ℕ) (commit first n page : ℕ) → commit < page → frame_within text commit first n page ≡ None
+pub past_is : (text : List ℕ) (commit first n page : ℕ) → commit < page → frame_within text commit first n page ≡ None
 unfolding frame_within
 past_is text commit first n page past = cond-false _ _ _ (lt-leb page commit past)
 
@@ -45,38 +45,11 @@ within_start text commit first pages empty = record {
 }
 
 -- a key that is another
-other_key : (a b : ℕ) → (a ≡ b → ⊥) → is_eq (nat_cmp a b) ≡ false
+pub other_key : (a b : ℕ) → (a ≡ b → ⊥) → is_eq (nat_cmp a b) ≡ false
 other_key a b other = elim (cases_Bool (nat_lt a b)) [
   | inl below ↦ ap (λ (o : Ordering). is_eq o) (cond-true (nat_lt a b) Less (cond (a == b) Equal Greater) below)
   | inr above ↦ ap (λ (o : Ordering). is_eq o) (cond-false (nat_lt a b) Less (cond (a == b) Equal Greater) above ∙ cond-false (a == b) Equal Greater (ne_eqb a b other))
 ]
-
--- a frame of a data page within the commit goes into the map
-pub within_more : (text : List ℕ) (commit first k page lock : ℕ) (old new : BTreeMap ℕ ℕ) → HoldsPages text commit first k old → first ≤ k → page ≡ number_in text k
-    → page ≤ commit → lock ≡ lock_page_of (page_size_in text) → (page ≡ lock → ⊥) → Updates nat_cmp old new page (Some k) → HoldsPages text commit first (k + 1) new
-within_more text commit first k page lock old new h from is le lock-is other put = record {
-  at = λ q. elim (cases_eq page q) [
-    | inl same ↦ rw (← same) (put.1 ∙ sym (within_is text commit first (k + 1) page le ∙ change_here text page first k from (λ on. other (on ∙ sym lock-is)) (sym is)))
-    | inr apart ↦
-        put.2 q (other_key page q apart) ∙ h.at q ∙ sym (elim (cases_lt commit q) [
-          | inl past ↦ past_is text commit first (k + 1) q past ∙ sym (past_is text commit first k q past)
-          | inr low ↦ within_is text commit first (k + 1) q low ∙ change_other text q first k (λ own. absurd (apart (is ∙ own))) ∙ sym (within_is text commit first k q low)
-        ])
-  ];
-}
-
--- another frame is passed over
-pub within_same : (text : List ℕ) (commit first k page lock : ℕ) (pages : BTreeMap ℕ ℕ) → HoldsPages text commit first k pages → page ≡ number_in text k
-    → lock ≡ lock_page_of (page_size_in text) → (page ≤ commit → page ≡ lock) → HoldsPages text commit first (k + 1) pages
-within_same text commit first k page lock pages h is lock-is out = record {
-  at = λ q. h.at q ∙ sym (elim (cases_lt commit q) [
-    | inl past ↦ past_is text commit first (k + 1) q past ∙ sym (past_is text commit first k q past)
-    | inr low ↦
-        within_is text commit first (k + 1) q low
-        ∙ change_other text q first k (λ own. sym own ∙ sym is ∙ out (let page-is : page ≡ q = is ∙ own in omega (arith, page-is, low)) ∙ lock-is)
-        ∙ sym (within_is text commit first k q low)
-  ]);
-}
 
 -- no committed frame holds page 0
 head_numbered : (text : List ℕ) (place : ℕ) → is_head text place ≡ true → be32_at place text ≡ 0 → ⊥

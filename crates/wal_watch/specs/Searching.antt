@@ -5,7 +5,7 @@ use Rattle.std.specs.Ordering.{nat_cmp}
 use Rattle.lf_sqlite_pages.specs.Change.{PageChange, last_number}
 use Rattle.lf_sqlite_pages.specs.LockPage.{IsDataPage}
 use Rattle.wal_watch.specs.Frames.{page_size_in}
-use Rattle.wal_watch.specs.News.{change_frame, latest_pages}
+use Rattle.wal_watch.specs.News.{latest_frame, change_frame, latest_pages}
 
 -- the frame that a change takes a page from, of the pages up to a count
 unfoldable pub frame_within : List ℕ → ℕ → ℕ → ℕ → ℕ → Option ℕ
@@ -14,6 +14,17 @@ frame_within text commit first n page = if nat_le page commit then change_frame 
 -- the map has each page that the frames from first on, among the first n, hold, with the latest frame of it
 pub record HoldsPages (text : List ℕ) (commit first n : ℕ) (pages : BTreeMap ℕ ℕ) : Type 0 where
   pub at : (page : ℕ) → get nat_cmp pages page ≡ frame_within text commit first n page
+
+-- a frame stands before another, where there is one
+abbrev pub IsBefore : ℕ → Option ℕ → Type 0
+IsBefore k None = ⊥
+IsBefore k (Some l) = k < l
+
+-- the map has each page that the frames from first on, among the first n, hold, with the latest frame of it, but no page of
+-- which the indexed frames have one that is still to come
+pub record HoldsSoFar (text : List ℕ) (commit first n indexed : ℕ) (pages : BTreeMap ℕ ℕ) : Type 0 where
+  pub coming : (page l : ℕ) → latest_frame text page 0 indexed ≡ Some l → n ≤ l → get nat_cmp pages page ≡ None
+  pub at : (page : ℕ) → ((l : ℕ) → latest_frame text page 0 indexed ≡ Some l → l < n) → get nat_cmp pages page ≡ frame_within text commit first n page
 
 -- the frames from first on, among the first n, hold no page between two numbers
 pub record HoldsNone (text : List ℕ) (first n above below : ℕ) : Type 0 where

@@ -1,23 +1,36 @@
 //! The change that committed frames make.
-ghost use Rattle.std.specs.Prelude.{◌≡◌, ◌-◌, ◌≤◌, ◌<◌, ◌^◌, length, IfOk};
+ghost use Rattle.std.specs.Prelude.{◌≡◌, ◌-◌, ◌≤◌, ◌<◌, ◌^◌, ◌↔◌, length, IsTrue, IfOk};
 ghost use Rattle.lf_sqlite_pages.specs.Change.{empty_change};
 ghost use Rattle.wal_watch.specs.Frames.{frame_place, page_size_in, size_in, committed_count};
 ghost use Rattle.wal_watch.specs.News.{change_of, change_from, news_change};
 ghost use Rattle.wal_watch.specs.Scanning.{HasCommitted};
-ghost use Rattle.wal_watch.specs.Searching.{HoldsPages};
+ghost use Rattle.wal_watch.specs.Indexing.{indexed, IsIndex};
+ghost use Rattle.wal_watch.specs.Searching.{HoldsPages, IsBefore};
 
 use crate::frames::{fill_page, number_in, size_in};
+use crate::index::FrameIndex;
 use crate::news::WalNews;
 use lf_base::NoMemory;
 use lf_sqlite_pages::{Blocks, Change, lock_page};
 use std::alloc::Global;
 use std::collections::BTreeMap;
 
+/// Whether a frame stands before another, where there is one.
+fn is_before(frame: usize, other: Option<usize>) -> bool
+    ensures { IsTrue result ↔ IsBefore frame other }
+{
+    match other {
+        Some(other) => frame < other,
+        None => false,
+    }
+}
+
 /// The data pages within `commit` that the frames from `first` to `count` hold, each with the latest
-/// frame of it.
+/// frame of it. A frame that the index knows a later one of is passed over.
 fn pages_held(
     alloc: Global,
     text: &Blocks,
+    index: &FrameIndex,
     first: usize,
     count: usize,
     page_size: u32,
@@ -28,13 +41,16 @@ fn pages_held(
     requires room { frame_place text.now.bytes count ≤ length text.now.bytes }
     requires short { length text.now.bytes < 2 ^ 62 }
     requires order { first ≤ count }
+    requires index { IsIndex text.now.bytes index.now }
+    requires few { indexed index.now ≤ count }
     ensures { IfOk result (HoldsPages text.now.bytes commit first count) }
 {
     let lock = lock_page(page_size);
     let mut pages = BTreeMap::new(alloc);
     for frame in first..count {
         let page = number_in(text, page_size, frame);
-        if page <= commit && page != lock {
+        let latest = index.latest(page);
+        if page <= commit && page != lock && !is_before(frame, latest) {
             pages.insert(page, frame)?;
         }
     }
@@ -45,6 +61,7 @@ fn pages_held(
 fn change_by(
     alloc: Global,
     text: &Blocks,
+    index: &FrameIndex,
     first: usize,
     count: usize,
     mut change: Change,
@@ -55,11 +72,13 @@ fn change_by(
     requires order { first ≤ count }
     requires empty { change ≡ empty_change (page_size_in text.now.bytes) (size_in text.now.bytes (count - 1)) }
     requires buffer { length page.old ≡ page_size_in text.now.bytes }
+    requires index { IsIndex text.now.bytes index.now }
+    requires few { indexed index.now ≤ count }
     ensures { IfOk result (λ change. change ≡ change_of text.now.bytes first count) }
 {
     let page_size = change.page_size();
     let commit = change.commit();
-    let mut pages = pages_held(alloc, text, first, count, page_size, commit)?;
+    let mut pages = pages_held(alloc, text, index, first, count, page_size, commit)?;
     while let Some((number, frame)) = pages.pop_first() {
         fill_page(text, page_size, frame, page);
         change.push(number, page)?;
@@ -71,6 +90,7 @@ fn change_by(
 pub fn news_from(
     alloc: Global,
     text: &Blocks,
+    index: &FrameIndex,
     page_size: u32,
     first: usize,
     count: usize,
@@ -78,6 +98,8 @@ pub fn news_from(
     requires count { count ≡ committed_count text.now.bytes }
     requires size { 0 < count → page_size ≡ page_size_in text.now.bytes }
     requires short { length text.now.bytes < 2 ^ 62 }
+    requires index { IsIndex text.now.bytes index.now }
+    requires few { indexed index.now ≤ count }
     ensures { IfOk result (λ news. news_change news ≡ change_from first text.now.bytes) }
 {
     if first >= count {
@@ -86,7 +108,7 @@ pub fn news_from(
     let commit = size_in(text, page_size, count - 1);
     let mut page = buffer(alloc, page_size as usize)?;
     let change = Change::new(alloc, page_size, commit);
-    let change = change_by(alloc, text, first, count, change, page.as_mut_slice())?;
+    let change = change_by(alloc, text, index, first, count, change, page.as_mut_slice())?;
     Ok(WalNews::Committed(change))
 }
 

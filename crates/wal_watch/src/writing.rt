@@ -58,7 +58,14 @@ impl WalFile {
         ensures { IfOk result (λ news. news_change news ≡ change_from first (text_of self.now)) }
     {
         let _limit = self.text.len();
-        news_from(alloc, &self.text, self.page_size(), first, self.committed())
+        news_from(
+            alloc,
+            &self.text,
+            &self.index,
+            self.page_size(),
+            first,
+            self.committed(),
+        )
     }
 
     /// Writes bytes at a place and tells what they commit; a gap holds zeros. `page_size` is that of
