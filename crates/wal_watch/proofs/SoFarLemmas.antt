@@ -112,25 +112,25 @@ so_far_same text commit first k indexed page pages h is out = record {
   at = λ q late.
       let of_page : number_in text k ≡ q → page ≡ q = λ own. is ∙ own in
       let out_of : page ≡ q → q ≤ commit → (q ≡ lock_page_of (page_size_in text) → ⊥) → IsBefore k (latest_frame text q 0 indexed) =
-          λ same low apart. rw (← same) (out (omega (arith, same, low)) (λ lock. apart (sym same ∙ lock))) in
+      λ same low apart. rw (← same) (out (omega (arith, same, low)) (λ lock. apart (sym same ∙ lock))) in
       elim (split (latest_frame text q 0 indexed)) [
         | inl none ↦
             h.at q (λ l known. absurd (let both : None ≡ Some l = sym none ∙ known in cc))
             ∙ sym (step_over text commit first k q (λ own low apart.
-                never_before k _ none (out_of (of_page own) low apart)))
+            never_before k _ none (out_of (of_page own) low apart)))
         | inr (l, known) ↦ elim (cases_eq l k) [
           | inl at_k ↦
               let here : latest_frame text q 0 indexed ≡ Some k = known ∙ ap (λ (m : ℕ). Some m) at_k in
               let same : page ≡ q = is ∙ latest_holds text q 0 indexed k here in
               h.coming q k here (omega arith) ∙ sym (not_taken text commit first (k + 1) q (λ low apart.
-                  let before : k < k = before_some k k _ here (out_of same low apart) in
-                  omega (arith, before)))
+              let before : k < k = before_some k k _ here (out_of same low apart) in
+              omega (arith, before)))
           | inr other ↦
               let below : l < k = omega (arith, late l known, other) in
               h.at q (λ m known'. let both : Some l ≡ Some m = sym known ∙ known' in let eq : l ≡ m = cc in omega (arith, eq, below))
               ∙ sym (step_over text commit first k q (λ own low apart.
-                  let before : k < l = before_some k l _ known (out_of (of_page own) low apart) in
-                  omega (arith, before, below)))
+              let before : k < l = before_some k l _ known (out_of (of_page own) low apart) in
+              omega (arith, before, below)))
         ]
       ];
 }

@@ -108,7 +108,15 @@ pub fn news_from(
     let commit = size_in(text, page_size, count - 1);
     let mut page = buffer(alloc, page_size as usize)?;
     let change = Change::new(alloc, page_size, commit);
-    let change = change_by(alloc, text, index, first, count, change, page.as_mut_slice())?;
+    let change = change_by(
+        alloc,
+        text,
+        index,
+        first,
+        count,
+        change,
+        page.as_mut_slice(),
+    )?;
     Ok(WalNews::Committed(change))
 }
 

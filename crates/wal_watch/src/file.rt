@@ -11,7 +11,7 @@ ghost use Rattle.wal_watch.specs.Scanning.{AreMarks, IsMarked};
 use crate::check::{WAL_LIMIT, keeps};
 use crate::fault::WalFault;
 use crate::index::FrameIndex;
-use crate::scan::{Marks, committed_in, marks_of, page_size_of};
+use crate::scan::{Marks, committed_in, marks_of, page_size_of, valid_in};
 use lf_base::NoMemory;
 use lf_sqlite_pages::Blocks;
 use std::alloc::Global;
@@ -140,16 +140,17 @@ impl WalFile {
         Ok(())
     }
 
-    /// Makes room in the index for the frames that a write of so many bytes may complete, and adds the
-    /// committed ones that it lacks.
+    /// Makes room in the index for the valid frames that it lacks and those that a write of so many bytes
+    /// may complete, and adds the committed ones that it lacks.
     fn make_index_room(&mut self, count: usize) -> Result<(), NoMemory>
         requires { count ≤ wal_limit }
         ensures { self.new ≡ self.old }
     {
         let _limit = self.text.len();
         let committed = self.committed();
-        let lacking = committed - self.index.len();
-        self.index.reserve(lacking + count / LEAST_FRAME + 1)?;
+        let lacking = valid_in(self.marks).saturating_sub(self.index.len());
+        self.index
+            .reserve(lacking.saturating_add(count / LEAST_FRAME + 1))?;
         self.index
             .extend(&self.text, page_size_of(self.marks), committed);
         Ok(())

@@ -196,6 +196,17 @@ pub fn marks_of(blocks: &Blocks, len: usize, from: Option<Marks>) -> Option<Mark
     }
 }
 
+/// How many frames were found valid.
+pub fn valid_in(marks: Option<Marks>) -> usize
+    ensures none { IfNone marks (result ≡ 0) }
+    ensures some { IfSome marks (λ marks. result ≡ marks.last.frames) }
+{
+    match marks {
+        None => 0,
+        Some(marks) => marks.last.frames,
+    }
+}
+
 /// How many frames are committed.
 pub fn committed_in(marks: Option<Marks>) -> usize
     ensures count { (text : List ℕ) → IsMarked text marks → result ≡ committed_count text }
