@@ -2,6 +2,7 @@ pub mod Change
 pub mod Crash
 pub mod Folder
 pub mod History
+pub mod Kept
 pub mod Laws
 pub mod ListFault
 pub mod MemDisk

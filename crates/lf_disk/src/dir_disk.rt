@@ -6,6 +6,7 @@ ghost use Rattle.lf_base.specs.Faults.{Rose, CountsFaults};
 ghost use Rattle.lf_disk.specs.History.{untold};
 
 mod folder;
+mod kept;
 
 use crate::disk::Disk;
 use crate::list_fault::ListFault;
@@ -20,8 +21,9 @@ use std::rt::Files;
 const LAST_MOMENT: u64 = 1 << 62;
 
 /// The files `database`, `staged`, `snapshot.ltx`, `dropped` and `ltx/MIN-MAX.ltx` of a folder, where
-/// MIN and MAX have 16 digits in base 16. Each call opens its file anew. After a name was made, given or
-/// taken away, the folder that has it is synced.
+/// MIN and MAX have 16 digits in base 16. `database` and `staged` are opened at their first use and stay
+/// open until their name is given or taken away; each other file is opened by each call. After a name was
+/// made, given or taken away, the folder that has it is synced, but for the making of `staged`.
 #[derive(Drop)]
 pub struct DirDisk<R: Files<File = File> + AllocGlobal + Copy> {
     folder: Folder<R>,

@@ -1,4 +1,5 @@
 mod crashes;
+mod handles;
 
 use crate::{DirDisk, Disk, FileName, ListFault, MemDisk};
 use lf_base::Failed;

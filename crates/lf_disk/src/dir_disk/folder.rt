@@ -1,6 +1,8 @@
 //! The calls of the system.
 ghost use Rattle.std.specs.Prelude.{◌≤◌, length, IfOk};
+ghost use Rattle.lf_disk.specs.Kept.{IsClosed};
 
+use super::kept::Kept;
 use crate::name::FileName;
 use lf_base::read_hex16;
 use std::alloc::{AllocError, Global};
@@ -9,17 +11,20 @@ use std::io::{self, ErrorKind};
 use std::os::unix::fs::FileExt;
 use std::rt::Files;
 
-/// A folder with its path.
+/// A folder with its path, and with the handles of its database file and its staged file. Where a call
+/// failed, its file is opened anew by the next one.
 #[derive(Drop)]
 pub(super) struct Folder<R: Files<File = File> + AllocGlobal + Copy> {
     rt: R,
     path: String,
+    kept: Kept,
 }
 
 impl<R: Files<File = File> + AllocGlobal + Copy> Folder<R> {
     pub(super) fn open(rt: R, path: &str) -> io::Result<Folder<R>> {
         let path = String::from_str(rt.alloc(), path)?;
-        let folder = Folder { rt, path };
+        let kept = Kept::new();
+        let folder = Folder { rt, path, kept };
         let transactions = folder.path_of("/ltx")?;
         make_folders(&rt, transactions.as_str())?;
         folder.sync_names("/ltx")?;
@@ -54,16 +59,11 @@ impl<R: Files<File = File> + AllocGlobal + Copy> Folder<R> {
         folder.sync_all()
     }
 
-    /// Syncs the folder that has this name.
-    fn sync_name(&self, name: FileName) -> io::Result<()> {
-        match name {
-            FileName::Ltx { .. } => self.sync_names("/ltx"),
-            _ => self.sync_names(""),
-        }
-    }
-
     /// The length of a file, None where there is none.
     pub(super) fn size(&self, name: FileName) -> io::Result<Option<u64>> {
+        if let Some(file) = self.kept.get(name) {
+            return Ok(Some(file.metadata()?.len()));
+        }
         let path = self.path_to(name)?;
         match fs::metadata(&self.rt, path.as_str()) {
             Ok(metadata) => Ok(Some(metadata.len())),
@@ -72,8 +72,11 @@ impl<R: Files<File = File> + AllocGlobal + Copy> Folder<R> {
         }
     }
 
-    /// Opens a file to write, None where there is none.
-    fn file(&self, name: FileName) -> io::Result<Option<File>> {
+    /// Takes the handle of a file that is kept, and else opens it. None where there is no file.
+    fn file(&mut self, name: FileName) -> io::Result<Option<File>> {
+        if let Some(file) = self.kept.take(name) {
+            return Ok(Some(file));
+        }
         let path = self.path_to(name)?;
         let mut options = OpenOptions::new();
         options.read(true).write(true);
@@ -84,8 +87,8 @@ impl<R: Files<File = File> + AllocGlobal + Copy> Folder<R> {
         }
     }
 
-    /// Opens a file to write, and makes it where there is none.
-    fn file_or_new(&self, name: FileName) -> io::Result<File> {
+    /// The same, but it makes a file where there is none.
+    fn file_or_new(&mut self, name: FileName) -> io::Result<File> {
         if let Some(file) = self.file(name)? {
             return Ok(file);
         }
@@ -93,60 +96,80 @@ impl<R: Files<File = File> + AllocGlobal + Copy> Folder<R> {
         let mut options = OpenOptions::new();
         options.read(true).write(true).create(true);
         let file = options.open(&self.rt, path.as_str())?;
-        self.sync_name(name)?;
+        self.sync_new(name)?;
         Ok(file)
     }
 
+    /// Syncs the name of a new file. That of a staged file is synced where it is renamed.
+    fn sync_new(&self, name: FileName) -> io::Result<()> {
+        match name {
+            FileName::Staged => Ok(()),
+            _ => self.sync_names(folder_of(name)),
+        }
+    }
+
     /// Reads until `out` is full or the file ends. A file that isn't there has no bytes.
-    pub(super) fn read(&self, name: FileName, at: u64, out: &mut [u8]) -> io::Result<usize>
+    pub(super) fn read(&mut self, name: FileName, at: u64, out: &mut [u8]) -> io::Result<usize>
         ensures { IfOk result (λ n. n ≤ length out.new) }
     {
         let Some(file) = self.file(name)? else {
             return Ok(0);
         };
-        let mut count = 0;
-        while count < out.len() {
-            let more = file.read_at(&mut out[count..], at.saturating_add(count as u64))?;
-            if more == 0 {
-                break;
-            }
-            count += more;
-        }
+        let count = read_from(&file, at, out)?;
+        self.kept.keep(name, file);
         Ok(count)
     }
 
     /// Writes all bytes. Without any, it makes sure that the file is there and as long as `at`.
-    pub(super) fn write(&self, name: FileName, at: u64, bytes: &[u8]) -> io::Result<()> {
+    pub(super) fn write(&mut self, name: FileName, at: u64, bytes: &[u8]) -> io::Result<()> {
         let file = self.file_or_new(name)?;
-        if bytes.is_empty() && file.metadata()?.len() < at {
-            return file.set_len(at);
-        }
-        file.write_all_at(bytes, at)
+        write_to(&file, at, bytes)?;
+        self.kept.keep(name, file);
+        Ok(())
     }
 
-    pub(super) fn cut(&self, name: FileName, len: u64) -> io::Result<()> {
-        self.file_or_new(name)?.set_len(len)
+    pub(super) fn cut(&mut self, name: FileName, len: u64) -> io::Result<()> {
+        let file = self.file_or_new(name)?;
+        file.set_len(len)?;
+        self.kept.keep(name, file);
+        Ok(())
     }
 
-    pub(super) fn sync(&self, name: FileName) -> io::Result<()> {
-        match self.file(name)? {
-            Some(file) => file.sync_all(),
-            None => Ok(()),
-        }
+    /// Syncs the bytes of a file and its length.
+    pub(super) fn sync(&mut self, name: FileName) -> io::Result<()> {
+        let Some(file) = self.file(name)? else {
+            return Ok(());
+        };
+        file.sync_data()?;
+        self.kept.keep(name, file);
+        Ok(())
     }
 
-    pub(super) fn rename(&self, from: FileName, to: FileName) -> io::Result<()> {
+    /// Closes what is kept of both names, and syncs each folder that has one of them once.
+    pub(super) fn rename(&mut self, from: FileName, to: FileName) -> io::Result<()>
+        ensures from { IsClosed from self.new.kept }
+        ensures to { IsClosed to self.new.kept }
+    {
+        let _ = self.kept.take(from);
+        let _ = self.kept.take(to);
         let old = self.path_to(from)?;
         let new = self.path_to(to)?;
         fs::rename(&self.rt, old.as_str(), new.as_str())?;
-        self.sync_name(to)?;
-        self.sync_name(from)
+        self.sync_names(folder_of(to))?;
+        if folder_of(from) == folder_of(to) {
+            return Ok(());
+        }
+        self.sync_names(folder_of(from))
     }
 
-    pub(super) fn remove(&self, name: FileName) -> io::Result<()> {
+    /// Closes what is kept of the name, and syncs the folder that had it.
+    pub(super) fn remove(&mut self, name: FileName) -> io::Result<()>
+        ensures { IsClosed name self.new.kept }
+    {
+        let _ = self.kept.take(name);
         let path = self.path_to(name)?;
         match fs::remove_file(&self.rt, path.as_str()) {
-            Ok(()) => self.sync_name(name),
+            Ok(()) => self.sync_names(folder_of(name)),
             Err(error) if error.kind() == ErrorKind::NotFound => Ok(()),
             Err(error) => Err(error),
         }
@@ -173,6 +196,37 @@ impl<R: Files<File = File> + AllocGlobal + Copy> Folder<R> {
         }
         Ok(names)
     }
+}
+
+/// Which folder has a name, by its path in the folder of them all.
+fn folder_of(name: FileName) -> &'static str {
+    match name {
+        FileName::Ltx { .. } => "/ltx",
+        _ => "",
+    }
+}
+
+/// Reads until `out` is full or the file ends.
+fn read_from(file: &File, at: u64, out: &mut [u8]) -> io::Result<usize>
+    ensures { IfOk result (λ n. n ≤ length out.new) }
+{
+    let mut count = 0;
+    while count < out.len() {
+        let more = file.read_at(&mut out[count..], at.saturating_add(count as u64))?;
+        if more == 0 {
+            break;
+        }
+        count += more;
+    }
+    Ok(count)
+}
+
+/// Writes all bytes. Without any, it makes the file as long as `at` where it is shorter.
+fn write_to(file: &File, at: u64, bytes: &[u8]) -> io::Result<()> {
+    if bytes.is_empty() && file.metadata()?.len() < at {
+        return file.set_len(at);
+    }
+    file.write_all_at(bytes, at)
 }
 
 /// Makes the folders of a path that are missing, the outermost first.

@@ -1,0 +1,95 @@
+//! A folder whose files stay open while their names are given and taken away.
+use crate::{DirDisk, Disk, FileName, publish};
+use lf_base::Failed;
+use std::fs;
+use std::test::Fail;
+
+const DATABASE: FileName = FileName::Database;
+
+const STAGED: FileName = FileName::Staged;
+
+const FIRST: FileName = FileName::Ltx { min: 1, max: 1 };
+
+const SECOND: FileName = FileName::Ltx { min: 2, max: 2 };
+
+const FIRST_PATH: &str = "lf_disk_handles/ltx/0000000000000001-0000000000000001.ltx";
+
+const SECOND_PATH: &str = "lf_disk_handles/ltx/0000000000000002-0000000000000002.ltx";
+
+const STAGED_PATH: &str = "lf_disk_handles/staged";
+
+const DATABASE_PATH: &str = "lf_disk_handles/database";
+
+/// A call that changes a file or its name.
+#[derive(Drop)]
+enum Step {
+    Publish(FileName, &'static str),
+    Write(FileName, u64, &'static str),
+    Rename(FileName, FileName),
+    Remove(FileName),
+}
+
+fn take<D: Disk>(disk: &mut D, step: &Step) -> Result<(), Failed> {
+    match step {
+        Step::Publish(FileName::Staged, _) => Err(Failed),
+        Step::Publish(name, text) => publish(disk, *name, text.as_bytes()),
+        Step::Write(name, at, text) => disk.write(*name, *at, text.as_bytes()),
+        Step::Rename(from, to) => disk.rename(*from, *to),
+        Step::Remove(name) => disk.remove(*name),
+    }
+}
+
+/// After each step one file holds this.
+#[test]
+fn a_handle_goes_with_its_name(rt: HostRuntime) -> Result<(), Fail> {
+    let _ = fs::remove_dir_all(&rt, "lf_disk_handles");
+    let mut disk = DirDisk::open(rt, "lf_disk_handles").expect(&rt, "a folder");
+    for (step, path, want) in [
+        (Step::Publish(FIRST, "first"), FIRST_PATH, "first"),
+        (
+            Step::Publish(SECOND, "the second"),
+            SECOND_PATH,
+            "the second",
+        ),
+        (Step::Write(STAGED, 0, "third"), STAGED_PATH, "third"),
+        (Step::Remove(STAGED), FIRST_PATH, "first"),
+        (Step::Write(STAGED, 0, "4th"), STAGED_PATH, "4th"),
+        (Step::Write(DATABASE, 0, "old"), DATABASE_PATH, "old"),
+        (Step::Rename(STAGED, DATABASE), DATABASE_PATH, "4th"),
+        (Step::Write(DATABASE, 1, "5"), DATABASE_PATH, "45h"),
+        (Step::Write(STAGED, 0, "6"), DATABASE_PATH, "45h"),
+        (Step::Rename(DATABASE, STAGED), STAGED_PATH, "45h"),
+        (Step::Write(DATABASE, 0, "7"), STAGED_PATH, "45h"),
+        (Step::Write(STAGED, 0, "8"), DATABASE_PATH, "7"),
+        (Step::Remove(DATABASE), SECOND_PATH, "the second"),
+    ] {
+        assert!(&rt; take(&mut disk, &step).is_ok());
+        assert_eq!(&rt; fs::read_to_string(&rt, path)?.as_str(), want);
+    }
+    assert_eq!(&rt; disk.size(DATABASE), Ok(None));
+    assert_eq!(&rt; disk.size(STAGED), Ok(Some(3)));
+    fs::remove_dir_all(&rt, "lf_disk_handles")?;
+    Ok(())
+}
+
+/// What a file that is open holds after it was cut, read from an offset.
+#[test]
+fn an_open_file_is_cut(rt: HostRuntime) -> Result<(), Fail> {
+    let _ = fs::remove_dir_all(&rt, "lf_disk_cuts");
+    let mut disk = DirDisk::open(rt, "lf_disk_cuts").expect(&rt, "a folder");
+    assert_eq!(&rt; disk.write(DATABASE, 0, b"abcdef"), Ok(()));
+    for (len, at, count, want) in [
+        (4, 0, 4, *b"abcd...."),
+        (6, 3, 3, *b"d\0\0....."),
+        (0, 0, 0, *b"........"),
+        (2, 1, 1, *b"\0......."),
+    ] {
+        let mut out = [b'.'; 8];
+        assert_eq!(&rt; disk.cut(DATABASE, len), Ok(()));
+        assert_eq!(&rt; disk.size(DATABASE), Ok(Some(len)));
+        assert_eq!(&rt; disk.read(DATABASE, at, &mut out), Ok(count));
+        assert_eq!(&rt; out, want);
+    }
+    fs::remove_dir_all(&rt, "lf_disk_cuts")?;
+    Ok(())
+}
