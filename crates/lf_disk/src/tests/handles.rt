@@ -1,16 +1,13 @@
 //! A folder whose files stay open while their names are given and taken away.
 use crate::{DirDisk, Disk, FileName, publish};
 use lf_base::Failed;
-use std::fs;
+use std::fs::{self, File};
+use std::rt::Files;
 use std::test::Fail;
 
 const DATABASE: FileName = FileName::Database;
 
 const STAGED: FileName = FileName::Staged;
-
-const FIRST: FileName = FileName::Ltx { min: 1, max: 1 };
-
-const SECOND: FileName = FileName::Ltx { min: 2, max: 2 };
 
 const FIRST_PATH: &str = "lf_disk_handles/ltx/0000000000000001-0000000000000001.ltx";
 
@@ -23,16 +20,21 @@ const DATABASE_PATH: &str = "lf_disk_handles/database";
 /// A call that changes a file or its name.
 #[derive(Drop)]
 enum Step {
-    Publish(FileName, &'static str),
+    Publish(u64, &'static str),
     Write(FileName, u64, &'static str),
     Rename(FileName, FileName),
     Remove(FileName),
 }
 
-fn take<D: Disk>(disk: &mut D, step: &Step) -> Result<(), Failed> {
+fn take<R: Files<File = File> + AllocGlobal + Copy>(
+    disk: &mut DirDisk<R>,
+    step: &Step,
+) -> Result<(), Failed> {
     match step {
-        Step::Publish(FileName::Staged, _) => Err(Failed),
-        Step::Publish(name, text) => publish(disk, *name, text.as_bytes()),
+        Step::Publish(at, text) => {
+            let name = FileName::Ltx { min: *at, max: *at };
+            publish(disk, name, text.as_bytes())
+        }
         Step::Write(name, at, text) => disk.write(*name, *at, text.as_bytes()),
         Step::Rename(from, to) => disk.rename(*from, *to),
         Step::Remove(name) => disk.remove(*name),
@@ -45,12 +47,8 @@ fn a_handle_goes_with_its_name(rt: HostRuntime) -> Result<(), Fail> {
     let _ = fs::remove_dir_all(&rt, "lf_disk_handles");
     let mut disk = DirDisk::open(rt, "lf_disk_handles").expect(&rt, "a folder");
     for (step, path, want) in [
-        (Step::Publish(FIRST, "first"), FIRST_PATH, "first"),
-        (
-            Step::Publish(SECOND, "the second"),
-            SECOND_PATH,
-            "the second",
-        ),
+        (Step::Publish(1, "first"), FIRST_PATH, "first"),
+        (Step::Publish(2, "the second"), SECOND_PATH, "the second"),
         (Step::Write(STAGED, 0, "third"), STAGED_PATH, "third"),
         (Step::Remove(STAGED), FIRST_PATH, "first"),
         (Step::Write(STAGED, 0, "4th"), STAGED_PATH, "4th"),
