@@ -1,16 +1,16 @@
 -- The calls that publish a file.
-use Rattle.std.proofs.Common.{◌≡◌, inl, inr, ℕ, ◌≤◌, true, false, List, [], ◌∷◌, Some, Option, None, IsSome, length, Result, refl, sym, ◌∙◌, ap, subst, arith, option_map, unwrap_or}
+use Rattle.std.proofs.Common.{◌≡◌, inl, inr, ℕ, true, false, List, [], ◌∷◌, Some, Option, None, length, Result, refl, sym, ◌∙◌, ap, arith, option_map, unwrap_or}
 use Rattle.std.proofs.lemmas.Bool.{cases_Bool}
 use Rattle.lf_disk.specs.declared.name.FileName.{FileName}
 use Rattle.lf_disk.specs.declared.name.FileName.TheVariants.{Staged}
 use Rattle.lf_disk.specs.Folder.{Folder, bytes_of, Same, SameBut, same_name, renamed}
 use Rattle.lf_disk.specs.Names.{same_name-one}
-use Rattle.lf_disk.specs.Change.{Step, OnFile, Perhaps, Becomes, Writes, Cuts, CropsFile, TearsFile, SetsFile, Renames}
-use Rattle.lf_disk.specs.History.{History, now, may_leave, Rests, Ticks, Moves, EachMoment, IsSettledBut}
+use Rattle.lf_disk.specs.Change.{Step, OnFile, Perhaps, Writes, SetsFile, Renames}
+use Rattle.lf_disk.specs.History.{History, now, may_leave, Ticks, Moves, EachMoment, IsSettledBut}
 use Rattle.lf_disk.specs.Publish.{IsEmptied, IsStaged, IsOldOrPublished, IsPublished, with_bytes}
 use Rattle.lf_base.proofs.FileLemmas.{overwritten-empty}
-use Rattle.lf_disk.proofs.Moments.{started, goes_on, rests_on}
-use Rattle.lf_disk.proofs.Folders.{LeavesBut, edited, perhaps_edited, renamed-whole}
+use Rattle.lf_disk.proofs.Moments.{started, goes_on}
+use Rattle.lf_disk.proofs.Folders.{LeavesBut, renamed-whole}
 
 -- a file of no length has no bytes
 pub no_bytes : (file : Option (List ℕ)) (size : Option ℕ) → size ≡ option_map length file → unwrap_or size 0 ≡ 0 → bytes_of file ≡ []

@@ -1,9 +1,9 @@
 -- How a stretch goes on.
-use Rattle.std.proofs.Common.{◌≡◌, inl, inr, ℕ, ◌≤◌, Result, refl, ◌∙◌, subst, arith}
+use Rattle.std.proofs.Common.{◌≡◌, inl, inr, ℕ, Result, subst, arith}
 use Rattle.std.proofs.lemmas.Bool.{cases_lt}
 use Rattle.lf_disk.specs.Folder.{Folder}
 use Rattle.lf_disk.specs.Change.{Step}
-use Rattle.lf_disk.specs.History.{History, may_leave, KeepsPast, Rests, Ticks, Moves, EachMoment}
+use Rattle.lf_disk.specs.History.{History, may_leave, Ticks, Moves, EachMoment}
 use Rattle.lf_disk.proofs.Moments.{past_stays, past_joins}
 use Rattle.lf_disk.specs.Stretch.{Stretch}
 
