@@ -7,7 +7,7 @@ use Rattle.txn_log.specs.Durable.{IsLog}
 use Rattle.txn_log.specs.Opening.{IsBlank}
 use Rattle.txn_log.specs.Store.{IsStore, IsShaped}
 
-pub blank : (h : History) → IsBlank h → IsStore h 0 0 [] [] false 0 0
+pub blank : (h : History) → IsBlank h → IsStore h 0 0 [] false [] false 0 0
 blank h is = record {
   past = omega arith;
   rest = record {
@@ -40,11 +40,12 @@ blank h is = record {
     false_true : false ≡ true → ⊥
     false_true same = cc
 
-pub shaped : IsShaped 0 [] []
+pub shaped : IsShaped 0 [] false []
 shaped = record {
   count = refl;
   limit = omega arith;
   none = λ none. refl;
+  marked = λ marked. refl;
   sum = λ some. absurd (some refl);
   some = λ some. absurd (some refl);
 }

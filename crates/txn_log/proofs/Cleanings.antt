@@ -1,5 +1,6 @@
 -- A store loses the first files of its log.
 use Rattle.std.proofs.Common.{◌≡◌, ◌≢◌, inl, inr, ℕ, zero, suc, ◌+◌, ◌-◌, ◌<◌, ◌≤◌, Bool, true, false, List, [], ◌∷◌, length, length-take, length-drop, take, drop, get_or, get_or-take, get_or-drop, fold, map, Option, Some, None, refl, sym, ◌∙◌, ap, subst, arith}
+use Rattle.std.proofs.lemmas.Bool.{cases_Bool}
 use Rattle.std.proofs.lemmas.List.{drop-map, length-map}
 use Rattle.page_checksum.specs.Sums.{flagged, joined}
 use Rattle.lf_base.specs.declared.pos.Pos.{Pos}
@@ -7,6 +8,7 @@ use Rattle.lf_disk.specs.Folder.{Folder}
 use Rattle.lf_disk.specs.History.{History, now, may_leave, EachMoment}
 use Rattle.lf_disk.proofs.Moments.{weakened}
 use Rattle.lf_sqlite_pages.specs.Image.{DatabaseImage}
+use Rattle.lf_sqlite_pages.specs.Header.{image_is_wal}
 use Rattle.ltx_codec.specs.Positions.{before, after, nowhere}
 use Rattle.ltx_codec.specs.Sums.{image_sum}
 use Rattle.ltx_codec.specs.declared.file.Ltx.{Ltx}
@@ -69,24 +71,32 @@ pub entries-drop : (n : ℕ) (es : List Entry) → n < length es → end_of_entr
 unfolding end_of_entries
 entries-drop n es some = entries-drop-from nowhere n es some nowhere
 
+-- a log with files has no mark
+pub unmarked : (commit : ℕ) (entries : List Entry) (dropped : Bool) (sums : List ℕ) → IsShaped commit entries dropped sums → 0 < length entries → dropped ≡ false
+unmarked commit entries dropped sums shaped some = elim (cases_Bool dropped) [
+  | inl marked ↦ absurd (omega (arith, some, ap length (shaped.marked marked)))
+  | inr isnt ↦ isnt
+]
+
 -- the fields fit together after it
-pub shaped-drop : (commit : ℕ) (entries : List Entry) (sums : List ℕ) (n : ℕ) → n < length entries → IsShaped commit entries sums → IsShaped commit (drop n entries) sums
-shaped-drop commit entries sums n fewer shaped =
+pub shaped-drop : (commit : ℕ) (entries : List Entry) (dropped : Bool) (sums : List ℕ) (n : ℕ) → n < length entries → IsShaped commit entries dropped sums → IsShaped commit (drop n entries) dropped sums
+shaped-drop commit entries dropped sums n fewer shaped =
     let there : entries ≢ [] = λ none. absurd (omega (arith, fewer, ap length none)) in
     let same : end_of_entries (drop n entries) ≡ end_of_entries entries = entries-drop n entries fewer in
     record {
       count = shaped.count;
       limit = shaped.limit;
       none = λ none. absurd (omega (arith, fewer, length-drop n entries, ap length none));
+      marked = λ marked. absurd (there (shaped.marked marked));
       sum = λ some. ap (λ (p : Pos). p.sum) same ∙ shaped.sum there;
       some = λ some. omega (arith, ap (λ (p : Pos). p.txid) same, shaped.some there);
     }
 
 module _ (h : History) (size commit : ℕ) (entries : List Entry) (sums : List ℕ) (whole tried : ℕ)
-    (shaped : IsShaped commit entries sums) (kept : IsStore h size commit entries sums false whole tried)
+    (shaped : IsShaped commit entries false sums) (kept : IsStore h size commit entries false sums false whole tried)
     (front : List Entry) (gone keep : ℕ) (taken : front ≡ take gone entries) (fits : gone < length entries) (some_kept : 1 ≤ keep) (amount : gone ≡ length entries - keep) where
   abbrev pub old : StoreState
-  old = state_in size commit entries (now h)
+  old = state_in size commit entries false (now h)
 
   abbrev pub old_files : List LogFile
   old_files = files_in entries (now h)
@@ -128,7 +138,7 @@ module _ (h : History) (size commit : ℕ) (entries : List Entry) (sums : List �
     sound = is_log-drop n old_files kept.log.log;
     sum = λ some.
         ap (λ (p : Pos). p.sum) (end-drop n (log_of old_files) (omega (arith, few, fits, log_long)))
-        ∙ summed h size commit entries sums whole tried shaped kept (λ none. absurd (omega (arith, fits, sym log_long, ap length none)));
+        ∙ summed h size commit entries false sums whole tried shaped kept (λ none. absurd (omega (arith, fits, sym log_long, ap length none)));
     unmarked = refl;
   })
 
@@ -149,7 +159,7 @@ module _ (h : History) (size commit : ℕ) (entries : List Entry) (sums : List �
     -- the files are gone
     module _ (rest : IsAtRest old_image (drop (length front) old_files) false new) where
       abbrev pub state_after : StoreState
-      state_after = state_in size commit (drop gone entries) (now new)
+      state_after = state_in size commit (drop gone entries) false (now new)
 
       rest_gone : IsAtRest old_image (drop gone old_files) false new
       rest_gone = subst (λ (n : ℕ). IsAtRest old_image (drop n old_files) false new) count rest
@@ -159,7 +169,7 @@ module _ (h : History) (size commit : ℕ) (entries : List Entry) (sums : List �
 
       tells_after : Tells old_image (drop gone old_files) size commit (drop gone entries) sums
       tells_after =
-          let all = tells h size commit entries sums whole tried shaped kept in
+          let all = tells h size commit entries false sums whole tried shaped kept in
           record {
             size_is = all.size_is;
             commit_is = all.commit_is;
@@ -174,8 +184,11 @@ module _ (h : History) (size commit : ℕ) (entries : List Entry) (sums : List �
 
       is_done : state_after ≡ done old (PruneTo keep)
       is_done =
-          state_now old_image (drop gone old_files) size commit (drop gone entries) sums new rest_gone tells_after
+          state_now old_image (drop gone old_files) false size commit (drop gone entries) sums new rest_gone tells_after
           ∙ (λ i. record { image = old_image; log = (sym (log-drop gone old_files) ∙ ap (λ (n : ℕ). drop n (log_of old_files)) (sym most)) i; dropped = false })
+
+      pub mode_after : (wal : Bool) → wal ≡ image_is_wal old_image → wal ≡ image_is_wal (image_in size commit (now new))
+      mode_after wal is = is ∙ ap (λ (s : StoreState). image_is_wal s.image) (sym is_done)
 
       pub left_done : RestsAs (λ left. left ≡ state_after) new
       left_done c may =
@@ -187,21 +200,21 @@ module _ (h : History) (size commit : ℕ) (entries : List Entry) (sums : List �
       pub went_done : Moved old None h (PruneTo keep ∷ []) None state_after None new
       went_done = moved-done old state_after (PruneTo keep) h new some_kept is_done (weakened h new (IsPruned old_image old_files (length front)) (StandsForOne (IsCandidate old (PruneTo keep ∷ []))) run candidate) left_done
 
-      pub stands : (w t : ℕ) → IsStore new size commit (drop gone entries) sums false w t
-      stands w t = settles old_image (drop gone old_files) size commit (drop gone entries) sums new rest_gone tells_after w t
+      pub stands : (w t : ℕ) → IsStore new size commit (drop gone entries) false sums false w t
+      stands w t = settles old_image (drop gone old_files) false size commit (drop gone entries) sums new rest_gone tells_after w t
 
     -- a removal failed
-    same_store : state_of new size commit entries true h.moment ≡ old
-    same_store = seen_before size commit entries sums h new run.past whole
+    same_store : state_of new size commit entries false true h.moment ≡ old
+    same_store = seen_before size commit entries false sums h new run.past whole
 
-    pub left_in : RestsAs (MayBeFound (state_of new size commit entries true h.moment) (Some (FailedIn (PruneTo keep)))) new
+    pub left_in : RestsAs (MayBeFound (state_of new size commit entries false true h.moment) (Some (FailedIn (PruneTo keep)))) new
     left_in =
         subst (λ (s : StoreState). RestsAs (MayBeFound s (Some (FailedIn (PruneTo keep)))) new) (sym same_store)
         (λ c may. leaves c (at_last h new (IsPruned old_image old_files (length front)) run c may))
 
-    pub went_in : Moved old None h [] (Some (FailedIn (PruneTo keep))) (state_of new size commit entries true h.moment) (Some (FailedIn (PruneTo keep))) new
+    pub went_in : Moved old None h [] (Some (FailedIn (PruneTo keep))) (state_of new size commit entries false true h.moment) (Some (FailedIn (PruneTo keep))) new
     went_in =
-        moved-in old (state_of new size commit entries true h.moment) (PruneTo keep) h new some_kept same_store
+        moved-in old (state_of new size commit entries false true h.moment) (PruneTo keep) h new some_kept same_store
         (weakened h new (IsPruned old_image old_files (length front)) (StandsForOne (IsCandidate old (PruneTo keep ∷ []))) run candidate) left_in
 
 pub log_count : (entries : List Entry) (f : Folder) → length (log_of (files_in entries f)) ≡ length entries

@@ -55,6 +55,10 @@ pub end_of-push : (log : List Ltx) (g : Ltx) → end_of (log ++ g ∷ []) ≡ af
 unfolding end_of
 end_of-push log g = fold-append (λ (_ : Pos) (x : Ltx). after x) nowhere log (g ∷ [])
 
+pub end_of-none : (end_of []).txid ≡ 0
+unfolding end_of
+end_of-none = refl
+
 follow-more : (log : List Ltx) (g : Ltx) → Follow log → before g ≡ end_of log → Follow (log ++ g ∷ [])
 follow-more log g follow next k d within =
     let long : length (log ++ g ∷ []) ≡ length log + 1 = length-append log (g ∷ []) in

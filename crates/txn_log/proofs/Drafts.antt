@@ -1,5 +1,5 @@
 -- A draft is a file.
-use Rattle.std.proofs.Common.{◌≡◌, ◌≢◌, ◌⊎◌, ℕ, zero, suc, ◌+◌, ◌-◌, ◌<◌, ◌≤◌, ◌^◌, true, false, eqb, List, [], ◌∷◌, length, map, Option, Some, None, refl, sym, ◌∙◌, ap, subst, arith, inl, inr, unwrap_or}
+use Rattle.std.proofs.Common.{◌≡◌, ◌≢◌, ◌⊎◌, ℕ, zero, suc, ◌+◌, ◌-◌, ◌<◌, ◌≤◌, Bool, ◌^◌, true, false, eqb, List, [], ◌∷◌, length, map, Option, Some, None, refl, sym, ◌∙◌, ap, subst, arith, inl, inr, unwrap_or}
 use Rattle.std.specs.Prelude.{bit_xor, ◌==◌, if◌then◌else◌, slice_index}
 use Rattle.std.specs.List.{range_with_len}
 use Rattle.std.specs.Option.{option_map}
@@ -51,7 +51,7 @@ sum-first change valid =
         sum-other : (n : ℕ) → eqb n (lock_page_of change.page_size) ≡ false → sum_after [] (completed change 0) n ≡ unwrap_or (option_map (page_sum_of n) (written (completed change 0).pages n)) 0
         sum-other n test = rw test refl
 
-module _ (commit : ℕ) (entries : List Entry) (sums : List ℕ) (change : PageChange) (stamp node : ℕ) (shaped : IsShaped commit entries sums) (valid : IsChange change)
+module _ (commit : ℕ) (entries : List Entry) (dropped : Bool) (sums : List ℕ) (change : PageChange) (stamp node : ℕ) (shaped : IsShaped commit entries dropped sums) (valid : IsChange change)
     (within : IsWithin (end_of_entries entries) change) where
   abbrev pub file : Ltx
   file = drafted (end_of_entries entries) commit sums change stamp node

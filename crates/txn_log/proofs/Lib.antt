@@ -5,6 +5,7 @@ mod Composing
 mod Copies
 mod Drafts
 mod Entries
+mod Modes
 mod Moves
 mod Places
 mod Placings

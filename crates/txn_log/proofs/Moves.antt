@@ -1,11 +1,12 @@
 -- A store moves by a call.
 use Rattle.std.proofs.Common.{◌≡◌, ◌≢◌, ◌⊎◌, inl, inr, ℕ, ◌+◌, ◌-◌, ◌<◌, ◌≤◌, ◌^◌, Bool, true, false, List, [], ◌∷◌, ◌++◌, length, map, Option, Some, None, IsSome, Result, Ok, Err, refl, sym, ◌∙◌, ap, subst, arith}
+use Rattle.std.proofs.lemmas.Bool.{cases_Bool}
 use Rattle.page_checksum.specs.Sums.{flagged, joined}
 use Rattle.lf_disk.specs.declared.name.FileName.TheVariants.{Staged}
 use Rattle.lf_disk.specs.Folder.{Folder, bytes_of}
 use Rattle.lf_disk.specs.History.{History, now, may_leave, EachMoment}
 use Rattle.lf_disk.proofs.Moments.{started, weakened}
-use Rattle.lf_sqlite_pages.specs.Image.{DatabaseImage}
+use Rattle.lf_sqlite_pages.specs.Image.{DatabaseImage, empty_image}
 use Rattle.lf_sqlite_pages.specs.Apply.{apply}
 use Rattle.lf_sqlite_pages.proofs.Laws.{length-apply}
 use Rattle.ltx_codec.specs.Format.{IsLtx}
@@ -13,7 +14,7 @@ use Rattle.ltx_codec.specs.Positions.{after}
 use Rattle.ltx_codec.specs.Sums.{image_sum, sum_table}
 use Rattle.ltx_codec.specs.declared.file.Ltx.{Ltx}
 use Rattle.ltx_codec.proofs.SumLaws.{image_sum-table}
-use Rattle.world_laws.specs.Store.{StoreState, StoreCall, Commit, Failure, FailedBefore, FailedIn, MayBeFound, IsCandidate, CanDo, at, end_of, done, broken_by}
+use Rattle.world_laws.specs.Store.{StoreState, StoreCall, Commit, Failure, FailedBefore, FailedIn, MayBeFound, IsCandidate, CanDo, at, end_of, done, dropped_store, broken_by}
 use Rattle.txn_log.specs.declared.entry.Entry.{Entry}
 use Rattle.txn_log.specs.declared.attempt.Attempt.{Attempt}
 use Rattle.txn_log.specs.declared.attempt.Attempt.TheVariants as attempt
@@ -22,12 +23,11 @@ use Rattle.txn_log.specs.declared.fault.StoreFault.TheVariants as fault
 use Rattle.txn_log.specs.Calls.{StandsForOne, RestsAs, MayFind, Moved, Went}
 use Rattle.txn_log.specs.Draft.{sums_after}
 use Rattle.txn_log.specs.Durable.{Durable, IsText, log_of, IsLog, IsSummed}
-use Rattle.txn_log.specs.Kept.{LogFile, file_of, Kept, IsAtRest, IsAtRestAt, IsComplete}
-use Rattle.txn_log.specs.Placing.{IsOver, IsTried}
+use Rattle.txn_log.specs.Kept.{LogFile, file_of, last_of, Kept, IsBySnapshot, IsAtRest, IsAtRestAt, IsComplete}
+use Rattle.txn_log.specs.Placing.{IsOver, IsTried, IsBetween}
 use Rattle.txn_log.specs.Publishing.{CanTake, IsSummedBy}
-use Rattle.txn_log.specs.Putting.{IsBeforeOrAfter}
 use Rattle.txn_log.specs.Store.{image_in, files_in, state_in, state_of, failed_of, end_of_entries, entry_of, AreEntries, IsStore, IsShaped}
-use Rattle.txn_log.proofs.Commits.{Follows, log-more, is_log-more, end_of-push, tells-more}
+use Rattle.txn_log.proofs.Commits.{Follows, log-more, is_log-more, end_of-push, end_of-none, tells-more}
 use Rattle.txn_log.proofs.Entries.{end-log, end-push}
 use Rattle.txn_log.proofs.Placings.{kept_same}
 use Rattle.txn_log.proofs.Stores.{Tells, named_in, length-files_in, broken, seen_before, settles, state_now}
@@ -101,8 +101,8 @@ pub at_last : (h end : History) (P : Folder → Type 0) → EachMoment h end P �
 at_last h end P run c may = run.each end.moment c run.later (omega arith) may
 
 -- a store that is not broken
-module _ (h : History) (size commit : ℕ) (entries : List Entry) (sums : List ℕ) (whole tried : ℕ)
-    (shaped : IsShaped commit entries sums) (kept : IsStore h size commit entries sums false whole tried) where
+module _ (h : History) (size commit : ℕ) (entries : List Entry) (dropped : Bool) (sums : List ℕ) (whole tried : ℕ)
+    (shaped : IsShaped commit entries dropped sums) (kept : IsStore h size commit entries dropped sums false whole tried) where
   abbrev pub image : DatabaseImage
   image = image_in size commit (now h)
 
@@ -110,7 +110,7 @@ module _ (h : History) (size commit : ℕ) (entries : List Entry) (sums : List �
   files = files_in entries (now h)
 
   abbrev pub store : StoreState
-  store = state_in size commit entries (now h)
+  store = state_in size commit entries dropped (now h)
 
   pub tells : Tells image files size commit entries sums
   tells = record {
@@ -129,14 +129,35 @@ module _ (h : History) (size commit : ℕ) (entries : List Entry) (sums : List �
   summed some =
       ap (λ p. p.sum) (sym (end-log entries files kept.log)) ∙ shaped.sum (some_entries some) ∙ ap (λ (s : List ℕ). flagged (joined s)) kept.table ∙ sym (image_sum-table image)
 
-  pub durable : (c : Folder) → Kept image files false c → Durable c store
-  durable c is = inl (record { files = files; kept = is; log = refl; sound = kept.log.log; sum = summed; unmarked = refl })
+  -- the mark is that of an empty log, and so of no pages
+  no_image : dropped ≡ true → image ≡ empty_image
+  no_image marked = kept.rest.kept.decided.none (ap (λ (es : List Entry). last_of (files_in es (now h))) (shaped.marked marked))
 
-  pub itself : (c : Folder) → Kept image files false c → StandsForOne (λ left. left ≡ store) c
+  no_log : dropped ≡ true → log_of files ≡ []
+  no_log marked = ap (λ (es : List Entry). log_of (files_in es (now h))) (shaped.marked marked)
+
+  is_dropped : dropped ≡ true → store ≡ dropped_store
+  is_dropped marked = λ i. record { image = no_image marked i; log = no_log marked i; dropped = marked i }
+
+  pub durable : (c : Folder) → Kept image files dropped c → Durable c store
+  durable c is = elim (cases_Bool dropped) [
+    | inl marked ↦ inr (inr (record { by = record { no_snapshot = is.no_snapshot; stands = is.mark ∙ marked }; empty = is_dropped marked }))
+    | inr unmarked ↦
+        inl (record {
+          files = files;
+          kept = subst (λ (d : Bool). Kept image files d c) unmarked is;
+          log = refl;
+          sound = kept.log.log;
+          sum = summed;
+          unmarked = unmarked;
+        })
+  ]
+
+  pub itself : (c : Folder) → Kept image files dropped c → StandsForOne (λ left. left ≡ store) c
   itself c is = ∣ (store, refl, durable c is) ∣₁
 
   pub rests : RestsAs (λ left. left ≡ store) h
-  rests c may = itself c (kept_same image files false (now h) c kept.rest.kept (kept.rest.settled c may))
+  rests c may = itself c (kept_same image files dropped (now h) c kept.rest.kept (kept.rest.settled c may))
 
   -- and a file that it can take
   module _ (file : Ltx) (text : List ℕ) (can : CanTake store file) (is : IsLtx text file) (read : file_of text ≡ file) where
@@ -156,7 +177,7 @@ module _ (h : History) (size commit : ℕ) (entries : List Entry) (sums : List �
       next = ap Rattle.ltx_codec.specs.Positions.before read ∙ can.can.1.next;
     }
 
-    pub over : IsOver image files text file.change h
+    pub over : IsOver image files dropped text file.change h
     over = record {
       rest = kept.rest;
       tells = ap (λ (f : Ltx). f.change) read;
@@ -167,26 +188,49 @@ module _ (h : History) (size commit : ℕ) (entries : List Entry) (sums : List �
     pub log_after : log_of files ++ file ∷ [] ≡ log_of (files ++ log_file ∷ [])
     log_after = ap (λ (f : Ltx). log_of files ++ f ∷ []) (sym read) ∙ sym (log-more files log_file)
 
+    sum_after : IsSummed (done store (Commit file))
+    sum_after some = ap (λ p. p.sum) (end_of-push (log_of files) file) ∙ sym can.can.1.sum
+
     pub durable_after : (c : Folder) → Kept made (files ++ log_file ∷ []) false c → Durable c (done store (Commit file))
     durable_after c there = inl (record {
       files = files ++ log_file ∷ [];
       kept = there;
       log = log_after;
       sound = is_log-more files log_file kept.log.log follows;
-      sum = λ some. ap (λ p. p.sum) (end_of-push (log_of files) file) ∙ sym can.can.1.sum;
+      sum = sum_after;
       unmarked = refl;
     })
 
-    pub candidate : (c : Folder) → IsBeforeOrAfter image files made (files ++ log_file ∷ []) c → StandsForOne (IsCandidate store (Commit file ∷ [])) c
+    -- on a dropped store the file is the first
+    first_number : dropped ≡ true → file.header.min ≡ 1
+    first_number marked =
+        let start : (end_of (log_of files)).txid ≡ 0 = ap (λ (l : List Ltx). (end_of l).txid) (no_log marked) ∙ end_of-none in
+        omega (arith, ap (λ p. p.txid) can.can.1.next, is.valid.header.min, start)
+
+    durable_snapshot : dropped ≡ true → (c : Folder) → IsBySnapshot made text c → Durable c (done store (Commit file))
+    durable_snapshot marked c by =
+        inr (inl (record {
+          text = text;
+          by = by;
+          log = ap (λ (l : List Ltx). l ++ file ∷ []) (no_log marked) ∙ ap (λ (f : Ltx). f ∷ []) (sym read);
+          is = follows.is;
+          first = ap (λ (f : Ltx). f.header.min) read ∙ first_number marked;
+          sum = sum_after;
+          unmarked = refl;
+        }))
+
+    pub candidate : (c : Folder) → IsBetween image files dropped made log_file c → StandsForOne (IsCandidate store (Commit file ∷ [])) c
     candidate c either = elim either [
       | inl before ↦ ∣ (store, inl (inl refl), durable c before) ∣₁
-      | inr there ↦ ∣ (done store (Commit file), inl (inr refl), durable_after c there) ∣₁
+      | inr (inl anew) ↦ ∣ (done store (Commit file), inl (inr refl), durable_snapshot anew.0 c anew.1) ∣₁
+      | inr (inr there) ↦ ∣ (done store (Commit file), inl (inr refl), durable_after c there) ∣₁
     ]
 
-    pub leaves : (c : Folder) → IsBeforeOrAfter image files made (files ++ log_file ∷ []) c → StandsForOne (MayBeFound store (Some (FailedIn (Commit file)))) c
+    pub leaves : (c : Folder) → IsBetween image files dropped made log_file c → StandsForOne (MayBeFound store (Some (FailedIn (Commit file)))) c
     leaves c either = elim either [
       | inl before ↦ ∣ (store, inl refl, durable c before) ∣₁
-      | inr there ↦ ∣ (done store (Commit file), inr refl, durable_after c there) ∣₁
+      | inr (inl anew) ↦ ∣ (done store (Commit file), inr refl, durable_snapshot anew.0 c anew.1) ∣₁
+      | inr (inr there) ↦ ∣ (done store (Commit file), inr refl, durable_after c there) ∣₁
     ]
 
     -- the fields after it
@@ -200,13 +244,13 @@ module _ (h : History) (size commit : ℕ) (entries : List Entry) (sums : List �
 
     module _ (new : History) where
       -- the file is published and its change written
-      module _ (run : EachMoment h new (IsBeforeOrAfter image files made (files ++ log_file ∷ []))) (rest : IsAtRest made (files ++ log_file ∷ []) false new) where
+      module _ (run : EachMoment h new (IsBetween image files dropped made log_file)) (rest : IsAtRest made (files ++ log_file ∷ []) false new) where
         abbrev pub state_after : StoreState
-        state_after = state_in file.header.page_size file.header.commit (entries ++ entry_of file ∷ []) (now new)
+        state_after = state_in file.header.page_size file.header.commit (entries ++ entry_of file ∷ []) false (now new)
 
-        is_done : state_after ≡ done store (Commit file)
+        pub is_done : state_after ≡ done store (Commit file)
         is_done =
-            state_now made (files ++ log_file ∷ []) file.header.page_size file.header.commit (entries ++ entry_of file ∷ []) (sums_after sums file.change) new rest tells_after
+            state_now made (files ++ log_file ∷ []) false file.header.page_size file.header.commit (entries ++ entry_of file ∷ []) (sums_after sums file.change) new rest tells_after
             ∙ (λ i. record { image = made; log = sym log_after i; dropped = false })
 
         pub left_done : RestsAs (λ left. left ≡ state_after) new
@@ -214,56 +258,57 @@ module _ (h : History) (size commit : ℕ) (entries : List Entry) (sums : List �
             ∣ (done store (Commit file), sym is_done, durable_after c (kept_same made (files ++ log_file ∷ []) false (now new) c rest.kept (rest.settled c may))) ∣₁
 
         pub went_done : Moved store None h (Commit file ∷ []) None state_after None new
-        went_done = moved-done store state_after (Commit file) h new can.can is_done (weakened h new (IsBeforeOrAfter image files made (files ++ log_file ∷ [])) (StandsForOne (IsCandidate store (Commit file ∷ []))) run candidate) left_done
+        went_done = moved-done store state_after (Commit file) h new can.can is_done (weakened h new (IsBetween image files dropped made log_file) (StandsForOne (IsCandidate store (Commit file ∷ []))) run candidate) left_done
 
-        pub stands : (w t : ℕ) → IsStore new file.header.page_size file.header.commit (entries ++ entry_of file ∷ []) (sums_after sums file.change) false w t
-        stands w t = settles made (files ++ log_file ∷ []) file.header.page_size file.header.commit (entries ++ entry_of file ∷ []) (sums_after sums file.change) new rest tells_after w t
+        pub stands : (w t : ℕ) → IsStore new file.header.page_size file.header.commit (entries ++ entry_of file ∷ []) false (sums_after sums file.change) false w t
+        stands w t = settles made (files ++ log_file ∷ []) false file.header.page_size file.header.commit (entries ++ entry_of file ∷ []) (sums_after sums file.change) new rest tells_after w t
 
       -- a call failed from the rename on
-      module _ (at : ℕ) (run : EachMoment h new (IsBeforeOrAfter image files made (files ++ log_file ∷ []))) (tries : IsTried text at new) where
+      module _ (at : ℕ) (run : EachMoment h new (IsBetween image files dropped made log_file)) (tries : IsTried text at new) where
         abbrev pub failure : Failure
         failure = FailedIn (Commit (file_of (bytes_of (new.seen at Staged))))
 
         same_file : FailedIn (Commit file) ≡ failure
         same_file = ap (λ (f : Ltx). FailedIn (Commit f)) (sym (ap file_of tries.read ∙ read))
 
-        same_store : state_of new size commit entries true h.moment ≡ store
-        same_store = seen_before size commit entries sums h new run.past whole
+        same_store : state_of new size commit entries dropped true h.moment ≡ store
+        same_store = seen_before size commit entries dropped sums h new run.past whole
 
-        pub left_in : RestsAs (MayBeFound (state_of new size commit entries true h.moment) (Some failure)) new
+        pub left_in : RestsAs (MayBeFound (state_of new size commit entries dropped true h.moment) (Some failure)) new
         left_in =
-            subst (λ (f : Failure). RestsAs (MayBeFound (state_of new size commit entries true h.moment) (Some f)) new) same_file
+            subst (λ (f : Failure). RestsAs (MayBeFound (state_of new size commit entries dropped true h.moment) (Some f)) new) same_file
             (subst (λ (s : StoreState). RestsAs (MayBeFound s (Some (FailedIn (Commit file)))) new) (sym same_store)
-            (λ c may. leaves c (at_last h new (IsBeforeOrAfter image files made (files ++ log_file ∷ [])) run c may)))
+            (λ c may. leaves c (at_last h new (IsBetween image files dropped made log_file) run c may)))
 
-        pub went_in : Moved store None h [] (Some (FailedIn (Commit file))) (state_of new size commit entries true h.moment) (Some failure) new
+        pub went_in : Moved store None h [] (Some (FailedIn (Commit file))) (state_of new size commit entries dropped true h.moment) (Some failure) new
         went_in =
-            subst (λ (f : Failure). Moved store None h [] (Some (FailedIn (Commit file))) (state_of new size commit entries true h.moment) (Some f) new) same_file
-            (moved-in store (state_of new size commit entries true h.moment) (Commit file) h new can.can same_store
-            (weakened h new (IsBeforeOrAfter image files made (files ++ log_file ∷ [])) (StandsForOne (IsCandidate store (Commit file ∷ []))) run candidate)
-            (subst (λ (f : Failure). RestsAs (MayBeFound (state_of new size commit entries true h.moment) (Some f)) new) (sym same_file) left_in))
+            subst (λ (f : Failure). Moved store None h [] (Some (FailedIn (Commit file))) (state_of new size commit entries dropped true h.moment) (Some f) new) same_file
+            (moved-in store (state_of new size commit entries dropped true h.moment) (Commit file) h new can.can same_store
+            (weakened h new (IsBetween image files dropped made log_file) (StandsForOne (IsCandidate store (Commit file ∷ []))) run candidate)
+            (subst (λ (f : Failure). RestsAs (MayBeFound (state_of new size commit entries dropped true h.moment) (Some f)) new) (sym same_file) left_in))
 
   -- a call failed before it published anything
-  module _ (new : History) (run : EachMoment h new (Kept image files false)) where
-    stays : state_of new size commit entries true h.moment ≡ store
-    stays = seen_before size commit entries sums h new run.past whole
+  module _ (new : History) (run : EachMoment h new (Kept image files dropped)) where
+    stays : state_of new size commit entries dropped true h.moment ≡ store
+    stays = seen_before size commit entries dropped sums h new run.past whole
 
-    pub left_before : RestsAs (MayBeFound (state_of new size commit entries true h.moment) (Some FailedBefore)) new
+    pub left_before : RestsAs (MayBeFound (state_of new size commit entries dropped true h.moment) (Some FailedBefore)) new
     left_before =
-        subst (λ (s : StoreState). RestsAs (λ left. left ≡ s) new) (sym stays) (λ c may. itself c (at_last h new (Kept image files false) run c may))
+        subst (λ (s : StoreState). RestsAs (λ left. left ≡ s) new) (sym stays) (λ c may. itself c (at_last h new (Kept image files dropped) run c may))
 
-    pub went_before : Moved store None h [] (Some FailedBefore) (state_of new size commit entries true h.moment) (Some FailedBefore) new
+    pub went_before : Moved store None h [] (Some FailedBefore) (state_of new size commit entries dropped true h.moment) (Some FailedBefore) new
     went_before =
-        moved-before store (state_of new size commit entries true h.moment) h new stays
-        (weakened h new (Kept image files false) (StandsForOne (IsCandidate store [])) run itself) left_before
+        moved-before store (state_of new size commit entries dropped true h.moment) h new stays
+        (weakened h new (Kept image files dropped) (StandsForOne (IsCandidate store [])) run itself) left_before
 
 -- the fields fit together after a file
 pub shaped-after : (commit : ℕ) (entries : List Entry) (sums : List ℕ) (file : Ltx) → file.header.commit ≡ file.change.commit → file.header.commit < 2 ^ 32 → 1 ≤ file.header.max → IsSummedBy sums file
-    → IsShaped file.header.commit (entries ++ entry_of file ∷ []) (sums_after sums file.change)
+    → IsShaped file.header.commit (entries ++ entry_of file ∷ []) false (sums_after sums file.change)
 shaped-after commit entries sums file same low first summed = record {
   count = Rattle.std.proofs.lemmas.List.FromFn.length-map-range_with_len (Rattle.txn_log.specs.Draft.sum_after sums file.change) 1 file.change.commit ∙ sym same;
   limit = low;
   none = λ none. absurd (not_none entries none);
+  marked = λ marked. absurd (false_true marked);
   sum = λ some. ap (λ p. p.sum) (end-push entries (entry_of file)) ∙ summed;
   some = λ some. omega (arith, ap (λ p. p.txid) (end-push entries (entry_of file)), first);
 }
@@ -271,6 +316,9 @@ shaped-after commit entries sums file same low first summed = record {
     not_none : (es : List Entry) → es ++ entry_of file ∷ [] ≡ [] → ⊥
     not_none [] none = cc
     not_none (e ∷ es) none = cc
+
+    false_true : false ≡ true → ⊥
+    false_true same = cc
 
 -- a call that was refused
 pub went-none : (T : Type 0) (store : StoreState) (was : Option Failure) (h : History) (call : StoreCall) (why : StoreFault) → (why ≡ fault.Disk → ⊥) → RestsAs (MayBeFound store was) h

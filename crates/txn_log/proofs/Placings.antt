@@ -13,7 +13,7 @@ use Rattle.lf_sqlite_pages.specs.Change.{PageChange}
 use Rattle.lf_sqlite_pages.specs.Apply.{apply}
 use Rattle.txn_log.specs.Kept.{LogFile, Kept, IsDecided, last_of}
 use Rattle.txn_log.specs.Putting.{IsSettled, IsReady, IsBeforeOrAfter}
-use Rattle.txn_log.specs.Placing.{IsOver, IsTried}
+use Rattle.txn_log.specs.Placing.{IsOver, IsTried, IsBetween}
 
 -- the staged file is of no account
 pub kept_same : (image : DatabaseImage) (files : List LogFile) (dropped : _) (f c : Folder) → Kept image files dropped f → SameBut Staged f c → Kept image files dropped c
@@ -24,6 +24,14 @@ kept_same image files dropped f c kept same = record {
   decided = subst (λ (o : Option (List ℕ)). IsDecided (last_of files) image (bytes_of o)) (sym (same Database refl)) kept.decided;
 }
 
+-- where there is no mark, no snapshot is needed
+pub between : (image : DatabaseImage) (files : List LogFile) (dropped : _) (made : DatabaseImage) (file : LogFile) → dropped ≡ false → (c : Folder)
+    → IsBeforeOrAfter image files made (files ++ file ∷ []) c → IsBetween image files dropped made file c
+between image files dropped made file unmarked c either = elim either [
+  | inl before ↦ inl (subst (λ d. Kept image files d c) (sym unmarked) before)
+  | inr there ↦ inr (inr there)
+]
+
 pub settled : (before : Folder) (bytes : List ℕ) (h : History) → IsStaged before bytes h → IsSettled h
 settled before bytes h staged c may n = elim (cases_Bool (same_name n Staged)) [
   | inl is ↦ let name : n ≡ Staged = same_name-one n Staged is in ap c name ∙ staged.whole c may ∙ sym (ap (now h) name ∙ staged.here)
@@ -33,7 +41,7 @@ settled before bytes h staged c may n = elim (cases_Bool (same_name n Staged)) [
 pub there : (before : Folder) (bytes : List ℕ) (h : History) → IsStaged before bytes h → IsSome (now h Staged)
 there before bytes h staged = subst (λ (o : Option (List ℕ)). IsSome o) (sym staged.here) refl
 
-module _ (image : DatabaseImage) (files : List LogFile) (text : List ℕ) (change : PageChange) (h mid : History) (over : IsOver image files text change h) where
+module _ (image : DatabaseImage) (files : List LogFile) (text : List ℕ) (change : PageChange) (h mid : History) (over : IsOver image files false text change h) where
   pub stays : EachMoment h mid (SameBut Staged (now h)) → EachMoment h mid (Kept image files false)
   stays runs = weakened h mid (SameBut Staged (now h)) (Kept image files false) runs (λ c same. kept_same image files false (now h) c over.rest.kept same)
 

@@ -12,6 +12,7 @@ use Rattle.lf_disk.specs.declared.name.FileName.TheVariants.{Database, Staged, S
 use Rattle.lf_disk.specs.Folder.{Folder, bytes_of, SameBut}
 use Rattle.lf_disk.specs.History.{History, now, may_leave, KeepsPast, Rests, EachMoment}
 use Rattle.lf_sqlite_pages.specs.Image.{DatabaseImage, page_at}
+use Rattle.lf_sqlite_pages.specs.Header.{image_is_wal}
 use Rattle.ltx_codec.specs.Sums.{sum_table}
 use Rattle.ltx_codec.specs.declared.file.Ltx.{Ltx}
 use Rattle.world_laws.specs.Store.{StoreState}
@@ -122,25 +123,25 @@ image_is image f shows =
     λ i. record { page_size = image.page_size; pages = pages i }
 
 -- the past stays as it was
-pub at_rest_past : (image : DatabaseImage) (files : List LogFile) (h new : History) (t : ℕ) → t ≤ h.moment → KeepsPast h new → IsAtRestAt image files false h t → IsAtRestAt image files false new t
-at_rest_past image files h new t early past rest =
+pub at_rest_past : (image : DatabaseImage) (files : List LogFile) (dropped : Bool) (h new : History) (t : ℕ) → t ≤ h.moment → KeepsPast h new → IsAtRestAt image files dropped h t → IsAtRestAt image files dropped new t
+at_rest_past image files dropped h new t early past rest =
     let same : new.seen t ≡ h.seen t = λ i n. past.seen t n early i in
     record {
-      kept = subst (λ (f : Folder). Kept image files false f) (sym same) rest.kept;
+      kept = subst (λ (f : Folder). Kept image files dropped f) (sym same) rest.kept;
       shows = subst (λ (f : Folder). Shows image (bytes_of (f Database))) (sym same) rest.shows;
       settled = λ c may. subst (λ (f : Folder). SameBut Staged f c) (sym same) (rest.settled c (past.no_more t c early may));
     }
 
-module _ (size commit : ℕ) (entries : List Entry) (sums : List ℕ) (h new : History) (past : KeepsPast h new) where
+module _ (size commit : ℕ) (entries : List Entry) (dropped : Bool) (sums : List ℕ) (h new : History) (past : KeepsPast h new) where
   -- a store at moment t of one history is one at that moment of the next
-  meant_past : (t : ℕ) → t ≤ h.moment → IsAtRestAt (image_in size commit (h.seen t)) (files_in entries (h.seen t)) false h t → IsAtRestAt (image_in size commit (new.seen t)) (files_in entries (new.seen t)) false new t
+  meant_past : (t : ℕ) → t ≤ h.moment → IsAtRestAt (image_in size commit (h.seen t)) (files_in entries (h.seen t)) dropped h t → IsAtRestAt (image_in size commit (new.seen t)) (files_in entries (new.seen t)) dropped new t
   meant_past t early rest =
       let same : new.seen t ≡ h.seen t = λ i n. past.seen t n early i in
-      subst (λ (f : Folder). IsAtRestAt (image_in size commit f) (files_in entries f) false new t) (sym same)
-      (at_rest_past (image_in size commit (h.seen t)) (files_in entries (h.seen t)) h new t early past rest)
+      subst (λ (f : Folder). IsAtRestAt (image_in size commit f) (files_in entries f) dropped new t) (sym same)
+      (at_rest_past (image_in size commit (h.seen t)) (files_in entries (h.seen t)) dropped h new t early past rest)
 
   -- a call has failed: the store is meant as it was before
-  pub broken : (whole was tried : ℕ) → h.moment ≤ new.moment → tried ≤ new.moment → IsStore h size commit entries sums false whole was → IsStore new size commit entries sums true h.moment tried
+  pub broken : (whole was tried : ℕ) → h.moment ≤ new.moment → tried ≤ new.moment → IsStore h size commit entries dropped sums false whole was → IsStore new size commit entries dropped sums true h.moment tried
   broken whole was tried later early is =
       let same : new.seen h.moment ≡ h.seen h.moment = λ i n. past.seen h.moment n (omega arith) i in
       record {
@@ -152,10 +153,16 @@ module _ (size commit : ℕ) (entries : List Entry) (sums : List ℕ) (h new : H
       }
 
   -- and seen as it was before
-  pub seen_before : (whole : ℕ) → state_of new size commit entries true h.moment ≡ state_of h size commit entries false whole
+  pub seen_before : (whole : ℕ) → state_of new size commit entries dropped true h.moment ≡ state_of h size commit entries dropped false whole
   seen_before whole =
       let same : new.seen h.moment ≡ h.seen h.moment = λ i n. past.seen h.moment n (omega arith) i in
-      ap (λ (f : Folder). state_in size commit entries f) same
+      ap (λ (f : Folder). state_in size commit entries dropped f) same
+
+  -- in the journal mode from before
+  pub mode_before : (wal : Bool) → wal ≡ image_is_wal (image_in size commit (now h)) → wal ≡ image_is_wal (image_in size commit (new.seen h.moment))
+  mode_before wal is =
+      let same : new.seen h.moment ≡ h.seen h.moment = λ i n. past.seen h.moment n (omega arith) i in
+      is ∙ ap (λ (f : Folder). image_is_wal (image_in size commit f)) (sym same)
 
 -- a store as the disk has come to rest, with the fields that tell it
 pub record Tells (image : DatabaseImage) (files : List LogFile) (size commit : ℕ) (entries : List Entry) (sums : List ℕ) : Type 0 where
@@ -166,8 +173,8 @@ pub record Tells (image : DatabaseImage) (files : List LogFile) (size commit : �
   pub count : length entries ≡ length files
   pub table : sums ≡ sum_table image
 
-module _ (image : DatabaseImage) (files : List LogFile) (size commit : ℕ) (entries : List Entry) (sums : List ℕ) (new : History)
-    (rest : IsAtRest image files false new) (tells : Tells image files size commit entries sums) where
+module _ (image : DatabaseImage) (files : List LogFile) (dropped : Bool) (size commit : ℕ) (entries : List Entry) (sums : List ℕ) (new : History)
+    (rest : IsAtRest image files dropped new) (tells : Tells image files size commit entries sums) where
   pub image_now : image_in size commit (now new) ≡ image
   image_now =
       let P : ℕ → ℕ → Type 0 = λ s c. image_in s c (now new) ≡ image in
@@ -176,11 +183,11 @@ module _ (image : DatabaseImage) (files : List LogFile) (size commit : ℕ) (ent
   pub files_now : files_in entries (now new) ≡ files
   files_now = files_are entries files (now new) tells.log.log.ascends tells.named tells.count rest.kept.log
 
-  pub settles : (whole tried : ℕ) → IsStore new size commit entries sums false whole tried
+  pub settles : (whole tried : ℕ) → IsStore new size commit entries dropped sums false whole tried
   settles whole tried = record {
     past = omega arith;
-    rest = subst (λ (i : DatabaseImage). IsAtRestAt i (files_in entries (now new)) false new new.moment) (sym image_now)
-        (subst (λ (fs : List LogFile). IsAtRestAt image fs false new new.moment) (sym files_now) rest);
+    rest = subst (λ (i : DatabaseImage). IsAtRestAt i (files_in entries (now new)) dropped new new.moment) (sym image_now)
+        (subst (λ (fs : List LogFile). IsAtRestAt image fs dropped new new.moment) (sym files_now) rest);
     log = subst (λ (fs : List LogFile). AreEntries entries fs) (sym files_now) tells.log;
     table = tells.table ∙ ap sum_table (sym image_now);
     early = λ same. absurd (false_true same);
@@ -189,5 +196,5 @@ module _ (image : DatabaseImage) (files : List LogFile) (size commit : ℕ) (ent
       false_true : false ≡ true → ⊥
       false_true same = cc
 
-  pub state_now : state_in size commit entries (now new) ≡ record { image = image; log = log_of files; dropped = false }
-  state_now = λ i. record { image = image_now i; log = log_of (files_now i); dropped = false }
+  pub state_now : state_in size commit entries dropped (now new) ≡ record { image = image; log = log_of files; dropped = dropped }
+  state_now = λ i. record { image = image_now i; log = log_of (files_now i); dropped = dropped }

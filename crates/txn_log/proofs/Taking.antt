@@ -29,7 +29,7 @@ no_list : (xs : List (List ℕ)) → length xs ≡ 0 → xs ≡ []
 no_list [] none = refl
 no_list (x ∷ xs) none = absurd (omega (arith, none))
 
-module _ (h : History) (size commit : ℕ) (entries : List Entry) (sums : List ℕ) (whole tried : ℕ) (kept : IsStore h size commit entries sums false whole tried)
+module _ (h : History) (size commit : ℕ) (entries : List Entry) (dropped : Bool) (sums : List ℕ) (whole tried : ℕ) (kept : IsStore h size commit entries dropped sums false whole tried)
     (change : PageChange) (stamp node : ℕ) (valid : IsChange change) (fits : FitsOver size commit change) where
   abbrev pub image : DatabaseImage
   image = image_in size commit (now h)
@@ -68,7 +68,7 @@ module _ (h : History) (size commit : ℕ) (entries : List Entry) (sums : List �
       let back : p.txid + 1 - 1 ≡ p.txid = omega arith in
       λ i. record { txid = back i; sum = p.sum }
 
-  pub can_take : IsFile (drafted (end_of_entries entries) commit sums change stamp node) → CanTake (state_in size commit entries (now h)) (drafted (end_of_entries entries) commit sums change stamp node)
+  pub can_take : IsFile (drafted (end_of_entries entries) commit sums change stamp node) → CanTake (state_in size commit entries dropped (now h)) (drafted (end_of_entries entries) commit sums change stamp node)
   can_take is = record {
     can = (
       is,

@@ -6,6 +6,7 @@ pub mod Durable
 pub mod Entries
 pub mod FaultNumber
 pub mod Kept
+pub mod Modes
 pub mod Opening
 pub mod Pages
 pub mod Placing

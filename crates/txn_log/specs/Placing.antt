@@ -1,20 +1,19 @@
 -- A transaction file is staged, put into the log, and its change written over the database file.
-use Rattle.std.specs.Prelude.{◌≡◌, ℕ, ◌≤◌, false, List, [], ◌∷◌, ◌++◌}
+use Rattle.std.specs.Prelude.{◌≡◌, ◌⊎◌, ℕ, ◌≤◌, Bool, true, false, List, [], ◌∷◌, ◌++◌}
 use Rattle.lf_base.specs.Faults.{Rose}
 use Rattle.lf_disk.specs.declared.name.FileName.TheVariants.{Staged}
-use Rattle.lf_disk.specs.Folder.{bytes_of}
+use Rattle.lf_disk.specs.Folder.{Folder, bytes_of}
 use Rattle.lf_disk.specs.History.{History, EachMoment}
 use Rattle.lf_sqlite_pages.specs.Image.{DatabaseImage}
 use Rattle.lf_sqlite_pages.specs.Change.{PageChange, IsChange}
 use Rattle.lf_sqlite_pages.specs.Apply.{apply}
 use Rattle.txn_log.specs.declared.placed.Placed.{Placed}
 use Rattle.txn_log.specs.declared.placed.Placed.TheVariants as placed
-use Rattle.txn_log.specs.Kept.{LogFile, change_of, Kept, IsAtRest, IsComplete}
-use Rattle.txn_log.specs.Putting.{IsBeforeOrAfter}
+use Rattle.txn_log.specs.Kept.{LogFile, change_of, Kept, IsBySnapshot, IsAtRest, IsComplete}
 
 -- the text is that of a complete change over a store at rest
-pub record IsOver (image : DatabaseImage) (files : List LogFile) (text : List ℕ) (change : PageChange) (h : History) : Type 0 where
-  pub rest : IsAtRest image files false h
+pub record IsOver (image : DatabaseImage) (files : List LogFile) (dropped : Bool) (text : List ℕ) (change : PageChange) (h : History) : Type 0 where
+  pub rest : IsAtRest image files dropped h
   pub tells : change_of text ≡ change
   pub valid : IsChange change
   pub complete : IsComplete image change
@@ -24,11 +23,16 @@ pub record IsTried (text : List ℕ) (tried : ℕ) (h : History) : Type 0 where
   pub past : tried ≤ h.moment
   pub read : bytes_of (h.seen tried Staged) ≡ text
 
+-- the folder holds the store from before; or the one with the file, where the database was dropped as a snapshot, else in its log
+abbrev pub IsBetween : DatabaseImage → List LogFile → Bool → DatabaseImage → LogFile → Folder → Type 0
+IsBetween image files dropped made file c =
+    Kept image files dropped c ⊎ (((dropped ≡ true) × IsBySnapshot made file.text c) ⊎ Kept made (files ++ file ∷ []) false c)
+
 -- what a crash leaves, by the outcome: before the rename the store from before, and from there on also the one after it
-abbrev pub Places : DatabaseImage → List LogFile → DatabaseImage → LogFile → History → Placed → History → Type 0
-Places image files made file start placed.Unpublished end = EachMoment start end (Kept image files false)
-Places image files made file start (placed.From tried) end = EachMoment start end (IsBeforeOrAfter image files made (files ++ file ∷ [])) × IsTried file.text tried end
-Places image files made file start placed.Whole end = EachMoment start end (IsBeforeOrAfter image files made (files ++ file ∷ [])) × IsAtRest made (files ++ file ∷ []) false end
+abbrev pub Places : DatabaseImage → List LogFile → Bool → DatabaseImage → LogFile → History → Placed → History → Type 0
+Places image files dropped made file start placed.Unpublished end = EachMoment start end (Kept image files dropped)
+Places image files dropped made file start (placed.From tried) end = EachMoment start end (IsBetween image files dropped made file) × IsTried file.text tried end
+Places image files dropped made file start placed.Whole end = EachMoment start end (IsBetween image files dropped made file) × IsAtRest made (files ++ file ∷ []) false end
 
 -- only a disk that failed raises its count
 abbrev pub CountsPlaced : ℕ → ℕ → Placed → Type 0

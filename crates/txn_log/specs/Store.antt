@@ -27,8 +27,8 @@ abbrev pub files_in : List Entry → Folder → List LogFile
 files_in entries f = map (λ e. record { min = e.min; max = e.max; text = bytes_of (f (LtxName e.min e.max)) }) entries
 
 -- the store in a folder
-abbrev pub state_in : ℕ → ℕ → List Entry → Folder → StoreState
-state_in size commit entries f = record { image = image_in size commit f; log = log_of (files_in entries f); dropped = false }
+abbrev pub state_in : ℕ → ℕ → List Entry → Bool → Folder → StoreState
+state_in size commit entries dropped f = record { image = image_in size commit f; log = log_of (files_in entries f); dropped = dropped }
 
 -- the entry of a file
 abbrev pub entry_of : Ltx → Entry
@@ -58,21 +58,22 @@ pub record AreEntries (entries : List Entry) (files : List LogFile) : Type 0 whe
   pub same : map (λ file. entry_of (file_of file.text)) files ≡ entries
 
 -- over an honest disk the moment that is meant was one at rest, and entries and sums are those of the files and pages then
-pub record IsStore (h : History) (size commit : ℕ) (entries : List Entry) (sums : List ℕ) (broken : Bool) (whole tried : ℕ) : Type 0 where
+pub record IsStore (h : History) (size commit : ℕ) (entries : List Entry) (dropped : Bool) (sums : List ℕ) (broken : Bool) (whole tried : ℕ) : Type 0 where
   pub past : meant h broken whole ≤ h.moment
-  pub rest : IsAtRestAt (image_in size commit (h.seen (meant h broken whole))) (files_in entries (h.seen (meant h broken whole))) false h (meant h broken whole)
+  pub rest : IsAtRestAt (image_in size commit (h.seen (meant h broken whole))) (files_in entries (h.seen (meant h broken whole))) dropped h (meant h broken whole)
   pub log : AreEntries entries (files_in entries (h.seen (meant h broken whole)))
   pub table : sums ≡ sum_table (image_in size commit (h.seen (meant h broken whole)))
   pub early : broken ≡ true → tried ≤ h.moment
 
 -- over any disk the fields fit together
-pub record IsShaped (commit : ℕ) (entries : List Entry) (sums : List ℕ) : Type 0 where
+pub record IsShaped (commit : ℕ) (entries : List Entry) (dropped : Bool) (sums : List ℕ) : Type 0 where
   pub count : length sums ≡ commit
   pub limit : commit < 2 ^ 32
   pub none : entries ≡ [] → commit ≡ 0
+  pub marked : dropped ≡ true → entries ≡ []
   pub sum : entries ≢ [] → (end_of_entries entries).sum ≡ flagged (joined sums)
   pub some : entries ≢ [] → 1 ≤ (end_of_entries entries).txid
 
 -- the store as its callers see it
-abbrev pub state_of : History → ℕ → ℕ → List Entry → Bool → ℕ → StoreState
-state_of h size commit entries broken whole = state_in size commit entries (h.seen (meant h broken whole))
+abbrev pub state_of : History → ℕ → ℕ → List Entry → Bool → Bool → ℕ → StoreState
+state_of h size commit entries dropped broken whole = state_in size commit entries dropped (h.seen (meant h broken whole))

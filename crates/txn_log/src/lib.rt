@@ -15,6 +15,7 @@ mod drafting;
 mod encoding;
 mod entry;
 mod fault;
+mod mode;
 mod opening;
 mod placed;
 mod placing;

@@ -15,7 +15,7 @@ impl<D: Disk> Store<D> {
     pub fn on_blank(alloc: Global, disk: D) -> Store<D>
         requires { IsTrue (D.honest disk) → IsBlank (D.history disk) }
         ensures state { IsTrue (D.honest disk) → state_of (D.history result.disk) result.page_size result.commit
-            result.entries.items result.broken result.whole ≡ empty_store }
+            result.entries.items result.dropped result.broken result.whole ≡ empty_store }
         ensures open_ { result.broken ≡ false }
         ensures disk { result.disk ≡ disk }
     {
@@ -25,7 +25,10 @@ impl<D: Disk> Store<D> {
             sums: Sums::new(alloc),
             page_size: 0,
             commit: 0,
+            wal: false,
+            dropped: false,
             broken: false,
+            refused: 0,
             whole: 0,
             attempt: Attempt::Unpublished,
             tried: 0,

@@ -1,4 +1,4 @@
-ghost use Rattle.std.specs.Prelude.{◌≡◌, IsTrue, ℕ, List};
+ghost use Rattle.std.specs.Prelude.{◌≡◌, false, IsTrue, ℕ, List};
 ghost use Rattle.lf_disk.specs.History.{IsSettledBut};
 ghost use Rattle.lf_disk.specs.declared.name.FileName.{FileName as Name};
 ghost use Rattle.lf_sqlite_pages.specs.Image.{DatabaseImage};
@@ -13,11 +13,19 @@ use lf_sqlite_pages::Change;
 
 /// Stages the text of a transaction file, gives it its name in the log, and writes its change over
 /// the database file.
-pub fn place<D: Disk>(disk: &mut D, text: &[u8], min: u64, max: u64, change: &Change) -> Placed
-    requires { IsTrue (D.honest disk.old) → IsSettledBut Name.Staged (D.history disk.old) }
+pub fn place<D: Disk>(
+    disk: &mut D,
+    dropped: bool,
+    text: &[u8],
+    min: u64,
+    max: u64,
+    change: &Change,
+) -> Placed
+    requires unmarked { dropped ≡ false }
+    requires settled { IsTrue (D.honest disk.old) → IsSettledBut Name.Staged (D.history disk.old) }
     ensures places { IsTrue (D.honest disk.old) → (image : DatabaseImage) (files : List LogFile)
-        → IsOver image files text.now change.now (D.history disk.old)
-        → Places image files (apply image change.now) (record { min = min; max = max; text = text.now })
+        → IsOver image files dropped text.now change.now (D.history disk.old)
+        → Places image files dropped (apply image change.now) (record { min = min; max = max; text = text.now })
         (D.history disk.old) result (D.history disk.new) }
     ensures honest { D.honest disk.new ≡ D.honest disk.old }
     ensures cause { CountsPlaced (D.faults disk.old) (D.faults disk.new) result }

@@ -28,7 +28,7 @@ impl<D: Disk> Store<D> {
     pub fn pos(&self) -> Pos
         ensures value { result ≡ end_of_entries self.now.entries.items }
         ensures told { IsTrue (D.honest self.now.disk) → result ≡ at (state_of (D.history self.now.disk)
-            self.now.page_size self.now.commit self.now.entries.items self.now.broken self.now.whole) }
+            self.now.page_size self.now.commit self.now.entries.items self.now.dropped self.now.broken self.now.whole) }
         ensures summed { self.now.entries.items ≢ [] → result.sum ≡ flagged (joined self.now.sums.sums) }
     {
         end_of(self.entries.as_slice())

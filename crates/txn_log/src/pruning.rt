@@ -31,10 +31,10 @@ impl<D: Disk> Store<D> {
 
         // What a crash leaves at each moment.
         ensures went { IsTrue (D.honest self.old.disk) → Went
-            (state_of (D.history self.old.disk) self.old.page_size self.old.commit self.old.entries.items self.old.broken self.old.whole)
+            (state_of (D.history self.old.disk) self.old.page_size self.old.commit self.old.entries.items self.old.dropped self.old.broken self.old.whole)
             (failed_of (D.history self.old.disk) self.old.broken self.old.attempt self.old.tried) (D.history self.old.disk)
             (PruneTo keep) result
-            (state_of (D.history self.new.disk) self.new.page_size self.new.commit self.new.entries.items self.new.broken self.new.whole)
+            (state_of (D.history self.new.disk) self.new.page_size self.new.commit self.new.entries.items self.new.dropped self.new.broken self.new.whole)
             (failed_of (D.history self.new.disk) self.new.broken self.new.attempt self.new.tried) (D.history self.new.disk) }
         ensures honest { D.honest self.new.disk ≡ D.honest self.old.disk }
     {

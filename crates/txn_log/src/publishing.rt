@@ -12,6 +12,7 @@ use crate::attempt::Attempt;
 use crate::encoding::text_of;
 use crate::entry::Entry;
 use crate::fault::StoreFault;
+use crate::mode::wal_after;
 use crate::placed::Placed;
 use crate::placing::place;
 use crate::store::Store;
@@ -39,12 +40,12 @@ pub fn publish<D: Disk>(store: &mut Store<D>, file: &Ltx) -> Result<Pos, StoreFa
     requires valid { IsFile file.now }
     requires sum { IsSummedBy store.old.sums.sums file.now }
     requires can { IsTrue (D.honest store.old.disk) → CanTake (state_of (D.history store.old.disk)
-        store.old.page_size store.old.commit store.old.entries.items store.old.broken store.old.whole) file.now }
+        store.old.page_size store.old.commit store.old.entries.items store.old.dropped store.old.broken store.old.whole) file.now }
     ensures went { IsTrue (D.honest store.old.disk) → Went
-        (state_of (D.history store.old.disk) store.old.page_size store.old.commit store.old.entries.items store.old.broken store.old.whole)
+        (state_of (D.history store.old.disk) store.old.page_size store.old.commit store.old.entries.items store.old.dropped store.old.broken store.old.whole)
         (failed_of (D.history store.old.disk) store.old.broken store.old.attempt store.old.tried)
         (D.history store.old.disk) (Commit file.now) result
-        (state_of (D.history store.new.disk) store.new.page_size store.new.commit store.new.entries.items store.new.broken store.new.whole)
+        (state_of (D.history store.new.disk) store.new.page_size store.new.commit store.new.entries.items store.new.dropped store.new.broken store.new.whole)
         (failed_of (D.history store.new.disk) store.new.broken store.new.attempt store.new.tried)
         (D.history store.new.disk) }
     ensures told { IfOk result (λ position. position ≡ after file.now) }
@@ -65,6 +66,7 @@ pub fn publish<D: Disk>(store: &mut Store<D>, file: &Ltx) -> Result<Pos, StoreFa
     store.whole = store.disk.moment();
     match place(
         &mut store.disk,
+        store.dropped,
         text.as_slice(),
         file.header.min,
         file.header.max,
@@ -73,6 +75,8 @@ pub fn publish<D: Disk>(store: &mut Store<D>, file: &Ltx) -> Result<Pos, StoreFa
         Placed::Whole => {
             store.page_size = file.header.page_size;
             store.commit = file.header.commit;
+            store.wal = wal_after(store.wal, &file.change);
+            store.dropped = false;
             store.entries.push_reserved(entry_of(file));
             update(&mut store.sums, &file.change);
             Ok(file.after())

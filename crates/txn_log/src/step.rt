@@ -25,10 +25,10 @@ impl<D: Disk> Store<D> {
         ensures commits { Commits self.old.broken (end_of_entries self.old.entries.items) self.old.page_size self.old.commit
             self.old.sums.sums change.now stamp node result }
         ensures went { IsTrue (D.honest self.old.disk) → WentPruned
-            (state_of (D.history self.old.disk) self.old.page_size self.old.commit self.old.entries.items self.old.broken self.old.whole)
+            (state_of (D.history self.old.disk) self.old.page_size self.old.commit self.old.entries.items self.old.dropped self.old.broken self.old.whole)
             (failed_of (D.history self.old.disk) self.old.broken self.old.attempt self.old.tried) (D.history self.old.disk)
             (Commit (drafted (end_of_entries self.old.entries.items) self.old.commit self.old.sums.sums change.now stamp node)) keep result
-            (state_of (D.history self.new.disk) self.new.page_size self.new.commit self.new.entries.items self.new.broken self.new.whole)
+            (state_of (D.history self.new.disk) self.new.page_size self.new.commit self.new.entries.items self.new.dropped self.new.broken self.new.whole)
             (failed_of (D.history self.new.disk) self.new.broken self.new.attempt self.new.tried) (D.history self.new.disk) }
         ensures honest { D.honest self.new.disk ≡ D.honest self.old.disk }
     {

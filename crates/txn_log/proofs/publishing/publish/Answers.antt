@@ -3,38 +3,66 @@ use Rattle.lf_disk.specs.History.{now}
 use Rattle.ltx_codec.specs.Format.{IsLtx}
 use Rattle.txn_log.specs.Kept.{file_of}
 use Rattle.txn_log.specs.Publishing.{CanTake}
-use Rattle.txn_log.specs.Store.{IsStore, state_in, state_of}
-use Rattle.txn_log.proofs.Moves.{moved-none, image, files, over, stands, left_done, went_done, left_before, went_before, left_in, went_in, shaped-after}
-use Rattle.txn_log.proofs.Stores.{broken}
+use Rattle.lf_sqlite_pages.specs.Header.{image_is_wal}
+use Rattle.world_laws.specs.Store.{StoreState, MayBeFound}
+use Rattle.txn_log.specs.Calls.{RestsAs}
+use Rattle.txn_log.specs.declared.entry.Entry.{Entry}
+use Rattle.txn_log.specs.Store.{IsStore, image_in, state_in, state_of, failed_of}
+use Rattle.txn_log.proofs.Moves.{moved-none, is_done, image, files, over, stands, left_done, went_done, left_before, went_before, left_in, went_in, shaped-after}
+use Rattle.txn_log.proofs.Modes.{mode_after}
+use Rattle.txn_log.proofs.Stores.{broken, mode_before}
 use Rattle.txn_log.proofs.publishing.publish.Goals as goal
 
 pub returns-in_default-clause-went : goal.returns-in_default-clause-went
 returns-in_default-clause-went g c honest = moved-none _ _ _ (c.args.store.now.left honest)
 
-pub invariant_of-store : goal.invariant_of-store
-invariant_of-store g c =
+pub invariant_of-store-clause-shaped : goal.invariant_of-store-clause-shaped
+invariant_of-store-clause-shaped g c = rw (c.reserve.ensures.items) c.args.store.now.shaped
+
+pub invariant_of-store-clause-kept : goal.invariant_of-store-clause-kept
+invariant_of-store-clause-kept g c = rw (c.reserve.ensures.items) c.args.store.now.kept
+
+pub invariant_of-store-clause-left : goal.invariant_of-store-clause-left
+invariant_of-store-clause-left g c honest =
     let s = c.args.store.now in
-    rw (c.reserve.ensures.items) (record { shaped = s.shaped; kept = s.kept; left = s.left })
+    let h = g.D.Disk.history s.disk in
+    subst (λ (es : List Entry). RestsAs (MayBeFound (state_of h s.page_size s.commit es s.dropped s.broken s.whole) (failed_of h s.broken s.attempt s.tried)) h)
+    (sym c.reserve.ensures.items) (s.left honest)
+
+pub invariant_of-store-clause-mode : goal.invariant_of-store-clause-mode
+invariant_of-store-clause-mode g c = c.args.store.now.mode
 
 pub returns-then-is_err-clause-went : goal.returns-then-is_err-clause-went
 returns-then-is_err-clause-went g c honest = rw (c.reserve.ensures.items) (moved-none _ _ _ (c.args.store.now.left honest))
 
-pub invariant_of-store-in-Err : goal.invariant_of-store-in-Err
-invariant_of-store-in-Err g c =
+pub invariant_of-store-in-Err-clause-shaped : goal.invariant_of-store-in-Err-clause-shaped
+invariant_of-store-in-Err-clause-shaped g c = rw (c.reserve.ensures.items, c.in-Err.ensures.err) c.args.store.now.shaped
+
+pub invariant_of-store-in-Err-clause-kept : goal.invariant_of-store-in-Err-clause-kept
+invariant_of-store-in-Err-clause-kept g c = rw (c.reserve.ensures.items, c.in-Err.ensures.err) c.args.store.now.kept
+
+pub invariant_of-store-in-Err-clause-left : goal.invariant_of-store-in-Err-clause-left
+invariant_of-store-in-Err-clause-left g c honest =
     let s = c.args.store.now in
-    rw (c.reserve.ensures.items, c.in-Err.ensures.err) (record { shaped = s.shaped; kept = s.kept; left = s.left })
+    let h = g.D.Disk.history s.disk in
+    subst (λ (es : List Entry). RestsAs (MayBeFound (state_of h s.page_size s.commit es s.dropped s.broken s.whole) (failed_of h s.broken s.attempt s.tried)) h)
+    (sym c.reserve.ensures.items) (s.left honest)
+
+pub invariant_of-store-in-Err-clause-mode : goal.invariant_of-store-in-Err-clause-mode
+invariant_of-store-in-Err-clause-mode g c = c.args.store.now.mode
 
 pub returns-in-Err-clause-went : goal.returns-in-Err-clause-went
 returns-in-Err-clause-went g c honest = rw (c.reserve.ensures.items) (moved-none _ _ _ (c.args.store.now.left honest))
 
-pub place-requires : goal.place-requires
-place-requires g c honest =
+pub place-requires-clause-settled : goal.place-requires-clause-settled
+place-requires-clause-settled g c honest =
     let s = c.args.store.now in
     let h = g.D.Disk.history s.disk in
-    (subst (λ (b : Bool). IsStore h s.page_size s.commit s.entries.items s.sums.sums b s.whole s.tried) c.requires.open_ (s.kept honest)).rest.settled
+    (subst (λ (b : Bool). IsStore h s.page_size s.commit s.entries.items s.dropped s.sums.sums b s.whole s.tried) c.requires.open_ (s.kept honest)).rest.settled
 
 pub invariant_of-store-in-Whole : goal.invariant_of-store-in-Whole
 invariant_of-store-in-Whole g c = record {
+  unmarked = refl;
   shaped =
       let s = c.args.store.now in
       let file = c.args.file.now in
@@ -48,14 +76,14 @@ invariant_of-store-in-Whole g c = record {
       let new = g.D.Disk.history c.place.new.disk in
       let file = c.args.file.now in
       let text : List ℕ = c.as_slice.result.now in
-      let kept : IsStore h s.page_size s.commit s.entries.items s.sums.sums false s.whole s.tried =
-      subst (λ (b : Bool). IsStore h s.page_size s.commit s.entries.items s.sums.sums b s.whole s.tried) c.requires.open_ (s.kept honest) in
-      let can : CanTake (state_in s.page_size s.commit s.entries.items (now h)) file =
-      subst (λ (b : Bool). CanTake (state_of h s.page_size s.commit s.entries.items b s.whole) file) c.requires.open_ (c.requires.can honest) in
+      let kept : IsStore h s.page_size s.commit s.entries.items s.dropped s.sums.sums false s.whole s.tried =
+      subst (λ (b : Bool). IsStore h s.page_size s.commit s.entries.items s.dropped s.sums.sums b s.whole s.tried) c.requires.open_ (s.kept honest) in
+      let can : CanTake (state_in s.page_size s.commit s.entries.items s.dropped (now h)) file =
+      subst (λ (b : Bool). CanTake (state_of h s.page_size s.commit s.entries.items s.dropped b s.whole) file) c.requires.open_ (c.requires.can honest) in
       let is : IsLtx text file = subst (λ (t : List ℕ). IsLtx t file) (sym c.as_slice.ensures.value) c.in-Ok.ensures.text in
       let read : file_of text ≡ file = ap file_of c.as_slice.ensures.value ∙ c.in-Ok.ensures.read in
-      let places = c.in-Whole.ensures.places honest (image h s.page_size s.commit s.entries.items s.sums.sums s.whole s.tried s.shaped kept) (files h s.page_size s.commit s.entries.items s.sums.sums s.whole s.tried s.shaped kept) (over h s.page_size s.commit s.entries.items s.sums.sums s.whole s.tried s.shaped kept file text can is read) in
-      rw (c.push_reserved.ensures.items, c.entry_of.ensures, c.reserve.ensures.items, c.update.ensures, c.in-Ok-reserve.ensures.ok, c.requires.open_) (stands h s.page_size s.commit s.entries.items s.sums.sums s.whole s.tried s.shaped kept file text can is read new places.0 places.1 c.moment-store.result s.tried);
+      let places = c.in-Whole.ensures.places honest (image h s.page_size s.commit s.entries.items s.dropped s.sums.sums s.whole s.tried s.shaped kept) (files h s.page_size s.commit s.entries.items s.dropped s.sums.sums s.whole s.tried s.shaped kept) (over h s.page_size s.commit s.entries.items s.dropped s.sums.sums s.whole s.tried s.shaped kept file text can is read) in
+      rw (c.push_reserved.ensures.items, c.entry_of.ensures, c.reserve.ensures.items, c.update.ensures, c.in-Ok-reserve.ensures.ok, c.requires.open_) (stands h s.page_size s.commit s.entries.items s.dropped s.sums.sums s.whole s.tried s.shaped kept file text can is read new places.0 places.1 c.moment-store.result s.tried);
   left = λ still.
       let honest = sym c.place.ensures.honest ∙ still in
       let s = c.args.store.now in
@@ -63,14 +91,33 @@ invariant_of-store-in-Whole g c = record {
       let new = g.D.Disk.history c.place.new.disk in
       let file = c.args.file.now in
       let text : List ℕ = c.as_slice.result.now in
-      let kept : IsStore h s.page_size s.commit s.entries.items s.sums.sums false s.whole s.tried =
-      subst (λ (b : Bool). IsStore h s.page_size s.commit s.entries.items s.sums.sums b s.whole s.tried) c.requires.open_ (s.kept honest) in
-      let can : CanTake (state_in s.page_size s.commit s.entries.items (now h)) file =
-      subst (λ (b : Bool). CanTake (state_of h s.page_size s.commit s.entries.items b s.whole) file) c.requires.open_ (c.requires.can honest) in
+      let kept : IsStore h s.page_size s.commit s.entries.items s.dropped s.sums.sums false s.whole s.tried =
+      subst (λ (b : Bool). IsStore h s.page_size s.commit s.entries.items s.dropped s.sums.sums b s.whole s.tried) c.requires.open_ (s.kept honest) in
+      let can : CanTake (state_in s.page_size s.commit s.entries.items s.dropped (now h)) file =
+      subst (λ (b : Bool). CanTake (state_of h s.page_size s.commit s.entries.items s.dropped b s.whole) file) c.requires.open_ (c.requires.can honest) in
       let is : IsLtx text file = subst (λ (t : List ℕ). IsLtx t file) (sym c.as_slice.ensures.value) c.in-Ok.ensures.text in
       let read : file_of text ≡ file = ap file_of c.as_slice.ensures.value ∙ c.in-Ok.ensures.read in
-      let places = c.in-Whole.ensures.places honest (image h s.page_size s.commit s.entries.items s.sums.sums s.whole s.tried s.shaped kept) (files h s.page_size s.commit s.entries.items s.sums.sums s.whole s.tried s.shaped kept) (over h s.page_size s.commit s.entries.items s.sums.sums s.whole s.tried s.shaped kept file text can is read) in
-      rw (c.push_reserved.ensures.items, c.entry_of.ensures, c.reserve.ensures.items, c.requires.open_) (left_done h s.page_size s.commit s.entries.items s.sums.sums s.whole s.tried s.shaped kept file text can is read new places.0 places.1);
+      let places = c.in-Whole.ensures.places honest (image h s.page_size s.commit s.entries.items s.dropped s.sums.sums s.whole s.tried s.shaped kept) (files h s.page_size s.commit s.entries.items s.dropped s.sums.sums s.whole s.tried s.shaped kept) (over h s.page_size s.commit s.entries.items s.dropped s.sums.sums s.whole s.tried s.shaped kept file text can is read) in
+      rw (c.push_reserved.ensures.items, c.entry_of.ensures, c.reserve.ensures.items, c.requires.open_) (left_done h s.page_size s.commit s.entries.items s.dropped s.sums.sums s.whole s.tried s.shaped kept file text can is read new places.0 places.1);
+  mode = λ still.
+      let honest = sym c.place.ensures.honest ∙ still in
+      let s = c.args.store.now in
+      let h = g.D.Disk.history s.disk in
+      let new = g.D.Disk.history c.place.new.disk in
+      let file = c.args.file.now in
+      let text : List ℕ = c.as_slice.result.now in
+      let kept : IsStore h s.page_size s.commit s.entries.items s.dropped s.sums.sums false s.whole s.tried =
+      subst (λ (b : Bool). IsStore h s.page_size s.commit s.entries.items s.dropped s.sums.sums b s.whole s.tried) c.requires.open_ (s.kept honest) in
+      let can : CanTake (state_in s.page_size s.commit s.entries.items s.dropped (now h)) file =
+      subst (λ (b : Bool). CanTake (state_of h s.page_size s.commit s.entries.items s.dropped b s.whole) file) c.requires.open_ (c.requires.can honest) in
+      let is : IsLtx text file = subst (λ (t : List ℕ). IsLtx t file) (sym c.as_slice.ensures.value) c.in-Ok.ensures.text in
+      let read : file_of text ≡ file = ap file_of c.as_slice.ensures.value ∙ c.in-Ok.ensures.read in
+      let places = c.in-Whole.ensures.places honest (image h s.page_size s.commit s.entries.items s.dropped s.sums.sums s.whole s.tried s.shaped kept) (files h s.page_size s.commit s.entries.items s.dropped s.sums.sums s.whole s.tried s.shaped kept) (over h s.page_size s.commit s.entries.items s.dropped s.sums.sums s.whole s.tried s.shaped kept file text can is read) in
+      let mode : s.wal ≡ image_is_wal (image_in s.page_size s.commit (now h)) =
+      subst (λ (b : Bool). s.wal ≡ image_is_wal (state_of h s.page_size s.commit s.entries.items s.dropped b s.whole).image) c.requires.open_ (s.mode honest) in
+      rw (c.wal_after-store.ensures, c.requires.open_)
+      (mode_after (image h s.page_size s.commit s.entries.items s.dropped s.sums.sums s.whole s.tried s.shaped kept) s.wal file.change c.requires.valid.block.pages.of_a_page_size can.complete mode
+      ∙ ap (λ (st : StoreState). image_is_wal st.image) (sym (is_done h s.page_size s.commit s.entries.items s.dropped s.sums.sums s.whole s.tried s.shaped kept file text can is read new places.0 places.1)));
 }
 
 pub returns-in-Whole-clause-went : goal.returns-in-Whole-clause-went
@@ -80,17 +127,18 @@ returns-in-Whole-clause-went g c honest =
     let new = g.D.Disk.history c.place.new.disk in
     let file = c.args.file.now in
     let text : List ℕ = c.as_slice.result.now in
-    let kept : IsStore h s.page_size s.commit s.entries.items s.sums.sums false s.whole s.tried =
-    subst (λ (b : Bool). IsStore h s.page_size s.commit s.entries.items s.sums.sums b s.whole s.tried) c.requires.open_ (s.kept honest) in
-    let can : CanTake (state_in s.page_size s.commit s.entries.items (now h)) file =
-    subst (λ (b : Bool). CanTake (state_of h s.page_size s.commit s.entries.items b s.whole) file) c.requires.open_ (c.requires.can honest) in
+    let kept : IsStore h s.page_size s.commit s.entries.items s.dropped s.sums.sums false s.whole s.tried =
+    subst (λ (b : Bool). IsStore h s.page_size s.commit s.entries.items s.dropped s.sums.sums b s.whole s.tried) c.requires.open_ (s.kept honest) in
+    let can : CanTake (state_in s.page_size s.commit s.entries.items s.dropped (now h)) file =
+    subst (λ (b : Bool). CanTake (state_of h s.page_size s.commit s.entries.items s.dropped b s.whole) file) c.requires.open_ (c.requires.can honest) in
     let is : IsLtx text file = subst (λ (t : List ℕ). IsLtx t file) (sym c.as_slice.ensures.value) c.in-Ok.ensures.text in
     let read : file_of text ≡ file = ap file_of c.as_slice.ensures.value ∙ c.in-Ok.ensures.read in
-    let places = c.in-Whole.ensures.places honest (image h s.page_size s.commit s.entries.items s.sums.sums s.whole s.tried s.shaped kept) (files h s.page_size s.commit s.entries.items s.sums.sums s.whole s.tried s.shaped kept) (over h s.page_size s.commit s.entries.items s.sums.sums s.whole s.tried s.shaped kept file text can is read) in
-    rw (c.push_reserved.ensures.items, c.entry_of.ensures, c.reserve.ensures.items, c.requires.open_) (went_done h s.page_size s.commit s.entries.items s.sums.sums s.whole s.tried s.shaped kept file text can is read new places.0 places.1)
+    let places = c.in-Whole.ensures.places honest (image h s.page_size s.commit s.entries.items s.dropped s.sums.sums s.whole s.tried s.shaped kept) (files h s.page_size s.commit s.entries.items s.dropped s.sums.sums s.whole s.tried s.shaped kept) (over h s.page_size s.commit s.entries.items s.dropped s.sums.sums s.whole s.tried s.shaped kept file text can is read) in
+    rw (c.push_reserved.ensures.items, c.entry_of.ensures, c.reserve.ensures.items, c.requires.open_) (went_done h s.page_size s.commit s.entries.items s.dropped s.sums.sums s.whole s.tried s.shaped kept file text can is read new places.0 places.1)
 
 pub invariant_of-store-in-Unpublished : goal.invariant_of-store-in-Unpublished
 invariant_of-store-in-Unpublished g c = record {
+  unmarked = c.args.store.now.unmarked;
   shaped = rw (c.reserve.ensures.items, c.in-Ok-reserve.ensures.ok) c.args.store.now.shaped;
   kept = λ still.
       let honest = sym c.place.ensures.honest ∙ still in
@@ -99,15 +147,15 @@ invariant_of-store-in-Unpublished g c = record {
       let new = g.D.Disk.history c.place.new.disk in
       let file = c.args.file.now in
       let text : List ℕ = c.as_slice.result.now in
-      let kept : IsStore h s.page_size s.commit s.entries.items s.sums.sums false s.whole s.tried =
-      subst (λ (b : Bool). IsStore h s.page_size s.commit s.entries.items s.sums.sums b s.whole s.tried) c.requires.open_ (s.kept honest) in
-      let can : CanTake (state_in s.page_size s.commit s.entries.items (now h)) file =
-      subst (λ (b : Bool). CanTake (state_of h s.page_size s.commit s.entries.items b s.whole) file) c.requires.open_ (c.requires.can honest) in
+      let kept : IsStore h s.page_size s.commit s.entries.items s.dropped s.sums.sums false s.whole s.tried =
+      subst (λ (b : Bool). IsStore h s.page_size s.commit s.entries.items s.dropped s.sums.sums b s.whole s.tried) c.requires.open_ (s.kept honest) in
+      let can : CanTake (state_in s.page_size s.commit s.entries.items s.dropped (now h)) file =
+      subst (λ (b : Bool). CanTake (state_of h s.page_size s.commit s.entries.items s.dropped b s.whole) file) c.requires.open_ (c.requires.can honest) in
       let is : IsLtx text file = subst (λ (t : List ℕ). IsLtx t file) (sym c.as_slice.ensures.value) c.in-Ok.ensures.text in
       let read : file_of text ≡ file = ap file_of c.as_slice.ensures.value ∙ c.in-Ok.ensures.read in
-      let places = c.in-Unpublished.ensures.places honest (image h s.page_size s.commit s.entries.items s.sums.sums s.whole s.tried s.shaped kept) (files h s.page_size s.commit s.entries.items s.sums.sums s.whole s.tried s.shaped kept) (over h s.page_size s.commit s.entries.items s.sums.sums s.whole s.tried s.shaped kept file text can is read) in
+      let places = c.in-Unpublished.ensures.places honest (image h s.page_size s.commit s.entries.items s.dropped s.sums.sums s.whole s.tried s.shaped kept) (files h s.page_size s.commit s.entries.items s.dropped s.sums.sums s.whole s.tried s.shaped kept) (over h s.page_size s.commit s.entries.items s.dropped s.sums.sums s.whole s.tried s.shaped kept file text can is read) in
       rw (c.reserve.ensures.items, c.in-Ok-reserve.ensures.ok, c.moment-store.ensures)
-      (broken s.page_size s.commit s.entries.items s.sums.sums h new places.past s.whole s.tried h.moment places.later places.later kept);
+      (broken s.page_size s.commit s.entries.items s.dropped s.sums.sums h new places.past s.whole s.tried h.moment places.later places.later kept);
   left = λ still.
       let honest = sym c.place.ensures.honest ∙ still in
       let s = c.args.store.now in
@@ -115,14 +163,31 @@ invariant_of-store-in-Unpublished g c = record {
       let new = g.D.Disk.history c.place.new.disk in
       let file = c.args.file.now in
       let text : List ℕ = c.as_slice.result.now in
-      let kept : IsStore h s.page_size s.commit s.entries.items s.sums.sums false s.whole s.tried =
-      subst (λ (b : Bool). IsStore h s.page_size s.commit s.entries.items s.sums.sums b s.whole s.tried) c.requires.open_ (s.kept honest) in
-      let can : CanTake (state_in s.page_size s.commit s.entries.items (now h)) file =
-      subst (λ (b : Bool). CanTake (state_of h s.page_size s.commit s.entries.items b s.whole) file) c.requires.open_ (c.requires.can honest) in
+      let kept : IsStore h s.page_size s.commit s.entries.items s.dropped s.sums.sums false s.whole s.tried =
+      subst (λ (b : Bool). IsStore h s.page_size s.commit s.entries.items s.dropped s.sums.sums b s.whole s.tried) c.requires.open_ (s.kept honest) in
+      let can : CanTake (state_in s.page_size s.commit s.entries.items s.dropped (now h)) file =
+      subst (λ (b : Bool). CanTake (state_of h s.page_size s.commit s.entries.items s.dropped b s.whole) file) c.requires.open_ (c.requires.can honest) in
       let is : IsLtx text file = subst (λ (t : List ℕ). IsLtx t file) (sym c.as_slice.ensures.value) c.in-Ok.ensures.text in
       let read : file_of text ≡ file = ap file_of c.as_slice.ensures.value ∙ c.in-Ok.ensures.read in
-      let places = c.in-Unpublished.ensures.places honest (image h s.page_size s.commit s.entries.items s.sums.sums s.whole s.tried s.shaped kept) (files h s.page_size s.commit s.entries.items s.sums.sums s.whole s.tried s.shaped kept) (over h s.page_size s.commit s.entries.items s.sums.sums s.whole s.tried s.shaped kept file text can is read) in
-      rw (c.reserve.ensures.items, c.moment-store.ensures) (left_before h s.page_size s.commit s.entries.items s.sums.sums s.whole s.tried s.shaped kept new places);
+      let places = c.in-Unpublished.ensures.places honest (image h s.page_size s.commit s.entries.items s.dropped s.sums.sums s.whole s.tried s.shaped kept) (files h s.page_size s.commit s.entries.items s.dropped s.sums.sums s.whole s.tried s.shaped kept) (over h s.page_size s.commit s.entries.items s.dropped s.sums.sums s.whole s.tried s.shaped kept file text can is read) in
+      rw (c.reserve.ensures.items, c.moment-store.ensures) (left_before h s.page_size s.commit s.entries.items s.dropped s.sums.sums s.whole s.tried s.shaped kept new places);
+  mode = λ still.
+      let honest = sym c.place.ensures.honest ∙ still in
+      let s = c.args.store.now in
+      let h = g.D.Disk.history s.disk in
+      let new = g.D.Disk.history c.place.new.disk in
+      let file = c.args.file.now in
+      let text : List ℕ = c.as_slice.result.now in
+      let kept : IsStore h s.page_size s.commit s.entries.items s.dropped s.sums.sums false s.whole s.tried =
+      subst (λ (b : Bool). IsStore h s.page_size s.commit s.entries.items s.dropped s.sums.sums b s.whole s.tried) c.requires.open_ (s.kept honest) in
+      let can : CanTake (state_in s.page_size s.commit s.entries.items s.dropped (now h)) file =
+      subst (λ (b : Bool). CanTake (state_of h s.page_size s.commit s.entries.items s.dropped b s.whole) file) c.requires.open_ (c.requires.can honest) in
+      let is : IsLtx text file = subst (λ (t : List ℕ). IsLtx t file) (sym c.as_slice.ensures.value) c.in-Ok.ensures.text in
+      let read : file_of text ≡ file = ap file_of c.as_slice.ensures.value ∙ c.in-Ok.ensures.read in
+      let places = c.in-Unpublished.ensures.places honest (image h s.page_size s.commit s.entries.items s.dropped s.sums.sums s.whole s.tried s.shaped kept) (files h s.page_size s.commit s.entries.items s.dropped s.sums.sums s.whole s.tried s.shaped kept) (over h s.page_size s.commit s.entries.items s.dropped s.sums.sums s.whole s.tried s.shaped kept file text can is read) in
+      let mode : s.wal ≡ image_is_wal (image_in s.page_size s.commit (now h)) =
+      subst (λ (b : Bool). s.wal ≡ image_is_wal (state_of h s.page_size s.commit s.entries.items s.dropped b s.whole).image) c.requires.open_ (s.mode honest) in
+      rw (c.moment-store.ensures) (mode_before s.page_size s.commit s.entries.items s.dropped s.sums.sums h new places.past s.wal mode);
 }
 
 pub returns-in-Unpublished-clause-went : goal.returns-in-Unpublished-clause-went
@@ -132,17 +197,18 @@ returns-in-Unpublished-clause-went g c honest =
     let new = g.D.Disk.history c.place.new.disk in
     let file = c.args.file.now in
     let text : List ℕ = c.as_slice.result.now in
-    let kept : IsStore h s.page_size s.commit s.entries.items s.sums.sums false s.whole s.tried =
-    subst (λ (b : Bool). IsStore h s.page_size s.commit s.entries.items s.sums.sums b s.whole s.tried) c.requires.open_ (s.kept honest) in
-    let can : CanTake (state_in s.page_size s.commit s.entries.items (now h)) file =
-    subst (λ (b : Bool). CanTake (state_of h s.page_size s.commit s.entries.items b s.whole) file) c.requires.open_ (c.requires.can honest) in
+    let kept : IsStore h s.page_size s.commit s.entries.items s.dropped s.sums.sums false s.whole s.tried =
+    subst (λ (b : Bool). IsStore h s.page_size s.commit s.entries.items s.dropped s.sums.sums b s.whole s.tried) c.requires.open_ (s.kept honest) in
+    let can : CanTake (state_in s.page_size s.commit s.entries.items s.dropped (now h)) file =
+    subst (λ (b : Bool). CanTake (state_of h s.page_size s.commit s.entries.items s.dropped b s.whole) file) c.requires.open_ (c.requires.can honest) in
     let is : IsLtx text file = subst (λ (t : List ℕ). IsLtx t file) (sym c.as_slice.ensures.value) c.in-Ok.ensures.text in
     let read : file_of text ≡ file = ap file_of c.as_slice.ensures.value ∙ c.in-Ok.ensures.read in
-    let places = c.in-Unpublished.ensures.places honest (image h s.page_size s.commit s.entries.items s.sums.sums s.whole s.tried s.shaped kept) (files h s.page_size s.commit s.entries.items s.sums.sums s.whole s.tried s.shaped kept) (over h s.page_size s.commit s.entries.items s.sums.sums s.whole s.tried s.shaped kept file text can is read) in
-    rw (c.reserve.ensures.items, c.moment-store.ensures, c.requires.open_) (inl (went_before h s.page_size s.commit s.entries.items s.sums.sums s.whole s.tried s.shaped kept new places))
+    let places = c.in-Unpublished.ensures.places honest (image h s.page_size s.commit s.entries.items s.dropped s.sums.sums s.whole s.tried s.shaped kept) (files h s.page_size s.commit s.entries.items s.dropped s.sums.sums s.whole s.tried s.shaped kept) (over h s.page_size s.commit s.entries.items s.dropped s.sums.sums s.whole s.tried s.shaped kept file text can is read) in
+    rw (c.reserve.ensures.items, c.moment-store.ensures, c.requires.open_) (inl (went_before h s.page_size s.commit s.entries.items s.dropped s.sums.sums s.whole s.tried s.shaped kept new places))
 
 pub invariant_of-store-in-From : goal.invariant_of-store-in-From
 invariant_of-store-in-From g c = record {
+  unmarked = c.args.store.now.unmarked;
   shaped = rw (c.reserve.ensures.items, c.in-Ok-reserve.ensures.ok) c.args.store.now.shaped;
   kept = λ still.
       let honest = sym c.place.ensures.honest ∙ still in
@@ -151,15 +217,15 @@ invariant_of-store-in-From g c = record {
       let new = g.D.Disk.history c.place.new.disk in
       let file = c.args.file.now in
       let text : List ℕ = c.as_slice.result.now in
-      let kept : IsStore h s.page_size s.commit s.entries.items s.sums.sums false s.whole s.tried =
-      subst (λ (b : Bool). IsStore h s.page_size s.commit s.entries.items s.sums.sums b s.whole s.tried) c.requires.open_ (s.kept honest) in
-      let can : CanTake (state_in s.page_size s.commit s.entries.items (now h)) file =
-      subst (λ (b : Bool). CanTake (state_of h s.page_size s.commit s.entries.items b s.whole) file) c.requires.open_ (c.requires.can honest) in
+      let kept : IsStore h s.page_size s.commit s.entries.items s.dropped s.sums.sums false s.whole s.tried =
+      subst (λ (b : Bool). IsStore h s.page_size s.commit s.entries.items s.dropped s.sums.sums b s.whole s.tried) c.requires.open_ (s.kept honest) in
+      let can : CanTake (state_in s.page_size s.commit s.entries.items s.dropped (now h)) file =
+      subst (λ (b : Bool). CanTake (state_of h s.page_size s.commit s.entries.items s.dropped b s.whole) file) c.requires.open_ (c.requires.can honest) in
       let is : IsLtx text file = subst (λ (t : List ℕ). IsLtx t file) (sym c.as_slice.ensures.value) c.in-Ok.ensures.text in
       let read : file_of text ≡ file = ap file_of c.as_slice.ensures.value ∙ c.in-Ok.ensures.read in
-      let places = c.in-From.ensures.places honest (image h s.page_size s.commit s.entries.items s.sums.sums s.whole s.tried s.shaped kept) (files h s.page_size s.commit s.entries.items s.sums.sums s.whole s.tried s.shaped kept) (over h s.page_size s.commit s.entries.items s.sums.sums s.whole s.tried s.shaped kept file text can is read) in
+      let places = c.in-From.ensures.places honest (image h s.page_size s.commit s.entries.items s.dropped s.sums.sums s.whole s.tried s.shaped kept) (files h s.page_size s.commit s.entries.items s.dropped s.sums.sums s.whole s.tried s.shaped kept) (over h s.page_size s.commit s.entries.items s.dropped s.sums.sums s.whole s.tried s.shaped kept file text can is read) in
       rw (c.reserve.ensures.items, c.in-Ok-reserve.ensures.ok, c.moment-store.ensures)
-      (broken s.page_size s.commit s.entries.items s.sums.sums h new places.0.past s.whole s.tried c.in-From.tried places.0.later places.1.past kept);
+      (broken s.page_size s.commit s.entries.items s.dropped s.sums.sums h new places.0.past s.whole s.tried c.in-From.tried places.0.later places.1.past kept);
   left = λ still.
       let honest = sym c.place.ensures.honest ∙ still in
       let s = c.args.store.now in
@@ -167,14 +233,31 @@ invariant_of-store-in-From g c = record {
       let new = g.D.Disk.history c.place.new.disk in
       let file = c.args.file.now in
       let text : List ℕ = c.as_slice.result.now in
-      let kept : IsStore h s.page_size s.commit s.entries.items s.sums.sums false s.whole s.tried =
-      subst (λ (b : Bool). IsStore h s.page_size s.commit s.entries.items s.sums.sums b s.whole s.tried) c.requires.open_ (s.kept honest) in
-      let can : CanTake (state_in s.page_size s.commit s.entries.items (now h)) file =
-      subst (λ (b : Bool). CanTake (state_of h s.page_size s.commit s.entries.items b s.whole) file) c.requires.open_ (c.requires.can honest) in
+      let kept : IsStore h s.page_size s.commit s.entries.items s.dropped s.sums.sums false s.whole s.tried =
+      subst (λ (b : Bool). IsStore h s.page_size s.commit s.entries.items s.dropped s.sums.sums b s.whole s.tried) c.requires.open_ (s.kept honest) in
+      let can : CanTake (state_in s.page_size s.commit s.entries.items s.dropped (now h)) file =
+      subst (λ (b : Bool). CanTake (state_of h s.page_size s.commit s.entries.items s.dropped b s.whole) file) c.requires.open_ (c.requires.can honest) in
       let is : IsLtx text file = subst (λ (t : List ℕ). IsLtx t file) (sym c.as_slice.ensures.value) c.in-Ok.ensures.text in
       let read : file_of text ≡ file = ap file_of c.as_slice.ensures.value ∙ c.in-Ok.ensures.read in
-      let places = c.in-From.ensures.places honest (image h s.page_size s.commit s.entries.items s.sums.sums s.whole s.tried s.shaped kept) (files h s.page_size s.commit s.entries.items s.sums.sums s.whole s.tried s.shaped kept) (over h s.page_size s.commit s.entries.items s.sums.sums s.whole s.tried s.shaped kept file text can is read) in
-      rw (c.reserve.ensures.items, c.moment-store.ensures) (left_in h s.page_size s.commit s.entries.items s.sums.sums s.whole s.tried s.shaped kept file text can is read new c.in-From.tried places.0 places.1);
+      let places = c.in-From.ensures.places honest (image h s.page_size s.commit s.entries.items s.dropped s.sums.sums s.whole s.tried s.shaped kept) (files h s.page_size s.commit s.entries.items s.dropped s.sums.sums s.whole s.tried s.shaped kept) (over h s.page_size s.commit s.entries.items s.dropped s.sums.sums s.whole s.tried s.shaped kept file text can is read) in
+      rw (c.reserve.ensures.items, c.moment-store.ensures) (left_in h s.page_size s.commit s.entries.items s.dropped s.sums.sums s.whole s.tried s.shaped kept file text can is read new c.in-From.tried places.0 places.1);
+  mode = λ still.
+      let honest = sym c.place.ensures.honest ∙ still in
+      let s = c.args.store.now in
+      let h = g.D.Disk.history s.disk in
+      let new = g.D.Disk.history c.place.new.disk in
+      let file = c.args.file.now in
+      let text : List ℕ = c.as_slice.result.now in
+      let kept : IsStore h s.page_size s.commit s.entries.items s.dropped s.sums.sums false s.whole s.tried =
+      subst (λ (b : Bool). IsStore h s.page_size s.commit s.entries.items s.dropped s.sums.sums b s.whole s.tried) c.requires.open_ (s.kept honest) in
+      let can : CanTake (state_in s.page_size s.commit s.entries.items s.dropped (now h)) file =
+      subst (λ (b : Bool). CanTake (state_of h s.page_size s.commit s.entries.items s.dropped b s.whole) file) c.requires.open_ (c.requires.can honest) in
+      let is : IsLtx text file = subst (λ (t : List ℕ). IsLtx t file) (sym c.as_slice.ensures.value) c.in-Ok.ensures.text in
+      let read : file_of text ≡ file = ap file_of c.as_slice.ensures.value ∙ c.in-Ok.ensures.read in
+      let places = c.in-From.ensures.places honest (image h s.page_size s.commit s.entries.items s.dropped s.sums.sums s.whole s.tried s.shaped kept) (files h s.page_size s.commit s.entries.items s.dropped s.sums.sums s.whole s.tried s.shaped kept) (over h s.page_size s.commit s.entries.items s.dropped s.sums.sums s.whole s.tried s.shaped kept file text can is read) in
+      let mode : s.wal ≡ image_is_wal (image_in s.page_size s.commit (now h)) =
+      subst (λ (b : Bool). s.wal ≡ image_is_wal (state_of h s.page_size s.commit s.entries.items s.dropped b s.whole).image) c.requires.open_ (s.mode honest) in
+      rw (c.moment-store.ensures) (mode_before s.page_size s.commit s.entries.items s.dropped s.sums.sums h new places.0.past s.wal mode);
 }
 
 pub returns-clause-went : goal.returns-clause-went
@@ -184,11 +267,11 @@ returns-clause-went g c honest =
     let new = g.D.Disk.history c.place.new.disk in
     let file = c.args.file.now in
     let text : List ℕ = c.as_slice.result.now in
-    let kept : IsStore h s.page_size s.commit s.entries.items s.sums.sums false s.whole s.tried =
-    subst (λ (b : Bool). IsStore h s.page_size s.commit s.entries.items s.sums.sums b s.whole s.tried) c.requires.open_ (s.kept honest) in
-    let can : CanTake (state_in s.page_size s.commit s.entries.items (now h)) file =
-    subst (λ (b : Bool). CanTake (state_of h s.page_size s.commit s.entries.items b s.whole) file) c.requires.open_ (c.requires.can honest) in
+    let kept : IsStore h s.page_size s.commit s.entries.items s.dropped s.sums.sums false s.whole s.tried =
+    subst (λ (b : Bool). IsStore h s.page_size s.commit s.entries.items s.dropped s.sums.sums b s.whole s.tried) c.requires.open_ (s.kept honest) in
+    let can : CanTake (state_in s.page_size s.commit s.entries.items s.dropped (now h)) file =
+    subst (λ (b : Bool). CanTake (state_of h s.page_size s.commit s.entries.items s.dropped b s.whole) file) c.requires.open_ (c.requires.can honest) in
     let is : IsLtx text file = subst (λ (t : List ℕ). IsLtx t file) (sym c.as_slice.ensures.value) c.in-Ok.ensures.text in
     let read : file_of text ≡ file = ap file_of c.as_slice.ensures.value ∙ c.in-Ok.ensures.read in
-    let places = c.in-From.ensures.places honest (image h s.page_size s.commit s.entries.items s.sums.sums s.whole s.tried s.shaped kept) (files h s.page_size s.commit s.entries.items s.sums.sums s.whole s.tried s.shaped kept) (over h s.page_size s.commit s.entries.items s.sums.sums s.whole s.tried s.shaped kept file text can is read) in
-    rw (c.reserve.ensures.items, c.moment-store.ensures, c.requires.open_) (inr (went_in h s.page_size s.commit s.entries.items s.sums.sums s.whole s.tried s.shaped kept file text can is read new c.in-From.tried places.0 places.1))
+    let places = c.in-From.ensures.places honest (image h s.page_size s.commit s.entries.items s.dropped s.sums.sums s.whole s.tried s.shaped kept) (files h s.page_size s.commit s.entries.items s.dropped s.sums.sums s.whole s.tried s.shaped kept) (over h s.page_size s.commit s.entries.items s.dropped s.sums.sums s.whole s.tried s.shaped kept file text can is read) in
+    rw (c.reserve.ensures.items, c.moment-store.ensures, c.requires.open_) (inr (went_in h s.page_size s.commit s.entries.items s.dropped s.sums.sums s.whole s.tried s.shaped kept file text can is read new c.in-From.tried places.0 places.1))

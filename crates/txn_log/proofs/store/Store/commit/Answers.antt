@@ -17,13 +17,13 @@ publish-requires-clause-can g c honest =
     let h = g.D.Disk.history s.disk in
     let drafts = c.in-Ok.ensures.drafts in
     let file : Ltx = drafted (end_of_entries s.entries.items) s.commit s.sums.sums c.args.change.now c.args.stamp c.args.node in
-    let kept : IsStore h s.page_size s.commit s.entries.items s.sums.sums false s.whole s.tried =
-    subst (λ (b : Bool). IsStore h s.page_size s.commit s.entries.items s.sums.sums b s.whole s.tried) drafts.0 (s.kept honest) in
+    let kept : IsStore h s.page_size s.commit s.entries.items s.dropped s.sums.sums false s.whole s.tried =
+    subst (λ (b : Bool). IsStore h s.page_size s.commit s.entries.items s.dropped s.sums.sums b s.whole s.tried) drafts.0 (s.kept honest) in
     let is : IsFile file = subst (λ (f : Ltx). IsFile f) drafts.3 c.in-Ok.ensures.valid in
-    let can : CanTake (state_in s.page_size s.commit s.entries.items (now h)) file =
-    can_take h s.page_size s.commit s.entries.items s.sums.sums s.whole s.tried kept c.args.change.now c.args.stamp c.args.node c.in-Ok.ensures.change drafts.1 is in
-    subst (λ (f : Ltx). CanTake (state_of h s.page_size s.commit s.entries.items s.broken s.whole) f) (sym drafts.3)
-    (subst (λ (b : Bool). CanTake (state_of h s.page_size s.commit s.entries.items b s.whole) file) (sym drafts.0) can)
+    let can : CanTake (state_in s.page_size s.commit s.entries.items s.dropped (now h)) file =
+    can_take h s.page_size s.commit s.entries.items s.dropped s.sums.sums s.whole s.tried kept c.args.change.now c.args.stamp c.args.node c.in-Ok.ensures.change drafts.1 is in
+    subst (λ (f : Ltx). CanTake (state_of h s.page_size s.commit s.entries.items s.dropped s.broken s.whole) f) (sym drafts.3)
+    (subst (λ (b : Bool). CanTake (state_of h s.page_size s.commit s.entries.items s.dropped b s.whole) file) (sym drafts.0) can)
 
 pub returns-in-Err-clause-went : goal.returns-in-Err-clause-went
 returns-in-Err-clause-went g c honest =

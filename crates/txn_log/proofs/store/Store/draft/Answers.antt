@@ -23,5 +23,5 @@ returns-in-Ok-complete-clause-valid g c =
     let widths : FitsWidths c.file_behind.result.header = c.file_behind.ensures.widths.0 in
     let width : c.file_behind.result.post < 2 ^ 64 = c.file_behind.ensures.widths.1 in
     subst (λ (f : Ltx). IsFile f) (sym is)
-    (is_file s.commit s.entries.items s.sums.sums c.args.change.now c.args.stamp c.args.node s.shaped c.copy_of.ensures.valid within
+    (is_file s.commit s.entries.items s.dropped s.sums.sums c.args.change.now c.args.stamp c.args.node s.shaped c.copy_of.ensures.valid within
     (subst (λ (f : Ltx). FitsWidths f.header) is widths) (subst (λ (f : Ltx). f.post < 2 ^ 64) is width))
