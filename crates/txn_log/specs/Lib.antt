@@ -14,4 +14,5 @@ pub mod Pruning
 pub mod Publishing
 pub mod Putting
 pub mod Rewriting
+pub mod Settling
 pub mod Store

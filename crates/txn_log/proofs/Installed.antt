@@ -1,0 +1,60 @@
+-- What stands while a snapshot is settled stands for one store.
+use Rattle.std.proofs.Common.{◌≡◌, inl, inr, ℕ, ◌+◌, ◌<◌, ◌≤◌, List, [], ◌∷◌, length, get_or, zero, suc, refl, sym, ◌∙◌, ap, subst, arith}
+use Rattle.std.proofs.Props.{props}
+use Rattle.std.proofs.Math.Logic.{∥∥₁_elim}
+use Rattle.lf_disk.specs.Folder.{Folder}
+use Rattle.lf_disk.specs.History.{History, EachMoment}
+use Rattle.lf_disk.proofs.Moments.{weakened}
+use Rattle.ltx_codec.specs.Format.{IsLtx}
+use Rattle.ltx_codec.specs.declared.file.Ltx.{Ltx}
+use Rattle.world_laws.specs.Store.{StoreState}
+use Rattle.txn_log.specs.Kept.{LogFile, file_of, Kept, IsBySnapshot, Ascends, Ascends-prop}
+use Rattle.txn_log.specs.Durable.{Durable, StandsBySnapshot, IsText, IsLog, log_of, Follow}
+use Rattle.txn_log.specs.Settling.{IsInstalled}
+
+-- what holds of a file holds of each file of a log of it alone
+each_alone : (P : LogFile → Type 0) (file : LogFile) → P file → (k : ℕ) (d : LogFile) → k < length (file ∷ []) → P (get_or (file ∷ []) k d)
+each_alone P file it zero d within = it
+each_alone P file it (suc k) d within = absurd (omega (arith, within))
+
+above_none : (text : List ℕ) → IsText text → 0 < (file_of text).header.min
+above_none text is = ∥∥₁_elim is (hlevel props) (λ (it : IsLtx text (file_of text)). omega (arith, it.valid.header.min))
+
+in_order : (text : List ℕ) → IsText text → (file_of text).header.min ≤ (file_of text).header.max
+in_order text is = ∥∥₁_elim is (hlevel props) (λ (it : IsLtx text (file_of text)). it.valid.header.max)
+
+-- one file is a log
+pub alone : (file : LogFile) → IsText file.text → (file_of file.text).header.min ≡ file.min → (file_of file.text).header.max ≡ file.max → IsLog (file ∷ [])
+alone file is low high = record {
+  ascends = (omega (arith, low, above_none file.text is), omega (arith, low, high, in_order file.text is), tt);
+  texts = each_alone (λ (f : LogFile). IsText f.text) file is;
+  min = each_alone (λ (f : LogFile). (file_of f.text).header.min ≡ f.min) file low;
+  max = each_alone (λ (f : LogFile). (file_of f.text).header.max ≡ f.max) file high;
+  follow = λ k d within. absurd (omega (arith, within));
+}
+
+-- so at each moment of it a folder stands for the store of the snapshot
+pub durable_installed : (folder c : Folder) (store : StoreState) (by : StandsBySnapshot folder store) (file : LogFile) → file.text ≡ by.text → (file_of by.text).header.min ≡ file.min → (file_of by.text).header.max ≡ file.max
+    → IsInstalled store.image file c → Durable c store
+durable_installed folder c store by file same low high installed =
+    let is : IsText file.text = subst (λ (t : List ℕ). IsText t) (sym same) by.is in
+    let log : store.log ≡ file_of file.text ∷ [] = by.log ∙ ap (λ (t : List ℕ). file_of t ∷ []) (sym same) in
+    elim installed [
+      | inl snapshot ↦ inr (inl (record {
+        text = file.text;
+        by = snapshot;
+        log = log;
+        is = is;
+        first = ap (λ (t : List ℕ). (file_of t).header.min) same ∙ by.first;
+        sum = by.sum;
+        unmarked = by.unmarked;
+      }))
+      | inr kept ↦ inl (record {
+        files = file ∷ [];
+        kept = kept;
+        log = log;
+        sound = alone file is (ap (λ (t : List ℕ). (file_of t).header.min) same ∙ low) (ap (λ (t : List ℕ). (file_of t).header.max) same ∙ high);
+        sum = by.sum;
+        unmarked = by.unmarked;
+      })
+    ]

@@ -1,0 +1,69 @@
+//! The rest of an install and of a drop, from whatever a stop left of it.
+ghost use Rattle.std.specs.Prelude.{◌≡◌, false, true, [], ◌∷◌, ℕ, List, IsTrue, IsSome, OnOk};
+ghost use Rattle.lf_base.specs.Faults.{CountsFaults};
+ghost use Rattle.lf_disk.specs.History.{now, EachMoment, IsSettledBut};
+ghost use Rattle.lf_disk.specs.declared.name.FileName.{FileName as Name};
+ghost use Rattle.lf_sqlite_pages.specs.Image.{DatabaseImage, empty_image};
+ghost use Rattle.txn_log.specs.Kept.{IsAtRest, IsByMark};
+ghost use Rattle.txn_log.specs.Settling.{HasNoOthers, IsUnsettled, IsInstalled};
+
+use crate::clearing::clear;
+use crate::entry::Entry;
+use crate::rewriting::rewrite;
+use lf_base::Failed;
+use lf_disk::{Disk, FileName};
+use lf_sqlite_pages::Change;
+use std::alloc::Global;
+
+/// The change to a database without pages. It takes no memory.
+#[tactic(auto, unfolding(lf_sqlite_pages::specs::PageSize::is_page_size))]
+fn no_pages(alloc: Global) -> Change
+    ensures { result.commit ≡ 0 }
+{
+    Change::new(alloc, 512, 0)
+}
+
+/// Does the rest of an install where a snapshot stands: removes the mark of a dropped database and
+/// the transaction files of these entries, writes the snapshot's change over the database file, and
+/// gives the snapshot its name in the log.
+pub fn settle<D: Disk>(
+    disk: &mut D,
+    entries: &[Entry],
+    min: u64,
+    max: u64,
+    change: &Change,
+) -> Result<(), Failed>
+    requires settled { IsTrue (D.honest disk.old) → IsSettledBut Name.Staged (D.history disk.old) }
+    requires there { IsTrue (D.honest disk.old) → IsSome (now (D.history disk.old) Name.Snapshot) }
+    ensures moments { IsTrue (D.honest disk.old) → (image : DatabaseImage) (text : List ℕ)
+        → IsUnsettled image text entries.now change.now (now (D.history disk.old))
+        → EachMoment (D.history disk.old) (D.history disk.new) (IsInstalled image (record { min = min; max = max; text = text })) }
+    ensures done { IsTrue (D.honest disk.old) → OnOk result ((image : DatabaseImage) (text : List ℕ)
+        → IsUnsettled image text entries.now change.now (now (D.history disk.old))
+        → IsAtRest image (record { min = min; max = max; text = text } ∷ []) false (D.history disk.new)) }
+    ensures honest { D.honest disk.new ≡ D.honest disk.old }
+    ensures cause { CountsFaults (D.faults disk.old) (D.faults disk.new) result }
+{
+    disk.remove(FileName::Dropped)?;
+    clear(disk, entries)?;
+    rewrite(disk, change)?;
+    disk.rename(FileName::Snapshot, FileName::Ltx { min, max })?;
+    Ok(())
+}
+
+/// Does the rest of a drop where the mark stands: removes the transaction files of these entries,
+/// and cuts the database file to no bytes.
+pub fn empty<D: Disk>(alloc: Global, disk: &mut D, entries: &[Entry]) -> Result<(), Failed>
+    requires settled { IsTrue (D.honest disk.old) → IsSettledBut Name.Staged (D.history disk.old) }
+    ensures moments { IsTrue (D.honest disk.old) → IsByMark (now (D.history disk.old))
+        → EachMoment (D.history disk.old) (D.history disk.new) IsByMark }
+    ensures done { IsTrue (D.honest disk.old) → OnOk result (IsByMark (now (D.history disk.old)) → HasNoOthers entries.now (now (D.history disk.old))
+        → IsAtRest empty_image [] true (D.history disk.new)) }
+    ensures honest { D.honest disk.new ≡ D.honest disk.old }
+    ensures cause { CountsFaults (D.faults disk.old) (D.faults disk.new) result }
+{
+    clear(disk, entries)?;
+    let nothing = no_pages(alloc);
+    rewrite(disk, &nothing)?;
+    Ok(())
+}
