@@ -1,12 +1,12 @@
 -- Transaction files are removed, one after another.
-use Rattle.std.proofs.Common.{◌≡◌, inl, inr, ℕ, zero, suc, ◌+◌, ◌<◌, ◌≤◌, Bool, false, true, cond, Option, Some, None, Result, List, [], ◌∷◌, length, take, get_or, fold, refl, sym, ◌∙◌, ap, subst, arith}
+use Rattle.std.proofs.Common.{◌≡◌, inl, inr, ℕ, ◌+◌, ◌<◌, Bool, false, cond, Option, None, Result, List, [], ◌∷◌, length, take, get_or, refl, sym, ◌∙◌, ap, arith}
 use Rattle.std.proofs.lemmas.Bool.{cases_Bool}
 use Rattle.std.proofs.lemmas.List.Sums.{fold_more}
 use Rattle.lf_disk.specs.declared.name.FileName.{FileName}
-use Rattle.lf_disk.specs.declared.name.FileName.TheVariants.{Database, Staged, Snapshot, Dropped, Ltx}
+use Rattle.lf_disk.specs.declared.name.FileName.TheVariants.{Staged, Ltx}
 use Rattle.lf_disk.specs.Folder.{Folder, Same, SameBut, same_name, with_file}
 use Rattle.lf_disk.specs.Names.{same_name-one}
-use Rattle.lf_disk.specs.Change.{Step, OnFile, Perhaps, Becomes, SetsFile}
+use Rattle.lf_disk.specs.Change.{Step, Perhaps, SetsFile}
 use Rattle.lf_disk.specs.History.{History, now, may_leave, Ticks, Moves, EachMoment, IsSettledBut}
 use Rattle.lf_disk.proofs.Moments.{started, goes_on}
 use Rattle.txn_log.specs.declared.entry.Entry.{Entry}

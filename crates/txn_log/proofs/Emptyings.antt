@@ -1,20 +1,18 @@
 -- The rest of a drop, call by call.
-use Rattle.std.proofs.Common.{◌≡◌, inl, inr, ℕ, ◌*◌, ◌≤◌, Bool, false, true, Option, Some, None, IsSome, Result, List, [], ◌∷◌, length, refl, sym, ◌∙◌, ap, subst, arith}
+use Rattle.std.proofs.Common.{◌≡◌, ℕ, ◌*◌, true, Option, Some, None, IsSome, List, [], length, refl, sym, ◌∙◌, ap, subst, arith}
 use Rattle.std.specs.Prelude.{is_some}
-use Rattle.lf_disk.specs.declared.name.FileName.{FileName}
-use Rattle.lf_disk.specs.declared.name.FileName.TheVariants.{Database, Staged, Snapshot, Dropped, Ltx}
-use Rattle.lf_base.specs.FileBytes.{resized}
+use Rattle.lf_disk.specs.declared.name.FileName.TheVariants.{Database, Snapshot, Dropped, Ltx}
 use Rattle.lf_base.proofs.FileLemmas.{length-resized}
-use Rattle.lf_disk.specs.Folder.{Folder, bytes_of, Same, SameBut}
-use Rattle.lf_disk.specs.History.{History, now, may_leave, EachMoment, IsSettledBut}
+use Rattle.lf_disk.specs.Folder.{Folder, bytes_of}
+use Rattle.lf_disk.specs.History.{History, now, EachMoment}
 use Rattle.lf_disk.proofs.Moments.{joined, weakened}
-use Rattle.lf_sqlite_pages.specs.Image.{DatabaseImage, empty_image}
+use Rattle.lf_sqlite_pages.specs.Image.{empty_image}
 use Rattle.lf_sqlite_pages.specs.Change.{PageChange}
 use Rattle.txn_log.specs.declared.entry.Entry.{Entry}
 use Rattle.txn_log.specs.Pages.{patched}
 use Rattle.txn_log.specs.Rewriting.{IsWorn, IsRewritten}
-use Rattle.txn_log.specs.Kept.{LogFile, Kept, Shows, IsAtRest, IsByMark}
-use Rattle.txn_log.specs.Settling.{without, HasNoOthers, IsThinned, IsCleared}
+use Rattle.txn_log.specs.Kept.{Shows, IsAtRest, IsByMark}
+use Rattle.txn_log.specs.Settling.{HasNoOthers, IsThinned, IsCleared}
 use Rattle.txn_log.proofs.Clearings.{cleared_all}
 use Rattle.txn_log.proofs.Settlings.{thinned-other, cleared-other}
 

@@ -1,15 +1,12 @@
 -- What stands while a snapshot is settled stands for one store.
-use Rattle.std.proofs.Common.{◌≡◌, inl, inr, ℕ, ◌+◌, ◌<◌, ◌≤◌, List, [], ◌∷◌, length, get_or, zero, suc, refl, sym, ◌∙◌, ap, subst, arith}
+use Rattle.std.proofs.Common.{◌≡◌, inl, inr, ℕ, ◌<◌, ◌≤◌, List, [], ◌∷◌, length, get_or, zero, suc, sym, ◌∙◌, ap, subst, arith}
 use Rattle.std.proofs.Props.{props}
 use Rattle.std.proofs.Math.Logic.{∥∥₁_elim}
 use Rattle.lf_disk.specs.Folder.{Folder}
-use Rattle.lf_disk.specs.History.{History, EachMoment}
-use Rattle.lf_disk.proofs.Moments.{weakened}
 use Rattle.ltx_codec.specs.Format.{IsLtx}
-use Rattle.ltx_codec.specs.declared.file.Ltx.{Ltx}
 use Rattle.world_laws.specs.Store.{StoreState}
-use Rattle.txn_log.specs.Kept.{LogFile, file_of, Kept, IsBySnapshot, Ascends, Ascends-prop}
-use Rattle.txn_log.specs.Durable.{Durable, StandsBySnapshot, IsText, IsLog, log_of, Follow}
+use Rattle.txn_log.specs.Kept.{LogFile, file_of}
+use Rattle.txn_log.specs.Durable.{Durable, StandsBySnapshot, IsText, IsLog}
 use Rattle.txn_log.specs.Settling.{IsInstalled}
 
 -- what holds of a file holds of each file of a log of it alone

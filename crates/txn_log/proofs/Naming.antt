@@ -1,9 +1,9 @@
 -- The entries of a log name all transaction files of its folder.
-use Rattle.std.proofs.Common.{◌≡◌, inl, inr, ℕ, suc, ◌<◌, Bool, false, true, cond, Option, Some, None, List, [], ◌∷◌, length, get_or, fold, refl, sym, ◌∙◌, ap, subst, arith}
+use Rattle.std.proofs.Common.{◌≡◌, inl, inr, ℕ, suc, Bool, false, true, cond, Some, None, List, [], ◌∷◌, length, refl, sym, ◌∙◌, ap, arith}
 use Rattle.std.specs.Prelude.{◌==◌, ◌&&◌}
 use Rattle.std.proofs.lemmas.Bool.{cases_Bool}
 use Rattle.lf_disk.specs.declared.name.FileName.TheVariants.{Ltx}
-use Rattle.lf_disk.specs.Folder.{Folder, bytes_of, with_file}
+use Rattle.lf_disk.specs.Folder.{Folder, with_file}
 use Rattle.lf_sqlite_pages.specs.Image.{DatabaseImage}
 use Rattle.txn_log.specs.declared.entry.Entry.{Entry}
 use Rattle.txn_log.specs.Entries.{AreNamed}

@@ -1,20 +1,18 @@
 -- The rest of an install, call by call.
-use Rattle.std.proofs.Common.{◌≡◌, inl, inr, ℕ, ◌*◌, ◌≤◌, Bool, false, true, cond, Option, Some, None, IsSome, Result, List, [], ◌∷◌, fold, refl, sym, ◌∙◌, ap, subst, arith}
+use Rattle.std.proofs.Common.{◌≡◌, inl, inr, ℕ, false, cond, Option, Some, None, IsSome, Result, List, [], ◌∷◌, refl, sym, ◌∙◌, ap, subst, arith}
 use Rattle.std.specs.Prelude.{◌==◌, ◌&&◌, is_some}
 use Rattle.std.proofs.lemmas.Option.{same_Some}
 use Rattle.lf_disk.specs.declared.name.FileName.{FileName}
 use Rattle.lf_disk.specs.declared.name.FileName.TheVariants.{Database, Staged, Snapshot, Dropped, Ltx}
-use Rattle.lf_base.specs.FileBytes.{resized}
-use Rattle.lf_disk.specs.Folder.{Folder, bytes_of, Same, SameBut, same_name, with_file, renamed}
-use Rattle.lf_disk.specs.Change.{Step, OnFile, Perhaps, Becomes, SetsFile, Renames}
+use Rattle.lf_disk.specs.Folder.{Folder, bytes_of, SameBut, same_name, with_file, renamed}
+use Rattle.lf_disk.specs.Change.{Step, Perhaps, SetsFile, Renames}
 use Rattle.lf_disk.specs.History.{History, now, may_leave, Ticks, Moves, EachMoment, IsSettledBut}
 use Rattle.lf_disk.proofs.Moments.{started, goes_on, joined, weakened}
-use Rattle.lf_sqlite_pages.specs.Image.{DatabaseImage, empty_image}
+use Rattle.lf_sqlite_pages.specs.Image.{DatabaseImage}
 use Rattle.lf_sqlite_pages.specs.Change.{PageChange, IsChange}
 use Rattle.txn_log.specs.declared.entry.Entry.{Entry}
-use Rattle.txn_log.specs.Pages.{patched}
 use Rattle.txn_log.specs.Rewriting.{IsWorn, IsRewritten}
-use Rattle.txn_log.specs.Kept.{LogFile, change_of, text_of, last_of, Decides, IsDecided, Kept, Shows, IsAtRest, IsBySnapshot, IsByMark}
+use Rattle.txn_log.specs.Kept.{LogFile, change_of, Decides, Kept, Shows, IsAtRest, IsBySnapshot}
 use Rattle.txn_log.specs.Settling.{without, HasNoOthers, IsThinned, IsCleared, IsUnsettled, IsInstalled}
 use Rattle.txn_log.proofs.Clearings.{without-other, cleared_all}
 use Rattle.txn_log.proofs.Puttings.{still_decides, shows_after}

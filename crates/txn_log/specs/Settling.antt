@@ -1,13 +1,12 @@
 -- The rest of an install and of a drop: what a snapshot or a mark decides gets its last form.
-use Rattle.std.specs.Prelude.{◌≡◌, ◌⊎◌, ℕ, ◌≤◌, false, List, [], ◌∷◌, length, take, fold, Option, None}
-use Rattle.lf_disk.specs.declared.name.FileName.{FileName}
-use Rattle.lf_disk.specs.declared.name.FileName.TheVariants.{Staged, Snapshot, Dropped, Ltx as LtxName}
+use Rattle.std.specs.Prelude.{◌≡◌, ◌⊎◌, ℕ, ◌≤◌, false, List, [], ◌∷◌, length, take, fold, None}
+use Rattle.lf_disk.specs.declared.name.FileName.TheVariants.{Staged, Ltx as LtxName}
 use Rattle.lf_disk.specs.Folder.{Folder, with_file, Same, SameBut}
 use Rattle.lf_disk.specs.History.{History, now, IsSettledBut}
-use Rattle.lf_sqlite_pages.specs.Image.{DatabaseImage, empty_image}
-use Rattle.lf_sqlite_pages.specs.Change.{PageChange, IsChange}
+use Rattle.lf_sqlite_pages.specs.Image.{DatabaseImage}
+use Rattle.lf_sqlite_pages.specs.Change.{PageChange}
 use Rattle.txn_log.specs.declared.entry.Entry.{Entry}
-use Rattle.txn_log.specs.Kept.{LogFile, change_of, Kept, IsBySnapshot, IsByMark}
+use Rattle.txn_log.specs.Kept.{LogFile, change_of, Kept, IsBySnapshot}
 
 -- the folder without the files of these entries
 abbrev pub without : List Entry → Folder → Folder

@@ -1,5 +1,4 @@
-use Rattle.std.proofs.Common.{◌≡◌, ◌∙◌, ℕ, length, refl}
-use Rattle.txn_log.specs.declared.entry.Entry.{Entry}
+use Rattle.std.proofs.Common.{◌∙◌, refl}
 use Rattle.txn_log.proofs.Stores.{no_entry}
 use Rattle.txn_log.proofs.Clearings.{begins, removed, not_removed}
 use Rattle.txn_log.proofs.clearing.clear.Goals as goal

@@ -1,6 +1,4 @@
 use Rattle.std.proofs.Common.{◌≡◌, ◌≤◌, ◌∙◌, ℕ, refl, ap}
-use Rattle.lf_disk.specs.History.{now}
-use Rattle.lf_sqlite_pages.specs.Change.{PageChange}
 use Rattle.txn_log.proofs.Emptyings.{clears, writes, at_rest}
 use Rattle.txn_log.proofs.settling.empty.Goals as goal
 

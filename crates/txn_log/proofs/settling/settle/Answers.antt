@@ -1,6 +1,4 @@
 use Rattle.std.proofs.Common.{◌≡◌, ◌≤◌, ◌∙◌, ◌∷◌, [], List, ℕ, false, refl, arith}
-use Rattle.lf_disk.specs.declared.name.FileName.TheVariants.{Snapshot, Dropped, Ltx}
-use Rattle.lf_disk.specs.Change.{SetsFile, Renames}
 use Rattle.lf_disk.specs.History.{now, may_leave, EachMoment}
 use Rattle.lf_disk.proofs.Moments.{goes_on}
 use Rattle.txn_log.specs.Kept.{LogFile}
