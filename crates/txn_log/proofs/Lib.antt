@@ -11,10 +11,12 @@ mod Installed
 mod Modes
 mod Moves
 mod Naming
+mod PagesRead
 mod Places
 mod Placings
 mod Prunings
 mod Puttings
+mod Resting
 mod Rewritings
 mod Settlings
 mod Stores

@@ -6,6 +6,7 @@ use Rattle.lf_base.specs.declared.pos.Pos.{Pos}
 use Rattle.lf_disk.specs.declared.name.FileName.TheVariants.{Database, Staged, Ltx as LtxName}
 use Rattle.lf_disk.specs.Folder.{Folder, bytes_of}
 use Rattle.lf_disk.specs.History.{History}
+use Rattle.lf_sqlite_pages.specs.PageSize.{IsPageSize}
 use Rattle.lf_sqlite_pages.specs.Image.{DatabaseImage}
 use Rattle.ltx_codec.specs.Positions.{before, after, nowhere}
 use Rattle.ltx_codec.specs.Sums.{sum_table}
@@ -73,6 +74,11 @@ pub record IsShaped (commit : ℕ) (entries : List Entry) (dropped : Bool) (sums
   pub marked : dropped ≡ true → entries ≡ []
   pub sum : entries ≢ [] → (end_of_entries entries).sum ≡ flagged (joined sums)
   pub some : entries ≢ [] → 1 ≤ (end_of_entries entries).txid
+
+-- a page size is one of SQLite's, and where there are pages there is one
+pub record IsSized (size commit : ℕ) : Type 0 where
+  pub sized : 0 < size → IsPageSize size
+  pub pages : 0 < commit → IsPageSize size
 
 -- the store as its callers see it
 abbrev pub state_of : History → ℕ → ℕ → List Entry → Bool → Bool → ℕ → StoreState

@@ -3,7 +3,7 @@ ghost use Rattle.std.proofs.Props.{props};
 ghost use Rattle.lf_sqlite_pages.specs.Header.{image_is_wal};
 ghost use Rattle.txn_log.specs.Calls.{RestsAs};
 ghost use Rattle.txn_log.specs.Kept.{Ascends-prop};
-ghost use Rattle.txn_log.specs.Store.{IsStore, IsShaped, state_of, failed_of};
+ghost use Rattle.txn_log.specs.Store.{IsStore, IsShaped, IsSized, state_of, failed_of};
 ghost use Rattle.world_laws.specs.Store.{MayBeFound};
 
 use crate::attempt::Attempt;
@@ -36,6 +36,7 @@ pub struct Store<D: Disk> {
     pub attempt: Attempt,
     pub tried: u64,
     ghost shaped: { IsShaped commit entries.items dropped sums.sums },
+    ghost sized: { IsSized page_size commit },
     ghost kept: { IsTrue (D.honest disk) → IsStore (D.history disk) page_size commit entries.items dropped sums.sums broken whole tried } by { Prim.hlevel (props, Ascends-prop) },
     ghost left: { IsTrue (D.honest disk) → RestsAs (MayBeFound (state_of (D.history disk) page_size commit entries.items dropped broken whole) (failed_of (D.history disk) broken attempt tried)) (D.history disk) } by { Prim.hlevel props },
     ghost mode: { IsTrue (D.honest disk) → wal ≡ image_is_wal (state_of (D.history disk) page_size commit entries.items dropped broken whole).image } by { Prim.hlevel props },

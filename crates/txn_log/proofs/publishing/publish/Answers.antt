@@ -7,7 +7,7 @@ use Rattle.lf_sqlite_pages.specs.Header.{image_is_wal}
 use Rattle.world_laws.specs.Store.{StoreState, MayBeFound}
 use Rattle.txn_log.specs.Calls.{RestsAs}
 use Rattle.txn_log.specs.declared.entry.Entry.{Entry}
-use Rattle.txn_log.specs.Store.{IsStore, image_in, state_in, state_of, failed_of}
+use Rattle.txn_log.specs.Store.{IsStore, IsSized, image_in, state_in, state_of, failed_of}
 use Rattle.txn_log.proofs.Moves.{moved-none, is_done, image, files, over, stands, left_done, went_done, left_before, went_before, left_in, went_in, shaped-after}
 use Rattle.txn_log.proofs.Modes.{mode_after}
 use Rattle.txn_log.proofs.Stores.{broken, mode_before}
@@ -62,6 +62,7 @@ place-requires-clause-settled g c honest =
 
 pub invariant_of-store-in-Whole : goal.invariant_of-store-in-Whole
 invariant_of-store-in-Whole g c = record {
+  sized = subst (λ (s : ℕ). IsSized s c.args.file.now.header.commit) c.requires.valid.block.page_size (record { sized = λ _. c.requires.valid.block.pages.of_a_page_size; pages = λ _. c.requires.valid.block.pages.of_a_page_size });
   unmarked = refl;
   shaped =
       let s = c.args.store.now in
@@ -138,6 +139,7 @@ returns-in-Whole-clause-went g c honest =
 
 pub invariant_of-store-in-Unpublished : goal.invariant_of-store-in-Unpublished
 invariant_of-store-in-Unpublished g c = record {
+  sized = c.args.store.now.sized;
   unmarked = c.args.store.now.unmarked;
   shaped = rw (c.reserve.ensures.items, c.in-Ok-reserve.ensures.ok) c.args.store.now.shaped;
   kept = λ still.
@@ -208,6 +210,7 @@ returns-in-Unpublished-clause-went g c honest =
 
 pub invariant_of-store-in-From : goal.invariant_of-store-in-From
 invariant_of-store-in-From g c = record {
+  sized = c.args.store.now.sized;
   unmarked = c.args.store.now.unmarked;
   shaped = rw (c.reserve.ensures.items, c.in-Ok-reserve.ensures.ok) c.args.store.now.shaped;
   kept = λ still.

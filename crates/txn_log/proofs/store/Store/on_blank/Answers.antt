@@ -1,4 +1,4 @@
-use Rattle.std.proofs.Common.{◌≡◌, [], false, refl}
+use Rattle.std.proofs.Common.{◌≡◌, ◌<◌, [], false, refl, arith}
 use Rattle.txn_log.proofs.Blank.{blank, shaped as shaped_blank}
 use Rattle.txn_log.proofs.Moves.{rests}
 use Rattle.txn_log.proofs.store.Store.on_blank.Goals as goal
@@ -15,3 +15,6 @@ invariant_of-result-clause-left g c =
 
 pub invariant_of-result-clause-mode : goal.invariant_of-result-clause-mode
 invariant_of-result-clause-mode g c honest = refl
+
+pub invariant_of-result-clause-sized : goal.invariant_of-result-clause-sized
+invariant_of-result-clause-sized g c = record { sized = λ some. absurd (omega (arith, some)); pages = λ some. absurd (omega (arith, some)) }

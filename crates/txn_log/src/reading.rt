@@ -1,0 +1,29 @@
+ghost use Rattle.std.specs.Prelude.{◌≡◌, IsTrue, OnOk, length, replicate};
+ghost use Rattle.lf_base.specs.Faults.{CountsFaults};
+ghost use Rattle.lf_base.specs.FileBytes.{read_into};
+ghost use Rattle.lf_disk.specs.Folder.{bytes_of};
+ghost use Rattle.lf_disk.specs.History.{now, Rests};
+
+use lf_base::Failed;
+use lf_disk::{Disk, FileName};
+
+/// Makes every byte 0.
+pub fn zero(out: &mut [u8])
+    ensures { out.new ≡ replicate (length out.old) 0 }
+{
+    out.fill(0);
+}
+
+/// Fills `out` with the bytes of a file from an offset on, and with zeros where it has none.
+pub fn read_at<D: Disk>(disk: &mut D, name: FileName, at: u64, out: &mut [u8]) -> Result<(), Failed>
+    ensures bytes { IsTrue (D.honest disk.old) → OnOk result
+        (out.new ≡ read_into at (bytes_of (now (D.history disk.old) name)) (replicate (length out.old) 0)) }
+    ensures length { length out.new ≡ length out.old }
+    ensures rests { Rests (D.history disk.old) (D.history disk.new) }
+    ensures honest { D.honest disk.new ≡ D.honest disk.old }
+    ensures cause { CountsFaults (D.faults disk.old) (D.faults disk.new) result }
+{
+    zero(out);
+    disk.read(name, at, out)?;
+    Ok(())
+}
