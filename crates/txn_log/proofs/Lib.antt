@@ -1,3 +1,4 @@
+mod Anew
 mod Blank
 mod Cleanings
 mod Clearings

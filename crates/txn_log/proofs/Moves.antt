@@ -180,6 +180,7 @@ module _ (h : History) (size commit : ℕ) (entries : List Entry) (dropped : Boo
     pub over : IsOver image files dropped text file.change h
     over = record {
       rest = kept.rest;
+      empty = λ marked. ap (λ (es : List Entry). files_in es (now h)) (shaped.marked marked);
       tells = ap (λ (f : Ltx). f.change) read;
       valid = is.valid.block.pages;
       complete = can.complete;

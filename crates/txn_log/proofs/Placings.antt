@@ -1,5 +1,5 @@
 -- A staged file is ready to be put in place.
-use Rattle.std.proofs.Common.{◌≡◌, ◌⊎◌, inl, inr, ℕ, ◌≤◌, false, true, is_some, List, ◌∷◌, [], ◌++◌, refl, sym, ◌∙◌, ap, subst, arith, IsSome, Some, Option}
+use Rattle.std.proofs.Common.{◌≡◌, ◌⊎◌, inl, inr, ℕ, ◌≤◌, Bool, false, true, is_some, List, ◌∷◌, [], ◌++◌, refl, sym, ◌∙◌, ap, subst, arith, IsSome, Some, Option}
 use Rattle.std.proofs.lemmas.Bool.{cases_Bool}
 use Rattle.lf_disk.specs.declared.name.FileName.{FileName}
 use Rattle.lf_disk.specs.declared.name.FileName.TheVariants.{Database, Staged, Snapshot, Dropped, Ltx}
@@ -11,7 +11,7 @@ use Rattle.lf_disk.proofs.Moments.{joined, weakened}
 use Rattle.lf_sqlite_pages.specs.Image.{DatabaseImage}
 use Rattle.lf_sqlite_pages.specs.Change.{PageChange}
 use Rattle.lf_sqlite_pages.specs.Apply.{apply}
-use Rattle.txn_log.specs.Kept.{LogFile, Kept, IsDecided, last_of}
+use Rattle.txn_log.specs.Kept.{LogFile, Kept, IsAtRest, IsDecided, last_of}
 use Rattle.txn_log.specs.Putting.{IsSettled, IsReady, IsBeforeOrAfter}
 use Rattle.txn_log.specs.Placing.{IsOver, IsTried, IsBetween}
 
@@ -32,6 +32,20 @@ between image files dropped made file unmarked c either = elim either [
   | inr there ↦ inr (inr there)
 ]
 
+-- a store with the mark has no files
+pub anew_ready : (image : DatabaseImage) (files : List LogFile) (dropped : Bool) (text : List ℕ) (change : PageChange) (h : History) → dropped ≡ true → files ≡ []
+    → IsReady image files dropped text change h → IsReady image [] true text change h
+anew_ready image files dropped text change h marked none ready =
+    subst (λ (fs : List LogFile). IsReady image fs true text change h) none (subst (λ (d : Bool). IsReady image files d text change h) marked ready)
+
+pub anew_moments : (image : DatabaseImage) (files : List LogFile) (dropped : Bool) (made : DatabaseImage) (file : LogFile) (h new : History) → dropped ≡ true → files ≡ []
+    → EachMoment h new (IsBetween image [] true made file) → EachMoment h new (IsBetween image files dropped made file)
+anew_moments image files dropped made file h new marked none run =
+    subst (λ (d : Bool). EachMoment h new (IsBetween image files d made file)) (sym marked) (subst (λ (fs : List LogFile). EachMoment h new (IsBetween image fs true made file)) (sym none) run)
+
+pub anew_rest : (files : List LogFile) (made : DatabaseImage) (file : LogFile) (new : History) → files ≡ [] → IsAtRest made (file ∷ []) false new → IsAtRest made (files ++ file ∷ []) false new
+anew_rest files made file new none rest = subst (λ (fs : List LogFile). IsAtRest made (fs ++ file ∷ []) false new) (sym none) rest
+
 pub settled : (before : Folder) (bytes : List ℕ) (h : History) → IsStaged before bytes h → IsSettled h
 settled before bytes h staged c may n = elim (cases_Bool (same_name n Staged)) [
   | inl is ↦ let name : n ≡ Staged = same_name-one n Staged is in ap c name ∙ staged.whole c may ∙ sym (ap (now h) name ∙ staged.here)
@@ -41,11 +55,11 @@ settled before bytes h staged c may n = elim (cases_Bool (same_name n Staged)) [
 pub there : (before : Folder) (bytes : List ℕ) (h : History) → IsStaged before bytes h → IsSome (now h Staged)
 there before bytes h staged = subst (λ (o : Option (List ℕ)). IsSome o) (sym staged.here) refl
 
-module _ (image : DatabaseImage) (files : List LogFile) (text : List ℕ) (change : PageChange) (h mid : History) (over : IsOver image files false text change h) where
-  pub stays : EachMoment h mid (SameBut Staged (now h)) → EachMoment h mid (Kept image files false)
-  stays runs = weakened h mid (SameBut Staged (now h)) (Kept image files false) runs (λ c same. kept_same image files false (now h) c over.rest.kept same)
+module _ (image : DatabaseImage) (files : List LogFile) (dropped : _) (text : List ℕ) (change : PageChange) (h mid : History) (over : IsOver image files dropped text change h) where
+  pub stays : EachMoment h mid (SameBut Staged (now h)) → EachMoment h mid (Kept image files dropped)
+  stays runs = weakened h mid (SameBut Staged (now h)) (Kept image files dropped) runs (λ c same. kept_same image files dropped (now h) c over.rest.kept same)
 
-  pub ready : IsStaged (now h) text mid → IsReady image files false text change mid
+  pub ready : IsStaged (now h) text mid → IsReady image files dropped text change mid
   ready staged = record {
     before = now h;
     staged = staged;
@@ -56,11 +70,11 @@ module _ (image : DatabaseImage) (files : List LogFile) (text : List ℕ) (chang
     complete = over.complete;
   }
 
-  pub moments : (new : History) (file : LogFile) → EachMoment h mid (SameBut Staged (now h)) → EachMoment mid new (IsBeforeOrAfter image files (apply image change) (files ++ file ∷ []))
-      → EachMoment h new (IsBeforeOrAfter image files (apply image change) (files ++ file ∷ []))
+  pub moments : (new : History) (file : LogFile) → EachMoment h mid (SameBut Staged (now h)) → EachMoment mid new (IsBetween image files dropped (apply image change) file)
+      → EachMoment h new (IsBetween image files dropped (apply image change) file)
   moments new file first second =
-      joined h mid new (IsBeforeOrAfter image files (apply image change) (files ++ file ∷ []))
-      (weakened h mid (Kept image files false) (IsBeforeOrAfter image files (apply image change) (files ++ file ∷ [])) (stays first) (λ c kept. inl kept)) second
+      joined h mid new (IsBetween image files dropped (apply image change) file)
+      (weakened h mid (Kept image files dropped) (IsBetween image files dropped (apply image change) file) (stays first) (λ c kept. inl kept)) second
 
   pub tried : (new : History) (P : Folder → Type 0) → IsStaged (now h) text mid → EachMoment mid new P → IsTried text mid.moment new
   tried new P staged run = record {

@@ -1,6 +1,7 @@
 -- What a follower at a position is owed.
-use Rattle.std.specs.Prelude.{◌≡◌, ◌≢◌, ◌⊎◌, ℕ, ◌<◌, List, [], length, get_or}
+use Rattle.std.specs.Prelude.{◌≡◌, ◌≢◌, ◌⊎◌, ℕ, Bool, true, ◌<◌, List, [], length, get_or}
 use Rattle.lf_base.specs.declared.pos.Pos.{Pos}
+use Rattle.ltx_codec.specs.Positions.{nowhere}
 use Rattle.txn_log.specs.declared.entry.Entry.{Entry}
 use Rattle.txn_log.specs.declared.answer.Answer.{Answer}
 use Rattle.txn_log.specs.declared.answer.Answer.TheVariants as answer
@@ -20,7 +21,13 @@ pub record IsFirstBehind (entries : List Entry) (position : Pos) (first : ℕ) :
 abbrev pub IsLacking : List Entry → Pos → Type 0
 IsLacking entries position = (k : ℕ) (d : Entry) → k < length entries → (get_or entries k d).pre ≢ position
 
-abbrev pub Answers : List Entry → Pos → Answer → Type 0
-Answers entries position answer.Level = IsLevel entries position
-Answers entries position (answer.Files first) = (IsLevel entries position → ⊥) × IsFirstBehind entries position first
-Answers entries position answer.Snapshot = (IsLevel entries position → ⊥) × IsLacking entries position
+-- the database was dropped, and the position is that of one that was written
+abbrev pub IsGone : Bool → Pos → Type 0
+IsGone dropped position = (dropped ≡ true) × (position ≢ nowhere)
+
+-- what is owed of a log with its mark
+abbrev pub Answers : List Entry → Bool → Pos → Answer → Type 0
+Answers entries dropped position answer.Gone = IsGone dropped position
+Answers entries dropped position answer.Level = (IsGone dropped position → ⊥) × IsLevel entries position
+Answers entries dropped position (answer.Files first) = (IsGone dropped position → ⊥) × (IsLevel entries position → ⊥) × IsFirstBehind entries position first
+Answers entries dropped position answer.Snapshot = (IsGone dropped position → ⊥) × (IsLevel entries position → ⊥) × IsLacking entries position

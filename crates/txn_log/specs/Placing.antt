@@ -14,6 +14,7 @@ use Rattle.txn_log.specs.Kept.{LogFile, change_of, Kept, IsBySnapshot, IsAtRest,
 -- the text is that of a complete change over a store at rest
 pub record IsOver (image : DatabaseImage) (files : List LogFile) (dropped : Bool) (text : List ℕ) (change : PageChange) (h : History) : Type 0 where
   pub rest : IsAtRest image files dropped h
+  pub empty : dropped ≡ true → files ≡ []
   pub tells : change_of text ≡ change
   pub valid : IsChange change
   pub complete : IsComplete image change

@@ -5,6 +5,8 @@ pub enum Answer {
     Level,
     /// The files of the log from this place on.
     Files { first: usize },
+    /// That the database was dropped.
+    Gone,
     /// The whole database: the log does not know the position.
     Snapshot,
 }

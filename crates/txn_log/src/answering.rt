@@ -1,9 +1,11 @@
 //! What a follower is owed.
-ghost use Rattle.std.specs.Prelude.{◌≡◌, ◌≤◌, length, IfSome, IfNone};
+ghost use Rattle.std.specs.Prelude.{◌≡◌, ◌≤◌, [], length, IsTrue, IfSome, IfNone};
 ghost use Rattle.txn_log.specs.Answering.{IsFirstBehind, IsLacking, Answers};
+ghost use Rattle.txn_log.specs.Store.{state_of};
 
 use crate::answer::Answer;
 use crate::entry::Entry;
+use crate::position::NOWHERE;
 use crate::store::Store;
 use lf_base::Pos;
 use lf_disk::Disk;
@@ -22,11 +24,25 @@ fn first_behind(entries: &[Entry], position: Pos) -> Option<usize>
 }
 
 impl<D: Disk> Store<D> {
-    /// What a follower at this position is owed: nothing where the log is empty or ends there, the
-    /// files from the first that follows it, or the whole database.
-    pub fn answer(&self, position: Pos) -> Answer
-        ensures { Answers self.now.entries.items position result }
+    /// Whether the database was dropped and nothing was committed since.
+    pub fn is_dropped(&self) -> bool
+        ensures value { result ≡ self.now.dropped }
+        ensures told { IsTrue (D.honest self.now.disk) → result ≡ (state_of (D.history self.now.disk)
+            self.now.page_size self.now.commit self.now.entries.items self.now.dropped self.now.broken self.now.whole).dropped }
+        ensures empty { IsTrue result → self.now.entries.items ≡ [] }
     {
+        self.dropped
+    }
+
+    /// What a follower at this position is owed: that the database was dropped, where the position is
+    /// not (0, 0); else nothing where the log is empty or ends there, the files from the first that
+    /// follows it, or the whole database.
+    pub fn answer(&self, position: Pos) -> Answer
+        ensures { Answers self.now.entries.items self.now.dropped position result }
+    {
+        if self.dropped && position != NOWHERE {
+            return Answer::Gone;
+        }
         if self.entries.is_empty() || position == self.pos() {
             return Answer::Level;
         }

@@ -26,6 +26,7 @@ mod position;
 mod pruning;
 mod publishing;
 mod putting;
+mod putting_anew;
 mod reading;
 mod removing;
 mod rewriting;

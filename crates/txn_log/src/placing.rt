@@ -1,18 +1,50 @@
-ghost use Rattle.std.specs.Prelude.{◌≡◌, false, IsTrue, ℕ, List};
-ghost use Rattle.lf_disk.specs.History.{IsSettledBut};
+ghost use Rattle.std.specs.Prelude.{◌≡◌, true, false, [], ◌∷◌, ◌++◌, IsTrue, IsSome, OnOk, ℕ, List};
+ghost use Rattle.lf_base.specs.Faults.{CountsFaults};
+ghost use Rattle.lf_disk.specs.History.{now, EachMoment, IsSettledBut};
 ghost use Rattle.lf_disk.specs.declared.name.FileName.{FileName as Name};
 ghost use Rattle.lf_sqlite_pages.specs.Image.{DatabaseImage};
 ghost use Rattle.lf_sqlite_pages.specs.Apply.{apply};
-ghost use Rattle.txn_log.specs.Kept.{LogFile};
-ghost use Rattle.txn_log.specs.Placing.{IsOver, Places, CountsPlaced};
+ghost use Rattle.txn_log.specs.Kept.{LogFile, IsAtRest};
+ghost use Rattle.txn_log.specs.Putting.{IsSettled, IsReady};
+ghost use Rattle.txn_log.specs.Placing.{IsOver, IsBetween, Places, CountsPlaced};
 
 use crate::placed::Placed;
 use crate::putting::put;
+use crate::putting_anew::put_anew;
+use lf_base::Failed;
 use lf_disk::{Disk, stage};
 use lf_sqlite_pages::Change;
 
-/// Stages the text of a transaction file, gives it its name in the log, and writes its change over
-/// the database file.
+/// Publishes the staged file: on a store with the mark of a dropped database as a snapshot, else under
+/// its name in the log.
+fn put_staged<D: Disk>(
+    disk: &mut D,
+    dropped: bool,
+    min: u64,
+    max: u64,
+    change: &Change,
+) -> Result<(), Failed>
+    requires settled { IsTrue (D.honest disk.old) → IsSettled (D.history disk.old) }
+    requires there { IsTrue (D.honest disk.old) → IsSome (now (D.history disk.old) Name.Staged) }
+    ensures moments { IsTrue (D.honest disk.old) → (image : DatabaseImage) (files : List LogFile) (text : List ℕ)
+        → IsReady image files dropped text change.now (D.history disk.old) → (dropped ≡ true → files ≡ [])
+        → EachMoment (D.history disk.old) (D.history disk.new)
+        (IsBetween image files dropped (apply image change.now) (record { min = min; max = max; text = text })) }
+    ensures done { IsTrue (D.honest disk.old) → OnOk result ((image : DatabaseImage) (files : List LogFile) (text : List ℕ)
+        → IsReady image files dropped text change.now (D.history disk.old) → (dropped ≡ true → files ≡ [])
+        → IsAtRest (apply image change.now) (files ++ record { min = min; max = max; text = text } ∷ []) false (D.history disk.new)) }
+    ensures honest { D.honest disk.new ≡ D.honest disk.old }
+    ensures cause { CountsFaults (D.faults disk.old) (D.faults disk.new) result }
+{
+    if dropped {
+        put_anew(disk, min, max, change)?;
+        return Ok(());
+    }
+    put(disk, min, max, change)?;
+    Ok(())
+}
+
+/// Stages the text of a transaction file, publishes it, and writes its change over the database file.
 pub fn place<D: Disk>(
     disk: &mut D,
     dropped: bool,
@@ -21,8 +53,7 @@ pub fn place<D: Disk>(
     max: u64,
     change: &Change,
 ) -> Placed
-    requires unmarked { dropped ≡ false }
-    requires settled { IsTrue (D.honest disk.old) → IsSettledBut Name.Staged (D.history disk.old) }
+    requires { IsTrue (D.honest disk.old) → IsSettledBut Name.Staged (D.history disk.old) }
     ensures places { IsTrue (D.honest disk.old) → (image : DatabaseImage) (files : List LogFile)
         → IsOver image files dropped text.now change.now (D.history disk.old)
         → Places image files dropped (apply image change.now) (record { min = min; max = max; text = text.now })
@@ -35,7 +66,7 @@ pub fn place<D: Disk>(
         Err(_) => return Placed::Unpublished,
     }
     let tried = disk.moment();
-    match put(disk, min, max, change) {
+    match put_staged(disk, dropped, min, max, change) {
         Ok(()) => Placed::Whole,
         Err(_) => Placed::From(tried),
     }

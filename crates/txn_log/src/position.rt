@@ -10,7 +10,7 @@ use lf_base::Pos;
 use lf_disk::Disk;
 
 /// The position of a database that was never written.
-const NOWHERE: Pos = Pos { txid: 0, sum: 0 };
+pub const NOWHERE: Pos = Pos { txid: 0, sum: 0 };
 
 /// The position behind the last file.
 fn end_of(entries: &[Entry]) -> Pos

@@ -1,4 +1,4 @@
-ghost use Rattle.std.specs.Prelude.{◌≡◌, false, IsTrue};
+ghost use Rattle.std.specs.Prelude.{◌≡◌, IsTrue};
 ghost use Rattle.std.proofs.Props.{props};
 ghost use Rattle.lf_sqlite_pages.specs.Header.{image_is_wal};
 ghost use Rattle.txn_log.specs.Calls.{RestsAs};
@@ -40,5 +40,4 @@ pub struct Store<D: Disk> {
     ghost kept: { IsTrue (D.honest disk) → IsStore (D.history disk) page_size commit entries.items dropped sums.sums broken whole tried } by { Prim.hlevel (props, Ascends-prop) },
     ghost left: { IsTrue (D.honest disk) → RestsAs (MayBeFound (state_of (D.history disk) page_size commit entries.items dropped broken whole) (failed_of (D.history disk) broken attempt tried)) (D.history disk) } by { Prim.hlevel props },
     ghost mode: { IsTrue (D.honest disk) → wal ≡ image_is_wal (state_of (D.history disk) page_size commit entries.items dropped broken whole).image } by { Prim.hlevel props },
-    ghost unmarked: { dropped ≡ false },
 }

@@ -54,8 +54,8 @@ invariant_of-store-in-Err-clause-mode g c = c.args.store.now.mode
 pub returns-in-Err-clause-went : goal.returns-in-Err-clause-went
 returns-in-Err-clause-went g c honest = rw (c.reserve.ensures.items) (moved-none _ _ _ (c.args.store.now.left honest))
 
-pub place-requires-clause-settled : goal.place-requires-clause-settled
-place-requires-clause-settled g c honest =
+pub place-requires : goal.place-requires
+place-requires g c honest =
     let s = c.args.store.now in
     let h = g.D.Disk.history s.disk in
     (subst (λ (b : Bool). IsStore h s.page_size s.commit s.entries.items s.dropped s.sums.sums b s.whole s.tried) c.requires.open_ (s.kept honest)).rest.settled
@@ -63,7 +63,6 @@ place-requires-clause-settled g c honest =
 pub invariant_of-store-in-Whole : goal.invariant_of-store-in-Whole
 invariant_of-store-in-Whole g c = record {
   sized = subst (λ (s : ℕ). IsSized s c.args.file.now.header.commit) c.requires.valid.block.page_size (record { sized = λ _. c.requires.valid.block.pages.of_a_page_size; pages = λ _. c.requires.valid.block.pages.of_a_page_size });
-  unmarked = refl;
   shaped =
       let s = c.args.store.now in
       let file = c.args.file.now in
@@ -140,7 +139,6 @@ returns-in-Whole-clause-went g c honest =
 pub invariant_of-store-in-Unpublished : goal.invariant_of-store-in-Unpublished
 invariant_of-store-in-Unpublished g c = record {
   sized = c.args.store.now.sized;
-  unmarked = c.args.store.now.unmarked;
   shaped = rw (c.reserve.ensures.items, c.in-Ok-reserve.ensures.ok) c.args.store.now.shaped;
   kept = λ still.
       let honest = sym c.place.ensures.honest ∙ still in
@@ -211,7 +209,6 @@ returns-in-Unpublished-clause-went g c honest =
 pub invariant_of-store-in-From : goal.invariant_of-store-in-From
 invariant_of-store-in-From g c = record {
   sized = c.args.store.now.sized;
-  unmarked = c.args.store.now.unmarked;
   shaped = rw (c.reserve.ensures.items, c.in-Ok-reserve.ensures.ok) c.args.store.now.shaped;
   kept = λ still.
       let honest = sym c.place.ensures.honest ∙ still in

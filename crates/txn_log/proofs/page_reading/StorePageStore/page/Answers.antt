@@ -56,7 +56,6 @@ invariant_of-self-2 g c = record {
       let mode : s.wal ≡ image_is_wal (image_in s.page_size s.commit (now h)) =
       subst (λ (b : Bool). s.wal ≡ image_is_wal (state_of h s.page_size s.commit s.entries.items s.dropped b s.whole).image) c.if-self.false (s.mode honest) in
       rw (c.if-self.false) (mode_rested h new c.read_at.ensures.rests s.page_size s.commit s.wal mode);
-  unmarked = c.args.self.now.unmarked;
 }
 
 pub returns-clause-bytes : goal.returns-clause-bytes

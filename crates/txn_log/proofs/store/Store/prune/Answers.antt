@@ -26,7 +26,6 @@ returns-then-gone-eq0-clause-went g c honest =
 pub invariant_of-self-in-Ok : goal.invariant_of-self-in-Ok
 invariant_of-self-in-Ok g c = record {
   sized = c.args.self.now.sized;
-  unmarked = c.args.self.now.unmarked;
   shaped =
       let s = c.args.self.now in
       let gone : ℕ = c.saturating_sub-gone.result in
@@ -94,7 +93,6 @@ invariant_of-self-in-Ok g c = record {
 pub invariant_of-self-in-Err : goal.invariant_of-self-in-Err
 invariant_of-self-in-Err g c = record {
   sized = c.args.self.now.sized;
-  unmarked = c.args.self.now.unmarked;
   shaped = c.args.self.now.shaped;
   kept = λ still.
       let honest = sym c.remove_files.ensures.honest ∙ still in
