@@ -6,9 +6,11 @@ mod Commits
 mod Composing
 mod Copies
 mod Drafts
+mod Droppings
 mod Emptyings
 mod Entries
 mod Installed
+mod Marks
 mod Modes
 mod Moves
 mod Naming

@@ -2,6 +2,7 @@ pub mod Answering
 pub mod Calls
 pub mod Causes
 pub mod Draft
+pub mod Dropping
 pub mod Durable
 pub mod Entries
 pub mod FaultNumber

@@ -5,6 +5,8 @@ pub enum Attempt {
     Unpublished,
     /// A commit, from the rename on.
     Commit,
+    /// A drop, from the mark's rename on.
+    Drop,
     /// The removal of all but the last `keep` files.
     Prune { keep: u64 },
 }

@@ -1,0 +1,65 @@
+//! The database is dropped.
+ghost use Rattle.std.specs.Prelude.{◌≡◌, ◌≤◌, IsTrue};
+ghost use Rattle.world_laws.specs.Store.{DropAll};
+ghost use Rattle.txn_log.specs.Calls.{Went};
+ghost use Rattle.txn_log.specs.Causes.{Breaks};
+ghost use Rattle.txn_log.specs.Dropping.{DropsAll};
+ghost use Rattle.txn_log.specs.Store.{end_of_entries, state_of, failed_of};
+
+use crate::attempt::Attempt;
+use crate::fault::StoreFault;
+use crate::marking::drop_files;
+use crate::placed::Placed;
+use crate::store::Store;
+use lf_disk::Disk;
+
+impl<D: Disk> Store<D> {
+    /// Drops the database: its pages and its log go, and a mark stays that it was there. It takes no
+    /// memory.
+    pub fn drop_all(&mut self) -> Result<(), StoreFault>
+        requires { 1 ≤ (end_of_entries self.old.entries.items).txid }
+        ensures drops { DropsAll self.old.broken result }
+        ensures cause { Breaks self.old.broken (D.faults self.old.disk) result self.new.broken (D.faults self.new.disk) }
+
+        // What a crash leaves at each moment.
+        ensures went { IsTrue (D.honest self.old.disk) → Went
+            (state_of (D.history self.old.disk) self.old.page_size self.old.commit self.old.entries.items self.old.dropped self.old.broken self.old.whole)
+            (failed_of (D.history self.old.disk) self.old.broken self.old.attempt self.old.tried) (D.history self.old.disk)
+            DropAll result
+            (state_of (D.history self.new.disk) self.new.page_size self.new.commit self.new.entries.items self.new.dropped self.new.broken self.new.whole)
+            (failed_of (D.history self.new.disk) self.new.broken self.new.attempt self.new.tried) (D.history self.new.disk) }
+        ensures honest { D.honest self.new.disk ≡ D.honest self.old.disk }
+    {
+        if self.broken {
+            return Err(StoreFault::Broken);
+        }
+        self.whole = self.disk.moment();
+        match drop_files(
+            *self.entries.allocator(),
+            &mut self.disk,
+            self.entries.as_slice(),
+        ) {
+            Placed::Whole => {
+                self.page_size = 0;
+                self.commit = 0;
+                self.wal = false;
+                self.dropped = true;
+                self.entries.clear();
+                self.sums.resize(0);
+                Ok(())
+            }
+            Placed::Unpublished => {
+                self.broken = true;
+                self.attempt = Attempt::Unpublished;
+                self.tried = self.whole;
+                Err(StoreFault::Disk)
+            }
+            Placed::From(tried) => {
+                self.broken = true;
+                self.attempt = Attempt::Drop;
+                self.tried = tried;
+                Err(StoreFault::Disk)
+            }
+        }
+    }
+}
