@@ -9,6 +9,7 @@ mod Drafts
 mod Droppings
 mod Emptyings
 mod Entries
+mod Givings
 mod Installed
 mod Marks
 mod Modes

@@ -6,6 +6,7 @@ pub mod Dropping
 pub mod Durable
 pub mod Entries
 pub mod FaultNumber
+pub mod Giving
 pub mod Kept
 pub mod Modes
 pub mod Opening

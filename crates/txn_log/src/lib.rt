@@ -17,6 +17,7 @@ mod dropping;
 mod encoding;
 mod entry;
 mod fault;
+mod giving;
 mod laws;
 mod marking;
 mod mode;

@@ -1,9 +1,11 @@
 ghost use Rattle.std.specs.Prelude.{◌≡◌, IsTrue, OnOk, length, replicate};
+ghost use Rattle.txn_log.specs.Giving.{ReadsFile};
 ghost use Rattle.lf_base.specs.Faults.{CountsFaults};
 ghost use Rattle.lf_base.specs.FileBytes.{read_into};
 ghost use Rattle.lf_disk.specs.Folder.{bytes_of};
 ghost use Rattle.lf_disk.specs.History.{now, Rests};
 
+use crate::fault::StoreFault;
 use lf_base::Failed;
 use lf_disk::{Disk, FileName};
 
@@ -26,4 +28,25 @@ pub fn read_at<D: Disk>(disk: &mut D, name: FileName, at: u64, out: &mut [u8]) -
     zero(out);
     disk.read(name, at, out)?;
     Ok(())
+}
+
+/// Makes `out` the bytes of a file, of which an absent one has none.
+pub fn read_file<D: Disk>(disk: &mut D, name: FileName, out: &mut Vec<u8>) -> Result<(), StoreFault>
+    ensures bytes { IsTrue (D.honest disk.old) → OnOk result (out.new.items ≡ bytes_of (now (D.history disk.old) name)) }
+    ensures cause { ReadsFile (D.faults disk.old) result (D.faults disk.new) }
+    ensures rests { Rests (D.history disk.old) (D.history disk.new) }
+    ensures honest { D.honest disk.new ≡ D.honest disk.old }
+{
+    let size = match disk.size(name) {
+        Ok(size) => size.unwrap_or(0),
+        Err(_) => return Err(StoreFault::Disk),
+    };
+    out.clear();
+    if out.resize(size as usize, 0).is_err() {
+        return Err(StoreFault::NoMemory);
+    }
+    match read_at(disk, name, 0, out.as_mut_slice()) {
+        Ok(()) => Ok(()),
+        Err(_) => Err(StoreFault::Disk),
+    }
 }

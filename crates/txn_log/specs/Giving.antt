@@ -1,0 +1,23 @@
+-- A file of the log is given.
+use Rattle.std.specs.Prelude.{◌≡◌, ℕ, Bool, true, false, List, get_or, Result, Ok, Err}
+use Rattle.lf_base.specs.Faults.{Rose}
+use Rattle.ltx_codec.specs.Format.{IsLtx}
+use Rattle.ltx_codec.specs.declared.file.Ltx.{Ltx}
+use Rattle.txn_log.specs.declared.fault.StoreFault.{StoreFault}
+use Rattle.txn_log.specs.declared.fault.StoreFault.TheVariants as fault
+
+-- the text is one of the file at a place of a log
+abbrev pub IsTextAt : List Ltx → ℕ → List ℕ → Type 0
+IsTextAt log at text = (d : Ltx) → ∥ IsLtx text (get_or log at d) ∥₁
+
+-- a file is read, or the disk fails, whose count then rose, or memory is wanting
+abbrev pub ReadsFile : {T : Type 0} → ℕ → Result T StoreFault → ℕ → Type 0
+ReadsFile before (Ok _) now = now ≡ before
+ReadsFile before (Err fault.Disk) now = Rose before now
+ReadsFile before (Err fault.NoMemory) now = now ≡ before
+ReadsFile before (Err _) now = ⊥
+
+-- the same of a store, which refuses it while it is broken
+abbrev pub Gives : {T : Type 0} → Bool → ℕ → Result T StoreFault → ℕ → Type 0
+Gives broken before (Err fault.Broken) now = (broken ≡ true) × (now ≡ before)
+Gives {T = T} broken before result now = (broken ≡ false) × ReadsFile {T = T} before result now
