@@ -1,5 +1,5 @@
 -- On a dropped store the file is published as a snapshot, and settled.
-use Rattle.std.proofs.Common.{◌≡◌, ◌⊎◌, inl, inr, ℕ, ◌≤◌, true, false, Option, Some, None, IsSome, List, [], ◌∷◌, refl, sym, ◌∙◌, ap, subst, arith}
+use Rattle.std.proofs.Common.{inl, inr, ℕ, true, Option, List, [], refl, sym, ◌∙◌, subst}
 use Rattle.lf_disk.specs.declared.name.FileName.TheVariants.{Database, Staged, Snapshot, Ltx}
 use Rattle.lf_disk.specs.Folder.{Folder, bytes_of, SameBut}
 use Rattle.lf_disk.specs.History.{History, now, EachMoment}
@@ -8,8 +8,7 @@ use Rattle.lf_disk.proofs.Moments.{joined, weakened}
 use Rattle.lf_sqlite_pages.specs.Image.{DatabaseImage}
 use Rattle.lf_sqlite_pages.specs.Change.{PageChange}
 use Rattle.lf_sqlite_pages.specs.Apply.{apply}
-use Rattle.txn_log.specs.declared.entry.Entry.{Entry}
-use Rattle.txn_log.specs.Kept.{LogFile, change_of, Decides, Kept, IsBySnapshot}
+use Rattle.txn_log.specs.Kept.{LogFile, change_of, Decides, IsBySnapshot}
 use Rattle.txn_log.specs.Placing.{IsBetween}
 use Rattle.txn_log.specs.Putting.{IsReady}
 use Rattle.txn_log.specs.Settling.{IsUnsettled, IsInstalled}

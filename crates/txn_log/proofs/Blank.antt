@@ -1,9 +1,8 @@
 -- A disk without files holds the empty store.
-use Rattle.std.proofs.Common.{◌≡◌, ◌≢◌, ℕ, ◌≤◌, false, true, is_some, List, [], length, Some, None, Option, refl, sym, ◌∙◌, ap, subst, arith}
-use Rattle.lf_disk.specs.declared.name.FileName.TheVariants.{Database, Staged, Snapshot, Dropped, Ltx}
+use Rattle.std.proofs.Common.{◌≡◌, ℕ, false, true, is_some, List, [], length, Some, None, Option, refl, ap, arith}
+use Rattle.lf_disk.specs.declared.name.FileName.TheVariants.{Database, Snapshot, Dropped, Ltx}
 use Rattle.lf_disk.specs.Folder.{bytes_of}
-use Rattle.lf_disk.specs.History.{History, now}
-use Rattle.txn_log.specs.Durable.{IsLog}
+use Rattle.lf_disk.specs.History.{History}
 use Rattle.txn_log.specs.Opening.{IsBlank}
 use Rattle.txn_log.specs.Store.{IsStore, IsShaped}
 

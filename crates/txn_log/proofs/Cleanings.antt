@@ -1,26 +1,24 @@
 -- A store loses the first files of its log.
-use Rattle.std.proofs.Common.{◌≡◌, ◌≢◌, inl, inr, ℕ, zero, suc, ◌+◌, ◌-◌, ◌<◌, ◌≤◌, Bool, true, false, List, [], ◌∷◌, length, length-take, length-drop, take, drop, get_or, get_or-take, get_or-drop, fold, map, Option, Some, None, refl, sym, ◌∙◌, ap, subst, arith}
+use Rattle.std.proofs.Common.{◌≡◌, ◌≢◌, inl, inr, ℕ, zero, suc, ◌+◌, ◌-◌, ◌<◌, ◌≤◌, Bool, true, false, List, [], ◌∷◌, length, length-take, length-drop, take, drop, get_or, get_or-take, get_or-drop, fold, Some, None, refl, sym, ◌∙◌, ap, subst, arith}
 use Rattle.std.proofs.lemmas.Bool.{cases_Bool}
 use Rattle.std.proofs.lemmas.List.{drop-map, length-map}
-use Rattle.page_checksum.specs.Sums.{flagged, joined}
 use Rattle.lf_base.specs.declared.pos.Pos.{Pos}
 use Rattle.lf_disk.specs.Folder.{Folder}
-use Rattle.lf_disk.specs.History.{History, now, may_leave, EachMoment}
+use Rattle.lf_disk.specs.History.{History, now, EachMoment}
 use Rattle.lf_disk.proofs.Moments.{weakened}
 use Rattle.lf_sqlite_pages.specs.Image.{DatabaseImage}
 use Rattle.lf_sqlite_pages.specs.Header.{image_is_wal}
 use Rattle.ltx_codec.specs.Positions.{before, after, nowhere}
-use Rattle.ltx_codec.specs.Sums.{image_sum}
 use Rattle.ltx_codec.specs.declared.file.Ltx.{Ltx}
-use Rattle.world_laws.specs.Store.{StoreState, PruneTo, FailedIn, Failure, MayBeFound, IsCandidate, end_of, at, done, without_front}
+use Rattle.world_laws.specs.Store.{StoreState, PruneTo, FailedIn, MayBeFound, IsCandidate, end_of, done, without_front}
 use Rattle.txn_log.specs.declared.entry.Entry.{Entry}
 use Rattle.txn_log.specs.Calls.{StandsForOne, RestsAs, Moved}
-use Rattle.txn_log.specs.Durable.{Durable, IsText, log_of, Follow, IsLog, IsSummed}
+use Rattle.txn_log.specs.Durable.{Durable, IsText, log_of, Follow, IsLog}
 use Rattle.txn_log.specs.Entries.{AreNamed}
 use Rattle.txn_log.specs.Kept.{LogFile, file_of, Kept, IsAtRest, Ascends}
 use Rattle.txn_log.specs.Pruning.{IsPruned}
-use Rattle.txn_log.specs.Store.{image_in, files_in, state_in, state_of, end_of_entries, entry_of, AreEntries, IsStore, IsShaped}
-use Rattle.txn_log.proofs.Moves.{moved-done, moved-in, at_last, tells, summed, image, files, store}
+use Rattle.txn_log.specs.Store.{image_in, files_in, state_in, state_of, end_of_entries, entry_of, IsStore, IsShaped}
+use Rattle.txn_log.proofs.Moves.{moved-done, moved-in, at_last, tells, summed, files, store}
 use Rattle.txn_log.proofs.Placings.{kept_same}
 use Rattle.txn_log.proofs.Prunings.{ascends_drop}
 use Rattle.txn_log.proofs.Stores.{Tells, named_in, length-files_in, broken, seen_before, settles, state_now}

@@ -1,21 +1,20 @@
 -- A store with one file more.
-use Rattle.std.proofs.Common.{◌≡◌, ◌≢◌, ◌⊎◌, inl, inr, ℕ, zero, suc, ◌+◌, ◌-◌, ◌<◌, ◌≤◌, true, false, eqb, Option, Some, None, List, [], ◌∷◌, ◌++◌, length, length-append, get_or, fold, map, replicate, refl, sym, ◌∙◌, ap, subst, arith, unwrap_or, IsSome}
-use Rattle.std.specs.Prelude.{slice_index, slice_get, ◌==◌, if◌then◌else◌}
+use Rattle.std.proofs.Common.{◌≡◌, inl, inr, ℕ, zero, suc, ◌+◌, ◌-◌, ◌<◌, ◌≤◌, true, false, eqb, Option, Some, None, List, [], ◌∷◌, ◌++◌, length, length-append, get_or, fold, map, replicate, refl, sym, ◌∙◌, ap, subst, arith, unwrap_or, IsSome}
+use Rattle.std.specs.Prelude.{slice_index}
 use Rattle.std.specs.List.{range_with_len}
 use Rattle.std.specs.Option.{option_map}
 use Rattle.std.proofs.lemmas.Bool.{cases_lt, cases_eq}
 use Rattle.std.proofs.lemmas.Bool.Decides.{nat_tests}
-use Rattle.std.proofs.lemmas.List.{get_or_append_left, get_or_at, length-map}
-use Rattle.std.proofs.lemmas.List.FromFn.{length-map-range_with_len, get_or-map-range_with_len}
+use Rattle.std.proofs.lemmas.List.{get_or_append_left, get_or_at}
+use Rattle.std.proofs.lemmas.List.FromFn.{get_or-map-range_with_len}
 use Rattle.std.proofs.lemmas.List.Sums.{fold-append}
 use Rattle.std.proofs.lemmas.Option.{slice_get-get_or}
 use Rattle.page_checksum.specs.Sums.{flagged, joined, page_sum_of}
 use Rattle.lf_base.specs.declared.pos.Pos.{Pos}
 use Rattle.lf_sqlite_pages.specs.LockPage.{lock_page_of, IsDataPage}
-use Rattle.lf_sqlite_pages.specs.Change.{PageChange, IsChange, written}
-use Rattle.lf_sqlite_pages.specs.Complete.{completed, completed_page}
+use Rattle.lf_sqlite_pages.specs.Change.{PageChange, written}
 use Rattle.lf_sqlite_pages.specs.Image.{DatabaseImage, page_at}
-use Rattle.lf_sqlite_pages.specs.Apply.{apply, Fits}
+use Rattle.lf_sqlite_pages.specs.Apply.{apply}
 use Rattle.lf_sqlite_pages.specs.Writes.{data_page_at}
 use Rattle.lf_sqlite_pages.proofs.Laws.{length-apply, page_at-apply, page_after-data}
 use Rattle.lf_sqlite_pages.proofs.PageNumbers.{page_at-first}
@@ -27,7 +26,7 @@ use Rattle.ltx_codec.proofs.SumLaws.{image_sum-table}
 use Rattle.ltx_codec.proofs.SumLemmas.{map-same}
 use Rattle.world_laws.specs.Store.{end_of}
 use Rattle.txn_log.specs.declared.entry.Entry.{Entry}
-use Rattle.txn_log.specs.Kept.{LogFile, file_of, IsComplete, Ascends}
+use Rattle.txn_log.specs.Kept.{LogFile, file_of, IsComplete}
 use Rattle.txn_log.specs.Draft.{sum_after, sums_after}
 use Rattle.txn_log.specs.Durable.{IsText, log_of, Follow, IsLog}
 use Rattle.txn_log.specs.Store.{entry_of, AreEntries}

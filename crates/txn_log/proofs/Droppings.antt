@@ -1,11 +1,11 @@
 -- A store whose database is dropped.
-use Rattle.std.proofs.Common.{◌≡◌, ◌≢◌, ◌⊎◌, inl, inr, ℕ, ◌-◌, ◌<◌, ◌≤◌, Bool, true, false, List, [], ◌∷◌, length, Option, Some, None, replicate, refl, sym, ◌∙◌, ap, subst, arith}
+use Rattle.std.proofs.Common.{◌≡◌, inl, inr, ℕ, ◌-◌, ◌<◌, ◌≤◌, true, false, List, [], ◌∷◌, length, Some, None, replicate, refl, sym, ap, subst, arith}
 use Rattle.lf_base.specs.declared.pos.Pos.{Pos}
 use Rattle.lf_disk.specs.Folder.{Folder}
 use Rattle.lf_disk.specs.History.{History, now, EachMoment}
 use Rattle.lf_disk.proofs.Moments.{weakened}
 use Rattle.lf_sqlite_pages.specs.Image.{DatabaseImage, empty_image}
-use Rattle.world_laws.specs.Store.{StoreState, DropAll, FailedIn, MayBeFound, IsCandidate, CanDo, at, dropped_store}
+use Rattle.world_laws.specs.Store.{StoreState, DropAll, FailedIn, MayBeFound, IsCandidate, CanDo, dropped_store}
 use Rattle.txn_log.specs.declared.entry.Entry.{Entry}
 use Rattle.txn_log.specs.Calls.{StandsForOne, RestsAs, Moved}
 use Rattle.txn_log.specs.Dropping.{NameAll, IsKeptOrDropped}
@@ -13,7 +13,7 @@ use Rattle.txn_log.specs.Durable.{Durable}
 use Rattle.txn_log.specs.Kept.{LogFile, Kept, IsByMark, IsAtRest}
 use Rattle.txn_log.specs.Store.{state_in, state_of, files_in, end_of_entries, IsStore, IsShaped, IsSized}
 use Rattle.txn_log.proofs.Entries.{end-log, end-empty}
-use Rattle.txn_log.proofs.Moves.{moved-done, moved-in, at_last, image, files, store, durable}
+use Rattle.txn_log.proofs.Moves.{moved-done, moved-in, at_last, image, durable}
 use Rattle.txn_log.proofs.Placings.{kept_same}
 use Rattle.txn_log.proofs.Stores.{Tells, named_in, length-files_in, seen_before, settles}
 

@@ -1,5 +1,5 @@
 -- The mark of a dropped database is published.
-use Rattle.std.proofs.Common.{◌≡◌, ◌⊎◌, inl, inr, ℕ, ◌≤◌, true, false, Option, Some, None, IsSome, List, [], refl, sym, ◌∙◌, ap, subst, arith}
+use Rattle.std.proofs.Common.{inl, inr, ℕ, false, Option, IsSome, List, refl, sym, ◌∙◌, subst}
 use Rattle.lf_disk.specs.declared.name.FileName.TheVariants.{Staged, Snapshot, Dropped, Ltx}
 use Rattle.lf_disk.specs.Folder.{Folder, SameBut}
 use Rattle.lf_disk.specs.History.{History, now, EachMoment}

@@ -1,7 +1,6 @@
 -- The pages of a store, as its database file reads.
-use Rattle.std.proofs.Common.{◌≡◌, ◌≢◌, ◌⊎◌, inl, inr, ℕ, ◌+◌, ◌-◌, ◌*◌, ◌<◌, ◌≤◌, ◌^◌, Bool, true, false, cond, eqb, Option, Some, None, IsTrue, List, [], length, length-take, length-drop, take, drop, ◌++◌, get_or, map, replicate, refl, sym, ◌∙◌, ap, subst, arith}
-use Rattle.std.specs.Prelude.{IfSome, ◌==◌, if◌then◌else◌}
-use Rattle.std.specs.List.{range_with_len}
+use Rattle.std.proofs.Common.{◌≡◌, inl, inr, ℕ, ◌+◌, ◌-◌, ◌*◌, ◌<◌, ◌≤◌, ◌^◌, Bool, true, false, Some, None, IsTrue, List, [], length, length-take, length-drop, take, drop, ◌++◌, replicate, refl, sym, ◌∙◌, ap, arith}
+use Rattle.std.specs.Prelude.{IfSome, if◌then◌else◌}
 use Rattle.std.proofs.Math.Nat.{mul-le-mul_right}
 use Rattle.std.proofs.lemmas.Bool.{cases_eq}
 use Rattle.std.proofs.lemmas.List.{length-replicate, drop_all, append-nil}
@@ -11,7 +10,6 @@ use Rattle.lf_base.specs.FileBytes.{read_into}
 use Rattle.lf_disk.specs.declared.name.FileName.TheVariants.{Database}
 use Rattle.lf_disk.specs.Folder.{Folder, bytes_of}
 use Rattle.lf_sqlite_pages.specs.LockPage.{lock_page_of, IsDataPage}
-use Rattle.lf_sqlite_pages.specs.PageSize.{IsPageSize}
 use Rattle.lf_sqlite_pages.specs.Image.{DatabaseImage, IsImage, page_at}
 use Rattle.lf_sqlite_pages.proofs.LockPages.{lock_page-first}
 use Rattle.lf_sqlite_pages.proofs.PageNumbers.{page_at-first}

@@ -1,11 +1,10 @@
 -- A staged file is ready to be put in place.
-use Rattle.std.proofs.Common.{◌≡◌, ◌⊎◌, inl, inr, ℕ, ◌≤◌, Bool, false, true, is_some, List, ◌∷◌, [], ◌++◌, refl, sym, ◌∙◌, ap, subst, arith, IsSome, Some, Option}
+use Rattle.std.proofs.Common.{◌≡◌, inl, inr, ℕ, Bool, false, true, is_some, List, ◌∷◌, [], ◌++◌, refl, sym, ◌∙◌, ap, subst, arith, IsSome, Option}
 use Rattle.std.proofs.lemmas.Bool.{cases_Bool}
-use Rattle.lf_disk.specs.declared.name.FileName.{FileName}
 use Rattle.lf_disk.specs.declared.name.FileName.TheVariants.{Database, Staged, Snapshot, Dropped, Ltx}
 use Rattle.lf_disk.specs.Folder.{Folder, bytes_of, SameBut, same_name}
 use Rattle.lf_disk.specs.Names.{same_name-one}
-use Rattle.lf_disk.specs.History.{History, now, may_leave, EachMoment}
+use Rattle.lf_disk.specs.History.{History, now, EachMoment}
 use Rattle.lf_disk.specs.Publish.{IsStaged}
 use Rattle.lf_disk.proofs.Moments.{joined, weakened}
 use Rattle.lf_sqlite_pages.specs.Image.{DatabaseImage}

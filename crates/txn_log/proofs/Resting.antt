@@ -1,12 +1,10 @@
 -- A store whose disk was read.
-use Rattle.std.proofs.Common.{◌≡◌, ℕ, ◌≤◌, Bool, true, false, cond, List, Option, Some, None, refl, sym, ◌∙◌, ap, subst, arith}
+use Rattle.std.proofs.Common.{◌≡◌, ℕ, Bool, true, false, List, Some, None, sym, ◌∙◌, ap, subst, arith}
 use Rattle.std.specs.Prelude.{if◌then◌else◌}
 use Rattle.lf_disk.specs.Folder.{Folder}
 use Rattle.lf_disk.specs.History.{History, now, Rests}
-use Rattle.lf_sqlite_pages.specs.Image.{DatabaseImage}
 use Rattle.lf_sqlite_pages.specs.Header.{image_is_wal}
 use Rattle.ltx_codec.specs.Sums.{sum_table}
-use Rattle.world_laws.specs.Store.{StoreState}
 use Rattle.txn_log.specs.declared.entry.Entry.{Entry}
 use Rattle.txn_log.specs.Calls.{StandsForOne, RestsAs}
 use Rattle.txn_log.specs.Kept.{IsAtRestAt}

@@ -1,27 +1,24 @@
 -- What a store stands for, from call to call.
-use Rattle.std.proofs.Common.{◌≡◌, ◌≢◌, ◌⊎◌, inl, inr, ℕ, zero, suc, ◌+◌, ◌-◌, ◌*◌, ◌<◌, ◌≤◌, Bool, true, false, cond, eq-eqb, Option, Some, None, Result, List, [], ◌∷◌, ◌++◌, length, length-append, take, drop, get_or, fold, map, refl, sym, ◌∙◌, ap, subst, arith}
+use Rattle.std.proofs.Common.{◌≡◌, inl, inr, ℕ, zero, suc, ◌+◌, ◌-◌, ◌<◌, ◌≤◌, Bool, true, false, cond, eq-eqb, Option, Some, None, List, [], ◌∷◌, ◌++◌, length, length-append, get_or, fold, map, refl, sym, ◌∙◌, ap, subst, arith}
 use Rattle.std.specs.Prelude.{◌==◌, ◌&&◌}
 use Rattle.std.proofs.lemmas.Bool.{and_from, cases_lt}
 use Rattle.std.proofs.lemmas.Bool.Decides.{nat_tests}
 use Rattle.std.proofs.lemmas.List.{same_lists, get_or-map, length-map, get_or_append_left, get_or_at}
 use Rattle.std.proofs.lemmas.List.FromFn.{length-map-range_with_len, get_or-map-range_with_len}
-use Rattle.std.proofs.lemmas.List.Sums.{fold-append}
 use Rattle.std.proofs.lemmas.Option.{get_or_from_slice_get}
 use Rattle.std.specs.List.{range_with_len, slice_get}
-use Rattle.lf_disk.specs.declared.name.FileName.TheVariants.{Database, Staged, Snapshot, Ltx as LtxName}
+use Rattle.lf_disk.specs.declared.name.FileName.TheVariants.{Database, Staged, Ltx as LtxName}
 use Rattle.lf_disk.specs.Folder.{Folder, bytes_of, SameBut}
-use Rattle.lf_disk.specs.History.{History, now, may_leave, KeepsPast, Rests, EachMoment}
+use Rattle.lf_disk.specs.History.{History, now, KeepsPast}
 use Rattle.lf_sqlite_pages.specs.Image.{DatabaseImage, page_at}
 use Rattle.lf_sqlite_pages.specs.Header.{image_is_wal}
 use Rattle.ltx_codec.specs.Sums.{sum_table}
-use Rattle.ltx_codec.specs.declared.file.Ltx.{Ltx}
-use Rattle.world_laws.specs.Store.{StoreState}
 use Rattle.txn_log.specs.declared.entry.Entry.{Entry}
 use Rattle.txn_log.specs.Pages.{page_in}
-use Rattle.txn_log.specs.Kept.{LogFile, text_of, file_of, Kept, Shows, IsAtRestAt, IsAtRest, Ascends}
-use Rattle.txn_log.specs.Durable.{log_of, IsLog}
+use Rattle.txn_log.specs.Kept.{LogFile, text_of, Kept, Shows, IsAtRestAt, IsAtRest, Ascends}
+use Rattle.txn_log.specs.Durable.{log_of}
 use Rattle.txn_log.specs.Entries.{AreNamed}
-use Rattle.txn_log.specs.Store.{image_in, files_in, state_in, state_of, meant, entry_of, AreEntries, IsStore}
+use Rattle.txn_log.specs.Store.{image_in, files_in, state_in, state_of, AreEntries, IsStore}
 
 -- the text under a name, where one was found before
 abbrev pub text_from : Option (List ℕ) → List LogFile → ℕ → ℕ → Option (List ℕ)

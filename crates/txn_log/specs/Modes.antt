@@ -1,5 +1,5 @@
 -- Whether a database is in WAL mode after a change.
-use Rattle.std.specs.Prelude.{ℕ, Bool, false, ◌==◌, unwrap_or, if◌then◌else◌}
+use Rattle.std.specs.Prelude.{Bool, false, ◌==◌, unwrap_or, if◌then◌else◌}
 use Rattle.std.specs.Option.{option_map}
 use Rattle.lf_sqlite_pages.specs.Change.{PageChange, written}
 use Rattle.lf_sqlite_pages.specs.Header.{is_wal}

@@ -6,7 +6,6 @@ use Rattle.lf_disk.specs.Folder.{Folder, bytes_of}
 use Rattle.lf_disk.specs.History.{History, EachMoment}
 use Rattle.lf_sqlite_pages.specs.Image.{DatabaseImage}
 use Rattle.lf_sqlite_pages.specs.Change.{PageChange, IsChange}
-use Rattle.lf_sqlite_pages.specs.Apply.{apply}
 use Rattle.txn_log.specs.declared.placed.Placed.{Placed}
 use Rattle.txn_log.specs.declared.placed.Placed.TheVariants as placed
 use Rattle.txn_log.specs.Kept.{LogFile, change_of, Kept, IsBySnapshot, IsAtRest, IsComplete}

@@ -1,5 +1,4 @@
-use Rattle.std.proofs.Common.{◌≡◌, ◌∙◌, ◌≤◌, ℕ, sym, subst}
-use Rattle.lf_disk.specs.History.{now}
+use Rattle.std.proofs.Common.{◌∙◌, ◌≤◌, ℕ, sym, subst}
 use Rattle.txn_log.proofs.Marks.{stays, mark_ready, runs}
 use Rattle.txn_log.proofs.marking.drop_files.Goals as goal
 

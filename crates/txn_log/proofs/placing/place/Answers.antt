@@ -1,5 +1,4 @@
-use Rattle.std.proofs.Common.{◌≡◌, ◌∙◌, ℕ, sym, subst}
-use Rattle.lf_disk.specs.History.{History, now}
+use Rattle.std.proofs.Common.{◌∙◌, ℕ, sym, subst}
 use Rattle.txn_log.specs.Kept.{LogFile}
 use Rattle.txn_log.specs.Placing.{IsTried}
 use Rattle.txn_log.proofs.Placings.{ready, moments, tried}

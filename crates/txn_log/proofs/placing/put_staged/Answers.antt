@@ -1,4 +1,4 @@
-use Rattle.std.proofs.Common.{◌≡◌, ◌∙◌, ◌++◌, ◌∷◌, [], Bool, true, false, ℕ, List, sym, subst}
+use Rattle.std.proofs.Common.{◌++◌, ◌∷◌, [], Bool, subst}
 use Rattle.lf_disk.proofs.Moments.{weakened}
 use Rattle.lf_sqlite_pages.specs.Image.{DatabaseImage}
 use Rattle.lf_sqlite_pages.specs.Apply.{apply}

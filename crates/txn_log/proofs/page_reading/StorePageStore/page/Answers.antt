@@ -1,4 +1,4 @@
-use Rattle.std.proofs.Common.{◌≡◌, ◌≢◌, ◌∙◌, ◌-◌, ◌*◌, ◌<◌, ◌≤◌, ℕ, Bool, false, None, Some, List, length, replicate, refl, sym, ap, subst, arith}
+use Rattle.std.proofs.Common.{◌≡◌, ◌≢◌, ◌∙◌, ◌-◌, ◌*◌, ℕ, Bool, false, None, Some, List, length, replicate, refl, sym, ap, subst, arith}
 use Rattle.lf_base.specs.FileBytes.{read_into}
 use Rattle.lf_disk.specs.Folder.{bytes_of}
 use Rattle.lf_disk.specs.History.{now}

@@ -1,4 +1,4 @@
-use Rattle.std.proofs.Common.{◌≡◌, ◌<◌, ◌^◌, ◌∙◌, ℕ, sym, subst, ap}
+use Rattle.std.proofs.Common.{◌≡◌, ◌<◌, ◌^◌, ◌∙◌, sym, subst, ap}
 use Rattle.ltx_codec.specs.Format.{IsFile, FitsWidths}
 use Rattle.ltx_codec.specs.declared.file.Ltx.{Ltx}
 use Rattle.lf_base.specs.declared.pos.Pos.{Pos}

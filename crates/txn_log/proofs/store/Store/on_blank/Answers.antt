@@ -1,4 +1,4 @@
-use Rattle.std.proofs.Common.{◌≡◌, ◌<◌, [], false, refl, arith}
+use Rattle.std.proofs.Common.{[], false, refl, arith}
 use Rattle.txn_log.proofs.Blank.{blank, shaped as shaped_blank}
 use Rattle.txn_log.proofs.Moves.{rests}
 use Rattle.txn_log.proofs.store.Store.on_blank.Goals as goal
