@@ -7,7 +7,7 @@ use lf_base::Pos;
 /// Limit, SumDiffers and NoMemory; Disk comes where it happens.
 #[derive(Clone, Copy, Debug, PartialEq, Eq)]
 pub enum StoreFault {
-    /// A call of the disk failed. The store is broken from then on.
+    /// A call of the disk failed. Where it was to change something, the store is broken from then on.
     Disk,
     /// A changing call answered Disk since the store was opened.
     Broken,
