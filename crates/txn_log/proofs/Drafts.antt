@@ -1,6 +1,6 @@
 -- A draft is a file.
-use Rattle.std.proofs.Common.{◌≡◌, ◌≢◌, ◌⊎◌, ℕ, zero, suc, ◌+◌, ◌-◌, ◌<◌, ◌≤◌, Bool, ◌^◌, true, false, eqb, List, [], ◌∷◌, length, map, Option, Some, None, refl, sym, ◌∙◌, ap, subst, arith, inl, inr, unwrap_or}
-use Rattle.std.specs.Prelude.{bit_xor, ◌==◌, if◌then◌else◌, slice_index}
+use Rattle.std.proofs.Common.{◌≡◌, ◌≢◌, ◌⊎◌, ℕ, ◌+◌, ◌-◌, ◌<◌, ◌≤◌, Bool, ◌^◌, true, false, eqb, List, [], ◌∷◌, length, map, Option, refl, sym, ◌∙◌, ap, subst, arith, inl, inr, unwrap_or}
+use Rattle.std.specs.Prelude.{slice_index}
 use Rattle.std.specs.List.{range_with_len}
 use Rattle.std.specs.Option.{option_map}
 use Rattle.std.proofs.lemmas.Nat.{le_or_r}
@@ -8,19 +8,17 @@ use Rattle.std.proofs.lemmas.Bool.{cases_eq}
 use Rattle.std.proofs.lemmas.Bool.Decides.{nat_tests}
 use Rattle.page_checksum.specs.Sums.{flagged, joined, page_sum_of}
 use Rattle.lf_base.specs.declared.pos.Pos.{Pos}
-use Rattle.lf_sqlite_pages.specs.LockPage.{lock_page_of, IsDataPage, IsWithinLimit}
-use Rattle.lf_sqlite_pages.specs.Change.{PageChange, IsChange, written, HoldsEveryPage}
+use Rattle.lf_sqlite_pages.specs.LockPage.{lock_page_of}
+use Rattle.lf_sqlite_pages.specs.Change.{PageChange, IsChange, written}
 use Rattle.lf_sqlite_pages.specs.Complete.{completed, completed_page}
 use Rattle.lf_sqlite_pages.proofs.Completing.{IsChange-completed, HoldsEveryPage-completed}
 use Rattle.lf_sqlite_pages.proofs.Writes.{written-writes_of}
-use Rattle.lf_sqlite_pages.proofs.Applying.{written-lock_page}
 use Rattle.ltx_codec.specs.Format.{IsFile, FitsWidths, IsFlagged}
-use Rattle.ltx_codec.specs.Sums.{sum_of_writes, joined_sums}
-use Rattle.ltx_codec.specs.Positions.{nowhere}
+use Rattle.ltx_codec.specs.Sums.{sum_of_writes}
 use Rattle.ltx_codec.specs.declared.file.Ltx.{Ltx}
 use Rattle.ltx_codec.proofs.ChangedSumLemmas.{joined-writes_of, sum_at}
 use Rattle.txn_log.specs.declared.entry.Entry.{Entry}
-use Rattle.txn_log.specs.Draft.{sum_after, sums_after, file_with, drafted, IsWithin}
+use Rattle.txn_log.specs.Draft.{sum_after, sums_after, drafted, IsWithin}
 use Rattle.txn_log.specs.Store.{end_of_entries, IsShaped}
 use Rattle.txn_log.proofs.Entries.{end-empty}
 
@@ -51,6 +49,20 @@ sum-first change valid =
         sum-other : (n : ℕ) → eqb n (lock_page_of change.page_size) ≡ false → sum_after [] (completed change 0) n ≡ unwrap_or (option_map (page_sum_of n) (written (completed change 0).pages n)) 0
         sum-other n test = rw test refl
 
+-- and so it is of a store without files
+pub sum-anew : (commit : ℕ) (entries : List Entry) (dropped : Bool) (sums : List ℕ) (change : PageChange) → IsShaped commit entries dropped sums → IsChange change → entries ≡ []
+    → flagged (joined (sums_after sums (completed change commit))) ≡ sum_of_writes (completed change commit).pages
+sum-anew commit entries dropped sums change shaped valid nothing =
+    let P : List ℕ → ℕ → Type 0 = λ s c. flagged (joined (sums_after s (completed change c))) ≡ sum_of_writes (completed change c).pages in
+    subst (λ (s : List ℕ). P s commit) (sym no_sums) (subst (λ (c : ℕ). P [] c) (sym (shaped.none nothing)) (sum-first change valid))
+  where
+    no_list : (xs : List ℕ) → length xs ≡ 0 → xs ≡ []
+    no_list [] zero_long = refl
+    no_list (x ∷ xs) zero_long = absurd (omega (arith, zero_long))
+
+    no_sums : sums ≡ []
+    no_sums = no_list sums (shaped.count ∙ shaped.none nothing)
+
 module _ (commit : ℕ) (entries : List Entry) (dropped : Bool) (sums : List ℕ) (change : PageChange) (stamp node : ℕ) (shaped : IsShaped commit entries dropped sums) (valid : IsChange change)
     (within : IsWithin (end_of_entries entries) change) where
   abbrev pub file : Ltx
@@ -65,13 +77,6 @@ module _ (commit : ℕ) (entries : List Entry) (dropped : Bool) (sums : List ℕ
 
   later : (end_of_entries entries).txid + 1 ≢ 1 → entries ≢ []
   later more none = more (ap (λ (p : Pos). p.txid + 1) (ap end_of_entries none ∙ end-empty))
-
-  no_sums : entries ≡ [] → sums ≡ []
-  no_sums none = no_list sums (shaped.count ∙ shaped.none none)
-    where
-      no_list : (xs : List ℕ) → length xs ≡ 0 → xs ≡ []
-      no_list [] zero_long = refl
-      no_list (x ∷ xs) zero_long = absurd (omega (arith, zero_long))
 
   pub is_file : FitsWidths file.header → file.post < 2 ^ 64 → IsFile file
   is_file widths width = record {
@@ -94,9 +99,6 @@ module _ (commit : ℕ) (entries : List Entry) (dropped : Bool) (sums : List ℕ
       width = width;
       flagged = le_or_r (joined (sums_after sums (completed change commit))) (2 ^ 63);
       empty = λ none. ap (λ (n : ℕ). flagged (joined (map (sum_after sums (completed change commit)) (range_with_len 1 n)))) none;
-      snapshot = λ one.
-          let nothing : entries ≡ [] = first one in
-          let P : List ℕ → ℕ → Type 0 = λ s c. flagged (joined (sums_after s (completed change c))) ≡ sum_of_writes (completed change c).pages in
-          subst (λ (s : List ℕ). P s commit) (sym (no_sums nothing)) (subst (λ (c : ℕ). P [] c) (sym (shaped.none nothing)) (sum-first change valid));
+      snapshot = λ one. sum-anew commit entries dropped sums change shaped valid (first one);
     };
   }

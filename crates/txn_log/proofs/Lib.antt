@@ -1,4 +1,5 @@
 mod Anew
+mod Applyings
 mod Blank
 mod Cleanings
 mod Clearings

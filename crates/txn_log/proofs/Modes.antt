@@ -22,7 +22,7 @@ use Rattle.lf_sqlite_pages.specs.PageSize.{IsPageSize, is_page_size}
 use Rattle.lf_sqlite_pages.specs.Apply.{page_after}
 use Rattle.lf_sqlite_pages.proofs.LockPages.{page_size-positive, IsDataPage-below}
 
-page_size-most : (page_size : ℕ) → IsPageSize page_size → page_size ≤ 65536
+pub page_size-most : (page_size : ℕ) → IsPageSize page_size → page_size ≤ 65536
 unfolding is_page_size
 page_size-most page_size is = grind (arith, common_steps, nat_tests)
 

@@ -1,5 +1,5 @@
 -- A store moves by a call.
-use Rattle.std.proofs.Common.{◌≡◌, ◌≢◌, ◌⊎◌, inl, inr, ℕ, ◌+◌, ◌-◌, ◌<◌, ◌≤◌, ◌^◌, Bool, true, false, List, [], ◌∷◌, ◌++◌, length, map, Option, Some, None, IsSome, Result, Ok, Err, refl, sym, ◌∙◌, ap, subst, arith}
+use Rattle.std.proofs.Common.{◌≡◌, ◌≢◌, ◌⊎◌, inl, inr, ℕ, ◌<◌, ◌≤◌, ◌^◌, Bool, true, false, List, [], ◌∷◌, ◌++◌, Option, Some, None, Err, refl, sym, ◌∙◌, ap, subst, arith}
 use Rattle.std.proofs.lemmas.Bool.{cases_Bool}
 use Rattle.page_checksum.specs.Sums.{flagged, joined}
 use Rattle.lf_disk.specs.declared.name.FileName.TheVariants.{Staged}
@@ -8,13 +8,11 @@ use Rattle.lf_disk.specs.History.{History, now, may_leave, EachMoment}
 use Rattle.lf_disk.proofs.Moments.{started, weakened}
 use Rattle.lf_sqlite_pages.specs.Image.{DatabaseImage, empty_image}
 use Rattle.lf_sqlite_pages.specs.Apply.{apply}
-use Rattle.lf_sqlite_pages.proofs.Laws.{length-apply}
 use Rattle.ltx_codec.specs.Format.{IsLtx}
 use Rattle.ltx_codec.specs.Positions.{after}
-use Rattle.ltx_codec.specs.Sums.{image_sum, sum_table}
 use Rattle.ltx_codec.specs.declared.file.Ltx.{Ltx}
 use Rattle.ltx_codec.proofs.SumLaws.{image_sum-table}
-use Rattle.world_laws.specs.Store.{StoreState, StoreCall, Commit, Failure, FailedBefore, FailedIn, MayBeFound, IsCandidate, CanDo, at, end_of, done, dropped_store, broken_by}
+use Rattle.world_laws.specs.Store.{StoreState, StoreCall, Failure, FailedBefore, FailedIn, MayBeFound, IsCandidate, MayLeave, CanDo, end_of, done, with_file, dropped_store}
 use Rattle.txn_log.specs.declared.entry.Entry.{Entry}
 use Rattle.txn_log.specs.declared.attempt.Attempt.{Attempt}
 use Rattle.txn_log.specs.declared.attempt.Attempt.TheVariants as attempt
@@ -22,15 +20,15 @@ use Rattle.txn_log.specs.declared.fault.StoreFault.{StoreFault}
 use Rattle.txn_log.specs.declared.fault.StoreFault.TheVariants as fault
 use Rattle.txn_log.specs.Calls.{StandsForOne, RestsAs, MayFind, Moved, Went}
 use Rattle.txn_log.specs.Draft.{sums_after}
-use Rattle.txn_log.specs.Durable.{Durable, IsText, log_of, IsLog, IsSummed}
-use Rattle.txn_log.specs.Kept.{LogFile, file_of, last_of, Kept, IsBySnapshot, IsAtRest, IsAtRestAt, IsComplete}
+use Rattle.txn_log.specs.Durable.{Durable, log_of, IsSummed}
+use Rattle.txn_log.specs.Kept.{LogFile, file_of, last_of, Kept, IsBySnapshot, IsAtRest}
 use Rattle.txn_log.specs.Placing.{IsOver, IsTried, IsBetween}
-use Rattle.txn_log.specs.Publishing.{CanTake, IsSummedBy}
-use Rattle.txn_log.specs.Store.{image_in, files_in, state_in, state_of, failed_of, end_of_entries, entry_of, AreEntries, IsStore, IsShaped}
+use Rattle.txn_log.specs.Publishing.{Publishes, call_of, CanTake, IsSummedBy}
+use Rattle.txn_log.specs.Store.{image_in, files_in, state_in, state_of, failure_of, entry_of, IsStore, IsShaped}
 use Rattle.txn_log.proofs.Commits.{Follows, log-more, is_log-more, end_of-push, end_of-none, tells-more}
 use Rattle.txn_log.proofs.Entries.{end-log, end-push}
 use Rattle.txn_log.proofs.Placings.{kept_same}
-use Rattle.txn_log.proofs.Stores.{Tells, named_in, length-files_in, broken, seen_before, settles, state_now}
+use Rattle.txn_log.proofs.Stores.{Tells, named_in, length-files_in, seen_before, settles, state_now}
 
 -- a call that was not begun
 pub moved-none : (store : StoreState) (was : Option Failure) (h : History) → RestsAs (MayBeFound store was) h → Moved store was h [] None store was h
@@ -100,6 +98,35 @@ moved-in store new call h end can is moments rests = record {
 pub at_last : (h end : History) (P : Folder → Type 0) → EachMoment h end P → (c : Folder) → may_leave end c → P c
 at_last h end P run c may = run.each end.moment c run.later (omega arith) may
 
+-- a call that publishes a file: it can be done, makes the store with the file, and leaves that or the store before
+can-publish : (tries : Attempt) (store : StoreState) (file : Ltx) → Publishes tries file → CanTake store file → CanDo store (call_of tries file)
+can-publish attempt.Commit store file publishes can = (can.is, can.joins, publishes)
+can-publish attempt.Apply store file publishes can = (can.is, can.joins)
+can-publish attempt.Unpublished store file publishes can = absurd publishes
+can-publish attempt.Drop store file publishes can = absurd publishes
+can-publish (attempt.Prune keep) store file publishes can = absurd publishes
+
+done-publish : (tries : Attempt) (store : StoreState) (file : Ltx) → done store (call_of tries file) ≡ with_file store file
+done-publish attempt.Commit store file = refl
+done-publish attempt.Apply store file = refl
+done-publish attempt.Unpublished store file = refl
+done-publish attempt.Drop store file = refl
+done-publish (attempt.Prune keep) store file = refl
+
+may_leave-publish : (tries : Attempt) (store : StoreState) (file : Ltx) (left : StoreState) → (left ≡ store) ⊎ (left ≡ with_file store file) → MayLeave store (call_of tries file) left
+may_leave-publish attempt.Commit store file left either = either
+may_leave-publish attempt.Apply store file left either = either
+may_leave-publish attempt.Unpublished store file left either = either
+may_leave-publish attempt.Drop store file left either = either
+may_leave-publish (attempt.Prune keep) store file left either = either
+
+failure-publish : (tries : Attempt) (h : History) (tried : ℕ) (file : Ltx) → Publishes tries file → failure_of h tried tries ≡ FailedIn (call_of tries (file_of (bytes_of (h.seen tried Staged))))
+failure-publish attempt.Commit h tried file publishes = refl
+failure-publish attempt.Apply h tried file publishes = refl
+failure-publish attempt.Unpublished h tried file publishes = absurd publishes
+failure-publish attempt.Drop h tried file publishes = absurd publishes
+failure-publish (attempt.Prune keep) h tried file publishes = absurd publishes
+
 -- a store that is not broken
 module _ (h : History) (size commit : ℕ) (entries : List Entry) (dropped : Bool) (sums : List ℕ) (whole tried : ℕ)
     (shaped : IsShaped commit entries dropped sums) (kept : IsStore h size commit entries dropped sums false whole tried) where
@@ -160,7 +187,10 @@ module _ (h : History) (size commit : ℕ) (entries : List Entry) (dropped : Boo
   rests c may = itself c (kept_same image files dropped (now h) c kept.rest.kept (kept.rest.settled c may))
 
   -- and a file that it can take
-  module _ (file : Ltx) (text : List ℕ) (can : CanTake store file) (is : IsLtx text file) (read : file_of text ≡ file) where
+  module _ (tries : Attempt) (file : Ltx) (text : List ℕ) (publishes : Publishes tries file) (can : CanTake store file) (is : IsLtx text file) (read : file_of text ≡ file) where
+    abbrev pub call : StoreCall
+    call = call_of tries file
+
     abbrev pub log_file : LogFile
     log_file = record { min = file.header.min; max = file.header.max; text = text }
 
@@ -173,8 +203,8 @@ module _ (h : History) (size commit : ℕ) (entries : List Entry) (dropped : Boo
       min = ap (λ (f : Ltx). f.header.min) read;
       max = ap (λ (f : Ltx). f.header.max) read;
       order = is.valid.header.max;
-      above = omega (arith, ap (λ p. p.txid) can.can.1.next, is.valid.header.min);
-      next = ap Rattle.ltx_codec.specs.Positions.before read ∙ can.can.1.next;
+      above = omega (arith, ap (λ p. p.txid) can.joins.next, is.valid.header.min);
+      next = ap Rattle.ltx_codec.specs.Positions.before read ∙ can.joins.next;
     }
 
     pub over : IsOver image files dropped text file.change h
@@ -189,10 +219,10 @@ module _ (h : History) (size commit : ℕ) (entries : List Entry) (dropped : Boo
     pub log_after : log_of files ++ file ∷ [] ≡ log_of (files ++ log_file ∷ [])
     log_after = ap (λ (f : Ltx). log_of files ++ f ∷ []) (sym read) ∙ sym (log-more files log_file)
 
-    sum_after : IsSummed (done store (Commit file))
-    sum_after some = ap (λ p. p.sum) (end_of-push (log_of files) file) ∙ sym can.can.1.sum
+    sum_after : IsSummed (with_file store file)
+    sum_after some = ap (λ p. p.sum) (end_of-push (log_of files) file) ∙ sym can.joins.sum
 
-    pub durable_after : (c : Folder) → Kept made (files ++ log_file ∷ []) false c → Durable c (done store (Commit file))
+    pub durable_after : (c : Folder) → Kept made (files ++ log_file ∷ []) false c → Durable c (with_file store file)
     durable_after c there = inl (record {
       files = files ++ log_file ∷ [];
       kept = there;
@@ -206,9 +236,9 @@ module _ (h : History) (size commit : ℕ) (entries : List Entry) (dropped : Boo
     first_number : dropped ≡ true → file.header.min ≡ 1
     first_number marked =
         let start : (end_of (log_of files)).txid ≡ 0 = ap (λ (l : List Ltx). (end_of l).txid) (no_log marked) ∙ end_of-none in
-        omega (arith, ap (λ p. p.txid) can.can.1.next, is.valid.header.min, start)
+        omega (arith, ap (λ p. p.txid) can.joins.next, is.valid.header.min, start)
 
-    durable_snapshot : dropped ≡ true → (c : Folder) → IsBySnapshot made text c → Durable c (done store (Commit file))
+    durable_snapshot : dropped ≡ true → (c : Folder) → IsBySnapshot made text c → Durable c (with_file store file)
     durable_snapshot marked c by =
         inr (inl (record {
           text = text;
@@ -220,18 +250,18 @@ module _ (h : History) (size commit : ℕ) (entries : List Entry) (dropped : Boo
           unmarked = refl;
         }))
 
-    pub candidate : (c : Folder) → IsBetween image files dropped made log_file c → StandsForOne (IsCandidate store (Commit file ∷ [])) c
+    pub candidate : (c : Folder) → IsBetween image files dropped made log_file c → StandsForOne (IsCandidate store (call ∷ [])) c
     candidate c either = elim either [
-      | inl before ↦ ∣ (store, inl (inl refl), durable c before) ∣₁
-      | inr (inl anew) ↦ ∣ (done store (Commit file), inl (inr refl), durable_snapshot anew.0 c anew.1) ∣₁
-      | inr (inr there) ↦ ∣ (done store (Commit file), inl (inr refl), durable_after c there) ∣₁
+      | inl before ↦ ∣ (store, inl (may_leave-publish tries store file store (inl refl)), durable c before) ∣₁
+      | inr (inl anew) ↦ ∣ (with_file store file, inl (may_leave-publish tries store file (with_file store file) (inr refl)), durable_snapshot anew.0 c anew.1) ∣₁
+      | inr (inr there) ↦ ∣ (with_file store file, inl (may_leave-publish tries store file (with_file store file) (inr refl)), durable_after c there) ∣₁
     ]
 
-    pub leaves : (c : Folder) → IsBetween image files dropped made log_file c → StandsForOne (MayBeFound store (Some (FailedIn (Commit file)))) c
+    pub leaves : (c : Folder) → IsBetween image files dropped made log_file c → StandsForOne (MayBeFound store (Some (FailedIn call))) c
     leaves c either = elim either [
-      | inl before ↦ ∣ (store, inl refl, durable c before) ∣₁
-      | inr (inl anew) ↦ ∣ (done store (Commit file), inr refl, durable_snapshot anew.0 c anew.1) ∣₁
-      | inr (inr there) ↦ ∣ (done store (Commit file), inr refl, durable_after c there) ∣₁
+      | inl before ↦ ∣ (store, may_leave-publish tries store file store (inl refl), durable c before) ∣₁
+      | inr (inl anew) ↦ ∣ (with_file store file, may_leave-publish tries store file (with_file store file) (inr refl), durable_snapshot anew.0 c anew.1) ∣₁
+      | inr (inr there) ↦ ∣ (with_file store file, may_leave-publish tries store file (with_file store file) (inr refl), durable_after c there) ∣₁
     ]
 
     -- the fields after it
@@ -249,28 +279,28 @@ module _ (h : History) (size commit : ℕ) (entries : List Entry) (dropped : Boo
         abbrev pub state_after : StoreState
         state_after = state_in file.header.page_size file.header.commit (entries ++ entry_of file ∷ []) false (now new)
 
-        pub is_done : state_after ≡ done store (Commit file)
+        pub is_done : state_after ≡ with_file store file
         is_done =
             state_now made (files ++ log_file ∷ []) false file.header.page_size file.header.commit (entries ++ entry_of file ∷ []) (sums_after sums file.change) new rest tells_after
             ∙ (λ i. record { image = made; log = sym log_after i; dropped = false })
 
         pub left_done : RestsAs (λ left. left ≡ state_after) new
         left_done c may =
-            ∣ (done store (Commit file), sym is_done, durable_after c (kept_same made (files ++ log_file ∷ []) false (now new) c rest.kept (rest.settled c may))) ∣₁
+            ∣ (with_file store file, sym is_done, durable_after c (kept_same made (files ++ log_file ∷ []) false (now new) c rest.kept (rest.settled c may))) ∣₁
 
-        pub went_done : Moved store None h (Commit file ∷ []) None state_after None new
-        went_done = moved-done store state_after (Commit file) h new can.can is_done (weakened h new (IsBetween image files dropped made log_file) (StandsForOne (IsCandidate store (Commit file ∷ []))) run candidate) left_done
+        pub went_done : Moved store None h (call ∷ []) None state_after None new
+        went_done = moved-done store state_after call h new (can-publish tries store file publishes can) (is_done ∙ sym (done-publish tries store file)) (weakened h new (IsBetween image files dropped made log_file) (StandsForOne (IsCandidate store (call ∷ []))) run candidate) left_done
 
         pub stands : (w t : ℕ) → IsStore new file.header.page_size file.header.commit (entries ++ entry_of file ∷ []) false (sums_after sums file.change) false w t
         stands w t = settles made (files ++ log_file ∷ []) false file.header.page_size file.header.commit (entries ++ entry_of file ∷ []) (sums_after sums file.change) new rest tells_after w t
 
       -- a call failed from the rename on
-      module _ (at : ℕ) (run : EachMoment h new (IsBetween image files dropped made log_file)) (tries : IsTried text at new) where
+      module _ (at : ℕ) (run : EachMoment h new (IsBetween image files dropped made log_file)) (staged : IsTried text at new) where
         abbrev pub failure : Failure
-        failure = FailedIn (Commit (file_of (bytes_of (new.seen at Staged))))
+        failure = failure_of new at tries
 
-        same_file : FailedIn (Commit file) ≡ failure
-        same_file = ap (λ (f : Ltx). FailedIn (Commit f)) (sym (ap file_of tries.read ∙ read))
+        same_file : FailedIn call ≡ failure
+        same_file = ap (λ (f : Ltx). FailedIn (call_of tries f)) (sym (ap file_of staged.read ∙ read)) ∙ sym (failure-publish tries new at file publishes)
 
         same_store : state_of new size commit entries dropped true h.moment ≡ store
         same_store = seen_before size commit entries dropped sums h new run.past whole
@@ -278,14 +308,14 @@ module _ (h : History) (size commit : ℕ) (entries : List Entry) (dropped : Boo
         pub left_in : RestsAs (MayBeFound (state_of new size commit entries dropped true h.moment) (Some failure)) new
         left_in =
             subst (λ (f : Failure). RestsAs (MayBeFound (state_of new size commit entries dropped true h.moment) (Some f)) new) same_file
-            (subst (λ (s : StoreState). RestsAs (MayBeFound s (Some (FailedIn (Commit file)))) new) (sym same_store)
+            (subst (λ (s : StoreState). RestsAs (MayBeFound s (Some (FailedIn call))) new) (sym same_store)
             (λ c may. leaves c (at_last h new (IsBetween image files dropped made log_file) run c may)))
 
-        pub went_in : Moved store None h [] (Some (FailedIn (Commit file))) (state_of new size commit entries dropped true h.moment) (Some failure) new
+        pub went_in : Moved store None h [] (Some (FailedIn call)) (state_of new size commit entries dropped true h.moment) (Some failure) new
         went_in =
-            subst (λ (f : Failure). Moved store None h [] (Some (FailedIn (Commit file))) (state_of new size commit entries dropped true h.moment) (Some f) new) same_file
-            (moved-in store (state_of new size commit entries dropped true h.moment) (Commit file) h new can.can same_store
-            (weakened h new (IsBetween image files dropped made log_file) (StandsForOne (IsCandidate store (Commit file ∷ []))) run candidate)
+            subst (λ (f : Failure). Moved store None h [] (Some (FailedIn call)) (state_of new size commit entries dropped true h.moment) (Some f) new) same_file
+            (moved-in store (state_of new size commit entries dropped true h.moment) call h new (can-publish tries store file publishes can) same_store
+            (weakened h new (IsBetween image files dropped made log_file) (StandsForOne (IsCandidate store (call ∷ []))) run candidate)
             (subst (λ (f : Failure). RestsAs (MayBeFound (state_of new size commit entries dropped true h.moment) (Some f)) new) (sym same_file) left_in))
 
   -- a call failed before it published anything

@@ -1,4 +1,5 @@
 pub mod Answering
+pub mod Apply
 pub mod Calls
 pub mod Causes
 pub mod Draft

@@ -7,6 +7,8 @@ pub enum Attempt {
     Commit,
     /// A drop, from the mark's rename on.
     Drop,
+    /// The application of another's file, from the rename on.
+    Apply,
     /// The removal of all but the last `keep` files.
     Prune { keep: u64 },
 }

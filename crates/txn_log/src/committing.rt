@@ -6,6 +6,7 @@ ghost use Rattle.txn_log.specs.Causes.{Breaks};
 ghost use Rattle.txn_log.specs.Draft.{drafted, Commits};
 ghost use Rattle.txn_log.specs.Store.{end_of_entries, state_of, failed_of};
 
+use crate::attempt::Attempt;
 use crate::fault::StoreFault;
 use crate::publishing::publish;
 use crate::store::Store;
@@ -31,7 +32,7 @@ impl<D: Disk> Store<D> {
         ensures honest { D.honest self.new.disk ≡ D.honest self.old.disk }
     {
         match self.draft(change, stamp, node) {
-            Ok(file) => publish(self, &file),
+            Ok(file) => publish(self, &file, Attempt::Commit),
             Err(fault) => Err(fault),
         }
     }

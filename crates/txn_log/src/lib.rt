@@ -8,6 +8,7 @@
 
 mod answer;
 mod answering;
+mod applying;
 mod attempt;
 mod clearing;
 mod committing;
@@ -38,6 +39,7 @@ mod step;
 mod store;
 mod sums;
 mod writing;
+mod zeros;
 
 pub use answer::Answer;
 pub use attempt::Attempt;

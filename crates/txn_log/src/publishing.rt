@@ -2,10 +2,9 @@
 ghost use Rattle.std.specs.Prelude.{◌≡◌, ◌∷◌, false, IsTrue, IfOk, IfErr};
 ghost use Rattle.ltx_codec.specs.Format.{IsFile};
 ghost use Rattle.ltx_codec.specs.Positions.{after};
-ghost use Rattle.world_laws.specs.Store.{Commit};
 ghost use Rattle.txn_log.specs.Calls.{Went};
 ghost use Rattle.txn_log.specs.Causes.{Breaks, IsDiskOrMemory};
-ghost use Rattle.txn_log.specs.Publishing.{CanTake, IsSummedBy};
+ghost use Rattle.txn_log.specs.Publishing.{Publishes, call_of, CanTake, IsSummedBy};
 ghost use Rattle.txn_log.specs.Store.{state_of, failed_of, entry_of as entry};
 
 use crate::attempt::Attempt;
@@ -35,8 +34,13 @@ fn entry_of(file: &Ltx) -> Entry
 }
 
 /// Publishes a file that follows the store, and writes its change over the database file.
-pub fn publish<D: Disk>(store: &mut Store<D>, file: &Ltx) -> Result<Pos, StoreFault>
+pub fn publish<D: Disk>(
+    store: &mut Store<D>,
+    file: &Ltx,
+    attempt: Attempt,
+) -> Result<Pos, StoreFault>
     requires open_ { store.old.broken ≡ false }
+    requires publishes { Publishes attempt file.now }
     requires valid { IsFile file.now }
     requires sum { IsSummedBy store.old.sums.sums file.now }
     requires can { IsTrue (D.honest store.old.disk) → CanTake (state_of (D.history store.old.disk)
@@ -44,7 +48,7 @@ pub fn publish<D: Disk>(store: &mut Store<D>, file: &Ltx) -> Result<Pos, StoreFa
     ensures went { IsTrue (D.honest store.old.disk) → Went
         (state_of (D.history store.old.disk) store.old.page_size store.old.commit store.old.entries.items store.old.dropped store.old.broken store.old.whole)
         (failed_of (D.history store.old.disk) store.old.broken store.old.attempt store.old.tried)
-        (D.history store.old.disk) (Commit file.now) result
+        (D.history store.old.disk) (call_of attempt file.now) result
         (state_of (D.history store.new.disk) store.new.page_size store.new.commit store.new.entries.items store.new.dropped store.new.broken store.new.whole)
         (failed_of (D.history store.new.disk) store.new.broken store.new.attempt store.new.tried)
         (D.history store.new.disk) }
@@ -89,7 +93,7 @@ pub fn publish<D: Disk>(store: &mut Store<D>, file: &Ltx) -> Result<Pos, StoreFa
         }
         Placed::From(tried) => {
             store.broken = true;
-            store.attempt = Attempt::Commit;
+            store.attempt = attempt;
             store.tried = tried;
             Err(StoreFault::Disk)
         }

@@ -1,4 +1,4 @@
-use Rattle.std.proofs.Common.{◌≡◌, ◌∙◌, ℕ, Bool, true, false, Err, sym, ap, subst}
+use Rattle.std.proofs.Common.{Bool, false, Err, sym, subst}
 use Rattle.lf_disk.specs.History.{now}
 use Rattle.ltx_codec.specs.Format.{IsFile}
 use Rattle.ltx_codec.specs.declared.file.Ltx.{Ltx}
@@ -21,7 +21,7 @@ publish-requires-clause-can g c honest =
     subst (λ (b : Bool). IsStore h s.page_size s.commit s.entries.items s.dropped s.sums.sums b s.whole s.tried) drafts.0 (s.kept honest) in
     let is : IsFile file = subst (λ (f : Ltx). IsFile f) drafts.3 c.in-Ok.ensures.valid in
     let can : CanTake (state_in s.page_size s.commit s.entries.items s.dropped (now h)) file =
-    can_take h s.page_size s.commit s.entries.items s.dropped s.sums.sums s.whole s.tried kept c.args.change.now c.args.stamp c.args.node c.in-Ok.ensures.change drafts.1 is in
+    can_take h s.page_size s.commit s.entries.items s.dropped s.sums.sums s.whole s.tried kept c.args.change.now c.in-Ok.ensures.change drafts.1 c.args.stamp c.args.node is in
     subst (λ (f : Ltx). CanTake (state_of h s.page_size s.commit s.entries.items s.dropped s.broken s.whole) f) (sym drafts.3)
     (subst (λ (b : Bool). CanTake (state_of h s.page_size s.commit s.entries.items s.dropped b s.whole) file) (sym drafts.0) can)
 

@@ -1,0 +1,95 @@
+//! Another's file is applied.
+ghost use Rattle.std.specs.Prelude.{◌≡◌, IsTrue, IfOk};
+ghost use Rattle.ltx_codec.specs.Format.{IsFile};
+ghost use Rattle.world_laws.specs.Store.{Apply};
+ghost use Rattle.txn_log.specs.Apply.{whole_file, Judges, Completes, Applies};
+ghost use Rattle.txn_log.specs.Calls.{Went};
+ghost use Rattle.txn_log.specs.Causes.{Breaks};
+ghost use Rattle.txn_log.specs.Store.{end_of_entries, state_of, failed_of};
+
+use crate::attempt::Attempt;
+use crate::copying::copy_of;
+use crate::fault::StoreFault;
+use crate::publishing::publish;
+use crate::store::Store;
+use crate::sums::total_behind;
+use lf_base::Pos;
+use lf_disk::Disk;
+use ltx_codec::Ltx;
+
+impl<D: Disk> Store<D> {
+    /// Whether a file is taken.
+    fn judge(&self, file: &Ltx) -> Result<(), StoreFault>
+        requires { IsFile file.now }
+        ensures { Judges self.now.broken (end_of_entries self.now.entries.items) self.now.page_size self.now.commit
+            self.now.sums.sums file.now result }
+    {
+        if self.broken {
+            return Err(StoreFault::Broken);
+        }
+        let have = self.pos();
+        let want = file.before();
+        if want != have {
+            return Err(StoreFault::NotNext { have, want });
+        }
+        if !file.change.fits(self.page_size, self.commit) {
+            return Err(StoreFault::PageSize {
+                have: self.page_size,
+                want: file.change.page_size(),
+            });
+        }
+        let want = file.post;
+        let got = total_behind(&self.sums, &file.change, self.commit);
+        if want != got {
+            return Err(StoreFault::SumDiffers { want, got });
+        }
+        Ok(())
+    }
+
+    /// The file that is published where a file is taken.
+    fn complete_file(&self, file: &Ltx) -> Result<Ltx, StoreFault>
+        requires { IsFile file.now }
+        ensures completes { Completes self.now.broken (end_of_entries self.now.entries.items) self.now.page_size self.now.commit
+            self.now.sums.sums file.now result }
+        ensures valid { IfOk result IsFile }
+    {
+        match self.judge(file) {
+            Ok(()) => {}
+            Err(why) => return Err(why),
+        }
+        let Ok(mut change) = copy_of(*self.entries.allocator(), &file.change) else {
+            return Err(StoreFault::NoMemory);
+        };
+        match change.complete(self.commit) {
+            Ok(()) => Ok(Ltx {
+                header: file.header,
+                change,
+                post: file.post,
+            }),
+            Err(_) => Err(StoreFault::NoMemory),
+        }
+    }
+
+    /// Applies another's file that joins, and publishes it made complete: as zeros it then also holds
+    /// each data page past the old size that it does not write.
+    pub fn apply(&mut self, file: &Ltx) -> Result<Pos, StoreFault>
+        requires { IsFile file.now }
+        ensures applies { Applies self.old.broken (end_of_entries self.old.entries.items) self.old.page_size self.old.commit
+            self.old.sums.sums file.now result }
+        ensures cause { Breaks self.old.broken (D.faults self.old.disk) result self.new.broken (D.faults self.new.disk) }
+
+        // What a crash leaves at each moment.
+        ensures went { IsTrue (D.honest self.old.disk) → Went
+            (state_of (D.history self.old.disk) self.old.page_size self.old.commit self.old.entries.items self.old.dropped self.old.broken self.old.whole)
+            (failed_of (D.history self.old.disk) self.old.broken self.old.attempt self.old.tried) (D.history self.old.disk)
+            (Apply (whole_file self.old.commit file.now)) result
+            (state_of (D.history self.new.disk) self.new.page_size self.new.commit self.new.entries.items self.new.dropped self.new.broken self.new.whole)
+            (failed_of (D.history self.new.disk) self.new.broken self.new.attempt self.new.tried) (D.history self.new.disk) }
+        ensures honest { D.honest self.new.disk ≡ D.honest self.old.disk }
+    {
+        match self.complete_file(file) {
+            Ok(whole) => publish(self, &whole, Attempt::Apply),
+            Err(fault) => Err(fault),
+        }
+    }
+}
