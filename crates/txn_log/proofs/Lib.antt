@@ -22,6 +22,7 @@ mod Placings
 mod Prunings
 mod Puttings
 mod Resting
+mod Reservings
 mod Rewritings
 mod Settlings
 mod Stores

@@ -16,6 +16,7 @@ pub mod Placing
 pub mod Pruning
 pub mod Publishing
 pub mod Putting
+pub mod Reserve
 pub mod Rewriting
 pub mod Settling
 pub mod Store

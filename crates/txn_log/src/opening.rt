@@ -32,6 +32,7 @@ impl<D: Disk> Store<D> {
             whole: 0,
             attempt: Attempt::Unpublished,
             tried: 0,
+            decoder: None,
         }
     }
 }

@@ -1,0 +1,27 @@
+//! A decoder for files of any page size.
+ghost use Rattle.std.specs.Prelude.{◌≡◌, ℕ, [], IfOk};
+ghost use Rattle.ltx_codec.specs.Decoding.{HasFed, page_limit_of};
+ghost use Rattle.ltx_codec.specs.WholePages.{largest_page};
+
+use lf_base::NoMemory;
+use ltx_codec::Decoder;
+use std::alloc::Global;
+
+/// The size of SQLite's largest page, in bytes.
+const LARGEST_PAGE: u32 = 65_536;
+
+/// A decoder that takes pages of each size that SQLite has.
+#[derive(Drop)]
+pub struct FileDecoder {
+    pub decoder: Decoder,
+    ghost widest: { page_limit_of decoder ≡ largest_page },
+}
+
+impl FileDecoder {
+    pub fn new(alloc: Global) -> Result<FileDecoder, NoMemory>
+        ensures { IfOk result (λ reader. HasFed reader.decoder largest_page []) }
+    {
+        let decoder = Decoder::new(alloc, LARGEST_PAGE)?;
+        Ok(FileDecoder { decoder })
+    }
+}
