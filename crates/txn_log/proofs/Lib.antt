@@ -22,9 +22,11 @@ mod Placings
 mod Prunings
 mod Puttings
 mod Resting
+mod Receivings
 mod Reservings
 mod Rewritings
 mod Settlings
+mod Stagings
 mod Stores
 mod SumTables
 mod Taking

@@ -16,7 +16,9 @@ pub mod Placing
 pub mod Pruning
 pub mod Publishing
 pub mod Putting
+pub mod Receiving
 pub mod Reserve
 pub mod Rewriting
 pub mod Settling
+pub mod Staging
 pub mod Store
