@@ -1,20 +1,23 @@
 -- One page more of a file that is staged as its pages come.
 use Rattle.std.proofs.Common.{◌≡◌, ◌≢◌, inl, inr, ℕ, ◌+◌, ◌-◌, ◌<◌, ◌≤◌, true, false, eqb, leb, Option, Some, None, List, [], ◌∷◌, ◌++◌, length, replicate, refl, sym, ◌∙◌, ap, subst, arith, unwrap_or}
-use Rattle.std.specs.Prelude.{bit_xor, slice_index}
+use Rattle.std.specs.Prelude.{bit_xor, slice_index, ◌==◌, if◌then◌else◌}
 use Rattle.std.specs.Int.Bits.{xor_zero_r}
 use Rattle.std.specs.Option.{option_map}
 use Rattle.std.proofs.lemmas.Bool.Decides.{nat_tests}
-use Rattle.page_checksum.specs.Sums.{page_sum_of}
+use Rattle.page_checksum.specs.Sums.{flagged, joined as xor_of, page_sum_of}
 use Rattle.lf_sqlite_pages.specs.LockPage.{lock_page_of, IsDataPage}
 use Rattle.lf_sqlite_pages.specs.Change.{empty_change}
-use Rattle.lf_sqlite_pages.specs.Complete.{completed_page}
+use Rattle.lf_sqlite_pages.specs.Complete.{completed, completed_page}
 use Rattle.lf_sqlite_pages.specs.Writes.{writes_of}
 use Rattle.lf_sqlite_pages.specs.declared.page_write.PageWrite.{PageWrite}
 use Rattle.lf_sqlite_pages.proofs.Completing.{completed-lock_page, completed-within, completed-past}
-use Rattle.lf_sqlite_pages.proofs.Writes.{writes_of-some, writes_of-none}
+use Rattle.lf_sqlite_pages.proofs.Writes.{writes_of-some, writes_of-none, written-writes_of}
 use Rattle.ltx_codec.specs.declared.header.Header.{Header}
 use Rattle.ltx_codec.specs.steps.ChangedSum.{joined_over}
-use Rattle.ltx_codec.proofs.SumLemmas.{joined_over-next}
+use Rattle.ltx_codec.proofs.SumLemmas.{joined_over-next, map-same}
+use Rattle.ltx_codec.specs.declared.file.Ltx.{Ltx}
+use Rattle.txn_log.specs.Apply.{sum_behind}
+use Rattle.txn_log.specs.Draft.{sum_after}
 use Rattle.txn_log.specs.declared.receiving.Receiving.{Receiving}
 use Rattle.txn_log.specs.declared.staging.Staging.{Staging}
 use Rattle.lf_disk.specs.declared.name.FileName.TheVariants.{Staged}
@@ -149,3 +152,17 @@ passes-none old new sums held has header passed staging other none total =
     (total ∙ ap (bit_xor old.total) (sym (sum-none old.header.page_size sums held (old.passed + 1) other none)))
     (subst (λ (s : Staging). IsStaging s old.header (writes_of held (old.passed + 1))) (sym staging)
     (subst (λ (ws : List PageWrite). IsStaging old.staging old.header ws) (passed-writes held old.passed none) has.staging))
+
+-- the sum of all pages is that by which a file is judged
+pub received-sum : (receiving : Receiving) (count : ℕ) (sums : List ℕ) (file : Ltx) → HasPassed receiving sums (completed_page file.change count) → receiving.header.page_size ≡ file.change.page_size
+    → receiving.passed ≡ file.change.commit → flagged receiving.total ≡ sum_behind count sums file
+received-sum receiving count sums file has size passed =
+    let change = file.change in
+    let page : ℕ → Option (List ℕ) = completed_page change count in
+    let each : (n : ℕ) → 1 ≤ n → n ≤ change.commit → sum_with change.page_size sums page n ≡ sum_after sums (completed change count) n = λ n first last.
+        ap (λ (o : Option (List ℕ)). if n == lock_page_of change.page_size then 0 else unwrap_or (option_map (page_sum_of n) o) (slice_index sums (n - 1))) (sym (written-writes_of page change.commit n first last))
+    in
+    ap flagged (has.total
+    ∙ ap (λ (s : ℕ). joined_over (sum_with s sums page) 1 receiving.passed) size
+    ∙ ap (λ (n : ℕ). joined_over (sum_with change.page_size sums page) 1 n) passed
+    ∙ ap xor_of (map-same (sum_with change.page_size sums page) (sum_after sums (completed change count)) 1 change.commit (λ n above below. each n above (omega (arith, below)))))
