@@ -1,5 +1,5 @@
 -- One page more of a file that is staged as its pages come.
-use Rattle.std.proofs.Common.{◌≡◌, ◌≢◌, inl, inr, ℕ, ◌+◌, ◌-◌, ◌<◌, ◌≤◌, true, false, eqb, leb, Option, Some, None, List, [], ◌∷◌, ◌++◌, length, replicate, refl, sym, ◌∙◌, ap, subst, arith, unwrap_or}
+use Rattle.std.proofs.Common.{◌≡◌, ℕ, ◌+◌, ◌-◌, ◌<◌, ◌≤◌, true, false, eqb, Option, Some, None, List, [], ◌∷◌, ◌++◌, replicate, refl, sym, ◌∙◌, ap, subst, arith, unwrap_or}
 use Rattle.std.specs.Prelude.{bit_xor, slice_index, ◌==◌, if◌then◌else◌}
 use Rattle.std.specs.Int.Bits.{xor_zero_r}
 use Rattle.std.specs.Option.{option_map}
@@ -160,7 +160,7 @@ received-sum receiving count sums file has size passed =
     let change = file.change in
     let page : ℕ → Option (List ℕ) = completed_page change count in
     let each : (n : ℕ) → 1 ≤ n → n ≤ change.commit → sum_with change.page_size sums page n ≡ sum_after sums (completed change count) n = λ n first last.
-        ap (λ (o : Option (List ℕ)). if n == lock_page_of change.page_size then 0 else unwrap_or (option_map (page_sum_of n) o) (slice_index sums (n - 1))) (sym (written-writes_of page change.commit n first last))
+    ap (λ (o : Option (List ℕ)). if n == lock_page_of change.page_size then 0 else unwrap_or (option_map (page_sum_of n) o) (slice_index sums (n - 1))) (sym (written-writes_of page change.commit n first last))
     in
     ap flagged (has.total
     ∙ ap (λ (s : ℕ). joined_over (sum_with s sums page) 1 receiving.passed) size

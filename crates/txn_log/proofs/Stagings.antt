@@ -1,5 +1,5 @@
 -- The staged file, part by part.
-use Rattle.std.proofs.Common.{◌≡◌, ◌≢◌, inl, inr, ℕ, ◌+◌, ◌<◌, ◌≤◌, false, true, List, [], ◌∷◌, ◌++◌, length, take, drop, Option, Some, None, Result, refl, sym, ◌∙◌, ap, subst, arith}
+use Rattle.std.proofs.Common.{◌≡◌, ℕ, ◌+◌, ◌<◌, List, [], ◌∷◌, ◌++◌, length, drop, Option, Some, None, Result, refl, sym, ◌∙◌, ap, arith}
 use Rattle.std.proofs.lemmas.List.{take_all, drop_all, append-nil, append_assoc, length-append}
 use Rattle.lf_base.specs.FileBytes.{overwritten}
 use Rattle.lf_base.proofs.FileLemmas.{overwritten-there}
@@ -7,9 +7,9 @@ use Rattle.lf_disk.specs.declared.name.FileName.TheVariants.{Staged}
 use Rattle.lf_disk.specs.Folder.{Folder, bytes_of, Same, SameBut}
 use Rattle.lf_disk.specs.Change.{Edit, Step, OnFile, Perhaps, Becomes, Writes, SetsFile}
 use Rattle.lf_disk.specs.Publish.{IsStaged}
-use Rattle.lf_disk.specs.History.{History, now, may_leave, Ticks, Moves, EachMoment}
+use Rattle.lf_disk.specs.History.{History, now, Ticks, Moves, EachMoment}
 use Rattle.lf_disk.proofs.Folders.{edited, perhaps_edited}
-use Rattle.lf_disk.proofs.Moments.{started, goes_on, joined}
+use Rattle.lf_disk.proofs.Moments.{started, goes_on}
 use Rattle.std.specs.Int.{w32, w64, to_be_bytes}
 use Rattle.page_checksum.specs.Crc.{after_bytes, all_ones}
 use Rattle.page_checksum.proofs.CrcLemmas.{after_bytes-append}

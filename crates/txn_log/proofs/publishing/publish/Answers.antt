@@ -1,4 +1,4 @@
-use Rattle.std.proofs.Common.{◌≡◌, ◌∙◌, ℕ, List, Bool, true, false, Some, inl, inr, refl, sym, ap, subst, arith}
+use Rattle.std.proofs.Common.{◌≡◌, ◌∙◌, ℕ, List, Bool, true, false, Some, inl, inr, sym, ap, subst, arith}
 use Rattle.lf_disk.specs.History.{now}
 use Rattle.ltx_codec.specs.Format.{IsLtx}
 use Rattle.txn_log.specs.Kept.{file_of}

@@ -1,4 +1,4 @@
-use Rattle.std.proofs.Common.{◌≡◌, ◌∙◌, ◌++◌, List, ℕ, length, refl, sym, ap, subst}
+use Rattle.std.proofs.Common.{◌≡◌, ◌∙◌, ◌++◌, List, ℕ, length, ap, subst}
 use Rattle.std.specs.Prelude.{bit_or, bit_xor}
 use Rattle.std.specs.Int.{w32, w64, to_be_bytes}
 use Rattle.lf_disk.specs.declared.name.FileName.TheVariants.{Staged}
@@ -6,8 +6,8 @@ use Rattle.lf_disk.specs.Folder.{SameBut}
 use Rattle.lf_disk.specs.Publish.{IsStaged}
 use Rattle.lf_disk.proofs.Moments.{joined}
 use Rattle.page_checksum.specs.Crc.{after_bytes}
-use Rattle.ltx_codec.specs.Format.{sealed, file_text, no_meaning}
-use Rattle.txn_log.specs.Staging.{HoldsSoFar, front_text, IsStaging}
+use Rattle.ltx_codec.specs.Format.{sealed}
+use Rattle.txn_log.specs.Staging.{front_text}
 use Rattle.txn_log.proofs.Stagings.{behind_long, edits, perhaps_syncs, sealed-text, syncs, long-enough}
 use Rattle.txn_log.proofs.staging.seal.Goals as goal
 

@@ -1,9 +1,9 @@
-use Rattle.std.proofs.Common.{◌≡◌, ◌∙◌, ◌++◌, [], List, ℕ, refl, sym, ap, subst, arith}
+use Rattle.std.proofs.Common.{◌∙◌, [], List, ℕ, refl, subst, arith}
 use Rattle.lf_disk.specs.declared.name.FileName.TheVariants.{Staged}
 use Rattle.lf_disk.specs.Folder.{SameBut}
 use Rattle.lf_disk.specs.History.{now}
 use Rattle.lf_disk.proofs.Moments.{joined}
-use Rattle.txn_log.specs.Staging.{HoldsSoFar, front_text, IsStaging}
+use Rattle.txn_log.specs.Staging.{HoldsSoFar}
 use Rattle.txn_log.proofs.Stagings.{first-text, first-staging}
 use Rattle.txn_log.proofs.staging.stage_header.Goals as goal
 

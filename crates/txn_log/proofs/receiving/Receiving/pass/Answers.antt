@@ -1,12 +1,11 @@
-use Rattle.std.proofs.Common.{◌≡◌, ◌∙◌, ◌+◌, ◌-◌, ◌++◌, Some, None, List, ℕ, length, replicate, take, refl, sym, ap, subst, arith}
+use Rattle.std.proofs.Common.{◌≡◌, ◌∙◌, ◌+◌, Some, List, ℕ, length, take, refl, sym, ap, subst, arith}
 use Rattle.std.proofs.lemmas.List.{take-replicate, length-replicate}
-use Rattle.std.specs.Prelude.{bit_xor, slice_index}
-use Rattle.lf_sqlite_pages.specs.LockPage.{lock_page_of, IsDataPage}
-use Rattle.lf_sqlite_pages.specs.Writes.{writes_of}
+use Rattle.std.specs.Prelude.{bit_xor}
+use Rattle.lf_sqlite_pages.specs.LockPage.{IsDataPage}
 use Rattle.lf_sqlite_pages.specs.declared.page_write.PageWrite.{PageWrite}
 use Rattle.lf_sqlite_pages.proofs.LockPages.{page_size-positive}
 use Rattle.txn_log.specs.Receiving.{lacking_page}
-use Rattle.txn_log.specs.Staging.{HoldsSoFar, front_text, IsStaging}
+use Rattle.txn_log.specs.Staging.{HoldsSoFar, front_text}
 use Rattle.txn_log.proofs.Modes.{page_size-most}
 use Rattle.txn_log.proofs.Receivings.{lacking-lock, lacking-within, lacking-past, passed-writes, passes-lock, passes-none}
 use Rattle.txn_log.proofs.receiving.Receiving.pass.Goals as goal

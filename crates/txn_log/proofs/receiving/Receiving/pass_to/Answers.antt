@@ -1,4 +1,4 @@
-use Rattle.std.proofs.Common.{◌≡◌, ◌∙◌, ℕ, sym}
+use Rattle.std.proofs.Common.{◌∙◌}
 use Rattle.std.specs.Bool.{IsTrue}
 use Rattle.lf_disk.specs.declared.name.FileName.TheVariants.{Staged}
 use Rattle.lf_disk.specs.Folder.{SameBut}

@@ -1,4 +1,4 @@
-use Rattle.std.proofs.Common.{◌≡◌, ◌-◌, ℕ}
+use Rattle.std.proofs.Common.{◌≡◌, ◌-◌}
 use Rattle.std.specs.Bool.{IsTrue}
 use Rattle.txn_log.proofs.Receivings.{IsPassing}
 use Rattle.txn_log.proofs.receiving.Receiving.pass_to.Given as goal

@@ -1,4 +1,4 @@
-use Rattle.std.proofs.Common.{◌≡◌, ◌∙◌, ◌++◌, ◌∷◌, [], List, ℕ, refl, sym, ap, subst, arith}
+use Rattle.std.proofs.Common.{List, refl, ap, subst, arith}
 use Rattle.std.specs.Prelude.{bit_xor}
 use Rattle.lf_sqlite_pages.specs.Writes.{writes_of}
 use Rattle.lf_sqlite_pages.specs.declared.page_write.PageWrite.{PageWrite}
