@@ -11,6 +11,7 @@ mod Droppings
 mod Emptyings
 mod Entries
 mod Givings
+mod Growths
 mod Installed
 mod Marks
 mod Modes

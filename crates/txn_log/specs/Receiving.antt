@@ -1,5 +1,5 @@
 -- A transaction file that is staged as its pages come, over a database of which the page sums are known.
-use Rattle.std.specs.Prelude.{◌≡◌, ℕ, ◌-◌, ◌<◌, ◌≤◌, ◌==◌, Option, List, unwrap_or, slice_index, if◌then◌else◌}
+use Rattle.std.specs.Prelude.{◌≡◌, ℕ, ◌-◌, ◌<◌, ◌≤◌, ◌==◌, Option, Some, List, unwrap_or, slice_index, if◌then◌else◌}
 use Rattle.std.specs.Option.{option_map}
 use Rattle.page_checksum.specs.Sums.{page_sum_of}
 use Rattle.lf_sqlite_pages.specs.LockPage.{lock_page_of}
@@ -26,3 +26,9 @@ pub record HasPassed (receiving : Receiving) (sums : List ℕ) (page : ℕ → O
 -- behind the page that was passed last and up to this one the file that comes holds nothing
 abbrev pub Lacks : Receiving → ℕ → (ℕ → Option (List ℕ)) → ℕ → Type 0
 Lacks receiving count page last = (n : ℕ) → receiving.passed < n → n ≤ last → page n ≡ lacking_page receiving.header.page_size count n
+
+-- the page of this number comes next, and is this: before it the file lacks what it does not hold
+pub record ComesNext (receiving : Receiving) (sums : List ℕ) (count : ℕ) (held : ℕ → Option (List ℕ)) (number : ℕ) (page : List ℕ) : Type 0 where
+  pub passed : HasPassed receiving sums held
+  pub lacks : Lacks receiving count held (number - 1)
+  pub here : held number ≡ Some page
