@@ -1,0 +1,4 @@
+mod Judgings
+mod Listings
+mod Restored
+mod Summings

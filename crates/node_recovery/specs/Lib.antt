@@ -1,0 +1,4 @@
+pub mod Damage
+pub mod Listing
+pub mod Outcome
+pub mod Summing
