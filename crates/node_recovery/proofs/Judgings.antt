@@ -8,7 +8,7 @@ use Rattle.lf_disk.specs.declared.name.FileName.TheVariants.{Ltx as LtxName}
 use Rattle.lf_disk.specs.Folder.{Folder, bytes_of}
 use Rattle.lf_disk.specs.History.{History, now, Rests}
 use Rattle.lf_disk.proofs.Moments.{past_joins}
-use Rattle.ltx_codec.specs.Format.{IsLtx}
+use Rattle.ltx_codec.specs.Format.{IsFile, IsLtx}
 use Rattle.ltx_codec.specs.Positions.{before, after, nowhere}
 use Rattle.ltx_codec.specs.declared.file.Ltx.{Ltx}
 use Rattle.world_laws.specs.Store.{end_of}
@@ -17,11 +17,13 @@ use Rattle.txn_log.specs.Kept.{LogFile, file_of}
 use Rattle.txn_log.specs.Durable.{IsText, log_of, IsLog}
 use Rattle.txn_log.specs.Store.{files_in, entry_of, AreEntries}
 use Rattle.txn_log.proofs.Commits.{Follows, entries-more}
+use Rattle.txn_log.proofs.Entries.{end-push}
 use Rattle.txn_log.proofs.Installed.{alone}
 use Rattle.txn_log.proofs.Stores.{file_at}
 use Rattle.node_recovery.specs.declared.fault.RecoverFault.{RecoverFault}
 use Rattle.node_recovery.specs.declared.fault.RecoverFault.TheVariants as fault
 use Rattle.node_recovery.specs.Damage.{IsNext, last_file, position_behind, IsRefusedBehind, IsFirstRefused}
+use Rattle.node_recovery.specs.Finding.{AreEnded}
 use Rattle.node_recovery.specs.Outcome.{IsFileIn, Blames, JudgesLog}
 
 -- calls that change nothing, one after another
@@ -73,6 +75,14 @@ ends_from position found (f ∷ fs) last at some =
 ends_at : (files : List LogFile) (last : Ltx) → last_file files ≡ Some last → end_of (log_of files) ≡ after last
 unfolding end_of
 ends_at files last some = ends_from nowhere None files last (λ g same. absurd (cc)) some
+
+-- entries end behind the file of the last one
+pub ended_more : (entries : List Entry) (file : Ltx) → IsFile file → AreEnded (entries ++ entry_of file ∷ []) (Some file)
+ended_more entries file valid = (some entries, end-push entries (entry_of file), valid)
+  where
+    some : (es : List Entry) → es ++ entry_of file ∷ [] ≢ []
+    some [] same = absurd (cc)
+    some (e ∷ es) same = absurd (cc)
 
 -- one file more
 module _ (names : List Entry) (f : Folder) (i : ℕ) (d : Entry) (entries : List Entry) (last : Option Ltx) (within : i < length names) (so_far : Judged names f i entries last) where

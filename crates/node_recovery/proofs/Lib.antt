@@ -1,3 +1,5 @@
+mod Agreements
+mod Examinations
 mod Judgings
 mod Listings
 mod Restored

@@ -7,6 +7,7 @@ ghost use Rattle.lf_disk.specs.History.{now, Rests};
 ghost use Rattle.ltx_codec.specs.Format.{IsFile};
 ghost use Rattle.ltx_codec.specs.Positions.{after};
 ghost use Rattle.txn_log.specs.Store.{entry_of as entry};
+ghost use Rattle.node_recovery.specs.Finding.{AreEnded};
 ghost use Rattle.node_recovery.specs.Outcome.{HasCause, TellsMisnamed, TellsApart, Judges, JudgesLog};
 
 use crate::fault::RecoverFault;
@@ -95,7 +96,7 @@ fn behind(last: &Option<Ltx>) -> Option<Pos>
 }
 
 /// The entry of a file.
-fn entry_of(file: &Ltx) -> Entry
+pub fn entry_of(file: &Ltx) -> Entry
     requires { 1 ≤ file.now.header.min }
     ensures { result ≡ entry file.now }
 {
@@ -110,6 +111,7 @@ fn entry_of(file: &Ltx) -> Entry
 /// Reads the files of these names, and judges them in order.
 pub fn judge_log<D: Disk>(alloc: Global, disk: &mut D, names: &[Entry]) -> Result<Log, RecoverFault>
     ensures judges { IsTrue (D.honest disk.old) → JudgesLog names.now (now (D.history disk.old)) result }
+    ensures ended { IfOk result (λ log. AreEnded log.entries.items log.last) }
     ensures rests { Rests (D.history disk.old) (D.history disk.new) }
     ensures honest { D.honest disk.new ≡ D.honest disk.old }
     ensures cause { HasCause (D.faults disk.old) (D.faults disk.new) result }

@@ -71,6 +71,7 @@ pub fn page_sums<D: Disk>(
     change: &Change,
 ) -> Result<Sums, RecoverFault>
     ensures sums { IsTrue (D.honest disk.old) → IfOk result (λ sums. sums.sums ≡ sums_left change.now (bytes_of (now (D.history disk.old) Name.Database))) }
+    ensures count { IfOk result (λ sums. length sums.sums ≡ change.now.commit) }
     ensures blameless { IfErr result IsBlameless }
     ensures rests { Rests (D.history disk.old) (D.history disk.new) }
     ensures honest { D.honest disk.new ≡ D.honest disk.old }

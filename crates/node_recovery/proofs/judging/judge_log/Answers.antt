@@ -9,9 +9,10 @@ use Rattle.txn_log.specs.declared.entry.Entry.{Entry}
 use Rattle.txn_log.proofs.Stores.{no_entry}
 use Rattle.txn_log.specs.Store.{entry_of}
 use Rattle.std.specs.Prelude.{get_or}
+use Rattle.node_recovery.specs.Finding.{AreEnded}
 use Rattle.node_recovery.specs.Damage.{IsNext, IsRefusedBehind}
 use Rattle.node_recovery.specs.Outcome.{IsFileIn, Blames}
-use Rattle.node_recovery.proofs.Judgings.{Judged, rests_both, rests_none, same_now, begins, judged, refused}
+use Rattle.node_recovery.proofs.Judgings.{Judged, rests_both, rests_none, same_now, begins, judged, refused, ended_more}
 use Rattle.node_recovery.proofs.judging.judge_log.Goals as goal
 
 pub loop-name-init : goal.loop-name-init
@@ -19,6 +20,7 @@ loop-name-init g c = record {
   honest = refl;
   faults = refl;
   rests = rests_none (g.D.Disk.history c.args.disk.now);
+  ended = c.new-entries.ensures.items;
   judged = λ honest. begins c.args.names.now (now (g.D.Disk.history c.args.disk.now)) c.new-entries.result.items c.new-entries.ensures.items;
 }
 
@@ -35,6 +37,9 @@ loop-name-preserved g c =
       honest = c.judge_file.ensures.honest ∙ inv.honest;
       faults = c.in-Ok.ensures.cause ∙ inv.faults;
       rests = rests_both h mid (g.D.Disk.history c.judge_file.new.disk) inv.rests c.judge_file.ensures.rests;
+      ended =
+          subst (λ (es : List Entry). AreEnded es (Some file)) (sym (c.in-Ok-push.ensures.items ∙ ap (λ (e : Entry). c.loop-name.entries.items ++ e ∷ []) c.entry_of.ensures))
+          (ended_more c.loop-name.entries.items file c.in-Ok.ensures.valid);
       judged = λ honest.
           let both = c.in-Ok.ensures.judges (inv.honest ∙ honest) in
           let is : IsFileIn (bytes_of (now h (LtxName name.min name.max))) file = subst (λ (f : Folder). IsFileIn (bytes_of (f (LtxName name.min name.max))) file) (same_now h mid inv.rests) both.0 in

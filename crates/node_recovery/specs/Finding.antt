@@ -1,0 +1,129 @@
+-- What decides in a folder, and what is read of it before anything is changed.
+use Rattle.std.specs.Prelude.{◌≡◌, ◌≢◌, ◌⊎◌, ℕ, List, [], ◌∷◌, Option, None, Some, IsSome, Result, Ok, Err}
+use Rattle.lf_disk.specs.declared.name.FileName.{FileName}
+use Rattle.lf_disk.specs.declared.name.FileName.TheVariants.{Database, Snapshot as SnapshotName, Dropped, Ltx as LtxName}
+use Rattle.lf_disk.specs.Folder.{Folder, bytes_of}
+use Rattle.page_checksum.specs.Table.{PageSums}
+use Rattle.ltx_codec.specs.Sums.{image_sum, sum_table}
+use Rattle.ltx_codec.specs.Format.{IsFile}
+use Rattle.ltx_codec.specs.Positions.{after}
+use Rattle.ltx_codec.specs.declared.file.Ltx.{Ltx}
+use Rattle.txn_log.specs.declared.entry.Entry.{Entry}
+use Rattle.txn_log.specs.Kept.{file_of}
+use Rattle.txn_log.specs.Durable.{IsText, IsLog}
+use Rattle.txn_log.specs.Store.{files_in, entry_of, end_of_entries, AreEntries}
+use Rattle.node_recovery.specs.declared.fault.RecoverFault.{RecoverFault}
+use Rattle.node_recovery.specs.declared.fault.RecoverFault.TheVariants as fault
+use Rattle.node_recovery.specs.declared.found.Decider.{Decider}
+use Rattle.node_recovery.specs.declared.found.Decider.TheVariants as decider
+use Rattle.node_recovery.specs.declared.found.Found.{Found}
+use Rattle.node_recovery.specs.Agreeing.{IsTotal, IsSummedOtherwise, JudgesSum}
+use Rattle.node_recovery.specs.Damage.{IsUnread, IsFirstRefused, last_file}
+use Rattle.node_recovery.specs.Listing.{AreListed}
+use Rattle.node_recovery.specs.Outcome.{IsFileIn, Blames}
+use Rattle.node_recovery.specs.Summing.{restored_image}
+
+-- the pages that a file leaves over the database file have the sum that it says, and these are their sums
+pub record AreSummed (file : Ltx) (f : Folder) (sums : List ℕ) : Type 0 where
+  pub table : sums ≡ sum_table (restored_image file.change (bytes_of (f Database)))
+  pub total : image_sum (restored_image file.change (bytes_of (f Database))) ≡ file.post
+
+-- a snapshot decides
+pub record FindsSnapshot (f : Folder) (file : Ltx) (entries : List Entry) (sums : List ℕ) : Type 0 where
+  pub there : IsSome (f SnapshotName)
+  pub read : IsFileIn (bytes_of (f SnapshotName)) file
+  pub first : file.header.min ≡ 1
+  pub entries_are : entries ≡ entry_of file ∷ []
+  pub summed : AreSummed file f sums
+
+-- the mark of a dropped database decides
+pub record FindsMark (f : Folder) (entries : List Entry) (sums : List ℕ) : Type 0 where
+  pub no_snapshot : f SnapshotName ≡ None
+  pub there : IsSome (f Dropped)
+  pub no_entries : entries ≡ []
+  pub no_sums : sums ≡ []
+
+-- the last transaction file decides
+pub record FindsLog (f : Folder) (file : Ltx) (names entries : List Entry) (sums : List ℕ) : Type 0 where
+  pub no_snapshot : f SnapshotName ≡ None
+  pub no_mark : f Dropped ≡ None
+  pub entries_are : AreEntries entries (files_in names f)
+  pub last_is : Some file ≡ last_file (files_in names f)
+  pub summed : AreSummed file f sums
+
+-- no file decides
+pub record FindsNothing (f : Folder) (names entries : List Entry) (sums : List ℕ) : Type 0 where
+  pub no_snapshot : f SnapshotName ≡ None
+  pub no_mark : f Dropped ≡ None
+  pub no_names : names ≡ []
+  pub no_entries : entries ≡ []
+  pub no_sums : sums ≡ []
+
+abbrev pub FindsBy : Folder → Decider → List Entry → List Entry → List ℕ → Type 0
+FindsBy f (decider.Snapshot file) names entries sums = FindsSnapshot f file entries sums
+FindsBy f decider.Mark names entries sums = FindsMark f entries sums
+FindsBy f (decider.Last file) names entries sums = FindsLog f file names entries sums
+FindsBy f decider.Nothing names entries sums = FindsNothing f names entries sums
+
+-- what was found is what stands in the folder
+pub record Finds (f : Folder) (found : Found) : Type 0 where
+  pub names : AreListed found.names.items f
+  pub by : FindsBy f found.decider found.names.items found.entries.items found.sums.sums
+
+-- why a snapshot is refused: its text is that of no file, its minimum is not 1, or its pages have another sum
+abbrev pub IsSnapshotRefused : List ℕ → List ℕ → ℕ → ℕ → Type 0
+IsSnapshotRefused text bytes want got =
+    IsUnread text want got
+    ⊎ IsText text × ((want ≡ 1) × (got ≡ (file_of text).header.min) × (want ≢ got)
+    ⊎ ((file_of text).header.min ≡ 1) × IsSummedOtherwise (file_of text) bytes want got)
+
+-- what judging a snapshot gives: it and its pages' sums
+abbrev pub JudgesSnapshot : List ℕ → List ℕ → Result (Ltx × PageSums) RecoverFault → Type 0
+JudgesSnapshot text bytes (Ok read) = IsFileIn text read.0 × (read.0.header.min ≡ 1) × JudgesSum SnapshotName read.0 bytes (Ok read.1)
+JudgesSnapshot text bytes (Err why) = Blames SnapshotName (IsSnapshotRefused text bytes) why
+
+-- the files of a log are sound, and the pages that the last of them leaves have another sum than it says
+pub record IsLogSummedOtherwise (names : List Entry) (f : Folder) (file : FileName) (want got : ℕ) : Type 0 where
+  pub sound : IsLog (files_in names f)
+  pub last : Ltx
+  pub last_is : Some last ≡ last_file (files_in names f)
+  pub name : file ≡ LtxName last.header.min last.header.max
+  pub sum : IsSummedOtherwise last (bytes_of (f Database)) want got
+
+-- THE FIRST DAMAGE OF A FOLDER: of its snapshot where that stands; else, where no mark stands, of its log
+abbrev pub IsDamaged : Folder → FileName → ℕ → ℕ → Type 0
+IsDamaged f file want got =
+    IsSome (f SnapshotName) × (file ≡ SnapshotName) × IsSnapshotRefused (bytes_of (f SnapshotName)) (bytes_of (f Database)) want got
+    ⊎ (f SnapshotName ≡ None) × (f Dropped ≡ None) × (names : List Entry) × AreListed names f × (IsFirstRefused names f file want got ⊎ IsLogSummedOtherwise names f file want got)
+
+-- over any disk: the entries end behind this file, or there are none
+abbrev pub AreEnded : List Entry → Option Ltx → Type 0
+AreEnded entries None = entries ≡ []
+AreEnded entries (Some file) = (entries ≢ []) × (end_of_entries entries ≡ after file) × IsFile file
+
+-- over any disk: what was found fits together
+abbrev pub IsShapedAs : Decider → List Entry → List ℕ → Type 0
+IsShapedAs (decider.Snapshot file) entries sums = AreEnded entries (Some file) × IsTotal file sums
+IsShapedAs decider.Mark entries sums = (entries ≡ []) × (sums ≡ [])
+IsShapedAs (decider.Last file) entries sums = AreEnded entries (Some file) × IsTotal file sums
+IsShapedAs decider.Nothing entries sums = (entries ≡ []) × (sums ≡ [])
+
+abbrev pub IsShapedBy : Found → Type 0
+IsShapedBy found = IsShapedAs found.decider found.entries.items found.sums.sums
+
+-- what examining the log of these names gives: its last file and the pages' sums, or nothing, or the first damage
+abbrev pub FindsIn : List Entry → Folder → Decider → List Entry → List ℕ → Type 0
+FindsIn names f (decider.Last file) entries sums = AreEntries entries (files_in names f) × (Some file ≡ last_file (files_in names f)) × AreSummed file f sums
+FindsIn names f decider.Nothing entries sums = (names ≡ []) × (entries ≡ []) × (sums ≡ [])
+FindsIn names f _ entries sums = ⊥
+
+abbrev pub ExaminesLog : List Entry → Folder → Result Found RecoverFault → Type 0
+ExaminesLog names f (Ok found) = (found.names.items ≡ names) × FindsIn names f found.decider found.entries.items found.sums.sums
+ExaminesLog names f (Err (fault.Damaged file want got)) = IsFirstRefused names f file want got ⊎ IsLogSummedOtherwise names f file want got
+ExaminesLog names f (Err why) = Unit {0}
+
+-- what examining a folder gives
+abbrev pub Examines : Folder → Result Found RecoverFault → Type 0
+Examines f (Ok found) = Finds f found
+Examines f (Err (fault.Damaged file want got)) = IsDamaged f file want got
+Examines f (Err why) = Unit {0}
