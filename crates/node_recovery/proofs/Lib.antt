@@ -1,6 +1,12 @@
 mod Agreements
 mod Examinations
+mod Finishings
 mod Judgings
+mod Lasts
+mod Listed
 mod Listings
+mod Openings
+mod Reopenings
 mod Restored
 mod Summings
+mod Unique

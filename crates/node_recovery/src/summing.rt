@@ -20,7 +20,12 @@ fn blank(page: &mut [u8])
 }
 
 /// Reads page `n` of the database file, with zeros where the file ends.
-fn read_page<D: Disk>(disk: &mut D, size: u32, n: u32, page: &mut [u8]) -> Result<(), RecoverFault>
+pub fn read_page<D: Disk>(
+    disk: &mut D,
+    size: u32,
+    n: u32,
+    page: &mut [u8],
+) -> Result<(), RecoverFault>
     requires number { 1 ≤ n }
     requires room { length page.old ≡ size }
     ensures page { IsTrue (D.honest disk.old) → IfOk result (λ _. page.new ≡ padded size n (bytes_of (now (D.history disk.old) Name.Database))) }

@@ -13,7 +13,7 @@ use Rattle.txn_log.specs.Store.{files_in}
 use Rattle.txn_log.proofs.Stores.{text_from, named_in, length-files_in}
 
 -- a file that is absent stays so
-without-none : (entries : List Entry) (f : Folder) (a b : ℕ) → f (Ltx a b) ≡ None → without entries f (Ltx a b) ≡ None
+pub without-none : (entries : List Entry) (f : Folder) (a b : ℕ) → f (Ltx a b) ≡ None → without entries f (Ltx a b) ≡ None
 without-none [] f a b none = none
 without-none (e ∷ es) f a b none = without-none es (with_file (Ltx e.min e.max) None f) a b (here (a == e.min && b == e.max) none)
   where

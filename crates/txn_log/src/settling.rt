@@ -17,7 +17,7 @@ use std::alloc::Global;
 
 /// The change to a database without pages. It takes no memory.
 #[tactic(auto, unfolding(lf_sqlite_pages::specs::PageSize::is_page_size))]
-fn no_pages(alloc: Global) -> Change
+pub fn no_pages(alloc: Global) -> Change
     ensures { result.commit ≡ 0 }
 {
     Change::new(alloc, 512, 0)

@@ -1,0 +1,96 @@
+-- From a folder that was examined to a store.
+use Rattle.std.proofs.Common.{◌≡◌, inl, inr, ℕ, ◌+◌, ◌-◌, ◌*◌, ◌<◌, ◌≤◌, Bool, true, false, cond, Option, Some, None, Result, List, [], length, length-drop, unwrap_or, drop, refl, sym, ◌∙◌, ap, subst, arith}
+use Rattle.std.specs.Prelude.{◌==◌, if◌then◌else◌}
+use Rattle.std.proofs.Math.Nat.{mul-le-mul_right}
+use Rattle.std.proofs.lemmas.Bool.{cases_eq}
+use Rattle.std.proofs.lemmas.Bool.Decides.{nat_tests}
+use Rattle.std.proofs.lemmas.Grind.{common_steps}
+use Rattle.std.proofs.lemmas.List.FromFn.{length-map-range_with_len}
+use Rattle.lf_base.specs.FileBytes.{resized}
+use Rattle.lf_base.proofs.FileLemmas.{resized-there}
+use Rattle.lf_disk.specs.Folder.{Folder, bytes_of, SameBut}
+use Rattle.lf_disk.specs.declared.name.FileName.TheVariants.{Database, Staged, Snapshot, Dropped, Ltx}
+use Rattle.lf_disk.specs.Change.{Step, SetsFile, Perhaps}
+use Rattle.lf_disk.specs.History.{History, now, may_leave, Rests, Ticks, Moves, EachMoment, IsSettledBut}
+use Rattle.lf_disk.proofs.Moments.{started, goes_on, rests_on, joined, weakened}
+use Rattle.lf_sqlite_pages.specs.Header.{is_wal, image_is_wal}
+use Rattle.lf_sqlite_pages.specs.Image.{DatabaseImage, page_at}
+use Rattle.lf_sqlite_pages.specs.LockPage.{IsDataPage}
+use Rattle.lf_sqlite_pages.specs.PageSize.{IsPageSize, is_page_size}
+use Rattle.lf_sqlite_pages.proofs.LockPages.{page_size-positive, IsDataPage-below}
+use Rattle.world_laws.specs.Store.{StoreState}
+use Rattle.txn_log.specs.Durable.{Durable}
+use Rattle.txn_log.specs.Kept.{LogFile, Kept, Shows, IsAtRest, IsBySnapshot, IsByMark}
+use Rattle.txn_log.specs.Pages.{page_in, in_place}
+use Rattle.txn_log.specs.Store.{image_in, IsSized}
+use Rattle.txn_log.proofs.Puttings.{page_in-data}
+use Rattle.txn_log.proofs.Placings.{kept_same}
+use Rattle.txn_log.proofs.Settlings.{by_same}
+use Rattle.node_recovery.specs.Summing.{padded}
+
+-- the staged file is of no account to the store of a folder
+pub same_durable : (f c : Folder) (store : StoreState) → SameBut Staged f c → Durable f store → Durable c store
+same_durable f c store same (inl by) = inl (record { files = by.files; kept = kept_same store.image by.files false f c by.kept same; log = by.log; sound = by.sound; sum = by.sum; unmarked = by.unmarked })
+same_durable f c store same (inr (inl by)) =
+    inr (inl (record { text = by.text; by = by_same store.image by.text f c (same Snapshot refl) (same Database refl) by.by; log = by.log; is = by.is; first = by.first; sum = by.sum; unmarked = by.unmarked }))
+same_durable f c store same (inr (inr by)) =
+    inr (inr (record {
+      by = record { no_snapshot = same Snapshot refl ∙ by.by.no_snapshot; stands = subst (λ (o : Option (List ℕ)). Rattle.std.specs.Prelude.IsSome o) (sym (same Dropped refl)) by.by.stands };
+      empty = by.empty;
+    }))
+
+-- nothing has changed yet
+pub only_read : (store : StoreState) (h mid : History) → IsSettledBut Staged h → Rests h mid → Durable (now h) store → EachMoment h mid (λ c. Durable c store)
+only_read store h mid settled rests durable =
+    rests_on h h mid (λ c. Durable c store) (started h (λ c. Durable c store) (λ c may. same_durable (now h) c store (settled c may) durable)) rests
+
+-- then the folder gets its last form
+pub then_finished : (store : StoreState) (h mid new : History) → IsSettledBut Staged h → Rests h mid → Durable (now h) store → EachMoment mid new (λ c. Durable c store) → EachMoment h new (λ c. Durable c store)
+then_finished store h mid new settled rests durable more = joined h mid new (λ c. Durable c store) (only_read store h mid settled rests durable) more
+
+-- and the staged file is removed, or perhaps not
+pub then_unstaged : {T E : Type 0} (result : Result T E) (store : StoreState) (h mid new : History) (sees : Step) → EachMoment h mid (λ c. Durable c store) → Ticks result mid new → Moves sees (Perhaps (SetsFile Staged None)) mid new
+    → EachMoment h new (λ c. Durable c store)
+then_unstaged result store h mid new sees so_far ticks moves =
+    goes_on result h mid new (λ c. Durable c store) so_far ticks
+    (λ c may.
+    let from = moves.left c may in
+    let here : Durable from.0 store = so_far.each mid.moment from.0 so_far.later (omega arith) from.1 in
+    elim from.2 [
+      | inl same ↦ same_durable from.0 c store (λ n other. same n) here
+      | inr sets ↦ same_durable from.0 c store sets.elsewhere here
+    ])
+
+-- it stays at rest
+pub rest_unstaged : (image : DatabaseImage) (files : List LogFile) (dropped : Bool) (mid new : History) → IsAtRest image files dropped mid → Moves (SetsFile Staged None) (SetsFile Staged None) mid new → IsAtRest image files dropped new
+rest_unstaged image files dropped mid new rest moves = record {
+  kept = kept_same image files dropped (now mid) (now new) rest.kept moves.seen.elsewhere;
+  shows = subst (λ (o : Option (List ℕ)). Shows image (bytes_of o)) (sym (moves.seen.elsewhere Database refl)) rest.shows;
+  settled = λ c may n other.
+      let from = moves.left c may in
+      from.2.elsewhere n other ∙ rest.settled from.0 from.1 n other ∙ sym (moves.seen.elsewhere n other);
+}
+
+page_size-most : (size : ℕ) → IsPageSize size → size ≤ 65536
+unfolding is_page_size
+page_size-most size is = grind (arith, common_steps, nat_tests)
+
+-- the mode that is read is that of the image
+pub mode_is : (size commit : ℕ) (f : Folder) → IsSized size commit → Shows (image_in size commit f) (bytes_of (f Database)) →
+    (if commit == 0 then false else is_wal (padded size 1 (bytes_of (f Database)))) ≡ image_is_wal (image_in size commit f)
+mode_is size commit f sized shows = elim (cases_eq commit 0) [
+  | inl none ↦
+      let test : (commit == 0) ≡ true = grind (arith, nat_tests) in
+      rw test (sym (ap (λ (c : ℕ). image_is_wal (image_in size c f)) none))
+  | inr some ↦
+      let test : (commit == 0) ≡ false = grind (arith, nat_tests) in
+      let bytes = bytes_of (f Database) in
+      let count : length (image_in size commit f).pages ≡ commit = length-map-range_with_len (page_in size bytes) 1 commit in
+      let is : IsPageSize size = sized.pages (omega (arith, some)) in
+      let data_page : IsDataPage size 1 = IsDataPage-below size 1 (page_size-positive size is) (omega (arith, page_size-most size is)) in
+      let at : page_at (image_in size commit f) 1 ≡ Some (page_in size bytes 1) = shows.pages 1 (omega arith) (omega (arith, count, some)) in
+      let room : 1 * size ≤ commit * size = mul-le-mul_right size (omega (arith, some)) in
+      let long : length bytes ≡ commit * size = shows.long ∙ ap (λ (c : ℕ). c * size) count in
+      let whole : padded size 1 bytes ≡ in_place size 1 bytes = resized-there size (drop ((1 - 1) * size) bytes) (omega (arith, length-drop ((1 - 1) * size) bytes, room, long)) in
+      rw test (ap is_wal (whole ∙ sym (page_in-data size bytes 1 data_page)) ∙ sym (ap (λ (o : Option (List ℕ)). is_wal (unwrap_or o [])) at))
+]

@@ -1,0 +1,44 @@
+//! What decides in a folder gives it its last form.
+ghost use Rattle.std.specs.Prelude.{◌≡◌, IsTrue, OnOk};
+ghost use Rattle.lf_base.specs.Faults.{CountsFaults};
+ghost use Rattle.lf_disk.specs.History.{now, EachMoment, IsSettledBut};
+ghost use Rattle.lf_disk.specs.declared.name.FileName.{FileName as Name};
+ghost use Rattle.world_laws.specs.Store.{StoreState};
+ghost use Rattle.txn_log.specs.Durable.{Durable};
+ghost use Rattle.node_recovery.specs.Finding.{Finds};
+ghost use Rattle.node_recovery.specs.Finishing.{IsFinished};
+
+use crate::found::{Decider, Found};
+use lf_base::Failed;
+use lf_disk::Disk;
+use std::alloc::Global;
+use txn_log::{empty, no_pages, rewrite, settle};
+
+/// Does the rest of what a stop left: of an install where a snapshot decides, of a drop where the
+/// mark does; else it writes the last file's pages again, or cuts the database file to no bytes.
+pub fn finish<D: Disk>(alloc: Global, disk: &mut D, found: &Found) -> Result<(), Failed>
+    requires settled { IsTrue (D.honest disk.old) → IsSettledBut Name.Staged (D.history disk.old) }
+    requires finds { IsTrue (D.honest disk.old) → Finds (now (D.history disk.old)) found.now }
+    ensures moments { IsTrue (D.honest disk.old) → (store : StoreState) → Durable (now (D.history disk.old)) store
+        → EachMoment (D.history disk.old) (D.history disk.new) (λ c. Durable c store) }
+    ensures done { IsTrue (D.honest disk.old) → OnOk result
+        (IsFinished (now (D.history disk.old)) found.now.decider found.now.names.items (D.history disk.new)) }
+    ensures honest { D.honest disk.new ≡ D.honest disk.old }
+    ensures cause { CountsFaults (D.faults disk.old) (D.faults disk.new) result }
+{
+    match &found.decider {
+        Decider::Snapshot(file) => settle(
+            disk,
+            found.names.as_slice(),
+            file.header.min,
+            file.header.max,
+            &file.change,
+        ),
+        Decider::Mark => empty(alloc, disk, found.names.as_slice()),
+        Decider::Last(file) => rewrite(disk, &file.change),
+        Decider::Nothing => {
+            let nothing = no_pages(alloc);
+            rewrite(disk, &nothing)
+        }
+    }
+}
