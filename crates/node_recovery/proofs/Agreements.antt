@@ -1,9 +1,8 @@
 -- The pages' sums, taken together.
 use Rattle.std.proofs.Common.{◌≡◌, ℕ, List, sym, ◌∙◌, ap}
 use Rattle.page_checksum.specs.Sums.{flagged, joined}
-use Rattle.lf_sqlite_pages.specs.Image.{DatabaseImage}
 use Rattle.lf_sqlite_pages.specs.Change.{PageChange, IsChange}
-use Rattle.ltx_codec.specs.Sums.{image_sum, sum_table}
+use Rattle.ltx_codec.specs.Sums.{image_sum}
 use Rattle.ltx_codec.proofs.SumLaws.{image_sum-table}
 use Rattle.node_recovery.specs.Summing.{sums_left, restored_image}
 use Rattle.node_recovery.proofs.Restored.{sums_restored}

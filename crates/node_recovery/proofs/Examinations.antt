@@ -1,5 +1,5 @@
 -- What the log tells is what the folder tells, where neither a snapshot nor a mark stands.
-use Rattle.std.proofs.Common.{◌≡◌, inl, inr, ◌⊎◌, ℕ, Bool, true, false, List, Option, Some, None, Result, Ok, Err, refl, sym, ◌∙◌, ap, subst}
+use Rattle.std.proofs.Common.{◌≡◌, inr, ℕ, true, false, List, Option, Some, None, Result, Ok, Err, refl, sym, subst}
 use Rattle.std.specs.Prelude.{is_some}
 use Rattle.lf_disk.specs.Folder.{Folder}
 use Rattle.lf_disk.specs.declared.name.FileName.TheVariants.{Snapshot, Dropped}
@@ -9,7 +9,7 @@ use Rattle.node_recovery.specs.declared.fault.RecoverFault.TheVariants as fault
 use Rattle.node_recovery.specs.declared.found.Decider.{Decider}
 use Rattle.node_recovery.specs.declared.found.Decider.TheVariants as decider
 use Rattle.node_recovery.specs.declared.found.Found.{Found}
-use Rattle.node_recovery.specs.Finding.{FindsBy, FindsIn, Finds, ExaminesLog, Examines}
+use Rattle.node_recovery.specs.Finding.{FindsBy, FindsIn, ExaminesLog, Examines}
 use Rattle.node_recovery.specs.Listing.{AreListed}
 
 pub none_there : (o : Option (List ℕ)) → is_some o ≡ false → o ≡ None

@@ -1,35 +1,31 @@
 -- What decides gives the folder its last form, and at each moment the folder stands for the same store.
-use Rattle.std.proofs.Common.{◌≡◌, ◌≢◌, inl, inr, ◌⊎◌, ℕ, ◌*◌, ◌≤◌, Bool, true, false, Option, Some, None, IsSome, List, [], ◌∷◌, length, map, unwrap_or, refl, sym, ◌∙◌, ap, subst, arith}
-use Rattle.std.specs.Prelude.{is_some, replicate, Result, Ok, Err, OnOk}
+use Rattle.std.proofs.Common.{◌≡◌, inl, inr, ℕ, ◌*◌, ◌≤◌, true, false, Option, Some, None, IsSome, List, [], length, unwrap_or, refl, sym, ◌∙◌, ap, subst, arith}
+use Rattle.std.specs.Prelude.{is_some, Result, Ok, Err, OnOk}
 use Rattle.std.proofs.Math.Nat.{mul-le-mul_right}
 use Rattle.std.proofs.lemmas.Option.{same_Some}
 use Rattle.std.proofs.lemmas.Bool.{cases_eq, false≢true}
-use Rattle.lf_base.specs.FileBytes.{resized}
 use Rattle.lf_base.proofs.FileLemmas.{length-resized}
-use Rattle.lf_disk.specs.declared.name.FileName.TheVariants.{Database, Staged, Snapshot, Dropped, Ltx}
-use Rattle.lf_disk.specs.Folder.{Folder, bytes_of, SameBut}
-use Rattle.lf_disk.specs.History.{History, now, may_leave, EachMoment, IsSettledBut}
-use Rattle.lf_disk.proofs.Moments.{weakened}
+use Rattle.lf_disk.specs.declared.name.FileName.TheVariants.{Database, Snapshot, Dropped, Ltx}
+use Rattle.lf_disk.specs.Folder.{Folder, bytes_of}
+use Rattle.lf_disk.specs.History.{History, now}
 use Rattle.lf_sqlite_pages.specs.Image.{DatabaseImage, empty_image, page_at}
 use Rattle.lf_sqlite_pages.specs.Change.{PageChange, IsChange, HoldsEveryPage, written}
-use Rattle.lf_sqlite_pages.specs.LockPage.{lock_page_of, IsDataPage}
+use Rattle.lf_sqlite_pages.specs.LockPage.{lock_page_of}
 use Rattle.lf_sqlite_pages.proofs.Applying.{written-lock_page}
 use Rattle.ltx_codec.specs.declared.file.Ltx.{Ltx as LtxFile}
-use Rattle.world_laws.specs.Store.{StoreState, dropped_store}
+use Rattle.world_laws.specs.Store.{StoreState}
 use Rattle.txn_log.specs.declared.entry.Entry.{Entry}
 use Rattle.txn_log.specs.Pages.{page_in, in_place, patched}
 use Rattle.txn_log.specs.Rewriting.{IsWorn, IsRewritten}
 use Rattle.txn_log.specs.Kept.{LogFile, file_of, change_of, last_of, text_of, Decides, IsDecided, Kept, Shows, IsAtRest, IsBySnapshot, IsByMark, Ascends}
 use Rattle.txn_log.specs.Durable.{Durable, StandsByLog, StandsBySnapshot, StandsByMark}
-use Rattle.txn_log.specs.Settling.{HasNoOthers, IsUnsettled, IsInstalled}
+use Rattle.txn_log.specs.Settling.{IsUnsettled, IsInstalled}
 use Rattle.txn_log.specs.Store.{files_in}
 use Rattle.txn_log.proofs.Emptyings.{shows_nothing}
 use Rattle.txn_log.proofs.Installed.{durable_installed}
 use Rattle.txn_log.proofs.Puttings.{cases_option, still_decides, page_in-lock, page_in-data}
-use Rattle.node_recovery.specs.Damage.{last_file}
 use Rattle.node_recovery.specs.Finding.{FindsSnapshot, FindsMark, FindsLog, FindsNothing}
 use Rattle.node_recovery.specs.Listing.{AreListed}
-use Rattle.node_recovery.specs.Outcome.{IsFileIn}
 use Rattle.node_recovery.specs.Summing.{restored, restored_image, padded}
 use Rattle.node_recovery.proofs.Lasts.{LastIs, last_named}
 use Rattle.node_recovery.proofs.Listed.{log_listed, no_others_listed}

@@ -1,5 +1,5 @@
 -- A log is judged file by file.
-use Rattle.std.proofs.Common.{◌≡◌, ◌≢◌, ◌⊎◌, inl, inr, ℕ, zero, suc, ◌+◌, ◌-◌, ◌<◌, ◌≤◌, List, [], ◌∷◌, ◌++◌, length, take, get_or, fold, map, Option, Some, None, Result, Ok, Err, refl, sym, ◌∙◌, ap, subst, arith}
+use Rattle.std.proofs.Common.{◌≡◌, ◌≢◌, ◌⊎◌, inl, inr, ℕ, zero, suc, ◌+◌, ◌<◌, List, [], ◌∷◌, ◌++◌, length, take, get_or, fold, map, Option, Some, None, Err, refl, sym, ◌∙◌, ap, subst, arith}
 use Rattle.std.specs.Option.{option_map}
 use Rattle.std.proofs.lemmas.List.{take_more, get_or-map, length-map}
 use Rattle.std.proofs.lemmas.List.Sums.{fold-append}
@@ -14,7 +14,7 @@ use Rattle.ltx_codec.specs.declared.file.Ltx.{Ltx}
 use Rattle.world_laws.specs.Store.{end_of}
 use Rattle.txn_log.specs.declared.entry.Entry.{Entry}
 use Rattle.txn_log.specs.Kept.{LogFile, file_of}
-use Rattle.txn_log.specs.Durable.{IsText, log_of, IsLog}
+use Rattle.txn_log.specs.Durable.{IsText, log_of}
 use Rattle.txn_log.specs.Store.{files_in, entry_of, AreEntries}
 use Rattle.txn_log.proofs.Commits.{Follows, entries-more}
 use Rattle.txn_log.proofs.Entries.{end-push}
@@ -22,7 +22,7 @@ use Rattle.txn_log.proofs.Installed.{alone}
 use Rattle.txn_log.proofs.Stores.{file_at}
 use Rattle.node_recovery.specs.declared.fault.RecoverFault.{RecoverFault}
 use Rattle.node_recovery.specs.declared.fault.RecoverFault.TheVariants as fault
-use Rattle.node_recovery.specs.Damage.{IsNext, last_file, position_behind, IsRefusedBehind, IsFirstRefused}
+use Rattle.node_recovery.specs.Damage.{IsNext, last_file, position_behind, IsRefusedBehind}
 use Rattle.node_recovery.specs.Finding.{AreEnded}
 use Rattle.node_recovery.specs.Outcome.{IsFileIn, Blames, JudgesLog}
 

@@ -1,6 +1,5 @@
 -- The last file of a log, as its text and as the file that it is.
-use Rattle.std.proofs.Common.{◌≡◌, ℕ, List, [], ◌∷◌, fold, Option, Some, None, refl, sym, ◌∙◌, ap}
-use Rattle.std.specs.Option.{option_map}
+use Rattle.std.proofs.Common.{◌≡◌, List, [], ◌∷◌, fold, Option, Some, None, refl, sym, ◌∙◌, ap}
 use Rattle.ltx_codec.specs.declared.file.Ltx.{Ltx}
 use Rattle.txn_log.specs.Kept.{LogFile, file_of, last_of}
 use Rattle.node_recovery.specs.Damage.{last_file}

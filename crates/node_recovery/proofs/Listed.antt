@@ -1,12 +1,11 @@
 -- What a list of names says of the log.
-use Rattle.std.proofs.Common.{◌≡◌, ◌≢◌, ◌⊎◌, inl, inr, ℕ, zero, suc, ◌<◌, ◌≤◌, Bool, true, false, cond, eqb-true, eq-eqb, ◌-◌, Option, Some, None, IsSome, List, [], ◌∷◌, length, map, get_or, fold, refl, sym, ◌∙◌, ap, subst, arith}
+use Rattle.std.proofs.Common.{◌≡◌, inl, inr, ℕ, Bool, true, cond, eqb-true, eq-eqb, Option, Some, None, IsSome, List, [], ◌∷◌, refl, sym, ◌∙◌, ap, subst}
 use Rattle.std.specs.Prelude.{◌==◌, ◌&&◌}
 use Rattle.std.proofs.lemmas.Bool.{cases_Bool, and_parts, and_from, false≢true}
-use Rattle.lf_disk.specs.declared.name.FileName.{FileName}
 use Rattle.lf_disk.specs.declared.name.FileName.TheVariants.{Ltx}
 use Rattle.lf_disk.specs.Folder.{Folder, bytes_of, with_file}
 use Rattle.txn_log.specs.declared.entry.Entry.{Entry}
-use Rattle.txn_log.specs.Kept.{LogFile, text_of}
+use Rattle.txn_log.specs.Kept.{text_of}
 use Rattle.txn_log.specs.Settling.{without, HasNoOthers}
 use Rattle.txn_log.specs.Store.{files_in}
 use Rattle.txn_log.proofs.Naming.{without-none}

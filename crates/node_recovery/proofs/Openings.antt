@@ -1,9 +1,9 @@
 -- The store that was decided is the one that the folder stood for.
-use Rattle.std.proofs.Common.{◌≡◌, ◌≢◌, inl, inr, ℕ, zero, suc, ◌+◌, ◌<◌, ◌≤◌, Bool, true, false, Option, Some, None, List, [], ◌∷◌, length, map, get_or, refl, sym, ◌∙◌, ap, subst, arith}
+use Rattle.std.proofs.Common.{◌≡◌, ℕ, ◌<◌, Bool, true, false, Some, List, [], ◌∷◌, length, map, get_or, refl, sym, ◌∙◌, ap, subst, arith}
 use Rattle.std.specs.List.{range_with_len}
 use Rattle.std.proofs.lemmas.Bool.{false≢true}
 use Rattle.std.proofs.lemmas.List.{get_or-map, length-map}
-use Rattle.lf_disk.specs.declared.name.FileName.TheVariants.{Database, Snapshot, Dropped, Ltx}
+use Rattle.lf_disk.specs.declared.name.FileName.TheVariants.{Database, Snapshot}
 use Rattle.lf_disk.specs.Folder.{Folder, bytes_of}
 use Rattle.lf_disk.specs.History.{History, now}
 use Rattle.lf_base.specs.declared.pos.Pos.{Pos}
@@ -11,7 +11,7 @@ use Rattle.lf_sqlite_pages.specs.Image.{DatabaseImage, empty_image}
 use Rattle.lf_sqlite_pages.specs.Change.{PageChange, IsChange}
 use Rattle.ltx_codec.specs.Format.{IsFile, IsLtx}
 use Rattle.ltx_codec.specs.declared.file.Ltx.{Ltx as LtxFile}
-use Rattle.world_laws.specs.Store.{StoreState, dropped_store}
+use Rattle.world_laws.specs.Store.{StoreState}
 use Rattle.txn_log.specs.declared.entry.Entry.{Entry}
 use Rattle.txn_log.specs.Entries.{AreNamed}
 use Rattle.txn_log.specs.Pages.{page_in}
@@ -23,7 +23,7 @@ use Rattle.txn_log.proofs.Puttings.{shows_after}
 use Rattle.txn_log.proofs.Stores.{Tells, image_is, settles, state_now}
 use Rattle.node_recovery.specs.declared.found.Decider.{Decider}
 use Rattle.node_recovery.specs.declared.found.Decider.TheVariants as decider
-use Rattle.node_recovery.specs.Finding.{FindsBy, FindsSnapshot, FindsMark, FindsLog, FindsNothing, IsShapedAs}
+use Rattle.node_recovery.specs.Finding.{FindsBy, IsShapedAs}
 use Rattle.node_recovery.specs.Finishing.{image_left, files_left, size_left, commit_left, is_marked}
 use Rattle.node_recovery.specs.Listing.{AreListed}
 use Rattle.node_recovery.specs.Summing.{restored, restored_image}

@@ -1,18 +1,17 @@
 -- From a folder that was examined to a store.
-use Rattle.std.proofs.Common.{◌≡◌, inl, inr, ℕ, ◌+◌, ◌-◌, ◌*◌, ◌<◌, ◌≤◌, Bool, true, false, cond, Option, Some, None, Result, List, [], length, length-drop, unwrap_or, drop, refl, sym, ◌∙◌, ap, subst, arith}
+use Rattle.std.proofs.Common.{◌≡◌, inl, inr, ℕ, ◌-◌, ◌*◌, ◌≤◌, Bool, true, false, Option, Some, None, Result, List, [], length, length-drop, unwrap_or, drop, refl, sym, ◌∙◌, ap, subst, arith}
 use Rattle.std.specs.Prelude.{◌==◌, if◌then◌else◌}
 use Rattle.std.proofs.Math.Nat.{mul-le-mul_right}
 use Rattle.std.proofs.lemmas.Bool.{cases_eq}
 use Rattle.std.proofs.lemmas.Bool.Decides.{nat_tests}
 use Rattle.std.proofs.lemmas.Grind.{common_steps}
 use Rattle.std.proofs.lemmas.List.FromFn.{length-map-range_with_len}
-use Rattle.lf_base.specs.FileBytes.{resized}
 use Rattle.lf_base.proofs.FileLemmas.{resized-there}
 use Rattle.lf_disk.specs.Folder.{Folder, bytes_of, SameBut}
-use Rattle.lf_disk.specs.declared.name.FileName.TheVariants.{Database, Staged, Snapshot, Dropped, Ltx}
+use Rattle.lf_disk.specs.declared.name.FileName.TheVariants.{Database, Staged, Snapshot, Dropped}
 use Rattle.lf_disk.specs.Change.{Step, SetsFile, Perhaps}
-use Rattle.lf_disk.specs.History.{History, now, may_leave, Rests, Ticks, Moves, EachMoment, IsSettledBut}
-use Rattle.lf_disk.proofs.Moments.{started, goes_on, rests_on, joined, weakened}
+use Rattle.lf_disk.specs.History.{History, now, Rests, Ticks, Moves, EachMoment, IsSettledBut}
+use Rattle.lf_disk.proofs.Moments.{started, goes_on, rests_on, joined}
 use Rattle.lf_sqlite_pages.specs.Header.{is_wal, image_is_wal}
 use Rattle.lf_sqlite_pages.specs.Image.{DatabaseImage, page_at}
 use Rattle.lf_sqlite_pages.specs.LockPage.{IsDataPage}
@@ -20,7 +19,7 @@ use Rattle.lf_sqlite_pages.specs.PageSize.{IsPageSize, is_page_size}
 use Rattle.lf_sqlite_pages.proofs.LockPages.{page_size-positive, IsDataPage-below}
 use Rattle.world_laws.specs.Store.{StoreState}
 use Rattle.txn_log.specs.Durable.{Durable}
-use Rattle.txn_log.specs.Kept.{LogFile, Kept, Shows, IsAtRest, IsBySnapshot, IsByMark}
+use Rattle.txn_log.specs.Kept.{LogFile, Shows, IsAtRest}
 use Rattle.txn_log.specs.Pages.{page_in, in_place}
 use Rattle.txn_log.specs.Store.{image_in, IsSized}
 use Rattle.txn_log.proofs.Puttings.{page_in-data}

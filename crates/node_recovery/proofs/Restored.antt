@@ -1,5 +1,5 @@
 -- The pages that a change leaves over a file are those of the file with the change written over it.
-use Rattle.std.proofs.Common.{◌≡◌, ◌≢◌, inl, inr, ℕ, zero, suc, ◌+◌, ◌-◌, ◌*◌, ◌<◌, ◌≤◌, true, false, cond, eqb, Bool, Option, Some, None, List, [], ◌∷◌, ◌++◌, length, length-take, length-drop, take, drop, map, get_or, get_or-take, get_or-drop, fold, unwrap_or, refl, sym, ◌∙◌, ap, subst, arith}
+use Rattle.std.proofs.Common.{◌≡◌, ◌≢◌, inl, inr, ℕ, suc, ◌+◌, ◌-◌, ◌*◌, ◌<◌, ◌≤◌, true, false, cond, Bool, Option, Some, None, List, [], ◌∷◌, length, length-take, length-drop, drop, map, get_or, get_or-take, get_or-drop, unwrap_or, refl, sym, ◌∙◌, ap, arith}
 use Rattle.std.specs.Prelude.{◌==◌}
 use Rattle.std.specs.List.{range_with_len, slice_get}
 use Rattle.std.specs.Option.{option_map}
@@ -9,13 +9,12 @@ use Rattle.std.proofs.lemmas.Bool.Decides.{nat_tests}
 use Rattle.std.proofs.lemmas.List.FromFn.{length-map-range_with_len, get_or-map-range_with_len}
 use Rattle.std.proofs.lemmas.Grind.{same_number_lists}
 use Rattle.std.proofs.lemmas.Option.{slice_get-get_or}
-use Rattle.lf_base.specs.FileBytes.{resized, overwritten}
+use Rattle.lf_base.specs.FileBytes.{overwritten}
 use Rattle.lf_base.proofs.FileLemmas.{length-resized, get_or-resized, overwritten_before, overwritten_behind}
 use Rattle.lf_disk.specs.Tears.{Cropped-resized}
 use Rattle.page_checksum.specs.Sums.{page_sum_of}
-use Rattle.lf_sqlite_pages.specs.LockPage.{lock_page_of, IsDataPage}
+use Rattle.lf_sqlite_pages.specs.LockPage.{lock_page_of}
 use Rattle.lf_sqlite_pages.specs.Image.{DatabaseImage, page_at}
-use Rattle.lf_sqlite_pages.specs.Writes.{data_page_at}
 use Rattle.lf_sqlite_pages.specs.Change.{PageChange, IsChange, AscendsAbove, written}
 use Rattle.lf_sqlite_pages.specs.declared.page_write.PageWrite.{PageWrite}
 use Rattle.ltx_codec.specs.Sums.{sum_table, page_sum_at}

@@ -1,14 +1,11 @@
 -- The sums of pages before a change is written.
-use Rattle.std.proofs.Common.{◌≡◌, ◌≢◌, inl, inr, ℕ, zero, suc, ◌+◌, ◌-◌, ◌*◌, ◌<◌, ◌≤◌, List, [], ◌∷◌, ◌++◌, length, length-drop, take, drop, replicate, map, get_or, set, fold, refl, sym, ◌∙◌, ap, subst, arith}
+use Rattle.std.proofs.Common.{◌≡◌, inl, inr, ℕ, ◌+◌, ◌-◌, ◌*◌, ◌<◌, List, ◌++◌, length, length-drop, take, drop, replicate, sym, ◌∙◌, ap, arith}
 use Rattle.std.specs.Prelude.{slice_index}
-use Rattle.std.specs.List.{range_with_len}
 use Rattle.std.proofs.lemmas.List.{length-replicate, length-set, get_or-set_other, drop-replicate}
 use Rattle.std.proofs.lemmas.List.FromFn.{length-map-range_with_len, get_or-map-range_with_len}
 use Rattle.std.proofs.lemmas.Grind.{same_number_lists, get_or-set_at}
 use Rattle.std.proofs.lemmas.Bool.{cases_eq}
-use Rattle.lf_base.specs.FileBytes.{resized, read_into}
-use Rattle.lf_base.proofs.FileLemmas.{length-resized}
-use Rattle.lf_disk.specs.History.{History, now}
+use Rattle.lf_base.specs.FileBytes.{read_into}
 use Rattle.page_checksum.specs.Table.{PageSums, with_sum}
 use Rattle.lf_sqlite_pages.specs.Change.{PageChange}
 use Rattle.node_recovery.specs.Summing.{padded, sum_left, sums_left}

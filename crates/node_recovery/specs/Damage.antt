@@ -1,5 +1,5 @@
 -- Where the log of a folder is damaged: of these reasons the first, in the first file that has one.
-use Rattle.std.specs.Prelude.{◌≡◌, ◌≢◌, ◌⊎◌, ℕ, ◌+◌, ◌<◌, min, List, [], ◌∷◌, length, take, fold, get_or, Option, None, Some}
+use Rattle.std.specs.Prelude.{◌≡◌, ◌≢◌, ◌⊎◌, ℕ, ◌+◌, ◌<◌, min, List, length, take, fold, get_or, Option, None, Some}
 use Rattle.std.specs.Option.{option_map}
 use Rattle.lf_base.specs.declared.pos.Pos.{Pos}
 use Rattle.lf_disk.specs.declared.name.FileName.{FileName}

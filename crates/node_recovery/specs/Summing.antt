@@ -1,5 +1,5 @@
 -- The sums of the pages that a change leaves over a database file, before they are written.
-use Rattle.std.specs.Prelude.{◌≡◌, ℕ, ◌-◌, ◌*◌, ◌==◌, List, map, drop, unwrap_or, if◌then◌else◌}
+use Rattle.std.specs.Prelude.{ℕ, ◌-◌, ◌*◌, ◌==◌, List, map, drop, unwrap_or, if◌then◌else◌}
 use Rattle.std.specs.List.{range_with_len}
 use Rattle.lf_base.specs.FileBytes.{resized}
 use Rattle.page_checksum.specs.Sums.{page_sum_of}

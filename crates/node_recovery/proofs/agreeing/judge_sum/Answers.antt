@@ -1,10 +1,7 @@
-use Rattle.std.proofs.Common.{◌≡◌, ◌≢◌, ◌∙◌, refl, sym, ap, arith}
+use Rattle.std.proofs.Common.{◌≡◌, ◌∙◌, refl, sym, arith}
 use Rattle.lf_disk.specs.Folder.{bytes_of}
 use Rattle.lf_disk.specs.History.{now}
 use Rattle.lf_disk.specs.declared.name.FileName.TheVariants.{Database}
-use Rattle.page_checksum.specs.Sums.{flagged, joined}
-use Rattle.ltx_codec.specs.Sums.{image_sum}
-use Rattle.node_recovery.specs.Summing.{restored_image}
 use Rattle.node_recovery.proofs.Agreements.{total_is}
 use Rattle.node_recovery.proofs.Restored.{sums_restored}
 use Rattle.node_recovery.proofs.agreeing.judge_sum.Goals as goal

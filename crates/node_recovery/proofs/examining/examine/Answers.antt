@@ -1,7 +1,7 @@
-use Rattle.std.proofs.Common.{◌≡◌, ◌∙◌, List, ℕ, Bool, false, Option, None, sym, ap, subst}
+use Rattle.std.proofs.Common.{◌≡◌, ◌∙◌, None, sym, ap, subst}
 use Rattle.std.specs.Prelude.{is_some}
 use Rattle.lf_disk.specs.Folder.{Folder}
-use Rattle.lf_disk.specs.History.{History, now, Rests}
+use Rattle.lf_disk.specs.History.{now, Rests}
 use Rattle.lf_disk.specs.declared.name.FileName.TheVariants.{Snapshot, Dropped}
 use Rattle.node_recovery.specs.Finding.{ExaminesLog}
 use Rattle.node_recovery.proofs.Examinations.{none_there, examined}

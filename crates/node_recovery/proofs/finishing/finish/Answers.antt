@@ -1,18 +1,16 @@
-use Rattle.std.proofs.Common.{◌≡◌, ◌∙◌, List, ℕ, refl, sym, ap, subst}
-use Rattle.lf_disk.specs.Folder.{Folder, bytes_of}
+use Rattle.std.proofs.Common.{List, sym, subst}
+use Rattle.lf_disk.specs.Folder.{bytes_of}
 use Rattle.lf_disk.specs.History.{now}
 use Rattle.lf_disk.specs.declared.name.FileName.TheVariants.{Database, Snapshot}
 use Rattle.lf_disk.proofs.Moments.{weakened}
 use Rattle.txn_log.specs.declared.entry.Entry.{Entry}
 use Rattle.txn_log.specs.Durable.{Durable}
-use Rattle.txn_log.specs.Settling.{IsInstalled}
-use Rattle.txn_log.specs.Rewriting.{IsWorn}
 use Rattle.node_recovery.specs.declared.found.Decider.{Decider}
 use Rattle.node_recovery.specs.Finding.{FindsBy, FindsSnapshot, FindsMark, FindsLog, FindsNothing}
 use Rattle.node_recovery.specs.Finishing.{IsFinished}
 use Rattle.node_recovery.specs.Listing.{AreListed}
 use Rattle.node_recovery.specs.Summing.{restored_image}
-use Rattle.node_recovery.proofs.Finishings.{log_file, unsettled_store, installed_store, unsettled_left, is_by_mark, worn_store, rest_written, worn_nothing, on_ok}
+use Rattle.node_recovery.proofs.Finishings.{unsettled_store, installed_store, unsettled_left, is_by_mark, worn_store, rest_written, worn_nothing, on_ok}
 use Rattle.node_recovery.proofs.Listed.{no_others_listed}
 use Rattle.node_recovery.proofs.finishing.finish.Goals as goal
 

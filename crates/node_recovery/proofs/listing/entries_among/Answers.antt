@@ -1,7 +1,7 @@
-use Rattle.std.proofs.Common.{◌≡◌, ◌⊎◌, inl, inr, ℕ, ◌+◌, List, [], ◌∷◌, ◌++◌, drop, get_or, sym, ◌∙◌, ap, subst, arith}
+use Rattle.std.proofs.Common.{◌≡◌, inl, inr, ◌+◌, List, [], ◌∷◌, drop, get_or, sym, ◌∙◌, ap, subst}
 use Rattle.std.proofs.lemmas.List.{drop_more, drop_all}
 use Rattle.lf_disk.specs.declared.name.FileName.{FileName}
-use Rattle.lf_disk.specs.declared.name.FileName.TheVariants.{Database, Ltx}
+use Rattle.lf_disk.specs.declared.name.FileName.TheVariants.{Database}
 use Rattle.txn_log.specs.declared.entry.Entry.{Entry}
 use Rattle.node_recovery.specs.Listing.{Has, Names}
 use Rattle.node_recovery.proofs.Listings.{Among, pushed, passed}

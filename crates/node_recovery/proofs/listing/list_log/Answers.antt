@@ -1,7 +1,7 @@
-use Rattle.std.proofs.Common.{◌≡◌, List, subst, sym}
+use Rattle.std.proofs.Common.{List, subst, sym}
 use Rattle.lf_disk.specs.declared.name.FileName.{FileName}
 use Rattle.lf_disk.specs.History.{now}
-use Rattle.node_recovery.specs.Listing.{Has, Names}
+use Rattle.node_recovery.specs.Listing.{Names}
 use Rattle.node_recovery.proofs.Listings.{listed}
 use Rattle.node_recovery.proofs.listing.list_log.Goals as goal
 

@@ -1,4 +1,4 @@
-use Rattle.std.proofs.Common.{◌≡◌, ◌∙◌, arith}
+use Rattle.std.proofs.Common.{arith}
 use Rattle.txn_log.specs.Kept.{file_of}
 use Rattle.node_recovery.proofs.reading.reads_back.Goals as goal
 

@@ -1,4 +1,4 @@
-use Rattle.std.proofs.Common.{◌≡◌, ◌∙◌}
+use Rattle.std.proofs.Common.{◌∙◌}
 use Rattle.node_recovery.proofs.recovering.recover.Goals as goal
 
 pub returns-in-Ok-clause-store : goal.returns-in-Ok-clause-store

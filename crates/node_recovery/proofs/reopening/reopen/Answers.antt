@@ -1,8 +1,7 @@
-use Rattle.std.proofs.Common.{◌≡◌, ◌∙◌, ◌≤◌, Bool, false, List, ℕ, refl, sym, ap, subst}
+use Rattle.std.proofs.Common.{◌≡◌, ◌∙◌, false, sym, ap, subst}
 use Rattle.lf_disk.specs.Folder.{Folder}
-use Rattle.lf_disk.specs.History.{History, now, Rests, EachMoment}
+use Rattle.lf_disk.specs.History.{now, Rests, EachMoment}
 use Rattle.lf_disk.proofs.Moments.{rests_on}
-use Rattle.world_laws.specs.Store.{StoreState}
 use Rattle.txn_log.specs.Durable.{Durable}
 use Rattle.txn_log.specs.Kept.{IsAtRest}
 use Rattle.lf_sqlite_pages.specs.Header.{image_is_wal}
