@@ -44,6 +44,7 @@ impl<D: Disk> Store<D> {
             whole: 0,
             attempt: Attempt::Unpublished,
             tried: 0,
+            decoder: None,
         }
     }
 }
