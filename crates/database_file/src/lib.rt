@@ -8,6 +8,7 @@ mod commit_change;
 mod comparing;
 mod database_file;
 mod fault;
+mod holding;
 mod keeping;
 mod laws;
 mod reading;
