@@ -1,0 +1,4 @@
+pub mod FrameLemmas
+pub mod OverLemmas
+pub mod KeepLemmas
+pub mod CommitLemmas

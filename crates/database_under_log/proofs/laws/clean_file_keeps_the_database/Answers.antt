@@ -1,0 +1,12 @@
+use Rattle.std.proofs.Common.{sym, ◌∙◌, ap}
+use Rattle.lf_sqlite_pages.specs.Image.{DatabaseImage}
+use Rattle.database_file.proofs.CleanLemmas.{clean-of_same}
+use Rattle.database_under_log.proofs.KeepLemmas.{clean-agrees, agrees-same}
+use Rattle.database_under_log.proofs.laws.clean_file_keeps_the_database.Goals as goal
+
+pub returns-clause-agrees : goal.returns-clause-agrees
+returns-clause-agrees c = clean-agrees
+
+pub returns-clause-exact : goal.returns-clause-exact
+returns-clause-exact c file image text none fits differs =
+    (clean-agrees file image text none, λ agrees. clean-of_same file image fits differs (agrees-same file image text none agrees))

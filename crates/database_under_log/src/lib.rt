@@ -1,0 +1,11 @@
+//! The database file under its write-ahead log: what a write to the log commits, and how the file
+//! stays as it reads while the committed image goes on beneath it.
+#![tactic(auto)]
+
+mod laws;
+
+pub use laws::{
+    clean_file_keeps_the_database, commit_leads_to_the_database_under_the_log,
+    cut_keeps_the_database, frames_keep_the_database, new_file_agrees, resize_keeps_the_database,
+    stored_write_keeps_the_database,
+};
