@@ -1,2 +1,5 @@
 pub mod Over
 pub mod LogChange
+pub mod LogChangeParts
+pub mod Staying
+pub mod HoldingParts

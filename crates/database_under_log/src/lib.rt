@@ -2,8 +2,12 @@
 //! stays as it reads while the committed image goes on beneath it.
 #![tactic(auto)]
 
+mod checkpoint;
+mod holding;
 mod laws;
+mod news;
 
+pub use checkpoint::are_frames;
 pub use laws::{
     clean_file_keeps_the_database, commit_leads_to_the_database_under_the_log,
     cut_keeps_the_database, frames_keep_the_database, new_file_agrees, resize_keeps_the_database,
