@@ -4,3 +4,7 @@ pub mod KeepLemmas
 pub mod CommitLemmas
 pub mod NewsLemmas
 pub mod HoldLemmas
+pub mod StayLemmas
+pub mod HoldingSteps
+pub mod ToldSteps
+pub mod ReadyLemmas

@@ -3,3 +3,6 @@ pub mod LogChange
 pub mod LogChangeParts
 pub mod Staying
 pub mod HoldingParts
+pub mod Waiting
+pub mod Fault
+pub mod WaitingParts

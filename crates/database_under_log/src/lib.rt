@@ -3,13 +3,19 @@
 #![tactic(auto)]
 
 mod checkpoint;
+mod fault;
 mod holding;
 mod laws;
 mod news;
+mod waiting;
+mod writing;
 
 pub use checkpoint::are_frames;
+pub use fault::LogWriteFault;
 pub use laws::{
     clean_file_keeps_the_database, commit_leads_to_the_database_under_the_log,
     cut_keeps_the_database, frames_keep_the_database, new_file_agrees, resize_keeps_the_database,
     stored_write_keeps_the_database,
 };
+pub use waiting::{LogCommit, LogWrite, WaitingWrite};
+pub use writing::{finish_log_write, forget_log_write, prepare_log_write};

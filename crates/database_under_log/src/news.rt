@@ -3,6 +3,8 @@ ghost use Rattle.std.specs.Prelude.{◌≡◌, ◌≢◌, ◌+◌, ◌++◌, ◌
 ghost use Rattle.lf_sqlite_pages.specs.LockPage.{IsDataPage};
 ghost use Rattle.lf_sqlite_pages.specs.Change.{last_number, written};
 ghost use Rattle.database_file.specs.CommitParts.{WritesTo, one_write};
+ghost use Rattle.std.specs.FinMap as pages;
+ghost use Rattle.database_file.specs.WalCommit.{change_over};
 ghost use Rattle.wal_watch.specs.File.{text_of};
 ghost use Rattle.wal_watch.specs.Frames.{page_size_in, committed_count};
 ghost use Rattle.wal_watch.specs.News.{change_of, changed_page, last_size};
@@ -10,6 +12,7 @@ ghost use Rattle.lf_sqlite_pages.specs.declared.page_write.PageWrite.{PageWrite}
 ghost use Rattle.database_under_log.specs.LogChange.{log_news};
 ghost use Rattle.database_under_log.specs.LogChangeParts.{joined};
 
+use database_file::DatabaseFile;
 use lf_base::NoMemory;
 use lf_sqlite_pages::{Change, PageWrite, lock_page};
 use std::alloc::Global;
@@ -35,7 +38,8 @@ pub(crate) fn with_older(
     requires some { 0 < committed_count (text_of log.now) }
     requires size { news.page_size ≡ page_size_in (text_of log.now) }
     requires count { news.commit ≡ last_size (text_of log.now) }
-    ensures { IfOk result (λ change. (first : ℕ) → news ≡ change_of (text_of log.now) first (committed_count (text_of log.now)) → change ≡ log_news (text_of log.now) first commit) }
+    ensures news { IfOk result (λ change. (first : ℕ) → news ≡ change_of (text_of log.now) first (committed_count (text_of log.now)) → change ≡ log_news (text_of log.now) first commit) }
+    ensures size { IfOk result (λ change. change.page_size ≡ news.page_size) }
 {
     let _valid = news.pages();
     if news.commit() <= commit {
@@ -119,4 +123,23 @@ fn push_latest(log: &WalFile, change: &mut Change, n: u32, page: &mut [u8]) -> R
         return Ok(());
     }
     change.push(n, page)
+}
+
+/// The change that the log's news make of an image of `commit` pages: past the image's end each data
+/// page is in it, as the log or else the file has it.
+pub(crate) fn log_change(
+    alloc: Global,
+    file: &DatabaseFile,
+    log: &WalFile,
+    news: Change,
+    commit: u32,
+) -> Result<Change, NoMemory>
+    requires some { 0 < committed_count (text_of log.now) }
+    requires size { news.page_size ≡ page_size_in (text_of log.now) }
+    requires count { news.commit ≡ last_size (text_of log.now) }
+    requires whole { (n : ℕ) → (page : List ℕ) → pages.get file.now.kept n ≡ Some page → length page ≡ page_size_in (text_of log.now) }
+    ensures { IfOk result (λ change. (first : ℕ) → news ≡ change_of (text_of log.now) first (committed_count (text_of log.now)) → change ≡ change_over file.now (log_news (text_of log.now) first commit) commit) }
+{
+    let newest = with_older(alloc, log, news, commit)?;
+    file.change_over(alloc, newest, commit)
 }

@@ -1,0 +1,63 @@
+-- A write to the log that waits for its commit.
+use Rattle.std.specs.Prelude.{◌≡◌, ◌≢◌, ℕ, ◌<◌, true, None, List, length, take}
+use Rattle.lf_base.specs.FileBytes.{written}
+use Rattle.lf_sqlite_pages.specs.Apply.{apply}
+use Rattle.lf_sqlite_pages.specs.Blocks.{IsWithin}
+use Rattle.lf_sqlite_pages.specs.Image.{DatabaseImage}
+use Rattle.wal_watch.specs.File.{Wal, text_of, after_write, with_room}
+use Rattle.wal_watch.specs.Refusals.{KeepsCommitted}
+use Rattle.wal_watch.specs.Frames.{committed_count}
+use Rattle.wal_watch.specs.News.{first_new, change_between}
+use Rattle.database_file.specs.DatabaseFile.{DatabaseFile, FitsShape, as_read, is_clean}
+use Rattle.database_under_log.specs.LogChange.{log_change}
+use Rattle.database_under_log.specs.Over.{over, Agrees}
+use Rattle.database_under_log.specs.Staying.{finished, forgotten, StaysAsRead}
+use Rattle.database_under_log.specs.declared.waiting.LogCommit.{LogCommit}
+use Rattle.database_under_log.specs.declared.waiting.LogWrite.{LogWrite}
+use Rattle.database_under_log.specs.declared.waiting.LogWrite.TheVariants.{Stored, Waiting}
+
+-- what is ready over every store once a write of bytes waits: its change, the write itself, and the file, which can go on or
+-- back, over an image of a page size and a number of pages
+pub record IsReady (old new : DatabaseFile) (text : List ℕ) (page_size commit at : ℕ) (bytes : List ℕ) (c : LogCommit) : Type 0 where
+  pub more : first_new text (written at bytes text) < committed_count (written at bytes text)
+  pub change : c.change ≡ log_change old text (written at bytes text) commit
+  pub at_is : c.write.at ≡ at
+  pub bytes_are : c.write.bytes ≡ bytes
+  pub back : forgotten new c.write ≡ old
+  pub fits : FitsShape new page_size commit
+  pub later : FitsShape (finished new c.write) c.change.page_size c.change.commit
+
+-- and over the image, where that is told: the change leads to the database under the new text; meanwhile the file reads as
+-- before, and so it does over the new image once it is finished
+pub record Commits (old new : DatabaseFile) (image : DatabaseImage) (text : List ℕ) (c : LogCommit) : Type 0 where
+  pub leads : apply image c.change ≡ over (as_read old image) text
+  pub reads : as_read new image ≡ as_read old image
+  pub stays : StaysAsRead old image (finished new c.write) (apply image c.change)
+  pub agrees : Agrees (finished new c.write) (apply image c.change) text
+
+-- the log reads as before, and has room for the write
+pub record HasRoomFor (old new : Wal) (at : ℕ) (bytes : List ℕ) : Type 0 where
+  pub text : new.text ≡ old.text
+  pub room : IsWithin new.room at (length bytes)
+
+-- a write may change the log's header only over a file that is the image
+abbrev pub MayChangeHeader : DatabaseFile → List ℕ → List ℕ → Type 0
+MayChangeHeader file old new = take 32 new ≢ take 32 old → is_clean file ≡ true
+
+-- a write that is done commits nothing, and leaves the file
+pub record IsStored (old new : DatabaseFile) (log later : Wal) (at : ℕ) (bytes : List ℕ) : Type 0 where
+  pub file : new ≡ old
+  pub log_is : later ≡ after_write (with_room log at (length bytes)) at bytes
+  pub none : change_between (text_of log) (text_of later) ≡ None
+  pub kept : KeepsCommitted (text_of log) (text_of later)
+
+-- what a write is, over every store
+abbrev pub IsPrepared : DatabaseFile → DatabaseFile → Wal → Wal → ℕ → ℕ → ℕ → List ℕ → LogWrite → Type 0
+IsPrepared old new log later page_size commit at bytes Stored = IsStored old new log later at bytes
+IsPrepared old new log later page_size commit at bytes (Waiting c) =
+    IsReady old new (text_of log) page_size commit at bytes c × HasRoomFor log later at bytes
+
+-- and over the image, where that is told
+abbrev pub IsPreparedOver : DatabaseFile → DatabaseFile → DatabaseImage → List ℕ → LogWrite → Type 0
+IsPreparedOver old new image text Stored = Agrees old image text
+IsPreparedOver old new image text (Waiting c) = Commits old new image text c
