@@ -8,3 +8,4 @@ pub mod StayLemmas
 pub mod HoldingSteps
 pub mod ToldSteps
 pub mod ReadyLemmas
+pub mod AlterLemmas

@@ -2,6 +2,7 @@
 //! stays as it reads while the committed image goes on beneath it.
 #![tactic(auto)]
 
+mod altering;
 mod checkpoint;
 mod fault;
 mod holding;
@@ -10,6 +11,7 @@ mod news;
 mod waiting;
 mod writing;
 
+pub use altering::leaves_image;
 pub use checkpoint::are_frames;
 pub use fault::LogWriteFault;
 pub use laws::{
