@@ -1,8 +1,8 @@
 -- Whether a change alters an image.
-use Rattle.std.proofs.Common.{◌≡◌, ◌≢◌, ℕ, ◌+◌, ◌<◌, ◌≤◌, length, List, [], ◌∷◌, ◌++◌, Bool, true, false, inl, inr, Option, Some, None, take, replicate, unwrap_or, refl, sym, ap, ◌∙◌, subst, arith}
+use Rattle.std.proofs.Common.{◌≡◌, ℕ, ◌+◌, ◌<◌, ◌≤◌, length, List, [], ◌∷◌, Bool, true, false, inl, inr, Option, Some, None, take, replicate, unwrap_or, refl, sym, ap, ◌∙◌, subst, arith}
 use Rattle.std.specs.Prelude.{IfSome, IsTrue, ◌↔◌}
 use Rattle.std.specs.Option.{option_or}
-use Rattle.std.proofs.lemmas.Bool.{cases_eq, cases_lt}
+use Rattle.std.proofs.lemmas.Bool.{cases_eq}
 use Rattle.std.proofs.lemmas.List.{take_all}
 use Rattle.lf_sqlite_pages.specs.LockPage.{lock_page_of, IsDataPage}
 use Rattle.lf_sqlite_pages.specs.Image.{DatabaseImage, SameImage, IsImage, page_at}
@@ -11,7 +11,6 @@ use Rattle.lf_sqlite_pages.specs.Apply.{apply, page_after}
 use Rattle.lf_sqlite_pages.specs.declared.page_write.PageWrite.{PageWrite}
 use Rattle.database_file.specs.WritingParts.{TellsSame}
 use Rattle.lf_sqlite_pages.proofs.Laws.{length-apply, page_at-apply, page_after-data, page_after-lock_page}
-use Rattle.database_file.specs.CommitParts.{one_write}
 use Rattle.database_file.proofs.DifferenceLemmas.{same-all, page-there}
 use Rattle.database_file.proofs.KeptLemmas.{written-append, written-one, written-one_other, or_none}
 use Rattle.database_under_log.proofs.OverLemmas.{at-pages}

@@ -1,32 +1,31 @@
 -- The change of a commit in the log leads to the database under the log.
-use Rattle.std.proofs.Common.{◌≡◌, ◌≢◌, ℕ, ◌-◌, ◌<◌, ◌≤◌, length, List, Bool, true, false, Option, Some, None, map, take, replicate, unwrap_or, refl, sym, ap, ◌∙◌, arith, inl, inr, if◌then◌else◌}
+use Rattle.std.proofs.Common.{◌≡◌, ◌≢◌, ℕ, ◌<◌, ◌≤◌, length, List, Bool, true, false, Option, Some, None, take, replicate, unwrap_or, refl, sym, ap, ◌∙◌, arith, inl, inr, if◌then◌else◌}
 use Rattle.std.specs.Prelude.{◌==◌, nat_le}
-use Rattle.std.specs.List.{range_with_len}
 use Rattle.std.specs.Option.{option_map}
 use Rattle.std.specs.Str.{bytes_eq}
-use Rattle.std.proofs.lemmas.Bool.{cases_eq, cases_lt, cases_Bool, cond-true, cond-false, ne_eqb, eq-eqb, eqb-true}
+use Rattle.std.proofs.lemmas.Bool.{cases_eq, cases_Bool, cond-false, ne_eqb, eq-eqb}
 use Rattle.std.proofs.lemmas.Bool.Decides.{nat_tests}
 use Rattle.std.proofs.lemmas.Slice.Eq.{bytes_eq-Decides}
 use Rattle.lf_sqlite_pages.specs.LockPage.{lock_page_of}
-use Rattle.lf_sqlite_pages.specs.Change.{PageChange, written}
+use Rattle.lf_sqlite_pages.specs.Change.{PageChange}
 use Rattle.lf_sqlite_pages.specs.Image.{DatabaseImage, SameImage, page_at}
 use Rattle.lf_sqlite_pages.specs.Apply.{apply}
 use Rattle.lf_sqlite_pages.proofs.Writes.{written-writes_of}
 use Rattle.wal_watch.specs.Frames.{page_size_in, page_in, committed_count}
-use Rattle.wal_watch.specs.News.{latest_frame, latest_page, last_size, changed_page, change_frame, first_new, HasSameFrames}
+use Rattle.wal_watch.specs.News.{latest_frame, latest_page, last_size, first_new, HasSameFrames}
 use Rattle.wal_watch.specs.Refusals.{KeepsCommitted}
 use Rattle.wal_watch.proofs.CheckLemmas.{first_same, first_other}
 use Rattle.wal_watch.proofs.LawLemmas.{keeps_count, keeps_frames, keeps_size}
 use Rattle.database_file.specs.DatabaseFile.{DatabaseFile, FitsShape, as_read, is_clean, count_of, size_of}
 use Rattle.database_file.specs.Writing.{page_or_zeros}
-use Rattle.database_file.specs.WalCommit.{change_over, page_under, under_log}
+use Rattle.database_file.specs.WalCommit.{page_under, under_log}
 use Rattle.database_file.proofs.CleanLemmas.{same-of_clean}
 use Rattle.database_file.proofs.UnderLemmas.{change-under}
 use Rattle.database_file.proofs.WriteLemmas.{same-pages}
 use Rattle.database_under_log.specs.Over.{page_over, over, Agrees}
 use Rattle.database_under_log.specs.LogChange.{newest_page, log_news, log_change}
 use Rattle.database_under_log.proofs.FrameLemmas.{latest_kept, latest_new, no_frame}
-use Rattle.database_under_log.proofs.OverLemmas.{over_none, over_some, at-over, at-pages}
+use Rattle.database_under_log.proofs.OverLemmas.{over_some, at-over, at-pages}
 use Rattle.database_under_log.proofs.KeepLemmas.{agrees-same}
 
 -- a page of a file under the log, chosen by whether it is the lock page, lies in the image, and is in a new frame

@@ -1,11 +1,11 @@
 -- The latest frame of a page in a log that goes on.
-use Rattle.std.proofs.Common.{◌≡◌, ◌≢◌, ℕ, ◌<◌, ◌≤◌, suc, zero, List, Option, Some, None, take, refl, sym, ap, ◌∙◌, arith, inl, inr}
+use Rattle.std.proofs.Common.{◌≡◌, ◌≢◌, ℕ, ◌<◌, ◌≤◌, suc, zero, List, Option, Some, None, refl, ap, ◌∙◌, arith, inl, inr}
 use Rattle.std.specs.Option.{option_map}
 use Rattle.std.specs.Str.{bytes_eq}
-use Rattle.std.proofs.lemmas.Bool.{cases_eq, cases_Bool}
+use Rattle.std.proofs.lemmas.Bool.{cases_Bool}
 use Rattle.std.proofs.lemmas.Slice.Eq.{bytes_eq-Decides}
-use Rattle.wal_watch.specs.Frames.{page_in, number_in, committed_count, committed_end}
-use Rattle.wal_watch.specs.News.{latest_frame, latest_page, IsSameFrame, HasSameFrames}
+use Rattle.wal_watch.specs.Frames.{page_in, number_in, committed_count}
+use Rattle.wal_watch.specs.News.{latest_frame, latest_page, HasSameFrames}
 use Rattle.wal_watch.proofs.ChangeLemmas.{latest_among}
 use Rattle.wal_watch.proofs.IndexLemmas.{split_none, split_some}
 

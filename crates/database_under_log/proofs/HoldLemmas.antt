@@ -1,16 +1,14 @@
 -- The numbers of the pages that are kept for a commit.
-use Rattle.std.proofs.Common.{◌≡◌, ◌≢◌, ℕ, ◌+◌, ◌<◌, ◌≤◌, ◌||◌, List, [], ◌∷◌, ◌++◌, Bool, true, false, cond, inl, inr, ◌⊎◌, Option, Some, None, refl, sym, ap, ◌∙◌, arith, rules, if◌then◌else◌}
+use Rattle.std.proofs.Common.{◌≡◌, ◌≢◌, ℕ, ◌||◌, List, [], ◌∷◌, ◌++◌, Bool, true, false, inl, inr, ◌⊎◌, Option, Some, None, refl, sym, ap, ◌∙◌, if◌then◌else◌}
 use Rattle.std.specs.Prelude.{◌==◌, is_some, Result, Ok, Err, OnOk, OnErr}
 use Rattle.database_file.specs.DatabaseFile.{DatabaseFile}
 use Rattle.std.specs.FinMap as pages
-use Rattle.std.specs.FinMap.{gets, same_map, nat_cmp-IsAntisymmetric}
+use Rattle.std.specs.FinMap.{same_map, nat_cmp-IsAntisymmetric}
 use Rattle.std.specs.Cmp.{nat_cmp_total}
-use Rattle.std.specs.Ordering.{nat_cmp}
-use Rattle.std.proofs.lemmas.Bool.{cases_eq, cases_Bool, cond-true, cond-false, eq-eqb, eqb-true, ne_eqb}
-use Rattle.std.proofs.lemmas.Bool.Decides.{nat_tests}
+use Rattle.std.proofs.lemmas.Bool.{cases_eq, cases_Bool, cond-true, cond-false, eq-eqb, eqb-true}
 use Rattle.std.proofs.lemmas.List.Folds.{list_any-append}
 use Rattle.database_file.specs.WritingParts.{Pages}
-use Rattle.database_file.proofs.PutLemmas.{get-removed, get-removed_other, get-inserted, get-inserted_other}
+use Rattle.database_file.proofs.PutLemmas.{get-removed, get-removed_other, get-inserted_other}
 use Rattle.database_under_log.specs.Staying.{without}
 use Rattle.database_under_log.specs.HoldingParts.{among, IsBack}
 

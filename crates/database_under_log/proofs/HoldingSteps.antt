@@ -1,21 +1,18 @@
 -- The pages of a change, noted one after another.
-use Rattle.std.proofs.Common.{◌≡◌, ◌≢◌, ℕ, ◌+◌, ◌<◌, ◌≤◌, ◌&&◌, ◌||◌, length, List, [], ◌∷◌, ◌++◌, Bool, true, false, inl, inr, ◌⊎◌, Option, Some, None, take, get_or, min, replicate, unwrap_or, refl, sym, ap, ◌∙◌, subst, arith, rules, if◌then◌else◌}
-use Rattle.std.specs.Prelude.{is_some, IsSome, IfSome, nat_le, ◌==◌}
+use Rattle.std.proofs.Common.{◌≡◌, ◌≢◌, ℕ, ◌+◌, ◌<◌, ◌≤◌, ◌&&◌, ◌||◌, length, List, [], ◌∷◌, ◌++◌, Bool, true, false, inl, inr, ◌⊎◌, Option, Some, None, take, replicate, unwrap_or, sym, ap, ◌∙◌, subst, arith, if◌then◌else◌}
+use Rattle.std.specs.Prelude.{is_some, ◌==◌}
 use Rattle.std.specs.Option.{option_or}
 use Rattle.std.specs.FinMap as pages
-use Rattle.std.proofs.lemmas.Bool.{cases_eq, cases_lt, cases_Bool}
-use Rattle.std.proofs.lemmas.Bool.Decides.{nat_tests}
-use Rattle.std.proofs.lemmas.List.{take_more, take_all}
+use Rattle.std.proofs.lemmas.Bool.{cases_eq, cases_Bool}
+use Rattle.std.proofs.lemmas.List.{take_all}
 use Rattle.lf_sqlite_pages.specs.LockPage.{IsDataPage}
-use Rattle.lf_sqlite_pages.specs.Image.{DatabaseImage, IsImage, page_at}
-use Rattle.lf_sqlite_pages.specs.Change.{PageChange, IsChange, written}
-use Rattle.lf_sqlite_pages.specs.Apply.{apply, page_after}
+use Rattle.lf_sqlite_pages.specs.Image.{DatabaseImage, page_at}
+use Rattle.lf_sqlite_pages.specs.Change.{PageChange, written}
+use Rattle.lf_sqlite_pages.specs.Apply.{apply}
 use Rattle.lf_sqlite_pages.specs.declared.page_write.PageWrite.{PageWrite}
 use Rattle.lf_sqlite_pages.proofs.Laws.{length-apply, page_at-apply, page_after-data}
 use Rattle.lf_sqlite_pages.proofs.PageNumbers.{page_at-past}
-use Rattle.database_file.specs.DatabaseFile.{DatabaseFile, FitsShape, KeepsDifferences, count_over, size_over, size_of, page_of}
-use Rattle.database_file.specs.CommitParts.{one_write}
-use Rattle.database_file.specs.Writing.{page_or_zeros}
+use Rattle.database_file.specs.DatabaseFile.{DatabaseFile, FitsShape, count_over, size_over, size_of, page_of}
 use Rattle.database_file.specs.WritingParts.{Pages}
 use Rattle.database_file.proofs.KeptLemmas.{written-append, written-one_other, or_none}
 use Rattle.database_file.proofs.PutLemmas.{get-inserted, get-inserted_other}
@@ -23,7 +20,7 @@ use Rattle.database_under_log.specs.Staying.{without}
 use Rattle.database_under_log.specs.HoldingParts.{among, is_left, IsNoted, StaysAt, AreBelow, ReadsOn, StaysBy, StaysTo}
 use Rattle.database_under_log.specs.declared.holding.Held.{Held}
 use Rattle.database_under_log.proofs.HoldLemmas.{among-more}
-use Rattle.database_under_log.proofs.StayLemmas.{unwritten, noted-at, noted-others, noted-reads, left-is, left-not}
+use Rattle.database_under_log.proofs.StayLemmas.{noted-at, noted-others, left-is, left-not}
 
 -- the file that was noted fits as before
 noted-found : (m : Pages) (n k : ℕ) (page p : List ℕ) (b : Bool) → pages.get (if b then m else pages.insert m n page) k ≡ Some p →

@@ -2,7 +2,6 @@
 use Rattle.std.proofs.Common.{◌≡◌, ◌≢◌, ℕ, ◌+◌, ◌-◌, ◌/◌, ◌<◌, ◌≤◌, length, List, [], true, false, Option, Some, None, map, max, take, replicate, unwrap_or, refl, sym, ap, ◌∙◌, arith, inl, inr, ◌⊎◌}
 use Rattle.std.specs.Prelude.{◌==◌, ◌&&◌, nat_le, nat_lt}
 use Rattle.std.specs.List.{range_with_len}
-use Rattle.std.specs.Option.{option_map}
 use Rattle.std.specs.Str.{bytes_eq}
 use Rattle.std.proofs.lemmas.Slice.Eq.{bytes_eq-Decides}
 use Rattle.std.proofs.lemmas.Bool.{cases_eq, cases_lt, cases_Bool, cond-true, cond-false}
@@ -20,8 +19,8 @@ use Rattle.wal_watch.proofs.FrontLemmas.{short_none}
 use Rattle.wal_watch.proofs.IndexLemmas.{latest_absent}
 use Rattle.wal_watch.proofs.LawLemmas.{keeps_count, keeps_frames, keeps_size}
 use Rattle.wal_watch.proofs.StayLemmas.{take-resized}
-use Rattle.database_file.specs.DatabaseFile.{DatabaseFile, as_read, is_clean, new_file}
-use Rattle.database_file.specs.Writing.{page_or_zeros, page_in, page_written, with_pages, sized}
+use Rattle.database_file.specs.DatabaseFile.{DatabaseFile, as_read, is_clean}
+use Rattle.database_file.specs.Writing.{page_or_zeros, page_written, with_pages, sized}
 use Rattle.database_file.proofs.CleanLemmas.{same-of_clean}
 use Rattle.database_file.proofs.WriteLemmas.{same-pages}
 use Rattle.database_under_log.specs.Over.{page_over, over, Agrees, AreFrames}

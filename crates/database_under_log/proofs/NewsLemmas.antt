@@ -1,19 +1,15 @@
 -- What the log writes, one page after another.
-use Rattle.std.proofs.Common.{◌≡◌, ◌≢◌, ℕ, ◌+◌, ◌-◌, ◌<◌, ◌≤◌, length, List, ◌++◌, Bool, true, false, inl, inr, Option, Some, None, refl, sym, ap, ◌∙◌, arith, take}
+use Rattle.std.proofs.Common.{◌≡◌, ℕ, ◌-◌, ◌<◌, ◌≤◌, List, Bool, true, false, inl, inr, None, refl, sym, ap, ◌∙◌, arith}
 use Rattle.std.specs.Prelude.{nat_le, ◌==◌, if◌then◌else◌}
-use Rattle.std.specs.Option.{option_map}
 use Rattle.std.proofs.lemmas.Bool.{cases_lt, cond-true, cond-false}
 use Rattle.std.proofs.lemmas.Bool.Decides.{nat_tests}
-use Rattle.std.proofs.lemmas.List.{take_all}
-use Rattle.lf_sqlite_pages.specs.LockPage.{lock_page_of}
-use Rattle.lf_sqlite_pages.specs.Change.{PageChange, IsChange, written}
+use Rattle.lf_sqlite_pages.specs.Change.{PageChange, written}
 use Rattle.lf_sqlite_pages.specs.Writes.{writes_of}
 use Rattle.lf_sqlite_pages.proofs.Writes.{writes_of-same, written-writes_of}
-use Rattle.wal_watch.specs.Frames.{page_size_in, size_in, page_in, committed_count}
-use Rattle.wal_watch.specs.News.{latest_frame, last_size, change_of, changed_page}
+use Rattle.wal_watch.specs.Frames.{page_size_in, size_in, committed_count}
+use Rattle.wal_watch.specs.News.{last_size, change_of, changed_page}
 use Rattle.wal_watch.proofs.WritesLemmas.{latest-writes}
-use Rattle.database_file.specs.CommitParts.{WritesTo, one_write}
-use Rattle.database_file.proofs.WalLemmas.{over-next, over-all}
+use Rattle.database_file.specs.CommitParts.{WritesTo}
 use Rattle.database_file.proofs.KeptLemmas.{same_change}
 use Rattle.database_under_log.specs.LogChange.{newest_page, log_news}
 use Rattle.database_under_log.specs.LogChangeParts.{joined_page, joined}

@@ -1,7 +1,7 @@
 -- The database file under its log.
-use Rattle.std.proofs.Common.{◌≡◌, ◌≢◌, ℕ, ◌-◌, ◌<◌, ◌≤◌, length, List, Bool, true, false, Option, Some, None, map, replicate, unwrap_or, refl, sym, ap, ◌∙◌, arith, inl, inr, if◌then◌else◌}
+use Rattle.std.proofs.Common.{◌≡◌, ℕ, ◌-◌, ◌<◌, ◌≤◌, length, List, Bool, true, false, Option, Some, None, map, replicate, unwrap_or, refl, sym, ap, ◌∙◌, arith, inl, inr, if◌then◌else◌}
 use Rattle.std.specs.Prelude.{◌==◌}
-use Rattle.std.specs.List.{range_with_len, slice_get}
+use Rattle.std.specs.List.{range_with_len}
 use Rattle.std.specs.Option.{option_map}
 use Rattle.std.proofs.lemmas.Bool.{cases_eq, cond-true, cond-false, eq-eqb, ne_eqb}
 use Rattle.std.proofs.lemmas.List.FromFn.{length-map-range_with_len, get_or-map-range_with_len}
@@ -10,7 +10,7 @@ use Rattle.lf_sqlite_pages.specs.LockPage.{lock_page_of}
 use Rattle.lf_sqlite_pages.specs.Image.{DatabaseImage, SameImage, page_at}
 use Rattle.lf_sqlite_pages.proofs.PageNumbers.{page_at-first, page_at-past}
 use Rattle.wal_watch.specs.Frames.{page_size_in, page_in, committed_count}
-use Rattle.wal_watch.specs.News.{latest_frame, latest_page, last_size}
+use Rattle.wal_watch.specs.News.{latest_frame, last_size}
 use Rattle.database_file.specs.Writing.{page_or_zeros}
 use Rattle.database_file.proofs.WriteLemmas.{same-pages}
 use Rattle.database_under_log.specs.Over.{page_over, over}

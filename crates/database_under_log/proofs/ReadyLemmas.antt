@@ -1,24 +1,23 @@
 -- What is ready once a write waits.
-use Rattle.std.proofs.Common.{◌≡◌, ◌≢◌, ℕ, ◌+◌, ◌<◌, ◌≤◌, length, List, Bool, true, false, inl, inr, Option, Some, None, map, replicate, unwrap_or, refl, sym, ap, ◌∙◌, subst, arith, rules, if◌then◌else◌}
-use Rattle.std.specs.Prelude.{IsSome, IfSome, ◌==◌, nat_le, nat_lt, is_none, take}
+use Rattle.std.proofs.Common.{◌≡◌, ℕ, ◌<◌, ◌≤◌, length, List, Bool, true, false, inl, inr, Option, Some, None, map, replicate, unwrap_or, refl, sym, ap, ◌∙◌, subst, arith, if◌then◌else◌}
+use Rattle.std.specs.Prelude.{IsSome, IfSome, ◌==◌, nat_le, nat_lt, is_none}
 use Rattle.std.specs.List.{range_with_len}
 use Rattle.std.specs.FinMap as pages
-use Rattle.std.proofs.lemmas.Bool.{cases_eq, cases_lt, cases_Bool, cond-true, cond-false, ne_eqb, and_parts}
+use Rattle.std.proofs.lemmas.Bool.{cases_eq, cases_Bool, cond-true, cond-false, ne_eqb, and_parts}
 use Rattle.std.proofs.lemmas.Bool.Decides.{nat_tests}
 use Rattle.lf_sqlite_pages.specs.LockPage.{lock_page_of, IsDataPage}
 use Rattle.lf_sqlite_pages.specs.PageSize.{IsPageSize}
-use Rattle.lf_sqlite_pages.specs.Image.{DatabaseImage, SameImage, page_at}
+use Rattle.lf_sqlite_pages.specs.Image.{DatabaseImage, page_at}
 use Rattle.lf_sqlite_pages.specs.Change.{PageChange, written}
 use Rattle.lf_sqlite_pages.specs.Apply.{apply}
 use Rattle.lf_sqlite_pages.proofs.Laws.{length-apply}
 use Rattle.lf_sqlite_pages.proofs.Writes.{written-writes_of}
 use Rattle.database_file.specs.DatabaseFile.{DatabaseFile, FitsShape, KeepsDifferences, count_over, count_of, size_over, size_of, page_of, as_read}
 use Rattle.database_file.specs.WalCommit.{change_over, page_over}
-use Rattle.database_file.specs.Writing.{page_or_zeros}
 use Rattle.database_file.specs.WritingParts.{Pages, counted}
 use Rattle.database_file.proofs.WriteLemmas.{counted-over, counted-differs, same-pages}
 use Rattle.database_under_log.specs.Staying.{WaitingWrite, without, finished, forgotten, StaysAsRead}
-use Rattle.database_under_log.specs.HoldingParts.{among, IsBack, StaysAt, ReadsOn, StaysTo}
+use Rattle.database_under_log.specs.HoldingParts.{among, IsBack, ReadsOn, StaysTo}
 use Rattle.database_under_log.proofs.HoldLemmas.{back-is, get-without}
 use Rattle.lf_base.specs.FileBytes.{written as file_written}
 use Rattle.lf_sqlite_pages.proofs.LockPages.{page_size-positive}
@@ -27,7 +26,6 @@ use Rattle.wal_watch.specs.News.{first_new, change_of, change_between}
 use Rattle.wal_watch.specs.Refusals.{IsSoundWrite, KeepsCommitted}
 use Rattle.wal_watch.proofs.CommitLemmas.{has_committed, valid_header}
 use Rattle.wal_watch.proofs.LawLemmas.{last_some}
-use Rattle.database_file.specs.DatabaseFile.{is_clean}
 use Rattle.database_under_log.specs.Fault.{wanted_size}
 use Rattle.database_under_log.specs.LogChange.{log_change}
 use Rattle.database_under_log.specs.Over.{over, Agrees, FollowsLog}

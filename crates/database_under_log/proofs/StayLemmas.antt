@@ -1,29 +1,23 @@
 -- The file stays as it reads, page by page.
-use Rattle.std.proofs.Common.{◌≡◌, ◌≢◌, ℕ, ◌+◌, ◌-◌, ◌<◌, ◌≤◌, ◌&&◌, ◌||◌, length, List, [], ◌∷◌, ◌++◌, Bool, true, false, inl, inr, ◌⊎◌, Option, Some, None, take, get_or, min, replicate, unwrap_or, refl, sym, ap, ◌∙◌, subst, arith, rules, if◌then◌else◌}
-use Rattle.std.specs.Prelude.{◌==◌, is_some, IsSome, IfSome}
-use Rattle.std.specs.Option.{option_map}
+use Rattle.std.proofs.Common.{◌≡◌, ◌≢◌, ℕ, ◌<◌, ◌≤◌, ◌&&◌, ◌||◌, length, List, [], ◌∷◌, ◌++◌, Bool, true, false, inl, inr, Option, Some, None, replicate, unwrap_or, refl, sym, ap, ◌∙◌, subst, arith, if◌then◌else◌}
+use Rattle.std.specs.Prelude.{◌==◌, is_some, IsSome}
 use Rattle.std.specs.Str.{bytes_eq}
 use Rattle.std.specs.FinMap as pages
 use Rattle.std.proofs.lemmas.Bool.{cases_eq, cases_lt, cases_Bool, cond-false, ne_eqb}
 use Rattle.std.proofs.lemmas.Slice.Eq.{bytes_eq-Decides}
-use Rattle.std.proofs.lemmas.List.{take_more}
 use Rattle.lf_sqlite_pages.specs.LockPage.{lock_page_of, IsDataPage}
 use Rattle.lf_sqlite_pages.specs.Image.{DatabaseImage, IsImage, page_at}
-use Rattle.lf_sqlite_pages.specs.Change.{PageChange, IsChange, written}
+use Rattle.lf_sqlite_pages.specs.Change.{PageChange, written}
 use Rattle.lf_sqlite_pages.specs.Apply.{apply, page_after}
-use Rattle.lf_sqlite_pages.specs.declared.page_write.PageWrite.{PageWrite}
-use Rattle.lf_sqlite_pages.proofs.Laws.{length-apply, page_at-apply, page_after-data, page_after-lock_page}
+use Rattle.lf_sqlite_pages.proofs.Laws.{page_at-apply, page_after-data, page_after-lock_page}
 use Rattle.lf_sqlite_pages.proofs.LockPages.{lock_page-first}
 use Rattle.lf_sqlite_pages.proofs.PageNumbers.{page_at-past}
-use Rattle.database_file.specs.DatabaseFile.{DatabaseFile, FitsShape, KeepsDifferences, count_over, size_over, size_of, page_of}
-use Rattle.database_file.specs.CommitParts.{one_write}
-use Rattle.database_file.specs.Writing.{page_or_zeros}
+use Rattle.database_file.specs.DatabaseFile.{DatabaseFile, FitsShape, KeepsDifferences, size_over, size_of, page_of}
 use Rattle.database_file.specs.WritingParts.{Pages}
 use Rattle.database_file.proofs.DifferenceLemmas.{lock-kept, page-there}
-use Rattle.database_file.proofs.KeptLemmas.{written-append, written-one_other, or_none}
 use Rattle.database_file.proofs.PutLemmas.{get-inserted, get-inserted_other}
 use Rattle.database_under_log.specs.Staying.{without}
-use Rattle.database_under_log.specs.HoldingParts.{among, is_left, StaysAt, AreBelow, ReadsOn, StaysBy, StaysTo}
+use Rattle.database_under_log.specs.HoldingParts.{among, is_left, StaysAt, ReadsOn}
 use Rattle.database_under_log.proofs.HoldLemmas.{get-without, get-in, get-off, among-end, among-more, not-more}
 
 -- a page that the change doesn't write, within both sizes

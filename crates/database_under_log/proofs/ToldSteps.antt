@@ -1,5 +1,5 @@
 -- The same where the image is told.
-use Rattle.std.proofs.Common.{◌≡◌, ◌≢◌, ℕ, ◌+◌, ◌<◌, ◌≤◌, length, List, [], ◌∷◌, ◌++◌, Bool, true, false, inl, inr, Option, Some, None, take, get_or, min, replicate, unwrap_or, refl, sym, ap, ◌∙◌, subst, arith, rules}
+use Rattle.std.proofs.Common.{◌≡◌, ℕ, ◌+◌, ◌<◌, ◌≤◌, length, List, [], ◌∷◌, ◌++◌, false, inl, inr, Option, Some, None, take, get_or, min, replicate, unwrap_or, refl, sym, ap, ◌∙◌, subst, arith}
 use Rattle.std.specs.Prelude.{IsSome, IfSome}
 use Rattle.std.specs.FinMap as pages
 use Rattle.std.proofs.lemmas.Bool.{cases_eq, cases_lt, cases_Bool}
@@ -21,7 +21,7 @@ use Rattle.database_under_log.specs.HoldingParts.{among, is_left, IsNoted, Stays
 use Rattle.database_under_log.specs.declared.holding.Held.{Held}
 use Rattle.database_under_log.proofs.HoldLemmas.{get-without, get-off}
 use Rattle.database_under_log.proofs.StayLemmas.{unwritten, noted-reads, lock-zeros}
-use Rattle.database_under_log.proofs.HoldingSteps.{by-more, by-past, by-all, to-more, below-off}
+use Rattle.database_under_log.proofs.HoldingSteps.{by-more, by-past, by-all, to-more}
 
 -- what a write of a change has
 pub record IsWrite (change : PageChange) (at : ℕ) (w : PageWrite) : Type 0 where

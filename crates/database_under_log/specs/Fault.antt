@@ -1,5 +1,5 @@
 -- Why a write to the log fails.
-use Rattle.std.specs.Prelude.{◌≡◌, ℕ, ◌<◌, ◌==◌, List, if◌then◌else◌}
+use Rattle.std.specs.Prelude.{ℕ, ◌<◌, ◌==◌, List, if◌then◌else◌}
 use Rattle.lf_base.specs.FileBytes.{written}
 use Rattle.lf_sqlite_pages.specs.LockPage.{IsWithinLimit}
 use Rattle.wal_watch.specs.Frames.{page_size_in, committed_count}

@@ -1,6 +1,6 @@
 -- The database that a file and its write-ahead log make together (SQLite, Write-Ahead Logging, section 2.2: a reader
 -- takes a page from its latest committed frame, else from the database file).
-use Rattle.std.specs.Prelude.{◌≡◌, ℕ, ◌+◌, ◌*◌, ◌/◌, ◌==◌, ◌<◌, ◌≤◌, true, None, List, length, map, replicate, unwrap_or, if◌then◌else◌}
+use Rattle.std.specs.Prelude.{◌≡◌, ℕ, ◌+◌, ◌/◌, ◌==◌, ◌<◌, ◌≤◌, true, List, length, map, replicate, unwrap_or, if◌then◌else◌}
 use Rattle.std.specs.List.{range_with_len}
 use Rattle.lf_sqlite_pages.specs.LockPage.{lock_page_of}
 use Rattle.lf_sqlite_pages.specs.Image.{DatabaseImage, SameImage}

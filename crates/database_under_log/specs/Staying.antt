@@ -1,5 +1,5 @@
 -- How the file stays as it reads while the committed image goes on beneath it.
-use Rattle.std.specs.Prelude.{◌≡◌, ℕ, List, fold, refl}
+use Rattle.std.specs.Prelude.{ℕ, List, fold, refl}
 use Rattle.std.specs.FinMap as pages
 use Rattle.std.specs.Coded.{Coded, code_by, coded×, coded_ℕ, coded_list}
 use Rattle.lf_sqlite_pages.specs.Image.{DatabaseImage, SameImage}

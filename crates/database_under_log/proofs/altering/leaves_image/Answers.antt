@@ -1,5 +1,5 @@
 -- Another number of pages is another image.
-use Rattle.std.proofs.Common.{◌≡◌, rules}
+use Rattle.std.proofs.Common.{rules}
 use Rattle.database_under_log.proofs.AlterLemmas.{told-count}
 use Rattle.database_under_log.proofs.altering.leaves_image.Goals as goal
 

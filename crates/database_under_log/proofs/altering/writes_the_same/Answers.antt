@@ -1,11 +1,9 @@
 -- One page more is the image's, or is another.
-use Rattle.std.proofs.Common.{◌≡◌, ◌≤◌, ◌<◌, ℕ, List, false, true, length, get_or, rules, arith, refl, sym, ap, ◌∙◌}
-use Rattle.std.specs.Prelude.{IfSome}
+use Rattle.std.proofs.Common.{◌≡◌, ◌≤◌, get_or, rules, arith, refl, sym, ◌∙◌}
 use Rattle.lf_sqlite_pages.specs.LockPage.{IsDataPage}
-use Rattle.lf_sqlite_pages.specs.Image.{DatabaseImage}
 use Rattle.database_file.proofs.TextLemmas.{SameBase-trans}
 use Rattle.database_under_log.proofs.AlterLemmas.{told-none, told-more, told-same, told-other}
-use Rattle.database_under_log.proofs.ToldSteps.{write-is, IsWrite}
+use Rattle.database_under_log.proofs.ToldSteps.{write-is}
 use Rattle.database_under_log.proofs.altering.writes_the_same.Goals as goal
 
 pub loop-at-init : goal.loop-at-init

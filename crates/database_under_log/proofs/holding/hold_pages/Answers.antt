@@ -1,5 +1,5 @@
 -- One page more is noted, or passed over.
-use Rattle.std.proofs.Common.{◌≡◌, ◌≢◌, ◌≤◌, ◌<◌, ◌+◌, ℕ, List, [], length, get_or, rules, arith, refl, sym, ap, ◌∙◌, subst, Option, Some, None, unwrap_or, if◌then◌else◌}
+use Rattle.std.proofs.Common.{◌≡◌, ◌≤◌, ◌<◌, ◌+◌, ℕ, List, [], length, get_or, rules, arith, refl, sym, ap, ◌∙◌, subst, Option, Some, None, unwrap_or, if◌then◌else◌}
 use Rattle.std.specs.Prelude.{IfSome, ◌==◌}
 use Rattle.lf_sqlite_pages.specs.Image.{DatabaseImage}
 use Rattle.lf_sqlite_pages.specs.LockPage.{lock_page_of, IsDataPage}
@@ -12,7 +12,7 @@ use Rattle.database_file.proofs.WalLemmas.{numbers-later, element-same}
 use Rattle.database_under_log.specs.HoldingParts.{AreBelow, IsNoted, is_left}
 use Rattle.database_under_log.proofs.HoldLemmas.{back-none}
 use Rattle.database_under_log.proofs.HoldingSteps.{noted-fits, below-same}
-use Rattle.database_under_log.proofs.ToldSteps.{write-is, IsWrite, told-start, told-by-more, told-by-past, told-by-all, told-to-more, told-to-lock, told-end}
+use Rattle.database_under_log.proofs.ToldSteps.{write-is, told-start, told-by-more, told-by-past, told-by-all, told-to-more, told-to-lock, told-end}
 use Rattle.database_under_log.proofs.holding.hold_pages.Goals as goal
 use Rattle.database_under_log.proofs.holding.hold_pages.Goals.{then-write-count+in_ok-hold, else-write-count, then-before-lock_page+in_ok-hold-2, else-before-lock_page}
 

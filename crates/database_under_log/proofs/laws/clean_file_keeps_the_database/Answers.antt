@@ -1,5 +1,3 @@
-use Rattle.std.proofs.Common.{sym, ◌∙◌, ap}
-use Rattle.lf_sqlite_pages.specs.Image.{DatabaseImage}
 use Rattle.database_file.proofs.CleanLemmas.{clean-of_same}
 use Rattle.database_under_log.proofs.KeepLemmas.{clean-agrees, agrees-same}
 use Rattle.database_under_log.proofs.laws.clean_file_keeps_the_database.Goals as goal

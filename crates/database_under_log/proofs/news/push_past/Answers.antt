@@ -1,7 +1,6 @@
 -- One page past the image more.
-use Rattle.std.proofs.Common.{◌≡◌, ◌<◌, ◌+◌, ◌++◌, ℕ, List, Option, rules, arith, ap, ◌∙◌, refl}
+use Rattle.std.proofs.Common.{◌+◌, ◌++◌, ℕ, List, Option, rules, arith, ap, ◌∙◌, refl}
 use Rattle.lf_sqlite_pages.specs.Change.{PageChange}
-use Rattle.lf_sqlite_pages.specs.declared.page_write.PageWrite.{PageWrite}
 use Rattle.wal_watch.specs.File.{text_of}
 use Rattle.database_file.specs.CommitParts.{one_write}
 use Rattle.database_file.proofs.WalLemmas.{over-next, over-all}

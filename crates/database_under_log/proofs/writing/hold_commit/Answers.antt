@@ -1,9 +1,7 @@
 -- By the lemmas on what is ready once a write waits.
-use Rattle.std.proofs.Common.{◌≡◌, ◌<◌, ℕ, List, [], length, rules, refl, sym, ap, ◌∙◌, subst, arith}
+use Rattle.std.proofs.Common.{◌≡◌, ◌<◌, ℕ, List, [], rules, refl, sym, ap, ◌∙◌, subst, arith}
 use Rattle.lf_sqlite_pages.specs.PageSize.{IsPageSize}
-use Rattle.std.specs.Prelude.{IfSome}
 use Rattle.lf_sqlite_pages.specs.Change.{PageChange}
-use Rattle.lf_sqlite_pages.specs.Image.{DatabaseImage}
 use Rattle.wal_watch.specs.File.{text_of}
 use Rattle.wal_watch.specs.Frames.{page_size_in}
 use Rattle.wal_watch.proofs.LawLemmas.{last_some}

@@ -1,12 +1,10 @@
 -- By the laws of the file under its log.
 use Rattle.std.proofs.Common.{◌≡◌, ◌<◌, ℕ, List, Some, None, rules, sym, ap, ◌∙◌, subst, arith}
-use Rattle.std.specs.Prelude.{IfSome}
 use Rattle.lf_base.specs.FileBytes.{written}
-use Rattle.wal_watch.specs.File.{Wal, text_of}
+use Rattle.wal_watch.specs.File.{text_of}
 use Rattle.wal_watch.specs.Frames.{page_size_in, committed_count}
-use Rattle.wal_watch.specs.News.{first_new, change_of, change_between}
+use Rattle.wal_watch.specs.News.{first_new, change_between}
 use Rattle.wal_watch.specs.Refusals.{IsSoundWrite, KeepsCommitted}
-use Rattle.database_file.specs.DatabaseFile.{count_over, size_over}
 use Rattle.database_under_log.specs.Fault.{wanted_size}
 use Rattle.database_under_log.specs.LogChange.{log_change}
 use Rattle.database_under_log.proofs.ReadyLemmas.{news-facts, sized-log, told-commits, told-stored}
