@@ -19,11 +19,13 @@ use Rattle.wal_watch.proofs.FrontLemmas.{short_none}
 use Rattle.wal_watch.proofs.IndexLemmas.{latest_absent}
 use Rattle.wal_watch.proofs.LawLemmas.{keeps_count, keeps_frames, keeps_size}
 use Rattle.wal_watch.proofs.StayLemmas.{take-resized}
-use Rattle.database_file.specs.DatabaseFile.{DatabaseFile, as_read, is_clean}
+use Rattle.database_file.specs.DatabaseFile.{DatabaseFile, as_read, is_clean, new_file}
 use Rattle.database_file.specs.Writing.{page_or_zeros, page_written, with_pages, sized}
 use Rattle.database_file.proofs.CleanLemmas.{same-of_clean}
 use Rattle.database_file.proofs.WriteLemmas.{same-pages}
-use Rattle.database_under_log.specs.Over.{page_over, over, Agrees, AreFrames}
+use Rattle.std.specs.Ordering.{nat_cmp}
+use Rattle.std.specs.FinMap.{len-empty}
+use Rattle.database_under_log.specs.Over.{page_over, over, Agrees, AreFrames, FollowsLog}
 use Rattle.database_under_log.proofs.FrameLemmas.{latest_kept}
 use Rattle.database_under_log.proofs.OverLemmas.{over_none, over_some, over-same, made-at, made-past, past-zeros}
 
@@ -150,3 +152,11 @@ frames-keep text bytes first file are =
       | inr within ↦
           ap (λ (o : Option (List ℕ)). unwrap_or o (replicate size 0)) (made-at (page_written file size first bytes) size count n low within) ∙ off-pages file size first n bytes off
     ])
+
+-- a new file follows a log without bytes over every shape
+pub new_follows : (page_size commit : ℕ) → FollowsLog new_file page_size commit []
+new_follows page_size commit = record {
+  page_size_is = λ some. absurd (omega (arith, some, empty_none));
+  commit_is = λ some. absurd (omega (arith, some, empty_none));
+  clean = λ none. rw (len-empty nat_cmp (List ℕ)) refl;
+}

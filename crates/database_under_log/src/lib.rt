@@ -8,6 +8,8 @@ mod fault;
 mod holding;
 mod laws;
 mod news;
+#[cfg(test)]
+mod tests;
 mod waiting;
 mod writing;
 
