@@ -1,0 +1,3 @@
+pub mod Shared
+pub mod SharedParts
+pub mod Index
