@@ -7,9 +7,9 @@
 mod handles;
 mod names;
 mod nodes;
-mod texts;
 #[cfg(test)]
 mod tests;
+mod texts;
 
 pub use handles::Handles;
 pub use names::file_named;

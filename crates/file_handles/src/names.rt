@@ -52,5 +52,8 @@ fn is_named(database: &Name, name: &[u8], file: FileKind) -> bool
 pub fn file_named(database: &Name, name: &[u8]) -> Option<FileKind>
     ensures { result ≡ file_named database.now name.now }
 {
-    all().iter().copied().find(|file| is_named(database, name, *file))
+    all()
+        .iter()
+        .copied()
+        .find(|file| is_named(database, name, *file))
 }

@@ -94,6 +94,7 @@ impl SharedMemory {
         requires salts { length salts.now ≡ 8 }
         ensures { result ≡ names_log self.now frames salts.now }
     {
-        u64::from(number_at(&self.blocks, FRAMES_AT)) == frames && self.blocks.holds(SALTS_AT, salts)
+        u64::from(number_at(&self.blocks, FRAMES_AT)) == frames
+            && self.blocks.holds(SALTS_AT, salts)
     }
 }

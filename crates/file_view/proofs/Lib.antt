@@ -1,0 +1,4 @@
+pub mod FaultLemmas
+pub mod LogLemmas
+pub mod ReadLemmas
+pub mod RowLemmas

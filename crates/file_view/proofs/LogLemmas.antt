@@ -1,0 +1,153 @@
+-- The log cut or removed: what the rules leave.
+use Rattle.std.proofs.Common.{◌≡◌, ◌≢◌, ℕ, ◌-◌, ◌<◌, ◌≤◌, Bool, true, false, ◌&&◌, not, length, List, [], ◌∷◌, take, inl, inr, Option, Some, None, refl, sym, ap, ◌∙◌, arith}
+use Rattle.std.specs.Prelude.{◌==◌, nat_lt, nat_le, is_none}
+use Rattle.std.specs.Ordering.{nat_cmp}
+use Rattle.std.specs.FinMap as pages
+use Rattle.std.specs.FinMap.{empty_of_len}
+use Rattle.std.proofs.lemmas.Bool.{cases_Bool, cases_eq, cases_lt, and_parts, eqb-true, cond-false}
+use Rattle.std.proofs.lemmas.Bool.Decides.{nat_tests}
+use Rattle.lf_base.specs.FileBytes.{resized}
+use Rattle.wal_watch.specs.Frames.{frame_place, committed_count, committed_end}
+use Rattle.wal_watch.specs.Refusals.{IsSoundCut, CutsCommitted}
+use Rattle.wal_watch.proofs.CommitLemmas.{has_committed}
+use Rattle.wal_watch.proofs.LawLemmas.{keeps_count}
+use Rattle.wal_watch.proofs.StayLemmas.{take-resized}
+use Rattle.database_file.specs.DatabaseFile.{DatabaseFile, clean, is_clean}
+use Rattle.file_view.specs.declared.scene.Scene.{Scene}
+use Rattle.file_view.specs.LogRules.{log_cut_rows, log_unlink_rows}
+use Rattle.file_view.specs.Refusal.{first_refusal}
+use Rattle.file_view.specs.Served.{Served, log_text, has_committed_frames}
+use Rattle.file_view.specs.Sound.{IsSound}
+use Rattle.file_view.proofs.RowLemmas.{none-holds}
+
+-- a file that is clean keeps nothing
+pub clean-is : (file : DatabaseFile) → is_clean file ≡ true → file ≡ clean file
+clean-is file all =
+    let parts = and_parts _ _ all in
+    let kept : file.kept ≡ pages.empty = empty_of_len file.kept (eqb-true _ _ parts.0) in
+    by_parts file.kept file.count kept (no_count file.count parts.1) where
+      by_parts : (kept : pages.FinMap nat_cmp (List ℕ)) (count : Option ℕ) → kept ≡ pages.empty → count ≡ None →
+          record { kept = kept; page_size = file.page_size; count = count } ≡ clean file
+      by_parts kept count a b = rw (a, b) refl
+
+      no_count : (o : Option ℕ) → is_none o ≡ true → o ≡ None
+      no_count None h = refl
+      no_count (Some n) h = absurd cc
+
+-- the end of no frames
+no-end : (text : List ℕ) → committed_count text ≡ 0 → committed_end text ≡ 0
+no-end text none = rw none refl
+
+-- no cut below the committed end is left
+not-below : (count end len : ℕ) → (count ≡ 0 → end ≡ 0) → (nat_lt 0 count && not (len == 0) && nat_lt len end) ≡ false → len ≢ 0 → len < end → ⊥
+not-below count end len none row nonzero below = elim (cases_eq count 0) [
+  | inl zero ↦ omega (arith, none zero, below)
+  | inr some ↦
+      let a : nat_lt 0 count ≡ true = grind (arith, nat_tests, some) in
+      let b : (len == 0) ≡ false = grind (arith, nat_tests, nonzero) in
+      let c : nat_lt len end ≡ true = grind (arith, nat_tests, below) in
+      let d = rw (a, b, c) at row in
+      absurd cc
+]
+
+-- nor one that leaves more committed frames
+not-grown : (count end after len : ℕ) → (count ≡ 0 → end ≡ 0) → (nat_lt 0 count && not (len == 0) && nat_lt len end) ≡ false →
+    (nat_le end len && nat_lt count after) ≡ false → (len ≡ 0 → after ≡ 0) → count < after → ⊥
+not-grown count end after len none below grown empty more = elim (cases_lt len end) [
+  | inl under ↦ elim (cases_eq len 0) [
+    | inl zero ↦ omega (arith, empty zero, more)
+    | inr some ↦ not-below count end len none below (λ zero. some zero) under
+  ]
+  | inr behind ↦
+      let a : nat_le end len ≡ true = grind (arith, nat_tests, behind) in
+      let b : nat_lt count after ≡ true = grind (arith, nat_tests, more) in
+      let c = rw (a, b) at grown in
+      absurd cc
+]
+
+-- a log cut to nothing has no frames
+nothing-left : (text : List ℕ) (len : ℕ) → committed_count [] ≡ 0 → len ≡ 0 → committed_count (resized len text) ≡ 0
+nothing-left text len none zero =
+    let e : resized 0 text ≡ [] = let z : 0 - length text ≡ 0 = omega arith in rw z refl in
+    rw (zero, e) none
+
+-- nothing stands against a cut that no row refuses
+pub cut-sound : (s : Served) (scene : Scene) (len : ℕ) → committed_count [] ≡ 0 → first_refusal (log_cut_rows s scene len) ≡ None → IsSoundCut (log_text s) len
+cut-sound s scene len empty none =
+    let text : List ℕ = log_text s in
+    let rows = none-holds (log_cut_rows s scene len) none in
+    let long : nat_lt 268435456 len ≡ false = rows.1.0 in
+    let grown : (nat_le (committed_end text) len && nat_lt (committed_count text) (committed_count (resized len text))) ≡ false = rows.1.1.0 in
+    let below : (nat_lt 0 (committed_count text) && not (len == 0) && nat_lt len (committed_end text)) ≡ false = rows.1.1.1.1.0 in
+    record {
+      short = grind (arith, nat_tests, long);
+      part = λ (cuts : CutsCommitted text len). elim cuts [
+        | inl under ↦ not-below (committed_count text) (committed_end text) len (no-end text) below under.0 under.1
+        | inr more ↦ not-grown (committed_count text) (committed_end text) (committed_count (resized len text)) len (no-end text) below grown (nothing-left text len empty) more
+      ];
+    }
+
+-- a cut behind the committed frames leaves them
+count-stays : (text : List ℕ) (len : ℕ) → 0 < committed_count text → committed_end text ≤ len → committed_count text ≤ committed_count (resized len text)
+count-stays text len some long =
+    let test : (committed_count text == 0) ≡ false = grind (arith, nat_tests, some) in
+    let place : committed_end text ≡ frame_place text (committed_count text) = cond-false _ _ _ test in
+    let there : committed_end text ≤ length text = omega (arith, place, (has_committed text (committed_count text) refl some).room) in
+    keeps_count text (resized len text) (take-resized text (committed_end text) len long there)
+
+-- where such a cut leaves no frames, the file is the committed image
+pub cut-settled : (s : Served) (scene : Scene) (len : ℕ) → first_refusal (log_cut_rows s scene len) ≡ None →
+    (has_committed_frames s ≡ false → s.database ≡ clean s.database) → nat_lt 0 (committed_count (resized len (log_text s))) ≡ false → s.database ≡ clean s.database
+cut-settled s scene len none before after =
+    let text : List ℕ = log_text s in
+    let rows = none-holds (log_cut_rows s scene len) none in
+    let below : (nat_lt 0 (committed_count text) && not (len == 0) && nat_lt len (committed_end text)) ≡ false = rows.1.1.1.1.0 in
+    let dirty : (nat_lt 0 (committed_count text) && (len == 0) && not (is_clean s.database)) ≡ false = rows.1.1.1.1.1.0 in
+    elim (cases_lt 0 (committed_count text)) [
+      | inl some ↦
+          let a : nat_lt 0 (committed_count text) ≡ true = grind (arith, nat_tests, some) in
+          elim (cases_eq len 0) [
+            | inl zero ↦ elim (cases_Bool (is_clean s.database)) [
+              | inl tidy ↦ clean-is s.database tidy
+              | inr kept ↦ let b : (len == 0) ≡ true = grind (arith, nat_tests, zero) in let c = rw (a, b, kept) at dirty in absurd cc
+            ]
+            | inr rest ↦ elim (cases_lt len (committed_end text)) [
+              | inl under ↦ absurd (not-below (committed_count text) (committed_end text) len (no-end text) below (λ z. rest z) under)
+              | inr long ↦ absurd (let stays = count-stays text len some long in grind (arith, nat_tests, stays, some, after))
+            ]
+          ]
+      | inr zero ↦ before (grind (arith, nat_tests, zero))
+    ]
+
+-- where the log may be removed, the file is the committed image, unless it has a writer
+pub removed-settled : (s : Served) (scene : Scene) → first_refusal (log_unlink_rows s scene) ≡ None →
+    (has_committed_frames s ≡ false → s.database ≡ clean s.database) → s.database ≡ clean s.database
+removed-settled s scene none before =
+    let dirty : (has_committed_frames s && not (is_clean s.database)) ≡ false = (none-holds (log_unlink_rows s scene) none).1.1.0 in
+    elim (cases_Bool (has_committed_frames s)) [
+      | inl frames ↦ elim (cases_Bool (is_clean s.database)) [
+        | inl tidy ↦ clean-is s.database tidy
+        | inr kept ↦ let c = rw (frames, kept) at dirty in absurd cc
+      ]
+      | inr none ↦ before none
+    ]
+
+-- the files stay sound
+pub cut-log-sound : (s : Served) (scene : Scene) (len : ℕ) → first_refusal (log_cut_rows s scene len) ≡ None → IsSound s →
+    IsSound (record s { log = Some (resized len (log_text s)) })
+cut-log-sound s scene len none sound = record {
+  exclusive = sound.exclusive;
+  torn = sound.torn;
+  apart = sound.apart;
+  journaled = sound.journaled;
+  settled = λ alone frames. cut-settled s scene len none (sound.settled alone) frames;
+}
+
+pub removed-log-sound : (s : Served) (scene : Scene) → first_refusal (log_unlink_rows s scene) ≡ None → IsSound s → IsSound (record s { log = None })
+removed-log-sound s scene none sound = record {
+  exclusive = sound.exclusive;
+  torn = sound.torn;
+  apart = sound.apart;
+  journaled = sound.journaled;
+  settled = λ alone frames. removed-settled s scene none (sound.settled alone);
+}

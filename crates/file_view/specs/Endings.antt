@@ -1,0 +1,62 @@
+-- What happens to the served files beside requests.
+use Rattle.std.specs.Prelude.{◌≡◌, ℕ, ◌==◌, Bool, true, false, Option, Some, None, List, [], ◌∷◌, find, if◌then◌else◌}
+use Rattle.std.specs.Option.{option_map, option_or}
+use Rattle.byte_locks.specs.declared.owner.Owner.{Owner}
+use Rattle.byte_locks.specs.declared.lock_id.LockId.{LockId}
+use Rattle.byte_locks.specs.declared.lock_id.LockId.TheVariants as lock
+use Rattle.byte_locks.specs.LockEntry.{of_session}
+use Rattle.byte_locks.specs.LockList.{is_held, without}
+use Rattle.database_file.specs.DatabaseFile.{clean}
+use Rattle.file_handles.specs.Handles.{without_session}
+use Rattle.shm_index.specs.Shared.{Shared}
+use Rattle.shm_index.specs.Index.{with_index, without_header}
+use Rattle.file_view.specs.Acting.{with_locks}
+use Rattle.file_view.specs.JournalState.{after_waiting}
+use Rattle.file_view.specs.Served.{Served}
+
+-- the uncommitted pages go, and their owner is torn; what frames of the log left in the database file stays
+abbrev pub dropped : Served → Served
+dropped s = dropped_of s.writer where
+  dropped_of : Option Owner → Served
+  dropped_of None = s
+  dropped_of (Some owner) = record s { database = clean s.database; writer = None; torn = Some owner }
+
+-- a session ends: its handles and its locks go, and what goes with these
+abbrev pub ended : Served → ℕ → Served
+ended s session = with_locks (record s { handles = without_session s.handles session }) (without (of_session session) s.locks)
+
+-- the request that waited is done, over the committed image that its change led to
+abbrev pub committed : Served → Served
+committed s = record s {
+  database = clean s.database;
+  journal = record { file = after_waiting s.journal; waiting = None };
+  writer = None;
+  torn = None;
+}
+
+-- the request that waited is given up
+abbrev pub abandoned : Served → Served
+abandoned s = record s { journal = record { file = s.journal.file; waiting = None } }
+
+-- the index once the committed image is another: that of a log without frames; after a drop, which leaves no page size, none
+abbrev pub applied_index : ℕ → ℕ → Shared → Shared
+applied_index page_size commit shared = if page_size == 0 then without_header shared else with_index page_size commit shared
+
+-- the committed image is another, of this page size and number of pages: the database file is that, journal and log have no bytes
+abbrev pub applied : Served → ℕ → ℕ → Served
+applied s page_size commit = record s {
+  database = clean s.database;
+  journal = record { file = option_map (λ _. []) s.journal.file; waiting = s.journal.waiting };
+  log = option_map (λ _. []) s.log;
+  shared = applied_index page_size commit s.shared;
+  writer = None;
+}
+
+-- the locks that hold a frame back, in order, by the mode of the committed image
+unfoldable pub blocking_locks : Bool → List LockId
+blocking_locks false = lock.Pending ∷ lock.Reserved ∷ lock.Shared ∷ []
+blocking_locks true = lock.Write ∷ lock.Ckpt ∷ lock.Recover ∷ lock.Read0 ∷ lock.Read1 ∷ lock.Read2 ∷ lock.Read3 ∷ lock.Read4 ∷ []
+
+-- the first of them that anybody holds
+abbrev pub first_blocking : Served → Bool → Option LockId
+first_blocking s wal = find (is_held s.locks) (blocking_locks wal)

@@ -1,0 +1,52 @@
+ghost use Rattle.std.specs.Prelude.{◌≡◌};
+ghost use Rattle.file_view.specs.declared.fault.ViewFault.TheVariants as fault;
+
+use database_file::FileFault;
+use lf_base::{Errno, Failed, NoMemory};
+
+/// Why a request was refused. The served files are then as before.
+#[derive(Clone, Copy, Debug)]
+pub enum ViewFault {
+    /// A rule refuses it, with this number.
+    Errno(Errno),
+    /// A page of the committed image could not be read.
+    Page(Failed),
+    NoMemory,
+}
+
+impl From<NoMemory> for ViewFault {
+    ghost from_gives = { λ _ f. f ≡ fault.NoMemory };
+
+    fn from(_: NoMemory) -> ViewFault {
+        ViewFault::NoMemory
+    }
+}
+
+impl From<Errno> for ViewFault {
+    ghost from_gives = { λ e f. f ≡ fault.Errno e };
+
+    fn from(errno: Errno) -> ViewFault {
+        ViewFault::Errno(errno)
+    }
+}
+
+impl From<Failed> for ViewFault {
+    ghost from_gives = { λ e f. f ≡ fault.Page e };
+
+    fn from(failed: Failed) -> ViewFault {
+        ViewFault::Page(failed)
+    }
+}
+
+impl From<FileFault> for ViewFault {
+    ghost use Rattle.file_view.specs.FileFaults.{IsFault};
+
+    ghost from_gives = { IsFault };
+
+    fn from(file: FileFault) -> ViewFault {
+        match file {
+            FileFault::Unread => ViewFault::Page(Failed),
+            FileFault::NoMemory => ViewFault::NoMemory,
+        }
+    }
+}

@@ -1,0 +1,32 @@
+//! The files of one database as SQLite sees them, served request by request.
+//!
+//! A view knows what differs from the committed image, the journal, the log, the shared memory, the
+//! locks and the handles. It answers a request, or says which change would commit it; it knows nothing
+//! of the store that keeps the image.
+#![tactic(auto)]
+
+mod acting;
+mod endings;
+mod errno;
+mod fault;
+mod handle_requests;
+mod journal;
+mod journal_calls;
+mod journal_requests;
+mod lock_requests;
+mod log_requests;
+mod name_requests;
+mod plan;
+mod read_requests;
+mod role;
+mod scene;
+mod shared_requests;
+#[cfg(test)]
+mod tests;
+mod view;
+
+pub use fault::ViewFault;
+pub use plan::Plan;
+pub use role::Role;
+pub use scene::Scene;
+pub use view::View;

@@ -1,0 +1,141 @@
+//! LOOKUP and CREATE, and what UNLINK begins with.
+ghost use Rattle.std.specs.Prelude.{◌≡◌, Some, None, IfSome, IfNone, IfOk, IfErr, OnOk, OnErr, is_some, true};
+ghost use Rattle.file_handles.specs.Handles.{least_free, opened};
+ghost use Rattle.file_handles.specs.Names.{file_named as named};
+ghost use Rattle.file_view.specs.NameRules.{is_there, lookup_rows, creating_rows, create_rows, with_file, IsCreated};
+ghost use Rattle.file_view.specs.Refusal.{first_refusal, IsAllowed, HasCause};
+ghost use Rattle.file_view.specs.Served.{exists};
+
+use crate::errno::{EAGAIN, EIO, ENFILE, ENOENT, EPERM, EROFS};
+use crate::fault::ViewFault;
+use crate::scene::Scene;
+use crate::view::View;
+use byte_locks::FileKind;
+use file_handles::{ROOT, file_named};
+use lf_base::{Errno, NoMemory};
+
+impl View {
+    /// The file of a name, if it is there.
+    fn there(&self, scene: &Scene, name: &[u8]) -> Option<FileKind>
+        ensures found { IfSome result (λ file. named self.now.name name.now ≡ Some file) }
+        ensures there { IfSome result (λ file. exists self.now scene.now.role file ≡ true) }
+        ensures some { is_some result ≡ is_there self.now scene.now name.now }
+    {
+        let file = file_named(&self.name, name)?;
+        if self.exists(scene.role, file) {
+            Some(file)
+        } else {
+            None
+        }
+    }
+
+    /// LOOKUP: the file of the name.
+    pub(crate) fn lookup(
+        &self,
+        scene: &Scene,
+        node: u64,
+        name: &[u8],
+    ) -> Result<FileKind, ViewFault>
+        ensures found { IfOk result (λ file. named self.now.name name.now ≡ Some file) }
+        ensures there { IfOk result (λ file. exists self.now scene.now.role file ≡ true) }
+        ensures allowed { OnOk result (IsAllowed (lookup_rows self.now scene.now node name.now)) }
+        ensures cause { IfErr result (HasCause (lookup_rows self.now scene.now node name.now)) }
+    {
+        if node != ROOT {
+            return Err(ViewFault::Errno(ENOENT));
+        }
+        match self.there(scene, name) {
+            Some(file) => Ok(file),
+            None => Err(ViewFault::Errno(ENOENT)),
+        }
+    }
+
+    /// The rule that refuses to make a file, if one does.
+    fn creating_refusal(&self, scene: &Scene, file: FileKind) -> Option<Errno>
+        ensures value { result ≡ first_refusal (creating_rows self.now scene.now (Some file)) }
+        ensures free { IfNone result (file ≡ FileKind.Journal → self.now.journal.waiting ≡ None) }
+    {
+        match file {
+            FileKind::Journal if scene.is_broken => Some(EIO),
+            FileKind::Journal if scene.role.is_replica() => Some(EROFS),
+            FileKind::Journal if self.waits() => Some(EAGAIN),
+            FileKind::Wal if scene.is_broken => Some(EIO),
+            FileKind::Wal if self.waits() => Some(EAGAIN),
+            FileKind::Primary => Some(EPERM),
+            _ => None,
+        }
+    }
+
+    /// The file that CREATE makes or opens, and the number of its new handle.
+    fn creation(&self, scene: &Scene, node: u64, name: &[u8]) -> Result<(FileKind, u64), ViewFault>
+        ensures found { IfOk result (λ made. named self.now.name name.now ≡ Some made.0) }
+        ensures number { IfOk result (λ made. least_free self.now.handles scene.now.session ≡ Some made.1) }
+        ensures free { IfOk result (λ made. made.0 ≡ FileKind.Journal → self.now.journal.waiting ≡ None) }
+        ensures allowed { OnOk result (IsAllowed (create_rows self.now scene.now node name.now)) }
+        ensures cause { IfErr result (HasCause (create_rows self.now scene.now node name.now)) }
+    {
+        if node != ROOT {
+            return Err(ViewFault::Errno(ENOENT));
+        }
+        let Some(file) = file_named(&self.name, name) else {
+            return Err(ViewFault::Errno(EPERM));
+        };
+        let Some(number) = self.handles.least_free(scene.session) else {
+            return Err(ViewFault::Errno(ENFILE));
+        };
+        match self.creating_refusal(scene, file) {
+            Some(errno) => Err(ViewFault::Errno(errno)),
+            None => Ok((file, number)),
+        }
+    }
+
+    /// Makes the shared memory, and opens a handle on it. After want of memory nothing changed.
+    fn create_shared(&mut self, session: u64, number: u64) -> Result<(), NoMemory>
+        requires { self.old.shared.file ≡ None }
+        ensures done { OnOk result (self.new ≡ record (with_file self.old FileKind.Shm) { handles = opened self.old.handles session number FileKind.Shm }) }
+        ensures err { OnErr result (self.new ≡ self.old) }
+    {
+        self.shared.create()?;
+        if let Err(NoMemory) = self.handles.open(session, number, FileKind::Shm) {
+            self.shared.remove();
+            return Err(NoMemory);
+        }
+        Ok(())
+    }
+
+    /// Sees to it that a file is there, and opens a handle on it. After want of memory nothing changed.
+    fn make_file(&mut self, file: FileKind, session: u64, number: u64) -> Result<(), NoMemory>
+        requires { file ≡ FileKind.Journal → self.old.journal.waiting ≡ None }
+        ensures done { OnOk result (self.new ≡ record (with_file self.old file) { handles = opened self.old.handles session number file }) }
+        ensures err { OnErr result (self.new ≡ self.old) }
+    {
+        if file == FileKind::Shm && self.shared.len().is_none() {
+            return self.create_shared(session, number);
+        }
+        self.handles.open(session, number, file)?;
+        match file {
+            FileKind::Journal => self.journal.create(),
+            FileKind::Wal if self.log.len().is_none() => self.log.create(),
+            _ => {}
+        }
+        Ok(())
+    }
+
+    /// CREATE: the file, and the number of its new handle.
+    pub(crate) fn create(
+        &mut self,
+        scene: &Scene,
+        node: u64,
+        name: &[u8],
+    ) -> Result<(FileKind, u64), ViewFault>
+        ensures found { IfOk result (λ made. named self.old.name name.now ≡ Some made.0) }
+        ensures done { IfOk result (λ made. IsCreated self.old scene.now made.0 made.1 self.new) }
+        ensures allowed { OnOk result (IsAllowed (create_rows self.old scene.now node name.now)) }
+        ensures cause { IfErr result (HasCause (create_rows self.old scene.now node name.now)) }
+        ensures err { OnErr result (self.new ≡ self.old) }
+    {
+        let (file, number) = self.creation(scene, node, name)?;
+        self.make_file(file, scene.session, number)?;
+        Ok((file, number))
+    }
+}

@@ -1,0 +1,138 @@
+//! READ.
+ghost use Rattle.std.specs.Prelude.{◌≡◌, ◌-◌, [], IfOk, IfErr, length, min, unwrap_or};
+ghost use Rattle.std.specs.Option.{option_map};
+ghost use Rattle.database_file.specs.DatabaseFile.{FitsShape};
+ghost use Rattle.database_file.specs.Fault.{SameBase, HasCause as HasFileCause};
+ghost use Rattle.file_handles.specs.Texts.{part, line, position_line};
+ghost use Rattle.file_view.specs.Reading.{is_being_written, hides_journal, file_text, IsReading};
+ghost use Rattle.journal_watch.specs.Journal.{bytes_of};
+ghost use Rattle.wal_watch.specs.File.{text_of};
+ghost use Rattle.shm_index.specs.Shared.{bytes_of as shared_bytes};
+
+use crate::journal::Journal;
+use crate::scene::Scene;
+use crate::view::View;
+use byte_locks::{FileKind, LockId, LockTable};
+use database_file::FileFault;
+use file_handles::{copied_from, position_line, with_newline};
+use lf_base::{Bytes, NoMemory, Text};
+use lf_sqlite_pages::PageStore;
+use shm_index::SharedMemory;
+use std::alloc::Global;
+use wal_watch::WalFile;
+
+/// As many zeros as there are bytes from `at` on among `len`, at most `size`.
+fn room_for(alloc: Global, len: u64, at: u64, size: u32) -> Result<Vec<u8>, NoMemory>
+    ensures { IfOk result (λ room. length room.items ≡ min size (len - at)) }
+{
+    let count = len.saturating_sub(at).min(u64::from(size));
+    let room = vec![in alloc; 0; count as usize]?;
+    Ok(room)
+}
+
+fn read_journal(alloc: Global, file: &Journal, at: u64, size: u32) -> Result<Vec<u8>, NoMemory>
+    ensures { IfOk result (λ bytes. bytes.items ≡ part (bytes_of file.now.file) at size) }
+{
+    let mut bytes = room_for(alloc, file.len().unwrap_or(0), at, size)?;
+    let _all = file.read(at, bytes.as_mut_slice());
+    Ok(bytes)
+}
+
+fn read_log(alloc: Global, file: &WalFile, at: u64, size: u32) -> Result<Vec<u8>, NoMemory>
+    ensures { IfOk result (λ bytes. bytes.items ≡ part (text_of file.now) at size) }
+{
+    let mut bytes = room_for(alloc, file.len().unwrap_or(0), at, size)?;
+    let _all = file.read(at, bytes.as_mut_slice());
+    Ok(bytes)
+}
+
+fn read_shared(alloc: Global, file: &SharedMemory, at: u64, size: u32) -> Result<Vec<u8>, NoMemory>
+    ensures { IfOk result (λ bytes. bytes.items ≡ part (shared_bytes file.now) at size) }
+{
+    let mut bytes = room_for(alloc, file.len().unwrap_or(0), at, size)?;
+    let _all = file.read(at, bytes.as_mut_slice());
+    Ok(bytes)
+}
+
+/// The primary's name and a newline, nothing where it isn't known.
+fn host_line(alloc: Global, host: &Option<Text>) -> Result<Vec<u8>, NoMemory>
+    ensures { IfOk result (λ text. text.items ≡ unwrap_or (option_map line host.now) []) }
+{
+    match host {
+        Some(host) => with_newline(alloc, host.bytes()),
+        None => Ok(Vec::new(alloc)),
+    }
+}
+
+/// Whether anybody holds a lock by which a journal is written.
+fn is_being_written(locks: &LockTable) -> bool
+    ensures { result ≡ is_being_written locks.now }
+{
+    locks.writer(LockId::Reserved).is_some()
+        || locks.writer(LockId::Pending).is_some()
+        || locks.writer(LockId::Shared).is_some()
+}
+
+impl View {
+    /// Whether an active journal is hidden.
+    fn hides_journal(&self, scene: &Scene) -> bool
+        ensures { result ≡ hides_journal self.now scene.now }
+    {
+        scene.role.is_replica() && self.journal.is_active() && !is_being_written(&self.locks)
+    }
+
+    /// Bytes of a file other than the database.
+    fn read_text(
+        &self,
+        alloc: Global,
+        scene: &Scene,
+        file: FileKind,
+        at: u64,
+        size: u32,
+    ) -> Result<Vec<u8>, NoMemory>
+        ensures { IfOk result (λ bytes. bytes.items ≡ part (file_text self.now scene.now file) at size) }
+    {
+        match file {
+            FileKind::Database | FileKind::LockFile => copied_from(alloc, &[], at, size),
+            FileKind::Journal if self.hides_journal(scene) => copied_from(alloc, &[], at, size),
+            FileKind::Journal => read_journal(alloc, &self.journal, at, size),
+            FileKind::Wal => read_log(alloc, &self.log, at, size),
+            FileKind::Shm => read_shared(alloc, &self.shared, at, size),
+            FileKind::PosFile => {
+                let text = position_line(alloc, self.position)?;
+                copied_from(alloc, text.as_slice(), at, size)
+            }
+            FileKind::Primary => {
+                let text = host_line(alloc, &self.host)?;
+                copied_from(alloc, text.as_slice(), at, size)
+            }
+        }
+    }
+
+    /// Reads as many bytes of a file from `at` on as there are, at most `size`.
+    pub(crate) fn read_file<S: PageStore>(
+        &self,
+        alloc: Global,
+        scene: &Scene,
+        base: &mut S,
+        file: FileKind,
+        at: u64,
+        size: u32,
+    ) -> Result<Bytes, FileFault>
+        requires fits { FitsShape self.now.database (S.page_size base.old) (S.commit base.old) }
+        ensures done { IfOk result (IsReading (S.image base.old) self.now scene.now file at size) }
+        ensures cause { IfErr result (HasFileCause (S.faults base.old) (S.faults base.new)) }
+        ensures base { SameBase (S.image base.old) (S.image base.new) (S.page_size base.old) (S.page_size base.new) (S.commit base.old) (S.commit base.new) (S.wal_mode base.old) (S.wal_mode base.new) (S.is_broken base.old) (S.is_broken base.new) }
+    {
+        match file {
+            FileKind::Database => {
+                let bytes = self.database.read(alloc, base, at, size)?;
+                Ok(Bytes::of(bytes))
+            }
+            _ => {
+                let bytes = self.read_text(alloc, scene, file, at, size)?;
+                Ok(Bytes::of(bytes))
+            }
+        }
+    }
+}

@@ -1,0 +1,146 @@
+ghost use Rattle.std.specs.Prelude.{◌≡◌, IfOk, None, [], Some};
+ghost use Rattle.wal_watch.specs.Frames.{committed_count};
+ghost use Rattle.file_view.specs.Served.{exists, host_size, file_size, has_committed_frames, waits};
+ghost use Rattle.file_view.specs.Views.{new_view};
+ghost use Rattle.database_file.specs.DatabaseFile.{KeepsNothing};
+
+use crate::journal::Journal;
+use crate::role::Role;
+use crate::scene::Scene;
+use byte_locks::{FileKind, LockTable, Owner};
+use database_file::DatabaseFile;
+use file_handles::Handles;
+use lf_base::{Name, NoMemory, Pos, Text};
+use shm_index::SharedMemory;
+use std::alloc::Global;
+use std::marker::Model;
+use wal_watch::WalFile;
+
+/// The served files of one database: the database file as far as it differs from the committed image,
+/// the journal, the log, the shared memory, the locks and the handles.
+#[derive(Drop)]
+pub struct View {
+    pub(crate) name: Name,
+    pub(crate) database: DatabaseFile,
+    pub(crate) journal: Journal,
+    pub(crate) log: WalFile,
+    pub(crate) shared: SharedMemory,
+    pub(crate) locks: LockTable,
+    pub(crate) handles: Handles,
+    /// The owner of the uncommitted pages, if there are any.
+    pub(crate) writer: Option<Owner>,
+    /// The owner whose uncommitted pages were dropped in the midst of its transaction.
+    pub(crate) torn: Option<Owner>,
+    pub(crate) position: Pos,
+    pub(crate) host: Option<Text>,
+}
+
+impl Model for View {
+    ghost use Rattle.std.specs.Coded.{codes};
+    ghost use Rattle.database_file.specs.DatabaseFile.{database_code};
+    ghost use Rattle.file_view.specs.Served.{Served};
+
+    ghost Value = { Served };
+
+    ghost coded = { Prim.hlevel (codes, database_code) };
+
+    ghost use Rattle.file_view.specs.ServedParts.{served_of, IsKept};
+
+    ghost view = { served_of };
+
+    ghost invariant = { IsKept };
+}
+
+impl View {
+    /// The files of a database of this name, before any request. The database file is the committed
+    /// image, whatever that is.
+    pub fn new(alloc: Global, name: &Name) -> Result<View, NoMemory>
+        ensures value { IfOk result (λ view. view ≡ new_view name.now) }
+        ensures fits { IfOk result (λ view. KeepsNothing view.database) }
+    {
+        Ok(View {
+            name: name.copy()?,
+            database: DatabaseFile::new(alloc),
+            journal: Journal::new(alloc),
+            log: WalFile::new(alloc),
+            shared: SharedMemory::new(alloc),
+            locks: LockTable::new(alloc),
+            handles: Handles::new(alloc),
+            writer: None,
+            torn: None,
+            position: Pos { txid: 0, sum: 0 },
+            host: None,
+        })
+    }
+
+    /// From now on the position reads as this one, and the primary's name as this host's. It takes no
+    /// memory.
+    pub fn told(&mut self, position: Pos, host: Option<Text>)
+        ensures { self.new ≡ record self.old { position = position; host = host } }
+    {
+        self.position = position;
+        self.host = host;
+    }
+
+    /// From now on the position reads as this one. It takes no memory.
+    pub fn told_position(&mut self, position: Pos)
+        ensures { self.new ≡ record self.old { position = position } }
+    {
+        self.position = position;
+    }
+
+    /// Whether a file is there, at a node of this role.
+    pub(crate) fn exists(&self, role: Role, file: FileKind) -> bool
+        ensures { result ≡ exists self.now role file }
+    {
+        match file {
+            FileKind::Database | FileKind::PosFile | FileKind::LockFile => true,
+            FileKind::Journal => self.journal.len().is_some(),
+            FileKind::Wal => self.log.len().is_some(),
+            FileKind::Shm => self.shared.len().is_some(),
+            FileKind::Primary => !role.is_primary() && self.host.is_some(),
+        }
+    }
+
+    /// Whether the log has committed frames.
+    pub(crate) fn has_committed_frames(&self) -> bool
+        ensures { result ≡ has_committed_frames self.now }
+    {
+        self.log.committed_frames() > 0
+    }
+
+    /// Whether a request waits for its commit.
+    pub fn waits(&self) -> bool
+        ensures { result ≡ waits self.now }
+    {
+        self.journal.waits()
+    }
+
+    /// How many bytes the primary's name has, if it is known.
+    fn host_size(&self) -> u64
+        ensures { result ≡ host_size self.now.host }
+    {
+        match &self.host {
+            Some(host) => host.bytes().len() as u64 + 1,
+            None => 0,
+        }
+    }
+
+    /// How many bytes a file has.
+    pub(crate) fn file_size(&self, scene: &Scene, file: FileKind) -> u64
+        ensures { result ≡ file_size self.now scene.now file }
+    {
+        match file {
+            FileKind::Database => {
+                let size = self.database.size_over(scene.page_size, scene.commit);
+                u64::from(self.database.count_over(scene.commit)) * u64::from(size)
+            }
+            FileKind::Journal => self.journal.len().unwrap_or(0),
+            FileKind::Wal => self.log.len().unwrap_or(0),
+            FileKind::Shm => self.shared.len().unwrap_or(0),
+            FileKind::PosFile => 34,
+            FileKind::LockFile => 0,
+            FileKind::Primary => self.host_size(),
+        }
+    }
+}
