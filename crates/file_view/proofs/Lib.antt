@@ -1,4 +1,6 @@
+pub mod DatabaseLemmas
 pub mod FaultLemmas
+pub mod FrameLemmas
 pub mod LogLemmas
 pub mod ReadLemmas
 pub mod RowLemmas

@@ -1,10 +1,12 @@
 -- A read into a buffer that has room for just the bytes that there are.
-use Rattle.std.proofs.Common.{◌≡◌, ℕ, ◌+◌, ◌-◌, ◌≤◌, ◌<◌, min, length, List, [], ◌++◌, take, drop, refl, ap, ◌∙◌, sym, arith, append-nil, length-drop, ⊎_elim, Option, Some, None}
-use Rattle.std.specs.Prelude.{unwrap_or}
+use Rattle.std.proofs.Common.{◌≡◌, ℕ, ◌+◌, ◌-◌, ◌≤◌, ◌<◌, min, length, List, [], ◌++◌, take, drop, refl, ap, ◌∙◌, sym, arith, append-nil, length-drop, ⊎_elim, Option, Some, None, true}
+use Rattle.std.specs.Prelude.{unwrap_or, nat_le}
 use Rattle.std.specs.Option.{option_map}
 use Rattle.std.proofs.lemmas.List.{take_all}
 use Rattle.std.proofs.Math.ListN.{drop_of_length-le}
-use Rattle.std.proofs.lemmas.Bool.{cases_lt}
+use Rattle.std.proofs.lemmas.Bool.{cases_lt, and_parts}
+use Rattle.std.proofs.lemmas.Bool.Decides.{nat_tests}
+use Rattle.journal_watch.specs.Journal.{is_active, bytes_of}
 use Rattle.lf_base.specs.FileBytes.{Reads}
 use Rattle.file_handles.specs.Texts.{part}
 
@@ -42,3 +44,14 @@ filled items out len whole kept =
     let nothing : drop (length out) items ≡ [] = drop_of_length-le items (omega (arith, kept)) in
     let all : length out ≤ len = omega (arith, whole, kept) in
     rw (nothing, append-nil out) (take_all len out all)
+
+-- an active journal has a whole header
+active-long : (file : Option (List ℕ)) → is_active file ≡ true → 28 ≤ length (bytes_of file)
+active-long None h = absurd cc
+active-long (Some bytes) h = let long : nat_le 28 (length bytes) ≡ true = (and_parts _ _ h).0 in grind (arith, nat_tests, long)
+
+pub size_read : (file : Option (List ℕ)) (old new : List ℕ) (n : ℕ) → length old ≡ 4 → is_active file ≡ true → Reads (bytes_of file) 24 old new n →
+    new ≡ take 4 (drop 24 (bytes_of file))
+size_read file old new n four active reads =
+    let long = active-long file active in
+    whole_read (bytes_of file) old new 24 4 n (omega (arith, four, long)) reads

@@ -21,13 +21,10 @@ use Rattle.wal_watch.specs.News.{last_size}
 use Rattle.file_view.specs.declared.scene.Scene.{Scene}
 use Rattle.file_view.specs.Acting.{writes}
 use Rattle.file_view.specs.Errno.{EPERM, EIO, EAGAIN, EACCES, EINVAL, EFBIG, ENOSPC, EROFS}
+use Rattle.file_view.specs.JournalState.{journal_page_size}
 use Rattle.file_view.specs.Refusal.{Row}
 use Rattle.file_view.specs.Roles.{is_replica}
 use Rattle.file_view.specs.Served.{Served, log_text, has_committed_frames, waits}
-
--- the page size in the header of an active journal (SQLite file format, section 3: bytes 24 to 27), if it is one
-abbrev pub journal_page_size : Option (List ℕ) → Option ℕ
-journal_page_size file = if is_active file && is_page_size (be32_at 24 (bytes_of file)) then Some (be32_at 24 (bytes_of file)) else None
 
 -- the page size of a write: that of the committed image where it has pages, else of the file where it has pages, else that of an
 -- active journal, else the one that the bytes of a first page state
@@ -47,8 +44,8 @@ page_count size bytes = length bytes / size
 -- whether a write is of whole pages at a whole page, none of them the lock page
 abbrev pub are_pages : ℕ → ℕ → ℕ → Bool
 are_pages size place len =
-    nat_le 1 (len / size) && (place % size == 0) && (len % size == 0)
-    && (nat_lt (lock_page_of size) (place / size + 1) || nat_lt (place / size + len / size) (lock_page_of size))
+    nat_le 1 (len / size) && ((place % size == 0) && ((len % size == 0)
+    && (nat_lt (lock_page_of size) (place / size + 1) || nat_lt (place / size + len / size) (lock_page_of size))))
 
 -- the most pages of a database: an LTX file of all of them has at most 2,147,483,648 bytes, 4 beside each page and 120 beside all
 abbrev pub most_pages : ℕ → ℕ
@@ -77,6 +74,10 @@ hold_frames text size first bytes = list_all (λ k. holds_frame text (first + k)
 -- whether a committed frame states this size of the database
 abbrev pub states_size : List ℕ → ℕ → Bool
 states_size text count = list_any (λ k. size_in text k == count) (range_with_len 0 (committed_count text))
+
+-- whether the committed frames state this size: the last commit's, or that of an older one, which a commit has overtaken
+abbrev pub is_log_size : List ℕ → ℕ → Bool
+is_log_size text count = nat_lt 0 (committed_count text) && ((count == last_size text) || (not (count == 0) && states_size text count))
 
 -- whether the acting owner may checkpoint: it holds CKPT or EXCLUSIVE
 abbrev pub may_checkpoint : Served → Scene → Option ℕ → Bool
@@ -122,7 +123,7 @@ database_write_rows s scene given place bytes =
 abbrev pub checkpoint_resize_rows : Served → Scene → Option ℕ → ℕ → List Row
 checkpoint_resize_rows s scene given count =
     (not (may_checkpoint s scene given), EACCES)
-    ∷ (not (has_committed_frames s && ((count == last_size (log_text s)) || (not (count == 0) && states_size (log_text s) count))), EPERM)
+    ∷ (not (is_log_size (log_text s) count), EPERM)
     ∷ (waits s, EAGAIN)
     ∷ []
 

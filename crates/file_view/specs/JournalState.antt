@@ -1,8 +1,10 @@
 -- The rollback journal with a call in store: what a call on it does, and which call waits for its commit.
-use Rattle.std.specs.Prelude.{◌≡◌, ℕ, ◌+◌, ◌≤◌, Bool, IsSome, Option, Some, None, List, length}
+use Rattle.std.specs.Prelude.{◌≡◌, ℕ, ◌+◌, ◌≤◌, Bool, ◌&&◌, if◌then◌else◌, IsSome, Option, Some, None, List, length}
 use Rattle.lf_base.specs.FileBytes.{written, resized}
+use Rattle.lf_base.specs.Endian.{be32_at}
 use Rattle.lf_sqlite_pages.specs.Blocks.{IsWithin}
-use Rattle.journal_watch.specs.Journal.{Journal, finishes, bytes_of}
+use Rattle.lf_sqlite_pages.specs.PageSize.{is_page_size}
+use Rattle.journal_watch.specs.Journal.{Journal, is_active, finishes, bytes_of}
 use Rattle.file_view.specs.declared.journal.JournalCall.{JournalCall}
 use Rattle.file_view.specs.declared.journal.JournalCall.TheVariants as call
 
@@ -47,3 +49,7 @@ abbrev pub HasRoom : Journal → JournalCall → Type 0
 HasRoom journal call.Unlink = Unit {0}
 HasRoom journal (call.Cut len) = Unit {0}
 HasRoom journal (call.Write at bytes) = IsWithin journal.room at (length bytes)
+
+-- the page size in the header of an active journal (SQLite file format, section 3: bytes 24 to 27), if it is one
+abbrev pub journal_page_size : Option (List ℕ) → Option ℕ
+journal_page_size file = if is_active file && is_page_size (be32_at 24 (bytes_of file)) then Some (be32_at 24 (bytes_of file)) else None

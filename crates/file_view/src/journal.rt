@@ -1,12 +1,15 @@
 //! The journal with a call in store: room is reserved for a call that waits for its commit.
-ghost use Rattle.std.specs.Prelude.{◌≡◌, ◌≤◌, ◌<◌, ◌^◌, is_some, nat_lt, unwrap_or, [], None, Some, IsSome, OnOk, OnErr, length};
+ghost use Rattle.std.specs.Prelude.{◌≡◌, ◌≤◌, ◌<◌, ◌^◌, is_some, nat_lt, unwrap_or, [], None, Some, IsSome, IfSome, OnOk, OnErr, length, true};
 ghost use Rattle.std.specs.Option.{option_map};
 ghost use Rattle.lf_base.specs.FileBytes.{Reads};
 ghost use Rattle.journal_watch.specs.Journal.{is_active, bytes_of};
-ghost use Rattle.file_view.specs.JournalState.{after_call, after_waiting, reach, call_finishes, called, holding, HasRoom};
+ghost use Rattle.lf_base.specs.Endian.{be32_at};
+ghost use Rattle.lf_sqlite_pages.specs.PageSize.{IsPageSize};
+ghost use Rattle.file_view.specs.JournalState.{journal_page_size, after_call, after_waiting, reach, call_finishes, called, holding, HasRoom};
 
 use journal_watch::{JOURNAL_LIMIT as LIMIT, JournalFile};
 use lf_base::{Bytes, NoMemory};
+use lf_sqlite_pages::is_page_size;
 use std::alloc::Global;
 use std::marker::Model;
 
@@ -47,7 +50,9 @@ pub(crate) struct Journal {
 }
 
 impl Model for Journal {
-    ghost use Rattle.file_view.specs.JournalState.{JournalState};
+    ghost use Rattle.lf_base.specs.Endian.{be32_at};
+ghost use Rattle.lf_sqlite_pages.specs.PageSize.{IsPageSize};
+ghost use Rattle.file_view.specs.JournalState.{journal_page_size, JournalState};
 
     ghost Value = { JournalState };
 
@@ -93,6 +98,16 @@ fn perform(file: &mut JournalFile, call: &JournalCall)
     }
 }
 
+/// The number where a journal's header has its page size.
+fn stated_size(file: &JournalFile) -> u32
+    requires { is_active file.now.file ≡ true }
+    ensures { result ≡ be32_at 24 (bytes_of file.now.file) }
+{
+    let mut field = [0u8; 4];
+    let _all = file.read(24, &mut field);
+    u32::from_be_bytes(field)
+}
+
 impl Journal {
     pub(crate) fn new(alloc: Global) -> Journal
         ensures { result ≡ record { file = None; waiting = None } }
@@ -132,6 +147,18 @@ impl Journal {
         ensures { result ≡ is_active self.now.file }
     {
         self.file.is_active()
+    }
+
+    /// The page size in the header of an active journal, if it is one.
+    pub(crate) fn page_size(&self) -> Option<u32>
+        ensures value { result ≡ journal_page_size self.now.file }
+        ensures sqlite { IfSome result IsPageSize }
+    {
+        if !self.is_active() {
+            return None;
+        }
+        let size = stated_size(&self.file);
+        if is_page_size(size) { Some(size) } else { None }
     }
 
     /// Whether a call would finish the journal.

@@ -6,6 +6,7 @@
 #![tactic(auto)]
 
 mod acting;
+mod database_requests;
 mod endings;
 mod errno;
 mod fault;
