@@ -34,9 +34,9 @@ use Rattle.file_view.proofs.RowLemmas.{NoneHolds, none-holds}
 pub size-some : (size : ℕ) → IsPageSize size → 0 < size
 unfolding is_page_size
 size-some size is = elim (cases_eq size 0) [
-    | inl none ↦ absurd (let e : is_page_size 0 ≡ true = rw none at is in cc)
-    | inr some ↦ omega (arith, some)
-  ]
+  | inl none ↦ absurd (let e : is_page_size 0 ≡ true = rw none at is in cc)
+  | inr some ↦ omega (arith, some)
+]
 
 -- a test whose opposite is false is true
 opposite : (b : Bool) → not b ≡ false → b ≡ true
@@ -87,9 +87,9 @@ uncommitted-owned s scene given size count other none =
 -- a checkpoint
 framed-some : (text : List ℕ) (page : ℕ) (bytes : List ℕ) → holds_frame text page bytes ≡ true → nat_lt 0 (committed_count text) ≡ true
 framed-some text page bytes h = elim (cases_eq (committed_count text) 0) [
-    | inl absent ↦ absurd (let e = rw absent at h in cc)
-    | inr some ↦ grind (arith, nat_tests, some)
-  ]
+  | inl absent ↦ absurd (let e = rw absent at h in cc)
+  | inr some ↦ grind (arith, nat_tests, some)
+]
 
 first-held : (text : List ℕ) (size first : ℕ) (bytes : List ℕ) (n : ℕ) → page_count size bytes ≡ suc n → hold_frames text size first bytes ≡ true → nat_lt 0 (committed_count text) ≡ true
 first-held text size first bytes n count h =
@@ -115,15 +115,15 @@ two-fail false false m n rest h = (refl, refl, h)
 pub write-parts : (s : Served) (scene : Scene) (given : Option ℕ) (place : ℕ) (bytes : List ℕ) (size : ℕ) →
     first_refusal (sized_write_rows s scene given place bytes (Some size)) ≡ None →
     (not (are_pages size place (length bytes)) ≡ false) × (nat_lt (most_pages size) (place / size + page_count size bytes) ≡ false) × (first_refusal
-      (if is_active s.journal.file
-       then uncommitted_rows s scene given size (kept_at_most s.database scene.commit (place / size) (page_count size bytes)) (states_other size place bytes)
-       else checkpoint_rows s scene given size place bytes) ≡ None)
+    (if is_active s.journal.file
+    then uncommitted_rows s scene given size (kept_at_most s.database scene.commit (place / size) (page_count size bytes)) (states_other size place bytes)
+    else checkpoint_rows s scene given size place bytes) ≡ None)
 write-parts s scene given place bytes size none =
     two-fail (not (are_pages size place (length bytes))) (nat_lt (most_pages size) (place / size + page_count size bytes)) EINVAL EFBIG
     (first_refusal
-      (if is_active s.journal.file
-       then uncommitted_rows s scene given size (kept_at_most s.database scene.commit (place / size) (page_count size bytes)) (states_other size place bytes)
-       else checkpoint_rows s scene given size place bytes))
+    (if is_active s.journal.file
+    then uncommitted_rows s scene given size (kept_at_most s.database scene.commit (place / size) (page_count size bytes)) (states_other size place bytes)
+    else checkpoint_rows s scene given size place bytes))
     none
 
 pub write-pages : (s : Served) (scene : Scene) (given : Option ℕ) (place : ℕ) (bytes : List ℕ) (size : ℕ) →
@@ -138,17 +138,17 @@ write-owned s scene given place bytes size none =
     let parts = write-parts s scene given place bytes size none in
     let some : 1 ≤ page_count size bytes = (write-pages s scene given place bytes size none).some in
     elim (cases_Bool (is_active s.journal.file)) [
-    | inl active ↦
-        let rows = rw active at parts.2 in
-        let both = uncommitted-owned s scene given size _ _ rows in
-        record { owned = λ _. both.0; whole = λ _. both.1; framed = λ fails. absurd (let e : true ≡ false = sym active ∙ fails in cc) }
-    | inr idle ↦
-        let rows = rw idle at parts.2 in
-        record {
-          owned = λ holds. absurd (let e : false ≡ true = sym idle ∙ holds in cc);
-          whole = λ holds. absurd (let e : false ≡ true = sym idle ∙ holds in cc);
-          framed = λ _. checkpoint-framed s scene given size place bytes some rows;
-        }
+      | inl active ↦
+          let rows = rw active at parts.2 in
+          let both = uncommitted-owned s scene given size _ _ rows in
+          record { owned = λ _. both.0; whole = λ _. both.1; framed = λ fails. absurd (let e : true ≡ false = sym active ∙ fails in cc) }
+      | inr idle ↦
+          let rows = rw idle at parts.2 in
+          record {
+            owned = λ holds. absurd (let e : false ≡ true = sym idle ∙ holds in cc);
+            whole = λ holds. absurd (let e : false ≡ true = sym idle ∙ holds in cc);
+            framed = λ _. checkpoint-framed s scene given size place bytes some rows;
+          }
     ]
 
 -- the files stay sound while the database file is another
@@ -173,13 +173,13 @@ sound-inactive s d framed sound = record {
 
 pub changed-sound : (s : Served) (d : DatabaseFile) (w : Option Owner) → w ≡ writer_after s → IsOwned s → IsSound s → IsSound (record s { database = d; writer = w })
 changed-sound s d w is owned sound = elim (cases_Bool (is_active s.journal.file)) [
-    | inl holds ↦
-        let e : w ≡ writer_of s.locks lock.Shared = is ∙ cond-true _ _ _ holds in
-        rw e (sound-active s d holds (owned.owned holds) (owned.whole holds) sound)
-    | inr fails ↦
-        let e : w ≡ s.writer = is ∙ cond-false _ _ _ fails in
-        rw e (sound-inactive s d (owned.framed fails) sound)
-  ]
+  | inl holds ↦
+      let e : w ≡ writer_of s.locks lock.Shared = is ∙ cond-true _ _ _ holds in
+      rw e (sound-active s d holds (owned.owned holds) (owned.whole holds) sound)
+  | inr fails ↦
+      let e : w ≡ s.writer = is ∙ cond-false _ _ _ fails in
+      rw e (sound-inactive s d (owned.framed fails) sound)
+]
 
 -- a resize that no row refuses and that changes something
 resize-small : (len size : ℕ) → nat_lt (most_pages size) (len / size) ≡ false → len / size < 2 ^ 31
@@ -207,17 +207,17 @@ resize-rows-owned : (s : Served) (scene : Scene) (given : Option ℕ) (size coun
 resize-rows-owned s scene given size count none other =
     let rest = rw other at none in
     elim (cases_Bool (is_active s.journal.file)) [
-    | inl active ↦
-        let rows = rw active at rest in
-        let both = uncommitted-owned s scene given size (kept_at_most s.database scene.commit count 0) false rows in
-        record { owned = λ _. both.0; whole = λ _. both.1; framed = λ fails. absurd (let e : true ≡ false = sym active ∙ fails in cc) }
-    | inr idle ↦
-        let rows = rw idle at rest in
-        record {
-          owned = λ holds. absurd (let e : false ≡ true = sym idle ∙ holds in cc);
-          whole = λ holds. absurd (let e : false ≡ true = sym idle ∙ holds in cc);
-          framed = λ _. resize-idle s scene given count rows;
-        }
+      | inl active ↦
+          let rows = rw active at rest in
+          let both = uncommitted-owned s scene given size (kept_at_most s.database scene.commit count 0) false rows in
+          record { owned = λ _. both.0; whole = λ _. both.1; framed = λ fails. absurd (let e : true ≡ false = sym active ∙ fails in cc) }
+      | inr idle ↦
+          let rows = rw idle at rest in
+          record {
+            owned = λ holds. absurd (let e : false ≡ true = sym idle ∙ holds in cc);
+            whole = λ holds. absurd (let e : false ≡ true = sym idle ∙ holds in cc);
+            framed = λ _. resize-idle s scene given count rows;
+          }
     ]
 
 pub resize-owned : (s : Served) (scene : Scene) (given : Option ℕ) (len size : ℕ) → first_refusal (sized_resize_rows s scene given len (Some size)) ≡ None →

@@ -37,10 +37,10 @@ pub holds_frame_is : (text : List ℕ) (page : ℕ) (bytes : List ℕ) (r : Bool
 holds_frame_is text page bytes r decides =
     same-test r (holds_frame text page bytes) decides
     (λ holds. let found = found-among _ 0 (committed_count text) holds in
-        let both = and_parts (number_in text found.0 == page) (bytes_eq (page_in text found.0) bytes) found.2 in
-        (found.0, record { among = omega (arith, found.1); number = grind (arith, nat_tests, both.0); same = (bytes_eq-Decides _ _).0 both.1 }))
+    let both = and_parts (number_in text found.0 == page) (bytes_eq (page_in text found.0) bytes) found.2 in
+    (found.0, record { among = omega (arith, found.1); number = grind (arith, nat_tests, both.0); same = (bytes_eq-Decides _ _).0 both.1 }))
     (λ held. any-among _ (committed_count text) held.0 held.1.among
-        (and_from _ _ (grind (arith, nat_tests, held.1.number)) ((bytes_eq-Decides _ _).1 held.1.same)))
+    (and_from _ _ (grind (arith, nat_tests, held.1.number)) ((bytes_eq-Decides _ _).1 held.1.same)))
 
 pub states_size_is : (text : List ℕ) (count : ℕ) (r : Bool) → (IsTrue r ↔ HasSize text count) → r ≡ states_size text count
 states_size_is text count r decides =
@@ -68,6 +68,6 @@ all-less p a (suc n) zero j less is here =
 all-less p a (suc n) (suc k) j less is here =
     let rest = all-less p (a + 1) n k j (omega (arith, less)) (omega (arith, is)) here in
     elim (cases_Bool (p a)) [
-    | inl holds ↦ rw (holds, rest) refl
-    | inr fails ↦ rw fails refl
+      | inl holds ↦ rw (holds, rest) refl
+      | inr fails ↦ rw fails refl
     ]

@@ -51,8 +51,8 @@ pub(crate) struct Journal {
 
 impl Model for Journal {
     ghost use Rattle.lf_base.specs.Endian.{be32_at};
-ghost use Rattle.lf_sqlite_pages.specs.PageSize.{IsPageSize};
-ghost use Rattle.file_view.specs.JournalState.{journal_page_size, JournalState};
+    ghost use Rattle.lf_sqlite_pages.specs.PageSize.{IsPageSize};
+    ghost use Rattle.file_view.specs.JournalState.{journal_page_size, JournalState};
 
     ghost Value = { JournalState };
 

@@ -7,6 +7,7 @@
 
 mod acting;
 mod database_requests;
+mod database_resize;
 mod endings;
 mod errno;
 mod fault;

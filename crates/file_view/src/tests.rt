@@ -50,19 +50,64 @@ fn files_are_made_and_opened(rt: HostRuntime) -> Result<(), Fail> {
     let mut view = view(alloc)?;
     let mut image = image(alloc)?;
     let scene = scene();
-    assert_eq!(rt; matches!(view.lookup(&scene, 1, b"app-journal"), Err(ViewFault::Errno(Errno(2)))), true);
-    assert_eq!(rt; matches!(view.create(&scene, 1, b"app-journal"), Ok((FileKind::Journal, 1))), true);
-    assert_eq!(rt; matches!(view.create(&scene, 1, b"app-journal"), Ok((FileKind::Journal, 2))), true);
-    assert_eq!(rt; matches!(view.create(&scene, 1, b"other"), Err(ViewFault::Errno(Errno(1)))), true);
-    assert_eq!(rt; matches!(view.create(&scene, 1, b"app-shm"), Ok((FileKind::Shm, 3))), true);
-    assert_eq!(rt; matches!(view.create(&scene, 1, b"app-wal"), Ok((FileKind::Wal, 4))), true);
+    assert_eq!(rt;
+        matches!(
+            view.lookup(&scene, 1, b"app-journal"),
+            Err(ViewFault::Errno(Errno(2)))
+        ),
+        true
+    );
+    assert_eq!(rt;
+        matches!(
+            view.create(&scene, 1, b"app-journal"),
+            Ok((FileKind::Journal, 1))
+        ),
+        true
+    );
+    assert_eq!(rt;
+        matches!(
+            view.create(&scene, 1, b"app-journal"),
+            Ok((FileKind::Journal, 2))
+        ),
+        true
+    );
+    assert_eq!(rt;
+        matches!(
+            view.create(&scene, 1, b"other"),
+            Err(ViewFault::Errno(Errno(1)))
+        ),
+        true
+    );
+    assert_eq!(rt;
+        matches!(view.create(&scene, 1, b"app-shm"), Ok((FileKind::Shm, 3))),
+        true
+    );
+    assert_eq!(rt;
+        matches!(view.create(&scene, 1, b"app-wal"), Ok((FileKind::Wal, 4))),
+        true
+    );
     assert_eq!(rt; matches!(view.open(&scene, 2), Ok(5)), true);
-    assert_eq!(rt; matches!(view.handle(&scene, 3, 1), Ok(FileKind::Journal)), true);
-    assert_eq!(rt; matches!(view.handle(&scene, 3, 5), Err(ViewFault::Errno(Errno(9)))), true);
-    assert_eq!(rt; matches!(view.unlink_journal(alloc, &scene, &mut image), Ok(None)), true);
-    assert_eq!(rt; matches!(view.handle(&scene, 3, 1), Err(ViewFault::Errno(Errno(2)))), true);
+    assert_eq!(rt;
+        matches!(view.handle(&scene, 3, 1), Ok(FileKind::Journal)),
+        true
+    );
+    assert_eq!(rt;
+        matches!(view.handle(&scene, 3, 5), Err(ViewFault::Errno(Errno(9)))),
+        true
+    );
+    assert_eq!(rt;
+        matches!(view.unlink_journal(alloc, &scene, &mut image), Ok(None)),
+        true
+    );
+    assert_eq!(rt;
+        matches!(view.handle(&scene, 3, 1), Err(ViewFault::Errno(Errno(2)))),
+        true
+    );
     assert_eq!(rt; view.release(&scene, 3, 1).is_ok(), true);
-    assert_eq!(rt; matches!(view.release(&scene, 3, 1), Err(ViewFault::Errno(Errno(2)))), true);
+    assert_eq!(rt;
+        matches!(view.release(&scene, 3, 1), Err(ViewFault::Errno(Errno(2)))),
+        true
+    );
     assert_eq!(rt; view.remove_log(&scene).is_ok(), true);
     Ok(())
 }
@@ -76,17 +121,62 @@ fn locks_are_granted_and_released(rt: HostRuntime) -> Result<(), Fail> {
     let _number = view.open(&scene, 2);
     let shared = locks_at(2, 0x4000_0002, 0x4000_01ff);
     let pending = locks_at(2, 0x4000_0000, 0x4000_0000);
-    assert_eq!(rt; view.setlk(&scene, 2, 1, owner(7), shared, LockWish::Read).is_ok(), true);
-    assert_eq!(rt; view.setlk(&scene, 2, 1, owner(8), shared, LockWish::Read).is_ok(), true);
-    assert_eq!(rt; matches!(view.setlk(&scene, 2, 1, owner(8), shared, LockWish::Write), Err(ViewFault::Errno(Errno(11)))), true);
-    assert_eq!(rt; matches!(view.getlk(&scene, 2, 1, owner(8), 0x4000_0002, 0x4000_0002, LockWish::Write), Ok(Reply::Lock { start: 0x4000_0002, end: 0x4000_01ff, kind: LockWish::Read })), true);
-    assert_eq!(rt; view.setlk(&scene, 2, 1, owner(7), pending, LockWish::Write).is_ok(), true);
-    assert_eq!(rt; (view.apply_clear(false), view.apply_clear(true)), (Err(LockId::Pending), Ok(())));
+    assert_eq!(rt;
+        view.setlk(&scene, 2, 1, owner(7), shared, LockWish::Read)
+            .is_ok(),
+        true
+    );
+    assert_eq!(rt;
+        view.setlk(&scene, 2, 1, owner(8), shared, LockWish::Read)
+            .is_ok(),
+        true
+    );
+    assert_eq!(rt;
+        matches!(
+            view.setlk(&scene, 2, 1, owner(8), shared, LockWish::Write),
+            Err(ViewFault::Errno(Errno(11)))
+        ),
+        true
+    );
+    assert_eq!(rt;
+        matches!(
+            view.getlk(
+                &scene,
+                2,
+                1,
+                owner(8),
+                0x4000_0002,
+                0x4000_0002,
+                LockWish::Write
+            ),
+            Ok(Reply::Lock {
+                start: 0x4000_0002,
+                end: 0x4000_01ff,
+                kind: LockWish::Read
+            })
+        ),
+        true
+    );
+    assert_eq!(rt;
+        view.setlk(&scene, 2, 1, owner(7), pending, LockWish::Write)
+            .is_ok(),
+        true
+    );
+    assert_eq!(rt;
+        (view.apply_clear(false), view.apply_clear(true)),
+        (Err(LockId::Pending), Ok(()))
+    );
     assert_eq!(rt; view.flush(&scene, 2, 1, owner(7)).is_ok(), true);
-    assert_eq!(rt; (view.held(LockId::Pending), view.held(LockId::Shared)), (false, true));
+    assert_eq!(rt;
+        (view.held(LockId::Pending), view.held(LockId::Shared)),
+        (false, true)
+    );
     view.end_session(1);
     assert_eq!(rt; view.apply_clear(false), Ok(()));
-    assert_eq!(rt; matches!(view.handle(&scene, 2, 1), Err(ViewFault::Errno(Errno(9)))), true);
+    assert_eq!(rt;
+        matches!(view.handle(&scene, 2, 1), Err(ViewFault::Errno(Errno(9)))),
+        true
+    );
     Ok(())
 }
 
@@ -96,15 +186,39 @@ fn texts_read_as_they_were_told(rt: HostRuntime) -> Result<(), Fail> {
     let alloc = rt.alloc();
     let mut view = view(alloc)?;
     let mut image = image(alloc)?;
-    let scene = Scene { role: Role::Replica, ..scene() };
+    let scene = Scene {
+        role: Role::Replica,
+        ..scene()
+    };
     assert_eq!(rt; view.exists(Role::Replica, FileKind::Primary), false);
-    view.told(Pos { txid: 1, sum: 1 << 63 }, Some(Text::of(alloc, "node-1")?));
-    assert_eq!(rt; (view.exists(Role::Replica, FileKind::Primary), view.exists(Role::Primary, FileKind::Primary)), (true, false));
+    view.told(
+        Pos {
+            txid: 1,
+            sum: 1 << 63,
+        },
+        Some(Text::of(alloc, "node-1")?),
+    );
+    assert_eq!(rt;
+        (
+            view.exists(Role::Replica, FileKind::Primary),
+            view.exists(Role::Primary, FileKind::Primary)
+        ),
+        (true, false)
+    );
     let position = view.read_file(alloc, &scene, &mut image, FileKind::PosFile, 0, 100)?;
-    assert_eq!(rt; position.as_slice(), b"0000000000000001/8000000000000000\n".as_slice());
+    assert_eq!(rt;
+        position.as_slice(),
+        b"0000000000000001/8000000000000000\n".as_slice()
+    );
     let host = view.read_file(alloc, &scene, &mut image, FileKind::Primary, 5, 100)?;
     assert_eq!(rt; host.as_slice(), b"1\n".as_slice());
-    assert_eq!(rt; (view.file_size(&scene, FileKind::Primary), view.file_size(&scene, FileKind::Database)), (7, 1024));
+    assert_eq!(rt;
+        (
+            view.file_size(&scene, FileKind::Primary),
+            view.file_size(&scene, FileKind::Database)
+        ),
+        (7, 1024)
+    );
     Ok(())
 }
 
@@ -117,21 +231,56 @@ fn a_journal_is_written_and_finished(rt: HostRuntime) -> Result<(), Fail> {
     let scene = scene();
     let _database = view.open(&scene, 2);
     let _journal = view.create(&scene, 1, b"app-journal");
-    assert_eq!(rt; matches!(view.write_journal(alloc, &scene, &mut image, Some(7), 0, &MAGIC), Err(ViewFault::Errno(Errno(13)))), true);
+    assert_eq!(rt;
+        matches!(
+            view.write_journal(alloc, &scene, &mut image, Some(7), 0, &MAGIC),
+            Err(ViewFault::Errno(Errno(13)))
+        ),
+        true
+    );
     let reserved = locks_at(2, 0x4000_0001, 0x4000_0001);
-    assert_eq!(rt; view.setlk(&scene, 2, 1, owner(7), reserved, LockWish::Write).is_ok(), true);
-    assert_eq!(rt; matches!(view.write_journal(alloc, &scene, &mut image, Some(7), 0, &MAGIC), Ok(None)), true);
-    assert_eq!(rt; matches!(view.write_journal(alloc, &scene, &mut image, Some(7), 20, &[0; 8]), Ok(None)), true);
+    assert_eq!(rt;
+        view.setlk(&scene, 2, 1, owner(7), reserved, LockWish::Write)
+            .is_ok(),
+        true
+    );
+    assert_eq!(rt;
+        matches!(
+            view.write_journal(alloc, &scene, &mut image, Some(7), 0, &MAGIC),
+            Ok(None)
+        ),
+        true
+    );
+    assert_eq!(rt;
+        matches!(
+            view.write_journal(alloc, &scene, &mut image, Some(7), 20, &[0; 8]),
+            Ok(None)
+        ),
+        true
+    );
     assert_eq!(rt; view.journal.is_active(), true);
-    let replica = Scene { role: Role::Replica, ..scene };
+    let replica = Scene {
+        role: Role::Replica,
+        ..scene
+    };
     let seen = view.read_file(alloc, &replica, &mut image, FileKind::Journal, 0, 4)?;
     assert_eq!(rt; seen.as_slice(), &MAGIC[..4]);
     assert_eq!(rt; view.flush(&scene, 2, 1, owner(7)).is_ok(), true);
     let hidden = view.read_file(alloc, &replica, &mut image, FileKind::Journal, 0, 4)?;
     assert_eq!(rt; hidden.as_slice().len(), 0);
-    assert_eq!(rt; view.setlk(&scene, 2, 1, owner(7), reserved, LockWish::Write).is_ok(), true);
+    assert_eq!(rt;
+        view.setlk(&scene, 2, 1, owner(7), reserved, LockWish::Write)
+            .is_ok(),
+        true
+    );
     let cut = JournalCall::Cut { len: 0 };
-    assert_eq!(rt; matches!(view.change_journal(alloc, &scene, &mut image, Some(7), cut), Ok(None)), true);
+    assert_eq!(rt;
+        matches!(
+            view.change_journal(alloc, &scene, &mut image, Some(7), cut),
+            Ok(None)
+        ),
+        true
+    );
     assert_eq!(rt; view.journal.is_active(), false);
     Ok(())
 }
@@ -144,8 +293,20 @@ fn shared_memory_has_an_index(rt: HostRuntime) -> Result<(), Fail> {
     let mut image = image(alloc)?;
     let scene = scene();
     let _shared = view.create(&scene, 1, b"app-shm");
-    assert_eq!(rt; matches!(view.resize_shared(8_388_609), Err(ViewFault::Errno(Errno(28)))), true);
-    assert_eq!(rt; matches!(view.write_shared(8_388_600, &[0; 9]), Err(ViewFault::Errno(Errno(28)))), true);
+    assert_eq!(rt;
+        matches!(
+            view.resize_shared(8_388_609),
+            Err(ViewFault::Errno(Errno(28)))
+        ),
+        true
+    );
+    assert_eq!(rt;
+        matches!(
+            view.write_shared(8_388_600, &[0; 9]),
+            Err(ViewFault::Errno(Errno(28)))
+        ),
+        true
+    );
     assert_eq!(rt; view.resize_shared(32_768).is_ok(), true);
     view.applied(4096, 100);
     let index = view.read_file(alloc, &scene, &mut image, FileKind::Shm, 0, 24)?;
