@@ -316,3 +316,190 @@ fn shared_memory_has_an_index(rt: HostRuntime) -> Result<(), Fail> {
     assert_eq!(rt; none.as_slice(), &[0u8; 4][..]);
     Ok(())
 }
+
+/// A transaction in rollback mode: a page is written, and the end of the journal tells the change.
+#[test]
+fn a_transaction_commits(rt: HostRuntime) -> Result<(), Fail> {
+    let alloc = rt.alloc();
+    let mut view = view(alloc)?;
+    let mut image = image(alloc)?;
+    let scene = scene();
+    let page = vec![in alloc; 9u8; 512]?;
+    let _database = view.open(&scene, 2);
+    let _journal = view.create(&scene, 1, b"app-journal");
+    assert_eq!(rt;
+        matches!(
+            view.write_database(alloc, &scene, &mut image, Some(7), 512, page.as_slice()),
+            Err(ViewFault::Errno(Errno(13)))
+        ),
+        true
+    );
+    let shared = locks_at(2, 0x4000_0002, 0x4000_01ff);
+    assert_eq!(rt;
+        view.setlk(&scene, 2, 1, owner(7), shared, LockWish::Write)
+            .is_ok(),
+        true
+    );
+    assert_eq!(rt;
+        matches!(
+            view.write_database(alloc, &scene, &mut image, Some(7), 512, page.as_slice()),
+            Err(ViewFault::Errno(Errno(1)))
+        ),
+        true
+    );
+    let mut header = vec![in alloc; 0u8; 28]?;
+    header.as_mut_slice()[..8].copy_from_slice(&MAGIC);
+    assert_eq!(rt;
+        matches!(
+            view.write_journal(alloc, &scene, &mut image, Some(7), 0, header.as_slice()),
+            Ok(None)
+        ),
+        true
+    );
+    assert_eq!(rt;
+        matches!(
+            view.write_database(alloc, &scene, &mut image, Some(7), 0, &[0; 100]),
+            Err(ViewFault::Errno(Errno(22)))
+        ),
+        true
+    );
+    assert_eq!(rt;
+        matches!(
+            view.write_database(alloc, &scene, &mut image, Some(8), 512, page.as_slice()),
+            Err(ViewFault::Errno(Errno(13)))
+        ),
+        true
+    );
+    assert_eq!(rt;
+        matches!(
+            view.write_database(
+                alloc,
+                &scene,
+                &mut image,
+                Some(7),
+                0x4000_0000,
+                page.as_slice()
+            ),
+            Err(ViewFault::Errno(Errno(22)))
+        ),
+        true
+    );
+    assert_eq!(rt;
+        view.write_database(alloc, &scene, &mut image, Some(7), 512, page.as_slice())
+            .is_ok(),
+        true
+    );
+    assert_eq!(rt;
+        matches!(
+            view.resize_database(alloc, &scene, &mut image, Some(7), 700),
+            Err(ViewFault::Errno(Errno(22)))
+        ),
+        true
+    );
+    assert_eq!(rt;
+        view.resize_database(alloc, &scene, &mut image, Some(7), 1536)
+            .is_ok(),
+        true
+    );
+    let seen = view.read_file(alloc, &scene, &mut image, FileKind::Database, 510, 4)?;
+    assert_eq!(rt; seen.as_slice(), &[0u8, 0, 9, 9][..]);
+    let cut = JournalCall::Cut { len: 0 };
+    let pages = match view.change_journal(alloc, &scene, &mut image, Some(7), cut) {
+        Ok(Some(change)) => {
+            image.apply(&change)?;
+            change.pages().len()
+        }
+        _ => 99,
+    };
+    assert_eq!(rt;
+        (pages, view.waits(), view.journal.is_active()),
+        (2, true, true)
+    );
+    assert_eq!(rt;
+        matches!(
+            view.write_journal(alloc, &scene, &mut image, Some(7), 0, &MAGIC),
+            Err(ViewFault::Errno(Errno(11)))
+        ),
+        true
+    );
+    view.commit_done();
+    assert_eq!(rt;
+        (
+            view.waits(),
+            view.journal.is_active(),
+            view.database.is_clean()
+        ),
+        (false, false, true)
+    );
+    let after = Scene { commit: 3, ..scene };
+    assert_eq!(rt; view.file_size(&after, FileKind::Database), 1536);
+    Ok(())
+}
+
+/// A role that is lost in the midst of a transaction tears it: its writes and its end fail until it unlocks.
+#[test]
+fn a_torn_owner_commits_nothing(rt: HostRuntime) -> Result<(), Fail> {
+    let alloc = rt.alloc();
+    let mut view = view(alloc)?;
+    let mut image = image(alloc)?;
+    let scene = scene();
+    let page = vec![in alloc; 9u8; 512]?;
+    let _database = view.open(&scene, 2);
+    let _journal = view.create(&scene, 1, b"app-journal");
+    let shared = locks_at(2, 0x4000_0002, 0x4000_01ff);
+    assert_eq!(rt;
+        view.setlk(&scene, 2, 1, owner(7), shared, LockWish::Write)
+            .is_ok(),
+        true
+    );
+    let mut header = vec![in alloc; 0u8; 28]?;
+    header.as_mut_slice()[..8].copy_from_slice(&MAGIC);
+    assert_eq!(rt;
+        matches!(
+            view.write_journal(alloc, &scene, &mut image, Some(7), 0, header.as_slice()),
+            Ok(None)
+        ),
+        true
+    );
+    assert_eq!(rt;
+        view.write_database(alloc, &scene, &mut image, Some(7), 512, page.as_slice())
+            .is_ok(),
+        true
+    );
+    view.drop_uncommitted();
+    assert_eq!(rt; view.database.is_clean(), true);
+    assert_eq!(rt;
+        matches!(
+            view.write_database(alloc, &scene, &mut image, Some(7), 512, page.as_slice()),
+            Err(ViewFault::Errno(Errno(5)))
+        ),
+        true
+    );
+    let cut = JournalCall::Cut { len: 0 };
+    assert_eq!(rt;
+        matches!(
+            view.change_journal(alloc, &scene, &mut image, Some(7), cut),
+            Err(ViewFault::Errno(Errno(5)))
+        ),
+        true
+    );
+    assert_eq!(rt;
+        view.setlk(&scene, 2, 1, owner(7), shared, LockWish::Unlock)
+            .is_ok(),
+        true
+    );
+    assert_eq!(rt;
+        view.setlk(&scene, 2, 1, owner(7), shared, LockWish::Write)
+            .is_ok(),
+        true
+    );
+    let cut = JournalCall::Cut { len: 0 };
+    assert_eq!(rt;
+        matches!(
+            view.change_journal(alloc, &scene, &mut image, Some(7), cut),
+            Ok(None)
+        ),
+        true
+    );
+    Ok(())
+}
