@@ -1,0 +1,7 @@
+pub mod Lists
+pub mod Spending
+pub mod Reading
+pub mod Feeds
+pub mod Asks
+pub mod Seats
+pub mod Talking

@@ -1,0 +1,7 @@
+pub mod Spending
+pub mod Reading
+pub mod Messages
+pub mod Writing
+pub mod Asking
+pub mod Seats
+pub mod Rounds

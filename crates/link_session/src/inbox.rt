@@ -1,0 +1,144 @@
+ghost use Rattle.std.specs.Prelude.{◌≡◌, ◌++◌, true, false, [], Ok, IfOk, OnOk, IfErr};
+ghost use Rattle.std.specs.Io.KnownBytes.{Keeps};
+ghost use Rattle.link_session.specs.declared.stage.Stage.TheVariants as stages;
+ghost use Rattle.link_session.specs.Spending.{MovesFor};
+ghost use Rattle.link_session.specs.Reading.{coming, text_of, EndsReading, Faulted};
+
+use crate::feed::{Feed, FeedFault};
+use crate::piece::Piece;
+use crate::turns::Turns;
+use lf_base::{Link, NoMemory, SessionEnd};
+use std::alloc::Global;
+use std::marker::Model;
+
+/// The messages of a link, in whatever pieces they come.
+#[derive(Drop)]
+pub struct Inbox<F: Feed + Drop> {
+    feed: F,
+    piece: Piece,
+}
+
+impl<F: Feed + Drop> Model for Inbox<F> {
+    ghost use Rattle.link_session.specs.Reading.{Held};
+
+    ghost Value = { Held };
+
+    ghost view = { λ s. record { message = F.held s.feed; ahead = s.piece; limit = F.limit s.feed; stage = F.stage s.feed } };
+}
+
+impl<F: Feed + Drop> Inbox<F> {
+    /// Holds what the feed holds, and nothing that was read ahead.
+    pub fn new(alloc: Global, feed: F) -> Result<Inbox<F>, NoMemory>
+        ensures { IfOk result (λ inbox. inbox ≡ record { message = F.held feed; ahead = []; limit = F.limit feed; stage = F.stage feed }) }
+    {
+        let piece = Piece::new(alloc)?;
+        Ok(Inbox { feed, piece })
+    }
+
+    /// Reads on until a message is whole. Each read is a turn.
+    ///
+    /// Closed at the end of input between messages; BadMessage where the input begins no message, or
+    /// ends inside one; ReadFault where the link's count of faults rose; Turns where none is left.
+    pub fn read_message<L: Link>(
+        &mut self,
+        link: &mut L,
+        turns: &mut Turns,
+    ) -> Result<(), SessionEnd>
+        requires { self.old.stage ≡ stages.Open }
+        ensures whole { OnOk result (F.message self.old.limit self.new.message × (self.new.stage ≡ stages.Whole)) }
+        ensures same { OnOk result (Keeps (coming self.old (L.left link.old)) (coming self.new (L.left link.new)) × (self.new.limit ≡ self.old.limit)) }
+        ensures taken { Keeps (L.taken link.old) (L.taken link.new) }
+        ensures spent { MovesFor result turns.old (L.moves link.old) turns.new (L.moves link.new) }
+        ensures cause { EndsReading (F.partial self.old.limit) (F.broken self.old.limit) (coming self.old (L.left link.old)) (L.left link.new) (L.faults link.old) (L.faults link.new) turns.new result }
+    {
+        read_whole(&mut self.feed, &mut self.piece, link, turns)
+    }
+
+    /// Goes on with messages of another kind; what was read ahead stays.
+    pub fn change<G: Feed + Drop>(self, feed: G) -> Inbox<G>
+        requires { self.message ≡ [] }
+        ensures { result ≡ record { message = G.held feed; ahead = self.ahead; limit = G.limit feed; stage = G.stage feed } }
+    {
+        let Inbox { feed: _, piece } = self;
+        Inbox { feed, piece }
+    }
+
+    /// What gathers the messages.
+    pub fn feed(&self) -> &F
+        ensures held { F.held result.now ≡ self.now.message }
+        ensures stage { F.stage result.now ≡ self.now.stage }
+    {
+        &self.feed
+    }
+
+    /// Takes out the message that is whole, and goes on behind it.
+    pub fn next(&mut self) -> F::Message
+        requires { self.old.stage ≡ stages.Whole }
+        ensures message { F.stands_for result self.old.message }
+        ensures next { self.new ≡ record self.old { message = []; stage = stages.Open } }
+    {
+        self.feed.next()
+    }
+}
+
+/// Reads on until a message is whole.
+fn read_whole<F: Feed, L: Link>(
+    feed: &mut F,
+    piece: &mut Piece,
+    link: &mut L,
+    turns: &mut Turns,
+) -> Result<(), SessionEnd>
+    requires { F.stage feed.old ≡ stages.Open }
+    ensures whole { OnOk result (F.message (F.limit feed.old) (F.held feed.new) × (F.stage feed.new ≡ stages.Whole)) }
+    ensures same { OnOk result (Keeps (text_of (F.held feed.old) piece.old (L.left link.old)) (text_of (F.held feed.new) piece.new (L.left link.new)) × (F.limit feed.new ≡ F.limit feed.old)) }
+    ensures taken { Keeps (L.taken link.old) (L.taken link.new) }
+    ensures spent { MovesFor result turns.old (L.moves link.old) turns.new (L.moves link.new) }
+    ensures cause { EndsReading (F.partial (F.limit feed.old)) (F.broken (F.limit feed.old)) (text_of (F.held feed.old) piece.old (L.left link.old)) (L.left link.new) (L.faults link.old) (L.faults link.new) turns.new result }
+{
+    loop {
+        match feed_some(feed, piece) {
+            Ok(true) => return Ok(()),
+            Ok(false) => {}
+            Err(FeedFault::Broken) => return Err(SessionEnd::BadMessage),
+            Err(FeedFault::NoMemory) => return Err(SessionEnd::NoMemory),
+        }
+        match turns.take() {
+            Ok(()) => {}
+            Err(_) => return Err(SessionEnd::Turns),
+        }
+        match piece.refill(link) {
+            Ok(()) => {}
+            Err(_) => return Err(SessionEnd::ReadFault),
+        }
+        if piece.unread().is_empty() {
+            if feed.is_between() {
+                return Err(SessionEnd::Closed);
+            }
+            return Err(SessionEnd::BadMessage);
+        }
+    }
+}
+
+/// Feeds what is unread, and tells whether a message is whole; where none is, all was fed.
+fn feed_some<F: Feed>(feed: &mut F, piece: &mut Piece) -> Result<bool, FeedFault>
+    requires { F.stage feed.old ≡ stages.Open }
+    ensures whole { result ≡ Ok true → F.message (F.limit feed.old) (F.held feed.new) × (F.stage feed.new ≡ stages.Whole) }
+    ensures part { result ≡ Ok false → F.partial (F.limit feed.old) (F.held feed.new) × (F.stage feed.new ≡ stages.Open) × (piece.new ≡ []) }
+    ensures same { OnOk result (F.held feed.new ++ piece.new ≡ F.held feed.old ++ piece.old) }
+    ensures fault { IfErr result (Faulted (F.broken (F.limit feed.old)) (F.held feed.old ++ piece.old)) }
+    ensures limit { F.limit feed.new ≡ F.limit feed.old }
+{
+    let unread = piece.unread();
+    let count = unread.len();
+    match feed.take(unread) {
+        Ok(None) => {
+            piece.skip(count);
+            Ok(false)
+        }
+        Ok(Some(used)) => {
+            piece.skip(used);
+            Ok(true)
+        }
+        Err(fault) => Err(fault),
+    }
+}

@@ -1,0 +1,29 @@
+//! What every session on a link stands on: a budget of turns, messages read in whatever pieces they
+//! come, texts written whole, asks repeated until they are settled, and the rounds of a conversation.
+//!
+//! It knows no message's meaning and no node: a `Feed` says where a message ends, `Steps` ask a
+//! machine.
+#![tactic(auto)]
+
+mod asking;
+mod feed;
+mod inbox;
+mod message_feed;
+mod patience;
+mod piece;
+mod seat;
+mod stage;
+mod steps;
+mod turns;
+mod writing;
+
+pub use asking::ask_until;
+pub use feed::{Feed, FeedFault};
+pub use inbox::Inbox;
+pub use patience::{Patience, Timed};
+pub use piece::Piece;
+pub use seat::AtSeat;
+pub use stage::Stage;
+pub use steps::Steps;
+pub use turns::Turns;
+pub use writing::write_whole;

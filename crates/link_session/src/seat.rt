@@ -1,0 +1,40 @@
+//! A seat of a desk, as one that asks steps.
+ghost use Rattle.std.specs.Prelude.{◌≡◌};
+ghost use Rattle.turn_desk.specs.History.{IsLegal};
+ghost use Rattle.turn_desk.specs.Seats.{view, number_of, opened_on, IsOf};
+ghost use Rattle.link_session.specs.Seats.{FoundWorn, Gives};
+
+use crate::steps::Steps;
+use std::sync::Wait;
+use turn_desk::{Desk, Machine, Seat, Worn};
+
+/// A seat at its desk.
+#[derive(Drop)]
+pub struct AtSeat<'a, M: Machine, R> {
+    pub rt: R,
+    pub desk: &'a Desk<M>,
+    pub seat: &'a mut Seat<M>,
+    pub ghost at: { IsOf seat.now desk.now },
+}
+
+impl<M: Machine, R: Wait + Copy> Steps for AtSeat<'_, M, R> {
+    type Ask = M::Ask;
+
+    type Answer = M::Answer;
+
+    ghost entries = { λ s. (view s.seat.now).mine };
+
+    ghost number = { λ s. number_of s.seat.now };
+
+    ghost of = { λ s. s.seat.ghost_name };
+
+    ghost is_legal = { λ s. IsLegal M.steps (opened_on s.desk.now) (view s.seat.now).seen };
+
+    ghost is_worn = { λ s. FoundWorn s.seat.now };
+
+    ghost gives = { Gives M.steps };
+
+    fn ask(&mut self, ask: &M::Ask) -> Result<M::Answer, Worn> {
+        self.desk.step(self.rt, self.seat, ask)
+    }
+}
