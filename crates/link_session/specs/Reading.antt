@@ -1,5 +1,5 @@
 -- Messages that come over a link in pieces.
-use Rattle.std.specs.Prelude.{take, None, Some, ◌≡◌, ◌≢◌, ℕ, ◌≤◌, List, [], ◌++◌, length, Option, Result, Ok, Err, IfSome}
+use Rattle.std.specs.Prelude.{Bool, true, take, None, Some, ◌≡◌, ◌≢◌, ℕ, ◌≤◌, List, [], ◌++◌, length, Option, Result, Ok, Err, IfSome}
 use Rattle.std.specs.Io.KnownBytes.{Consumes, IsAtEnd, prepend_known}
 use Rattle.lf_base.specs.Faults.{Rose}
 use Rattle.lf_base.specs.declared.session_end.SessionEnd.{SessionEnd}
@@ -29,10 +29,10 @@ abbrev pub Took : (List ℕ → Type 0) → (List ℕ → Type 0) → List ℕ �
 Took Message Partial old piece new stage None = Partial new × (new ≡ old ++ piece) × (stage ≡ stages.Open)
 Took Message Partial old piece new stage (Some used) = Message new × (used ≤ length piece) × (new ≡ old ++ take used piece) × (stage ≡ stages.Whole)
 
--- why a feed took nothing: no message begins so, or memory ran out
-abbrev pub Faulted : (List ℕ → Type 0) → List ℕ → FeedFault → Type 0
-Faulted Broken text fault.Broken = Broken text
-Faulted Broken text fault.NoMemory = Unit {0}
+-- why a feed took nothing: no message begins so, or it takes memory and there was none
+abbrev pub Faulted : Bool → (List ℕ → Type 0) → List ℕ → FeedFault → Type 0
+Faulted memory Broken text fault.Broken = Broken text
+Faulted memory Broken text fault.NoMemory = memory ≡ true
 
 -- the bytes that were read of a text are less than a message
 pub record IsUnread (Partial : List ℕ → Type 0) (text left : Option (List ℕ)) : Type 0 where
@@ -58,11 +58,11 @@ abbrev pub IsReadOn : Option (List ℕ) → Option (List ℕ) → Type 0
 IsReadOn text left = (bytes : List ℕ) × Consumes text left bytes
 
 -- why reading ended without a message, of this text; and what became of the count of faults
-abbrev pub EndsReading : {T : Type 0} → (List ℕ → Type 0) → (List ℕ → Type 0) → Option (List ℕ) → Option (List ℕ) → ℕ → ℕ → ℕ → Result T SessionEnd → Type 0
-EndsReading Partial Broken text left before now turns (Ok _) = now ≡ before
-EndsReading Partial Broken text left before now turns (Err ends.Closed) = IsAtEnd text × IsAtEnd left × (now ≡ before)
-EndsReading Partial Broken text left before now turns (Err ends.BadMessage) = IsUnreadable Partial Broken text left × (now ≡ before)
-EndsReading Partial Broken text left before now turns (Err ends.ReadFault) = IsUnread Partial text left × Rose before now
-EndsReading Partial Broken text left before now turns (Err ends.Turns) = IsUnread Partial text left × (turns ≡ 0) × (now ≡ before)
-EndsReading Partial Broken text left before now turns (Err ends.NoMemory) = IsReadOn text left × (now ≡ before)
-EndsReading Partial Broken text left before now turns (Err _) = ⊥
+abbrev pub EndsReading : {T : Type 0} → Bool → (List ℕ → Type 0) → (List ℕ → Type 0) → Option (List ℕ) → Option (List ℕ) → ℕ → ℕ → ℕ → Result T SessionEnd → Type 0
+EndsReading memory Partial Broken text left before now turns (Ok _) = now ≡ before
+EndsReading memory Partial Broken text left before now turns (Err ends.Closed) = IsAtEnd text × IsAtEnd left × (now ≡ before)
+EndsReading memory Partial Broken text left before now turns (Err ends.BadMessage) = IsUnreadable Partial Broken text left × (now ≡ before)
+EndsReading memory Partial Broken text left before now turns (Err ends.ReadFault) = IsUnread Partial text left × Rose before now
+EndsReading memory Partial Broken text left before now turns (Err ends.Turns) = IsUnread Partial text left × (turns ≡ 0) × (now ≡ before)
+EndsReading memory Partial Broken text left before now turns (Err ends.NoMemory) = (memory ≡ true) × IsReadOn text left × (now ≡ before)
+EndsReading memory Partial Broken text left before now turns (Err _) = ⊥

@@ -1,4 +1,4 @@
-ghost use Rattle.std.specs.Prelude.{◌≡◌, ◌≢◌, ◌++◌, [], List, ℕ, IfOk, IfErr, MatchBool};
+ghost use Rattle.std.specs.Prelude.{◌≡◌, ◌≢◌, ◌++◌, [], List, ℕ, Bool, IfOk, IfErr, MatchBool};
 ghost use Rattle.link_session.specs.declared.stage.Stage.{Stage};
 ghost use Rattle.link_session.specs.declared.stage.Stage.TheVariants as stages;
 ghost use Rattle.link_session.specs.Reading.{Took, Faulted};
@@ -32,6 +32,9 @@ pub trait Feed {
     /// Less than a message: it may go on as one.
     ghost partial: { ℕ → List ℕ → Type 0 };
 
+    /// Whether taking a piece takes memory.
+    ghost takes_memory: { Bool };
+
     /// What is taken out stands for the message.
     ghost stands_for: { Self.Message → List ℕ → Type 0 };
 
@@ -43,7 +46,7 @@ pub trait Feed {
     fn take(&mut self, piece: &[u8]) -> Result<Option<usize>, FeedFault>
         requires { stage self.old ≡ stages.Open }
         ensures took { IfOk result (Took (message (limit self.old)) (partial (limit self.old)) (held self.old) piece.now (held self.new) (stage self.new)) }
-        ensures fault { IfErr result (Faulted (broken (limit self.old)) (held self.old ++ piece.now)) }
+        ensures fault { IfErr result (Faulted takes_memory (broken (limit self.old)) (held self.old ++ piece.now)) }
         ensures limit { limit self.new ≡ limit self.old };
 
     /// Takes out the message that is whole, and begins the next.

@@ -49,7 +49,7 @@ impl<F: Feed + Drop> Inbox<F> {
         ensures same { OnOk result (Keeps (coming self.old (L.left link.old)) (coming self.new (L.left link.new)) × (self.new.limit ≡ self.old.limit)) }
         ensures taken { Keeps (L.taken link.old) (L.taken link.new) }
         ensures spent { MovesFor result turns.old (L.moves link.old) turns.new (L.moves link.new) }
-        ensures cause { EndsReading (F.partial self.old.limit) (F.broken self.old.limit) (coming self.old (L.left link.old)) (L.left link.new) (L.faults link.old) (L.faults link.new) turns.new result }
+        ensures cause { EndsReading F.takes_memory (F.partial self.old.limit) (F.broken self.old.limit) (coming self.old (L.left link.old)) (L.left link.new) (L.faults link.old) (L.faults link.new) turns.new result }
     {
         read_whole(&mut self.feed, &mut self.piece, link, turns)
     }
@@ -93,7 +93,7 @@ fn read_whole<F: Feed, L: Link>(
     ensures same { OnOk result (Keeps (text_of (F.held feed.old) piece.old (L.left link.old)) (text_of (F.held feed.new) piece.new (L.left link.new)) × (F.limit feed.new ≡ F.limit feed.old)) }
     ensures taken { Keeps (L.taken link.old) (L.taken link.new) }
     ensures spent { MovesFor result turns.old (L.moves link.old) turns.new (L.moves link.new) }
-    ensures cause { EndsReading (F.partial (F.limit feed.old)) (F.broken (F.limit feed.old)) (text_of (F.held feed.old) piece.old (L.left link.old)) (L.left link.new) (L.faults link.old) (L.faults link.new) turns.new result }
+    ensures cause { EndsReading F.takes_memory (F.partial (F.limit feed.old)) (F.broken (F.limit feed.old)) (text_of (F.held feed.old) piece.old (L.left link.old)) (L.left link.new) (L.faults link.old) (L.faults link.new) turns.new result }
 {
     loop {
         match feed_some(feed, piece) {
@@ -125,7 +125,7 @@ fn feed_some<F: Feed>(feed: &mut F, piece: &mut Piece) -> Result<bool, FeedFault
     ensures whole { result ≡ Ok true → F.message (F.limit feed.old) (F.held feed.new) × (F.stage feed.new ≡ stages.Whole) }
     ensures part { result ≡ Ok false → F.partial (F.limit feed.old) (F.held feed.new) × (F.stage feed.new ≡ stages.Open) × (piece.new ≡ []) }
     ensures same { OnOk result (F.held feed.new ++ piece.new ≡ F.held feed.old ++ piece.old) }
-    ensures fault { IfErr result (Faulted (F.broken (F.limit feed.old)) (F.held feed.old ++ piece.old)) }
+    ensures fault { IfErr result (Faulted F.takes_memory (F.broken (F.limit feed.old)) (F.held feed.old ++ piece.old)) }
     ensures limit { F.limit feed.new ≡ F.limit feed.old }
 {
     let unread = piece.unread();

@@ -7,7 +7,9 @@
 
 mod asking;
 mod feed;
+mod frame_feed;
 mod inbox;
+mod laws;
 mod message_feed;
 mod patience;
 mod piece;
@@ -20,6 +22,7 @@ mod writing;
 pub use asking::ask_until;
 pub use feed::{Feed, FeedFault};
 pub use inbox::Inbox;
+pub use laws::rounds_follow;
 pub use patience::{Patience, Timed};
 pub use piece::Piece;
 pub use seat::AtSeat;
@@ -27,3 +30,6 @@ pub use stage::Stage;
 pub use steps::Steps;
 pub use turns::Turns;
 pub use writing::write_whole;
+
+#[cfg(test)]
+mod tests;

@@ -1,5 +1,5 @@
 //! FUSE messages as a feed.
-ghost use Rattle.std.specs.Prelude.{◌≡◌, [], IfOk};
+ghost use Rattle.std.specs.Prelude.{◌≡◌, [], false, IfOk};
 ghost use Rattle.fuse_msgs.specs.Feed.{is_whole, IsWholeMessage};
 ghost use Rattle.link_session.specs.declared.stage.Stage.TheVariants as stages;
 ghost use Rattle.link_session.specs.Messages.{stage_of, IsPart, IsRefused, refused_more};
@@ -22,6 +22,8 @@ impl Feed for MessageFeed {
     ghost message = { λ limit. IsWholeMessage };
 
     ghost partial = { λ limit. IsPart };
+
+    ghost takes_memory = { false };
 
     ghost stands_for = { λ _ _. Unit {0} };
 

@@ -1,0 +1,49 @@
+//! Frames of a stream as a feed.
+ghost use Rattle.std.specs.Prelude.{◌≡◌, true};
+ghost use Rattle.stream_wire.specs.Frame.{frame_text};
+ghost use Rattle.link_session.specs.Frames.{held_by, frame_stage, IsFrame, IsFramePart, IsBrokenFrame, broken_more};
+
+use crate::feed::{Feed, FeedFault};
+use stream_wire::{Fed, Frame, FrameFeed, WireFault};
+
+impl Feed for FrameFeed {
+    type Message = Frame;
+
+    ghost limit = { λ feed. feed.limit };
+
+    ghost held = { λ feed. held_by feed };
+
+    ghost stage = { λ feed. frame_stage feed.met feed.ready feed.held };
+
+    ghost message = { IsFrame };
+
+    ghost partial = { IsFramePart };
+
+    ghost takes_memory = { true };
+
+    ghost stands_for = { λ frame text. frame_text frame ≡ text };
+
+    ghost broken = { IsBrokenFrame };
+
+    fn take(&mut self, piece: &[u8]) -> Result<Option<usize>, FeedFault> {
+        match self.feed(piece) {
+            Ok(Fed::More) => Ok(None),
+            Ok(Fed::Whole { used }) => Ok(Some(used)),
+            Err(WireFault::NoMemory) => Err(FeedFault::NoMemory),
+            Err(_) => Err(FeedFault::Broken),
+        }
+    }
+
+    fn next(&mut self) -> Frame {
+        match self.take() {
+            Some(frame) => frame,
+            None => unreachable!(),
+        }
+    }
+
+    fn is_between(&self) -> bool {
+        self.held() == 0
+    }
+
+    ghost lasts = { broken_more };
+}

@@ -1,0 +1,5 @@
+//! Tables over links in memory: messages in pieces, texts written, asks repeated.
+
+mod asking;
+mod reading;
+mod writing;
