@@ -1,0 +1,4 @@
+mod PageLemmas
+mod ExportLemmas
+mod OutputLemmas
+mod StoreLemmas
