@@ -2,3 +2,5 @@ mod PageLemmas
 mod ExportLemmas
 mod OutputLemmas
 mod StoreLemmas
+mod WriteLemmas
+mod MakeLemmas

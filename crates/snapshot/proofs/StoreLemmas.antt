@@ -1,16 +1,16 @@
 -- A store of which pages were read is as it was.
-use Rattle.std.proofs.Common.{◌≡◌, ℕ, ◌*◌, ◌<◌, Bool, true, false, List, [], None, length, refl, sym, ◌∙◌, ap, subst}
+use Rattle.std.proofs.Common.{◌≡◌, ℕ, ◌*◌, ◌<◌, ◌≤◌, arith, Bool, true, false, List, [], None, length, refl, sym, ◌∙◌, ap, subst}
 use Rattle.lf_disk.specs.Folder.{Folder}
 use Rattle.lf_disk.specs.History.{History, now, Rests}
 use Rattle.lf_disk.proofs.Moments.{rests_on, started}
 use Rattle.lf_sqlite_pages.specs.Header.{image_is_wal}
-use Rattle.lf_sqlite_pages.specs.Image.{DatabaseImage}
+use Rattle.lf_sqlite_pages.specs.PageSize.{IsPageSize, is_page_size}
+use Rattle.std.proofs.lemmas.Bool.Decides.{nat_tests}
 use Rattle.world_laws.specs.Store.{MayBeFound, StoreState}
 use Rattle.txn_log.specs.declared.attempt.Attempt.{Attempt}
 use Rattle.txn_log.specs.declared.entry.Entry.{Entry}
 use Rattle.txn_log.specs.Calls.{RestsAs, Moved, StandsForOne, MayFind}
 use Rattle.txn_log.specs.Store.{image_in, state_in, state_of, failed_of, meant, IsStore}
-
 use Rattle.txn_log.proofs.PagesRead.{count}
 use Rattle.txn_log.proofs.Resting.{same_now, kept_rested, left_rested, mode_rested}
 use Rattle.snapshot.specs.Pages.{HasPages}
@@ -39,7 +39,7 @@ module _ (h new : History) (rests : Rests h new) (size commit : ℕ) (entries : 
   -- no call was made on it
   pub moved_still : (attempt : Attempt) (tried : ℕ) → IsLeft h broken attempt tried
       → Moved (state_of h size commit entries dropped broken whole) (failed_of h broken attempt tried) h [] None
-        (state_of new size commit entries dropped broken whole) (failed_of new broken attempt tried) new
+      (state_of new size commit entries dropped broken whole) (failed_of new broken attempt tried) new
   moved_still attempt tried is =
       let left = subst (λ (b : Bool). IsLeft h b attempt tried) open_ is in
       let old : StoreState = state_in size commit entries dropped (now h) in
@@ -64,3 +64,8 @@ has_pages h size commit entries dropped broken sums whole tried open_ is =
 -- and its image is that of the file as it reads
 pub image_now : (h : History) (size commit whole : ℕ) (broken : Bool) → broken ≡ false → image_in size commit (h.seen (meant h broken whole)) ≡ image_in size commit (now h)
 image_now h size commit whole broken open_ = ap (λ (b : Bool). image_in size commit (h.seen (meant h b whole))) open_
+
+-- the largest page
+pub page_size-most : (size : ℕ) → IsPageSize size → size ≤ 65536
+unfolding is_page_size
+page_size-most size is = grind (arith, nat_tests)

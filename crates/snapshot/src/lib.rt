@@ -3,8 +3,11 @@
 
 mod exporting;
 mod fault;
+mod making;
 mod output;
 mod reading;
+mod writing;
 
 pub use exporting::export;
 pub use fault::{ImportFault, IntoFault};
+pub use making::make_into;
