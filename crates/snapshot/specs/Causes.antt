@@ -22,3 +22,8 @@ WritesWith broken disk disk_now sink sink_now (Err into.Sink) = (broken ≡ fals
 WritesWith broken disk disk_now sink sink_now (Err (into.Store store.Disk)) = (broken ≡ false) × Rose disk disk_now × (sink_now ≡ sink)
 WritesWith broken disk disk_now sink sink_now (Err (into.Store store.Broken)) = (broken ≡ true) × (disk_now ≡ disk) × (sink_now ≡ sink)
 WritesWith broken disk disk_now sink sink_now (Err (into.Store why)) = ⊥
+
+-- the fault of a snapshot into memory: there a sink fails for want of memory alone
+abbrev pub fault_in_memory : IntoFault → StoreFault
+fault_in_memory into.Sink = store.NoMemory
+fault_in_memory (into.Store fault) = fault

@@ -3,11 +3,14 @@
 
 mod exporting;
 mod fault;
+mod growing;
 mod making;
 mod output;
 mod reading;
+mod whole;
 mod writing;
 
 pub use exporting::export;
 pub use fault::{ImportFault, IntoFault};
 pub use making::make_into;
+pub use whole::make;
