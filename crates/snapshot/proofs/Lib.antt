@@ -4,3 +4,4 @@ mod OutputLemmas
 mod StoreLemmas
 mod WriteLemmas
 mod MakeLemmas
+mod SoundLemmas

@@ -4,6 +4,7 @@
 mod exporting;
 mod fault;
 mod growing;
+mod laws;
 mod making;
 mod output;
 mod reading;
@@ -12,5 +13,6 @@ mod writing;
 
 pub use exporting::export;
 pub use fault::{ImportFault, IntoFault};
+pub use laws::snapshot_is_a_file;
 pub use making::make_into;
 pub use whole::make;

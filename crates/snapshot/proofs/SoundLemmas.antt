@@ -1,0 +1,114 @@
+-- A store that was written is whole: its last file says so.
+use Rattle.std.proofs.Common.{◌≡◌, ◌≢◌, ℕ, suc, ◌<◌, ◌≤◌, ◌^◌, Bool, List, [], ◌∷◌, inl, inr, Option, Some, None, length, get_or, fold, refl, sym, ◌∙◌, ap, subst, arith}
+use Rattle.std.proofs.Math.Logic.{∥∥₁_elim}
+use Rattle.std.proofs.Props.{props}
+use Rattle.std.proofs.lemmas.Bool.{cases_lt}
+use Rattle.page_checksum.specs.Sums.{flagged, joined}
+use Rattle.lf_base.specs.declared.pos.Pos.{Pos}
+use Rattle.lf_disk.specs.History.{History}
+use Rattle.lf_sqlite_pages.specs.Apply.{apply}
+use Rattle.lf_sqlite_pages.specs.Image.{DatabaseImage, IsImage, SameImage, empty_image}
+use Rattle.lf_sqlite_pages.specs.LockPage.{IsWithinLimit}
+use Rattle.lf_sqlite_pages.specs.PageSize.{IsPageSize}
+use Rattle.ltx_codec.specs.Format.{IsLtx, IsFlagged}
+use Rattle.ltx_codec.specs.Positions.{after}
+use Rattle.ltx_codec.specs.Sums.{image_sum, sum_table}
+use Rattle.ltx_codec.specs.declared.file.Ltx.{Ltx}
+use Rattle.world_laws.specs.Answers.{snapshot_of}
+use Rattle.world_laws.specs.SnapshotLaw.{IsFullStore}
+use Rattle.world_laws.specs.Store.{StoreState, at, end_of}
+use Rattle.world_laws.proofs.Snapshots.{whole-same}
+use Rattle.txn_log.specs.declared.entry.Entry.{Entry}
+use Rattle.txn_log.specs.Durable.{log_of, IsText}
+use Rattle.txn_log.specs.Kept.{LogFile, file_of, last_of, Decides, change_of}
+use Rattle.txn_log.specs.Store.{image_in, files_in, state_of, meant, end_of_entries, IsStore, IsSized}
+use Rattle.txn_log.proofs.PagesRead.{count, is_image}
+use Rattle.snapshot.proofs.StoreLemmas.{page_size-most}
+
+-- the last file of some files
+pub record IsLast (files : List LogFile) (file : LogFile) : Type 0 where
+  pub last : last_of files ≡ Some file
+  pub ends : end_of (log_of files) ≡ after (file_of file.text)
+  pub place : ℕ
+  pub within : place < length files
+  pub found : (d : LogFile) → get_or files place d ≡ file
+
+record Runs (x : LogFile) (xs : List LogFile) (o : Option LogFile) (p : Pos) (file : LogFile) : Type 0 where
+  last : fold (λ _ (f : LogFile). Some f) o (x ∷ xs) ≡ Some file
+  ends : fold (λ _ (l : Ltx). after l) p (log_of (x ∷ xs)) ≡ after (file_of file.text)
+  place : ℕ
+  within : place < length (x ∷ xs)
+  found : (d : LogFile) → get_or (x ∷ xs) place d ≡ file
+
+runs : (x : LogFile) (xs : List LogFile) (o : Option LogFile) (p : Pos) → (file : LogFile) × Runs x xs o p file
+runs x [] o p = (x, record { last = refl; ends = refl; place = 0; within = omega arith; found = λ d. refl })
+runs x (y ∷ ys) o p =
+    let rest = runs y ys (Some x) (after (file_of x.text)) in
+    (rest.0, record { last = rest.1.last; ends = rest.1.ends; place = suc rest.1.place; within = omega (arith, rest.1.within); found = rest.1.found })
+
+pub last_is : (files : List LogFile) → 1 ≤ (end_of (log_of files)).txid → (file : LogFile) × IsLast files file
+unfolding end_of
+last_is [] some = absurd (omega (arith, some))
+last_is (x ∷ xs) some =
+    let it = runs x xs None (record { txid = 0; sum = 0 }) in
+    (it.0, record { last = it.1.last; ends = it.1.ends; place = it.1.place; within = it.1.within; found = it.1.found })
+
+pub some_entries : (entries : List Entry) → 1 ≤ (end_of_entries entries).txid → entries ≢ []
+unfolding end_of_entries
+some_entries [] some same = absurd (omega (arith, some))
+some_entries (e ∷ es) some same = cc
+
+-- what the last file's text says
+sized_by : (text : List ℕ) → IsText text → IsPageSize (change_of text).page_size
+sized_by text is = ∥∥₁_elim is (hlevel props) (λ (it : IsLtx text (file_of text)). it.valid.block.pages.of_a_page_size)
+
+limited_by : (text : List ℕ) → IsText text → IsWithinLimit (change_of text).page_size (change_of text).commit
+limited_by text is = ∥∥₁_elim is (hlevel props) (λ (it : IsLtx text (file_of text)). within it) where
+  within : IsLtx text (file_of text) → IsWithinLimit (change_of text).page_size (change_of text).commit
+  within it =
+      subst (λ (s : ℕ). IsWithinLimit s (change_of text).commit) (sym it.valid.block.page_size)
+      (subst (λ (n : ℕ). IsWithinLimit (file_of text).header.page_size n) (sym it.valid.block.commit) it.valid.header.commit)
+
+flagged_by : (text : List ℕ) → IsText text → IsFlagged (after (file_of text)).sum
+flagged_by text is = ∥∥₁_elim is (hlevel props) (λ (it : IsLtx text (file_of text)). it.valid.post.flagged)
+
+narrow_by : (text : List ℕ) → IsText text → (after (file_of text)).sum < 2 ^ 64
+narrow_by text is = ∥∥₁_elim is (hlevel props) (λ (it : IsLtx text (file_of text)). it.valid.post.width)
+
+numbered_by : (text : List ℕ) → IsText text → (after (file_of text)).txid < 2 ^ 64
+numbered_by text is = ∥∥₁_elim is (hlevel props) (λ (it : IsLtx text (file_of text)). it.valid.header.widths.max)
+
+module _ (h : History) (size commit : ℕ) (entries : List Entry) (dropped broken : Bool) (sums : List ℕ) (whole tried : ℕ)
+    (is : IsStore h size commit entries dropped sums broken whole tried) where
+  pub full : IsSized size commit → size < 2 ^ 32 → commit < 2 ^ 32 → 1 ≤ (at (state_of h size commit entries dropped broken whole)).txid →
+      (at (state_of h size commit entries dropped broken whole)).sum ≡ flagged (joined sums) →
+      ((image : DatabaseImage) → image_sum image ≡ flagged (joined (sum_table image))) → IsFullStore (state_of h size commit entries dropped broken whole)
+  full sized small few some sum_is law =
+      let f = h.seen (meant h broken whole) in
+      let files : List LogFile = files_in entries f in
+      let image : DatabaseImage = image_in size commit f in
+      let last = last_is files some in
+      let decides : Decides (change_of last.0.text) image _ = is.rest.kept.decided.some last.0 last.1.last in
+      let text : IsText last.0.text = subst (λ (l : LogFile). IsText l.text) (last.1.found last.0) (is.log.log.texts last.1.place last.0 last.1.within) in
+      record {
+        some = some;
+        txid = subst (λ (p : Pos). p.txid < 2 ^ 64) (sym last.1.ends) (numbered_by last.0.text text);
+        image = is_image size commit f is.rest.shows.long sized few;
+        page_size = subst IsPageSize (sym decides.page_size) (sized_by last.0.text text);
+        size_small = small;
+        limit = subst (λ (s : ℕ). IsWithinLimit s (length image.pages)) (sym decides.page_size)
+            (subst (λ (n : ℕ). IsWithinLimit (change_of last.0.text).page_size n) (sym decides.commit) (limited_by last.0.text text));
+        sum = sum_is ∙ ap (λ (l : List ℕ). flagged (joined l)) is.table ∙ sym (law image);
+        width = subst (λ (p : Pos). p.sum < 2 ^ 64) (sym last.1.ends) (narrow_by last.0.text text);
+        flagged = subst (λ (p : Pos). IsFlagged p.sum) (sym last.1.ends) (flagged_by last.0.text text);
+      }
+
+pub made : (store : StoreState) → IsImage store.image → SameImage (apply empty_image (snapshot_of store).change) store.image
+unfolding snapshot_of
+made store valid = whole-same store.image valid
+
+pub small_size : (size commit : ℕ) → IsSized size commit → size < 2 ^ 32
+small_size size commit sized = elim (cases_lt 0 size) [
+  | inl some ↦ omega (arith, page_size-most size (sized.sized some))
+  | inr none ↦ omega (arith, none)
+]
