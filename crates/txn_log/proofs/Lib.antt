@@ -32,24 +32,3 @@ pub mod Stores
 pub mod SumTables
 pub mod Taking
 pub mod Wearing
-mod Blank
-mod Cleanings
-mod Clearings
-mod Commits
-mod Composing
-mod Copies
-mod Drafts
-mod Emptyings
-mod Entries
-mod Installed
-mod Modes
-mod Naming
-mod Places
-mod Placings
-mod Prunings
-mod Puttings
-mod Rewritings
-mod Settlings
-mod SumTables
-mod Taking
-mod Wearing
