@@ -27,7 +27,6 @@ invariant_of-store g c =
       kept = λ still. kept_still h new rests s.page_size s.commit s.entries.items s.dropped s.broken s.whole c.if-store.false s.sums.sums s.tried (s.kept (sym c.append_pages.ensures.honest ∙ still));
       left = λ still. left_still h new rests s.page_size s.commit s.entries.items s.dropped s.broken s.whole c.if-store.false s.attempt s.tried (s.left (sym c.append_pages.ensures.honest ∙ still));
       mode = λ still. mode_still h new rests s.page_size s.commit s.entries.items s.dropped s.broken s.whole c.if-store.false s.wal (s.mode (sym c.append_pages.ensures.honest ∙ still));
-      unmarked = s.unmarked;
     }
 
 pub returns-in-Ok-clause-bytes : goal.returns-in-Ok-clause-bytes
