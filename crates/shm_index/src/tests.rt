@@ -35,6 +35,7 @@ fn an_index_begins_with_two_headers(rt: HostRuntime) -> Result<(), Fail> {
         ([0; 4], [0; 4], [255; 4])
     );
     assert_eq!(rt; field(&shared, 120), [7; 4]);
+    assert!(rt; shared.has_index());
     assert_eq!(rt; shared.names_log(0, &[0; 8]), true);
     shared.clear_header();
     assert_eq!(rt;
