@@ -1,5 +1,4 @@
-//! Tables over links in memory: messages in pieces, texts written, asks repeated.
+//! Tables over links in memory: messages in pieces, texts written.
 
-mod asking;
 mod reading;
 mod writing;
