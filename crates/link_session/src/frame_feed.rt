@@ -1,9 +1,13 @@
 //! Frames of a stream as a feed.
-ghost use Rattle.std.specs.Prelude.{◌≡◌, true};
+ghost use Rattle.std.specs.Prelude.{◌≡◌, [], true, IfOk};
+ghost use Rattle.link_session.specs.declared.stage.Stage.TheVariants as stages;
 ghost use Rattle.stream_wire.specs.Frame.{frame_text};
 ghost use Rattle.link_session.specs.Frames.{held_by, frame_stage, IsFrame, IsFramePart, IsBrokenFrame, broken_more};
 
 use crate::feed::{Feed, FeedFault};
+use crate::inbox::Inbox;
+use lf_base::NoMemory;
+use std::alloc::Global;
 use stream_wire::{Fed, Frame, FrameFeed, WireFault};
 
 impl Feed for FrameFeed {
@@ -46,4 +50,14 @@ impl Feed for FrameFeed {
     }
 
     ghost lasts = { broken_more };
+}
+
+impl Inbox<FrameFeed> {
+    /// Holds nothing, and takes frames whose body has at most `limit` bytes.
+    pub fn of_frames(alloc: Global, limit: u64) -> Result<Inbox<FrameFeed>, NoMemory>
+        ensures { IfOk result (λ inbox. inbox ≡ record { message = []; ahead = []; limit = limit; stage = stages.Open }) }
+    {
+        let feed = FrameFeed::new(alloc, limit)?;
+        Inbox::new(alloc, feed)
+    }
 }

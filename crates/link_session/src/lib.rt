@@ -25,7 +25,7 @@ pub use inbox::Inbox;
 pub use laws::rounds_follow;
 pub use patience::{Patience, Timed};
 pub use piece::Piece;
-pub use seat::AtSeat;
+pub use seat::{AtSeat, SeatPlace};
 pub use stage::Stage;
 pub use steps::Steps;
 pub use turns::Turns;

@@ -8,6 +8,12 @@ use crate::steps::Steps;
 use std::sync::Wait;
 use turn_desk::{Desk, Machine, Seat, Worn};
 
+/// Which seat, at which desk. It exists in contracts alone.
+pub struct SeatPlace<D> {
+    pub seat: u64,
+    pub desk: D,
+}
+
 /// A seat at its desk.
 #[derive(Drop)]
 pub struct AtSeat<'a, M: Machine, R> {
@@ -22,11 +28,13 @@ impl<M: Machine, R: Wait + Copy> Steps for AtSeat<'_, M, R> {
 
     type Answer = M::Answer;
 
+    type Outside = SeatPlace<Desk<M>>;
+
     ghost entries = { λ s. (view s.seat.now).mine };
 
     ghost number = { λ s. number_of s.seat.now };
 
-    ghost of = { λ s. s.seat.ghost_name };
+    ghost of = { λ s. record { seat = s.seat.ghost_name; desk = s.desk.now } };
 
     ghost is_legal = { λ s. IsLegal M.steps (opened_on s.desk.now) (view s.seat.now).seen };
 

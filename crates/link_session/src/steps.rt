@@ -10,6 +10,9 @@ pub trait Steps {
 
     type Answer;
 
+    /// What tells one of the outside from another.
+    type Outside;
+
     /// Its own asks with their answers, in order.
     ghost entries: { Self → List (Entry Self.Ask Self.Answer) };
 
@@ -17,7 +20,7 @@ pub trait Steps {
     ghost number: { Self → ℕ };
 
     /// Which of the outside it stands for.
-    ghost of: { Self → ℕ };
+    ghost of: { Self → Self.Outside };
 
     /// What holds of the history of which its own asks are a part.
     ghost is_legal: { Self → Type 0 };
