@@ -72,7 +72,7 @@ ends_from position found (f ∷ fs) last at some =
     ends_from (after (file_of f.text)) (Some (file_of f.text)) fs last (λ g same. ap after (Rattle.std.proofs.lemmas.Option.same_Some (file_of f.text) g same)) some
 
 -- the log ends behind its last file
-ends_at : (files : List LogFile) (last : Ltx) → last_file files ≡ Some last → end_of (log_of files) ≡ after last
+pub ends_at : (files : List LogFile) (last : Ltx) → last_file files ≡ Some last → end_of (log_of files) ≡ after last
 unfolding end_of
 ends_at files last some = ends_from nowhere None files last (λ g same. absurd (cc)) some
 

@@ -1,12 +1,15 @@
 mod Agreements
+mod Ascending
 mod Examinations
 mod Finishings
 mod Judgings
 mod Lasts
 mod Listed
 mod Listings
+mod Once
 mod Openings
 mod Reopenings
 mod Restored
 mod Summings
+mod Undamaged
 mod Unique

@@ -1,13 +1,14 @@
 -- The entries among names.
-use Rattle.std.proofs.Common.{◌≡◌, ◌⊎◌, inl, inr, ℕ, zero, suc, ◌<◌, List, [], ◌∷◌, ◌++◌, length, get_or, IsSome, refl, sym, ◌∙◌, subst, arith}
-use Rattle.std.specs.List.{Contains, All}
+use Rattle.std.proofs.Common.{◌≡◌, ◌⊎◌, inl, inr, ℕ, zero, suc, ◌<◌, List, [], ◌∷◌, ◌++◌, length, get_or, IsSome, refl, sym, ◌∙◌, ap, subst, arith}
+use Rattle.std.specs.List.{Contains, All, IsDistinct}
 use Rattle.std.specs.List.Sorted.{IsPermutation}
 use Rattle.std.proofs.lemmas.List.Sorted.{All-permutation, Contains-permutation}
 use Rattle.lf_disk.specs.declared.name.FileName.{FileName}
 use Rattle.lf_disk.specs.declared.name.FileName.TheVariants.{Ltx}
-use Rattle.lf_disk.specs.Folder.{Folder}
+use Rattle.lf_disk.specs.Folder.{Folder, same_name}
 use Rattle.txn_log.specs.declared.entry.Entry.{Entry}
-use Rattle.node_recovery.specs.Listing.{Has, Names, AreInOrder, AreListed}
+use Rattle.node_recovery.specs.Listing.{Has, Names, AreInOrder, AreOnce, AreListed}
+use Rattle.node_recovery.proofs.Once.{names_of, names_more, distinct_without}
 
 has_old : (es : List Entry) (e : Entry) (a b : ℕ) → Has es a b → Has (es ++ e ∷ []) a b
 has_old [] e a b has = elim has [ ]
@@ -35,6 +36,7 @@ pub record Among (names left : List FileName) (es : List Entry) : Type 0 where
   pub sound : (a b : ℕ) → Has es a b → Names names a b
   pub rest : (a b : ℕ) → Names left a b → Names names a b
   pub whole : (a b : ℕ) → Names names a b → Has es a b ⊎ Names left a b
+  pub once : IsDistinct same_name names → IsDistinct same_name (names_of es ++ left)
 
 pub pushed : (names left : List FileName) (es : List Entry) (n : FileName) (e : Entry) → n ≡ Ltx e.min e.max → Among names (n ∷ left) es → Among names left (es ++ e ∷ [])
 pushed names left es n e is so_far = record {
@@ -55,6 +57,9 @@ pushed names left es n e is so_far = record {
       | inr later ↦ inr later
     ]
   ];
+  once = λ distinct.
+      let as_name : names_of es ++ n ∷ left ≡ names_of (es ++ e ∷ []) ++ left = ap (λ (x : FileName). names_of es ++ x ∷ left) is ∙ sym (names_more es e left) in
+      subst (λ (ns : List FileName). IsDistinct same_name ns) as_name (so_far.once distinct);
 }
 
 pub passed : (names left : List FileName) (es : List Entry) (n : FileName) → ((a b : ℕ) → n ≡ Ltx a b → ⊥) → Among names (n ∷ left) es → Among names left es
@@ -65,6 +70,7 @@ passed names left es n other so_far = record {
     | inl has ↦ inl has
     | inr named ↦ elim named [ inl here ↦ absurd (other a b here) | inr later ↦ inr later ]
   ];
+  once = λ distinct. distinct_without (names_of es) n left (so_far.once distinct);
 }
 
 has_get : (es : List Entry) (k : ℕ) (d : Entry) → k < length es → Has es (get_or es k d).min (get_or es k d).max
@@ -73,13 +79,13 @@ has_get (e ∷ es) zero d within = inl (refl, refl)
 has_get (e ∷ es) (suc k) d within = inr (has_get es k d (omega arith))
 
 -- an entry with these numbers
-record Found (es : List Entry) (a b : ℕ) : Type 0 where
-  entry : Entry
-  there : Contains es entry
-  min_is : entry.min ≡ a
-  max_is : entry.max ≡ b
+pub record Found (es : List Entry) (a b : ℕ) : Type 0 where
+  pub entry : Entry
+  pub there : Contains es entry
+  pub min_is : entry.min ≡ a
+  pub max_is : entry.max ≡ b
 
-found : (es : List Entry) (a b : ℕ) → Has es a b → Found es a b
+pub found : (es : List Entry) (a b : ℕ) → Has es a b → Found es a b
 found [] a b has = elim has [ ]
 found (e ∷ es) a b (inl is) = record { entry = e; there = (0, omega arith, refl); min_is = is.0; max_is = is.1 }
 found (e ∷ es) a b (inr has) =
@@ -116,9 +122,10 @@ named_contains (n ∷ names) a b (inl is) = (0, omega arith, is)
 named_contains (n ∷ names) a b (inr named) = let at = named_contains names a b named in (suc at.0, omega (arith, at.1), at.2)
 
 pub listed : (names : List FileName) (es : List Entry) (f : Folder) → ((a b : ℕ) → (Has es a b → Names names a b) × (Names names a b → Has es a b))
-    → ((n : FileName) → (Contains names n → IsSome (f n)) × (IsSome (f n) → Contains names n)) → AreInOrder es → AreListed es f
-listed names es f entries there order = record {
+    → ((n : FileName) → (Contains names n → IsSome (f n)) × (IsSome (f n) → Contains names n)) → AreInOrder es → AreOnce es → AreListed es f
+listed names es f entries there order once = record {
   there = λ a b has. (there (Ltx a b)).0 (named_contains names a b ((entries a b).0 has));
   whole = λ a b some. let at = (there (Ltx a b)).1 some in (entries a b).1 (named_at names a b at.0 at.1 at.2);
   order = order;
+  once = once;
 }

@@ -99,7 +99,7 @@ module _ (entries : List Entry) (files : List LogFile) (are : AreEntries entries
   }
 
 -- the image that a change decides is the one that is restored
-decided_image : (change : PageChange) (image : DatabaseImage) (bytes : List ℕ) → IsChange change → Decides change image bytes → restored_image change bytes ≡ image
+pub decided_image : (change : PageChange) (image : DatabaseImage) (bytes : List ℕ) → IsChange change → Decides change image bytes → restored_image change bytes ≡ image
 decided_image change image bytes valid is =
     let file : Folder = λ _. Some (restored change bytes) in
     let made : ℕ → ℕ → DatabaseImage = λ s c. record { page_size = s; pages = map (page_in s (restored change bytes)) (range_with_len 1 c) } in

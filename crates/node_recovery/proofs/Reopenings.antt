@@ -4,7 +4,6 @@ use Rattle.std.specs.Prelude.{◌==◌, if◌then◌else◌}
 use Rattle.std.proofs.Math.Nat.{mul-le-mul_right}
 use Rattle.std.proofs.lemmas.Bool.{cases_eq}
 use Rattle.std.proofs.lemmas.Bool.Decides.{nat_tests}
-use Rattle.std.proofs.lemmas.Grind.{common_steps}
 use Rattle.std.proofs.lemmas.List.FromFn.{length-map-range_with_len}
 use Rattle.lf_base.proofs.FileLemmas.{resized-there}
 use Rattle.lf_disk.specs.Folder.{Folder, bytes_of, SameBut}
@@ -15,9 +14,10 @@ use Rattle.lf_disk.proofs.Moments.{started, goes_on, rests_on, joined}
 use Rattle.lf_sqlite_pages.specs.Header.{is_wal, image_is_wal}
 use Rattle.lf_sqlite_pages.specs.Image.{DatabaseImage, page_at}
 use Rattle.lf_sqlite_pages.specs.LockPage.{IsDataPage}
-use Rattle.lf_sqlite_pages.specs.PageSize.{IsPageSize, is_page_size}
+use Rattle.lf_sqlite_pages.specs.PageSize.{IsPageSize}
 use Rattle.lf_sqlite_pages.proofs.LockPages.{page_size-positive, IsDataPage-below}
 use Rattle.world_laws.specs.Store.{StoreState}
+use Rattle.txn_log.proofs.Modes.{page_size-most}
 use Rattle.txn_log.specs.Durable.{Durable}
 use Rattle.txn_log.specs.Kept.{LogFile, Shows, IsAtRest}
 use Rattle.txn_log.specs.Pages.{page_in, in_place}
@@ -69,10 +69,6 @@ rest_unstaged image files dropped mid new rest moves = record {
       let from = moves.left c may in
       from.2.elsewhere n other ∙ rest.settled from.0 from.1 n other ∙ sym (moves.seen.elsewhere n other);
 }
-
-page_size-most : (size : ℕ) → IsPageSize size → size ≤ 65536
-unfolding is_page_size
-page_size-most size is = grind (arith, common_steps, nat_tests)
 
 -- the mode that is read is that of the image
 pub mode_is : (size commit : ℕ) (f : Folder) → IsSized size commit → Shows (image_in size commit f) (bytes_of (f Database)) →

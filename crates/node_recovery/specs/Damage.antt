@@ -6,6 +6,7 @@ use Rattle.lf_disk.specs.declared.name.FileName.{FileName}
 use Rattle.lf_disk.specs.declared.name.FileName.TheVariants.{Ltx as LtxName}
 use Rattle.lf_disk.specs.Folder.{Folder, bytes_of}
 use Rattle.ltx_codec.specs.FaultNumber.{number_of}
+use Rattle.ltx_codec.specs.Fields.{AreBytes}
 use Rattle.ltx_codec.specs.Places.{IsEarliest}
 use Rattle.ltx_codec.specs.Positions.{before, after}
 use Rattle.ltx_codec.specs.declared.fault.LtxFault.{LtxFault}
@@ -16,8 +17,9 @@ use Rattle.txn_log.specs.Kept.{LogFile, file_of}
 use Rattle.txn_log.specs.Durable.{IsText, IsLog}
 use Rattle.txn_log.specs.Store.{files_in}
 
--- The text is that of no file: 0, and the number of the fault that stands earliest in it.
+-- The text, of bytes, is that of no file: 0, and the number of the fault that stands earliest in it.
 pub record IsUnread (text : List ℕ) (want got : ℕ) : Type 0 where
+  pub octets : AreBytes text
   pub fault : LtxFault
   pub earliest : IsEarliest text fault
   pub want_is : want ≡ 0

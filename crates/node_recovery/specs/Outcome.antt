@@ -31,7 +31,8 @@ Blames name why _ = Unit {0}
 -- no file is damaged
 abbrev pub IsBlameless : RecoverFault → Type 0
 IsBlameless (fault.Damaged file want got) = ⊥
-IsBlameless why = Unit {0}
+IsBlameless fault.Disk = Unit {0}
+IsBlameless fault.NoMemory = Unit {0}
 
 -- the text is that of a file, which is the one that is read in it
 abbrev pub IsFileIn : List ℕ → Ltx → Type 0

@@ -1,8 +1,10 @@
 //! What stands in a folder.
 ghost use Rattle.std.specs.Prelude.{◌≡◌, ◌↔◌, ◌*◌, ◌+◌, ◌^◌, ℕ, IsTrue, IsSome, IfOk, IfErr, Contains};
+ghost use Rattle.std.specs.List.{IsDistinct};
+ghost use Rattle.lf_disk.specs.Folder.{same_name};
 ghost use Rattle.lf_disk.specs.declared.name.FileName.{FileName as Name};
 ghost use Rattle.lf_disk.specs.History.{now, Rests};
-ghost use Rattle.node_recovery.specs.Listing.{Has, Names, place_of, AreInOrder, AreListed};
+ghost use Rattle.node_recovery.specs.Listing.{Has, Names, place_of, AreInOrder, AreOnce, AreListed};
 ghost use Rattle.node_recovery.specs.Outcome.{HasCause, IsBlameless};
 
 use crate::fault::RecoverFault;
@@ -16,7 +18,8 @@ const UNREAD: Pos = Pos { txid: 0, sum: 0 };
 
 /// The transaction files among these names. Their positions are not known yet.
 fn entries_among(alloc: Global, names: &[FileName]) -> Result<Vec<Entry>, NoMemory>
-    ensures { IfOk result (λ entries. (a b : ℕ) → Has entries.items a b ↔ Names names.now a b) }
+    ensures has { IfOk result (λ entries. (a b : ℕ) → Has entries.items a b ↔ Names names.now a b) }
+    ensures once { IfOk result (λ entries. IsDistinct same_name names.now → AreOnce entries.items) }
 {
     let mut entries = Vec::new(alloc);
     for name in names {
@@ -43,13 +46,14 @@ fn place(entry: &Entry) -> u128
 fn entries_of(alloc: Global, names: &[FileName]) -> Result<Vec<Entry>, NoMemory>
     ensures has { IfOk result (λ entries. (a b : ℕ) → Has entries.items a b ↔ Names names.now a b) }
     ensures order { IfOk result (λ entries. AreInOrder entries.items) }
+    ensures once { IfOk result (λ entries. IsDistinct same_name names.now → AreOnce entries.items) }
 {
     let mut entries = entries_among(alloc, names)?;
     entries.sort_unstable_by_key(|entry| place(entry));
     Ok(entries)
 }
 
-/// The transaction files on a disk, by minimum and then maximum.
+/// The transaction files on a disk, by minimum and then maximum, each once.
 pub fn list_log<D: Disk>(alloc: Global, disk: &mut D) -> Result<Vec<Entry>, RecoverFault>
     ensures listed { IsTrue (D.honest disk.old) → IfOk result (λ entries. AreListed entries.items (now (D.history disk.old))) }
     ensures blameless { IfErr result IsBlameless }

@@ -2,6 +2,7 @@
 ghost use Rattle.std.specs.Prelude.{◌≡◌, Err, IsTrue, IfOk, IfErr, OnErr, length};
 ghost use Rattle.lf_disk.specs.Folder.{bytes_of};
 ghost use Rattle.lf_disk.specs.History.{now, Rests};
+ghost use Rattle.ltx_codec.specs.Fields.{AreBytes};
 ghost use Rattle.ltx_codec.specs.Format.{IsFile, IsLtx};
 ghost use Rattle.txn_log.specs.Kept.{file_of};
 ghost use Rattle.node_recovery.specs.Outcome.{HasCause, IsBlameless, ReadsLtx};
@@ -54,6 +55,11 @@ fn reads_back(text: &[u8], file: &Ltx)
     file_is_read();
 }
 
+/// The numbers of a text are bytes.
+fn are_bytes(text: &[u8])
+    ensures { AreBytes text.now }
+{}
+
 /// The file that all bytes under a name are.
 pub fn read_ltx<D: Disk>(alloc: Global, disk: &mut D, name: FileName) -> Result<Ltx, RecoverFault>
     ensures valid { IfOk result IsFile }
@@ -63,6 +69,7 @@ pub fn read_ltx<D: Disk>(alloc: Global, disk: &mut D, name: FileName) -> Result<
     ensures cause { HasCause (D.faults disk.old) (D.faults disk.new) result }
 {
     let text = read_file(alloc, disk, name)?;
+    are_bytes(text.as_slice());
     match decode(alloc, text.as_slice()) {
         Ok(file) => {
             reads_back(text.as_slice(), &file);

@@ -7,6 +7,7 @@ ghost use Rattle.txn_log.specs.Durable.{Durable};
 ghost use Rattle.txn_log.specs.Putting.{IsSettled};
 ghost use Rattle.txn_log.specs.Store.{state_of};
 ghost use Rattle.node_recovery.specs.Opening.{IsWhy, IsCause};
+ghost use Rattle.node_recovery.specs.Outcome.{IsBlameless};
 
 use crate::fault::RecoverFault;
 use crate::reopening::reopen;
@@ -22,7 +23,11 @@ pub fn recover<D: Disk>(alloc: Global, disk: D) -> Result<Store<D>, (RecoverFaul
         → state_of (D.history store.disk) store.page_size store.commit store.entries.items store.dropped store.broken store.whole ≡ stood) }
     ensures open_ { IfOk result (λ store. store.broken ≡ false) }
     ensures why { IsTrue (D.honest disk) → IfErr result (λ gone. IsWhy (now (D.history disk)) gone.0) }
-    ensures cause { IfErr result (λ gone. IsCause (D.faults disk) (D.faults gone.1) gone.0) }
+    ensures cause { (IfOk result (λ store. D.faults store.disk ≡ D.faults disk))
+        × (IfErr result (λ gone. IsCause (D.faults disk) (D.faults gone.1) gone.0)) }
+
+    // On a folder that stands for a store nothing is damaged.
+    ensures sound { IsTrue (D.honest disk) → IfErr result (λ gone. (stood : StoreState) → Durable (now (D.history disk)) stood → IsBlameless gone.0) }
 
     // At each moment a crash leaves a folder that stands for the same store.
     ensures moments { IsTrue (D.honest disk) → IfOk result (λ store. (stood : StoreState) → Durable (now (D.history disk)) stood

@@ -1,10 +1,13 @@
-use Rattle.std.proofs.Common.{◌≡◌, inl, inr, ◌+◌, List, [], ◌∷◌, drop, get_or, sym, ◌∙◌, ap, subst}
+use Rattle.std.proofs.Common.{◌≡◌, inl, inr, ◌+◌, List, [], ◌∷◌, ◌++◌, drop, get_or, sym, ◌∙◌, ap, subst}
+use Rattle.std.specs.List.{IsDistinct}
 use Rattle.std.proofs.lemmas.List.{drop_more, drop_all}
 use Rattle.lf_disk.specs.declared.name.FileName.{FileName}
 use Rattle.lf_disk.specs.declared.name.FileName.TheVariants.{Database}
+use Rattle.lf_disk.specs.Folder.{same_name}
 use Rattle.txn_log.specs.declared.entry.Entry.{Entry}
 use Rattle.node_recovery.specs.Listing.{Has, Names}
 use Rattle.node_recovery.proofs.Listings.{Among, pushed, passed}
+use Rattle.node_recovery.proofs.Once.{names_of, once_named}
 use Rattle.node_recovery.proofs.listing.entries_among.Goals as goal
 use Rattle.node_recovery.proofs.listing.entries_among.Goals.{in-Ltx+in_ok-push, in_default}
 
@@ -13,6 +16,7 @@ loop-name-init c = record {
   sound = λ a b has. absurd (let h : Has [] a b = subst (λ (es : List Entry). Has es a b) c.new-entries.ensures.items has in h);
   rest = λ a b named. named;
   whole = λ a b all. inr all;
+  once = λ distinct. subst (λ (es : List Entry). IsDistinct same_name (names_of es ++ c.args.names.now)) (sym c.new-entries.ensures.items) distinct;
 }
 
 pub loop-name-preserved : goal.loop-name-preserved
@@ -32,8 +36,8 @@ loop-name-preserved c =
           (passed names left es (get_or names i Database) w.in_default.not-Ltx so_far)
     ]
 
-pub returns : goal.returns
-returns c a b = (
+pub returns-clause-has : goal.returns-clause-has
+returns-clause-has c a b = (
   c.loop-name.invariant.sound a b,
   λ named. elim (c.loop-name.invariant.whole a b named) [
     | inl has ↦ has
@@ -42,3 +46,9 @@ returns c a b = (
         absurd (let h : Names [] a b = subst (λ (l : List FileName). Names l a b) none left in h)
   ],
 )
+
+pub returns-clause-once : goal.returns-clause-once
+returns-clause-once c distinct =
+    let none : drop c.loop-name.name-index c.args.names.now ≡ [] = drop_all c.loop-name.name-index c.args.names.now c.loop-name-test.false in
+    once_named c.loop-name.entries.items
+    (subst (λ (l : List FileName). IsDistinct same_name (names_of c.loop-name.entries.items ++ l)) none (c.loop-name.invariant.once distinct))

@@ -1,4 +1,5 @@
 use Rattle.std.proofs.Common.{◌∙◌}
+use Rattle.node_recovery.proofs.Undamaged.{blameless}
 use Rattle.node_recovery.proofs.recovering.recover.Goals as goal
 
 pub returns-in-Ok-clause-store : goal.returns-in-Ok-clause-store
@@ -6,3 +7,7 @@ returns-in-Ok-clause-store g c honest stood durable = c.at_rest.ensures.state �
 
 pub returns-in-Ok-clause-moments : goal.returns-in-Ok-clause-moments
 returns-in-Ok-clause-moments g c honest stood durable = rw (c.at_rest.ensures.disk) (c.reopen.ensures.moments honest stood durable)
+
+pub returns-in-Err-clause-sound : goal.returns-in-Err-clause-sound
+returns-in-Err-clause-sound g c honest stood durable =
+    blameless (g.D.Disk.history c.args.disk) (g.D.Disk.history c.reopen.new.disk) stood c.in-Err.why durable (c.in-Err.ensures.opens honest)
