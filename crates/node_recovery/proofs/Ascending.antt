@@ -1,11 +1,10 @@
 -- Names that are listed in order, each once, are those of the folder's log.
-use Rattle.std.proofs.Common.{◌≡◌, ◌⊎◌, inl, inr, ℕ, zero, suc, ◌+◌, ◌*◌, ◌^◌, ◌<◌, ◌≤◌, Bool, true, false, cond, eqb-true, eq-eqb, Option, Some, None, IsSome, List, [], ◌∷◌, length, get_or, refl, sym, ◌∙◌, ap, subst, arith}
+use Rattle.std.proofs.Common.{◌≡◌, ◌⊎◌, inl, inr, ℕ, suc, ◌^◌, ◌<◌, ◌≤◌, Bool, true, false, cond, eqb-true, eq-eqb, Option, Some, None, IsSome, List, [], ◌∷◌, length, get_or, refl, sym, ◌∙◌, subst, arith}
 use Rattle.std.specs.Prelude.{◌==◌, ◌&&◌}
 use Rattle.std.proofs.Props.{props}
 use Rattle.std.proofs.Math.Logic.{∥∥₁_elim}
 use Rattle.std.proofs.lemmas.Bool.{cases_Bool, and_parts, and_from, false≢true}
 use Rattle.std.proofs.lemmas.Map.Keys.{IsDistinct-tail, apart_from_distinct}
-use Rattle.lf_disk.specs.declared.name.FileName.TheVariants.{Ltx as LtxName}
 use Rattle.lf_disk.specs.Folder.{Folder}
 use Rattle.ltx_codec.specs.Format.{IsLtx}
 use Rattle.world_laws.specs.Store.{StoreState}
@@ -87,7 +86,7 @@ module _ (files : List LogFile) (sound : IsLog files) (f : Folder) where
         here.1,
         (bounds 0 files e.min e.max sound.ascends here.0).1,
         ascends_in e.max es
-        (λ a b has. let there = (all a b (inr has)).0 in (there, behind e es a b here.0 there order once has)) order_later (IsDistinct-tail same_numbers e es once),
+            (λ a b has. let there = (all a b (inr has)).0 in (there, behind e es a b here.0 there order once has)) order_later (IsDistinct-tail same_numbers e es once),
       )
 
 pub ascends_listed : (names : List Entry) (f : Folder) (store : StoreState) → AreListed names f → StandsByLog f store → Ascends 0 (files_in names f)

@@ -1,5 +1,5 @@
 -- A folder that stands for a store is not damaged.
-use Rattle.std.proofs.Common.{◌≡◌, ◌≢◌, inl, inr, ℕ, zero, suc, ◌+◌, ◌<◌, ◌≤◌, List, [], ◌∷◌, ◌++◌, length, take, get_or, fold, Option, Some, None, IsSome, Err, refl, sym, ◌∙◌, ap, subst, arith}
+use Rattle.std.proofs.Common.{◌≡◌, inl, inr, ℕ, zero, suc, ◌+◌, ◌<◌, ◌≤◌, List, [], ◌∷◌, ◌++◌, length, take, get_or, fold, Option, Some, None, IsSome, Err, refl, sym, ◌∙◌, ap, subst, arith}
 use Rattle.std.specs.Option.{option_map}
 use Rattle.std.proofs.Math.Logic.{∥∥₁_elim}
 use Rattle.std.proofs.lemmas.List.{append-nil, take_more, get_or-map, length-map}
@@ -7,7 +7,7 @@ use Rattle.std.proofs.lemmas.List.Sums.{fold-append}
 use Rattle.std.proofs.lemmas.Option.{same_Some}
 use Rattle.lf_base.specs.declared.pos.Pos.{Pos}
 use Rattle.lf_disk.specs.declared.name.FileName.{FileName}
-use Rattle.lf_disk.specs.declared.name.FileName.TheVariants.{Database, Snapshot, Dropped, Ltx as LtxName}
+use Rattle.lf_disk.specs.declared.name.FileName.TheVariants.{Database, Snapshot, Ltx as LtxName}
 use Rattle.lf_disk.specs.Folder.{Folder, bytes_of}
 use Rattle.lf_disk.specs.History.{History, now}
 use Rattle.lf_sqlite_pages.specs.Image.{DatabaseImage}
@@ -23,13 +23,13 @@ use Rattle.ltx_codec.proofs.SoundLemmas.{text_sound}
 use Rattle.world_laws.specs.Store.{StoreState, end_of}
 use Rattle.txn_log.specs.declared.entry.Entry.{Entry}
 use Rattle.txn_log.specs.Kept.{LogFile, file_of, change_of, last_of, Decides}
-use Rattle.txn_log.specs.Durable.{Durable, IsText, IsLog, IsSummed, Follow, log_of, StandsByLog, StandsBySnapshot}
+use Rattle.txn_log.specs.Durable.{Durable, IsText, IsLog, IsSummed, Follow, log_of, StandsByLog}
 use Rattle.txn_log.specs.Store.{files_in}
 use Rattle.txn_log.proofs.Stores.{file_at, no_entry}
 use Rattle.node_recovery.specs.declared.fault.RecoverFault.{RecoverFault}
 use Rattle.node_recovery.specs.declared.fault.RecoverFault.TheVariants as fault
 use Rattle.node_recovery.specs.Agreeing.{IsSummedOtherwise}
-use Rattle.node_recovery.specs.Damage.{IsUnread, IsMisnamed, IsApart, last_file, position_behind, IsFirstRefused}
+use Rattle.node_recovery.specs.Damage.{IsUnread, last_file, position_behind, IsFirstRefused}
 use Rattle.node_recovery.specs.Finding.{IsSnapshotRefused, IsLogSummedOtherwise, IsDamaged}
 use Rattle.node_recovery.specs.Listing.{AreListed}
 use Rattle.node_recovery.specs.Opening.{Opens}
