@@ -23,8 +23,6 @@ mod read_requests;
 mod role;
 mod scene;
 mod shared_requests;
-#[cfg(test)]
-mod tests;
 mod view;
 
 pub use fault::ViewFault;
