@@ -5,3 +5,4 @@ mod StoreLemmas
 mod WriteLemmas
 mod MakeLemmas
 mod SoundLemmas
+mod ImportLemmas

@@ -1,9 +1,11 @@
 //! Whole databases out of a store, and into one.
 #![tactic(auto)]
 
+mod comparing;
 mod exporting;
 mod fault;
 mod growing;
+mod importing;
 mod laws;
 mod making;
 mod output;
@@ -13,6 +15,7 @@ mod writing;
 
 pub use exporting::export;
 pub use fault::{ImportFault, IntoFault};
+pub use importing::import_change;
 pub use laws::snapshot_is_a_file;
 pub use making::make_into;
 pub use whole::make;
