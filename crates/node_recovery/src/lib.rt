@@ -15,6 +15,8 @@ mod reading;
 mod recovering;
 mod reopening;
 mod summing;
+#[cfg(test)]
+mod tests;
 
 pub use examining::examine;
 pub use fault::RecoverFault;
