@@ -15,8 +15,6 @@ mod reading;
 mod recovering;
 mod reopening;
 mod summing;
-#[cfg(test)]
-mod tests;
 
 pub use examining::examine;
 pub use fault::RecoverFault;
