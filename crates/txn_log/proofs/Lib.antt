@@ -10,6 +10,7 @@ pub mod Drafts
 pub mod Droppings
 pub mod Emptyings
 pub mod Entries
+pub mod Fittings
 pub mod Givings
 pub mod Growths
 pub mod Installed

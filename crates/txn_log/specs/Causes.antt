@@ -1,5 +1,5 @@
 -- When a store's calls fail.
-use Rattle.std.specs.Prelude.{◌≡◌, ℕ, Bool, true, false, Result, Ok, Err}
+use Rattle.std.specs.Prelude.{◌≡◌, ℕ, Bool, true, Result, Ok, Err}
 use Rattle.lf_base.specs.Faults.{Rose}
 use Rattle.txn_log.specs.declared.fault.StoreFault.{StoreFault}
 use Rattle.txn_log.specs.declared.fault.StoreFault.TheVariants as fault

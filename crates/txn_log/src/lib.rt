@@ -19,6 +19,7 @@ mod encoding;
 mod entry;
 mod fault;
 mod file_decoder;
+mod fitting;
 mod giving;
 mod laws;
 mod laws_of_passing;

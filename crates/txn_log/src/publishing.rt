@@ -63,7 +63,8 @@ pub fn publish<D: Disk>(
     if store.entries.reserve(1).is_err() {
         return Err(StoreFault::NoMemory);
     }
-    match store.sums.reserve(file.header.commit) {
+    let more = file.header.commit.saturating_sub(store.commit);
+    match store.sums.reserve(more) {
         Ok(()) => {}
         Err(_) => return Err(StoreFault::NoMemory),
     }
