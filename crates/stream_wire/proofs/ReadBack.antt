@@ -1,5 +1,5 @@
 -- What the readers answer of bytes that begin with a head that is taken.
-use Rattle.std.proofs.Common.{◌≡◌, ℕ, ◌<◌, ◌≤◌, ◌^◌, ◌++◌, List, [], length, Option, Some, None, IfSome, unwrap_or, Result, Ok, Err, refl, sym, ap, ◌∙◌, subst, append-nil, inl, inr, ◌⊎◌}
+use Rattle.std.proofs.Common.{◌≡◌, ℕ, ◌<◌, ◌≤◌, ◌^◌, ◌++◌, List, [], length, Option, Some, IfSome, unwrap_or, Result, Ok, Err, refl, sym, ap, ◌∙◌, subst, inl, inr, ◌⊎◌}
 use Rattle.http.specs.StatusCode.{IsStatusCode}
 use Rattle.httparse.specs.Grammar.{AllPass, is_value_byte, RequestHead, print_request, ReadsRequest, ResponseHead, print_response, ReadsResponse, status_code}
 use Rattle.httparse.proofs.GrammarLemmas.{request_unique, response_unique, ReadsRequest-append, ReadsResponse-append}
@@ -54,7 +54,7 @@ asks bytes h rest c len (Ok (heard.Whole used call said)) reads taken named meth
     let said_is : hears.said ≡ Some len = cc in
     let body : said ≡ len = hears.len_is ∙ ap (λ (o : Option ℕ). unwrap_or o 0) said_is in
     let names = subst (λ (t : List ℕ). Names (method_of c) t call) (ap (λ (x : RequestHead). x.target) same ∙ target)
-        (subst (λ (m : List ℕ). Names m hears.head.target call) (ap (λ (x : RequestHead). x.method) same ∙ method) hears.names) in
+    (subst (λ (m : List ℕ). Names m hears.head.target call) (ap (λ (x : RequestHead). x.method) same ∙ method) hears.names) in
     let called : call ≡ c = same_call c call named names in
     inl (cc)
 asks bytes h rest c len (Err fault.Head) reads taken named method target hears = absurd (hears [] h (rest ++ []) (Some len) (ReadsRequest-append bytes h rest [] reads) taken)

@@ -1,7 +1,7 @@
 -- Heads that are written are read back.
-use Rattle.std.proofs.Common.{◌≡◌, ◌≢◌, ℕ, zero, suc, ◌∷◌, ◌+◌, ◌*◌, ◌-◌, ◌/◌, ◌%◌, ◌<◌, ◌≤◌, ◌^◌, ◌&&◌, List, [], ◌++◌, length, map, reverse, drop, Bool, true, false, nat_lt, nat_le, IsTrue, Option, Some, None, IfSome, IsUtf8, if◌then◌else◌, unwrap_or, option_and_then, option_map, Result, Ok, Err, refl, sym, ap, ◌∙◌, arith, append_assoc, append-nil, subst, codes, decimal, All, inl, inr, ◌⊎◌, length-append}
+use Rattle.std.proofs.Common.{◌≡◌, ℕ, zero, suc, ◌∷◌, ◌+◌, ◌*◌, ◌-◌, ◌/◌, ◌%◌, ◌<◌, ◌≤◌, ◌^◌, ◌&&◌, List, [], ◌++◌, length, reverse, drop, Bool, true, false, nat_lt, nat_le, IsTrue, Option, Some, None, IfSome, if◌then◌else◌, unwrap_or, refl, sym, ap, ◌∙◌, arith, append_assoc, append-nil, codes, decimal, All, length-append}
 use Rattle.std.proofs.lemmas.Grind.{common_steps}
-use Rattle.std.proofs.lemmas.Bool.{and_from, and_parts}
+use Rattle.std.proofs.lemmas.Bool.{and_parts}
 use Rattle.std.proofs.lemmas.Bool.Decides.{Decides-below_and, nat_tests}
 use Rattle.std.proofs.lemmas.Fmt.{decimal_is_IsNumeral, length-decimal-le}
 use Rattle.std.proofs.lemmas.List.Elements.{All-cons, All-nil, All-head, All-weaker, All-from_get_or, All-append}
@@ -15,7 +15,7 @@ use Rattle.std.specs.Str.{bytes_eq}
 use Rattle.std.specs.Str.Parse.{AllDigits, digits_value_after, digits_value}
 use Rattle.httparse.specs.Ascii.{crlf_bytes}
 use Rattle.http.specs.StatusCode.{IsStatusCode, code_digits, reason_phrase}
-use Rattle.httparse.specs.Grammar.{crlf, Field, IsField, IsToken, is_uri_byte, AllPass, is_token_byte, is_value_byte, is_ows, skip_ows, trim_ows, RequestHead, print_request, ReadsRequest, IsRequestHead, ResponseHead, print_response, ReadsResponse, IsResponseHead, status_code}
+use Rattle.httparse.specs.Grammar.{crlf, Field, IsField, is_uri_byte, AllPass, is_token_byte, is_value_byte, is_ows, skip_ows, trim_ows, RequestHead, print_request, ReadsRequest, ResponseHead, print_response, ReadsResponse, status_code}
 use Rattle.httparse.specs.Spans.{name_and_value}
 use Rattle.httparse.proofs.GrammarLemmas.{cons-append}
 use Rattle.httparse.proofs.TrimLemmas.{trim_ows_space, AllPass-reverse}
@@ -165,8 +165,7 @@ digits_of_code status is =
     let P : ℕ → Type 0 = λ b. IsTrue (is_ascii_digit b) in
     let x = 48 + status / 100 in
     let y = 48 + status / 10 % 10 in
-    let z = 48 + status % 10 in
-    (
+    let z = 48 + status % 10 in (
       refl,
       All-cons P x (y ∷ z ∷ []) a.0 (All-cons P y (z ∷ []) b.0 (All-cons P z [] c.0 (All-nil P))),
       rw (a.1, b.1, c.1) (omega arith),
@@ -197,8 +196,7 @@ are_fields (Some n) fits = All-cons IsField (length_field n) (connection_field �
 
 pub reads_reply : (status : ℕ) (len : Option ℕ) (more : List ℕ) → IsStatusCode status → IfSome len (λ n. n < 2 ^ 64) → ReadsResponse (reply_head status len ++ more) (reply_of status (phrase_of status) len) more
 reads_reply status len more is fits =
-    let code = digits_of_code status is in
-    (
+    let code = digits_of_code status is in (
       record { minor = omega arith; digits = (code.0, code.1); reason = (phrase status is.1).0; fields = are_fields len fits },
       ap (λ (l : List ℕ). l ++ more) (reply_head-text status len),
     )
@@ -312,8 +310,7 @@ pub reads_request : (c : Call) (host : List ℕ) (len : ℕ) (more : List ℕ) �
     → ReadsRequest (request_head c host len ++ more) (request_of c host len) more
 reads_request c host len more named host_fits len_fits =
     let target = plain_target c named in
-    let method = method_token c named in
-    (
+    let method = method_token c named in (
       record {
         method = (method.0, passes is_token_byte (method_of c) method.1);
         target = (target.some, target.bytes);
