@@ -14,6 +14,7 @@ pub mod Fittings
 pub mod Givings
 pub mod Growths
 pub mod Installed
+pub mod Installings
 pub mod Marks
 pub mod Modes
 pub mod Moves
@@ -21,6 +22,7 @@ pub mod Naming
 pub mod PagesRead
 pub mod Places
 pub mod Placings
+pub mod PlacingsAnew
 pub mod Prunings
 pub mod Puttings
 pub mod Receivings

@@ -21,7 +21,7 @@ use lf_disk::Disk;
 use ltx_codec::Ltx;
 
 /// The entry of a file.
-fn entry_of(file: &Ltx) -> Entry
+pub fn entry_of(file: &Ltx) -> Entry
     requires { IsFile file.now }
     ensures { result ≡ entry file.now }
 {

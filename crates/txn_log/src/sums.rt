@@ -1,6 +1,6 @@
 //! The page sums of a database after a change. Only the pages that the change writes are looked at,
 //! and those that come or go.
-ghost use Rattle.std.specs.Prelude.{◌≡◌, ◌+◌, ◌<◌, ◌≤◌, ℕ, List, length, replicate};
+ghost use Rattle.std.specs.Prelude.{◌≡◌, ◌+◌, ◌<◌, ◌≤◌, ℕ, List, [], length, replicate};
 ghost use Rattle.page_checksum.specs.Sums.{flagged, joined};
 ghost use Rattle.lf_sqlite_pages.specs.Change.{empty_change};
 ghost use Rattle.lf_sqlite_pages.specs.Complete.{completed};
@@ -101,4 +101,13 @@ pub fn update(sums: &mut Sums, change: &Change)
     for page in change.pages() {
         sums.set(page.number, page_sum(page.number, page.bytes.as_slice()));
     }
+}
+
+/// Makes the table that of the database that a change makes of nothing.
+pub fn fill(sums: &mut Sums, change: &Change)
+    requires { change.now.commit ≤ length sums.old.sums + sums.old.spare }
+    ensures { sums.new.sums ≡ sums_after [] change.now }
+{
+    sums.resize(0);
+    update(sums, change);
 }
