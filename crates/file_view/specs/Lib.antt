@@ -1,6 +1,7 @@
 pub mod Acting
 pub mod DatabaseParts
 pub mod DatabaseRules
+pub mod Done
 pub mod Endings
 pub mod Errno
 pub mod FileFaults
@@ -10,9 +11,13 @@ pub mod JournalRules
 pub mod JournalState
 pub mod LockRules
 pub mod LogRules
+pub mod LogWriting
 pub mod NameRules
+pub mod Overlay
+pub mod PlanParts
 pub mod Reading
 pub mod Refusal
+pub mod Requests
 pub mod Roles
 pub mod Served
 pub mod ServedParts

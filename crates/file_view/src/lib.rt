@@ -19,6 +19,7 @@ mod lock_requests;
 mod log_requests;
 mod name_requests;
 mod plan;
+mod prepare;
 mod read_requests;
 mod role;
 mod scene;
