@@ -1,0 +1,5 @@
+pub mod Reading
+pub mod Moves
+pub mod Facts
+pub mod Overlay
+pub mod Sound
