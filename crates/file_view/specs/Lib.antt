@@ -1,6 +1,7 @@
 pub mod Acting
 pub mod DatabaseParts
 pub mod DatabaseRules
+pub mod DatabaseState
 pub mod Endings
 pub mod Errno
 pub mod FileFaults
@@ -9,6 +10,7 @@ pub mod JournalParts
 pub mod JournalRules
 pub mod JournalState
 pub mod LockRules
+pub mod LogLaws
 pub mod LogRules
 pub mod NameRules
 pub mod Reading
