@@ -1,10 +1,10 @@
 -- What stands once no rule refuses a change of the database file.
-use Rattle.std.proofs.Common.{◌≡◌, ◌≢◌, ℕ, suc, zero, ◌+◌, ◌-◌, ◌*◌, ◌/◌, ◌%◌, ◌<◌, ◌≤◌, ◌^◌, Bool, true, false, ◌&&◌, ◌||◌, not, length, List, [], ◌∷◌, inl, inr, Option, Some, None, refl, sym, ap, ◌∙◌, subst, arith}
+use Rattle.std.proofs.Common.{◌≡◌, ℕ, suc, ◌+◌, ◌-◌, ◌*◌, ◌/◌, ◌%◌, ◌<◌, ◌≤◌, ◌^◌, Bool, true, false, ◌&&◌, ◌||◌, not, length, List, inl, inr, Option, Some, None, refl, sym, ◌∙◌, subst, arith}
 use Rattle.std.specs.Prelude.{◌==◌, nat_lt, nat_le, is_some, IsSome, unwrap_or, if◌then◌else◌}
-use Rattle.std.specs.List.{list_any, list_all, range_with_len}
+use Rattle.std.specs.List.{list_all, range_with_len}
 use Rattle.std.specs.Option.{option_map}
 use Rattle.std.proofs.Math.Nat.{div-le_self, div-add-mod}
-use Rattle.std.proofs.lemmas.Bool.{cases_Bool, cases_eq, cases_lt, and_parts, cond-true, cond-false}
+use Rattle.std.proofs.lemmas.Bool.{cases_Bool, cases_eq, and_parts, cond-true, cond-false}
 use Rattle.std.proofs.lemmas.Bool.Decides.{nat_tests}
 use Rattle.std.proofs.lemmas.Grind.{common_steps}
 use Rattle.byte_locks.specs.declared.owner.Owner.{Owner}
@@ -25,10 +25,10 @@ use Rattle.file_view.specs.Acting.{is_actor, writes}
 use Rattle.file_view.specs.DatabaseRules.{first_page, page_count, are_pages, most_pages, holds_frame, hold_frames, uncommitted_rows, checkpoint_rows, sized_write_rows, kept_at_most, states_other, writer_after, checkpoint_resize_rows, resize_rows, sized_resize_rows, resizes, is_log_size, states_size}
 use Rattle.file_view.specs.DatabaseParts.{IsOwned}
 use Rattle.file_view.specs.Errno.{EINVAL, EFBIG}
-use Rattle.file_view.specs.Refusal.{Row, first_refusal}
+use Rattle.file_view.specs.Refusal.{first_refusal}
 use Rattle.file_view.specs.Served.{Served, log_text, has_committed_frames}
 use Rattle.file_view.specs.Sound.{IsSound}
-use Rattle.file_view.proofs.RowLemmas.{NoneHolds, none-holds}
+use Rattle.file_view.proofs.RowLemmas.{none-holds, nothing-held}
 
 -- a page size is above 0
 pub size-some : (size : ℕ) → IsPageSize size → 0 < size
@@ -79,10 +79,10 @@ torn-none (Some owner) h = absurd cc
 
 -- uncommitted pages
 uncommitted-owned : (s : Served) (scene : Scene) (given : Option ℕ) (size count : ℕ) (other : Bool) → first_refusal (uncommitted_rows s scene given size count other) ≡ None →
-    IsSome (writer_of s.locks lock.Shared) × (s.torn ≡ None)
+    IsSome (writer_of s.locks lock.Shared) × (s.torn ≡ None) × (s.held_write ≡ None)
 uncommitted-owned s scene given size count other none =
     let rows = none-holds (uncommitted_rows s scene given size count other) none in
-    (writer-there s.locks scene.session given lock.Shared (opposite _ rows.1.0), torn-none s.torn rows.1.1.0)
+    (writer-there s.locks scene.session given lock.Shared (opposite _ rows.1.0), torn-none s.torn rows.1.1.0, nothing-held s rows.1.1.1.1.1.0)
 
 -- a checkpoint
 framed-some : (text : List ℕ) (page : ℕ) (bytes : List ℕ) → holds_frame text page bytes ≡ true → nat_lt 0 (committed_count text) ≡ true
@@ -141,25 +141,30 @@ write-owned s scene given place bytes size none =
       | inl active ↦
           let rows = rw active at parts.2 in
           let both = uncommitted-owned s scene given size _ _ rows in
-          record { owned = λ _. both.0; whole = λ _. both.1; framed = λ fails. absurd (let e : true ≡ false = sym active ∙ fails in cc) }
+          record { owned = λ _. both.0; whole = λ _. both.1; framed = λ fails. absurd (let e : true ≡ false = sym active ∙ fails in cc); free = both.2 }
       | inr idle ↦
           let rows = rw idle at parts.2 in
           record {
             owned = λ holds. absurd (let e : false ≡ true = sym idle ∙ holds in cc);
             whole = λ holds. absurd (let e : false ≡ true = sym idle ∙ holds in cc);
             framed = λ _. checkpoint-framed s scene given size place bytes some rows;
+            free = nothing-held s (none-holds (checkpoint_rows s scene given size place bytes) rows).1.1.0;
           }
     ]
 
 -- the files stay sound while the database file is another
-sound-active : (s : Served) (d : DatabaseFile) → is_active s.journal.file ≡ true → IsSome (writer_of s.locks lock.Shared) → s.torn ≡ None → IsSound s →
-    IsSound (record s { database = d; writer = writer_of s.locks lock.Shared })
-sound-active s d active there whole sound = record {
+sound-active : (s : Served) (d : DatabaseFile) → is_active s.journal.file ≡ true → IsSome (writer_of s.locks lock.Shared) → s.torn ≡ None → s.held_write ≡ None →
+    IsSound s → IsSound (record s { database = d; writer = writer_of s.locks lock.Shared })
+sound-active s d active there whole free sound = record {
   exclusive = λ owner is. is;
   torn = λ owner is. absurd (let e : None ≡ Some owner = sym whole ∙ is in cc);
   apart = λ owner is. absurd (let e : None ≡ Some owner = sym whole ∙ is in cc);
   journaled = λ owner is. active;
   settled = λ none frames. absurd (let e = rw none at there in cc);
+  alone = λ call is. free;
+  unwritten = λ owner is. free;
+  logged = sound.logged;
+  left = sound.left;
 }
 
 sound-inactive : (s : Served) (d : DatabaseFile) → has_committed_frames s ≡ true → IsSound s → IsSound (record s { database = d; writer = s.writer })
@@ -169,13 +174,17 @@ sound-inactive s d framed sound = record {
   apart = sound.apart;
   journaled = sound.journaled;
   settled = λ none frames. absurd (let e : true ≡ false = sym framed ∙ frames in cc);
+  alone = sound.alone;
+  unwritten = sound.unwritten;
+  logged = sound.logged;
+  left = sound.left;
 }
 
 pub changed-sound : (s : Served) (d : DatabaseFile) (w : Option Owner) → w ≡ writer_after s → IsOwned s → IsSound s → IsSound (record s { database = d; writer = w })
 changed-sound s d w is owned sound = elim (cases_Bool (is_active s.journal.file)) [
   | inl holds ↦
       let e : w ≡ writer_of s.locks lock.Shared = is ∙ cond-true _ _ _ holds in
-      rw e (sound-active s d holds (owned.owned holds) (owned.whole holds) sound)
+      rw e (sound-active s d holds (owned.owned holds) (owned.whole holds) owned.free sound)
   | inr fails ↦
       let e : w ≡ s.writer = is ∙ cond-false _ _ _ fails in
       rw e (sound-inactive s d (owned.framed fails) sound)
@@ -210,13 +219,14 @@ resize-rows-owned s scene given size count none other =
       | inl active ↦
           let rows = rw active at rest in
           let both = uncommitted-owned s scene given size (kept_at_most s.database scene.commit count 0) false rows in
-          record { owned = λ _. both.0; whole = λ _. both.1; framed = λ fails. absurd (let e : true ≡ false = sym active ∙ fails in cc) }
+          record { owned = λ _. both.0; whole = λ _. both.1; framed = λ fails. absurd (let e : true ≡ false = sym active ∙ fails in cc); free = both.2 }
       | inr idle ↦
           let rows = rw idle at rest in
           record {
             owned = λ holds. absurd (let e : false ≡ true = sym idle ∙ holds in cc);
             whole = λ holds. absurd (let e : false ≡ true = sym idle ∙ holds in cc);
             framed = λ _. resize-idle s scene given count rows;
+            free = nothing-held s (none-holds (checkpoint_resize_rows s scene given count) rows).1.1.0;
           }
     ]
 

@@ -1,5 +1,5 @@
 -- What committed frames hold and state, as tests.
-use Rattle.std.proofs.Common.{◌≡◌, ℕ, zero, suc, ◌+◌, ◌-◌, ◌<◌, ◌≤◌, Bool, true, false, ◌&&◌, ◌||◌, length, List, [], ◌∷◌, refl, sym, ap, ◌∙◌, arith, inl, inr, ⊎_elim, ◌↔◌, IsTrue, subst}
+use Rattle.std.proofs.Common.{◌≡◌, ℕ, zero, suc, ◌+◌, ◌<◌, Bool, true, false, List, refl, sym, ◌∙◌, arith, inl, inr, ⊎_elim, ◌↔◌, IsTrue}
 use Rattle.std.specs.Prelude.{◌==◌, get_or}
 use Rattle.std.specs.List.{list_any, list_all, range_with_len}
 use Rattle.std.specs.Str.{bytes_eq}
@@ -8,7 +8,7 @@ use Rattle.std.proofs.lemmas.Bool.Decides.{nat_tests}
 use Rattle.std.proofs.lemmas.List.Folds.{list_any_at}
 use Rattle.std.proofs.lemmas.List.FromFn.{length-range_with_len, get_or-range_with_len}
 use Rattle.std.proofs.lemmas.Slice.Eq.{bytes_eq-Decides}
-use Rattle.wal_watch.specs.Frames.{committed_count, number_in, size_in, page_in}
+use Rattle.wal_watch.specs.Frames.{committed_count, number_in, page_in}
 use Rattle.wal_watch.specs.News.{HoldsFrame, HasSize}
 use Rattle.file_view.specs.DatabaseRules.{holds_frame, states_size}
 

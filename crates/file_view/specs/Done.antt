@@ -21,8 +21,7 @@ use Rattle.file_view.specs.DatabaseRules.{write_size, IsDatabaseWritten, Databas
 use Rattle.file_view.specs.HandleRules.{IsOpened, released, flushed}
 use Rattle.file_view.specs.JournalRules.{JournalDone}
 use Rattle.file_view.specs.LockRules.{locks_at, after_wish, getlk_reply}
-use Rattle.file_view.specs.LogRules.{log_cut, log_removed}
-use Rattle.file_view.specs.LogWriting.{LogDone}
+use Rattle.file_view.specs.LogRules.{LogDone, log_cut, log_removed}
 use Rattle.file_view.specs.NameRules.{IsCreated}
 use Rattle.file_view.specs.Reading.{IsReading}
 use Rattle.file_view.specs.Requests.{owner_of}

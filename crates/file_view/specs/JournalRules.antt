@@ -1,5 +1,5 @@
 -- WRITE, SETATTR of a size and UNLINK of the journal, and the commits that they end in.
-use Rattle.std.specs.Prelude.{◌≡◌, ℕ, Bool, true, false, ◌&&◌, ◌||◌, not, is_some, nat_lt, Option, Some, None, IfSome, List, [], ◌∷◌, ◌++◌, length, if◌then◌else◌}
+use Rattle.std.specs.Prelude.{◌≡◌, ℕ, Bool, true, false, ◌&&◌, ◌||◌, not, is_some, nat_lt, Option, Some, None, IfSome, List, [], ◌∷◌, if◌then◌else◌}
 use Rattle.byte_locks.specs.declared.lock_id.LockId.TheVariants as lock
 use Rattle.byte_locks.specs.LockList.{LockList}
 use Rattle.database_file.specs.Commit.{IsChangeOf, LeadsTo, committed_image}
@@ -12,7 +12,7 @@ use Rattle.file_view.specs.declared.journal.JournalCall.TheVariants as call
 use Rattle.file_view.specs.declared.scene.Scene.{Scene}
 use Rattle.file_view.specs.Acting.{writes}
 use Rattle.file_view.specs.Errno.{EPERM, EIO, EAGAIN, EACCES, ENOSPC, EROFS}
-use Rattle.file_view.specs.JournalState.{JournalState, call_finishes, called, holding, reach}
+use Rattle.file_view.specs.JournalState.{call_finishes, called, holding, reach}
 use Rattle.file_view.specs.Refusal.{Row}
 use Rattle.file_view.specs.Roles.{is_replica}
 use Rattle.file_view.specs.Served.{Served, has_committed_frames, waits}

@@ -15,8 +15,10 @@ mod handle_requests;
 mod journal;
 mod journal_calls;
 mod journal_requests;
+mod laws;
 mod lock_requests;
 mod log_requests;
+mod log_writing;
 mod name_requests;
 mod plan;
 mod prepare;
@@ -27,6 +29,7 @@ mod shared_requests;
 mod view;
 
 pub use fault::ViewFault;
+pub use laws::log_write_keeps_the_database;
 pub use plan::Plan;
 pub use role::Role;
 pub use scene::Scene;
