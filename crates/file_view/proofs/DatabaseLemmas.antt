@@ -39,7 +39,7 @@ size-some size is = elim (cases_eq size 0) [
 ]
 
 -- a test whose opposite is false is true
-opposite : (b : Bool) → not b ≡ false → b ≡ true
+pub opposite : (b : Bool) → not b ≡ false → b ≡ true
 opposite true h = refl
 opposite false h = absurd cc
 
@@ -67,7 +67,7 @@ pages-are size place bytes pages within =
     }
 
 -- the owner of EXCLUSIVE is there
-writer-there : (locks : LockList) (session : ℕ) (given : Option ℕ) (l : LockId) → writes locks session given l ≡ true → IsSome (writer_of locks l)
+pub writer-there : (locks : LockList) (session : ℕ) (given : Option ℕ) (l : LockId) → writes locks session given l ≡ true → IsSome (writer_of locks l)
 writer-there locks session given l h = looked (writer_of locks l) h where
   looked : (o : Option Owner) → unwrap_or (option_map (is_actor session given) o) false ≡ true → is_some o ≡ true
   looked None h = absurd cc
@@ -97,7 +97,7 @@ first-held text size first bytes n count h =
     framed-some text (first + 0) (page_of_bytes bytes size 0)
     (and_parts (holds_frame text (first + 0) (page_of_bytes bytes size 0)) (list_all (λ k. holds_frame text (first + k) (page_of_bytes bytes size k)) (range_with_len 1 n)) e).0
 
-checkpoint-framed : (s : Served) (scene : Scene) (given : Option ℕ) (size place : ℕ) (bytes : List ℕ) → 1 ≤ page_count size bytes →
+pub checkpoint-framed : (s : Served) (scene : Scene) (given : Option ℕ) (size place : ℕ) (bytes : List ℕ) → 1 ≤ page_count size bytes →
     first_refusal (checkpoint_rows s scene given size place bytes) ≡ None → has_committed_frames s ≡ true
 checkpoint-framed s scene given size place bytes some none =
     let held : hold_frames (log_text s) size (first_page size place) bytes ≡ true = opposite _ (none-holds (checkpoint_rows s scene given size place bytes) none).1.0 in
@@ -106,7 +106,7 @@ checkpoint-framed s scene given size place bytes some none =
     first-held (log_text s) size (first_page size place) bytes n count held
 
 -- two rows that don't hold
-two-fail : (a b : Bool) (m n : Errno) (rest : Option Errno) → (if a then Some m else (if b then Some n else rest)) ≡ None → (a ≡ false) × (b ≡ false) × (rest ≡ None)
+pub two-fail : (a b : Bool) (m n : Errno) (rest : Option Errno) → (if a then Some m else (if b then Some n else rest)) ≡ None → (a ≡ false) × (b ≡ false) × (rest ≡ None)
 two-fail true b m n rest h = absurd cc
 two-fail false true m n rest h = absurd cc
 two-fail false false m n rest h = (refl, refl, h)
@@ -202,10 +202,10 @@ resize-fits s scene given len size none =
     resize-small len size
     (two-fail (not (len % size == 0)) (nat_lt (most_pages size) (len / size)) EINVAL EFBIG (first_refusal (resize_rows s scene given size (len / size))) none).1
 
-three-fail : (a b : Bool) (m n : Errno) (rest : Option Errno) → (if a then Some m else (if b then Some n else rest)) ≡ None → rest ≡ None
+pub three-fail : (a b : Bool) (m n : Errno) (rest : Option Errno) → (if a then Some m else (if b then Some n else rest)) ≡ None → rest ≡ None
 three-fail a b m n rest h = (two-fail a b m n rest h).2
 
-resize-idle : (s : Served) (scene : Scene) (given : Option ℕ) (count : ℕ) → first_refusal (checkpoint_resize_rows s scene given count) ≡ None → has_committed_frames s ≡ true
+pub resize-idle : (s : Served) (scene : Scene) (given : Option ℕ) (count : ℕ) → first_refusal (checkpoint_resize_rows s scene given count) ≡ None → has_committed_frames s ≡ true
 resize-idle s scene given count none =
     let text : List ℕ = log_text s in
     let stated : is_log_size text count ≡ true = opposite (is_log_size text count) (none-holds (checkpoint_resize_rows s scene given count) none).1.0 in

@@ -42,6 +42,13 @@ holds_frame_is text page bytes r decides =
     (λ held. any-among _ (committed_count text) held.0 held.1.among
     (and_from _ _ (grind (arith, nat_tests, held.1.number)) ((bytes_eq-Decides _ _).1 held.1.same)))
 
+-- what such a test says
+pub holds-is : (text : List ℕ) (page : ℕ) (bytes : List ℕ) → holds_frame text page bytes ≡ true → HoldsFrame text page bytes
+holds-is text page bytes holds =
+    let found = found-among _ 0 (committed_count text) holds in
+    let both = and_parts (number_in text found.0 == page) (bytes_eq (page_in text found.0) bytes) found.2 in
+    (found.0, record { among = omega (arith, found.1); number = grind (arith, nat_tests, both.0); same = (bytes_eq-Decides _ _).0 both.1 })
+
 pub states_size_is : (text : List ℕ) (count : ℕ) (r : Bool) → (IsTrue r ↔ HasSize text count) → r ≡ states_size text count
 states_size_is text count r decides =
     same-test r (states_size text count) decides

@@ -66,7 +66,7 @@ not-grown count end after len none below grown empty more = elim (cases_lt len e
 ]
 
 -- a log cut to nothing has no frames
-nothing-left : (text : List ℕ) (len : ℕ) → committed_count [] ≡ 0 → len ≡ 0 → committed_count (resized len text) ≡ 0
+pub nothing-left : (text : List ℕ) (len : ℕ) → committed_count [] ≡ 0 → len ≡ 0 → committed_count (resized len text) ≡ 0
 nothing-left text len none zero =
     let e : resized 0 text ≡ [] = let z : 0 - length text ≡ 0 = omega arith in rw z refl in
     rw (zero, e) none

@@ -56,9 +56,10 @@ journal_unlink_rows s scene =
     ∷ finishing_rows s scene None call.Unlink
 
 -- the change that a call commits, if it does: where it ends a transaction that has written pages, the change that leads from the
--- committed image to the database file, cut to its header's size
+-- committed image to the database file, cut to its header's size. A file that is the image commits nothing
 pub record Commits (told : Option DatabaseImage) (s : Served) (scene : Scene) (c : JournalCall) (change : Option PageChange) : Type 0 where
   pub nothing : ends_writing s c ≡ false → change ≡ None
+  pub of_the_image : is_clean s.database ≡ true → change ≡ None
   pub leads : ends_writing s c ≡ true → IfSome told (λ i. KeepsDifferences s.database i → LeadsTo i (committed_image s.database i) change)
   pub is : ends_writing s c ≡ true → IfSome change (IsChangeOf s.database scene.page_size scene.commit)
 

@@ -6,6 +6,12 @@
 #![tactic(auto)]
 
 mod acting;
+mod answer_bytes;
+mod answer_handles;
+mod answer_locks;
+mod answer_names;
+mod answer_sizes;
+mod answering;
 mod database_requests;
 mod database_resize;
 mod endings;
