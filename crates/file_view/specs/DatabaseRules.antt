@@ -1,5 +1,5 @@
 -- WRITE and SETATTR of a size of the database file.
-use Rattle.std.specs.Prelude.{◌≡◌, ℕ, ◌+◌, ◌-◌, ◌*◌, ◌/◌, ◌%◌, ◌==◌, Bool, true, false, ◌&&◌, ◌||◌, not, is_some, nat_lt, nat_le, min, Option, Some, None, IfSome, List, [], ◌∷◌, length, unwrap_or, if◌then◌else◌}
+use Rattle.std.specs.Prelude.{◌≡◌, ℕ, ◌+◌, ◌-◌, ◌/◌, ◌%◌, ◌==◌, Bool, true, false, ◌&&◌, ◌||◌, not, is_some, nat_lt, nat_le, min, Option, Some, None, IfSome, List, [], ◌∷◌, length, unwrap_or, if◌then◌else◌}
 use Rattle.std.specs.List.{list_any, list_all, range_with_len}
 use Rattle.std.specs.Option.{option_map, option_or}
 use Rattle.std.specs.Str.{bytes_eq}
@@ -10,12 +10,10 @@ use Rattle.byte_locks.specs.LockList.{writer_of}
 use Rattle.database_file.specs.DatabaseFile.{DatabaseFile, FitsShape, KeepsDifferences, as_read, count_over, is_clean}
 use Rattle.database_file.specs.Writing.{with_pages, sized}
 use Rattle.database_file.specs.Writing.{page_in as page_of_bytes}
-use Rattle.journal_watch.specs.Journal.{is_active, bytes_of}
-use Rattle.lf_base.specs.Endian.{be32_at}
+use Rattle.journal_watch.specs.Journal.{is_active}
 use Rattle.lf_sqlite_pages.specs.Header.{page_size_of}
 use Rattle.lf_sqlite_pages.specs.Image.{DatabaseImage}
 use Rattle.lf_sqlite_pages.specs.LockPage.{lock_page_of}
-use Rattle.lf_sqlite_pages.specs.PageSize.{is_page_size}
 use Rattle.wal_watch.specs.Frames.{committed_count, number_in, size_in, page_in}
 use Rattle.wal_watch.specs.News.{last_size}
 use Rattle.file_view.specs.declared.scene.Scene.{Scene}

@@ -1,6 +1,5 @@
 -- What a request does that no row refuses: its reply, and the files afterwards.
-use Rattle.std.specs.Prelude.{◌≡◌, ℕ, ◌/◌, Option, Some, None, List, [], length, unwrap_or}
-use Rattle.std.specs.Option.{option_map}
+use Rattle.std.specs.Prelude.{◌≡◌, ℕ, ◌/◌, Option, Some, None, IsSomeAnd, List, [], length}
 use Rattle.byte_locks.specs.declared.lock_bytes.FileKind.{FileKind}
 use Rattle.byte_locks.specs.declared.lock_bytes.FileKind.TheVariants as file
 use Rattle.file_handles.specs.Names.{file_named}
@@ -18,11 +17,10 @@ use Rattle.file_view.specs.declared.plan.Plan.{Plan}
 use Rattle.file_view.specs.declared.plan.Plan.TheVariants as plan
 use Rattle.file_view.specs.declared.scene.Scene.{Scene}
 use Rattle.file_view.specs.DatabaseRules.{write_size, IsDatabaseWritten, DatabaseSized}
-use Rattle.file_view.specs.HandleRules.{IsOpened, released, flushed}
+use Rattle.file_view.specs.HandleRules.{size_at, IsOpened, released, flushed}
 use Rattle.file_view.specs.JournalRules.{JournalDone}
 use Rattle.file_view.specs.LockRules.{locks_at, after_wish, getlk_reply}
-use Rattle.file_view.specs.LogRules.{log_cut, log_removed}
-use Rattle.file_view.specs.LogWriting.{LogDone}
+use Rattle.file_view.specs.LogRules.{LogDone, log_cut, log_removed}
 use Rattle.file_view.specs.NameRules.{IsCreated}
 use Rattle.file_view.specs.Reading.{IsReading}
 use Rattle.file_view.specs.Requests.{owner_of}
@@ -39,10 +37,6 @@ abbrev pub MayCommit : Plan → Reply → (Option PageChange → Type 0) → Typ
 MayCommit (plan.Reply given) r Does = (given ≡ r) × Does None
 MayCommit plan.Silent r Does = ⊥
 MayCommit (plan.Commit given change) r Does = (given ≡ r) × Does (Some change)
-
--- how many bytes a node has: as many as its file, and the folder none
-abbrev pub node_size : Served → Scene → ℕ → ℕ
-node_size s scene node = unwrap_or (option_map (file_size s scene) (file_at node)) 0
 
 -- LOOKUP of the name of a file
 abbrev pub IsFound : Served → Scene → FileKind → Plan → Served → Type 0
@@ -108,23 +102,23 @@ IsUnlinked told old scene (Some file.Primary) p new = ⊥
 
 -- what each operation does on a node
 abbrev pub IsDoneAt : Option DatabaseImage → Served → Scene → ℕ → Op → Plan → Served → Type 0
-IsDoneAt told old scene node (op.Lookup name) p new = (f : FileKind) → file_named old.name name ≡ Some f → IsFound old scene f p new
+IsDoneAt told old scene node (op.Lookup name) p new = IsSomeAnd (file_named old.name name) (λ f. IsFound old scene f p new)
 IsDoneAt told old scene node op.Forget p new = (p ≡ plan.Silent) × (new ≡ old)
-IsDoneAt told old scene node op.Getattr p new = IsReplied p (reply.Attr node (node_size old scene node)) old new
-IsDoneAt told old scene node (op.Setattr None given) p new = IsReplied p (reply.Attr node (node_size old scene node)) old new
+IsDoneAt told old scene node op.Getattr p new = IsReplied p (reply.Attr node (size_at old scene node)) old new
+IsDoneAt told old scene node (op.Setattr None given) p new = IsReplied p (reply.Attr node (size_at old scene node)) old new
 IsDoneAt told old scene node (op.Setattr (Some len) given) p new = IsSized told old scene node (file_at node) len p new
 IsDoneAt told old scene node (op.Unlink name) p new = IsUnlinked told old scene (file_named old.name name) p new
-IsDoneAt told old scene node op.Open p new = (f : FileKind) → file_at node ≡ Some f → (fh : ℕ) × HasOpened old scene f fh p new
-IsDoneAt told old scene node (op.Read fh place size given) p new = (f : FileKind) → file_at node ≡ Some f → (bytes : List ℕ) × HasRead told old scene f place size bytes p new
+IsDoneAt told old scene node op.Open p new = IsSomeAnd (file_at node) (λ f. (fh : ℕ) × HasOpened old scene f fh p new)
+IsDoneAt told old scene node (op.Read fh place size given) p new = IsSomeAnd (file_at node) (λ f. (bytes : List ℕ) × HasRead told old scene f place size bytes p new)
 IsDoneAt told old scene node (op.Write fh place given bytes) p new = IsWritten told old scene (file_at node) place bytes p new
 IsDoneAt told old scene node (op.Release fh owner) p new = IsReplied p reply.Empty (released old scene fh) new
 IsDoneAt told old scene node (op.Fsync fh) p new = IsReplied p reply.Empty old new
-IsDoneAt told old scene node (op.Flush fh owner) p new = (f : FileKind) → file_at node ≡ Some f → IsReplied p reply.Empty (flushed old (owner_of scene owner) f) new
+IsDoneAt told old scene node (op.Flush fh owner) p new = IsSomeAnd (file_at node) (λ f. IsReplied p reply.Empty (flushed old (owner_of scene owner) f) new)
 IsDoneAt told old scene node (op.Init major minor) p new = IsReplied p reply.Init old new
 IsDoneAt told old scene node (op.Getlk fh owner start end wish) p new = IsReplied p (getlk_reply old (owner_of scene owner) (locks_at node start end) start end wish) old new
 IsDoneAt told old scene node (op.Setlk fh owner start end wish) p new = IsReplied p reply.Empty (after_wish old (owner_of scene owner) (locks_at node start end) wish) new
 IsDoneAt told old scene node (op.Setlkw fh owner start end wish) p new = IsReplied p reply.Empty (after_wish old (owner_of scene owner) (locks_at node start end) wish) new
-IsDoneAt told old scene node (op.Create name) p new = (f : FileKind) → file_named old.name name ≡ Some f → (fh : ℕ) × HasCreated old scene f fh p new
+IsDoneAt told old scene node (op.Create name) p new = IsSomeAnd (file_named old.name name) (λ f. (fh : ℕ) × HasCreated old scene f fh p new)
 IsDoneAt told old scene node op.Destroy p new = IsReplied p reply.Empty old new
 
 -- what a request does

@@ -1,6 +1,7 @@
 pub mod Acting
 pub mod DatabaseParts
 pub mod DatabaseRules
+pub mod DatabaseState
 pub mod Done
 pub mod Endings
 pub mod Errno
@@ -10,8 +11,8 @@ pub mod JournalParts
 pub mod JournalRules
 pub mod JournalState
 pub mod LockRules
+pub mod LogLaws
 pub mod LogRules
-pub mod LogWriting
 pub mod NameRules
 pub mod Overlay
 pub mod PlanParts

@@ -3,12 +3,13 @@
 use Rattle.std.specs.Prelude.{ℕ, is_some, Option, IfSome, if◌then◌else◌}
 use Rattle.std.specs.Option.{option_map}
 use Rattle.database_file.specs.DatabaseFile.{DatabaseFile, FitsShape, KeepsDifferences, clean}
-use Rattle.database_under_log.specs.Over.{Agrees, FollowsLog}
+use Rattle.database_under_log.specs.Over.{Agrees}
 use Rattle.lf_sqlite_pages.specs.Apply.{apply}
 use Rattle.lf_sqlite_pages.specs.Image.{DatabaseImage}
 use Rattle.file_view.specs.declared.plan.Plan.{Plan}
 use Rattle.file_view.specs.declared.plan.Plan.TheVariants as plan
 use Rattle.file_view.specs.Endings.{committed}
+use Rattle.file_view.specs.LogRules.{FollowsImage}
 use Rattle.file_view.specs.Served.{Served, log_text}
 
 -- the database file without its uncommitted pages: while there is a writer, all that it keeps is uncommitted
@@ -25,10 +26,10 @@ pub record IsOverImage (s : Served) (image : DatabaseImage) : Type 0 where
   pub differs : KeepsDifferences s.database image
   pub agrees : AgreesOver s image
 
--- what is kept fits an image's page size and number of pages, and so do the committed frames
+-- what is kept fits an image's page size and number of pages, and the committed frames state these
 pub record FitsImage (s : Served) (page_size commit : ℕ) : Type 0 where
   pub fits : FitsShape s.database page_size commit
-  pub follows : FollowsLog (without_uncommitted s) page_size commit (log_text s)
+  pub follows : FollowsImage (log_text s) page_size commit
 
 -- the files stand over an image of a page size and a number of pages, and over its pages where these are told
 pub record StandsOver (told : Option DatabaseImage) (page_size commit : ℕ) (s : Served) : Type 0 where

@@ -15,8 +15,7 @@ use Rattle.file_view.specs.Errno.{EPERM}
 use Rattle.file_view.specs.HandleRules.{known_rows, served_rows, handle_rows, lock_handle_rows, closing_rows, open_rows}
 use Rattle.file_view.specs.JournalRules.{journal_rows}
 use Rattle.file_view.specs.LockRules.{locks_at, setlk_rows}
-use Rattle.file_view.specs.LogRules.{log_cut_rows}
-use Rattle.file_view.specs.LogWriting.{log_write_rows}
+use Rattle.file_view.specs.LogRules.{log_write_rows, log_cut_rows}
 use Rattle.file_view.specs.NameRules.{lookup_rows, create_rows, unlink_rows}
 use Rattle.file_view.specs.Refusal.{Row}
 use Rattle.file_view.specs.Served.{Served}
