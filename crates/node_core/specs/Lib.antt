@@ -10,3 +10,4 @@ pub mod Committing
 pub mod Serving
 pub mod Steps
 pub mod Opening
+pub mod Runs

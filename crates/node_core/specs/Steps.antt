@@ -36,7 +36,7 @@ pub record TellsPosition (start : History) (old : NodeParts) (answer : Answer) (
 
 -- what each ask does, over any disk
 abbrev pub Does : History → NodeParts → ℕ → Ask → Answer → History → NodeParts → Type 0
-Does start old caller (asks.File now request) answer end new = AnswersFile (unlinks_database old.files request) start (at_moment old now) caller request answer end new
+Does start old caller (asks.File now request) answer end new = AnswersFile (unlinks_database old.config request) start (at_moment old now) caller request answer end new
 Does start old caller asks.EndSession answer end new = EndsSession start old caller answer end new
 Does start old caller asks.Where answer end new = TellsPosition start old answer end new
 

@@ -13,13 +13,13 @@ use Rattle.file_view.specs.Endings.{applied, first_blocking}
 use Rattle.file_view.specs.Errno.{EAGAIN, EROFS}
 use Rattle.file_view.specs.Refusal.{IsAllowed, Row, first_refusal}
 use Rattle.file_view.specs.Roles.{is_replica}
-use Rattle.file_view.specs.Served.{Served}
 use Rattle.txn_log.specs.declared.fault.StoreFault.{StoreFault}
 use Rattle.txn_log.specs.Causes.{Breaks}
 use Rattle.txn_log.specs.Dropping.{DropsAll}
 use Rattle.world_laws.specs.Store.{DropAll}
 use Rattle.node_core.specs.declared.answer.Answer.{Answer}
 use Rattle.node_core.specs.declared.answer.Answer.TheVariants as answers
+use Rattle.node_core.specs.declared.config.NodeConfig.{NodeConfig}
 use Rattle.node_core.specs.Calls.{Changes}
 use Rattle.node_core.specs.Errors.{errno_of_store}
 use Rattle.node_core.specs.Nodes.{NodeParts}
@@ -32,8 +32,8 @@ unlinks name (op.Unlink given) = bytes_eq given name
 unlinks name _ = false
 
 -- whether a request unlinks the database file
-abbrev pub unlinks_database : Served → Request → Bool
-unlinks_database s request = (request.node == root) && unlinks s.name request.op
+abbrev pub unlinks_database : NodeConfig → Request → Bool
+unlinks_database config request = (request.node == root) && unlinks config.name request.op
 
 -- its rows, in order: at a replica the files are read alone; and a lock is held that holds a frame back
 abbrev pub unlink_rows : NodeParts → List Row

@@ -8,12 +8,16 @@ mod answer;
 mod ask;
 mod config;
 mod errno;
+mod laws;
 mod lending;
 mod node;
 mod opening;
+mod serving;
 mod stepping;
+mod unlinking;
 
 pub use answer::Answer;
 pub use ask::Ask;
 pub use config::NodeConfig;
+pub use laws::{crashes_are_opened, runs_are_steps};
 pub use node::Node;
