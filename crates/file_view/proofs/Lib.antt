@@ -1,3 +1,4 @@
+pub mod AwaitLemmas
 pub mod DatabaseLemmas
 pub mod FaultLemmas
 pub mod FrameLemmas

@@ -1,5 +1,5 @@
 -- How the files go on to stand over the committed image at every request.
-use Rattle.std.proofs.Common.{◌≡◌, ◌≢◌, ℕ, ◌<◌, Bool, true, false, ◌&&◌, ◌||◌, not, length, List, [], ◌∷◌, ◌++◌, Option, Some, None, IfSome, refl, sym, ap, ◌∙◌, inl, inr, subst, arith}
+use Rattle.std.proofs.Common.{◌≡◌, ◌≢◌, ℕ, ◌<◌, Bool, true, false, ◌&&◌, ◌||◌, not, length, List, [], ◌∷◌, ◌++◌, Option, Some, None, IfSome, Result, Ok, Err, IfOk, OnOk, OnErr, refl, sym, ap, ◌∙◌, inl, inr, subst, arith}
 use Rattle.std.specs.Prelude.{is_some, IsSomeAnd, if◌then◌else◌}
 use Rattle.std.proofs.lemmas.Bool.{cases_Bool, and_parts, cond-true, cond-false}
 use Rattle.byte_locks.specs.declared.lock_bytes.FileKind.{FileKind}
@@ -19,27 +19,29 @@ use Rattle.fuse_msgs.specs.declared.request.LockWish.{LockWish}
 use Rattle.fuse_msgs.specs.declared.request.LockWish.TheVariants as wish
 use Rattle.fuse_msgs.specs.declared.request.Op.{Op}
 use Rattle.fuse_msgs.specs.declared.request.Op.TheVariants as op
+use Rattle.fuse_msgs.specs.declared.request.Request.{Request}
 use Rattle.lf_base.specs.declared.errno.Errno.{Errno}
 use Rattle.lf_sqlite_pages.specs.Change.{PageChange}
 use Rattle.lf_sqlite_pages.specs.Image.{DatabaseImage}
 use Rattle.lf_sqlite_pages.specs.PageSize.{IsPageSize}
+use Rattle.file_view.specs.declared.fault.ViewFault.{ViewFault}
 use Rattle.file_view.specs.declared.journal.JournalCall.{JournalCall}
 use Rattle.file_view.specs.declared.journal.JournalCall.TheVariants as call
 use Rattle.file_view.specs.declared.plan.Plan.{Plan}
 use Rattle.file_view.specs.declared.plan.Plan.TheVariants as plan
 use Rattle.file_view.specs.declared.scene.Scene.{Scene}
-use Rattle.file_view.specs.Done.{IsReplied, MayCommit, IsWritten, IsSized, IsUnlinked, IsDoneAt}
+use Rattle.file_view.specs.Done.{IsReplied, MayCommit, IsWritten, IsSized, IsUnlinked, IsDoneAt, IsDone}
 use Rattle.file_view.specs.JournalRules.{ends_writing, finishes, after_journal_call, JournalDone}
 use Rattle.file_view.specs.LockRules.{locks_at, after_wish}
 use Rattle.file_view.specs.LogRules.{log_after, log_written, log_write_rows, LogStored, LogDone}
 use Rattle.file_view.specs.NameRules.{with_file, unlinking_rows}
 use Rattle.file_view.specs.Overlay.{without_uncommitted, IsOverImage, StandsOver}
-use Rattle.file_view.specs.Refusal.{Row, first_refusal}
-use Rattle.file_view.specs.Requests.{owner_of, write_rows, size_rows, rows_at}
+use Rattle.file_view.specs.Refusal.{Row, first_refusal, IsAllowed}
+use Rattle.file_view.specs.Requests.{owner_of, write_rows, size_rows, rows_at, rows_of}
 use Rattle.file_view.specs.Served.{Served, log_text}
 use Rattle.file_view.specs.Sound.{IsSound}
 use Rattle.file_view.proofs.LogStands.{cut-stands, removed-stands}
-use Rattle.file_view.proofs.RequestLemmas.{rest-allowed}
+use Rattle.file_view.proofs.RequestLemmas.{size-allowed, write-allowed, unlink-allowed}
 use Rattle.file_view.proofs.RowLemmas.{none-holds}
 use Rattle.file_view.proofs.StandLemmas.{stands-still, stands-dropped, stands-locked}
 use Rattle.file_view.proofs.WriteStands.{write-stands, resize-stands}
@@ -172,8 +174,8 @@ module _ (told : Option DatabaseImage) (old : Served) (scene : Scene) (sized : 0
   -- what is done on a file
   on-file : (o : Option FileKind) (Does : FileKind → Type 0) (new : Served) → ((f : FileKind) → Does f → StandsOver told scene.page_size scene.commit new) → IsSomeAnd o Does →
       StandsOver told scene.page_size scene.commit new
-  on-file None Does new then done = absurd done
-  on-file (Some f) Does new then done = then f done
+  on-file None Does new each done = absurd done
+  on-file (Some f) Does new each done = each f done
 
   -- every request
   pub stands-at : (node : ℕ) (o : Op) (p : Plan) (new : Served) → first_refusal (rows_at old scene node o) ≡ None → IsDoneAt told old scene node o p new →
@@ -182,13 +184,13 @@ module _ (told : Option DatabaseImage) (old : Served) (scene : Scene) (sized : 0
   stands-at node op.Forget p new none done = replied-stands told scene.page_size scene.commit old old new done.1 refl refl refl stands
   stands-at node op.Getattr p new none done = replied-stands told scene.page_size scene.commit old old new done.files_are refl refl refl stands
   stands-at node (op.Setattr None given) p new none done = replied-stands told scene.page_size scene.commit old old new done.files_are refl refl refl stands
-  stands-at node (op.Setattr (Some len) given) p new none done = sized-stands node (file_at node) given len p new (rest-allowed _ _ none) done
-  stands-at node (op.Unlink name) p new none done = unlinked-stands (file_named old.name name) p new (rest-allowed _ _ (rest-allowed _ _ none)) done
+  stands-at node (op.Setattr (Some len) given) p new none done = sized-stands node (file_at node) given len p new (size-allowed old scene node given len none) done
+  stands-at node (op.Unlink name) p new none done = unlinked-stands (file_named old.name name) p new (unlink-allowed old scene node name none) done
   stands-at node op.Open p new none done =
       on-file (file_at node) _ new (λ f d. replied-stands told scene.page_size scene.commit old _ new d.1.opened.state refl refl refl stands) done
   stands-at node (op.Read fh place size given) p new none done =
       on-file (file_at node) _ new (λ f d. replied-stands told scene.page_size scene.commit old old new d.1.reply.files_are refl refl refl stands) done
-  stands-at node (op.Write fh place given bytes) p new none done = written-stands (file_at node) given place bytes p new (rest-allowed _ _ (rest-allowed _ _ none)) done
+  stands-at node (op.Write fh place given bytes) p new none done = written-stands (file_at node) given place bytes p new (write-allowed old scene node fh place given bytes none) done
   stands-at node (op.Release fh owner) p new none done = replied-stands told scene.page_size scene.commit old _ new done.files_are refl refl refl stands
   stands-at node (op.Fsync fh) p new none done = replied-stands told scene.page_size scene.commit old old new done.files_are refl refl refl stands
   stands-at node (op.Flush fh owner) p new none done =
@@ -203,3 +205,10 @@ module _ (told : Option DatabaseImage) (old : Served) (scene : Scene) (sized : 0
       on-file (file_named old.name name) _ new
       (λ f d. subst (λ (s : Served). StandsOver told scene.page_size scene.commit s) (sym d.1.created.state) (created-stands told scene.page_size scene.commit old f _ stands)) done
   stands-at node op.Destroy p new none done = replied-stands told scene.page_size scene.commit old old new done.files_are refl refl refl stands
+
+-- whatever is answered
+pub stands-after : (told : Option DatabaseImage) (old new : Served) (scene : Scene) (request : Request) (r : Result Plan ViewFault) → (0 < scene.commit → IsPageSize scene.page_size) →
+    IsSound old → IfOk r (λ p. IsDone told old scene request p new) → OnOk r (IsAllowed (rows_of old scene request)) → OnErr r (new ≡ old) →
+    StandsOver told scene.page_size scene.commit old → StandsOver told scene.page_size scene.commit new
+stands-after told old new scene request (Ok p) sized sound done allowed err stands = stands-at told old scene sized sound stands request.node request.op p new allowed done
+stands-after told old new scene request (Err f) sized sound done allowed err stands = subst (λ (s : Served). StandsOver told scene.page_size scene.commit s) (sym err) stands

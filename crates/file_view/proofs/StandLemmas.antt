@@ -28,7 +28,7 @@ pub clean-nothing : (file : DatabaseFile) → KeepsNothing (clean file)
 clean-nothing file = cleared_keeps_nothing (clean file) file.page_size refl refl
 
 pub clean-clean : (file : DatabaseFile) → is_clean (clean file) ≡ true
-clean-clean file = rw (len-empty {A = List ℕ} nat_cmp) refl
+clean-clean file = rw (len-empty nat_cmp (List ℕ)) refl
 
 -- any two of them agree with the same logs
 pub clean-agrees-too : (one other : DatabaseFile) (image : DatabaseImage) (text : List ℕ) → Agrees (clean one) image text → Agrees (clean other) image text
@@ -81,10 +81,10 @@ pub stands-locked : (told : Option DatabaseImage) (page_size commit : ℕ) (s : 
 stands-locked told page_size commit s locks sized stands = by-writer s.writer refl where
   by-exclusive : (owner : Owner) (b : Bool) → s.writer ≡ Some owner → is_writer locks lock.Shared owner ≡ b → StandsOver told page_size commit (with_locks s locks)
   by-exclusive owner true writer holds =
-      stands-still told page_size commit s (with_locks s locks) (rw (writer, holds) refl) (rw (writer, holds) (sym writer)) refl stands
+      stands-still told page_size commit s (with_locks s locks) (rw (writer, holds) refl) (rw (writer, holds) refl) refl stands
   by-exclusive owner false writer fails =
       stands-dropped told page_size commit s (with_locks s locks) owner sized writer (rw (writer, fails) refl) refl stands
 
   by-writer : (w : Option Owner) → s.writer ≡ w → StandsOver told page_size commit (with_locks s locks)
-  by-writer None writer = stands-still told page_size commit s (with_locks s locks) (rw writer refl) (rw writer (sym writer)) refl stands
+  by-writer None writer = stands-still told page_size commit s (with_locks s locks) (rw writer refl) (rw writer refl) refl stands
   by-writer (Some owner) writer = by-exclusive owner (is_writer locks lock.Shared owner) writer refl
