@@ -1,0 +1,2 @@
+use Rattle.file_session.proofs.Sessions.{same_asker}
+use Rattle.file_session.proofs.session.answer_all.Goals as goal
