@@ -1,9 +1,10 @@
 //! Files served over a link.
 #![tactic(auto)]
 
+mod files;
 mod replying;
 mod serving;
 mod session;
 mod tries;
 
-pub use tries::Tries;
+pub use files::serve_files;

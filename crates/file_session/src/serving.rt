@@ -36,7 +36,9 @@ pub fn serve_message<S: Steps<Ask = Ask, Answer = Answer>, L: Link, C: Clock, P:
     ensures worn { IfErr result (λ end. end ≡ ends.Worn → S.is_worn steps.new) }
 {
     match decode(alloc, message) {
-        Ok(request) => serve_request(alloc, steps, link, clock, pause, message, request, text, turns),
+        Ok(request) => serve_request(
+            alloc, steps, link, clock, pause, message, request, text, turns,
+        ),
         Err(BadMessage::Opcode { unique, .. }) => refuse_opcode(alloc, link, unique, text, turns),
         Err(BadMessage::NoMemory) => Err(SessionEnd::NoMemory),
         Err(_) => Err(SessionEnd::BadMessage),

@@ -86,7 +86,16 @@ fn answer_all<S: Steps<Ask = Ask, Answer = Answer>, L: Link, C: Clock, P: Pause>
             Ok(()) => {}
             Err(end) => return end,
         }
-        match serve_message(alloc, steps, link, clock, pause, inbox.message(), &mut text, turns) {
+        match serve_message(
+            alloc,
+            steps,
+            link,
+            clock,
+            pause,
+            inbox.message(),
+            &mut text,
+            turns,
+        ) {
             Ok(()) => {}
             Err(end) => return end,
         }
