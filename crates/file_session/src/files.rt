@@ -1,4 +1,4 @@
-//! A session by a seat of the node's desk.
+//! The files of the node, served to one client.
 ghost use Rattle.std.specs.Prelude.{◌≡◌};
 ghost use Rattle.lf_base.specs.declared.session_end.SessionEnd.TheVariants as ends;
 ghost use Rattle.link_session.specs.Seats.{FoundWorn};
@@ -6,10 +6,9 @@ ghost use Rattle.turn_desk.specs.Seats.{view, number_of, opened_on, IsOf};
 ghost use Rattle.file_session.specs.Session.{IsSession, StaysLegal};
 ghost use Rattle.file_session.specs.Stands.{stand};
 
-use crate::session::serve_link;
+use crate::seat::serve_seat;
 use lf_base::{Clock, Dialer, Link, Name, Pause, SessionEnd};
 use lf_disk::Disk;
-use link_session::AtSeat;
 use node_core::Node;
 use std::alloc::Global;
 use std::sync::Wait;
@@ -41,30 +40,5 @@ pub fn serve_files<R: Wait + Copy, D: Disk, L: Link, T: Dialer, C: Clock, P: Pau
     ensures seat { IsOf seat.new desk.now × (number_of seat.new ≡ number_of seat.old) }
     ensures clock { C.may_give clock.new ≡ C.may_give clock.old }
 {
-    let mut steps = AtSeat {
-        rt: &rt,
-        desk,
-        seat,
-    };
-    serve_at(alloc, &mut steps, link, clock, pause, budget)
-}
-
-/// The same for a seat at its desk, which it stays.
-fn serve_at<R: Wait + Copy, D: Disk, L: Link, C: Clock, P: Pause>(
-    alloc: Global,
-    steps: &mut AtSeat<Node<D>, R>,
-    link: &mut L,
-    clock: &mut C,
-    pause: &mut P,
-    budget: u64,
-) -> SessionEnd
-    ensures session { IsSession (record { caller = number_of steps.old.seat.now; may = C.may_give clock.old }) budget (stand L.Link link.old (view steps.old.seat.now).mine) (stand L.Link link.new (view steps.new.seat.now).mine) result }
-    ensures worn { result ≡ ends.Worn → FoundWorn steps.new.seat.now }
-    ensures legal { StaysLegal ⟦<Node<D> as Machine>⟧.steps (opened_on steps.old.desk.now) (view steps.old.seat.now).seen (view steps.new.seat.now).seen }
-    ensures seat { steps.new.seat.ghost_name ≡ steps.old.seat.ghost_name }
-    ensures desk { steps.new.desk.now ≡ steps.old.desk.now }
-    ensures number { number_of steps.new.seat.now ≡ number_of steps.old.seat.now }
-    ensures clock { C.may_give clock.new ≡ C.may_give clock.old }
-{
-    serve_link(alloc, steps, link, clock, pause, budget)
+    serve_seat(rt, alloc, desk, seat, link, clock, pause, budget)
 }
