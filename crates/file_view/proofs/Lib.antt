@@ -1,6 +1,7 @@
 pub mod DatabaseLemmas
 pub mod FaultLemmas
 pub mod FrameLemmas
+pub mod HeldLemmas
 pub mod LogLawLemmas
 pub mod LogLemmas
 pub mod ReadLemmas

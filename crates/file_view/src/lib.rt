@@ -6,6 +6,7 @@
 #![tactic(auto)]
 
 mod acting;
+mod database;
 mod database_requests;
 mod database_resize;
 mod endings;
