@@ -4,5 +4,7 @@ pub mod FrameLemmas
 pub mod HeldLemmas
 pub mod LogLawLemmas
 pub mod LogLemmas
+pub mod PrepareLemmas
 pub mod ReadLemmas
 pub mod RowLemmas
+pub mod SoundLemmas

@@ -46,12 +46,12 @@ done-stands old scene image at bytes change new stands commits waits =
     let count : change.commit ≡ last_size (log_after old at bytes) = ap (λ (c : PageChange). c.commit) commits.is in
     subst (λ (s : Served). CommitsOver old image change s) (sym waits.state) (record {
       stands = record {
-          differs = leads.stays.differs;
-          fits = subst (λ (n : ℕ). FitsShape waits.write.file change.page_size n) (sym (length-apply image change)) waits.is.fits;
-          follows = subst (λ (t : List ℕ). FollowsImage t (apply image change).page_size (length (apply image change).pages)) (sym text)
-              (change-follows (log_after old at bytes) image change size count);
-          agrees = subst (λ (t : List ℕ). Agrees waits.write.file (apply image change) t) (sym text) leads.agrees;
-        };
+        differs = leads.stays.differs;
+        fits = subst (λ (n : ℕ). FitsShape waits.write.file change.page_size n) (sym (length-apply image change)) waits.is.fits;
+        follows = subst (λ (t : List ℕ). FollowsImage t (apply image change).page_size (length (apply image change).pages)) (sym text)
+            (change-follows (log_after old at bytes) image change size count);
+        agrees = subst (λ (t : List ℕ). Agrees waits.write.file (apply image change) t) (sym text) leads.agrees;
+      };
       reads = leads.stays.reads;
     })
 

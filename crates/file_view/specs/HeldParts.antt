@@ -1,15 +1,17 @@
 -- What the parts of the database file with a write to the log in store stand for, and what they keep.
-use Rattle.std.specs.Prelude.{◌≡◌, ℕ, Option, Some, None, IfSome, List, [], length, unwrap_or}
+use Rattle.std.specs.Prelude.{◌≡◌, ℕ, Option, Some, None, IfSome, List, [], length}
 use Rattle.std.specs.Option.{option_map}
 use Rattle.std.specs.FinMap as pages
 use Rattle.database_file.specs.DatabaseFile.{DatabaseFile, is_clean, clean}
 use Rattle.database_file.specs.WritingParts.{Pages}
-use Rattle.database_under_log.specs.Staying.{WaitingWrite, without, finished}
+use Rattle.database_under_log.specs.Staying.{WaitingWrite, without, finished, forgotten}
 use Rattle.database_under_log.specs.Waiting.{HasRoomFor}
+use Rattle.database_under_log.specs.declared.waiting.LogCommit.{LogCommit}
 use Rattle.lf_base.specs.FileBytes.{written}
+use Rattle.lf_sqlite_pages.specs.Apply.{apply}
 use Rattle.lf_sqlite_pages.specs.Change.{PageChange}
-use Rattle.lf_sqlite_pages.specs.Image.{DatabaseImage}
-use Rattle.wal_watch.specs.File.{Wal, text_of}
+use Rattle.lf_sqlite_pages.specs.Image.{DatabaseImage, SameImage}
+use Rattle.wal_watch.specs.File.{Wal, text_of, after_write}
 use Rattle.file_view.specs.DatabaseState.{HeldWrite, DatabaseState}
 use Rattle.file_view.specs.LogRules.{LogCommits, LogKeeps, IsHeldFor}
 use Rattle.file_view.specs.declared.database.Held.{Held}
@@ -55,13 +57,39 @@ pub record Remembers (file : DatabaseFile) (h : Held) : Type 0 where
 abbrev pub IsKept : Inside → Type 0
 IsKept d = (h : Held) → d.held ≡ Some h → Remembers d.file h
 
--- what a write to the log does to the file and the log: it is done where it commits nothing that alters the image, and the file
--- stays; else it waits, and the log reads as before
+-- the write that waits, as the served files have it
+abbrev pub held_for : DatabaseFile → WaitingWrite → HeldWrite
+held_for file w = record { at = w.at; bytes = w.bytes; file = finished file w }
+
+-- a commit that was prepared is done at once where it leaves the image as it is; else file and log stay for it
+abbrev pub IsSettled : Option DatabaseImage → ℕ → LogCommit → DatabaseFile → Wal → ℕ → List ℕ → Option LogCommit → DatabaseFile → Wal → Type 0
+IsSettled told commit c file log at bytes None new later =
+    (new ≡ forgotten file c.write) × (later ≡ after_write log at bytes) × (c.change.commit ≡ commit) × IfSome told (λ i. SameImage (apply i c.change) i)
+IsSettled told commit c file log at bytes (Some d) new later =
+    (d ≡ c) × (new ≡ file) × (later ≡ log) × IfSome told (λ i. SameImage (apply i c.change) i → ⊥)
+
+-- a write that is done, and the file stays
+pub record IsLogStored (told : Option DatabaseImage) (page_size commit : ℕ) (old : DatabaseFile) (log : Wal) (at : ℕ) (bytes : List ℕ) (new : DatabaseFile) (later : Wal) : Type 0 where
+  pub commits : LogCommits told old (text_of log) (written at bytes (text_of log)) commit None
+  pub keeps : LogKeeps told old (text_of log) (written at bytes (text_of log)) page_size commit
+  pub file : new ≡ old
+  pub text : later.text ≡ Some (written at bytes (text_of log))
+
+-- a write that waits: the file keeps pages for it, and was the old one before
+pub record IsLogHeld (told : Option DatabaseImage) (commit : ℕ) (old : DatabaseFile) (log : Wal) (at : ℕ) (bytes : List ℕ) (c : LogCommit) (new : DatabaseFile) (later : Wal) : Type 0 where
+  pub commits : LogCommits told old (text_of log) (written at bytes (text_of log)) commit (Some c.change)
+  pub held : IsHeldFor told old (text_of log) at bytes c.change (held_for new c.write)
+  pub back : forgotten new c.write ≡ old
+  pub room : HasRoomFor log later at bytes
+
+-- what a write to the log does to file and log
+abbrev pub LogWrites : Option DatabaseImage → ℕ → ℕ → DatabaseFile → Wal → ℕ → List ℕ → Option LogCommit → DatabaseFile → Wal → Type 0
+LogWrites told page_size commit old log at bytes None new later = IsLogStored told page_size commit old log at bytes new later
+LogWrites told page_size commit old log at bytes (Some c) new later = IsLogHeld told commit old log at bytes c new later
+
+-- the same of the file with a write in store: a write that waits is in store then
 abbrev pub LogWrote : Option DatabaseImage → ℕ → ℕ → DatabaseState → Wal → ℕ → List ℕ → Option PageChange → DatabaseState → Wal → Type 0
-LogWrote told page_size commit old log at bytes None new later =
-    LogCommits told old.file (text_of log) (written at bytes (text_of log)) commit None
-    × (LogKeeps told old.file (text_of log) (written at bytes (text_of log)) page_size commit
-    × ((new ≡ old) × (later.text ≡ Some (written at bytes (text_of log)))))
+LogWrote told page_size commit old log at bytes None new later = (new ≡ old) × IsLogStored told page_size commit old.file log at bytes old.file later
 LogWrote told page_size commit old log at bytes (Some change) new later =
     LogCommits told old.file (text_of log) (written at bytes (text_of log)) commit (Some change)
     × (HasRoomFor log later at bytes

@@ -34,8 +34,8 @@ pub(crate) struct Held {
 /// The database file with a write to the log in store.
 #[derive(Drop)]
 pub(crate) struct Database {
-    file: DatabaseFile,
-    held: Option<Held>,
+    pub(crate) file: DatabaseFile,
+    pub(crate) held: Option<Held>,
 }
 
 impl Model for Database {

@@ -18,6 +18,7 @@ mod journal_calls;
 mod journal_requests;
 mod laws;
 mod lock_requests;
+mod log_holding;
 mod log_requests;
 mod log_writing;
 mod name_requests;
