@@ -12,8 +12,8 @@ use replay::Replay;
 use std::fs;
 use turn::Turn;
 
-/// One conversation for each journal mode.
-const RECORDED: [&str; 4] = ["delete", "truncate", "persist", "wal"];
+/// One conversation for each journal mode, and worked rows.
+const RECORDED: [&str; 5] = ["delete", "truncate", "persist", "wal", "rows"];
 
 fn main(rt: HostRuntime) -> Result<(), Fault> {
     for mode in RECORDED {

@@ -6,11 +6,11 @@ ghost use Rattle.file_view.specs.Overlay.{StandsOver};
 
 use crate::difference::{Difference, commit_differs, reply_differs};
 use crate::fault::Fault;
-use crate::turn::{Commit, Turn};
-use file_view::{Plan, Role, View, ViewFault, endings_keep_the_image, new_view_stands};
+use crate::turn::{Commit, Message, Start, Turn};
+use file_view::{Plan, View, ViewFault, endings_keep_the_image, new_view_stands};
 use fuse_msgs::{Reply, Request, decode};
 use lf_base::{Errno, Name, Pos};
-use lf_sqlite_pages::{Change, Image};
+use lf_sqlite_pages::{Change, Image, is_page_size};
 use page_checksum::page_sum;
 use std::alloc::Global;
 
@@ -27,17 +27,36 @@ pub struct Replay {
 }
 
 impl Replay {
+    /// The files of a database that was never written.
     pub fn new(alloc: Global) -> Result<Replay, Fault> {
+        Replay::over(alloc, Image::empty(alloc), 0)
+    }
+
+    /// The files of a database of pages of zeros.
+    pub fn start(alloc: Global, start: Start) -> Result<Replay, Fault> {
+        let page_size = u32::try_from(start.page_size).unwrap_or(0);
+        let pages = u32::try_from(start.pages).unwrap_or(0);
+        let mut image = Image::empty(alloc);
+        if pages != 0 && is_page_size(page_size) {
+            let mut change = Change::new(alloc, page_size, pages);
+            change.complete(0)?;
+            image.apply(&change)?;
+        }
+        Replay::over(alloc, image, start.transactions)
+    }
+
+    fn over(alloc: Global, image: Image, transactions: u64) -> Result<Replay, Fault> {
         new_view_stands();
         let Ok(name) = Name::read(alloc, b"app") else {
             return Err(Fault::NoMemory);
         };
-        let view = View::new(alloc, &name)?;
-        let image = Image::empty(alloc);
+        let mut view = View::new(alloc, &name)?;
+        let _pages = image.commit();
+        view.told_position(position_of(&image, transactions));
         Ok(Replay {
             view,
             image,
-            transactions: 0,
+            transactions,
         })
     }
 
@@ -49,14 +68,22 @@ impl Replay {
 
     /// Takes one turn, and says what differs from the record, if anything does.
     pub fn take(&mut self, alloc: Global, turn: &Turn) -> Result<Option<Difference>, Fault> {
-        let Some(message) = &turn.request else {
-            self.end(turn.link);
-            return Ok(None);
-        };
-        let Ok(request) = decode(alloc, message.as_slice()) else {
-            return Ok(Some(Difference::Request));
-        };
-        self.answer(alloc, turn, &request)
+        match turn {
+            Turn::Start(start) => {
+                *self = Replay::start(alloc, *start)?;
+                Ok(None)
+            }
+            Turn::Message(message) => {
+                let Ok(request) = decode(alloc, message.request.as_slice()) else {
+                    return Ok(Some(Difference::Request));
+                };
+                self.answer(alloc, message, &request)
+            }
+            Turn::End { link } => {
+                self.end(*link);
+                Ok(None)
+            }
+        }
     }
 
     fn end(&mut self, link: u64) {
@@ -68,13 +95,13 @@ impl Replay {
     fn answer(
         &mut self,
         alloc: Global,
-        turn: &Turn,
+        turn: &Message,
         request: &Request,
     ) -> Result<Option<Difference>, Fault> {
         let before = self.image.commit();
         let prepared = self
             .view
-            .prepare(alloc, turn.link, Role::Primary, request, &mut self.image);
+            .prepare(alloc, turn.link, turn.role, request, &mut self.image);
         let (reply, why) = match prepared {
             Ok(Plan::Reply(reply)) => (Some(reply), nothing_committed(&turn.commit)),
             Ok(Plan::Silent) => (None, nothing_committed(&turn.commit)),
@@ -117,14 +144,7 @@ impl Replay {
 
     /// Where the database stands.
     fn position(&self) -> Pos {
-        let mut sum = 0;
-        for n in 1..=self.image.commit() {
-            sum ^= page_sum(n, self.image.page(n));
-        }
-        Pos {
-            txid: self.transactions,
-            sum: sum | FLAG,
-        }
+        position_of(&self.image, self.transactions)
     }
 
     /// How the commit of a change differs from the recorded one, over a database of so many pages.
@@ -141,6 +161,18 @@ impl Replay {
         let mut change = change;
         change.complete(before)?;
         commit_differs(alloc, &change, self.position(), recorded)
+    }
+}
+
+/// Where a database stands to which so many transactions led.
+fn position_of(image: &Image, transactions: u64) -> Pos {
+    let mut sum = 0;
+    for n in 1..=image.commit() {
+        sum ^= page_sum(n, image.page(n));
+    }
+    Pos {
+        txid: transactions,
+        sum: sum | FLAG,
     }
 }
 
