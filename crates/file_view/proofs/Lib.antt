@@ -4,7 +4,9 @@ pub mod FrameLemmas
 pub mod HeldLemmas
 pub mod LogLawLemmas
 pub mod LogLemmas
+pub mod LogWriteLemmas
 pub mod PrepareLemmas
 pub mod ReadLemmas
 pub mod RowLemmas
 pub mod SoundLemmas
+pub mod WroteLemmas

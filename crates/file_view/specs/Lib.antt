@@ -12,6 +12,7 @@ pub mod JournalRules
 pub mod JournalState
 pub mod LockRules
 pub mod LogLaws
+pub mod LogParts
 pub mod LogRules
 pub mod NameRules
 pub mod Reading
