@@ -1,7 +1,9 @@
 pub mod AwaitLemmas
 pub mod DatabaseLemmas
+pub mod EndingLemmas
 pub mod FaultLemmas
 pub mod FrameLemmas
+pub mod FreeLemmas
 pub mod LogLawLemmas
 pub mod LogLemmas
 pub mod LogStands
@@ -10,4 +12,6 @@ pub mod RequestLemmas
 pub mod RequestStands
 pub mod RowLemmas
 pub mod StandLemmas
+pub mod SteadyLemmas
+pub mod WaitingLemmas
 pub mod WriteStands

@@ -24,4 +24,5 @@ pub mod Served
 pub mod ServedParts
 pub mod SharedRules
 pub mod Sound
+pub mod Steady
 pub mod Views

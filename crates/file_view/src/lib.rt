@@ -32,6 +32,7 @@ mod read_requests;
 mod role;
 mod scene;
 mod shared_requests;
+mod stand_laws;
 mod view;
 
 pub use fault::ViewFault;
@@ -39,4 +40,8 @@ pub use laws::log_write_keeps_the_database;
 pub use plan::Plan;
 pub use role::Role;
 pub use scene::Scene;
+pub use stand_laws::{
+    applied_view_stands, endings_keep_the_image, new_view_stands,
+    replica_requests_leave_the_database, waiting_requests_go_on,
+};
 pub use view::View;
