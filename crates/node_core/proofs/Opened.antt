@@ -1,5 +1,5 @@
 -- A node that is opened.
-use Rattle.std.proofs.Common.{◌≡◌, ◌∙◌, ℕ, ◌<◌, ◌==◌, Bool, true, false, List, [], length, None, refl, sym, ap, subst, arith}
+use Rattle.std.proofs.Common.{◌≡◌, ℕ, ◌<◌, ◌==◌, Bool, true, false, [], length, None, refl, ap, arith}
 use Rattle.std.specs.Prelude.{if◌then◌else◌}
 use Rattle.lf_disk.specs.History.{History}
 use Rattle.lf_sqlite_pages.specs.Image.{DatabaseImage}
@@ -8,10 +8,9 @@ use Rattle.database_file.specs.DatabaseFile.{new_file}
 use Rattle.database_file.proofs.CleanLemmas.{clean-reads, new_keeps_nothing}
 use Rattle.database_under_log.proofs.KeepLemmas.{clean-agrees, empty_none}
 use Rattle.file_view.specs.Overlay.{FitsImage, IsOverImage}
-use Rattle.wal_watch.specs.Frames.{committed_count}
 use Rattle.world_laws.specs.Served.{ShareForReading}
 use Rattle.node_core.specs.declared.config.NodeConfig.{NodeConfig}
-use Rattle.node_core.specs.Nodes.{file_over, frames_of, seen, served_over}
+use Rattle.node_core.specs.Nodes.{file_over, frames_of, seen}
 use Rattle.node_core.specs.Opening.{opened, seen_opened}
 use Rattle.node_core.specs.Stores.{StoreFields, state}
 use Rattle.node_core.proofs.Endings.{clean-clean}
