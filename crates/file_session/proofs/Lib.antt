@@ -1,3 +1,5 @@
 pub mod Replies
 pub mod Messages
 pub mod Sessions
+pub mod Writings
+pub mod OneEntry

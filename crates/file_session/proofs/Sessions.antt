@@ -1,7 +1,6 @@
 -- Sessions: what was said so far, and how they end.
-use Rattle.std.proofs.Common.{◌≡◌, ◌⊎◌, inl, inr, ℕ, ◌+◌, ◌<◌, ◌≤◌, length, Bool, true, false, List, [], ◌∷◌, ◌++◌, Option, None, Some, Result, Ok, Err, refl, sym, ap, ◌∙◌, subst, arith}
-use Rattle.std.specs.Io.KnownBytes.{Consumes, Keeps}
-use Rattle.std.proofs.KnownBytes.{Keeps-refl}
+use Rattle.std.proofs.Common.{◌≡◌, ◌⊎◌, inl, inr, ℕ, length, Bool, false, List, [], ◌++◌, Option, Err, refl, ap, ◌∙◌, subst, arith}
+use Rattle.std.specs.Io.KnownBytes.{Keeps}
 use Rattle.lf_base.specs.declared.session_end.SessionEnd.{SessionEnd}
 use Rattle.lf_base.specs.declared.session_end.SessionEnd.TheVariants as ends
 use Rattle.fuse_msgs.specs.Feed.{IsWholeMessage}
@@ -14,7 +13,7 @@ use Rattle.link_session.proofs.Reading.{kept_consumes}
 use Rattle.link_session.proofs.Talking.{as_said, nothing_said, round_served, text_kept}
 use Rattle.file_session.specs.Asking.{Asker}
 use Rattle.file_session.specs.Message.{IsRound, IsSilent, IsUnanswered, IsUnwritten, EndsMessage}
-use Rattle.file_session.specs.Session.{Ends, starting, reading, answering, Conversation}
+use Rattle.file_session.specs.Session.{starting, reading, answering, Conversation}
 use Rattle.file_session.specs.Stands.{FileEntry, Stand, Spent, Spends}
 
 abbrev ask_by : ℕ → (ℕ → Bool) → Asker

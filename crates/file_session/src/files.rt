@@ -25,10 +25,10 @@ pub fn serve_files<R: Wait + Copy, D: Disk, L: Link, T: Dialer, C: Clock, P: Pau
     alloc: Global,
     desk: &Desk<Node<D>>,
     seat: &mut Seat<Node<D>>,
-    _name: &Name,
-    _id: u64,
+    name: &Name,
+    id: u64,
     link: &mut L,
-    _dialer: &mut T,
+    dialer: &mut T,
     clock: &mut C,
     pause: &mut P,
     budget: u64,
@@ -39,6 +39,7 @@ pub fn serve_files<R: Wait + Copy, D: Disk, L: Link, T: Dialer, C: Clock, P: Pau
     ensures legal { StaysLegal ⟦<Node<D> as Machine>⟧.steps (opened_on desk.now) (view seat.old).seen (view seat.new).seen }
     ensures seat { IsOf seat.new desk.now × (number_of seat.new ≡ number_of seat.old) }
     ensures clock { C.may_give clock.new ≡ C.may_give clock.old }
+    ensures dialer { dialer.new ≡ dialer.old }
 {
     serve_seat(rt, alloc, desk, seat, link, clock, pause, budget)
 }

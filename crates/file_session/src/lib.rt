@@ -2,6 +2,7 @@
 #![tactic(auto)]
 
 mod files;
+mod laws;
 mod replying;
 mod seat;
 mod serving;
@@ -9,6 +10,7 @@ mod session;
 mod tries;
 
 pub use files::serve_files;
+pub use laws::{asked_once, replies_in_order};
 
 #[cfg(test)]
 mod tests;

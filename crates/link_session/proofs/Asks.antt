@@ -1,5 +1,5 @@
 -- Asking again.
-use Rattle.std.proofs.Common.{◌≡◌, ℕ, ◌+◌, List, [], ◌∷◌, ◌++◌, length, refl, ap, ◌∙◌}
+use Rattle.std.proofs.Common.{◌≡◌, ◌+◌, List, [], ◌∷◌, ◌++◌, length, ap, ◌∙◌}
 use Rattle.std.proofs.lemmas.List.{length-append}
 
 pub one_longer : {T : Type 0} (old new : List T) (x : T) → new ≡ old ++ x ∷ [] → length new ≡ length old + 1

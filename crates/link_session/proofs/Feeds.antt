@@ -1,11 +1,11 @@
 -- FUSE messages as a feed.
-use Rattle.std.proofs.Common.{◌≡◌, ℕ, Bool, true, false, List, [], ◌∷◌, ◌++◌, length, take, Some, Result, Ok, Err, refl, sym, ap, ◌∙◌, subst, ◌≤◌, if◌then◌else◌, zero, suc}
+use Rattle.std.proofs.Common.{◌≡◌, ℕ, Bool, true, false, List, [], ◌∷◌, ◌++◌, length, take, Some, Result, Ok, refl, sym, ap, ◌∙◌, subst}
 use Rattle.fuse_msgs.specs.declared.feed.Fed.{Fed}
 use Rattle.fuse_msgs.specs.declared.feed.Fed.TheVariants as fed
 use Rattle.fuse_msgs.specs.declared.fault.BadMessage.{BadMessage}
 use Rattle.fuse_msgs.proofs.Run.{fed_message}
 use Rattle.link_session.specs.Reading.{Took}
-use Rattle.fuse_msgs.specs.Feed.{Beginning, part, whole, broken, beginning_of, is_whole, unfinished, answer_at, taken_at, feed_answer, fed_on, IsWholeMessage, says_whole, UsesSome}
+use Rattle.fuse_msgs.specs.Feed.{Beginning, part, whole, broken, beginning_of, is_whole, answer_at, taken_at, feed_answer, fed_on, IsWholeMessage, says_whole, UsesSome}
 use Rattle.link_session.specs.declared.stage.Stage.TheVariants as stages
 use Rattle.link_session.specs.Messages.{stage_of, IsPart}
 

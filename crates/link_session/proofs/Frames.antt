@@ -5,7 +5,7 @@ use Rattle.stream_wire.specs.declared.frame.Frame.{Frame}
 use Rattle.stream_wire.specs.declared.feed.Fed.TheVariants as fed
 use Rattle.stream_wire.specs.declared.wire_fault.WireFault.{WireFault}
 use Rattle.stream_wire.specs.Front.{whole, BeginsWith}
-use Rattle.stream_wire.specs.Feeding.{Feeding, Feeds, giving}
+use Rattle.stream_wire.specs.Feeding.{Feeding, Feeds}
 use Rattle.link_session.specs.declared.stage.Stage.TheVariants as stages
 use Rattle.link_session.specs.Reading.{Took}
 use Rattle.link_session.specs.Frames.{bytes_of, held_by, frame_stage, IsFrame, IsFramePart}

@@ -1,9 +1,9 @@
 -- Steps of a desk's machine.
-use Rattle.std.proofs.Common.{◌≡◌, ℕ, ◌^◌, List, [], ◌∷◌, ◌++◌, subst, Result, Ok, Err, IfOk}
+use Rattle.std.proofs.Common.{ℕ, List, [], ◌∷◌, ◌++◌, subst, Result, Ok, Err, IfOk}
 use Rattle.turn_desk.specs.declared.history.Entry.{Entry}
 use Rattle.turn_desk.specs.declared.view.SeatView.{SeatView}
 use Rattle.turn_desk.specs.History.{Run, entry}
-use Rattle.turn_desk.specs.Calls.{HasStepped, EndsAt}
+use Rattle.turn_desk.specs.Calls.{HasStepped}
 use Rattle.link_session.specs.Seats.{Gives}
 
 -- the last entry of a run is a step of the machine

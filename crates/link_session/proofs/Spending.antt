@@ -1,5 +1,5 @@
 -- The budget of turns.
-use Rattle.std.proofs.Common.{◌≡◌, ℕ, ◌+◌, ◌<◌, ◌≤◌, min, arith}
+use Rattle.std.proofs.Common.{◌≡◌, ℕ, ◌+◌, ◌<◌, arith}
 use Rattle.link_session.specs.Spending.{Moves, Moved}
 
 -- one turn more, for a call that moved bytes

@@ -1,9 +1,9 @@
 -- FUSE messages as a feed.
-use Rattle.std.proofs.Common.{◌≡◌, ℕ, ◌≤◌, Bool, true, false, List, [], ◌++◌, length, ap, sym, ◌∙◌, arith}
+use Rattle.std.proofs.Common.{◌≡◌, ℕ, Bool, true, false, List, ◌++◌, ap, sym, ◌∙◌, arith}
 use Rattle.std.proofs.lemmas.List.{length-append}
 use Rattle.fuse_msgs.specs.declared.fault.BadMessage.{BadMessage}
 use Rattle.fuse_msgs.specs.declared.fault.BadMessage.TheVariants as bad
-use Rattle.fuse_msgs.specs.Message.{len_of, is_length}
+use Rattle.fuse_msgs.specs.Message.{is_length}
 use Rattle.fuse_msgs.specs.Feed.{part, beginning_of, BeginsRefused}
 use Rattle.fuse_msgs.proofs.Feeding.{len_of-append}
 use Rattle.link_session.specs.declared.stage.Stage.{Stage}

@@ -1,5 +1,5 @@
 -- What calls made of a store, from what they did.
-use Rattle.std.proofs.Common.{◌≡◌, ◌∙◌, ℕ, Bool, false, List, [], ◌∷◌, Option, None, Some, Result, Ok, Err, inl, inr, refl, ap}
+use Rattle.std.proofs.Common.{◌≡◌, ◌∙◌, ℕ, Bool, false, List, [], Option, None, Some, Result, Ok, Err, inl, inr, refl, ap}
 use Rattle.lf_base.specs.declared.pos.Pos.{Pos}
 use Rattle.lf_disk.specs.History.{History}
 use Rattle.lf_sqlite_pages.specs.Change.{PageChange}
@@ -73,3 +73,13 @@ commit-whole broken at size commit sums change stamp node (Err (fault.PageSize h
 -- a store that isn't broken has no failure
 pub no_failure : (h : History) (broken : Bool) (attempt : Attempt) (tried : ℕ) → broken ≡ false → failed_of h broken attempt tried ≡ None
 no_failure h broken attempt tried open_ = ap (λ b. failed_of h b attempt tried) open_
+
+-- a refused call left the store
+pub err-same : (T : Type 0) (old new : StoreState) (was now : Option Failure) (call : StoreCall) (why : StoreFault) → Changes {T = T} old was call (Err why) new now → new ≡ old
+err-same T old new was now call fault.Disk changed = changed.0
+err-same T old new was now call fault.Broken changed = changed.0
+err-same T old new was now call fault.Limit changed = changed.0
+err-same T old new was now call fault.NoMemory changed = changed.0
+err-same T old new was now call (fault.NotNext have want) changed = changed.0
+err-same T old new was now call (fault.SumDiffers want got) changed = changed.0
+err-same T old new was now call (fault.PageSize have want) changed = changed.0

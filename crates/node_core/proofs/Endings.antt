@@ -101,11 +101,14 @@ either true b none = absurd (true_false none)
     true_false : true ≡ false → ⊥
     true_false same = cc
 
+abbrev no_bytes : List ℕ → List ℕ
+no_bytes text = []
+
 module _ (s : Served) (page_size commit : ℕ) where
   -- the log has no bytes
   applied-log : log_text (applied s page_size commit) ≡ []
   applied-log = go s.log where
-    go : (o : Option (List ℕ)) → unwrap_or (option_map (λ _. []) o) [] ≡ []
+    go : (o : Option (List ℕ)) → unwrap_or {T = List ℕ} (option_map no_bytes o) [] ≡ []
     go None = refl
     go (Some text) = refl
 

@@ -1,5 +1,5 @@
 -- The facts of a step, from the calls that it made.
-use Rattle.std.proofs.Common.{◌≡◌, ◌∙◌, ℕ, ◌≤◌, true, false, List, [], ◌∷◌, ◌++◌, Option, None, Some, IsSome, Result, Ok, Err, inl, inr, refl, sym, ap, subst, arith}
+use Rattle.std.proofs.Common.{◌≡◌, ◌∙◌, ℕ, true, false, List, [], ◌∷◌, ◌++◌, Option, None, Some, IsSome, Result, Ok, Err, inl, inr, refl, sym, subst, arith}
 use Rattle.std.proofs.Math.Logic.{∥∥₁_elim, ∥∥₁_map, ∥∥₁_prop}
 use Rattle.std.proofs.Props.{props}
 use Rattle.lf_base.specs.Faults.{Rose}
@@ -7,7 +7,7 @@ use Rattle.lf_disk.specs.History.{History}
 use Rattle.lf_disk.proofs.Moments.{past_joins}
 use Rattle.txn_log.specs.declared.fault.StoreFault.{StoreFault}
 use Rattle.txn_log.specs.declared.fault.StoreFault.TheVariants as fault
-use Rattle.txn_log.specs.Calls.{Moved, StandsForOne, Went, WentPruned}
+use Rattle.txn_log.specs.Calls.{Moved, Went, WentPruned}
 use Rattle.world_laws.specs.Answers.{Answers, LeavesUndone}
 use Rattle.world_laws.specs.Node.{Answer, Ask, Done, File, IsPlain, IsSoundNode, NodeState, Other, Primary, Refused, Replica, Role}
 use Rattle.world_laws.specs.Step.{Makes, MayTryMore, Steady, nothing}
@@ -20,6 +20,9 @@ none_some x same = cc
 
 false_true : false ≡ true → ⊥
 false_true same = cc
+
+pub ok_err : {T E : Type 0} (told : T) (why : E) → Ok told ≡ Err why → ⊥
+ok_err told why same = cc
 
 primary_replica : Primary ≡ Replica → ⊥
 primary_replica same = cc

@@ -4,5 +4,7 @@ pub mod Calls
 pub mod Overlay
 pub mod Sound
 pub mod Endings
-pub mod Opening
+pub mod Opened
+pub mod Dropped
 pub mod Steady
+pub mod Histories

@@ -1,21 +1,20 @@
 -- The served files, as the cluster sees them, meet the overlay equation.
-use Rattle.std.proofs.Common.{◌≡◌, ◌⊎◌, inl, inr, ℕ, eqb, ◌+◌, ◌-◌, ◌<◌, ◌≤◌, ◌==◌, Bool, true, false, List, ◌++◌, length, map, replicate, Contains, Option, None, Some, IsSome, refl, sym, ap, subst, ◌∙◌, arith, get_or, rules}
-use Rattle.std.specs.Prelude.{unwrap_or, if◌then◌else◌, is_some}
+use Rattle.std.proofs.Common.{◌≡◌, inl, inr, ℕ, ◌+◌, ◌-◌, ◌<◌, ◌≤◌, ◌==◌, true, false, List, length, replicate, Contains, Option, None, Some, IsSome, refl, sym, ap, subst, ◌∙◌, arith, get_or, rules}
+use Rattle.std.specs.Prelude.{unwrap_or, is_some}
 use Rattle.std.specs.FinMap as pages
 use Rattle.std.specs.List.{range_with_len}
 use Rattle.std.specs.Ordering.{eq_by_cmp, nat_cmp}
 use Rattle.std.proofs.lemmas.Bool.{cases_Bool, cases_eq, cases_lt}
-use Rattle.std.proofs.lemmas.Bool.Decides.{nat_tests}
 use Rattle.std.proofs.lemmas.List.Elements.{Contains-append_left, Contains-append_right, Contains-get_or}
 use Rattle.std.proofs.lemmas.List.FromFn.{get_or-range_with_len, length-range_with_len}
 use Rattle.std.proofs.lemmas.Map.Views.{Contains-from_any}
-use Rattle.lf_sqlite_pages.specs.Apply.{apply, page_after}
+use Rattle.lf_sqlite_pages.specs.Apply.{page_after}
 use Rattle.lf_sqlite_pages.specs.Change.{PageChange, written}
 use Rattle.lf_sqlite_pages.specs.Image.{DatabaseImage, SameImage, page_at}
 use Rattle.lf_sqlite_pages.specs.LockPage.{lock_page_of}
 use Rattle.lf_sqlite_pages.proofs.DataWrites.{apply-same}
 use Rattle.lf_sqlite_pages.proofs.Writes.{written-writes_of}
-use Rattle.database_file.specs.DatabaseFile.{DatabaseFile, as_read, clean, count_of, page_of, size_of}
+use Rattle.database_file.specs.DatabaseFile.{DatabaseFile, as_read, clean, count_of, size_of}
 use Rattle.database_file.proofs.CleanLemmas.{clean-reads}
 use Rattle.database_file.proofs.DifferenceLemmas.{page-there}
 use Rattle.database_file.proofs.WriteLemmas.{read-at, read-past, same-pages}
@@ -105,21 +104,21 @@ module _ (file : DatabaseFile) (image : DatabaseImage) where
   agrees-within n other first within = elim (cases_Bool (is_some (pages.get file.kept n))) [
     | inl kept ↦ absurd (other (Contains-append_left (pages.keys file.kept) past n (kept-key file.kept n kept)))
     | inr free ↦ elim (cases_lt size n) [
-          | inl above ↦ absurd (other (Contains-append_right (pages.keys file.kept) past n (in-past n above within)))
-          | inr inside ↦
-              let there = page-there image n first inside in
-              read-at file image n first within
-              ∙ ap (λ (o : Option (List ℕ)). Some (unwrap_or o (unwrap_or (page_at image n) (replicate (size_of file image) 0)))) (none-of (pages.get file.kept n) free)
-              ∙ ap (λ (o : Option (List ℕ)). Some (unwrap_or o (replicate (size_of file image) 0))) there.1
-              ∙ sym there.1
-        ]
+      | inl above ↦ absurd (other (Contains-append_right (pages.keys file.kept) past n (in-past n above within)))
+      | inr inside ↦
+          let there = page-there image n first inside in
+          read-at file image n first within
+          ∙ ap (λ (o : Option (List ℕ)). Some (unwrap_or o (unwrap_or (page_at image n) (replicate (size_of file image) 0)))) (none-of (pages.get file.kept n) free)
+          ∙ ap (λ (o : Option (List ℕ)). Some (unwrap_or o (replicate (size_of file image) 0))) there.1
+          ∙ sym there.1
+    ]
   ]
 
   pub agrees-but : laws.AgreesBut (written_by file image) (file_over file image) image
   agrees-but n other some = elim (cases_eq n 0) [
     | inl zero ↦ rw zero refl
     | inr later ↦ elim (cases_lt (count_of file image) n) [
-          | inl above ↦ absurd (some-none (page_at (as_read file image) n) some (read-past file image n above))
-          | inr within ↦ agrees-within n other (omega (arith, later)) within
-        ]
+      | inl above ↦ absurd (some-none (page_at (as_read file image) n) some (read-past file image n above))
+      | inr within ↦ agrees-within n other (omega (arith, later)) within
+    ]
   ]

@@ -1,5 +1,5 @@
 -- Pages of a store were read.
-use Rattle.std.proofs.Common.{◌≡◌, ◌∙◌, ℕ, ◌≤◌, true, false, Result, Ok, Err, inl, inr, refl, sym, ap, arith}
+use Rattle.std.proofs.Common.{◌≡◌, ◌∙◌, ◌≤◌, true, false, Result, Ok, Err, inl, inr, refl, sym, ap, arith}
 use Rattle.std.specs.Prelude.{min, if◌then◌else◌}
 use Rattle.lf_base.specs.Faults.{CountsFaults}
 use Rattle.std.proofs.Math.Logic.{∥∥₁_map₂}

@@ -1,5 +1,5 @@
 -- Steps that make no call on the store.
-use Rattle.std.proofs.Common.{◌≡◌, ◌∙◌, [], None, Option, refl, sym, ap, subst}
+use Rattle.std.proofs.Common.{◌≡◌, [], None, Option, ap, subst}
 use Rattle.lf_disk.specs.History.{History}
 use Rattle.txn_log.specs.Calls.{Moved, RestsAs}
 use Rattle.txn_log.proofs.Moves.{moved-none}

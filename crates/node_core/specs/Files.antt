@@ -14,7 +14,7 @@ use Rattle.file_view.specs.Requests.{rows_of, scene_of}
 use Rattle.file_view.specs.Served.{Served}
 use Rattle.node_core.specs.Nodes.{NodeParts}
 use Rattle.node_core.specs.Roles.{role_of}
-use Rattle.node_core.specs.Stores.{IsRead, StoreFields, state}
+use Rattle.node_core.specs.Stores.{StoreFields, state}
 
 -- the committed image, where the disk tells it
 abbrev pub told : History → StoreFields → Option DatabaseImage

@@ -1,5 +1,5 @@
 -- A node, and how the cluster sees it.
-use Rattle.std.specs.Prelude.{◌≡◌, ℕ, ◌+◌, ◌-◌, ◌==◌, List, ◌++◌, length, Option, Some, None, if◌then◌else◌}
+use Rattle.std.specs.Prelude.{ℕ, ◌+◌, ◌-◌, ◌==◌, List, ◌++◌, length, Option, Some, None, if◌then◌else◌}
 use Rattle.std.specs.FinMap as pages
 use Rattle.std.specs.List.{range_with_len}
 use Rattle.std.specs.Option.{option_map}

@@ -24,9 +24,8 @@ pub fn errno_of_store(fault: StoreFault) -> Errno
         StoreFault::Disk | StoreFault::Broken => EIO,
         StoreFault::Limit => EFBIG,
         StoreFault::NoMemory => ENOMEM,
-        StoreFault::NotNext { .. }
-        | StoreFault::SumDiffers { .. }
-        | StoreFault::PageSize { .. } => EIO,
+        StoreFault::NotNext { .. } | StoreFault::SumDiffers { .. } | StoreFault::PageSize { .. } =>
+            EIO,
     }
 }
 

@@ -24,11 +24,7 @@ fn host_in(text: &Text) -> Result<Option<Text>, NoMemory>
 }
 
 /// The served files of a node that is opened.
-fn files_of<D: Disk>(
-    alloc: Global,
-    store: &Store<D>,
-    config: &NodeConfig,
-) -> Result<View, NoMemory>
+fn files_of<D: Disk>(alloc: Global, store: &Store<D>, config: &NodeConfig) -> Result<View, NoMemory>
     ensures { IfOk result (λ view. view ≡ (opened (fields_of store.now) config.now).files) }
 {
     let mut view = View::new(alloc, &config.name)?;

@@ -24,8 +24,12 @@ use Rattle.txn_log.specs.Store.{files_in}
 use Rattle.txn_log.proofs.Emptyings.{shows_nothing}
 use Rattle.txn_log.proofs.Installed.{durable_installed}
 use Rattle.txn_log.proofs.Puttings.{cases_option, still_decides, page_in-lock, page_in-data}
+use Rattle.node_recovery.specs.declared.outline.Outline.{Outline}
+use Rattle.node_recovery.specs.declared.tally.Tally.{Tally}
 use Rattle.node_recovery.specs.Finding.{FindsSnapshot, FindsMark, FindsLog, FindsNothing}
 use Rattle.node_recovery.specs.Listing.{AreListed}
+use Rattle.node_recovery.specs.Outline.{text_under}
+use Rattle.node_recovery.specs.Rewriting.{HoldsFile}
 use Rattle.node_recovery.specs.Summing.{restored, restored_image, padded}
 use Rattle.node_recovery.proofs.Lasts.{LastIs, last_named}
 use Rattle.node_recovery.proofs.Listed.{log_listed, no_others_listed}
@@ -152,18 +156,21 @@ decides_whole change bytes valid whole = record {
     ]
 
 -- a snapshot decides
-module _ (names : List Entry) (f : Folder) (file : LtxFile) (entries : List Entry) (sums : List ℕ) (listed : AreListed names f) (finds : FindsSnapshot f file entries sums) where
+module _ (names : List Entry) (f : Folder) (outline : Outline) (entries : List Entry) (tally : Tally) (listed : AreListed names f) (finds : FindsSnapshot f outline entries tally) where
   abbrev pub text : List ℕ
   text = bytes_of (f Snapshot)
 
-  abbrev pub log_file : LogFile
-  log_file = record { min = file.header.min; max = file.header.max; text = bytes_of (f Snapshot) }
+  abbrev file : LtxFile
+  file = file_of (bytes_of (f Snapshot))
 
-  pub tells_snapshot : change_of text ≡ file.change
-  tells_snapshot = ap (λ (g : LtxFile). g.change) finds.read.1
+  abbrev pub log_file : LogFile
+  log_file = record { min = outline.header.min; max = outline.header.max; text = bytes_of (f Snapshot) }
+
+  pub snapshot_held : HoldsFile Snapshot outline.header file f
+  snapshot_held = record { octets = finds.read.octets; is = finds.read.is; header_is = ap (λ (o : Outline). o.header) finds.read.tells }
 
   unsettled : (image : DatabaseImage) → IsBySnapshot image text f → IsUnsettled image text names file.change f
-  unsettled image by = record { by = by; tells = tells_snapshot; others = no_others_listed names f listed }
+  unsettled image by = record { by = by; tells = refl; others = no_others_listed names f listed }
 
   pub text_is : (store : StoreState) (by : StandsBySnapshot f store) → by.text ≡ text
   text_is store by = same_Some by.text text (sym by.by.stands ∙ bytes_are (f Snapshot) finds.there)
@@ -178,21 +185,22 @@ module _ (names : List Entry) (f : Folder) (file : LtxFile) (entries : List Entr
       let by = by_snapshot f store finds.there durable in
       let same = text_is store by in
       durable_installed f c store by log_file (sym same)
-      (ap (λ (t : List ℕ). (file_of t).header.min) same ∙ ap (λ (g : LtxFile). g.header.min) finds.read.1)
-      (ap (λ (t : List ℕ). (file_of t).header.max) same ∙ ap (λ (g : LtxFile). g.header.max) finds.read.1) installed
+      (ap (λ (t : List ℕ). (file_of t).header.min) same ∙ sym (ap (λ (o : Outline). o.header.min) finds.read.tells))
+      (ap (λ (t : List ℕ). (file_of t).header.max) same ∙ sym (ap (λ (o : Outline). o.header.max) finds.read.tells)) installed
+
+  first : file.header.min ≡ 1
+  first = sym (ap (λ (o : Outline). o.header.min) finds.read.tells) ∙ finds.first
 
   pub unsettled_left : IsUnsettled (restored_image file.change (bytes_of (f Database))) text names file.change f
   unsettled_left =
       unsettled (restored_image file.change (bytes_of (f Database)))
       record {
         stands = bytes_are (f Snapshot) finds.there;
-        decides =
-            subst (λ (x : PageChange). Decides x (restored_image file.change (bytes_of (f Database))) (bytes_of (f Database))) (sym tells_snapshot)
-            (decides_whole file.change (bytes_of (f Database)) finds.read.0.valid.block.pages (finds.read.0.valid.block.snapshot_pages finds.first));
+        decides = decides_whole file.change (bytes_of (f Database)) finds.read.is.valid.block.pages (finds.read.is.valid.block.snapshot_pages first);
       }
 
 -- the mark decides
-module _ (f : Folder) (entries : List Entry) (sums : List ℕ) (finds : FindsMark f entries sums) where
+module _ (f : Folder) (entries : List Entry) (tally : Tally) (finds : FindsMark f entries tally) where
   pub is_by_mark : IsByMark f
   is_by_mark = record { no_snapshot = finds.no_snapshot; stands = finds.there }
 
@@ -200,40 +208,50 @@ module _ (f : Folder) (entries : List Entry) (sums : List ℕ) (finds : FindsMar
   marked_store store durable c by = inr (inr (record { by = by; empty = (by_mark f store finds.no_snapshot finds.there durable).empty }))
 
 -- the last file of the log decides
-module _ (names : List Entry) (f : Folder) (file : LtxFile) (entries : List Entry) (sums : List ℕ) (listed : AreListed names f) (finds : FindsLog f file names entries sums) where
-  pub last : LastIs (files_in names f) file
-  last = last_named (files_in names f) file finds.last_is
+module _ (names : List Entry) (f : Folder) (outline : Outline) (entries : List Entry) (tally : Tally) (listed : AreListed names f) (finds : FindsLog f outline names entries tally) where
+  abbrev last_text : List ℕ
+  last_text = text_under outline f
 
-  pub tells_last : change_of last.named.text ≡ file.change
+  abbrev its : PageChange
+  its = change_of (text_under outline f)
+
+  pub last_held : HoldsFile (Ltx outline.header.min outline.header.max) outline.header (file_of (text_under outline f)) f
+  last_held = record { octets = finds.read.octets; is = finds.read.is; header_is = ap (λ (o : Outline). o.header) finds.read.tells }
+
+  pub last : LastIs (files_in names f) (file_of (text_under outline f))
+  last = last_named (files_in names f) (file_of (text_under outline f)) finds.last_is
+
+  pub tells_last : change_of last.named.text ≡ change_of (text_under outline f)
   tells_last = ap (λ (g : LtxFile). g.change) last.tells
 
-  pub worn_store : (store : StoreState) → Durable f store → (c : Folder) → IsWorn file.change f c → Durable c store
+  pub worn_store : (store : StoreState) → Durable f store → (c : Folder) → IsWorn its f c → Durable c store
   worn_store store durable c worn =
       let by = by_log f store finds.no_snapshot finds.no_mark durable in
       let same : files_in names f ≡ by.files = one names f listed finds.entries_are.log.ascends store by in
       let its_last : last_of by.files ≡ Some last.named = ap last_of (sym same) ∙ last.last_is in
-      same_store names f listed finds.entries_are.log.ascends store by c (still store.image by.files last.named file.change its_last tells_last f c by.kept worn)
+      same_store names f listed finds.entries_are.log.ascends store by c (still store.image by.files last.named its its_last tells_last f c by.kept worn)
 
-  pub rest_written : (new : History) → IsChange file.change → IsRewritten file.change f new → IsAtRest (restored_image file.change (bytes_of (f Database))) (files_in names f) false new
-  rest_written new valid done =
-      let made = restored_image file.change (bytes_of (f Database)) in
-      let is : bytes_of (now new Database) ≡ restored file.change (bytes_of (f Database)) = ap bytes_of done.database in
+  pub rest_written : (new : History) → IsRewritten its f new → IsAtRest (restored_image its (bytes_of (f Database))) (files_in names f) false new
+  rest_written new done =
+      let made = restored_image its (bytes_of (f Database)) in
+      let valid : IsChange its = finds.read.is.valid.block.pages in
+      let is : bytes_of (now new Database) ≡ restored its (bytes_of (f Database)) = ap bytes_of done.database in
       record {
         kept = record {
           log = λ a b. done.others (Ltx a b) refl ∙ log_listed names f listed a b;
           no_snapshot = done.others Snapshot refl ∙ finds.no_snapshot;
           mark = ap is_some (done.others Dropped refl ∙ finds.no_mark);
           decided =
-              decided_by (restored_image file.change (bytes_of (f Database))) (files_in names f) last.named file.change last.last_is tells_last
-              (restored_image file.change (bytes_of (f Database))) (bytes_of (now new Database))
-              (decides_restored file.change (bytes_of (f Database)) (bytes_of (now new Database)) valid is);
+              decided_by (restored_image its (bytes_of (f Database))) (files_in names f) last.named its last.last_is tells_last
+              (restored_image its (bytes_of (f Database))) (bytes_of (now new Database))
+              (decides_restored its (bytes_of (f Database)) (bytes_of (now new Database)) valid is);
         };
-        shows = shows_restored file.change (bytes_of (f Database)) (bytes_of (now new Database)) valid is;
+        shows = shows_restored its (bytes_of (f Database)) (bytes_of (now new Database)) valid is;
         settled = done.settled;
       }
 
 -- there is no file
-module _ (names : List Entry) (f : Folder) (entries : List Entry) (sums : List ℕ) (listed : AreListed names f) (finds : FindsNothing f names entries sums) where
+module _ (names : List Entry) (f : Folder) (entries : List Entry) (tally : Tally) (listed : AreListed names f) (finds : FindsNothing f names entries tally) where
   no_files : files_in names f ≡ []
   no_files = ap (λ (ns : List Entry). files_in ns f) finds.no_names
 

@@ -7,39 +7,57 @@ use Rattle.lf_base.specs.declared.pos.Pos.{Pos}
 use Rattle.lf_disk.specs.declared.name.FileName.TheVariants.{Ltx as LtxName}
 use Rattle.lf_disk.specs.Folder.{Folder, bytes_of}
 use Rattle.lf_disk.specs.History.{History, now, Rests}
-use Rattle.lf_disk.proofs.Moments.{past_joins}
-use Rattle.ltx_codec.specs.Format.{IsFile, IsLtx}
+use Rattle.lf_disk.proofs.Moments.{past_joins, past_stays}
+use Rattle.ltx_codec.specs.Format.{IsHeader}
 use Rattle.ltx_codec.specs.Positions.{before, after, nowhere}
 use Rattle.ltx_codec.specs.declared.file.Ltx.{Ltx}
 use Rattle.world_laws.specs.Store.{end_of}
 use Rattle.txn_log.specs.declared.entry.Entry.{Entry}
-use Rattle.txn_log.specs.Kept.{LogFile, file_of}
+use Rattle.txn_log.specs.Kept.{LogFile, file_of, change_of}
 use Rattle.txn_log.specs.Durable.{IsText, log_of}
-use Rattle.txn_log.specs.Store.{files_in, entry_of, AreEntries}
+use Rattle.txn_log.specs.Store.{files_in, AreEntries}
 use Rattle.txn_log.proofs.Commits.{Follows, entries-more}
 use Rattle.txn_log.proofs.Entries.{end-push}
 use Rattle.txn_log.proofs.Installed.{alone}
 use Rattle.txn_log.proofs.Stores.{file_at}
 use Rattle.node_recovery.specs.declared.fault.RecoverFault.{RecoverFault}
 use Rattle.node_recovery.specs.declared.fault.RecoverFault.TheVariants as fault
+use Rattle.node_recovery.specs.declared.file_summary.FileSummary.{FileSummary}
+use Rattle.node_recovery.specs.declared.outline.Outline.{Outline}
 use Rattle.node_recovery.specs.Damage.{IsNext, last_file, position_behind, IsRefusedBehind}
 use Rattle.node_recovery.specs.Finding.{AreEnded}
-use Rattle.node_recovery.specs.Outcome.{IsFileIn, Blames, JudgesLog}
+use Rattle.node_recovery.specs.Outcome.{Blames, TellsLast, JudgesLog}
+use Rattle.node_recovery.specs.Outline.{position_after, entry_of, text_under, IsOutlineIn}
+use Rattle.node_recovery.specs.Summing.{IsTallied}
 
 -- calls that change nothing, one after another
 pub rests_both : (h mid new : History) → Rests h mid → Rests mid new → Rests h new
 rests_both h mid new one two = record { moment = two.moment ∙ one.moment; past = past_joins h mid new (omega (arith, one.moment)) one.past two.past }
 
 pub rests_none : (h : History) → Rests h h
-rests_none h = record { moment = refl; past = Rattle.lf_disk.proofs.Moments.past_stays h }
+rests_none h = record { moment = refl; past = past_stays h }
 
 pub same_now : (h mid : History) → Rests h mid → now mid ≡ now h
 same_now h mid rests = (λ i. mid.seen (rests.moment i)) ∙ (λ i n. rests.past.seen h.moment n (omega arith) i)
 
+-- the position behind what was read last
+abbrev pub behind_read : Option FileSummary → Option Pos
+behind_read last = option_map (λ read. position_after read.outline) last
+
+-- of the first files this was read last
+pub record IsReadAt (names : List Entry) (f : Folder) (i : ℕ) (last : FileSummary) : Type 0 where
+  pub read : IsOutlineIn (text_under last.outline f) last.outline
+  pub last_is : Some (file_of (text_under last.outline f)) ≡ last_file (take i (files_in names f))
+  pub tallied : i ≡ length names → IsTallied (change_of (text_under last.outline f)) last.tally
+
+abbrev pub ReadAt : List Entry → Folder → ℕ → Option FileSummary → Type 0
+ReadAt names f i None = last_file (take i (files_in names f)) ≡ None
+ReadAt names f i (Some last) = IsReadAt names f i last
+
 -- the first files are judged
-pub record Judged (names : List Entry) (f : Folder) (i : ℕ) (entries : List Entry) (last : Option Ltx) : Type 0 where
+pub record Judged (names : List Entry) (f : Folder) (i : ℕ) (entries : List Entry) (last : Option FileSummary) : Type 0 where
   pub are : AreEntries entries (take i (files_in names f))
-  pub last_is : last ≡ last_file (take i (files_in names f))
+  pub read : ReadAt names f i last
 
 pub begins : (names : List Entry) (f : Folder) (entries : List Entry) → entries ≡ [] → Judged names f 0 entries None
 begins names f entries none = record {
@@ -53,7 +71,7 @@ begins names f entries none = record {
     };
     same = sym none;
   };
-  last_is = refl;
+  read = refl;
 }
 
 no_last : (found : Ltx) (files : List LogFile) → fold (λ (_ : Option Ltx) (g : LogFile). Some (file_of g.text)) (Some found) files ≡ None → ⊥
@@ -61,7 +79,7 @@ no_last found [] none = absurd (cc)
 no_last found (f ∷ fs) none = no_last (file_of f.text) fs none
 
 -- without a last file there is none
-empty_log : (files : List LogFile) → last_file files ≡ None → files ≡ []
+pub empty_log : (files : List LogFile) → last_file files ≡ None → files ≡ []
 empty_log [] none = refl
 empty_log (f ∷ fs) none = absurd (no_last (file_of f.text) fs none)
 
@@ -77,15 +95,15 @@ unfolding end_of
 ends_at files last some = ends_from nowhere None files last (λ g same. absurd (cc)) some
 
 -- entries end behind the file of the last one
-pub ended_more : (entries : List Entry) (file : Ltx) → IsFile file → AreEnded (entries ++ entry_of file ∷ []) (Some file)
-ended_more entries file valid = (some entries, end-push entries (entry_of file), valid)
+pub ended_more : (entries : List Entry) (outline : Outline) → IsHeader outline.header → AreEnded (entries ++ entry_of outline ∷ []) (Some outline)
+ended_more entries outline valid = (some entries, end-push entries (entry_of outline), valid)
   where
-    some : (es : List Entry) → es ++ entry_of file ∷ [] ≢ []
+    some : (es : List Entry) → es ++ entry_of outline ∷ [] ≢ []
     some [] same = absurd (cc)
     some (e ∷ es) same = absurd (cc)
 
 -- one file more
-module _ (names : List Entry) (f : Folder) (i : ℕ) (d : Entry) (entries : List Entry) (last : Option Ltx) (within : i < length names) (so_far : Judged names f i entries last) where
+module _ (names : List Entry) (f : Folder) (i : ℕ) (d : Entry) (entries : List Entry) (last : Option FileSummary) (within : i < length names) (so_far : Judged names f i entries last) where
   abbrev name : Entry
   name = get_or names i d
 
@@ -100,34 +118,34 @@ module _ (names : List Entry) (f : Folder) (i : ℕ) (d : Entry) (entries : List
       let long : i < length (files_in names f) = omega (arith, within, length-map names (file_at f)) in
       take_more (files_in names f) i (file_at f d) long ∙ ap (λ (g : LogFile). files ++ g ∷ []) (get_or-map (file_at f) names i d (file_at f d) within)
 
-  module _ (file : Ltx) (is : IsFileIn text file) (next : IsNext name (option_map after last) file) where
-    low : (file_of text).header.min ≡ name.min
-    low = ap (λ (g : Ltx). g.header.min) is.1 ∙ next.min
+  -- the position behind what was read last is that behind the files
+  position : (o : Option FileSummary) → ReadAt names f i o → behind_read o ≡ position_behind files
+  position None none = sym (ap (λ (g : Option Ltx). option_map after g) none)
+  position (Some read) is = ap (λ (o : Outline). Some (position_after o)) is.read.tells ∙ ap (λ (g : Option Ltx). option_map after g) is.last_is
 
-    high : (file_of text).header.max ≡ name.max
-    high = ap (λ (g : Ltx). g.header.max) is.1 ∙ next.max
-
+  module _ (read : FileSummary) (is : IsOutlineIn text read.outline) (next : IsNext name (behind_read last) (file_of text)) where
     is_text : IsText text
-    is_text = subst (λ (g : Ltx). ∥ IsLtx text g ∥₁) (sym is.1) ∣ is.0 ∣₁
+    is_text = ∣ is.is ∣₁
 
-    are_more : AreEntries (entries ++ entry_of (file_of text) ∷ []) (files ++ file_at f name ∷ [])
-    are_more = elim (cases last) [
+    are_more : AreEntries (entries ++ Rattle.txn_log.specs.Store.entry_of (file_of text) ∷ []) (files ++ file_at f name ∷ [])
+    are_more = elim (cases (last_file files)) [
       | inl none ↦
-          let no_files : files ≡ [] = empty_log files (sym so_far.last_is ∙ none) in
-          let no_entries : entries ≡ [] = sym so_far.are.same ∙ ap (λ (fs : List LogFile). map (λ (g : LogFile). entry_of (file_of g.text)) fs) no_files in
-          let one : AreEntries (entry_of (file_of text) ∷ []) (file_at f name ∷ []) = record { log = alone (file_at f name) is_text low high; same = refl } in
-          subst (λ (fs : List LogFile). AreEntries (entries ++ entry_of (file_of text) ∷ []) (fs ++ file_at f name ∷ [])) (sym no_files)
-          (subst (λ (es : List Entry). AreEntries (es ++ entry_of (file_of text) ∷ []) (file_at f name ∷ [])) (sym no_entries) one)
+          let no_files : files ≡ [] = empty_log files none in
+          let no_entries : entries ≡ [] = sym so_far.are.same ∙ ap (λ (fs : List LogFile). map (λ (g : LogFile). Rattle.txn_log.specs.Store.entry_of (file_of g.text)) fs) no_files in
+          let one : AreEntries (Rattle.txn_log.specs.Store.entry_of (file_of text) ∷ []) (file_at f name ∷ []) = record { log = alone (file_at f name) is_text next.min next.max; same = refl } in
+          subst (λ (fs : List LogFile). AreEntries (entries ++ Rattle.txn_log.specs.Store.entry_of (file_of text) ∷ []) (fs ++ file_at f name ∷ [])) (sym no_files)
+          (subst (λ (es : List Entry). AreEntries (es ++ Rattle.txn_log.specs.Store.entry_of (file_of text) ∷ []) (file_at f name ∷ [])) (sym no_entries) one)
       | inr some ↦
-          let joins : before file ≡ after some.0 = next.follows (after some.0) (ap (λ (o : Option Ltx). option_map after o) some.1) in
-          let end : end_of (log_of files) ≡ after some.0 = ends_at files some.0 (sym so_far.last_is ∙ some.1) in
+          let behind : behind_read last ≡ Some (after some.0) = position last so_far.read ∙ ap (λ (g : Option Ltx). option_map after g) some.1 in
+          let joins : before (file_of text) ≡ after some.0 = next.follows (after some.0) behind in
+          let end : end_of (log_of files) ≡ after some.0 = ends_at files some.0 some.1 in
           let follows : Follows files (file_at f name) = record {
             is = is_text;
-            min = low;
-            max = high;
-            order = omega (arith, next.min, next.max, is.0.valid.header.max);
-            above = omega (arith, ap (λ (p : Pos). p.txid) end, ap (λ (p : Pos). p.txid) joins, is.0.valid.header.min, next.min);
-            next = ap before is.1 ∙ joins ∙ sym end;
+            min = next.min;
+            max = next.max;
+            order = omega (arith, next.min, next.max, is.is.valid.header.max);
+            above = omega (arith, ap (λ (p : Pos). p.txid) end, ap (λ (p : Pos). p.txid) joins, is.is.valid.header.min, next.min);
+            next = joins ∙ sym end;
           } in
           entries-more entries files (file_at f name) so_far.are follows
     ]
@@ -136,34 +154,63 @@ module _ (names : List Entry) (f : Folder) (i : ℕ) (d : Entry) (entries : List
         cases None = inl refl
         cases (Some x) = inr (x, refl)
 
-    pub judged : Judged names f (i + 1) (entries ++ entry_of file ∷ []) (Some file)
-    judged = record {
+    -- it stands under the numbers of its outline
+    under : text_under read.outline f ≡ text
+    under =
+        let low : read.outline.header.min ≡ name.min = ap (λ (o : Outline). o.header.min) is.tells ∙ next.min in
+        let high : read.outline.header.max ≡ name.max = ap (λ (o : Outline). o.header.max) is.tells ∙ next.max in
+        λ j. bytes_of (f (LtxName (low j) (high j)))
+
+    pub judged : (i + 1 ≡ length names → IsTallied (change_of text) read.tally) → Judged names f (i + 1) (entries ++ entry_of read.outline ∷ []) (Some read)
+    judged tallied = record {
       are =
-          subst (λ (g : Ltx). AreEntries (entries ++ entry_of g ∷ []) (take (i + 1) (files_in names f))) is.1
-          (subst (λ (fs : List LogFile). AreEntries (entries ++ entry_of (file_of text) ∷ []) fs) (sym splits) are_more);
-      last_is =
-          ap (λ (g : Ltx). Some g) (sym is.1)
-          ∙ sym (fold-append (λ (_ : Option Ltx) (g : LogFile). Some (file_of g.text)) None files (file_at f name ∷ []))
-          ∙ ap (λ (fs : List LogFile). last_file fs) (sym splits);
+          subst (λ (e : Entry). AreEntries (entries ++ e ∷ []) (take (i + 1) (files_in names f))) (sym (ap entry_of is.tells))
+          (subst (λ (fs : List LogFile). AreEntries (entries ++ Rattle.txn_log.specs.Store.entry_of (file_of text) ∷ []) fs) (sym splits) are_more);
+      read = record {
+        read = subst (λ (t : List ℕ). IsOutlineIn t read.outline) (sym under) is;
+        last_is =
+            ap (λ (t : List ℕ). Some (file_of t)) under
+            ∙ sym (fold-append (λ (_ : Option Ltx) (g : LogFile). Some (file_of g.text)) None files (file_at f name ∷ []))
+            ∙ ap (λ (fs : List LogFile). last_file fs) (sym splits);
+        tallied = λ all. subst (λ (t : List ℕ). IsTallied (change_of t) read.tally) (sym under) (tallied all);
+      };
     }
 
   -- or it is the first that is refused
-  pub refused : (why : RecoverFault) → Blames (LtxName name.min name.max) (IsRefusedBehind name (option_map after last) text) why → JudgesLog names f (Err why)
+  pub refused : (why : RecoverFault) → Blames (LtxName name.min name.max) (IsRefusedBehind name (behind_read last) text) why → JudgesLog names f (Err why)
   refused fault.Disk blames = tt
   refused fault.NoMemory blames = tt
-  refused (fault.Damaged blamed want got) blames =
-      let position : option_map after last ≡ position_behind files = ap (λ (o : Option Ltx). option_map after o) so_far.last_is in
-      record {
-        index = i;
-        within = within;
-        before = so_far.are.log;
-        name = λ e. blames.0 ∙ ap (λ (x : Entry). LtxName x.min x.max) (get_or_any names i d e within);
-        why = λ e.
-            let all : IsRefusedBehind name (position_behind files) text want got = subst (λ (p : Option Pos). IsRefusedBehind name p text want got) position blames.1 in
-            subst (λ (x : Entry). IsRefusedBehind x (position_behind files) (bytes_of (f (LtxName x.min x.max))) want got) (get_or_any names i d e within) all;
-      }
+  refused (fault.Damaged blamed want got) blames = record {
+    index = i;
+    within = within;
+    before = so_far.are.log;
+    name = λ e. blames.0 ∙ ap (λ (x : Entry). LtxName x.min x.max) (get_or_any names i d e within);
+    why = λ e.
+        let all : IsRefusedBehind name (position_behind files) text want got = subst (λ (p : Option Pos). IsRefusedBehind name p text want got) (position last so_far.read) blames.1 in
+        subst (λ (x : Entry). IsRefusedBehind x (position_behind files) (bytes_of (f (LtxName x.min x.max))) want got) (get_or_any names i d e within) all;
+  }
     where
       get_or_any : (es : List Entry) (k : ℕ) (x y : Entry) → k < length es → get_or es k x ≡ get_or es k y
       get_or_any [] k x y within = absurd (omega (arith, within))
       get_or_any (e ∷ es) zero x y within = refl
       get_or_any (e ∷ es) (suc k) x y within = get_or_any es k x y (omega (arith, within))
+
+-- all of them are
+module _ (names : List Entry) (f : Folder) (i : ℕ) (entries : List Entry) (all : i ≡ length names) where
+  whole : take i (files_in names f) ≡ files_in names f
+  whole = Rattle.std.proofs.lemmas.List.take_all i (files_in names f) (omega (arith, all, length-map names (file_at f)))
+
+  pub all_entries : (last : Option FileSummary) → Judged names f i entries last → AreEntries entries (files_in names f)
+  all_entries last judged = subst (λ (fs : List LogFile). AreEntries entries fs) whole judged.are
+
+  pub last_told : (last : Option FileSummary) → Judged names f i entries last → TellsLast names f last
+  last_told None judged = no_names names (empty_log (files_in names f) (ap last_file (sym whole) ∙ judged.read))
+    where
+      no_names : (ns : List Entry) → files_in ns f ≡ [] → ns ≡ []
+      no_names [] none = refl
+      no_names (n ∷ ns) none = absurd (cc)
+  last_told (Some last) judged = record {
+    read = judged.read.read;
+    last_is = judged.read.last_is ∙ ap last_file whole;
+    tallied = judged.read.tallied all;
+  }

@@ -1,6 +1,7 @@
 mod Agreements
 mod Ascending
 mod Examinations
+mod PieceReaders
 mod Finishings
 mod Judgings
 mod Lasts
@@ -8,8 +9,12 @@ mod Listed
 mod Listings
 mod Once
 mod Openings
+mod Readings
 mod Reopenings
 mod Restored
+mod Rewritings
+mod Settlings
 mod Summings
+mod Tallies
 mod Undamaged
 mod Unique

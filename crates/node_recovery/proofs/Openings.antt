@@ -7,49 +7,49 @@ use Rattle.lf_disk.specs.declared.name.FileName.TheVariants.{Database, Snapshot}
 use Rattle.lf_disk.specs.Folder.{Folder, bytes_of}
 use Rattle.lf_disk.specs.History.{History, now}
 use Rattle.lf_base.specs.declared.pos.Pos.{Pos}
+use Rattle.lf_sqlite_pages.specs.Header.{image_is_wal}
 use Rattle.lf_sqlite_pages.specs.Image.{DatabaseImage, empty_image}
 use Rattle.lf_sqlite_pages.specs.Change.{PageChange, IsChange}
-use Rattle.ltx_codec.specs.Format.{IsFile, IsLtx}
-use Rattle.ltx_codec.specs.declared.file.Ltx.{Ltx as LtxFile}
 use Rattle.world_laws.specs.Store.{StoreState}
 use Rattle.txn_log.specs.declared.entry.Entry.{Entry}
 use Rattle.txn_log.specs.Entries.{AreNamed}
 use Rattle.txn_log.specs.Pages.{page_in}
 use Rattle.txn_log.specs.Kept.{LogFile, file_of, change_of, last_of, Decides, IsAtRest}
-use Rattle.txn_log.specs.Durable.{Durable, log_of, IsText}
-use Rattle.txn_log.specs.Store.{files_in, entry_of, state_in, AreEntries, IsStore, IsShaped, IsSized}
+use Rattle.txn_log.specs.Durable.{Durable, log_of}
+use Rattle.txn_log.specs.Store.{files_in, entry_of, image_in, state_in, AreEntries, IsStore, IsShaped, IsSized}
 use Rattle.txn_log.proofs.Installed.{alone}
 use Rattle.txn_log.proofs.Puttings.{shows_after}
 use Rattle.txn_log.proofs.Stores.{Tells, image_is, settles, state_now}
 use Rattle.node_recovery.specs.declared.found.Decider.{Decider}
 use Rattle.node_recovery.specs.declared.found.Decider.TheVariants as decider
-use Rattle.node_recovery.specs.Finding.{FindsBy, IsShapedAs}
+use Rattle.node_recovery.specs.declared.outline.Outline.{Outline}
+use Rattle.node_recovery.specs.declared.tally.Tally.{Tally}
+use Rattle.node_recovery.specs.Agreeing.{IsTotal}
+use Rattle.node_recovery.specs.Finding.{FindsBy, AreEnded, IsShapedAs}
 use Rattle.node_recovery.specs.Finishing.{image_left, files_left, size_left, commit_left, is_marked}
 use Rattle.node_recovery.specs.Listing.{AreListed}
+use Rattle.node_recovery.specs.Outline.{text_under, IsOutlineIn}
 use Rattle.node_recovery.specs.Summing.{restored, restored_image}
-use Rattle.node_recovery.proofs.Finishings.{by_log, by_snapshot, by_mark, one, last, tells_last, tells_snapshot, text_is, log_file}
-use Rattle.node_recovery.proofs.Lasts.{LastIs}
+use Rattle.node_recovery.proofs.Finishings.{by_log, by_snapshot, by_mark, one, last, tells_last, text_is, log_file}
 use Rattle.node_recovery.proofs.Restored.{count}
 
 -- the fields fit together, over any disk
 no_true : {X : Type 0} → false ≡ true → X
 no_true same = absurd (false≢true same)
 
-module _ (file : LtxFile) (entries : List Entry) (sums : List ℕ) where
-  shaped_file : IsShapedAs (decider.Last file) entries sums → IsShaped file.change.commit entries false sums
-  shaped_file is = record {
+module _ (outline : Outline) (entries : List Entry) (sums : List ℕ) (is : AreEnded entries (Some outline) × IsTotal outline sums) where
+  shaped_file : IsShaped outline.header.commit entries false sums
+  shaped_file = record {
     count = is.1.0;
-    limit = omega (arith, is.0.2.block.commit, is.0.2.header.widths.commit);
+    limit = omega (arith, is.0.2.widths.commit);
     none = λ none. absurd (is.0.0 none);
     marked = λ same. no_true same;
     sum = λ some. ap (λ (p : Pos). p.sum) is.0.1 ∙ sym is.1.1;
-    some = λ some. omega (arith, ap (λ (p : Pos). p.txid) is.0.1, is.0.2.header.min, is.0.2.header.max);
+    some = λ some. omega (arith, ap (λ (p : Pos). p.txid) is.0.1, is.0.2.min, is.0.2.max);
   }
 
-  sized_file : IsFile file → IsSized file.change.page_size file.change.commit
-  sized_file valid =
-      let size = subst (λ (s : ℕ). Rattle.lf_sqlite_pages.specs.PageSize.IsPageSize s) (sym valid.block.page_size) valid.header.page_size in
-      record { sized = λ some. size; pages = λ some. size }
+  sized_file : IsSized outline.header.page_size outline.header.commit
+  sized_file = record { sized = λ some. is.0.2.page_size; pages = λ some. is.0.2.page_size }
 
 module _ (entries : List Entry) (sums : List ℕ) (none : entries ≡ []) (no_sums : sums ≡ []) where
   shaped_none : (dropped : Bool) → IsShaped 0 entries dropped sums
@@ -66,14 +66,14 @@ sized_none : IsSized 0 0
 sized_none = record { sized = λ some. absurd (omega (arith, some)); pages = λ some. absurd (omega (arith, some)) }
 
 pub shaped_left : (d : Decider) (entries : List Entry) (sums : List ℕ) → IsShapedAs d entries sums → IsShaped (commit_left d) entries (is_marked d) sums
-shaped_left (decider.Snapshot file) entries sums is = shaped_file file entries sums is
-shaped_left (decider.Last file) entries sums is = shaped_file file entries sums is
+shaped_left (decider.Snapshot outline) entries sums is = shaped_file outline entries sums is
+shaped_left (decider.Last outline) entries sums is = shaped_file outline entries sums is
 shaped_left decider.Mark entries sums is = shaped_none entries sums is.0 is.1 true
 shaped_left decider.Nothing entries sums is = shaped_none entries sums is.0 is.1 false
 
 pub sized_left : (d : Decider) (entries : List Entry) (sums : List ℕ) → IsShapedAs d entries sums → IsSized (size_left d) (commit_left d)
-sized_left (decider.Snapshot file) entries sums is = sized_file file entries sums is.0.2
-sized_left (decider.Last file) entries sums is = sized_file file entries sums is.0.2
+sized_left (decider.Snapshot outline) entries sums is = sized_file outline entries sums is
+sized_left (decider.Last outline) entries sums is = sized_file outline entries sums is
 sized_left decider.Mark entries sums is = sized_none
 sized_left decider.Nothing entries sums is = sized_none
 
@@ -109,8 +109,16 @@ decided_image change image bytes valid is =
 abbrev pub state_left : Decider → List Entry → Folder → StoreState
 state_left d names f = record { image = image_left d f; log = log_of (files_left d names f); dropped = is_marked d }
 
-module _ (names : List Entry) (f : Folder) (entries : List Entry) (sums : List ℕ) (listed : AreListed names f) where
-  tells_none : entries ≡ [] → sums ≡ [] → Tells empty_image [] 0 0 entries sums
+-- a file's change has the size and the pages that its outline says
+module _ (text : List ℕ) (outline : Outline) (read : IsOutlineIn text outline) where
+  size_said : outline.header.page_size ≡ (change_of text).page_size
+  size_said = ap (λ (o : Outline). o.header.page_size) read.tells ∙ sym read.is.valid.block.page_size
+
+  commit_said : outline.header.commit ≡ (change_of text).commit
+  commit_said = ap (λ (o : Outline). o.header.commit) read.tells ∙ sym read.is.valid.block.commit
+
+module _ (names : List Entry) (f : Folder) (entries : List Entry) (tally : Tally) (listed : AreListed names f) where
+  tells_none : entries ≡ [] → tally.sums.sums ≡ [] → Tells empty_image [] 0 0 entries tally.sums.sums
   tells_none none no_sums =
       let are : AreEntries entries [] = record {
         log = record {
@@ -125,55 +133,66 @@ module _ (names : List Entry) (f : Folder) (entries : List Entry) (sums : List �
       record { size_is = refl; commit_is = refl; log = are; named = are_named entries [] are; count = long_entries entries [] are; table = no_sums }
 
   -- the fields tell what is left
-  tells_by : (d : Decider) → IsShapedAs d entries sums → FindsBy f d names entries sums → Tells (image_left d f) (files_left d names f) (size_left d) (commit_left d) entries sums
-  tells_by (decider.Snapshot file) shaped finds =
-      let g : LogFile = log_file names f file entries sums listed finds in
-      let is_text : IsText g.text = subst (λ (x : LtxFile). ∥ IsLtx (bytes_of (f Snapshot)) x ∥₁) (sym finds.read.1) ∣ finds.read.0 ∣₁ in
+  tells_by : (d : Decider) → FindsBy f d names entries tally → Tells (image_left d f) (files_left d names f) (size_left d) (commit_left d) entries tally.sums.sums
+  tells_by (decider.Snapshot outline) finds =
+      let text = bytes_of (f Snapshot) in
+      let g : LogFile = log_file names f outline entries tally listed finds in
       let are : AreEntries entries (g ∷ []) = record {
-        log = alone g is_text (ap (λ (x : LtxFile). x.header.min) finds.read.1) (ap (λ (x : LtxFile). x.header.max) finds.read.1);
-        same = ap (λ (x : LtxFile). entry_of x ∷ []) finds.read.1 ∙ sym finds.entries_are;
+        log = alone g ∣ finds.read.is ∣₁ (sym (ap (λ (o : Outline). o.header.min) finds.read.tells)) (sym (ap (λ (o : Outline). o.header.max) finds.read.tells));
+        same = ap (λ (o : Outline). Rattle.node_recovery.specs.Outline.entry_of o ∷ []) (sym finds.read.tells) ∙ sym finds.entries_are;
       } in
       record {
-        size_is = refl;
-        commit_is = sym (count file.change (bytes_of (f Database)) finds.read.0.valid.block.pages);
+        size_is = size_said text outline finds.read;
+        commit_is = commit_said text outline finds.read ∙ sym (count (change_of text) (bytes_of (f Database)) finds.read.is.valid.block.pages);
         log = are;
         named = are_named entries (g ∷ []) are;
         count = long_entries entries (g ∷ []) are;
         table = finds.summed.table;
       }
-  tells_by (decider.Last file) shaped finds = record {
-    size_is = refl;
-    commit_is = sym (count file.change (bytes_of (f Database)) shaped.0.2.block.pages);
-    log = finds.entries_are;
-    named = are_named entries (files_in names f) finds.entries_are;
-    count = long_entries entries (files_in names f) finds.entries_are;
-    table = finds.summed.table;
-  }
-  tells_by decider.Mark shaped finds = tells_none shaped.0 shaped.1
-  tells_by decider.Nothing shaped finds = tells_none shaped.0 shaped.1
+  tells_by (decider.Last outline) finds =
+      let text = text_under outline f in
+      record {
+        size_is = size_said text outline finds.read;
+        commit_is = commit_said text outline finds.read ∙ sym (count (change_of text) (bytes_of (f Database)) finds.read.is.valid.block.pages);
+        log = finds.entries_are;
+        named = are_named entries (files_in names f) finds.entries_are;
+        count = long_entries entries (files_in names f) finds.entries_are;
+        table = finds.summed.table;
+      }
+  tells_by decider.Mark finds = tells_none finds.no_entries finds.no_pages.sums
+  tells_by decider.Nothing finds = tells_none finds.no_entries finds.no_pages.sums
+
+  -- and the mode is that of the image
+  pub mode_by : (d : Decider) → FindsBy f d names entries tally → tally.wal ≡ image_is_wal (image_left d f)
+  mode_by (decider.Snapshot outline) finds = finds.summed.mode
+  mode_by (decider.Last outline) finds = finds.summed.mode
+  mode_by decider.Mark finds = finds.no_pages.wal
+  mode_by decider.Nothing finds = finds.no_pages.wal
 
   -- and that is the store of the folder
-  store_by : (d : Decider) → IsShapedAs d entries sums → FindsBy f d names entries sums → (store : StoreState) → Durable f store → state_left d names f ≡ store
-  store_by (decider.Snapshot file) shaped finds store durable =
+  store_by : (d : Decider) → FindsBy f d names entries tally → (store : StoreState) → Durable f store → state_left d names f ≡ store
+  store_by (decider.Snapshot outline) finds store durable =
       let by = by_snapshot f store finds.there durable in
-      let tells : change_of by.text ≡ file.change = ap change_of (text_is names f file entries sums listed finds store by) ∙ tells_snapshot names f file entries sums listed finds in
-      let image : restored_image file.change (bytes_of (f Database)) ≡ store.image =
-      decided_image file.change store.image (bytes_of (f Database)) finds.read.0.valid.block.pages (subst (λ (x : PageChange). Decides x store.image (bytes_of (f Database))) tells by.by.decides) in
-      let log : file_of (bytes_of (f Snapshot)) ∷ [] ≡ store.log = ap (λ (t : List ℕ). file_of t ∷ []) (sym (text_is names f file entries sums listed finds store by)) ∙ sym by.log in
+      let change = change_of (bytes_of (f Snapshot)) in
+      let same = text_is names f outline entries tally listed finds store by in
+      let image : restored_image change (bytes_of (f Database)) ≡ store.image =
+      decided_image change store.image (bytes_of (f Database)) finds.read.is.valid.block.pages (subst (λ (t : List ℕ). Decides (change_of t) store.image (bytes_of (f Database))) same by.by.decides) in
+      let log : file_of (bytes_of (f Snapshot)) ∷ [] ≡ store.log = ap (λ (t : List ℕ). file_of t ∷ []) (sym same) ∙ sym by.log in
       λ i. record { image = image i; log = log i; dropped = sym by.unmarked i }
-  store_by (decider.Last file) shaped finds store durable =
+  store_by (decider.Last outline) finds store durable =
       let by = by_log f store finds.no_snapshot finds.no_mark durable in
+      let change = change_of (text_under outline f) in
       let same : files_in names f ≡ by.files = one names f listed finds.entries_are.log.ascends store by in
-      let its : LastIs (files_in names f) file = last names f file entries sums listed finds in
+      let its = last names f outline entries tally listed finds in
       let named : last_of by.files ≡ Some its.named = ap last_of (sym same) ∙ its.last_is in
-      let tells : change_of its.named.text ≡ file.change = tells_last names f file entries sums listed finds in
-      let image : restored_image file.change (bytes_of (f Database)) ≡ store.image =
-      decided_image file.change store.image (bytes_of (f Database)) shaped.0.2.block.pages
+      let tells : change_of its.named.text ≡ change = tells_last names f outline entries tally listed finds in
+      let image : restored_image change (bytes_of (f Database)) ≡ store.image =
+      decided_image change store.image (bytes_of (f Database)) finds.read.is.valid.block.pages
       (subst (λ (x : PageChange). Decides x store.image (bytes_of (f Database))) tells (by.kept.decided.some its.named named)) in
       let log : log_of (files_in names f) ≡ store.log = ap log_of same ∙ sym by.log in
       λ i. record { image = image i; log = log i; dropped = sym by.unmarked i }
-  store_by decider.Mark shaped finds store durable = sym (by_mark f store finds.no_snapshot finds.there durable).empty
-  store_by decider.Nothing shaped finds store durable =
+  store_by decider.Mark finds store durable = sym (by_mark f store finds.no_snapshot finds.there durable).empty
+  store_by decider.Nothing finds store durable =
       let by = by_log f store finds.no_snapshot finds.no_mark durable in
       let none : files_in names f ≡ [] = ap (λ (ns : List Entry). files_in ns f) finds.no_names in
       let same : files_in names f ≡ by.files = one names f listed (subst (λ (fs : List LogFile). Rattle.txn_log.specs.Kept.Ascends 0 fs) (sym none) tt) store by in
@@ -182,9 +201,15 @@ module _ (names : List Entry) (f : Folder) (entries : List Entry) (sums : List �
       let log : [] ≡ store.log = sym (ap log_of no_files) ∙ sym by.log in
       λ i. record { image = image i; log = log i; dropped = sym by.unmarked i }
 
-  module _ (d : Decider) (shaped : IsShapedAs d entries sums) (finds : FindsBy f d names entries sums) (h : History) (rest : IsAtRest (image_left d f) (files_left d names f) (is_marked d) h) where
-    pub kept_left : IsStore h (size_left d) (commit_left d) entries (is_marked d) sums false 0 0
-    kept_left = settles (image_left d f) (files_left d names f) (is_marked d) (size_left d) (commit_left d) entries sums h rest (tells_by d shaped finds) 0 0
+  module _ (d : Decider) (finds : FindsBy f d names entries tally) (h : History) (rest : IsAtRest (image_left d f) (files_left d names f) (is_marked d) h) where
+    pub kept_left : IsStore h (size_left d) (commit_left d) entries (is_marked d) tally.sums.sums false 0 0
+    kept_left = settles (image_left d f) (files_left d names f) (is_marked d) (size_left d) (commit_left d) entries tally.sums.sums h rest (tells_by d finds) 0 0
+
+    now_is : state_in (size_left d) (commit_left d) entries (is_marked d) (now h) ≡ state_left d names f
+    now_is = state_now (image_left d f) (files_left d names f) (is_marked d) (size_left d) (commit_left d) entries tally.sums.sums h rest (tells_by d finds)
+
+    pub mode_left_is : tally.wal ≡ image_is_wal (image_in (size_left d) (commit_left d) (now h))
+    mode_left_is = mode_by d finds ∙ sym (ap (λ (s : StoreState). image_is_wal s.image) now_is)
 
     pub state_is : (store : StoreState) → Durable f store → state_in (size_left d) (commit_left d) entries (is_marked d) (now h) ≡ store
-    state_is store durable = state_now (image_left d f) (files_left d names f) (is_marked d) (size_left d) (commit_left d) entries sums h rest (tells_by d shaped finds) ∙ store_by d shaped finds store durable
+    state_is store durable = now_is ∙ store_by d finds store durable

@@ -1,31 +1,17 @@
 -- From a folder that was examined to a store.
-use Rattle.std.proofs.Common.{◌≡◌, inl, inr, ℕ, ◌-◌, ◌*◌, ◌≤◌, Bool, true, false, Option, Some, None, Result, List, [], length, length-drop, unwrap_or, drop, refl, sym, ◌∙◌, ap, subst, arith}
+use Rattle.std.proofs.Common.{inl, inr, ℕ, Bool, false, Option, None, Result, List, refl, sym, ◌∙◌, subst, arith}
 use Rattle.std.specs.Prelude.{◌==◌, if◌then◌else◌}
-use Rattle.std.proofs.Math.Nat.{mul-le-mul_right}
-use Rattle.std.proofs.lemmas.Bool.{cases_eq}
-use Rattle.std.proofs.lemmas.Bool.Decides.{nat_tests}
-use Rattle.std.proofs.lemmas.List.FromFn.{length-map-range_with_len}
-use Rattle.lf_base.proofs.FileLemmas.{resized-there}
 use Rattle.lf_disk.specs.Folder.{Folder, bytes_of, SameBut}
 use Rattle.lf_disk.specs.declared.name.FileName.TheVariants.{Database, Staged, Snapshot, Dropped}
 use Rattle.lf_disk.specs.Change.{Step, SetsFile, Perhaps}
 use Rattle.lf_disk.specs.History.{History, now, Rests, Ticks, Moves, EachMoment, IsSettledBut}
 use Rattle.lf_disk.proofs.Moments.{started, goes_on, rests_on, joined}
-use Rattle.lf_sqlite_pages.specs.Header.{is_wal, image_is_wal}
-use Rattle.lf_sqlite_pages.specs.Image.{DatabaseImage, page_at}
-use Rattle.lf_sqlite_pages.specs.LockPage.{IsDataPage}
-use Rattle.lf_sqlite_pages.specs.PageSize.{IsPageSize}
-use Rattle.lf_sqlite_pages.proofs.LockPages.{page_size-positive, IsDataPage-below}
+use Rattle.lf_sqlite_pages.specs.Image.{DatabaseImage}
 use Rattle.world_laws.specs.Store.{StoreState}
-use Rattle.txn_log.proofs.Modes.{page_size-most}
 use Rattle.txn_log.specs.Durable.{Durable}
 use Rattle.txn_log.specs.Kept.{LogFile, Shows, IsAtRest}
-use Rattle.txn_log.specs.Pages.{page_in, in_place}
-use Rattle.txn_log.specs.Store.{image_in, IsSized}
-use Rattle.txn_log.proofs.Puttings.{page_in-data}
 use Rattle.txn_log.proofs.Placings.{kept_same}
 use Rattle.txn_log.proofs.Settlings.{by_same}
-use Rattle.node_recovery.specs.Summing.{padded}
 
 -- the staged file is of no account to the store of a folder
 pub same_durable : (f c : Folder) (store : StoreState) → SameBut Staged f c → Durable f store → Durable c store
@@ -69,23 +55,3 @@ rest_unstaged image files dropped mid new rest moves = record {
       let from = moves.left c may in
       from.2.elsewhere n other ∙ rest.settled from.0 from.1 n other ∙ sym (moves.seen.elsewhere n other);
 }
-
--- the mode that is read is that of the image
-pub mode_is : (size commit : ℕ) (f : Folder) → IsSized size commit → Shows (image_in size commit f) (bytes_of (f Database)) →
-    (if commit == 0 then false else is_wal (padded size 1 (bytes_of (f Database)))) ≡ image_is_wal (image_in size commit f)
-mode_is size commit f sized shows = elim (cases_eq commit 0) [
-  | inl none ↦
-      let test : (commit == 0) ≡ true = grind (arith, nat_tests) in
-      rw test (sym (ap (λ (c : ℕ). image_is_wal (image_in size c f)) none))
-  | inr some ↦
-      let test : (commit == 0) ≡ false = grind (arith, nat_tests) in
-      let bytes = bytes_of (f Database) in
-      let count : length (image_in size commit f).pages ≡ commit = length-map-range_with_len (page_in size bytes) 1 commit in
-      let is : IsPageSize size = sized.pages (omega (arith, some)) in
-      let data_page : IsDataPage size 1 = IsDataPage-below size 1 (page_size-positive size is) (omega (arith, page_size-most size is)) in
-      let at : page_at (image_in size commit f) 1 ≡ Some (page_in size bytes 1) = shows.pages 1 (omega arith) (omega (arith, count, some)) in
-      let room : 1 * size ≤ commit * size = mul-le-mul_right size (omega (arith, some)) in
-      let long : length bytes ≡ commit * size = shows.long ∙ ap (λ (c : ℕ). c * size) count in
-      let whole : padded size 1 bytes ≡ in_place size 1 bytes = resized-there size (drop ((1 - 1) * size) bytes) (omega (arith, length-drop ((1 - 1) * size) bytes, room, long)) in
-      rw test (ap is_wal (whole ∙ sym (page_in-data size bytes 1 data_page)) ∙ sym (ap (λ (o : Option (List ℕ)). is_wal (unwrap_or o [])) at))
-]

@@ -22,7 +22,9 @@ use Rattle.txn_log.specs.Pages.{in_place, page_in, SamePage, patched}
 use Rattle.txn_log.proofs.Places.{page_end, cropped_page}
 use Rattle.txn_log.proofs.Puttings.{cases_option, page_in-data, patched_written}
 use Rattle.txn_log.proofs.Wearing.{other_number, written_rest}
-use Rattle.node_recovery.specs.Summing.{padded, sum_left, sums_left, restored, restored_image}
+use Rattle.lf_sqlite_pages.specs.Header.{is_wal, image_is_wal}
+use Rattle.node_recovery.specs.Summing.{padded, page_left, sum_left, sums_left, mode_left, restored, restored_image}
+use Rattle.node_recovery.proofs.Summings.{first_data}
 
 -- the bytes of a page that is not written stay, also past the file's end, where zeros are read
 patched_other : (size number : ℕ) (ws : List PageWrite) (bytes : List ℕ) (n k : ℕ) → AscendsAbove number ws → ((j : ℕ) (d : PageWrite) → j < length ws → length (get_or ws j d).bytes ≡ size)
@@ -53,8 +55,8 @@ module _ (change : PageChange) (bytes : List ℕ) (valid : IsChange change) wher
   long : length (restored change bytes) ≡ change.commit * change.page_size
   long = length-resized (change.commit * change.page_size) over
 
-  page_left : (n : ℕ) → 1 ≤ n → n ≤ change.commit → written change.pages n ≡ None → in_place size n (restored change bytes) ≡ padded size n bytes
-  page_left n first last none =
+  page_kept : (n : ℕ) → 1 ≤ n → n ≤ change.commit → written change.pages n ≡ None → in_place size n (restored change bytes) ≡ padded size n bytes
+  page_kept n first last none =
       let at = (n - 1) * change.page_size in
       let room : n * change.page_size ≤ change.commit * change.page_size = mul-le-mul_right change.page_size last in
       let end : at + change.page_size ≡ n * change.page_size = page_end change.page_size n first in
@@ -78,7 +80,7 @@ module _ (change : PageChange) (bytes : List ℕ) (valid : IsChange change) wher
 
   pub page_there : (n : ℕ) → 1 ≤ n → n ≤ change.commit → in_place size n (restored change bytes) ≡ unwrap_or (written change.pages n) (padded size n bytes)
   page_there n first last = elim (cases_option (written change.pages n)) [
-    | inl none ↦ page_left n first last none ∙ sym (ap (λ (o : Option (List ℕ)). unwrap_or o (padded change.page_size n bytes)) none)
+    | inl none ↦ page_kept n first last none ∙ sym (ap (λ (o : Option (List ℕ)). unwrap_or o (padded change.page_size n bytes)) none)
     | inr some ↦ page_written n some.0 first last some.1 ∙ sym (ap (λ (o : Option (List ℕ)). unwrap_or o (padded change.page_size n bytes)) some.1)
   ]
 
@@ -120,3 +122,18 @@ module _ (change : PageChange) (bytes : List ℕ) (valid : IsChange change) wher
       get_or-map-range_with_len (sum_left change bytes) 1 change.commit k (k + 1) 0 inside (omega arith)
       ∙ sum_there (k + 1) (omega arith) (omega (arith, inside))
       ∙ sym (get_or-map-range_with_len (page_sum_at image) 1 (length image.pages) k (k + 1) 0 (omega (arith, inside, count)) (omega arith)))
+
+  -- and so is the mode
+  pub mode_restored : mode_left change bytes ≡ image_is_wal image
+  mode_restored = elim (cases_eq change.commit 0) [
+    | inl zero ↦
+        let test : (change.commit == 0) ≡ true = grind (arith, nat_tests) in
+        let made : ℕ → DatabaseImage = λ c. record { page_size = change.page_size; pages = map (page_in change.page_size (restored change bytes)) (range_with_len 1 c) } in
+        ap (λ (b : Bool). cond b false (is_wal (page_left change bytes 1))) test ∙ sym (ap (λ (c : ℕ). image_is_wal (made c)) zero)
+    | inr some ↦
+        let test : (change.commit == 0) ≡ false = grind (arith, nat_tests) in
+        let first : 1 ≤ change.commit = omega (arith, some) in
+        ap (λ (b : Bool). cond b false (is_wal (page_left change bytes 1))) test
+        ∙ sym (ap is_wal (page_in-data change.page_size (restored change bytes) 1 (first_data change bytes valid) ∙ page_there 1 (omega arith) first))
+        ∙ sym (ap (λ (o : Option (List ℕ)). is_wal (unwrap_or o [])) (page_of 1 (omega arith) first))
+  ]

@@ -16,6 +16,8 @@ use Rattle.txn_log.specs.declared.entry.Entry.{Entry}
 use Rattle.txn_log.specs.Kept.{LogFile, file_of}
 use Rattle.txn_log.specs.Durable.{IsText, IsLog}
 use Rattle.txn_log.specs.Store.{files_in}
+use Rattle.node_recovery.specs.declared.outline.Outline.{Outline}
+use Rattle.node_recovery.specs.Outline.{outline_of, position_before}
 
 -- The text, of bytes, is that of no file: 0, and the number of the fault that stands earliest in it.
 pub record IsUnread (text : List ℕ) (want got : ℕ) : Type 0 where
@@ -36,10 +38,10 @@ abbrev pub number_after : ℕ → ℕ
 number_after txid = min (txid + 1) 18446744073709551615
 
 -- The file does not follow a position: the number after it and the file's minimum, or the two sums where the numbers follow.
-abbrev pub IsApart : Pos → Ltx → ℕ → ℕ → Type 0
+abbrev pub IsApart : Pos → Outline → ℕ → ℕ → Type 0
 IsApart position file want got =
-    ((before file).txid ≢ position.txid) × (want ≡ number_after position.txid) × (got ≡ file.header.min)
-    ⊎ ((before file).txid ≡ position.txid) × (want ≡ position.sum) × (got ≡ file.header.pre) × (want ≢ got)
+    ((position_before file).txid ≢ position.txid) × (want ≡ number_after position.txid) × (got ≡ file.header.min)
+    ⊎ ((position_before file).txid ≡ position.txid) × (want ≡ position.sum) × (got ≡ file.header.pre) × (want ≢ got)
 
 -- the file has the numbers of its name, and follows the position before it, where there is one
 pub record IsNext (name : Entry) (position : Option Pos) (file : Ltx) : Type 0 where
@@ -59,7 +61,7 @@ abbrev pub IsRefusedBehind : Entry → Option Pos → List ℕ → ℕ → ℕ �
 IsRefusedBehind name position text want got =
     IsUnread text want got
     ⊎ IsText text × (IsMisnamed name (file_of text).header want got
-    ⊎ (name.min ≡ (file_of text).header.min) × (name.max ≡ (file_of text).header.max) × (p : Pos) × (position ≡ Some p) × IsApart p (file_of text) want got)
+    ⊎ (name.min ≡ (file_of text).header.min) × (name.max ≡ (file_of text).header.max) × (p : Pos) × (position ≡ Some p) × IsApart p (outline_of (file_of text)) want got)
 
 -- the first file that is refused: those before it are a log
 pub record IsFirstRefused (names : List Entry) (f : Folder) (file : FileName) (want got : ℕ) : Type 0 where

@@ -1,74 +1,75 @@
 -- What decides in a folder, and what is read of it before anything is changed.
-use Rattle.std.specs.Prelude.{◌≡◌, ◌≢◌, ◌⊎◌, ℕ, List, [], ◌∷◌, Option, None, Some, IsSome, Result, Ok, Err}
+use Rattle.std.specs.Prelude.{◌≡◌, ◌≢◌, ◌⊎◌, ℕ, false, List, [], ◌∷◌, Option, None, Some, IsSome, Result, Ok, Err}
 use Rattle.lf_disk.specs.declared.name.FileName.{FileName}
 use Rattle.lf_disk.specs.declared.name.FileName.TheVariants.{Database, Snapshot as SnapshotName, Dropped, Ltx as LtxName}
 use Rattle.lf_disk.specs.Folder.{Folder, bytes_of}
-use Rattle.page_checksum.specs.Table.{PageSums}
-use Rattle.ltx_codec.specs.Sums.{image_sum, sum_table}
-use Rattle.ltx_codec.specs.Format.{IsFile}
-use Rattle.ltx_codec.specs.Positions.{after}
+use Rattle.ltx_codec.specs.Format.{IsHeader}
 use Rattle.ltx_codec.specs.declared.file.Ltx.{Ltx}
 use Rattle.txn_log.specs.declared.entry.Entry.{Entry}
 use Rattle.txn_log.specs.Kept.{file_of}
 use Rattle.txn_log.specs.Durable.{IsText, IsLog}
-use Rattle.txn_log.specs.Store.{files_in, entry_of, end_of_entries, AreEntries}
+use Rattle.txn_log.specs.Store.{files_in, end_of_entries, AreEntries}
 use Rattle.node_recovery.specs.declared.fault.RecoverFault.{RecoverFault}
 use Rattle.node_recovery.specs.declared.fault.RecoverFault.TheVariants as fault
 use Rattle.node_recovery.specs.declared.found.Decider.{Decider}
 use Rattle.node_recovery.specs.declared.found.Decider.TheVariants as decider
+use Rattle.node_recovery.specs.declared.file_summary.FileSummary.{FileSummary}
 use Rattle.node_recovery.specs.declared.found.Found.{Found}
-use Rattle.node_recovery.specs.Agreeing.{IsTotal, IsSummedOtherwise, JudgesSum}
+use Rattle.node_recovery.specs.declared.outline.Outline.{Outline}
+use Rattle.node_recovery.specs.declared.tally.Tally.{Tally}
+use Rattle.node_recovery.specs.Agreeing.{IsTotal, IsSummed, IsSummedOtherwise}
 use Rattle.node_recovery.specs.Damage.{IsUnread, IsFirstRefused, last_file}
 use Rattle.node_recovery.specs.Listing.{AreListed}
-use Rattle.node_recovery.specs.Outcome.{IsFileIn, Blames}
-use Rattle.node_recovery.specs.Summing.{restored_image}
+use Rattle.node_recovery.specs.Outcome.{Blames}
+use Rattle.node_recovery.specs.Outline.{entry_of, position_after, text_under, IsOutlineIn}
 
--- the pages that a file leaves over the database file have the sum that it says, and these are their sums
-pub record AreSummed (file : Ltx) (f : Folder) (sums : List ℕ) : Type 0 where
-  pub table : sums ≡ sum_table (restored_image file.change (bytes_of (f Database)))
-  pub total : image_sum (restored_image file.change (bytes_of (f Database))) ≡ file.post
+-- nothing is known of any page
+pub record HasNoPages (tally : Tally) : Type 0 where
+  pub sums : tally.sums.sums ≡ []
+  pub wal : tally.wal ≡ false
 
 -- a snapshot decides
-pub record FindsSnapshot (f : Folder) (file : Ltx) (entries : List Entry) (sums : List ℕ) : Type 0 where
+pub record FindsSnapshot (f : Folder) (outline : Outline) (entries : List Entry) (tally : Tally) : Type 0 where
   pub there : IsSome (f SnapshotName)
-  pub read : IsFileIn (bytes_of (f SnapshotName)) file
-  pub first : file.header.min ≡ 1
-  pub entries_are : entries ≡ entry_of file ∷ []
-  pub summed : AreSummed file f sums
+  pub read : IsOutlineIn (bytes_of (f SnapshotName)) outline
+  pub first : outline.header.min ≡ 1
+  pub entries_are : entries ≡ entry_of outline ∷ []
+  pub summed : IsSummed (file_of (bytes_of (f SnapshotName))) (bytes_of (f Database)) tally
 
 -- the mark of a dropped database decides
-pub record FindsMark (f : Folder) (entries : List Entry) (sums : List ℕ) : Type 0 where
+pub record FindsMark (f : Folder) (entries : List Entry) (tally : Tally) : Type 0 where
   pub no_snapshot : f SnapshotName ≡ None
   pub there : IsSome (f Dropped)
   pub no_entries : entries ≡ []
-  pub no_sums : sums ≡ []
+  pub no_pages : HasNoPages tally
 
 -- the last transaction file decides
-pub record FindsLog (f : Folder) (file : Ltx) (names entries : List Entry) (sums : List ℕ) : Type 0 where
+pub record FindsLog (f : Folder) (outline : Outline) (names entries : List Entry) (tally : Tally) : Type 0 where
   pub no_snapshot : f SnapshotName ≡ None
   pub no_mark : f Dropped ≡ None
   pub entries_are : AreEntries entries (files_in names f)
-  pub last_is : Some file ≡ last_file (files_in names f)
-  pub summed : AreSummed file f sums
+  pub read : IsOutlineIn (text_under outline f) outline
+  pub last_is : Some (file_of (text_under outline f)) ≡ last_file (files_in names f)
+  pub summed : IsSummed (file_of (text_under outline f)) (bytes_of (f Database)) tally
 
 -- no file decides
-pub record FindsNothing (f : Folder) (names entries : List Entry) (sums : List ℕ) : Type 0 where
+pub record FindsNothing (f : Folder) (names entries : List Entry) (tally : Tally) : Type 0 where
   pub no_snapshot : f SnapshotName ≡ None
   pub no_mark : f Dropped ≡ None
   pub no_names : names ≡ []
   pub no_entries : entries ≡ []
-  pub no_sums : sums ≡ []
+  pub no_pages : HasNoPages tally
 
-abbrev pub FindsBy : Folder → Decider → List Entry → List Entry → List ℕ → Type 0
-FindsBy f (decider.Snapshot file) names entries sums = FindsSnapshot f file entries sums
-FindsBy f decider.Mark names entries sums = FindsMark f entries sums
-FindsBy f (decider.Last file) names entries sums = FindsLog f file names entries sums
-FindsBy f decider.Nothing names entries sums = FindsNothing f names entries sums
+abbrev pub FindsBy : Folder → Decider → List Entry → List Entry → Tally → Type 0
+FindsBy f (decider.Snapshot outline) names entries tally = FindsSnapshot f outline entries tally
+FindsBy f decider.Mark names entries tally = FindsMark f entries tally
+FindsBy f (decider.Last outline) names entries tally = FindsLog f outline names entries tally
+FindsBy f decider.Nothing names entries tally = FindsNothing f names entries tally
 
 -- what was found is what stands in the folder
 pub record Finds (f : Folder) (found : Found) : Type 0 where
   pub names : AreListed found.names.items f
-  pub by : FindsBy f found.decider found.names.items found.entries.items found.sums.sums
+  pub by : FindsBy f found.decider found.names.items found.entries.items found.tally
 
 -- why a snapshot is refused: its text is that of no file, its minimum is not 1, or its pages have another sum
 abbrev pub IsSnapshotRefused : List ℕ → List ℕ → ℕ → ℕ → Type 0
@@ -77,9 +78,9 @@ IsSnapshotRefused text bytes want got =
     ⊎ IsText text × ((want ≡ 1) × (got ≡ (file_of text).header.min) × (want ≢ got)
     ⊎ ((file_of text).header.min ≡ 1) × IsSummedOtherwise (file_of text) bytes want got)
 
--- what judging a snapshot gives: it and its pages' sums
-abbrev pub JudgesSnapshot : List ℕ → List ℕ → Result (Ltx × PageSums) RecoverFault → Type 0
-JudgesSnapshot text bytes (Ok read) = IsFileIn text read.0 × (read.0.header.min ≡ 1) × JudgesSum SnapshotName read.0 bytes (Ok read.1)
+-- what judging a snapshot gives: its outline, and the tally of the pages that it leaves
+abbrev pub JudgesSnapshot : List ℕ → List ℕ → Result FileSummary RecoverFault → Type 0
+JudgesSnapshot text bytes (Ok read) = IsOutlineIn text read.outline × (read.outline.header.min ≡ 1) × IsSummed (file_of text) bytes read.tally
 JudgesSnapshot text bytes (Err why) = Blames SnapshotName (IsSnapshotRefused text bytes) why
 
 -- the files of a log are sound, and the pages that the last of them leaves have another sum than it says
@@ -97,28 +98,30 @@ IsDamaged f file want got =
     ⊎ (f SnapshotName ≡ None) × (f Dropped ≡ None) × (names : List Entry) × AreListed names f × (IsFirstRefused names f file want got ⊎ IsLogSummedOtherwise names f file want got)
 
 -- over any disk: the entries end behind this file, or there are none
-abbrev pub AreEnded : List Entry → Option Ltx → Type 0
+abbrev pub AreEnded : List Entry → Option Outline → Type 0
 AreEnded entries None = entries ≡ []
-AreEnded entries (Some file) = (entries ≢ []) × (end_of_entries entries ≡ after file) × IsFile file
+AreEnded entries (Some outline) = (entries ≢ []) × (end_of_entries entries ≡ position_after outline) × IsHeader outline.header
 
 -- over any disk: what was found fits together
 abbrev pub IsShapedAs : Decider → List Entry → List ℕ → Type 0
-IsShapedAs (decider.Snapshot file) entries sums = AreEnded entries (Some file) × IsTotal file sums
+IsShapedAs (decider.Snapshot outline) entries sums = AreEnded entries (Some outline) × IsTotal outline sums
 IsShapedAs decider.Mark entries sums = (entries ≡ []) × (sums ≡ [])
-IsShapedAs (decider.Last file) entries sums = AreEnded entries (Some file) × IsTotal file sums
+IsShapedAs (decider.Last outline) entries sums = AreEnded entries (Some outline) × IsTotal outline sums
 IsShapedAs decider.Nothing entries sums = (entries ≡ []) × (sums ≡ [])
 
 abbrev pub IsShapedBy : Found → Type 0
-IsShapedBy found = IsShapedAs found.decider found.entries.items found.sums.sums
+IsShapedBy found = IsShapedAs found.decider found.entries.items found.tally.sums.sums
 
 -- what examining the log of these names gives: its last file and the pages' sums, or nothing, or the first damage
-abbrev pub FindsIn : List Entry → Folder → Decider → List Entry → List ℕ → Type 0
-FindsIn names f (decider.Last file) entries sums = AreEntries entries (files_in names f) × (Some file ≡ last_file (files_in names f)) × AreSummed file f sums
-FindsIn names f decider.Nothing entries sums = (names ≡ []) × (entries ≡ []) × (sums ≡ [])
-FindsIn names f _ entries sums = ⊥
+abbrev pub FindsIn : List Entry → Folder → Decider → List Entry → Tally → Type 0
+FindsIn names f (decider.Last outline) entries tally =
+    AreEntries entries (files_in names f) × IsOutlineIn (text_under outline f) outline
+    × (Some (file_of (text_under outline f)) ≡ last_file (files_in names f)) × IsSummed (file_of (text_under outline f)) (bytes_of (f Database)) tally
+FindsIn names f decider.Nothing entries tally = (names ≡ []) × (entries ≡ []) × HasNoPages tally
+FindsIn names f _ entries tally = ⊥
 
 abbrev pub ExaminesLog : List Entry → Folder → Result Found RecoverFault → Type 0
-ExaminesLog names f (Ok found) = (found.names.items ≡ names) × FindsIn names f found.decider found.entries.items found.sums.sums
+ExaminesLog names f (Ok found) = (found.names.items ≡ names) × FindsIn names f found.decider found.entries.items found.tally
 ExaminesLog names f (Err (fault.Damaged file want got)) = IsFirstRefused names f file want got ⊎ IsLogSummedOtherwise names f file want got
 ExaminesLog names f (Err why) = Unit {0}
 

@@ -5,33 +5,34 @@ use Rattle.lf_disk.specs.Folder.{Folder, bytes_of}
 use Rattle.lf_disk.specs.History.{History}
 use Rattle.lf_sqlite_pages.specs.Image.{DatabaseImage, empty_image}
 use Rattle.txn_log.specs.declared.entry.Entry.{Entry}
-use Rattle.txn_log.specs.Kept.{LogFile, IsAtRest}
+use Rattle.txn_log.specs.Kept.{LogFile, change_of, IsAtRest}
 use Rattle.txn_log.specs.Store.{files_in}
 use Rattle.node_recovery.specs.declared.found.Decider.{Decider}
 use Rattle.node_recovery.specs.declared.found.Decider.TheVariants as decider
+use Rattle.node_recovery.specs.Outline.{text_under}
 use Rattle.node_recovery.specs.Summing.{restored_image}
 
 -- the image that is decided
 abbrev pub image_left : Decider → Folder → DatabaseImage
-image_left (decider.Snapshot file) f = restored_image file.change (bytes_of (f Database))
-image_left (decider.Last file) f = restored_image file.change (bytes_of (f Database))
+image_left (decider.Snapshot outline) f = restored_image (change_of (bytes_of (f SnapshotName))) (bytes_of (f Database))
+image_left (decider.Last outline) f = restored_image (change_of (text_under outline f)) (bytes_of (f Database))
 image_left _ f = empty_image
 
 -- the log that is decided: a snapshot has its numbers in its name then
 abbrev pub files_left : Decider → List Entry → Folder → List LogFile
-files_left (decider.Snapshot file) names f = record { min = file.header.min; max = file.header.max; text = bytes_of (f SnapshotName) } ∷ []
-files_left (decider.Last file) names f = files_in names f
+files_left (decider.Snapshot outline) names f = record { min = outline.header.min; max = outline.header.max; text = bytes_of (f SnapshotName) } ∷ []
+files_left (decider.Last outline) names f = files_in names f
 files_left _ names f = []
 
 -- its page size, and how many pages it has
 abbrev pub size_left : Decider → ℕ
-size_left (decider.Snapshot file) = file.change.page_size
-size_left (decider.Last file) = file.change.page_size
+size_left (decider.Snapshot outline) = outline.header.page_size
+size_left (decider.Last outline) = outline.header.page_size
 size_left _ = 0
 
 abbrev pub commit_left : Decider → ℕ
-commit_left (decider.Snapshot file) = file.change.commit
-commit_left (decider.Last file) = file.change.commit
+commit_left (decider.Snapshot outline) = outline.header.commit
+commit_left (decider.Last outline) = outline.header.commit
 commit_left _ = 0
 
 -- whether the mark of a dropped database stays

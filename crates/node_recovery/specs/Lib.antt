@@ -5,4 +5,8 @@ pub mod Finishing
 pub mod Listing
 pub mod Opening
 pub mod Outcome
+pub mod Outline
+pub mod Parts
+pub mod Reading
+pub mod Rewriting
 pub mod Summing

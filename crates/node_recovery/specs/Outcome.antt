@@ -1,21 +1,22 @@
 -- What the parts of a recovery answer.
-use Rattle.std.specs.Prelude.{◌≡◌, ℕ, Option, None, Some, List, Result, Ok, Err}
+use Rattle.std.specs.Prelude.{◌≡◌, ℕ, Bool, true, Option, None, Some, List, [], Result, Ok, Err}
 use Rattle.lf_base.specs.Faults.{Rose}
 use Rattle.lf_base.specs.declared.pos.Pos.{Pos}
 use Rattle.lf_disk.specs.declared.name.FileName.{FileName}
 use Rattle.lf_disk.specs.declared.name.FileName.TheVariants.{Ltx as LtxName}
-use Rattle.ltx_codec.specs.Format.{IsLtx}
-use Rattle.ltx_codec.specs.Positions.{before}
-use Rattle.ltx_codec.specs.declared.header.Header.{Header}
-use Rattle.ltx_codec.specs.declared.file.Ltx.{Ltx}
-use Rattle.txn_log.specs.declared.entry.Entry.{Entry}
-use Rattle.txn_log.specs.Kept.{file_of}
-use Rattle.txn_log.specs.Store.{files_in, AreEntries}
 use Rattle.lf_disk.specs.Folder.{Folder}
+use Rattle.ltx_codec.specs.declared.header.Header.{Header}
+use Rattle.txn_log.specs.declared.entry.Entry.{Entry}
+use Rattle.txn_log.specs.Kept.{file_of, change_of}
+use Rattle.txn_log.specs.Store.{files_in, AreEntries}
 use Rattle.node_recovery.specs.declared.judged.Log.{Log}
 use Rattle.node_recovery.specs.declared.fault.RecoverFault.{RecoverFault}
 use Rattle.node_recovery.specs.declared.fault.RecoverFault.TheVariants as fault
+use Rattle.node_recovery.specs.declared.file_summary.FileSummary.{FileSummary}
+use Rattle.node_recovery.specs.declared.outline.Outline.{Outline}
 use Rattle.node_recovery.specs.Damage.{IsUnread, IsMisnamed, IsApart, IsNext, IsRefusedBehind, last_file, IsFirstRefused}
+use Rattle.node_recovery.specs.Outline.{position_before, text_under, IsOutlineIn}
+use Rattle.node_recovery.specs.Summing.{IsTallied}
 
 -- only a disk that failed raises its count
 abbrev pub HasCause : {T : Type 0} → ℕ → ℕ → Result T RecoverFault → Type 0
@@ -34,14 +35,10 @@ IsBlameless (fault.Damaged file want got) = ⊥
 IsBlameless fault.Disk = Unit {0}
 IsBlameless fault.NoMemory = Unit {0}
 
--- the text is that of a file, which is the one that is read in it
-abbrev pub IsFileIn : List ℕ → Ltx → Type 0
-IsFileIn text file = IsLtx text file × (file_of text ≡ file)
-
--- what reading a file gives: the file that its text is, or that it is none
-abbrev pub ReadsLtx : FileName → List ℕ → Result Ltx RecoverFault → Type 0
-ReadsLtx name text (Ok file) = IsFileIn text file
-ReadsLtx name text (Err why) = Blames name (IsUnread text) why
+-- what reading a file gives: the outline of the file that its text is, with its pages' sums where they were asked for, or that it is none
+abbrev pub ReadsFile : FileName → List ℕ → Bool → Result FileSummary RecoverFault → Type 0
+ReadsFile name text pages (Ok read) = IsOutlineIn text read.outline × (pages ≡ true → IsTallied (change_of text) read.tally)
+ReadsFile name text pages (Err why) = Blames name (IsUnread text) why
 
 -- whether the header has other numbers than the name, and which
 abbrev pub TellsMisnamed : Entry → Header → Option (ℕ × ℕ) → Type 0
@@ -49,17 +46,28 @@ TellsMisnamed name header None = (name.min ≡ header.min) × (name.max ≡ head
 TellsMisnamed name header (Some differ) = IsMisnamed name header differ.0 differ.1
 
 -- whether the file does not follow a position, and where they differ
-abbrev pub TellsApart : Pos → Ltx → Option (ℕ × ℕ) → Type 0
-TellsApart position file None = before file ≡ position
+abbrev pub TellsApart : Pos → Outline → Option (ℕ × ℕ) → Type 0
+TellsApart position file None = position_before file ≡ position
 TellsApart position file (Some differ) = IsApart position file differ.0 differ.1
 
 -- what judging the file under a name behind a position gives
-abbrev pub Judges : Entry → Option Pos → List ℕ → Result Ltx RecoverFault → Type 0
-Judges name position text (Ok file) = IsFileIn text file × IsNext name position file
-Judges name position text (Err why) = Blames (LtxName name.min name.max) (IsRefusedBehind name position text) why
+abbrev pub Judges : Entry → Option Pos → List ℕ → Bool → Result FileSummary RecoverFault → Type 0
+Judges name position text pages (Ok read) = ReadsFile (LtxName name.min name.max) text pages (Ok read) × IsNext name position (file_of text)
+Judges name position text pages (Err why) = Blames (LtxName name.min name.max) (IsRefusedBehind name position text) why
+
+-- the last of the files is the one under the numbers of this outline, and the sums are those of its pages
+pub record IsLastRead (names : List Entry) (f : Folder) (last : FileSummary) : Type 0 where
+  pub read : IsOutlineIn (text_under last.outline f) last.outline
+  pub last_is : Some (file_of (text_under last.outline f)) ≡ last_file (files_in names f)
+  pub tallied : IsTallied (change_of (text_under last.outline f)) last.tally
+
+-- which file is the last of those under these names
+abbrev pub TellsLast : List Entry → Folder → Option FileSummary → Type 0
+TellsLast names f None = names ≡ []
+TellsLast names f (Some read) = IsLastRead names f read
 
 -- what judging the files under these names gives: their entries and the last of them, or the first that is refused
 abbrev pub JudgesLog : List Entry → Folder → Result Log RecoverFault → Type 0
-JudgesLog names f (Ok log) = AreEntries log.entries.items (files_in names f) × (log.last ≡ last_file (files_in names f))
+JudgesLog names f (Ok log) = AreEntries log.entries.items (files_in names f) × TellsLast names f log.last
 JudgesLog names f (Err (fault.Damaged file want got)) = IsFirstRefused names f file want got
 JudgesLog names f (Err why) = Unit {0}

@@ -1,23 +1,26 @@
 //! A folder is examined, and nothing in it is changed.
-ghost use Rattle.std.specs.Prelude.{◌≡◌, ◌∷◌, [], IsTrue, IfOk, IfErr, is_some};
+ghost use Rattle.std.specs.Prelude.{◌≡◌, ◌∷◌, [], Some, length, IsTrue, IfOk, IfErr, is_some};
 ghost use Rattle.lf_disk.specs.declared.name.FileName.{FileName as Name};
 ghost use Rattle.lf_disk.specs.Folder.{bytes_of};
 ghost use Rattle.lf_disk.specs.History.{now, Rests};
-ghost use Rattle.ltx_codec.specs.Format.{IsFile};
-ghost use Rattle.txn_log.specs.Store.{entry_of as entry};
+ghost use Rattle.ltx_codec.specs.Format.{IsHeader};
 ghost use Rattle.node_recovery.specs.Agreeing.{IsTotal};
-ghost use Rattle.node_recovery.specs.Finding.{JudgesSnapshot, IsShapedBy, FindsLog, ExaminesLog, Examines};
-ghost use Rattle.node_recovery.specs.Outcome.{HasCause, IsBlameless};
+ghost use Rattle.node_recovery.specs.Finding.{JudgesSnapshot, AreEnded, IsShapedBy, ExaminesLog, Examines};
+ghost use Rattle.node_recovery.specs.Outcome.{HasCause, IsBlameless, IsLastRead};
+ghost use Rattle.txn_log.specs.Store.{files_in, AreEntries};
+ghost use Rattle.node_recovery.specs.Outline.{entry_of as entry};
 
 use crate::agreeing::judge_sum;
 use crate::fault::RecoverFault;
+use crate::file_summary::FileSummary;
 use crate::found::{Decider, Found};
-use crate::judging::{entry_of, judge_log};
+use crate::judged::Log;
+use crate::judging::judge_log;
 use crate::listing::list_log;
-use crate::reading::read_ltx;
+use crate::piece_reader::PieceReader;
+use crate::reading::read_file;
+use crate::tally::Tally;
 use lf_disk::{Disk, FileName};
-use ltx_codec::Ltx;
-use page_checksum::Sums;
 use std::alloc::Global;
 use txn_log::Entry;
 
@@ -36,24 +39,29 @@ fn is_there<D: Disk>(disk: &mut D, name: FileName) -> Result<bool, RecoverFault>
 }
 
 /// Reads the snapshot, and judges it. Its minimum is 1.
-fn judge_snapshot<D: Disk>(alloc: Global, disk: &mut D) -> Result<(Ltx, Sums), RecoverFault>
-    ensures valid { IfOk result (λ read. IsFile read.0) }
+fn judge_snapshot<D: Disk>(
+    alloc: Global,
+    disk: &mut D,
+    reader: &mut PieceReader,
+) -> Result<FileSummary, RecoverFault>
+    ensures valid { IfOk result (λ read. IsHeader read.outline.header) }
     ensures judges { IsTrue (D.honest disk.old) → JudgesSnapshot (bytes_of (now (D.history disk.old) Name.Snapshot)) (bytes_of (now (D.history disk.old) Name.Database)) result }
-    ensures total { IfOk result (λ read. IsTotal read.0 read.1.sums) }
+    ensures total { IfOk result (λ read. IsTotal read.outline read.tally.sums.sums) }
     ensures rests { Rests (D.history disk.old) (D.history disk.new) }
     ensures honest { D.honest disk.new ≡ D.honest disk.old }
     ensures cause { HasCause (D.faults disk.old) (D.faults disk.new) result }
 {
-    let file = read_ltx(alloc, disk, FileName::Snapshot)?;
-    if file.header.min != 1 {
+    let read = read_file(alloc, disk, reader, FileName::Snapshot, true)?;
+    let outline = read.outline;
+    if outline.header.min != 1 {
         return Err(RecoverFault::Damaged {
             file: FileName::Snapshot,
             want: 1,
-            got: file.header.min,
+            got: outline.header.min,
         });
     }
-    match judge_sum(alloc, disk, FileName::Snapshot, &file) {
-        Ok(sums) => Ok((file, sums)),
+    match judge_sum(alloc, disk, FileName::Snapshot, &outline, read.tally) {
+        Ok(tally) => Ok(FileSummary { outline, tally }),
         Err(why) => Err(why),
     }
 }
@@ -62,33 +70,62 @@ fn judge_snapshot<D: Disk>(alloc: Global, disk: &mut D) -> Result<(Ltx, Sums), R
 fn found_snapshot(
     alloc: Global,
     names: Vec<Entry>,
-    file: Ltx,
-    sums: Sums,
+    read: FileSummary,
 ) -> Result<Found, RecoverFault>
-    requires valid { IsFile file }
-    requires total { IsTotal file sums.sums }
+    requires valid { IsHeader read.outline.header }
+    requires total { IsTotal read.outline read.tally.sums.sums }
     ensures shaped { IfOk result IsShapedBy }
-    ensures found { IfOk result (λ found. (found.names.items ≡ names.items) × (found.decider ≡ Decider.Snapshot file)
-        × (found.entries.items ≡ entry file ∷ []) × (found.sums ≡ sums)) }
+    ensures found { IfOk result (λ found. (found.names.items ≡ names.items) × (found.decider ≡ Decider.Snapshot read.outline)
+        × (found.entries.items ≡ entry read.outline ∷ []) × (found.tally ≡ read.tally)) }
     ensures full { IfErr result (λ why. why ≡ RecoverFault.NoMemory) }
 {
     let mut entries = Vec::new(alloc);
-    match entries.push(entry_of(&file)) {
+    match entries.push(read.outline.entry()) {
         Ok(()) => {}
         Err(_) => return Err(RecoverFault::NoMemory),
     }
     Ok(Found {
         names,
-        decider: Decider::Snapshot(file),
+        decider: Decider::Snapshot(read.outline),
         entries,
-        sums,
+        tally: read.tally,
     })
+}
+
+/// Compares the pages that the last file of a judged log leaves.
+fn examine_last<D: Disk>(
+    alloc: Global,
+    disk: &mut D,
+    names: Vec<Entry>,
+    entries: Vec<Entry>,
+    last: FileSummary,
+) -> Result<Found, RecoverFault>
+    requires ended { AreEnded entries.items (Some last.outline) }
+    requires count { length last.tally.sums.sums ≡ last.outline.header.commit }
+    ensures examines { IsTrue (D.honest disk.old) → AreEntries entries.items (files_in names.items (now (D.history disk.old)))
+        → IsLastRead names.items (now (D.history disk.old)) last → ExaminesLog names.items (now (D.history disk.old)) result }
+    ensures shaped { IfOk result IsShapedBy }
+    ensures rests { Rests (D.history disk.old) (D.history disk.new) }
+    ensures honest { D.honest disk.new ≡ D.honest disk.old }
+    ensures cause { HasCause (D.faults disk.old) (D.faults disk.new) result }
+{
+    let outline = last.outline;
+    match judge_sum(alloc, disk, outline.name(), &outline, last.tally) {
+        Ok(tally) => Ok(Found {
+            names,
+            decider: Decider::Last(outline),
+            entries,
+            tally,
+        }),
+        Err(why) => Err(why),
+    }
 }
 
 /// Reads the log, judges it, and compares the pages that it leaves.
 fn examine_log<D: Disk>(
     alloc: Global,
     disk: &mut D,
+    reader: &mut PieceReader,
     names: Vec<Entry>,
 ) -> Result<Found, RecoverFault>
     ensures examines { IsTrue (D.honest disk.old) → ExaminesLog names.items (now (D.history disk.old)) result }
@@ -97,38 +134,28 @@ fn examine_log<D: Disk>(
     ensures honest { D.honest disk.new ≡ D.honest disk.old }
     ensures cause { HasCause (D.faults disk.old) (D.faults disk.new) result }
 {
-    let log = match judge_log(alloc, disk, names.as_slice()) {
+    let log = match judge_log(alloc, disk, reader, names.as_slice()) {
         Ok(log) => log,
         Err(why) => return Err(why),
     };
-    let entries = log.entries;
-    match log.last {
+    let Log { entries, last } = log;
+    match last {
         None => Ok(Found {
             names,
             decider: Decider::Nothing,
             entries,
-            sums: Sums::new(alloc),
+            tally: Tally::none(alloc),
         }),
-        Some(file) => {
-            let name = FileName::Ltx {
-                min: file.header.min,
-                max: file.header.max,
-            };
-            match judge_sum(alloc, disk, name, &file) {
-                Ok(sums) => Ok(Found {
-                    names,
-                    decider: Decider::Last(file),
-                    entries,
-                    sums,
-                }),
-                Err(why) => Err(why),
-            }
-        }
+        Some(last) => examine_last(alloc, disk, names, entries, last),
     }
 }
 
-/// Reads and judges all that stands on a disk. Nothing is changed.
-pub fn examine<D: Disk>(alloc: Global, disk: &mut D) -> Result<Found, RecoverFault>
+/// Reads and judges all that stands on a disk, file by file. Nothing is changed.
+pub fn examine_by<D: Disk>(
+    alloc: Global,
+    disk: &mut D,
+    reader: &mut PieceReader,
+) -> Result<Found, RecoverFault>
     ensures examines { IsTrue (D.honest disk.old) → Examines (now (D.history disk.old)) result }
     ensures shaped { IfOk result IsShapedBy }
     ensures rests { Rests (D.history disk.old) (D.history disk.new) }
@@ -144,8 +171,8 @@ pub fn examine<D: Disk>(alloc: Global, disk: &mut D) -> Result<Found, RecoverFau
         Err(why) => return Err(why),
     };
     if snapshot {
-        return match judge_snapshot(alloc, disk) {
-            Ok((file, sums)) => found_snapshot(alloc, names, file, sums),
+        return match judge_snapshot(alloc, disk, reader) {
+            Ok(read) => found_snapshot(alloc, names, read),
             Err(why) => Err(why),
         };
     }
@@ -158,8 +185,22 @@ pub fn examine<D: Disk>(alloc: Global, disk: &mut D) -> Result<Found, RecoverFau
             names,
             decider: Decider::Mark,
             entries: Vec::new(alloc),
-            sums: Sums::new(alloc),
+            tally: Tally::none(alloc),
         });
     }
-    examine_log(alloc, disk, names)
+    examine_log(alloc, disk, reader, names)
+}
+
+/// Reads and judges all that stands on a disk. Nothing is changed.
+pub fn examine<D: Disk>(alloc: Global, disk: &mut D) -> Result<Found, RecoverFault>
+    ensures examines { IsTrue (D.honest disk.old) → Examines (now (D.history disk.old)) result }
+    ensures shaped { IfOk result IsShapedBy }
+    ensures rests { Rests (D.history disk.old) (D.history disk.new) }
+    ensures honest { D.honest disk.new ≡ D.honest disk.old }
+    ensures cause { HasCause (D.faults disk.old) (D.faults disk.new) result }
+{
+    match PieceReader::new(alloc) {
+        Ok(mut reader) => examine_by(alloc, disk, &mut reader),
+        Err(_) => Err(RecoverFault::NoMemory),
+    }
 }

@@ -9,14 +9,23 @@ ghost use Rattle.node_recovery.specs.Finding.{Finds};
 ghost use Rattle.node_recovery.specs.Finishing.{IsFinished};
 
 use crate::found::{Decider, Found};
+use crate::piece_reader::PieceReader;
+use crate::rewriting::rewrite_from;
+use crate::settling::settle_from;
 use lf_base::Failed;
 use lf_disk::Disk;
 use std::alloc::Global;
-use txn_log::{empty, no_pages, rewrite, settle};
+use txn_log::{empty, no_pages, rewrite};
 
 /// Does the rest of what a stop left: of an install where a snapshot decides, of a drop where the
 /// mark does; else it writes the last file's pages again, or cuts the database file to no bytes.
-pub fn finish<D: Disk>(alloc: Global, disk: &mut D, found: &Found) -> Result<(), Failed>
+/// The file that decides is read a second time.
+pub fn finish<D: Disk>(
+    alloc: Global,
+    disk: &mut D,
+    reader: &mut PieceReader,
+    found: &Found,
+) -> Result<(), Failed>
     requires settled { IsTrue (D.honest disk.old) → IsSettledBut Name.Staged (D.history disk.old) }
     requires finds { IsTrue (D.honest disk.old) → Finds (now (D.history disk.old)) found.now }
     ensures moments { IsTrue (D.honest disk.old) → (store : StoreState) → Durable (now (D.history disk.old)) store
@@ -27,15 +36,11 @@ pub fn finish<D: Disk>(alloc: Global, disk: &mut D, found: &Found) -> Result<(),
     ensures cause { CountsFaults (D.faults disk.old) (D.faults disk.new) result }
 {
     match &found.decider {
-        Decider::Snapshot(file) => settle(
-            disk,
-            found.names.as_slice(),
-            file.header.min,
-            file.header.max,
-            &file.change,
-        ),
+        Decider::Snapshot(outline) => {
+            settle_from(disk, reader, found.names.as_slice(), &outline.header)
+        }
         Decider::Mark => empty(alloc, disk, found.names.as_slice()),
-        Decider::Last(file) => rewrite(disk, &file.change),
+        Decider::Last(outline) => rewrite_from(disk, reader, outline.name(), &outline.header),
         Decider::Nothing => {
             let nothing = no_pages(alloc);
             rewrite(disk, &nothing)

@@ -1,16 +1,16 @@
-use ltx_codec::Ltx;
-use page_checksum::Sums;
+use crate::outline::Outline;
+use crate::tally::Tally;
 use txn_log::Entry;
 
-/// Which file decides what the database is.
-#[derive(Drop)]
+/// Which file decides what the database is. Of a file its pages are not kept.
+#[derive(Clone, Copy, Debug)]
 pub enum Decider {
     /// A snapshot, whatever else stands there.
-    Snapshot(Ltx),
+    Snapshot(Outline),
     /// The mark of a dropped database, where no snapshot stands.
     Mark,
     /// The last file of the log, where neither stands.
-    Last(Ltx),
+    Last(Outline),
     /// There is no file.
     Nothing,
 }
@@ -23,6 +23,6 @@ pub struct Found {
     pub decider: Decider,
     /// The log that is decided.
     pub entries: Vec<Entry>,
-    /// The sums of the pages that are decided.
-    pub sums: Sums,
+    /// What is known of the pages that are decided.
+    pub tally: Tally,
 }

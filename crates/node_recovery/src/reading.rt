@@ -1,15 +1,20 @@
-//! A file is read whole.
-ghost use Rattle.std.specs.Prelude.{◌≡◌, Err, IsTrue, IfOk, IfErr, OnErr, length};
+//! A file is read to its end, and its pages are not kept.
+ghost use Rattle.std.specs.Prelude.{◌≡◌, ℕ, List, true, Err, IsTrue, IfOk, IfErr, OnOk, OnErr, length};
 ghost use Rattle.lf_disk.specs.Folder.{bytes_of};
 ghost use Rattle.lf_disk.specs.History.{now, Rests};
-ghost use Rattle.ltx_codec.specs.Fields.{AreBytes};
-ghost use Rattle.ltx_codec.specs.Format.{IsFile, IsLtx};
-ghost use Rattle.txn_log.specs.Kept.{file_of};
-ghost use Rattle.node_recovery.specs.Outcome.{HasCause, IsBlameless, ReadsLtx};
+ghost use Rattle.lf_sqlite_pages.specs.Change.{PageChange};
+ghost use Rattle.ltx_codec.specs.Format.{IsHeader};
+ghost use Rattle.node_recovery.specs.Outcome.{HasCause, IsBlameless, ReadsFile};
+ghost use Rattle.node_recovery.specs.Reading.{change_after, IsSound};
+ghost use Rattle.node_recovery.specs.Summing.{IsTallied, FitsIn};
 
 use crate::fault::RecoverFault;
+use crate::file_summary::FileSummary;
+use crate::part::Part;
+use crate::piece_reader::PieceReader;
+use crate::tally::Tally;
+use lf_base::NoMemory;
 use lf_disk::{Disk, FileName};
-use ltx_codec::{Ltx, LtxFault, decode, file_is_read};
 use std::alloc::Global;
 
 /// So many zeros.
@@ -25,57 +30,57 @@ pub fn zeros(alloc: Global, len: usize) -> Result<Vec<u8>, RecoverFault>
     }
 }
 
-/// All bytes of a file, none where it is absent.
-fn read_file<D: Disk>(alloc: Global, disk: &mut D, name: FileName) -> Result<Vec<u8>, RecoverFault>
-    ensures bytes { IsTrue (D.honest disk.old) → IfOk result (λ text. text.items ≡ bytes_of (now (D.history disk.old) name)) }
-    ensures blameless { IfErr result IsBlameless }
-    ensures rests { Rests (D.history disk.old) (D.history disk.new) }
-    ensures honest { D.honest disk.new ≡ D.honest disk.old }
-    ensures cause { HasCause (D.faults disk.old) (D.faults disk.new) result }
+/// Takes note of what came: of a header that there are so many pages, and of a page.
+fn note(alloc: Global, reader: &PieceReader, came: Part, tally: &mut Tally) -> Result<(), NoMemory>
+    requires { FitsIn came tally.old }
+    ensures { OnOk result ((text next : List ℕ) (change : PageChange) → IsSound came text next (change_after came reader.now change)
+        → IsTallied change tally.old → IsTallied (change_after came reader.now change) tally.new) }
 {
-    let size = match disk.size(name) {
-        Ok(size) => size.unwrap_or(0),
-        Err(_) => return Err(RecoverFault::Disk),
-    };
-    let Ok(len) = usize::try_from(size) else {
-        return Err(RecoverFault::NoMemory);
-    };
-    let mut text = zeros(alloc, len)?;
-    match disk.read(name, 0, text.as_mut_slice()) {
-        Ok(_) => Ok(text),
-        Err(_) => Err(RecoverFault::Disk),
+    match came {
+        Part::Header => *tally = Tally::of(alloc, reader.header().commit)?,
+        Part::Page { number } => tally.add(number, reader.page()),
+        Part::More => {}
     }
+    Ok(())
 }
 
-/// A text of a file reads as that file.
-fn reads_back(text: &[u8], file: &Ltx)
-    requires { IsLtx text.now file.now }
-    ensures { file_of text.now ≡ file.now }
-{
-    file_is_read();
-}
-
-/// The numbers of a text are bytes.
-fn are_bytes(text: &[u8])
-    ensures { AreBytes text.now }
-{}
-
-/// The file that all bytes under a name are.
-pub fn read_ltx<D: Disk>(alloc: Global, disk: &mut D, name: FileName) -> Result<Ltx, RecoverFault>
-    ensures valid { IfOk result IsFile }
-    ensures reads { IsTrue (D.honest disk.old) → ReadsLtx name (bytes_of (now (D.history disk.old) name)) result }
+/// Reads all bytes under a name, and takes note of the pages where they are asked for.
+pub fn read_file<D: Disk>(
+    alloc: Global,
+    disk: &mut D,
+    reader: &mut PieceReader,
+    name: FileName,
+    pages: bool,
+) -> Result<FileSummary, RecoverFault>
+    ensures valid { IfOk result (λ read. IsHeader read.outline.header) }
+    ensures count { IfOk result (λ read. pages ≡ true → length read.tally.sums.sums ≡ read.outline.header.commit) }
+    ensures reads { IsTrue (D.honest disk.old) → ReadsFile name (bytes_of (now (D.history disk.old) name)) pages result }
     ensures rests { Rests (D.history disk.old) (D.history disk.new) }
     ensures honest { D.honest disk.new ≡ D.honest disk.old }
     ensures cause { HasCause (D.faults disk.old) (D.faults disk.new) result }
 {
-    let text = read_file(alloc, disk, name)?;
-    are_bytes(text.as_slice());
-    match decode(alloc, text.as_slice()) {
-        Ok(file) => {
-            reads_back(text.as_slice(), &file);
-            Ok(file)
+    match reader.open(disk, name) {
+        Ok(()) => {}
+        Err(_) => return Err(RecoverFault::Disk),
+    }
+    let mut tally = Tally::none(alloc);
+    'parts: loop {
+        match reader.refill(disk, name) {
+            Ok(true) => {}
+            Ok(false) => break,
+            Err(_) => return Err(RecoverFault::Disk),
         }
-        Err(LtxFault::NoMemory) => Err(RecoverFault::NoMemory),
+        let came = reader.step();
+        if !pages {
+            continue;
+        }
+        match note(alloc, reader, came, &mut tally) {
+            Ok(()) => {}
+            Err(_) => return Err(RecoverFault::NoMemory),
+        }
+    }
+    match reader.finish() {
+        Ok(outline) => Ok(FileSummary { outline, tally }),
         Err(fault) => Err(RecoverFault::Damaged {
             file: name,
             want: 0,

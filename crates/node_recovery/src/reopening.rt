@@ -5,54 +5,28 @@ ghost use Rattle.lf_disk.specs.Change.{SetsFile};
 ghost use Rattle.lf_disk.specs.Folder.{bytes_of, SameBut};
 ghost use Rattle.lf_disk.specs.History.{now, Rests, EachMoment, IsSettledBut};
 ghost use Rattle.lf_disk.specs.declared.name.FileName.{FileName as Name};
-ghost use Rattle.lf_sqlite_pages.specs.Header.{is_wal as says_wal};
 ghost use Rattle.world_laws.specs.Store.{StoreState};
 ghost use Rattle.txn_log.specs.Durable.{Durable};
 ghost use Rattle.node_recovery.specs.Finishing.{size_left, commit_left, is_marked};
 ghost use Rattle.node_recovery.specs.Opening.{Opens, IsFitting};
 ghost use Rattle.node_recovery.specs.Outcome.{HasCause, IsBlameless};
-ghost use Rattle.node_recovery.specs.Summing.{padded};
 
-use crate::examining::examine;
+use crate::examining::examine_by;
 use crate::fault::RecoverFault;
 use crate::finishing::finish;
 use crate::found::Decider;
 use crate::opened::Opened;
-use crate::reading::zeros;
-use crate::summing::read_page;
+use crate::piece_reader::PieceReader;
 use lf_disk::{Disk, FileName};
-use lf_sqlite_pages::is_wal;
 use std::alloc::Global;
-
-/// Whether page 1 says that the database is in WAL mode; without pages it is not.
-fn wal_mode<D: Disk>(
-    alloc: Global,
-    disk: &mut D,
-    size: u32,
-    commit: u32,
-) -> Result<bool, RecoverFault>
-    ensures wal { IsTrue (D.honest disk.old) → IfOk result (λ wal. wal ≡ (if commit == 0 then false else
-        says_wal (padded size 1 (bytes_of (now (D.history disk.old) Name.Database))))) }
-    ensures blameless { IfErr result IsBlameless }
-    ensures rests { Rests (D.history disk.old) (D.history disk.new) }
-    ensures honest { D.honest disk.new ≡ D.honest disk.old }
-    ensures cause { HasCause (D.faults disk.old) (D.faults disk.new) result }
-{
-    if commit == 0 {
-        return Ok(false);
-    }
-    let mut page = zeros(alloc, size as usize)?;
-    read_page(disk, size, 1, page.as_mut_slice())?;
-    Ok(is_wal(page.as_slice()))
-}
 
 /// The size of a page, how many there are, and whether the mark of a dropped database stays.
 fn shape_of(decider: &Decider) -> (u32, u32, bool)
     ensures { (result.0 ≡ size_left decider.now) × (result.1 ≡ commit_left decider.now) × (result.2 ≡ is_marked decider.now) }
 {
     match decider {
-        Decider::Snapshot(file) | Decider::Last(file) => {
-            (file.change.page_size(), file.change.commit(), false)
+        Decider::Snapshot(outline) | Decider::Last(outline) => {
+            (outline.header.page_size, outline.header.commit, false)
         }
         Decider::Mark => (0, 0, true),
         Decider::Nothing => (0, 0, false),
@@ -69,11 +43,15 @@ pub fn reopen<D: Disk>(alloc: Global, disk: &mut D) -> Result<Opened, RecoverFau
     ensures honest { D.honest disk.new ≡ D.honest disk.old }
     ensures cause { HasCause (D.faults disk.old) (D.faults disk.new) result }
 {
-    let found = match examine(alloc, disk) {
+    let mut reader = match PieceReader::new(alloc) {
+        Ok(reader) => reader,
+        Err(_) => return Err(RecoverFault::NoMemory),
+    };
+    let found = match examine_by(alloc, disk, &mut reader) {
         Ok(found) => found,
         Err(why) => return Err(why),
     };
-    match finish(alloc, disk, &found) {
+    match finish(alloc, disk, &mut reader, &found) {
         Ok(()) => {}
         Err(_) => return Err(RecoverFault::Disk),
     }
@@ -82,15 +60,12 @@ pub fn reopen<D: Disk>(alloc: Global, disk: &mut D) -> Result<Opened, RecoverFau
         Err(_) => return Err(RecoverFault::Disk),
     }
     let (page_size, commit, dropped) = shape_of(&found.decider);
-    match wal_mode(alloc, disk, page_size, commit) {
-        Ok(wal) => Ok(Opened {
-            entries: found.entries,
-            sums: found.sums,
-            page_size,
-            commit,
-            wal,
-            dropped,
-        }),
-        Err(why) => Err(why),
-    }
+    Ok(Opened {
+        entries: found.entries,
+        sums: found.tally.sums,
+        page_size,
+        commit,
+        wal: found.tally.wal,
+        dropped,
+    })
 }

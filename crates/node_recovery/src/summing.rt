@@ -1,16 +1,19 @@
 //! The sums of the pages that a change leaves over the database file. Nothing is written.
-ghost use Rattle.std.specs.Prelude.{◌≡◌, ◌≤◌, ℕ, IsTrue, IfOk, IfErr, length, replicate};
+ghost use Rattle.std.specs.Prelude.{◌≡◌, ◌≤◌, ◌-◌, ℕ, IsTrue, IfErr, OnOk, length, replicate};
 ghost use Rattle.lf_disk.specs.declared.name.FileName.{FileName as Name};
 ghost use Rattle.lf_disk.specs.Folder.{bytes_of};
 ghost use Rattle.lf_disk.specs.History.{now, Rests};
+ghost use Rattle.lf_sqlite_pages.specs.Change.{PageChange, IsChange};
+ghost use Rattle.lf_sqlite_pages.specs.PageSize.{IsPageSize};
 ghost use Rattle.node_recovery.specs.Outcome.{HasCause, IsBlameless};
-ghost use Rattle.node_recovery.specs.Summing.{padded, sum_left, sums_left};
+ghost use Rattle.node_recovery.specs.Summing.{padded, AreKnown, IsTallied, KnowsPages};
 
 use crate::fault::RecoverFault;
 use crate::reading::zeros;
+use crate::tally::Tally;
 use lf_disk::{Disk, FileName};
-use lf_sqlite_pages::{Change, lock_page};
-use page_checksum::{Sums, page_sum};
+use lf_sqlite_pages::lock_page;
+use ltx_codec::Header;
 use std::alloc::Global;
 
 fn blank(page: &mut [u8])
@@ -28,7 +31,7 @@ pub fn read_page<D: Disk>(
 ) -> Result<(), RecoverFault>
     requires number { 1 ≤ n }
     requires room { length page.old ≡ size }
-    ensures page { IsTrue (D.honest disk.old) → IfOk result (λ _. page.new ≡ padded size n (bytes_of (now (D.history disk.old) Name.Database))) }
+    ensures page { IsTrue (D.honest disk.old) → OnOk result (page.new ≡ padded size n (bytes_of (now (D.history disk.old) Name.Database))) }
     ensures long { length page.new ≡ length page.old }
     ensures blameless { IfErr result IsBlameless }
     ensures rests { Rests (D.history disk.old) (D.history disk.new) }
@@ -43,55 +46,62 @@ pub fn read_page<D: Disk>(
     }
 }
 
-/// The sum of page `n`. The buffer has room for a page.
-fn page_sum_left<D: Disk>(
+/// Adds page `n` where it is not known yet. The buffer has room for a page.
+fn add_page<D: Disk>(
     disk: &mut D,
-    change: &Change,
+    size: u32,
     n: u32,
+    tally: &mut Tally,
     page: &mut [u8],
-) -> Result<u64, RecoverFault>
-    requires number { 1 ≤ n }
-    requires room { length page.old ≡ change.now.page_size }
-    ensures sum { IsTrue (D.honest disk.old) → IfOk result (λ sum. sum ≡ sum_left change.now (bytes_of (now (D.history disk.old) Name.Database)) n) }
+) -> Result<(), RecoverFault>
+    requires sized { IsPageSize size }
+    requires first { 1 ≤ n }
+    requires last { n ≤ length tally.old.sums.sums }
+    requires room { length page.old ≡ size }
+    ensures known { IsTrue (D.honest disk.old) → OnOk result ((change : PageChange) → IsChange change → change.page_size ≡ size
+        → AreKnown change (bytes_of (now (D.history disk.old) Name.Database)) (n - 1) tally.old
+        → AreKnown change (bytes_of (now (D.history disk.old) Name.Database)) n tally.new) }
+    ensures count { length tally.new.sums.sums ≡ length tally.old.sums.sums }
     ensures long { length page.new ≡ length page.old }
     ensures blameless { IfErr result IsBlameless }
     ensures rests { Rests (D.history disk.old) (D.history disk.new) }
     ensures honest { D.honest disk.new ≡ D.honest disk.old }
     ensures cause { HasCause (D.faults disk.old) (D.faults disk.new) result }
 {
-    if n == lock_page(change.page_size()) {
-        return Ok(0);
+    if n == lock_page(size) || tally.sums.get(n) != 0 {
+        return Ok(());
     }
-    if let Some(bytes) = change.page(n) {
-        return Ok(page_sum(n, bytes));
-    }
-    read_page(disk, change.page_size(), n, page)?;
-    Ok(page_sum(n, page))
+    read_page(disk, size, n, page)?;
+    tally.add(n, page);
+    Ok(())
 }
 
-/// The sum of each page that the change leaves.
-pub fn page_sums<D: Disk>(
+/// Adds each page that a file with this header does not hold, from the database file.
+pub fn add_pages<D: Disk>(
     alloc: Global,
     disk: &mut D,
-    change: &Change,
-) -> Result<Sums, RecoverFault>
-    ensures sums { IsTrue (D.honest disk.old) → IfOk result (λ sums. sums.sums ≡ sums_left change.now (bytes_of (now (D.history disk.old) Name.Database))) }
-    ensures count { IfOk result (λ sums. length sums.sums ≡ change.now.commit) }
+    header: &Header,
+    tally: &mut Tally,
+) -> Result<(), RecoverFault>
+    requires sized { IsPageSize header.now.page_size }
+    requires count { length tally.old.sums.sums ≡ header.now.commit }
+    ensures known { IsTrue (D.honest disk.old) → OnOk result ((change : PageChange) → IsChange change → change.page_size ≡ header.now.page_size
+        → IsTallied change tally.old → KnowsPages change (bytes_of (now (D.history disk.old) Name.Database)) tally.new) }
+    ensures count { length tally.new.sums.sums ≡ length tally.old.sums.sums }
     ensures blameless { IfErr result IsBlameless }
     ensures rests { Rests (D.history disk.old) (D.history disk.new) }
     ensures honest { D.honest disk.new ≡ D.honest disk.old }
     ensures cause { HasCause (D.faults disk.old) (D.faults disk.new) result }
 {
-    let mut page = zeros(alloc, change.page_size() as usize)?;
-    let mut sums = Sums::new(alloc);
-    match sums.reserve(change.commit()) {
-        Ok(()) => {}
-        Err(_) => return Err(RecoverFault::NoMemory),
+    let mut page = zeros(alloc, header.page_size as usize)?;
+    for before in 0..header.commit {
+        add_page(
+            disk,
+            header.page_size,
+            before + 1,
+            tally,
+            page.as_mut_slice(),
+        )?;
     }
-    sums.resize(change.commit());
-    for before in 0..change.commit() {
-        let sum = page_sum_left(disk, change, before + 1, page.as_mut_slice())?;
-        sums.set(before + 1, sum);
-    }
-    Ok(sums)
+    Ok(())
 }

@@ -1,5 +1,4 @@
 use Rattle.std.proofs.Common.{ap}
-use Rattle.link_session.specs.declared.seat.SeatPlace.{SeatPlace}
 use Rattle.file_session.proofs.seat.serve_at.Goals as goal
 
 pub returns-clause-legal : goal.returns-clause-legal

@@ -1,11 +1,11 @@
-use Rattle.std.proofs.Common.{◌≡◌, ◌∙◌, ap, refl, subst, sym}
+use Rattle.std.proofs.Common.{◌≡◌, ◌∙◌, ap, subst, sym}
 use Rattle.file_view.specs.Overlay.{FitsImage, IsOverImage}
 use Rattle.file_view.specs.Served.{Served, waits}
 use Rattle.world_laws.specs.Served.{ShareForReading}
 use Rattle.node_core.specs.Nodes.{seen}
-use Rattle.node_core.specs.Opening.{opened, seen_opened}
+use Rattle.node_core.specs.Opening.{opened}
 use Rattle.node_core.specs.Stores.{fields_of, history_of, state}
-use Rattle.node_core.proofs.Opening.{opened-fits, opened-over, opened-seen, shares-none}
+use Rattle.node_core.proofs.Opened.{opened-fits, opened-over, opened-seen, shares-none}
 use Rattle.node_core.proofs.node.Node.open.Goals as goal
 
 pub invariant_of-result : goal.invariant_of-result

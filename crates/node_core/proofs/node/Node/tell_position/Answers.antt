@@ -2,7 +2,7 @@ use Rattle.std.proofs.Common.{ap, refl}
 use Rattle.world_laws.specs.Node as laws
 use Rattle.node_core.specs.declared.answer.Answer.TheVariants as answers
 use Rattle.node_core.specs.Nodes.{parts_of, seen}
-use Rattle.node_core.specs.Stores.{fields_of, history_of, state}
+use Rattle.node_core.specs.Stores.{history_of}
 use Rattle.node_core.proofs.Facts.{says-none}
 use Rattle.node_core.proofs.Reading.{rests_stay}
 use Rattle.node_core.proofs.Sound.{sound}

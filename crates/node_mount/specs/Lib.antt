@@ -1,0 +1,4 @@
+pub mod Making
+pub mod MemSpawn
+pub mod Keeping
+pub mod MemMaker

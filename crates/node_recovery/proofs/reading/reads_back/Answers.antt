@@ -1,7 +1,0 @@
-use Rattle.std.proofs.Common.{arith}
-use Rattle.txn_log.specs.Kept.{file_of}
-use Rattle.node_recovery.proofs.reading.reads_back.Goals as goal
-
-pub returns : goal.returns
-unfolding file_of
-returns c = c.file_is_read.ensures c.args.text.now c.args.file.now (λ i. omega (arith, c.type_inv.text i)) c.requires
