@@ -25,40 +25,40 @@ front_in bytes more front rest e h =
 
 -- too many fields, whatever follows
 pub never_over : (bytes : List ℕ) → RequestOverflows 128 bytes → NeverTakesRequest bytes
-never_over bytes over more h rest len reads taken = omega (arith, over more h rest reads, taken.count)
+never_over bytes over more (h, rest, len, reads, taken) = omega (arith, over more h rest reads, taken.count)
 
 pub never_over_response : (bytes : List ℕ) → ResponseOverflows 128 bytes → NeverTakesResponse bytes
-never_over_response bytes over more h rest len reads taken = omega (arith, over more h rest reads, taken.count)
+never_over_response bytes over more (h, rest, len, reads, taken) = omega (arith, over more h rest reads, taken.count)
 
 -- so many bytes without a head that none is left in the limit
 pub never_long : (bytes : List ℕ) → HasNoRequest bytes → 8192 ≤ length bytes → NeverTakesRequest bytes
-never_long bytes none long more h rest len reads taken =
+never_long bytes none long more (h, rest, len, reads, taken) =
     none h (drop (length (print_request h)) bytes) (reads.0, front_in bytes more (print_request h) rest reads.1 (omega (arith, taken.size_fits)))
 
 pub never_long_response : (bytes : List ℕ) → HasNoResponse bytes → 8192 ≤ length bytes → NeverTakesResponse bytes
-never_long_response bytes none long more h rest len reads taken =
+never_long_response bytes none long more (h, rest, len, reads, taken) =
     none h (drop (length (print_response h)) bytes) (reads.0, front_in bytes more (print_response h) rest reads.1 (omega (arith, taken.size_fits)))
 
 -- a whole head that is too long
 pub never_large : (bytes : List ℕ) (k : RequestHead) (left : List ℕ) → ReadsRequest bytes k left → 8192 < length (print_request k) → NeverTakesRequest bytes
-never_large bytes k left read large more h rest len reads taken =
+never_large bytes k left read large more (h, rest, len, reads, taken) =
     let same = request_prefix_free bytes more k h left rest read reads in
     omega (arith, ap (λ (x : RequestHead). length (print_request x)) same.0, taken.size_fits)
 
 pub never_large_response : (bytes : List ℕ) (k : ResponseHead) (left : List ℕ) → ReadsResponse bytes k left → 8192 < length (print_response k) → NeverTakesResponse bytes
-never_large_response bytes k left read large more h rest len reads taken =
+never_large_response bytes k left read large more (h, rest, len, reads, taken) =
     let same = response_prefix_free bytes more k h left rest read reads in
     omega (arith, ap (λ (x : ResponseHead). length (print_response x)) same.0, taken.size_fits)
 
 -- a whole head whose fields are refused
 pub never_framed : (bytes : List ℕ) (k : RequestHead) (left : List ℕ) → ReadsRequest bytes k left → framing_of k.fields ≡ None → NeverTakesRequest bytes
-never_framed bytes k left read none more h rest len reads taken =
+never_framed bytes k left read none more (h, rest, len, reads, taken) =
     let same = request_prefix_free bytes more k h left rest read reads in
     let f : framing_of k.fields ≡ framing_of h.fields = ap (λ (x : RequestHead). framing_of x.fields) same.0 in
     let g : None ≡ Some len = sym none ∙ f ∙ taken.framed in cc
 
 pub never_framed_response : (bytes : List ℕ) (k : ResponseHead) (left : List ℕ) → ReadsResponse bytes k left → framing_of k.fields ≡ None → NeverTakesResponse bytes
-never_framed_response bytes k left read none more h rest len reads taken =
+never_framed_response bytes k left read none more (h, rest, len, reads, taken) =
     let same = response_prefix_free bytes more k h left rest read reads in
     let f : framing_of k.fields ≡ framing_of h.fields = ap (λ (x : ResponseHead). framing_of x.fields) same.0 in
     let g : None ≡ Some len = sym none ∙ f ∙ taken.framed in cc

@@ -4,3 +4,14 @@ pub mod Heads
 pub mod Reading
 pub mod Written
 pub mod ReadBack
+pub mod Cuts
+pub mod Digits
+pub mod ValueEnds
+pub mod FieldEnds
+pub mod SectionEnds
+pub mod TextEnds
+pub mod StartEnds
+pub mod RequestEnds
+pub mod ResponseEnds
+pub mod Ended
+pub mod NeverEnds

@@ -18,14 +18,14 @@ use Rattle.stream_wire.proofs.Written.{reply_of, phrase_of, reply_head-text, rea
 tells : (bytes : List ℕ) (h : ResponseHead) (rest : List ℕ) (len : Option ℕ) (answer : Result Told WireFault)
     → ReadsResponse bytes h rest → IsTaken (length (print_response h)) h.fields len → HearsResponse bytes answer
     → answer ≡ Ok (told.Whole (length (print_response h)) (status_code h) len)
-tells bytes h rest len (Ok told.Part) reads taken hears = absurd (hears.1 h rest reads)
+tells bytes h rest len (Ok told.Part) reads taken hears = absurd (hears.0 h rest reads)
 tells bytes h rest len (Ok (told.Whole used status said)) reads taken hears =
     let same = (response_unique bytes hears.head h _ rest hears.reads reads).0 in
     let size : used ≡ length (print_response h) = hears.size_is ∙ ap (λ (x : ResponseHead). length (print_response x)) same in
     let code : status ≡ status_code h = hears.status_is ∙ ap status_code same in
     let f : Some said ≡ Some len = sym hears.taken.framed ∙ ap (λ (x : ResponseHead). framing_of x.fields) same ∙ taken.framed in
     cc
-tells bytes h rest len (Err fault.Head) reads taken hears = absurd (hears [] h (rest ++ []) len (ReadsResponse-append bytes h rest [] reads) taken)
+tells bytes h rest len (Err fault.Head) reads taken hears = absurd (hears [] (h, rest ++ [], len, ReadsResponse-append bytes h rest [] reads, taken))
 tells bytes h rest len (Err fault.Length) reads taken hears = absurd hears
 tells bytes h rest len (Err (fault.Kind kind)) reads taken hears = absurd hears
 tells bytes h rest len (Err fault.NameText) reads taken hears = absurd hears
@@ -46,7 +46,7 @@ reply_read status len more answer is fits hears =
 asks : (bytes : List ℕ) (h : RequestHead) (rest : List ℕ) (c : Call) (len : ℕ) (answer : Result Heard WireFault)
     → ReadsRequest bytes h rest → IsTaken (length (print_request h)) h.fields (Some len) → IsNamed c → h.method ≡ method_of c → h.target ≡ target_of c → HearsRequest bytes answer
     → (answer ≡ Ok (heard.Whole (length (print_request h)) c len)) ⊎ (answer ≡ Err fault.NoMemory)
-asks bytes h rest c len (Ok heard.Part) reads taken named method target hears = absurd (hears.1 h rest reads)
+asks bytes h rest c len (Ok heard.Part) reads taken named method target hears = absurd (hears.0 h rest reads)
 asks bytes h rest c len (Ok (heard.Whole used call said)) reads taken named method target hears =
     let same = (request_unique bytes hears.head h _ rest hears.reads reads).0 in
     let size : used ≡ length (print_request h) = hears.size_is ∙ ap (λ (x : RequestHead). length (print_request x)) same in
@@ -57,7 +57,7 @@ asks bytes h rest c len (Ok (heard.Whole used call said)) reads taken named meth
     (subst (λ (m : List ℕ). Names m hears.head.target call) (ap (λ (x : RequestHead). x.method) same ∙ method) hears.names) in
     let called : call ≡ c = same_call c call named names in
     inl (cc)
-asks bytes h rest c len (Err fault.Head) reads taken named method target hears = absurd (hears [] h (rest ++ []) (Some len) (ReadsRequest-append bytes h rest [] reads) taken)
+asks bytes h rest c len (Err fault.Head) reads taken named method target hears = absurd (hears [] (h, rest ++ [], Some len, ReadsRequest-append bytes h rest [] reads, taken))
 asks bytes h rest c len (Err fault.Length) reads taken named method target hears = absurd hears
 asks bytes h rest c len (Err (fault.Kind kind)) reads taken named method target hears = absurd hears
 asks bytes h rest c len (Err fault.NameText) reads taken named method target hears = absurd hears

@@ -1,80 +1,29 @@
 -- Heads that are written are read back.
-use Rattle.std.proofs.Common.{◌≡◌, ℕ, zero, suc, ◌∷◌, ◌+◌, ◌*◌, ◌-◌, ◌/◌, ◌%◌, ◌<◌, ◌≤◌, ◌^◌, ◌&&◌, List, [], ◌++◌, length, reverse, drop, Bool, true, false, nat_lt, nat_le, IsTrue, Option, Some, None, IfSome, if◌then◌else◌, unwrap_or, refl, sym, ap, ◌∙◌, arith, append_assoc, append-nil, codes, decimal, All, length-append}
+use Rattle.std.proofs.Common.{◌≡◌, ℕ, zero, suc, ◌∷◌, ◌+◌, ◌/◌, ◌%◌, ◌<◌, ◌≤◌, ◌^◌, ◌&&◌, List, [], ◌++◌, length, drop, Bool, true, nat_lt, nat_le, IsTrue, Option, Some, None, IfSome, if◌then◌else◌, unwrap_or, refl, sym, ap, ◌∙◌, arith, append_assoc, append-nil, codes, decimal, All, length-append}
 use Rattle.std.proofs.lemmas.Grind.{common_steps}
 use Rattle.std.proofs.lemmas.Bool.{and_parts}
 use Rattle.std.proofs.lemmas.Bool.Decides.{Decides-below_and, nat_tests}
-use Rattle.std.proofs.lemmas.Fmt.{decimal_is_IsNumeral, length-decimal-le}
-use Rattle.std.proofs.lemmas.List.Elements.{All-cons, All-nil, All-head, All-weaker, All-from_get_or, All-append}
+use Rattle.std.proofs.lemmas.Fmt.{length-decimal-le}
+use Rattle.std.proofs.lemmas.List.Elements.{All-cons, All-nil, All-weaker, All-from_get_or, All-append}
 use Rattle.std.proofs.lemmas.Bool.{ltb-true}
 use Rattle.std.proofs.lemmas.Str.{IsUtf8-from_ascii}
 use Rattle.std.proofs.lemmas.Str.Ascii.{IsAscii-from_all}
-use Rattle.std.proofs.lemmas.Str.Parse.{digit_from_value}
 use Rattle.std.specs.Char.{is_ascii_digit, digit_value}
 use Rattle.std.specs.List.{list_all}
 use Rattle.std.specs.Str.{bytes_eq}
-use Rattle.std.specs.Str.Parse.{AllDigits, digits_value_after, digits_value}
+use Rattle.std.specs.Str.Parse.{digits_value}
 use Rattle.httparse.specs.Ascii.{crlf_bytes}
 use Rattle.http.specs.StatusCode.{IsStatusCode, code_digits, reason_phrase}
-use Rattle.httparse.specs.Grammar.{crlf, Field, IsField, is_uri_byte, AllPass, is_token_byte, is_value_byte, is_ows, skip_ows, trim_ows, RequestHead, print_request, ReadsRequest, ResponseHead, print_response, ReadsResponse, status_code}
+use Rattle.httparse.specs.Grammar.{crlf, Field, IsField, is_uri_byte, AllPass, is_token_byte, is_value_byte, RequestHead, print_request, ReadsRequest, ResponseHead, print_response, ReadsResponse, status_code}
 use Rattle.httparse.specs.Spans.{name_and_value}
 use Rattle.httparse.proofs.GrammarLemmas.{cons-append}
-use Rattle.httparse.proofs.TrimLemmas.{trim_ows_space, AllPass-reverse}
-use Rattle.stream_wire.specs.Head.{decimal_of, decimal_after, with_field, framing_of, IsTaken}
+use Rattle.stream_wire.specs.Head.{with_field, framing_of, IsTaken}
+use Rattle.stream_wire.proofs.Digits.{passes, decimal_pass, is_value, trim_ows-decimal, decimal_of-decimal}
 use Rattle.lf_base.specs.Name.{IsName, is_name_byte}
 use Rattle.stream_wire.specs.declared.call.Call.{Call}
 use Rattle.stream_wire.specs.declared.call.Call.TheVariants as kind
 use Rattle.stream_wire.specs.Call.{method_of, target_of, IsNamed, Names}
 use Rattle.stream_wire.specs.Writing.{reply_head, status_line, status_digits, version, blank, end_line, line, length_line, request_line, request_head}
-
--- ---- a number as decimal digits
-
-digit_range : (c : ℕ) → digit_value c < 10 → (48 ≤ c) × (c ≤ 57) × (digit_value c ≡ c - 48)
-digit_range c h = let r = digit_from_value c h in (r.0, r.1, grind (arith, nat_tests, common_steps, r))
-
-pub after_at_least : (n : ℕ) (ds : List ℕ) → n ≤ digits_value_after 10 n ds
-after_at_least n [] = omega arith
-after_at_least n (d ∷ ds) = let h = after_at_least (n * 10 + digit_value d) ds in omega arith
-
-decimal_after-digits : (n : ℕ) (ds : List ℕ) → AllDigits 10 ds → digits_value_after 10 n ds < 2 ^ 64 → decimal_after n ds ≡ Some (digits_value_after 10 n ds)
-decimal_after-digits n [] all fits = refl
-decimal_after-digits n (d ∷ ds) all fits =
-    let r = digit_range d all.0 in
-    let e : n * 10 + digit_value d ≡ n * 10 + (d - 48) = ap (λ (x : ℕ). n * 10 + x) r.2 in
-    let least = after_at_least (n * 10 + digit_value d) ds in
-    let more = decimal_after-digits (n * 10 + digit_value d) ds all.1 fits in
-    let small : n * 10 + digit_value d < 2 ^ 64 = omega arith in
-    grind (arith, nat_tests, common_steps, r, e, more, small)
-
-pub decimal_of-decimal : (n : ℕ) → n < 2 ^ 64 → decimal_of (decimal n) ≡ Some n
-decimal_of-decimal n h = by_digits (decimal n) (decimal_is_IsNumeral n h).0.0 (decimal_is_IsNumeral n h).0.1 (decimal_is_IsNumeral n h).1
-  where
-    by_digits : (ds : List ℕ) → 0 < length ds → AllDigits 10 ds → digits_value 10 ds ≡ n → decimal_of ds ≡ Some n
-    by_digits [] some all e = absurd (omega arith)
-    by_digits (d ∷ ds) some all e = decimal_after-digits 0 (d ∷ ds) all (omega arith) ∙ ap Some e
-
--- ---- each byte of it is a digit, so no white space
-
-digits_pass : (ds : List ℕ) → AllDigits 10 ds → AllPass is_ascii_digit ds
-digits_pass [] all = All-nil _
-digits_pass (d ∷ ds) all = let r = digit_range d all.0 in All-cons (λ b. IsTrue (is_ascii_digit b)) d ds (grind (arith, nat_tests, common_steps, r)) (digits_pass ds all.1)
-
-decimal_pass : (n : ℕ) → n < 2 ^ 64 → AllPass is_ascii_digit (decimal n)
-decimal_pass n h = digits_pass (decimal n) (decimal_is_IsNumeral n h).0.1
-
-is_no_ows : (b : ℕ) → IsTrue (is_ascii_digit b) → is_ows b ≡ false
-is_no_ows b h = grind (arith, nat_tests, common_steps)
-
-is_value : (b : ℕ) → IsTrue (is_ascii_digit b) → IsTrue (is_value_byte b)
-is_value b h = grind (arith, nat_tests, common_steps)
-
-skip_ows-digits : (ds : List ℕ) → AllPass is_ascii_digit ds → skip_ows ds ≡ ds
-skip_ows-digits [] all = refl
-skip_ows-digits (d ∷ ds) all = let no = is_no_ows d (All-head (λ b. IsTrue (is_ascii_digit b)) d ds all) in rw no refl
-
-trim_ows-decimal : (n : ℕ) → n < 2 ^ 64 → trim_ows (32 ∷ decimal n) ≡ decimal n
-trim_ows-decimal n h =
-    let all = decimal_pass n h in
-    trim_ows_space (decimal n) (skip_ows-digits (decimal n) all) (skip_ows-digits (reverse (decimal n)) (AllPass-reverse is_ascii_digit (decimal n) all))
 
 -- ---- the fields
 
@@ -86,10 +35,6 @@ length_field n = field (codes "Content-Length") (decimal n)
 
 abbrev pub connection_field : Field
 connection_field = field (codes "Connection") (codes "close")
-
-passes : (test : ℕ → Bool) (bytes : List ℕ) → list_all test bytes ≡ true → AllPass test bytes
-passes test [] h = All-nil _
-passes test (b ∷ bs) h = All-cons (λ x. IsTrue (test x)) b bs (and_parts _ _ h).0 (passes test bs (and_parts _ _ h).1)
 
 is_field : (name value : List ℕ) → 0 < length name → list_all is_token_byte name ≡ true → AllPass is_value_byte value → IsField (field name value)
 is_field name value some token all = record {

@@ -1,8 +1,8 @@
 -- The heads of HTTP/1.1 (RFC 9112) that are taken: those of httparse's grammar, and of them those of at most 8,192 bytes, with at most 128 fields, without a Transfer-Encoding, and with lengths that agree.
-use Rattle.std.specs.Prelude.{◌≡◌, ℕ, ◌+◌, ◌-◌, ◌*◌, ◌^◌, ◌<◌, ◌≤◌, ◌==◌, ◌&&◌, nat_lt, Bool, List, [], ◌∷◌, ◌++◌, length, map, drop, codes, Option, Some, None, option_map, option_and_then, unwrap_or, Result, Ok, Err, if◌then◌else◌}
+use Rattle.std.specs.Prelude.{◌≡◌, ℕ, ◌+◌, ◌-◌, ◌*◌, ◌^◌, ◌≤◌, ◌==◌, ◌&&◌, nat_lt, Bool, List, [], ◌∷◌, ◌++◌, length, map, drop, codes, Option, Some, None, option_map, option_and_then, unwrap_or, Result, Ok, Err, if◌then◌else◌}
 use Rattle.std.specs.Char.{is_ascii_digit, to_ascii_lowercase}
 use Rattle.std.specs.Str.{bytes_eq}
-use Rattle.httparse.specs.Grammar.{Field, RequestHead, print_request, ReadsRequest, HasNoRequest, MayBecomeRequest, ResponseHead, print_response, ReadsResponse, HasNoResponse, MayBecomeResponse, status_code}
+use Rattle.httparse.specs.Grammar.{Field, RequestHead, print_request, ReadsRequest, HasNoRequest, ResponseHead, print_response, ReadsResponse, HasNoResponse, status_code}
 use Rattle.httparse.specs.Spans.{name_and_value}
 use Rattle.stream_wire.specs.declared.call.Call.{Call}
 use Rattle.stream_wire.specs.Call.{Names}
@@ -54,14 +54,28 @@ pub record IsTaken (size : ℕ) (fields : List Field) (len : Option ℕ) : Type 
   pub count : length fields ≤ 128
   pub framed : framing_of fields ≡ Some len
 
--- no bytes can follow that make a prefix a head that is taken
+-- the bytes begin with a head that is taken
+abbrev pub TakesRequest : List ℕ → Type 0
+TakesRequest bytes =
+    (h : RequestHead) × (rest : List ℕ) × (len : Option ℕ) × ReadsRequest bytes h rest × IsTaken (length (print_request h)) h.fields len
+
+abbrev pub TakesResponse : List ℕ → Type 0
+TakesResponse bytes =
+    (h : ResponseHead) × (rest : List ℕ) × (len : Option ℕ) × ReadsResponse bytes h rest × IsTaken (length (print_response h)) h.fields len
+
+-- some bytes can follow with which they do
+abbrev pub MayTakeRequest : List ℕ → Type 0
+MayTakeRequest bytes = (more : List ℕ) × TakesRequest (bytes ++ more)
+
+abbrev pub MayTakeResponse : List ℕ → Type 0
+MayTakeResponse bytes = (more : List ℕ) × TakesResponse (bytes ++ more)
+
+-- whatever bytes follow, they do not
 abbrev pub NeverTakesRequest : List ℕ → Type 0
-NeverTakesRequest bytes =
-    (more : List ℕ) (h : RequestHead) (rest : List ℕ) (len : Option ℕ) → ReadsRequest (bytes ++ more) h rest → IsTaken (length (print_request h)) h.fields len → ⊥
+NeverTakesRequest bytes = (more : List ℕ) → TakesRequest (bytes ++ more) → ⊥
 
 abbrev pub NeverTakesResponse : List ℕ → Type 0
-NeverTakesResponse bytes =
-    (more : List ℕ) (h : ResponseHead) (rest : List ℕ) (len : Option ℕ) → ReadsResponse (bytes ++ more) h rest → IsTaken (length (print_response h)) h.fields len → ⊥
+NeverTakesResponse bytes = (more : List ℕ) → TakesResponse (bytes ++ more) → ⊥
 
 -- the bytes begin with a request's head of this size, which names this call and this length
 pub record IsRequest (bytes : List ℕ) (size : ℕ) (call : Call) (len : ℕ) : Type 0 where
@@ -81,16 +95,16 @@ pub record IsResponse (bytes : List ℕ) (size status : ℕ) (len : Option ℕ) 
   pub taken : IsTaken size head.fields len
   pub status_is : status ≡ status_code head
 
--- what reading a request's head answers. More bytes are asked for where none of the grammar is whole and one can still be
+-- what reading a request's head answers. More bytes are asked for exactly where no head is whole and one that is taken can still come
 abbrev pub HearsRequest : List ℕ → Result Heard WireFault → Type 0
-HearsRequest bytes (Ok heard.Part) = (length bytes < 8192) × HasNoRequest bytes × MayBecomeRequest bytes
+HearsRequest bytes (Ok heard.Part) = HasNoRequest bytes × MayTakeRequest bytes
 HearsRequest bytes (Ok (heard.Whole used call len)) = IsRequest bytes used call len
 HearsRequest bytes (Err Head) = NeverTakesRequest bytes
 HearsRequest bytes (Err NoMemory) = Unit {0}
 HearsRequest bytes (Err _) = ⊥
 
 abbrev pub HearsResponse : List ℕ → Result Told WireFault → Type 0
-HearsResponse bytes (Ok told.Part) = (length bytes < 8192) × HasNoResponse bytes × MayBecomeResponse bytes
+HearsResponse bytes (Ok told.Part) = HasNoResponse bytes × MayTakeResponse bytes
 HearsResponse bytes (Ok (told.Whole used status len)) = IsResponse bytes used status len
 HearsResponse bytes (Err Head) = NeverTakesResponse bytes
 HearsResponse bytes (Err _) = ⊥

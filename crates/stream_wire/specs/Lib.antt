@@ -4,3 +4,4 @@ pub mod Front
 pub mod Head
 pub mod Writing
 pub mod Feeding
+pub mod Ends

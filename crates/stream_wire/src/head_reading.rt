@@ -5,6 +5,7 @@ ghost use Rattle.httparse.specs.Spans.{IsRequestWithin, IsRequestOf, IsResponseW
 ghost use Rattle.stream_wire.specs.Head.{HearsRequest, HearsResponse};
 
 use crate::framing::framing;
+use crate::head_ends::{FIELDS_MAX, HEAD_MAX, HeadKind, may_come};
 use crate::naming::call_of;
 use crate::{Heard, Told, WireFault};
 use httparse::Status;
@@ -12,12 +13,6 @@ use httparse::spans::{
     EMPTY_HEADER_SPAN, HeaderSpan, RequestSpans, ResponseSpans, parse_request, parse_response,
 };
 use std::alloc::Global;
-
-/// The most bytes of a head.
-const HEAD_MAX: usize = 8192;
-
-/// How many fields there is room for.
-const FIELDS_MAX: usize = 128;
 
 /// The head of a request at the front of the bytes. Empty lines may stand before it.
 pub fn read_request(alloc: Global, bytes: &[u8]) -> Result<Heard, WireFault>
@@ -27,7 +22,7 @@ pub fn read_request(alloc: Global, bytes: &[u8]) -> Result<Heard, WireFault>
     match parse_request(bytes, &mut headers) {
         Ok(Status::Complete(spans)) => heard(alloc, bytes, &headers, spans),
         Ok(Status::Partial) => {
-            if bytes.len() < HEAD_MAX {
+            if may_come(HeadKind::Request, bytes) {
                 Ok(Heard::Part)
             } else {
                 Err(WireFault::Head)
@@ -70,7 +65,7 @@ pub fn read_response(bytes: &[u8]) -> Result<Told, WireFault>
     match parse_response(bytes, &mut headers) {
         Ok(Status::Complete(spans)) => told(bytes, &headers, spans),
         Ok(Status::Partial) => {
-            if bytes.len() < HEAD_MAX {
+            if may_come(HeadKind::Response, bytes) {
                 Ok(Told::Part)
             } else {
                 Err(WireFault::Head)

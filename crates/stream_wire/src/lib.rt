@@ -10,6 +10,7 @@ mod feed;
 mod frame;
 mod framing;
 mod front;
+mod head_ends;
 mod head_reading;
 mod head_writing;
 mod laws;

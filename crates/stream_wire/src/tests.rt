@@ -354,6 +354,80 @@ fn heads_are_refused_or_not_whole(rt: HostRuntime) -> Result<(), Fail> {
     Ok(())
 }
 
+/// Requests that stop, and whether a head that is taken can still come.
+#[test]
+fn unfinished_heads_are_judged(rt: HostRuntime) -> Result<(), Fail> {
+    let rows = [
+        (b"\r" as &[u8], true),
+        (b"POST /tx HTTP/1.", true),
+        (b"POST /tx HTTP/2", false),
+        (b"POST /\xe2\x82", true),
+        (b"POST /\xff", false),
+        (b"POST /\xed\xa0", false),
+        (b"POST /tx HTTP/1.1\r\nTransfer-Encoding", true),
+        (b"POST /tx HTTP/1.1\r\nTransfer-Encoding:", false),
+        (b"POST /tx HTTP/1.1\r\ntransfer-encoding: x\r\n", false),
+        (b"POST /tx HTTP/1.1\r\nContent-Length", true),
+        (b"POST /tx HTTP/1.1\r\nContent-Length: ", true),
+        (b"POST /tx HTTP/1.1\r\nContent-Length: 1 ", true),
+        (b"POST /tx HTTP/1.1\r\nContent-Length: 1 2", false),
+        (b"POST /tx HTTP/1.1\r\nContent-Length: 1x", false),
+        (b"POST /tx HTTP/1.1\r\nContent-Length:\r\n", false),
+        (
+            b"POST /tx HTTP/1.1\r\nContent-Length: 18446744073709551615",
+            true,
+        ),
+        (
+            b"POST /tx HTTP/1.1\r\nContent-Length: 18446744073709551616",
+            false,
+        ),
+        (
+            b"POST /tx HTTP/1.1\r\nContent-Length: 12\r\nContent-Length: 01",
+            true,
+        ),
+        (
+            b"POST /tx HTTP/1.1\r\nContent-Length: 12\r\nContent-Length: 2",
+            false,
+        ),
+        (
+            b"POST /tx HTTP/1.1\r\nContent-Length: 12\r\nContent-Length: 120",
+            false,
+        ),
+    ];
+    for (head, part) in rows.iter() {
+        let read = read_request(rt.alloc(), head);
+        assert_eq!(rt; matches!(read, Ok(Heard::Part)), *part);
+        assert_eq!(rt; read.is_err_and(|fault| fault == WireFault::Head), !*part);
+    }
+    assert_eq!(rt;
+        read_response(b"HTTP/1.1 200 OK\r\nContent-Length: -"),
+        Err(WireFault::Head)
+    );
+    assert_eq!(rt; read_response(b"HTTP/1.1 2"), Ok(Told::Part));
+    Ok(())
+}
+
+/// A name of so many bytes that a colon and two line feeds still fit, or do not; and a 129th field.
+#[test]
+fn unfinished_heads_have_an_end(rt: HostRuntime) -> Result<(), Fail> {
+    for (len, part) in [(8189usize, true), (8190, false)].iter() {
+        let mut head = Vec::from_slice(rt.alloc(), b"POST /tx HTTP/1.1\r\n")?;
+        head.resize(*len, b'A')?;
+        let read = read_request(rt.alloc(), head.as_slice());
+        assert_eq!(rt; matches!(read, Ok(Heard::Part)), *part);
+    }
+    for (fields, part) in [(127usize, true), (128, false)].iter() {
+        let mut head = Vec::from_slice(rt.alloc(), b"POST /tx HTTP/1.1\r\n")?;
+        for _ in 0..*fields {
+            head.extend_from_slice(b"A: b\r\n")?;
+        }
+        head.push(b'A')?;
+        let read = read_request(rt.alloc(), head.as_slice());
+        assert_eq!(rt; matches!(read, Ok(Heard::Part)), *part);
+    }
+    Ok(())
+}
+
 /// A head of 8,192 bytes is one, one byte more is none, and 128 fields are not too many.
 #[test]
 fn heads_have_an_end(rt: HostRuntime) -> Result<(), Fail> {

@@ -1,7 +1,6 @@
-use Rattle.stream_wire.proofs.Heads.{never_long}
 use Rattle.stream_wire.proofs.head_reading.read_request.Goals as goal
 
-pub returns-else-bytes-lt-HEAD_MAX : goal.returns-else-bytes-lt-HEAD_MAX
-returns-else-bytes-lt-HEAD_MAX c =
+pub returns-else-may_come : goal.returns-else-may_come
+returns-else-may_come c =
     let none = rw c.in-Ok-Partial.field-0-is at c.in-Ok-Partial.ensures in
-    never_long c.args.bytes.now none.partial c.if-bytes-lt-HEAD_MAX.false
+    c.may_come.ensures.never c.if-may_come.false none.partial
