@@ -4,13 +4,16 @@ pub mod EndingLemmas
 pub mod FaultLemmas
 pub mod FrameLemmas
 pub mod FreeLemmas
+pub mod HeldLemmas
 pub mod LogLawLemmas
 pub mod LogLemmas
 pub mod LogStands
+pub mod PrepareLemmas
 pub mod ReadLemmas
 pub mod RequestLemmas
 pub mod RequestStands
 pub mod RowLemmas
+pub mod SoundLemmas
 pub mod StandLemmas
 pub mod SteadyLemmas
 pub mod WaitingLemmas

@@ -7,6 +7,7 @@ pub mod Endings
 pub mod Errno
 pub mod FileFaults
 pub mod HandleRules
+pub mod HeldParts
 pub mod JournalParts
 pub mod JournalRules
 pub mod JournalState
