@@ -1,6 +1,6 @@
 //! The database file, and a write to the log that waits for its commit: the file keeps pages for it
 //! until it is finished, forgotten or overtaken by another image. Meanwhile it reads as before.
-ghost use Rattle.std.specs.Prelude.{◌≡◌, ℕ, ◌+◌, ◌≤◌, ◌<◌, is_some, None, Some, IsSome, IsTrue, IfSome, IfOk, IfErr, OnOk, OnErr, length};
+ghost use Rattle.std.specs.Prelude.{◌≡◌, ℕ, ◌+◌, ◌≤◌, ◌<◌, is_some, None, Some, Ok, IsSome, IsTrue, IfSome, IfOk, IfErr, OnOk, OnErr, length};
 ghost use Rattle.std.specs.FinMap as pages;
 ghost use Rattle.std.specs.Option.{option_map};
 ghost use Rattle.lf_sqlite_pages.specs.Blocks.{IsWithin};
@@ -197,6 +197,7 @@ impl Database {
         requires fits { FitsShape self.now.file (S.page_size base.old) (S.commit base.old) }
         ensures told { IfOk result (λ change. IfSome (S.image base.old) (λ i. KeepsDifferences self.now.file i → LeadsTo i (committed_image self.now.file i) change)) }
         ensures value { IfOk result (λ change. IfSome change (IsChangeOf self.now.file (S.page_size base.old) (S.commit base.old))) }
+        ensures clean { IsTrue (is_clean self.now.file) → result ≡ Ok None }
         ensures faults { OnOk result (S.faults base.new ≡ S.faults base.old) }
         ensures cause { IfErr result (HasCause (S.faults base.old) (S.faults base.new)) }
         ensures base { SameBase (S.image base.old) (S.image base.new) (S.page_size base.old) (S.page_size base.new) (S.commit base.old) (S.commit base.new) (S.wal_mode base.old) (S.wal_mode base.new) (S.is_broken base.old) (S.is_broken base.new) }
