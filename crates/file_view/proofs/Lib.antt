@@ -1,6 +1,13 @@
+pub mod AwaitLemmas
 pub mod DatabaseLemmas
 pub mod FaultLemmas
 pub mod FrameLemmas
+pub mod LogLawLemmas
 pub mod LogLemmas
+pub mod LogStands
 pub mod ReadLemmas
+pub mod RequestLemmas
+pub mod RequestStands
 pub mod RowLemmas
+pub mod StandLemmas
+pub mod WriteStands

@@ -1,6 +1,8 @@
 pub mod Acting
 pub mod DatabaseParts
 pub mod DatabaseRules
+pub mod DatabaseState
+pub mod Done
 pub mod Endings
 pub mod Errno
 pub mod FileFaults
@@ -9,10 +11,14 @@ pub mod JournalParts
 pub mod JournalRules
 pub mod JournalState
 pub mod LockRules
+pub mod LogLaws
 pub mod LogRules
 pub mod NameRules
+pub mod Overlay
+pub mod PlanParts
 pub mod Reading
 pub mod Refusal
+pub mod Requests
 pub mod Roles
 pub mod Served
 pub mod ServedParts

@@ -1,4 +1,5 @@
 -- The served files that the parts of a view stand for.
+use Rattle.std.specs.Prelude.{None}
 use Rattle.file_view.specs.Served.{Served}
 use Rattle.file_view.specs.Sound.{IsSound}
 use Rattle.file_view.specs.declared.view.View.TheInside.{Inside}
@@ -9,6 +10,7 @@ served_of v = record {
   database = v.database;
   journal = v.journal;
   log = v.log.text;
+  held_write = None;
   shared = v.shared;
   locks = v.locks;
   handles = v.handles;

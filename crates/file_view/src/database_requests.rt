@@ -281,10 +281,9 @@ impl View {
     ) -> Result<(), ViewFault>
         requires over { (scene.now.page_size ≡ S.page_size base.old) × (scene.now.commit ≡ S.commit base.old) }
         requires fits { FitsShape self.old.database (S.page_size base.old) (S.commit base.old) }
-        ensures done { OnOk result ((size : ℕ) → write_size self.old scene.now at bytes.now ≡ Some size → IsDatabaseWritten (S.image base.old) self.old size at bytes.now self.new) }
+        ensures done { OnOk result ((size : ℕ) → write_size self.old scene.now at bytes.now ≡ Some size → IsDatabaseWritten (S.image base.old) self.old scene.now size at bytes.now self.new) }
         ensures allowed { OnOk result (IsAllowed (database_write_rows self.old scene.now given at bytes.now)) }
         ensures cause { IfErr result (HasReadCause (database_write_rows self.old scene.now given at bytes.now) (S.faults base.old) (S.faults base.new)) }
-        ensures fits { OnOk result (FitsShape self.new.database (S.page_size base.old) (S.commit base.old)) }
         ensures err { OnErr result (self.new ≡ self.old) }
         ensures base { SameBase (S.image base.old) (S.image base.new) (S.page_size base.old) (S.page_size base.new) (S.commit base.old) (S.commit base.new) (S.wal_mode base.old) (S.wal_mode base.new) (S.is_broken base.old) (S.is_broken base.new) }
     {

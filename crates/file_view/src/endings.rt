@@ -106,7 +106,7 @@ impl View {
     /// Does the request that waits, over the committed image that its change has led to.
     pub fn commit_done(&mut self)
         ensures done { self.new ≡ committed self.old }
-        ensures fits { KeepsNothing self.new.database }
+        ensures fits { self.old.held_write ≡ None → KeepsNothing self.new.database }
     {
         self.journal.finish();
         self.database.clear();

@@ -6,6 +6,12 @@
 #![tactic(auto)]
 
 mod acting;
+mod answer_bytes;
+mod answer_handles;
+mod answer_locks;
+mod answer_names;
+mod answer_sizes;
+mod answering;
 mod database_requests;
 mod database_resize;
 mod endings;
@@ -15,10 +21,13 @@ mod handle_requests;
 mod journal;
 mod journal_calls;
 mod journal_requests;
+mod laws;
 mod lock_requests;
 mod log_requests;
+mod log_writing;
 mod name_requests;
 mod plan;
+mod prepare;
 mod read_requests;
 mod role;
 mod scene;
@@ -26,6 +35,7 @@ mod shared_requests;
 mod view;
 
 pub use fault::ViewFault;
+pub use laws::log_write_keeps_the_database;
 pub use plan::Plan;
 pub use role::Role;
 pub use scene::Scene;

@@ -19,6 +19,6 @@ returns-clause-done g c =
     let again = rw (← c.self.view_is) at changes in
     rw (← c.self.view_is)
     (record {
-      resized = λ is. record { pages = search rules; all = record { differs = search rules; rest = search rules } };
+      resized = λ is. record { pages = search rules; all = record { fits = rw (c.requires.over.0, c.requires.over.1) (search rules); differs = search rules; rest = search rules } };
       same = λ unchanged. absurd (cc (again, unchanged));
     })

@@ -12,4 +12,4 @@ invariant_of-self-2 g c =
 pub returns-clause-done : goal.returns-clause-done
 returns-clause-done g c =
     for-size _ _ c.in_ok-size.size c.in_ok-size.ensures.size
-    (rw (← c.self.view_is) (record { pages = search rules; all = record { differs = search rules; rest = search rules } }))
+    (rw (← c.self.view_is) (record { pages = search rules; all = record { fits = rw (c.requires.over.0, c.requires.over.1) (search rules); differs = search rules; rest = search rules } }))

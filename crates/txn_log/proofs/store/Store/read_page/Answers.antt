@@ -1,6 +1,6 @@
 use Rattle.std.proofs.Common.{◌≡◌, ◌≢◌, ◌∙◌, ◌-◌, ◌*◌, ℕ, Bool, false, None, Some, List, length, replicate, refl, sym, ap, subst, arith}
 use Rattle.lf_base.specs.FileBytes.{read_into}
-use Rattle.lf_disk.specs.Folder.{bytes_of}
+use Rattle.lf_disk.specs.Folder.{Folder, bytes_of}
 use Rattle.lf_disk.specs.History.{now}
 use Rattle.lf_disk.specs.declared.name.FileName.TheVariants.{Database}
 use Rattle.lf_sqlite_pages.specs.Image.{page_at}
@@ -9,10 +9,10 @@ use Rattle.lf_sqlite_pages.specs.LockPage.{lock_page_of}
 use Rattle.lf_sqlite_pages.proofs.LockPages.{page_size-positive}
 use Rattle.world_laws.specs.Store.{MayBeFound}
 use Rattle.txn_log.specs.Calls.{RestsAs}
-use Rattle.txn_log.specs.Store.{IsStore, meant, image_in, state_of, failed_of}
-use Rattle.txn_log.proofs.PagesRead.{if_told, reads_lock, reads_page}
-use Rattle.txn_log.proofs.Resting.{kept_rested, left_rested, mode_rested}
-use Rattle.txn_log.proofs.page_reading.StorePageStore.page.Goals as goal
+use Rattle.txn_log.specs.Store.{IsStore, meant, image_in, state_in, state_of, failed_of}
+use Rattle.txn_log.proofs.PagesRead.{reads_lock, reads_page}
+use Rattle.txn_log.proofs.Resting.{same_now, kept_rested, left_rested, mode_rested}
+use Rattle.txn_log.proofs.store.Store.read_page.Goals as goal
 
 pub lock_page-requires : goal.lock_page-requires
 lock_page-requires g c =
@@ -24,9 +24,8 @@ returns-then-n-lock_page-clause-bytes g c =
     let s = c.args.self.now in
     let h = g.D.Disk.history s.disk in
     let f = h.seen (meant h s.broken s.whole) in
-    if_told (g.D.Disk.honest s.disk) (image_in s.page_size s.commit f) (λ i. page_at i c.args.n ≡ Some c.zero.new.out)
-    (λ honest.
-    reads_lock s.page_size s.commit f c.args.n c.args.out.now c.zero.new.out c.requires.first c.requires.last (c.if-n-lock_page.true ∙ c.lock_page.ensures) c.requires.whole c.zero.ensures)
+    λ honest.
+    reads_lock s.page_size s.commit f c.args.n c.args.out.now c.zero.new.out c.requires.first c.requires.last (c.if-n-lock_page.true ∙ c.lock_page.ensures) c.requires.whole c.zero.ensures
 
 pub invariant_of-self-2 : goal.invariant_of-self-2
 invariant_of-self-2 g c = record {
@@ -65,12 +64,21 @@ returns-clause-bytes g c =
     let f = h.seen (meant h s.broken s.whole) in
     let place : c.from.result * c.from-2.result ≡ (c.args.n - 1) * s.page_size = rw (c.from.ensures, c.from-2.ensures) refl in
     let data_page : c.args.n ≢ lock_page_of s.page_size = λ same. c.if-n-lock_page.false (same ∙ sym c.lock_page.ensures) in
-    if_told (g.D.Disk.honest s.disk) (image_in s.page_size s.commit f) (λ i. page_at i c.args.n ≡ Some c.read_at.new.out)
-    (λ honest.
+    λ honest.
     let bytes : List ℕ = bytes_of (now h Database) in
     let kept : IsStore h s.page_size s.commit s.entries.items s.dropped s.sums.sums false s.whole s.tried =
     subst (λ (b : Bool). IsStore h s.page_size s.commit s.entries.items s.dropped s.sums.sums b s.whole s.tried) c.if-self.false (s.kept honest) in
     let read : c.read_at.new.out ≡ read_into ((c.args.n - 1) * s.page_size) bytes (replicate (length c.args.out.now) 0) =
     c.in_ok-read_at.ensures.bytes honest ∙ ap (λ (a : ℕ). read_into a bytes (replicate (length c.args.out.now) 0)) place in
     subst (λ (b : Bool). page_at (image_in s.page_size s.commit (h.seen (meant h b s.whole))) c.args.n ≡ Some c.read_at.new.out) (sym c.if-self.false)
-    (reads_page s.page_size s.commit (now h) kept.rest.shows.long c.args.n c.args.out.now c.read_at.new.out c.requires.first c.requires.last data_page c.requires.whole read))
+    (reads_page s.page_size s.commit (now h) kept.rest.shows.long c.args.n c.args.out.now c.read_at.new.out c.requires.first c.requires.last data_page c.requires.whole read)
+
+pub returns-clause-store : goal.returns-clause-store
+returns-clause-store g c honest =
+    let s = c.args.self.now in
+    let h = g.D.Disk.history s.disk in
+    let new = g.D.Disk.history c.read_at.new.disk in (
+      subst (λ (b : Bool). state_of new s.page_size s.commit s.entries.items s.dropped b s.whole ≡ state_of h s.page_size s.commit s.entries.items s.dropped b s.whole) (sym c.if-self.false)
+          (ap (λ (f : Folder). state_in s.page_size s.commit s.entries.items s.dropped f) (same_now h new c.read_at.ensures.rests)),
+      subst (λ (b : Bool). failed_of new b s.attempt s.tried ≡ failed_of h b s.attempt s.tried) (sym c.if-self.false) refl,
+    )

@@ -1,0 +1,10 @@
+pub mod Reading
+pub mod Facts
+pub mod Calls
+pub mod Overlay
+pub mod Sound
+pub mod Endings
+pub mod Opened
+pub mod Dropped
+pub mod Steady
+pub mod Histories
