@@ -1,10 +1,10 @@
 -- The database file with a write in store.
-use Rattle.std.proofs.Common.{◌≡◌, ℕ, List, [], length, true, Option, Some, None, refl, sym, ap, ◌∙◌, subst}
+use Rattle.std.proofs.Common.{◌≡◌, ℕ, List, length, true, Option, Some, None, refl, sym, ap, ◌∙◌, subst}
 use Rattle.std.specs.Option.{option_map}
 use Rattle.std.specs.FinMap as pages
 use Rattle.std.specs.FinMap.{len-empty}
 use Rattle.std.specs.Ordering.{nat_cmp}
-use Rattle.database_file.specs.DatabaseFile.{DatabaseFile, clean, is_clean, new_file}
+use Rattle.database_file.specs.DatabaseFile.{DatabaseFile, clean, new_file}
 use Rattle.database_under_log.specs.Staying.{WaitingWrite}
 use Rattle.lf_sqlite_pages.specs.Blocks.{ByteRoom, IsWithin}
 use Rattle.file_view.specs.DatabaseState.{DatabaseState, HeldWrite}

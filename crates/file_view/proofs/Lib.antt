@@ -8,6 +8,7 @@ pub mod HeldLemmas
 pub mod LogLawLemmas
 pub mod LogLemmas
 pub mod LogStands
+pub mod LogWriteLemmas
 pub mod PrepareLemmas
 pub mod ReadLemmas
 pub mod RequestLemmas
@@ -18,3 +19,4 @@ pub mod StandLemmas
 pub mod SteadyLemmas
 pub mod WaitingLemmas
 pub mod WriteStands
+pub mod WroteLemmas

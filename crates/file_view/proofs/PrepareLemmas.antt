@@ -1,5 +1,5 @@
 -- A write to the log that was prepared.
-use Rattle.std.proofs.Common.{◌≡◌, ◌≢◌, ℕ, ◌-◌, ◌<◌, ◌≤◌, length, List, Bool, true, false, inl, inr, ◌⊎◌, Option, Some, None, take, refl, sym, ap, ◌∙◌, subst, arith}
+use Rattle.std.proofs.Common.{◌≡◌, ◌≢◌, ℕ, ◌-◌, ◌<◌, ◌≤◌, List, Bool, true, false, inl, inr, ◌⊎◌, Option, Some, None, take, refl, sym, ap, ◌∙◌, subst, arith}
 use Rattle.std.specs.Prelude.{◌==◌, nat_lt, IfSome, [], unwrap_or}
 use Rattle.std.specs.Option.{option_map}
 use Rattle.std.specs.Str.{bytes_eq}
@@ -12,24 +12,23 @@ use Rattle.lf_sqlite_pages.specs.Change.{PageChange}
 use Rattle.lf_sqlite_pages.specs.Image.{DatabaseImage, SameImage}
 use Rattle.lf_sqlite_pages.specs.PageSize.{IsPageSize}
 use Rattle.lf_sqlite_pages.proofs.LockPages.{page_size-positive}
-use Rattle.wal_watch.specs.File.{Wal, text_of, after_write, with_room}
-use Rattle.wal_watch.specs.Frames.{page_size_in, size_in, is_header, committed_count, committed_end}
+use Rattle.wal_watch.specs.File.{Wal, text_of}
+use Rattle.wal_watch.specs.Frames.{page_size_in, size_in, is_header, committed_count}
 use Rattle.wal_watch.specs.News.{first_new, last_size, change_of, change_between, HasSameFrames}
 use Rattle.wal_watch.specs.Refusals.{IsSoundWrite, KeepsCommitted}
 use Rattle.wal_watch.proofs.CheckLemmas.{first_same, first_other}
 use Rattle.wal_watch.proofs.CommitLemmas.{has_committed, valid_header}
 use Rattle.wal_watch.proofs.LawLemmas.{keeps_count, keeps_frames, keeps_size, last_some}
-use Rattle.database_file.specs.DatabaseFile.{DatabaseFile, FitsShape, KeepsDifferences, as_read}
+use Rattle.database_file.specs.DatabaseFile.{DatabaseFile, KeepsDifferences}
 use Rattle.database_under_log.specs.Fault.{wanted_size}
-use Rattle.database_under_log.specs.LogChange.{log_change}
-use Rattle.database_under_log.specs.Over.{Agrees, FollowsLog, over}
+use Rattle.database_under_log.specs.Over.{Agrees, FollowsLog}
 use Rattle.database_under_log.specs.Staying.{forgotten}
 use Rattle.database_under_log.specs.Waiting.{IsReady, IsStored, HasRoomFor, MayChangeHeader, Commits}
 use Rattle.database_under_log.specs.declared.waiting.LogCommit.{LogCommit}
 use Rattle.file_view.specs.DatabaseState.{DatabaseState, HeldWrite}
 use Rattle.file_view.specs.HeldParts.{before, held_of, IsSettled, IsLogStored, IsLogHeld, LogWrites, LogWrote, held_for}
 use Rattle.file_view.specs.declared.database.Held.{Held}
-use Rattle.file_view.specs.LogRules.{FollowsImage, IsMade, LogCommits, LogKeeps, commits_frames, LeadsUnderLog, IsHeldFor}
+use Rattle.file_view.specs.LogRules.{FollowsImage, IsMade, commits_frames, LeadsUnderLog}
 use Rattle.file_view.proofs.HeldLemmas.{free-file}
 
 -- where a write leaves committed frames, the log has the image's page size

@@ -1,6 +1,6 @@
 -- What is always true of the served files stays true.
 use Rattle.std.proofs.Common.{◌≡◌, ℕ, true, false, Bool, List, [], length, Option, Some, None, refl, sym, ap, ◌∙◌, subst, inl, inr, arith}
-use Rattle.std.specs.Prelude.{◌+◌, ◌≤◌, nat_lt, is_some, IsSome, unwrap_or, if◌then◌else◌}
+use Rattle.std.specs.Prelude.{nat_lt, is_some, IsSome, unwrap_or, if◌then◌else◌}
 use Rattle.std.specs.Option.{option_map}
 use Rattle.std.proofs.lemmas.Bool.{cases_Bool, cond-true, cond-false}
 use Rattle.byte_locks.specs.declared.owner.Owner.{Owner}

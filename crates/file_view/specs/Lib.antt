@@ -13,6 +13,7 @@ pub mod JournalRules
 pub mod JournalState
 pub mod LockRules
 pub mod LogLaws
+pub mod LogParts
 pub mod LogRules
 pub mod NameRules
 pub mod Overlay

@@ -34,8 +34,8 @@ changes_header old new = not (bytes_eq (take 32 new) (take 32 old))
 -- whether a write touches the header and leaves no valid one, or leaves one of another page size; size 0 stands for any
 abbrev pub breaks_header : ℕ → ℕ → List ℕ → List ℕ → Bool
 breaks_header page_size at bytes new =
-    (nat_lt at 32 && nat_lt 0 (length bytes) && not (is_header new))
-    || (not (page_size == 0) && is_header new && not (page_size_in new == page_size))
+    (nat_lt at 32 && (nat_lt 0 (length bytes) && not (is_header new)))
+    || (not (page_size == 0) && (is_header new && not (page_size_in new == page_size)))
 
 -- whether a byte of a committed frame is another, under the same header
 abbrev pub changes_committed : List ℕ → List ℕ → Bool

@@ -26,6 +26,7 @@ mod laws;
 mod lock_requests;
 mod log_holding;
 mod log_requests;
+mod log_trial;
 mod log_writing;
 mod name_requests;
 mod plan;
