@@ -1,15 +1,14 @@
 -- What becomes of the served files where a session ends, and where the image is another.
 use Rattle.std.proofs.Common.{◌≡◌, ◌∙◌, ℕ, ◌<◌, Bool, true, false, ◌||◌, List, [], Option, None, Some, refl, sym, ap, subst, arith}
-use Rattle.std.specs.Prelude.{All, filter, is_some, not, unwrap_or, if◌then◌else◌}
+use Rattle.std.specs.Prelude.{is_some, unwrap_or, if◌then◌else◌}
 use Rattle.std.specs.FinMap as pages
 use Rattle.std.specs.Option.{option_map}
 use Rattle.std.specs.Ordering.{nat_cmp}
-use Rattle.std.proofs.lemmas.List.Elements.{All-filter, All-weaker}
 use Rattle.byte_locks.specs.declared.owner.Owner.{Owner}
 use Rattle.byte_locks.specs.declared.lock_id.LockId.TheVariants as lock
-use Rattle.byte_locks.specs.declared.lock_entry.LockEntry.{LockEntry}
-use Rattle.byte_locks.specs.LockEntry.{MayStandTogether, of_session}
-use Rattle.byte_locks.specs.LockList.{LockList, without}
+use Rattle.byte_locks.specs.LockEntry.{of_session}
+use Rattle.byte_locks.specs.LockList.{IsLockList, LockList, without}
+use Rattle.byte_locks.proofs.Releases.{IsLockList-filter}
 use Rattle.lf_sqlite_pages.specs.Image.{DatabaseImage}
 use Rattle.lf_sqlite_pages.specs.PageSize.{IsPageSize}
 use Rattle.database_file.specs.DatabaseFile.{DatabaseFile, FitsShape, KeepsDifferences, KeepsNothing, clean, is_clean}
@@ -21,7 +20,6 @@ use Rattle.file_view.specs.Acting.{is_writer, settled_database, while_exclusive}
 use Rattle.file_view.specs.Endings.{applied, ended}
 use Rattle.file_view.specs.Overlay.{FitsImage, IsOverImage}
 use Rattle.file_view.specs.Served.{Served, log_text, waits}
-use Rattle.world_laws.specs.Served.{ShareForReading}
 
 nothing : (file : DatabaseFile) → KeepsNothing (clean file)
 nothing file = cleared_keeps_nothing (clean file) 0 refl refl
@@ -72,25 +70,22 @@ module _ (s : Served) (session : ℕ) where
   pub ended-writer : s.writer ≡ None → (ended s session).writer ≡ None
   ended-writer none = ap (while_exclusive left) none
 
--- the locks that are left are shared as they were
-pub ended-shares : (s : Served) (session : ℕ) → ShareForReading s.locks → ShareForReading (ended s session).locks
-ended-shares s session shares =
-    let stays : LockEntry → Bool = λ e. not (of_session session e.owner e.lock) in
-    All-filter stays (λ a. All (MayStandTogether a) (filter stays s.locks)) s.locks
-    (All-weaker (λ a. All (MayStandTogether a) s.locks) (λ a. All (MayStandTogether a) (filter stays s.locks)) (λ a all. All-filter stays (MayStandTogether a) s.locks all) s.locks shares)
+-- the locks that are left are a lock list
+pub ended-locked : (s : Served) (session : ℕ) → IsLockList s.locks → IsLockList (ended s session).locks
+ended-locked s session list = IsLockList-filter _ s.locks list
 
 -- a file without what it keeps is clean
 pub clean-clean : (file : DatabaseFile) → is_clean (clean file) ≡ true
 clean-clean file = rw (pages.len-empty nat_cmp (List ℕ)) refl
 
-none-in : {X : Type 0} (o : Option X) → is_some o ≡ false → o ≡ None
+pub none-in : {X : Type 0} (o : Option X) → is_some o ≡ false → o ≡ None
 none-in None none = refl
 none-in (Some x) none = absurd (true_false none)
   where
     true_false : true ≡ false → ⊥
     true_false same = cc
 
-either : (a b : Bool) → (a || b) ≡ false → (a ≡ false) × (b ≡ false)
+pub either : (a b : Bool) → (a || b) ≡ false → (a ≡ false) × (b ≡ false)
 either false false none = (refl, refl)
 either false true none = absurd (true_false none)
   where

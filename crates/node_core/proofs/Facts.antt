@@ -14,6 +14,7 @@ use Rattle.world_laws.specs.Step.{Makes, MayTryMore, Steady, nothing}
 use Rattle.world_laws.specs.Store.{FailedBefore, FailedIn, Failure, PruneTo, StoreCall, begun_by, broken_by}
 use Rattle.node_core.specs.Safely.{StepsSafely}
 use Rattle.node_core.specs.Stores.{OnlyRead}
+use Rattle.node_core.proofs.Calls.{Begins}
 
 none_some : {X : Type 0} (x : X) → None ≡ Some x → ⊥
 none_some x same = cc
@@ -145,7 +146,7 @@ module _ (old new : NodeState) (start mid end : History) (read : OnlyRead start 
       }
 
       -- a call and a prune behind it
-      pub calls-pruned : {T : Type 0} (result : Result T StoreFault) → WentPruned old.store old.failed mid call keep result new.store new.failed end → (IsSome new.failed → Rose old.faults new.faults)
+      pub calls-pruned : {T : Type 0} (result : Result T StoreFault) → WentPruned old.store old.failed mid call keep result new.store new.failed end → (Begins result → IsSome new.failed → Rose old.faults new.faults)
           → (result ≡ Err fault.Disk → Rose old.faults new.faults) → StepsSafely old File (answer_for result) new start end
       calls-pruned (Ok told) (inl all) broke rose = steps old new File Done Primary (call ∷ PruneTo keep ∷ []) None start mid end read all record {
         makes = both;
@@ -156,6 +157,6 @@ module _ (old new : NodeState) (start mid end : History) (read : OnlyRead start 
         steady = leading old new primary;
         keeps = sound;
       }
-      calls-pruned (Ok told) (inr (inl before)) broke rose = pruned FailedBefore makes (broke (some-now FailedBefore before.broken)) before
-      calls-pruned (Ok told) (inr (inr within)) broke rose = pruned (FailedIn (PruneTo keep)) both (broke (some-now (FailedIn (PruneTo keep)) within.broken)) within
+      calls-pruned (Ok told) (inr (inl before)) broke rose = pruned FailedBefore makes (broke tt (some-now FailedBefore before.broken)) before
+      calls-pruned (Ok told) (inr (inr within)) broke rose = pruned (FailedIn (PruneTo keep)) both (broke tt (some-now (FailedIn (PruneTo keep)) within.broken)) within
       calls-pruned (Err why) went broke rose = calls (Err why) went rose

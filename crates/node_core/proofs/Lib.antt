@@ -1,6 +1,6 @@
 pub mod Reading
-pub mod Facts
 pub mod Calls
+pub mod Facts
 pub mod Overlay
 pub mod Sound
 pub mod Endings
@@ -8,3 +8,6 @@ pub mod Opened
 pub mod Dropped
 pub mod Steady
 pub mod Histories
+pub mod Leaving
+pub mod Answering
+pub mod Committed

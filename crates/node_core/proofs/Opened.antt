@@ -8,7 +8,7 @@ use Rattle.database_file.specs.DatabaseFile.{new_file}
 use Rattle.database_file.proofs.CleanLemmas.{clean-reads, new_keeps_nothing}
 use Rattle.database_under_log.proofs.KeepLemmas.{clean-agrees, empty_none}
 use Rattle.file_view.specs.Overlay.{FitsImage, IsOverImage}
-use Rattle.world_laws.specs.Served.{ShareForReading}
+use Rattle.byte_locks.specs.LockList.{IsLockList}
 use Rattle.node_core.specs.declared.config.NodeConfig.{NodeConfig}
 use Rattle.node_core.specs.Nodes.{file_over, frames_of, seen}
 use Rattle.node_core.specs.Opening.{opened, seen_opened}
@@ -45,5 +45,12 @@ module _ (store : StoreFields) (config : NodeConfig) where
   opened-seen h = ap (λ served. record (seen_opened h store config) { served = served })
       (λ i. record { file = file-same (state h store).image i; frames = frames-none i; locks = []; writer = None })
 
-pub shares-none : ShareForReading []
-shares-none = λ k d within. absurd (omega (arith, within))
+pub locked-none : IsLockList []
+locked-none = record {
+  together = λ k d within. absurd (less k within);
+  once = λ owner lock. omega arith;
+  bounded = λ lock. omega arith;
+}
+  where
+    less : (k : ℕ) → k < 0 → ⊥
+    less k within = omega (arith, within)

@@ -22,11 +22,11 @@ steps-still old new ask answer start end read store failed rests says =
     says
 
 -- nothing that a reader sees is touched
-pub steady-files : (start end : History) (old : NodeParts) (store : StoreFields) (files : Served) → state end store ≡ state start old.store → files.database ≡ old.files.database → log_text files ≡ log_text old.files
+pub steady-files : (start end : History) (old : NodeParts) (store : StoreFields) (files : Served) → state end store ≡ state start old.store → files.database ≡ old.files.database → frames_of (log_text files) ≡ frames_of (log_text old.files)
     → Steady (seen start old) (seen end (record old { files = files; store = store }))
-steady-files start end old store files same database log = record {
+steady-files start end old store files same database frames = record {
   position = ap (λ s. at s) same;
   image = ap (λ s. s.image) same;
   file = λ i. file_over (database i) (same i).image;
-  frames = ap frames_of log;
+  frames = frames;
 }

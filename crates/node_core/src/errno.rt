@@ -10,7 +10,7 @@ const EIO: Errno = Errno(5);
 
 pub const EAGAIN: Errno = Errno(11);
 
-pub const ENOMEM: Errno = Errno(12);
+const ENOMEM: Errno = Errno(12);
 
 const EFBIG: Errno = Errno(27);
 

@@ -2,7 +2,7 @@ ghost use Rattle.std.specs.Prelude.{◌≡◌, false, None, IsTrue};
 ghost use Rattle.std.proofs.Props.{props};
 ghost use Rattle.file_view.specs.Overlay.{FitsImage, IsOverImage};
 ghost use Rattle.file_view.specs.Served.{waits};
-ghost use Rattle.world_laws.specs.Served.{ShareForReading};
+ghost use Rattle.byte_locks.specs.LockList.{IsLockList};
 ghost use Rattle.node_core.specs.Stores.{fields_of, history_of, position, state};
 
 use crate::config::NodeConfig;
@@ -29,5 +29,5 @@ pub struct Node<D: Disk> {
     ghost told: { view.position ≡ position (fields_of store) },
     ghost replica: { config.candidate ≡ false → view.writer ≡ None } by { Prim.hlevel props },
     ghost idle: { waits view ≡ false },
-    ghost shares: { ShareForReading view.locks } by { Prim.hlevel props },
+    ghost locked: { IsLockList view.locks } by { Prim.hlevel props },
 }

@@ -8,8 +8,10 @@ ghost use Rattle.world_laws.specs.Node as laws;
 
 use crate::answer::Answer;
 use crate::ask::Ask;
-use crate::errno::ENOMEM;
+use crate::errno::{errno_of_store, errno_of_view};
+use crate::lending::prepare;
 use crate::node::Node;
+use file_view::{Plan, replica_requests_leave_the_database};
 use fuse_msgs::Request;
 use lf_disk::Disk;
 
@@ -21,8 +23,36 @@ impl<D: Disk> Node<D> {
             (law_answer result) (seen (history self.new) (parts_of self.new)) (history self.old) (history self.new) }
         ensures honest { D.honest self.new.store.disk ≡ D.honest self.old.store.disk }
     {
-        let _stub = (caller, request.node);
-        Answer::Refuse(ENOMEM)
+        replica_requests_leave_the_database();
+        match prepare(
+            &mut self.store,
+            &mut self.view,
+            self.alloc,
+            caller,
+            &self.config,
+            request,
+        ) {
+            Ok(Plan::Reply(reply)) => Answer::Done(reply),
+            Ok(Plan::Silent) => Answer::Quiet,
+            Ok(Plan::Commit { reply, change }) => {
+                let kept = self.config.retention.max(1);
+                match self
+                    .store
+                    .commit_and_prune(&change, self.moment, self.config.node, kept)
+                {
+                    Ok(position) => {
+                        self.view.commit_done();
+                        self.view.told_position(position);
+                        Answer::Done(reply)
+                    }
+                    Err(fault) => {
+                        self.view.abandon();
+                        Answer::Refuse(errno_of_store(fault))
+                    }
+                }
+            }
+            Err(fault) => Answer::Refuse(errno_of_view(fault)),
+        }
     }
 
     /// Answers a request, at a moment.

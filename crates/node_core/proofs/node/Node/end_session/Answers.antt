@@ -3,13 +3,13 @@ use Rattle.file_view.specs.Endings.{ended}
 use Rattle.file_view.specs.Overlay.{FitsImage, IsOverImage}
 use Rattle.file_view.specs.Served.{Served, waits}
 use Rattle.world_laws.specs.Node as laws
-use Rattle.world_laws.specs.Served.{ShareForReading}
+use Rattle.byte_locks.specs.LockList.{IsLockList}
 use Rattle.node_core.specs.declared.answer.Answer.TheVariants as answers
 use Rattle.node_core.specs.declared.ask.Ask.TheVariants as asks
 use Rattle.node_core.specs.Nodes.{parts_of, seen}
 use Rattle.node_core.specs.Steps.{IsStep}
 use Rattle.node_core.specs.Stores.{fields_of, history_of, state}
-use Rattle.node_core.proofs.Endings.{ended-file, ended-fits, ended-over, ended-shares, ended-writer}
+use Rattle.node_core.proofs.Endings.{ended-file, ended-fits, ended-over, ended-locked, ended-writer}
 use Rattle.node_core.proofs.Reading.{rests_stay}
 use Rattle.node_core.proofs.Sound.{no_candidate, sound}
 use Rattle.node_core.proofs.Facts.{says-none}
@@ -26,7 +26,7 @@ invariant_of-self g c =
       told = ap (λ (s : Served). s.position) is ∙ n.told;
       replica = λ not. ap (λ (s : Served). s.writer) is ∙ ended-writer n.view c.args.caller (n.replica not);
       idle = ap waits is ∙ n.idle;
-      shares = subst (λ (s : Served). ShareForReading s.locks) (sym is) (ended-shares n.view c.args.caller n.shares);
+      locked = subst (λ (s : Served). IsLockList s.locks) (sym is) (ended-locked n.view c.args.caller n.locked);
     }
 
 pub returns : goal.returns
@@ -44,7 +44,7 @@ returns g c =
             steps-still (seen h old) (seen h (record old { files = files })) laws.EndSession laws.Done h h ∣ rests_stay h ∣₁ refl refl (n.store.left honest)
             (says-none (seen h old) (seen h (record old { files = files })) (seen h old).role laws.EndSession laws.Done tt tt
             (λ plain still. steady-files h h old old.store files refl (ended-file n.view c.args.caller (n.replica (no_candidate n.config.candidate plain.role))) refl)
-            (sound h (record old { files = files }) (ended-over n.view c.args.caller image (n.image honest)) (ended-shares n.view c.args.caller n.shares)
+            (sound h (record old { files = files }) (ended-over n.view c.args.caller image (n.image honest)) (ended-locked n.view c.args.caller n.locked).together
             (λ not. ended-writer n.view c.args.caller (n.replica not))));
         honest = refl;
       };

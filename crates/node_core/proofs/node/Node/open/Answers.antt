@@ -1,11 +1,11 @@
 use Rattle.std.proofs.Common.{◌≡◌, ◌∙◌, ap, subst, sym}
 use Rattle.file_view.specs.Overlay.{FitsImage, IsOverImage}
 use Rattle.file_view.specs.Served.{Served, waits}
-use Rattle.world_laws.specs.Served.{ShareForReading}
+use Rattle.byte_locks.specs.LockList.{IsLockList}
 use Rattle.node_core.specs.Nodes.{seen}
 use Rattle.node_core.specs.Opening.{opened}
 use Rattle.node_core.specs.Stores.{fields_of, history_of, state}
-use Rattle.node_core.proofs.Opened.{opened-fits, opened-over, opened-seen, shares-none}
+use Rattle.node_core.proofs.Opened.{opened-fits, opened-over, opened-seen, locked-none}
 use Rattle.node_core.proofs.node.Node.open.Goals as goal
 
 pub invariant_of-result : goal.invariant_of-result
@@ -20,7 +20,7 @@ invariant_of-result g c =
       told = ap (λ (s : Served). s.position) is;
       replica = λ not. ap (λ (s : Served). s.writer) is;
       idle = ap waits is;
-      shares = subst (λ (s : Served). ShareForReading s.locks) (sym is) shares-none;
+      locked = subst (λ (s : Served). IsLockList s.locks) (sym is) locked-none;
     }
 
 pub returns-in-Ok-clause-seen : goal.returns-in-Ok-clause-seen

@@ -20,7 +20,7 @@ returns g c =
         safe = λ honest.
             steps-still (seen h old) (seen h old) laws.Where laws.Done h h ∣ rests_stay h ∣₁ refl refl (n.store.left honest)
             (says-none (seen h old) (seen h old) (seen h old).role laws.Where laws.Done tt tt (λ plain still. steady-files h h old old.store old.files refl refl refl)
-            (sound h old (n.image honest) n.shares n.replica));
+            (sound h old (n.image honest) n.locked.together n.replica));
         honest = refl;
       };
     }

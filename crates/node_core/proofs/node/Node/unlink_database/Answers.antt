@@ -8,7 +8,7 @@ use Rattle.file_view.specs.Served.{Served, waits}
 use Rattle.txn_log.specs.Store.{end_of_entries}
 use Rattle.txn_log.proofs.Entries.{end-empty}
 use Rattle.world_laws.specs.Node as laws
-use Rattle.world_laws.specs.Served.{ShareForReading}
+use Rattle.byte_locks.specs.LockList.{IsLockList}
 use Rattle.world_laws.specs.Step.{unlinks}
 use Rattle.txn_log.specs.declared.fault.StoreFault.TheVariants as fault
 use Rattle.world_laws.specs.Store.{DropAll, StoreState}
@@ -31,7 +31,7 @@ returns-in-Some-clause-safe g c honest =
     let old = parts_of n in
     steps-still (seen h old) (seen h old) laws.File (laws.Refused laws.Other) h h ∣ rests_stay h ∣₁ refl refl (n.store.left honest)
     (says-none (seen h old) (seen h old) (seen h old).role laws.File (laws.Refused laws.Other) tt refl (λ plain still. steady-files h h old old.store old.files refl refl refl)
-    (sound h old (n.image honest) n.shares n.replica))
+    (sound h old (n.image honest) n.locked.together n.replica))
 
 pub returns-then-pos-eq0-clause-safe : goal.returns-then-pos-eq0-clause-safe
 returns-then-pos-eq0-clause-safe g c honest =
@@ -40,7 +40,7 @@ returns-then-pos-eq0-clause-safe g c honest =
     let old = parts_of n in
     steps-still (seen h old) (seen h old) laws.File laws.Done h h ∣ rests_stay h ∣₁ refl refl (n.store.left honest)
     (says-none (seen h old) (seen h old) (seen h old).role laws.File laws.Done tt tt (λ plain still. steady-files h h old old.store old.files refl refl refl)
-    (sound h old (n.image honest) n.shares n.replica))
+    (sound h old (n.image honest) n.locked.together n.replica))
 
 pub invariant_of-self-in-Ok : goal.invariant_of-self-in-Ok
 invariant_of-self-in-Ok g c =
@@ -57,7 +57,7 @@ invariant_of-self-in-Ok g c =
       told = ap (λ (s : Served). s.position) is ∙ c.pos-in-Ok.ensures.value;
       replica = λ not. ap (λ (s : Served). s.writer) is;
       idle = ap waits is ∙ applied-idle n.view 0 0 n.idle;
-      shares = subst (λ (s : Served). ShareForReading s.locks) (sym is) n.shares;
+      locked = subst (λ (s : Served). IsLockList s.locks) (sym is) n.locked;
     }
 
 pub returns-in-Ok-clause-does : goal.returns-in-Ok-clause-does
@@ -105,7 +105,7 @@ returns-in-Ok-clause-safe g c honest =
     let allowed : IsAllowed (unlink_rows old) = sym c.unlink_refusal.ensures ∙ c.in_default.is in
     let primary = leads n.config.candidate (leads-allowed old allowed) in
     calls (seen h old) (seen end new) h h end ∣ rests_stay h ∣₁ primary
-    (sound end new (subst (λ (s : Served). IsOverImage s image) (sym is) (dropped-over n.view at image)) (subst (λ (s : Served). ShareForReading s.locks) (sym is) n.shares)
+    (sound end new (subst (λ (s : Served). IsOverImage s image) (sym is) (dropped-over n.view at image)) (subst (λ (s : Served). IsLockList s.locks) (sym is) n.locked).together
     (λ not. ap (λ (s : Served). s.writer) is))
     DropAll unlinks {T = Unit {0}} (Ok tt) (c.in-Ok.ensures.went honest) (λ same. absurd (ok_err tt fault.Disk same))
 
@@ -150,6 +150,6 @@ returns-in-Err-clause-safe g c honest =
     let still : state end (fields_of t) ≡ state h old.store =
     err-same (Unit {0}) (state h old.store) (state end (fields_of t)) (failed h old.store) (failed end (fields_of t)) DropAll c.in-Err.fault (drop-changes h end old.store (fields_of t) {T = Unit {0}} (Err c.in-Err.fault) c.in-Err.ensures.drops (c.in-Err.ensures.went honest)) in
     calls (seen h old) (seen end new) h h end ∣ rests_stay h ∣₁ primary
-    (sound end new (subst (λ (s : StoreState). IsOverImage n.view s.image) (sym still) (n.image honest)) n.shares n.replica)
+    (sound end new (subst (λ (s : StoreState). IsOverImage n.view s.image) (sym still) (n.image honest)) n.locked.together n.replica)
     DropAll unlinks {T = Unit {0}} (Err c.in-Err.fault) (c.in-Err.ensures.went honest)
     (disk-rose {T = Unit {0}} n.store.broken t.broken old.store.faults (fields_of t).faults (Err c.in-Err.fault) c.in-Err.ensures.cause)

@@ -1,0 +1,128 @@
+-- A request that commits nothing, and what is common to all requests.
+use Rattle.std.proofs.Common.{◌≡◌, ◌∙◌, ℕ, Bool, true, false, IsTrue, List, [], inl, inr, Option, None, Some, refl, sym, ap, subst, arith}
+use Rattle.std.specs.Prelude.{IfSome, nat_lt, if◌then◌else◌}
+use Rattle.std.specs.Option.{option_map}
+use Rattle.std.proofs.lemmas.Bool.{cases_Bool}
+use Rattle.std.proofs.lemmas.Bool.Decides.{nat_tests}
+use Rattle.lf_disk.specs.History.{History}
+use Rattle.lf_sqlite_pages.specs.Apply.{apply}
+use Rattle.lf_sqlite_pages.specs.Image.{DatabaseImage}
+use Rattle.fuse_msgs.specs.declared.reply.Reply.{Reply}
+use Rattle.fuse_msgs.specs.declared.request.Request.{Request}
+use Rattle.lf_sqlite_pages.specs.Change.{PageChange}
+use Rattle.file_view.specs.declared.plan.Plan.{Plan}
+use Rattle.file_view.specs.declared.plan.Plan.TheVariants as plan
+use Rattle.file_view.specs.declared.role.Role.TheVariants as role
+use Rattle.file_view.specs.declared.scene.Scene.{Scene}
+use Rattle.file_view.specs.Done.{IsDone}
+use Rattle.file_view.specs.Overlay.{FitsImage, IsOverImage, StandsOver}
+use Rattle.file_view.specs.Refusal.{IsAllowed}
+use Rattle.file_view.specs.Requests.{rows_of}
+use Rattle.file_view.specs.Served.{Served, has_committed_frames, log_text, waits}
+use Rattle.file_view.specs.Steady.{CommitsNothing, IsQuiet, SameDatabase}
+use Rattle.txn_log.specs.Calls.{RestsAs}
+use Rattle.wal_watch.specs.Frames.{committed_count}
+use Rattle.world_laws.specs.Answers.{Answers, LeavesUndone}
+use Rattle.world_laws.specs.Node as laws
+use Rattle.world_laws.specs.Served.{ShareForReading}
+use Rattle.world_laws.specs.Store.{MayBeFound, StoreState}
+use Rattle.node_core.specs.Files.{IsPlanned, scene, told}
+use Rattle.node_core.specs.Nodes.{NodeParts, frames_of, seen}
+use Rattle.node_core.specs.Roles.{role_by}
+use Rattle.node_core.specs.Safely.{StepsSafely}
+use Rattle.node_core.specs.Stores.{IsRead, StoreFields, failed, position, state}
+use Rattle.node_core.proofs.Facts.{says-none}
+use Rattle.node_core.proofs.Leaving.{Leaves, leaves}
+use Rattle.node_core.proofs.Sound.{no_candidate, sound}
+use Rattle.node_core.proofs.Steady.{steady-files, steps-still}
+
+-- what is told of an image, where the disk is honest
+pub told-image : (h : History) (s : StoreFields) (P : DatabaseImage → Type 0) → IsTrue s.honest → IfSome (told h s) P → P (state h s).image
+told-image h s P honest holds = go s.honest honest holds where
+  go : (b : Bool) → IsTrue b → IfSome (if b then Some (state h s).image else None) P → P (state h s).image
+  go true honest holds = holds
+  go false honest holds = absurd (let no : false ≡ true = honest in cc)
+
+-- and of the image that a change leads to
+pub told-after : (h : History) (s : StoreFields) (change : PageChange) (P : DatabaseImage → Type 0) → IsTrue s.honest → IfSome (option_map (λ i. apply i change) (told h s)) P → P (apply (state h s).image change)
+told-after h s change P honest holds = go s.honest honest holds where
+  go : (b : Bool) → IsTrue b → IfSome (option_map (λ i. apply i change) (if b then Some (state h s).image else None)) P → P (apply (state h s).image change)
+  go true honest holds = holds
+  go false honest holds = absurd (let no : false ≡ true = honest in cc)
+
+no-frames : (text : List ℕ) → nat_lt 0 (committed_count text) ≡ false → frames_of text ≡ None
+no-frames text none =
+    let zero : committed_count text ≡ 0 = grind (arith, nat_tests, none) in
+    rw zero refl
+
+-- the committed frames of a log that stays
+pub frames-same : (old new : Served) → SameDatabase old new → frames_of (log_text new) ≡ frames_of (log_text old)
+frames-same old new same = elim (cases_Bool (has_committed_frames old)) [
+  | inl some ↦ ap frames_of (same.frames some)
+  | inr none ↦ no-frames (log_text new) (same.no_frames none) ∙ sym (no-frames (log_text old) none)
+]
+
+-- a request that commits nothing, or is refused: pages were read at most, and at a replica a reader sees what it saw
+pub reads-safely : (start mid : History) (old : NodeParts) (store : StoreFields) (files : Served) (answer : laws.Answer) → IsTrue old.store.honest → IsRead start old.store mid store
+    → RestsAs (MayBeFound (state mid store) (failed mid store)) mid → IsOverImage files (state mid store).image → ShareForReading files.locks → (old.config.candidate ≡ false → files.writer ≡ None)
+    → (old.config.candidate ≡ false → (files.database ≡ old.files.database) × (frames_of (log_text files) ≡ frames_of (log_text old.files)))
+    → Answers (seen start old) (seen start old).role laws.File [] None answer (seen mid (record old { store = store; files = files })) → LeavesUndone answer []
+    → StepsSafely (seen start old) laws.File answer (seen mid (record old { store = store; files = files })) start mid
+reads-safely start mid old store files answer honest read rests over shares replica same answers undone =
+    let new : NodeParts = record old { store = store; files = files } in
+    steps-still (seen start old) (seen mid new) laws.File answer start mid read.rests (read.state honest) (read.failed honest) rests
+    (says-none (seen start old) (seen mid new) (seen start old).role laws.File answer answers undone
+    (λ plain still. let both = same (no_candidate old.config.candidate plain.role) in steady-files start mid old store files (read.state honest) both.0 both.1)
+    (sound mid new over shares replica))
+
+-- the law of the files at a replica
+abbrev pub LeavesReplica : Type 0
+LeavesReplica = (told : Option DatabaseImage) (old new : Served) (scene : Scene) (request : Request) (p : Plan) → scene.role ≡ role.Replica → IsQuiet old → IsAllowed (rows_of old scene request)
+    → IsDone told old scene request p new → SameDatabase old new × IsQuiet new × CommitsNothing p
+
+-- a node before a request, and its request prepared over pages that were read
+pub record Prepared (start : History) (old : NodeParts) (caller : ℕ) (request : Request) (p : Plan) (files : Served) (mid : History) (store : StoreFields) : Type 0 where
+  pub read : IsRead start old.store mid store
+  pub planned : IsPlanned start old caller request p files
+  pub stands : StandsOver (told start old.store) old.store.page_size old.store.commit files
+  pub told_position : old.files.position ≡ position old.store
+  pub replica : old.config.candidate ≡ false → old.files.writer ≡ None
+  pub idle : waits old.files ≡ false
+
+module _ (law : LeavesReplica) (start mid : History) (old : NodeParts) (store : StoreFields) (files : Served) (caller : ℕ) (request : Request) (p : Plan)
+    (prepared : Prepared start old caller request p files mid store) where
+  -- at a replica the database stays, nobody writes, and nothing is to be committed
+  pub quiet : old.config.candidate ≡ false → SameDatabase old.files files × IsQuiet files × CommitsNothing p
+  quiet not =
+      law (told start old.store) old.files files (scene old caller) request p (ap role_by not) (record { alone = prepared.replica not; free = prepared.idle }) prepared.planned.allowed prepared.planned.done
+
+  pub left : Leaves old.files p files
+  left = leaves (told start old.store) old.files (scene old caller) prepared.idle request.node request.op p files prepared.planned.allowed prepared.planned.done
+
+  -- the store's shape and its image are as before
+  pub shape-read : FitsImage files store.page_size store.commit
+  shape-read =
+      subst (λ (s : StoreFields). FitsImage files s.page_size s.commit) (sym prepared.read.same) prepared.stands.shape
+
+  pub image-read : IsTrue store.honest → IsOverImage files (state mid store).image
+  image-read still =
+      let honest : IsTrue old.store.honest = sym (ap (λ (s : StoreFields). s.honest) prepared.read.same) ∙ still in
+      subst (λ (s : StoreState). IsOverImage files s.image) (sym (prepared.read.state honest)) (told-image start old.store (λ i. IsOverImage files i) honest prepared.stands.image)
+
+  pub position-read : files.position ≡ position store
+  position-read = left.position ∙ prepared.told_position ∙ sym (ap position prepared.read.same)
+
+  -- only a primary commits
+  pub primary : (r : Reply) (change : PageChange) → p ≡ plan.Commit r change → old.config.candidate ≡ true
+  primary r change is = go old.config.candidate refl where
+    go : (b : Bool) → old.config.candidate ≡ b → b ≡ true
+    go true candidate = refl
+    go false candidate = absurd (subst CommitsNothing is (quiet candidate).2)
+
+  -- a step that commits nothing
+  pub plan-safely : (answer : laws.Answer) → IsTrue old.store.honest → RestsAs (MayBeFound (state mid store) (failed mid store)) mid → ShareForReading files.locks
+      → Answers (seen start old) (seen start old).role laws.File [] None answer (seen mid (record old { store = store; files = files })) → LeavesUndone answer []
+      → StepsSafely (seen start old) laws.File answer (seen mid (record old { store = store; files = files })) start mid
+  plan-safely answer honest rests shares answers undone =
+      reads-safely start mid old store files answer honest prepared.read rests (image-read (ap (λ (s : StoreFields). s.honest) prepared.read.same ∙ honest)) shares
+      (λ not. (quiet not).1.alone) (λ not. let same = (quiet not).0 in (same.file, frames-same old.files files same)) answers undone

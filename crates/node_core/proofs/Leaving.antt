@@ -1,0 +1,243 @@
+-- What every request leaves as it was: the position that was told, that nothing waits but for what is to be committed, and that
+-- the locks are a lock list.
+use Rattle.std.proofs.Common.{◌≡◌, ◌∙◌, ℕ, ◌/◌, Bool, true, false, length, List, [], ◌∷◌, Option, Some, None, inl, inr, refl, sym, ap, subst}
+use Rattle.std.specs.Prelude.{is_some, not, IsSomeAnd, if◌then◌else◌}
+use Rattle.std.proofs.lemmas.Bool.{cases_Bool}
+use Rattle.byte_locks.specs.declared.lock_bytes.FileKind.{FileKind}
+use Rattle.byte_locks.specs.declared.lock_bytes.FileKind.TheVariants as file
+use Rattle.byte_locks.specs.declared.owner.Owner.{Owner}
+use Rattle.byte_locks.specs.declared.lock_kind.LockKind.{LockKind}
+use Rattle.byte_locks.specs.declared.lock_kind.LockKind.TheVariants as kind
+use Rattle.byte_locks.specs.LockList.{IsLockList, conflict, first_full, granted}
+use Rattle.byte_locks.specs.LockSet.{Marks}
+use Rattle.byte_locks.proofs.Grants.{IsLockList-granted}
+use Rattle.byte_locks.proofs.Releases.{IsLockList-filter}
+use Rattle.file_handles.specs.Handles.{OpenHandles, opened}
+use Rattle.file_handles.specs.Names.{file_named}
+use Rattle.file_handles.specs.Nodes.{file_at}
+use Rattle.fuse_msgs.specs.declared.reply.Reply.{Reply}
+use Rattle.fuse_msgs.specs.declared.request.LockWish.{LockWish}
+use Rattle.fuse_msgs.specs.declared.request.LockWish.TheVariants as wish
+use Rattle.fuse_msgs.specs.declared.request.Op.{Op}
+use Rattle.fuse_msgs.specs.declared.request.Op.TheVariants as op
+use Rattle.lf_sqlite_pages.specs.Change.{PageChange}
+use Rattle.lf_sqlite_pages.specs.Image.{DatabaseImage}
+use Rattle.file_view.specs.declared.journal.JournalCall.{JournalCall}
+use Rattle.file_view.specs.declared.journal.JournalCall.TheVariants as call
+use Rattle.file_view.specs.declared.plan.Plan.{Plan}
+use Rattle.file_view.specs.declared.plan.Plan.TheVariants as plan
+use Rattle.file_view.specs.declared.scene.Scene.{Scene}
+use Rattle.file_view.specs.DatabaseRules.{DatabaseSized, database_write_rows, resizes, sized_write_rows, write_size, writer_after}
+use Rattle.file_view.specs.Done.{IsDoneAt, IsReplied, IsSized, IsUnlinked, IsWritten, MayCommit, SizesDatabase, WritesDatabase}
+use Rattle.file_view.specs.Endings.{abandoned, committed}
+use Rattle.file_view.specs.Errno.{EBADF, EIO, EINVAL, ENOENT, EROFS}
+use Rattle.file_view.specs.HandleRules.{is_open_at, is_served}
+use Rattle.file_view.specs.JournalRules.{JournalDone, after_journal_call, ends_writing}
+use Rattle.file_view.specs.LockRules.{after_wish, grant_rows, locks_at, setlk_rows, wish_rows}
+use Rattle.file_view.specs.LogRules.{LogDone}
+use Rattle.file_view.specs.NameRules.{with_file}
+use Rattle.file_view.specs.Refusal.{Row, first_refusal}
+use Rattle.file_view.specs.Requests.{owner_of, rows_at, write_rows}
+use Rattle.file_view.specs.Roles.{is_replica}
+use Rattle.file_view.specs.Served.{Served, waits}
+use Rattle.file_view.proofs.RowLemmas.{none-holds}
+use Rattle.file_view.proofs.RequestLemmas.{rest-allowed, write-allowed}
+use Rattle.node_core.proofs.Endings.{either, none-in}
+
+-- whether anything waits afterwards: what is to be committed may be given up without a trace, and once it is done nothing waits
+abbrev pub Rests : Served → Plan → Served → Type 0
+Rests old (plan.Reply r) new = waits new ≡ false
+Rests old plan.Silent new = waits new ≡ false
+Rests old (plan.Commit r change) new = (abandoned new ≡ old) × (waits (committed new) ≡ false)
+
+pub record Leaves (old : Served) (p : Plan) (new : Served) : Type 0 where
+  pub position : new.position ≡ old.position
+  pub rests : Rests old p new
+  pub locks : IsLockList old.locks → IsLockList new.locks
+
+some_none : {X : Type 0} (x : X) → Some x ≡ None → ⊥
+some_none x same = cc
+
+module _ (told : Option DatabaseImage) (old : Served) (scene : Scene) (idle : waits old ≡ false) where
+  held : old.held_write ≡ None
+  held = none-in old.held_write (either (is_some old.held_write) (is_some old.journal.waiting) idle).0
+
+  free : old.journal.waiting ≡ None
+  free = none-in old.journal.waiting (either (is_some old.held_write) (is_some old.journal.waiting) idle).1
+
+  -- without anything that waits the files are as they were
+  given-up : record old { journal = record { file = old.journal.file; waiting = None }; held_write = None } ≡ old
+  given-up = λ i. record old { journal = record { file = old.journal.file; waiting = sym free i }; held_write = sym held i }
+
+  replied : (p : Plan) (r : Reply) (files new : Served) → files.position ≡ old.position → waits files ≡ waits old → (IsLockList old.locks → IsLockList files.locks) → IsReplied p r files new → Leaves old p new
+  replied p r files new position waiting locks done = record {
+    position = ap (λ (s : Served). s.position) done.files_are ∙ position;
+    rests = subst (λ (q : Plan). Rests old q new) (sym done.reply) (ap waits done.files_are ∙ waiting ∙ idle);
+    locks = λ list. subst (λ (s : Served). IsLockList s.locks) (sym done.files_are) (locks list);
+  }
+
+  stays : (p : Plan) (r : Reply) (new : Served) → p ≡ plan.Reply r → (new.position ≡ old.position) → waits new ≡ waits old → new.locks ≡ old.locks → Leaves old p new
+  stays p r new is position waiting locks = record {
+    position = position;
+    rests = subst (λ (q : Plan). Rests old q new) (sym is) (waiting ∙ idle);
+    locks = λ list. subst IsLockList (sym locks) list;
+  }
+
+  -- a call on the journal
+  called-position : (c : JournalCall) → (after_journal_call old c).position ≡ old.position
+  called-position c = elim (cases_Bool (ends_writing old c)) [ | inl ends ↦ rw ends refl | inr not ↦ rw not refl ]
+
+  called-locks : (c : JournalCall) → (after_journal_call old c).locks ≡ old.locks
+  called-locks c = elim (cases_Bool (ends_writing old c)) [ | inl ends ↦ rw ends refl | inr not ↦ rw not refl ]
+
+  called-waits : (c : JournalCall) → waits (after_journal_call old c) ≡ false
+  called-waits c = elim (cases_Bool (ends_writing old c)) [ | inl ends ↦ rw (ends, held) refl | inr not ↦ rw (not, held) refl ]
+
+  called : (c : JournalCall) (p : Plan) (r : Reply) (new : Served) → MayCommit p r (λ change. JournalDone told old scene c change new) → Leaves old p new
+  called c (plan.Reply given) r new done = record {
+    position = ap (λ (s : Served). s.position) done.1.1 ∙ called-position c;
+    rests = ap waits done.1.1 ∙ called-waits c;
+    locks = λ list. subst IsLockList (sym (ap (λ (s : Served). s.locks) done.1.1 ∙ called-locks c)) list;
+  }
+  called c plan.Silent r new done = absurd done
+  called c (plan.Commit given change) r new done = record {
+    position = ap (λ (s : Served). s.position) done.1.1;
+    rests = (ap abandoned done.1.1 ∙ given-up, ap (λ (s : Served). waits (committed s)) done.1.1 ∙ rw held refl);
+    locks = λ list. subst IsLockList (sym (ap (λ (s : Served). s.locks) done.1.1)) list;
+  }
+
+  -- a write to the log
+  logged : (place : ℕ) (bytes : List ℕ) (p : Plan) (r : Reply) (new : Served) → MayCommit p r (λ change. LogDone told old scene place bytes change new) → Leaves old p new
+  logged place bytes (plan.Reply given) r new done = record {
+    position = ap (λ (s : Served). s.position) done.1.1.state;
+    rests = ap waits done.1.1.state ∙ idle;
+    locks = λ list. subst IsLockList (sym (ap (λ (s : Served). s.locks) done.1.1.state)) list;
+  }
+  logged place bytes plan.Silent r new done = absurd done
+  logged place bytes (plan.Commit given change) r new done = record {
+    position = ap (λ (s : Served). s.position) done.1.1.state;
+    rests = (ap abandoned done.1.1.state ∙ given-up, ap (λ (s : Served). waits (committed s)) done.1.1.state ∙ rw free refl);
+    locks = λ list. subst IsLockList (sym (ap (λ (s : Served). s.locks) done.1.1.state)) list;
+  }
+
+  -- WRITE and SETATTR of the database file
+  sized-write : (given : Option ℕ) (place : ℕ) (bytes : List ℕ) (new : Served) (size : Option ℕ) → write_size old scene place bytes ≡ size → first_refusal (sized_write_rows old scene given place bytes size) ≡ None →
+      WritesDatabase told old scene place bytes new → new ≡ record old { database = new.database; writer = writer_after old }
+  sized-write given place bytes new None is none writes = absurd (some_none EINVAL none)
+  sized-write given place bytes new (Some size) is none writes = (writes size is).all.rest
+
+  database-written : (given : Option ℕ) (place : ℕ) (bytes : List ℕ) (new : Served) → first_refusal (database_write_rows old scene given place bytes) ≡ None → WritesDatabase told old scene place bytes new →
+      new ≡ record old { database = new.database; writer = writer_after old }
+  database-written given place bytes new none writes =
+      let rows : List Row = sized_write_rows old scene given place bytes (write_size old scene place bytes) in
+      sized-write given place bytes new (write_size old scene place bytes) refl
+      (rest-allowed (is_replica scene.role, EROFS) rows (rest-allowed (scene.is_broken, EIO) ((is_replica scene.role, EROFS) ∷ rows) none)) writes
+
+  sized-same : (size count : ℕ) (new : Served) → DatabaseSized told old scene size count new → (new.position ≡ old.position) × (waits new ≡ waits old) × (new.locks ≡ old.locks)
+  sized-same size count new sized = elim (cases_Bool (resizes old scene count)) [
+    | inl changes ↦ let is = (sized.resized changes).all.rest in (ap (λ (s : Served). s.position) is, ap waits is, ap (λ (s : Served). s.locks) is)
+    | inr same ↦ let is = sized.same same in (ap (λ (s : Served). s.position) is, ap waits is, ap (λ (s : Served). s.locks) is)
+  ]
+
+  database-sized : (len : ℕ) (new : Served) (size : Option ℕ) → write_size old scene 0 [] ≡ size → SizesDatabase told old scene len new → (new.position ≡ old.position) × (waits new ≡ waits old) × (new.locks ≡ old.locks)
+  database-sized len new None is sizes = let same = sizes.none is in (ap (λ (s : Served). s.position) same, ap waits same, ap (λ (s : Served). s.locks) same)
+  database-sized len new (Some size) is sizes = sized-same size (len / size) new (sizes.sized size is)
+
+  -- file by file
+  written : (f : Option FileKind) (given : Option ℕ) (place : ℕ) (bytes : List ℕ) (p : Plan) (new : Served) → first_refusal (write_rows old scene f given place bytes) ≡ None →
+      IsWritten told old scene f place bytes p new → Leaves old p new
+  written None given place bytes p new none done = absurd done
+  written (Some file.Database) given place bytes p new none done =
+      let is = database-written given place bytes new none done.1 in stays p _ new done.0 (ap (λ (s : Served). s.position) is) (ap waits is) (ap (λ (s : Served). s.locks) is)
+  written (Some file.Journal) given place bytes p new none done = called (call.Write place bytes) p _ new done
+  written (Some file.Wal) given place bytes p new none done = logged place bytes p _ new done
+  written (Some file.Shm) given place bytes p new none done = replied p _ _ new refl refl (λ l. l) done
+  written (Some file.PosFile) given place bytes p new none done = absurd done
+  written (Some file.LockFile) given place bytes p new none done = absurd done
+  written (Some file.Primary) given place bytes p new none done = absurd done
+
+  resized : (node : ℕ) (f : Option FileKind) (len : ℕ) (p : Plan) (new : Served) → IsSized told old scene node f len p new → Leaves old p new
+  resized node None len p new done = absurd done
+  resized node (Some file.Database) len p new done =
+      let same = database-sized len new (write_size old scene 0 []) refl done.1 in stays p _ new done.0 same.0 same.1 same.2
+  resized node (Some file.Journal) len p new done = called (call.Cut len) p _ new done
+  resized node (Some file.Wal) len p new done = replied p _ _ new refl refl (λ l. l) done
+  resized node (Some file.Shm) len p new done = replied p _ _ new refl refl (λ l. l) done
+  resized node (Some file.PosFile) len p new done = absurd done
+  resized node (Some file.LockFile) len p new done = absurd done
+  resized node (Some file.Primary) len p new done = absurd done
+
+  unlinked : (f : Option FileKind) (p : Plan) (new : Served) → IsUnlinked told old scene f p new → Leaves old p new
+  unlinked None p new done = absurd done
+  unlinked (Some file.Database) p new done = absurd done
+  unlinked (Some file.Journal) p new done = called call.Unlink p _ new done
+  unlinked (Some file.Wal) p new done = replied p _ _ new refl refl (λ l. l) done
+  unlinked (Some file.Shm) p new done = replied p _ _ new refl refl (λ l. l) done
+  unlinked (Some file.PosFile) p new done = absurd done
+  unlinked (Some file.LockFile) p new done = absurd done
+  unlinked (Some file.Primary) p new done = absurd done
+
+  -- locks that nothing stands against are granted
+  grants : (owner : Owner) (locks : Marks) (k : LockKind) → first_refusal (grant_rows old scene owner locks k) ≡ None → IsLockList old.locks → IsLockList (granted old.locks owner locks k)
+  grants owner locks k none list =
+      let fails = none-holds (grant_rows old scene owner locks k) none in
+      IsLockList-granted old.locks owner locks k list
+      (record { no_conflict = none-in (conflict old.locks owner locks k) fails.1.0; not_full = none-in (first_full old.locks owner locks) fails.1.1.0 })
+
+  wished : (owner : Owner) (locks : Marks) (w : LockWish) → first_refusal (wish_rows old scene owner locks w) ≡ None →
+      ((after_wish old owner locks w).position ≡ old.position) × (waits (after_wish old owner locks w) ≡ waits old) × (IsLockList old.locks → IsLockList (after_wish old owner locks w).locks)
+  wished owner locks wish.Read none = (refl, refl, grants owner locks kind.Read none)
+  wished owner locks wish.Write none = (refl, refl, grants owner locks kind.Write none)
+  wished owner locks wish.Unlock none = (refl, refl, IsLockList-filter _ old.locks)
+
+  wish-allowed : (node fh : ℕ) (owner : Owner) (locks : Marks) (w : LockWish) → first_refusal (setlk_rows old scene node fh owner locks w) ≡ None → first_refusal (wish_rows old scene owner locks w) ≡ None
+  wish-allowed node fh owner locks w none =
+      let rows : List Row = wish_rows old scene owner locks w in
+      rest-allowed (not (is_open_at old scene node fh), EBADF) rows
+      (rest-allowed (not (is_served old scene node), ENOENT) ((not (is_open_at old scene node fh), EBADF) ∷ rows) none)
+
+  created : (f : FileKind) (handles : OpenHandles) → ((record (with_file old f) { handles = handles }).position ≡ old.position) × (waits (record (with_file old f) { handles = handles }) ≡ waits old) × ((record (with_file old f) { handles = handles }).locks ≡ old.locks)
+  created file.Database handles = (refl, refl, refl)
+  created file.Journal handles = (refl, refl, refl)
+  created file.Wal handles = (refl, refl, refl)
+  created file.Shm handles = (refl, refl, refl)
+  created file.PosFile handles = (refl, refl, refl)
+  created file.LockFile handles = (refl, refl, refl)
+  created file.Primary handles = (refl, refl, refl)
+
+  on-file : (o : Option FileKind) (Does : FileKind → Type 0) (p : Plan) (new : Served) → ((f : FileKind) → Does f → Leaves old p new) → IsSomeAnd o Does → Leaves old p new
+  on-file None Does p new each done = absurd done
+  on-file (Some f) Does p new each done = each f done
+
+  -- EVERY REQUEST
+  pub leaves : (node : ℕ) (o : Op) (p : Plan) (new : Served) → first_refusal (rows_at old scene node o) ≡ None → IsDoneAt told old scene node o p new → Leaves old p new
+  leaves node (op.Lookup name) p new none done = on-file (file_named old.name name) _ p new (λ f d. replied p _ old new refl refl (λ l. l) d) done
+  leaves node op.Forget p new none done = record {
+    position = ap (λ (s : Served). s.position) done.1;
+    rests = subst (λ (q : Plan). Rests old q new) (sym done.0) (ap waits done.1 ∙ idle);
+    locks = λ list. subst (λ (s : Served). IsLockList s.locks) (sym done.1) list;
+  }
+  leaves node op.Getattr p new none done = replied p _ old new refl refl (λ l. l) done
+  leaves node (op.Setattr None given) p new none done = replied p _ old new refl refl (λ l. l) done
+  leaves node (op.Setattr (Some len) given) p new none done = resized node (file_at node) len p new done
+  leaves node (op.Unlink name) p new none done = unlinked (file_named old.name name) p new done
+  leaves node op.Open p new none done =
+      on-file (file_at node) _ p new (λ f d. replied p _ _ new refl refl (λ l. l) (record { reply = d.1.reply; files_are = d.1.opened.state })) done
+  leaves node (op.Read fh place size given) p new none done = on-file (file_at node) _ p new (λ f d. replied p _ old new refl refl (λ l. l) d.1.reply) done
+  leaves node (op.Write fh place given bytes) p new none done = written (file_at node) given place bytes p new (write-allowed old scene node fh place given bytes none) done
+  leaves node (op.Release fh owner) p new none done = replied p _ _ new refl refl (λ l. l) done
+  leaves node (op.Fsync fh) p new none done = replied p _ old new refl refl (λ l. l) done
+  leaves node (op.Flush fh owner) p new none done = on-file (file_at node) _ p new (λ f d. replied p _ _ new refl refl (IsLockList-filter _ old.locks) d) done
+  leaves node (op.Init major minor) p new none done = replied p _ old new refl refl (λ l. l) done
+  leaves node (op.Getlk fh owner start end w) p new none done = replied p _ old new refl refl (λ l. l) done
+  leaves node (op.Setlk fh owner start end w) p new none done =
+      let allowed = wish-allowed node fh (owner_of scene owner) (locks_at node start end) w none in
+      let same = wished (owner_of scene owner) (locks_at node start end) w allowed in replied p _ _ new same.0 same.1 same.2 done
+  leaves node (op.Setlkw fh owner start end w) p new none done =
+      let allowed = wish-allowed node fh (owner_of scene owner) (locks_at node start end) w none in
+      let same = wished (owner_of scene owner) (locks_at node start end) w allowed in replied p _ _ new same.0 same.1 same.2 done
+  leaves node (op.Create name) p new none done =
+      on-file (file_named old.name name) _ p new
+      (λ f d. let same = created f (opened old.handles scene.session d.0 f) in
+      replied p _ _ new same.0 same.1 (λ list. subst IsLockList (sym same.2) list) (record { reply = d.1.reply; files_are = d.1.created.state })) done
+  leaves node op.Destroy p new none done = replied p _ old new refl refl (λ l. l) done
