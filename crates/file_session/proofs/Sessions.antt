@@ -138,6 +138,6 @@ not_begun who turns here = record {
   place = here.place;
   left = turns;
   talked = nothing_said (IsRound who) here.place;
-  ending = starting refl refl;
+  ending = starting refl refl refl;
   spent = tt;
 }

@@ -56,14 +56,15 @@ message_writes who message start old new left ends.Worn t e = nothing_more who s
 message_writes who message start old new left ends.NoMemory t (inl u, more) = nothing_more who start old.place new.place.taken t u.written
 message_writes who message start old new left ends.NoMemory t (inr u, more) = part_more who message start old.place new.place t u
 
-end_writes : (who : Asker) (start : Place FileEntry) (old new : Stand) (left : ℕ) (end : SessionEnd) → Talked (IsRound who) start old.place → Ends who old new left end
-    → WritesReplies who start.taken new.place.taken
-end_writes who start old new left end t (starting is same) =
-    nothing_more who start old.place new.place.taken t (subst (λ (s : Stand). Keeps old.place.taken s.place.taken) (sym same) (Keeps-refl old.place.taken))
-end_writes who start old new left end t (reading cause silent) = nothing_more who start old.place new.place.taken t silent.written
-end_writes who start old new left end t (answering message ahead whole read ended) = message_writes who message start old new left end t ended
+end_writes : (who : Asker) (start old new : Stand) (left : ℕ) (end : SessionEnd) → Talked (IsRound who) start.place old.place → Ends who start old new left end
+    → WritesReplies who start.place.taken new.place.taken
+end_writes who start old new left end t (starting is here same) =
+    nothing_more who start.place old.place new.place.taken t
+    (subst (λ (s : Stand). Keeps s.place.taken new.place.taken) (sym here) (subst (λ (s : Stand). Keeps start.place.taken s.place.taken) (sym same) (Keeps-refl start.place.taken)))
+end_writes who start old new left end t (reading cause silent) = nothing_more who start.place old.place new.place.taken t silent.written
+end_writes who start old new left end t (answering message ahead whole read ended) = message_writes who message start.place old new left end t ended
 
 pub session_writes : (who : Asker) (budget : ℕ) (old new : Stand) (end : SessionEnd) → IsSession who budget old new end → WritesReplies who old.place.taken new.place.taken
 session_writes who budget old new end s =
-    end_writes who old.place (record old { place = s.conversation.place }) (record new { place = record new.place { entries = s.said } }) s.conversation.left s.end
+    end_writes who old (record old { place = s.conversation.place }) (record new { place = record new.place { entries = s.said } }) s.conversation.left s.end
     s.conversation.talked s.conversation.ending

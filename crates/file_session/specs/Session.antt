@@ -17,19 +17,19 @@ use Rattle.file_session.specs.Stands.{FileEntry, Stand, Spends}
 
 -- why no more messages were answered, behind this place: there was no memory to begin with, no message could be read, or the next
 -- one was not answered whole
-pub data Ends (who : Asker) (place last : Stand) (turns : ℕ) (end : SessionEnd) : Type 0 where
-  starting : end ≡ ends.NoMemory → last ≡ place → Ends who place last turns end
+pub data Ends (who : Asker) (start place last : Stand) (turns : ℕ) (end : SessionEnd) : Type 0 where
+  starting : end ≡ ends.NoMemory → place ≡ start → last ≡ start → Ends who start place last turns end
   reading : EndsReading {T = Unit {0}} false IsPart IsRefused place.place.text last.place.text place.faults last.faults turns (Err end)
-      → IsSilent place.place last.place → Ends who place last turns end
+      → IsSilent place.place last.place → Ends who start place last turns end
   answering : (message ahead : List ℕ) → IsWholeMessage message → Consumes place.place.text last.place.text (message ++ ahead)
-      → EndsMessage {T = Unit {0}} who message place last turns (Err end) → Ends who place last turns end
+      → EndsMessage {T = Unit {0}} who message place last turns (Err end) → Ends who start place last turns end
 
 -- messages were answered, each in its turn, up to a place, where it ended so; and what became of the turns
 pub record Conversation (who : Asker) (turns : ℕ) (old new : Stand) (end : SessionEnd) : Type 0 where
   pub place : Place FileEntry
   pub left : ℕ
   pub talked : Talked (IsRound who) old.place place
-  pub ending : Ends who (record old { place = place }) new left end
+  pub ending : Ends who old (record old { place = place }) new left end
   pub spent : Spends {T = Unit {0}} turns old left new (Err end)
 
 -- the node is told of the end, and that is the last entry, unless no step can be taken
