@@ -1,10 +1,10 @@
 -- What stands once no rule refuses a change of the database file.
-use Rattle.std.proofs.Common.{◌≡◌, ◌≢◌, ℕ, suc, zero, ◌+◌, ◌-◌, ◌*◌, ◌/◌, ◌%◌, ◌<◌, ◌≤◌, ◌^◌, Bool, true, false, ◌&&◌, ◌||◌, not, length, List, [], ◌∷◌, inl, inr, Option, Some, None, refl, sym, ap, ◌∙◌, subst, arith}
+use Rattle.std.proofs.Common.{◌≡◌, ℕ, suc, ◌+◌, ◌-◌, ◌*◌, ◌/◌, ◌%◌, ◌<◌, ◌≤◌, ◌^◌, Bool, true, false, ◌&&◌, ◌||◌, not, length, List, inl, inr, Option, Some, None, refl, sym, ◌∙◌, subst, arith}
 use Rattle.std.specs.Prelude.{◌==◌, nat_lt, nat_le, is_some, IsSome, unwrap_or, if◌then◌else◌}
-use Rattle.std.specs.List.{list_any, list_all, range_with_len}
+use Rattle.std.specs.List.{list_all, range_with_len}
 use Rattle.std.specs.Option.{option_map}
 use Rattle.std.proofs.Math.Nat.{div-le_self, div-add-mod}
-use Rattle.std.proofs.lemmas.Bool.{cases_Bool, cases_eq, cases_lt, and_parts, cond-true, cond-false}
+use Rattle.std.proofs.lemmas.Bool.{cases_Bool, cases_eq, and_parts, cond-true, cond-false}
 use Rattle.std.proofs.lemmas.Bool.Decides.{nat_tests}
 use Rattle.std.proofs.lemmas.Grind.{common_steps}
 use Rattle.byte_locks.specs.declared.owner.Owner.{Owner}
@@ -25,10 +25,10 @@ use Rattle.file_view.specs.Acting.{is_actor, writes}
 use Rattle.file_view.specs.DatabaseRules.{first_page, page_count, are_pages, most_pages, holds_frame, hold_frames, uncommitted_rows, checkpoint_rows, sized_write_rows, kept_at_most, states_other, writer_after, checkpoint_resize_rows, resize_rows, sized_resize_rows, resizes, is_log_size, states_size}
 use Rattle.file_view.specs.DatabaseParts.{IsOwned}
 use Rattle.file_view.specs.Errno.{EINVAL, EFBIG}
-use Rattle.file_view.specs.Refusal.{Row, first_refusal}
+use Rattle.file_view.specs.Refusal.{first_refusal}
 use Rattle.file_view.specs.Served.{Served, log_text, has_committed_frames}
 use Rattle.file_view.specs.Sound.{IsSound}
-use Rattle.file_view.proofs.RowLemmas.{NoneHolds, none-holds}
+use Rattle.file_view.proofs.RowLemmas.{none-holds, nothing-held}
 
 -- a page size is above 0
 pub size-some : (size : ℕ) → IsPageSize size → 0 < size
@@ -39,7 +39,7 @@ size-some size is = elim (cases_eq size 0) [
 ]
 
 -- a test whose opposite is false is true
-opposite : (b : Bool) → not b ≡ false → b ≡ true
+pub opposite : (b : Bool) → not b ≡ false → b ≡ true
 opposite true h = refl
 opposite false h = absurd cc
 
@@ -67,7 +67,7 @@ pages-are size place bytes pages within =
     }
 
 -- the owner of EXCLUSIVE is there
-writer-there : (locks : LockList) (session : ℕ) (given : Option ℕ) (l : LockId) → writes locks session given l ≡ true → IsSome (writer_of locks l)
+pub writer-there : (locks : LockList) (session : ℕ) (given : Option ℕ) (l : LockId) → writes locks session given l ≡ true → IsSome (writer_of locks l)
 writer-there locks session given l h = looked (writer_of locks l) h where
   looked : (o : Option Owner) → unwrap_or (option_map (is_actor session given) o) false ≡ true → is_some o ≡ true
   looked None h = absurd cc
@@ -79,10 +79,10 @@ torn-none (Some owner) h = absurd cc
 
 -- uncommitted pages
 uncommitted-owned : (s : Served) (scene : Scene) (given : Option ℕ) (size count : ℕ) (other : Bool) → first_refusal (uncommitted_rows s scene given size count other) ≡ None →
-    IsSome (writer_of s.locks lock.Shared) × (s.torn ≡ None)
+    IsSome (writer_of s.locks lock.Shared) × (s.torn ≡ None) × (s.held_write ≡ None)
 uncommitted-owned s scene given size count other none =
     let rows = none-holds (uncommitted_rows s scene given size count other) none in
-    (writer-there s.locks scene.session given lock.Shared (opposite _ rows.1.0), torn-none s.torn rows.1.1.0)
+    (writer-there s.locks scene.session given lock.Shared (opposite _ rows.1.0), torn-none s.torn rows.1.1.0, nothing-held s rows.1.1.1.1.1.0)
 
 -- a checkpoint
 framed-some : (text : List ℕ) (page : ℕ) (bytes : List ℕ) → holds_frame text page bytes ≡ true → nat_lt 0 (committed_count text) ≡ true
@@ -97,7 +97,7 @@ first-held text size first bytes n count h =
     framed-some text (first + 0) (page_of_bytes bytes size 0)
     (and_parts (holds_frame text (first + 0) (page_of_bytes bytes size 0)) (list_all (λ k. holds_frame text (first + k) (page_of_bytes bytes size k)) (range_with_len 1 n)) e).0
 
-checkpoint-framed : (s : Served) (scene : Scene) (given : Option ℕ) (size place : ℕ) (bytes : List ℕ) → 1 ≤ page_count size bytes →
+pub checkpoint-framed : (s : Served) (scene : Scene) (given : Option ℕ) (size place : ℕ) (bytes : List ℕ) → 1 ≤ page_count size bytes →
     first_refusal (checkpoint_rows s scene given size place bytes) ≡ None → has_committed_frames s ≡ true
 checkpoint-framed s scene given size place bytes some none =
     let held : hold_frames (log_text s) size (first_page size place) bytes ≡ true = opposite _ (none-holds (checkpoint_rows s scene given size place bytes) none).1.0 in
@@ -106,7 +106,7 @@ checkpoint-framed s scene given size place bytes some none =
     first-held (log_text s) size (first_page size place) bytes n count held
 
 -- two rows that don't hold
-two-fail : (a b : Bool) (m n : Errno) (rest : Option Errno) → (if a then Some m else (if b then Some n else rest)) ≡ None → (a ≡ false) × (b ≡ false) × (rest ≡ None)
+pub two-fail : (a b : Bool) (m n : Errno) (rest : Option Errno) → (if a then Some m else (if b then Some n else rest)) ≡ None → (a ≡ false) × (b ≡ false) × (rest ≡ None)
 two-fail true b m n rest h = absurd cc
 two-fail false true m n rest h = absurd cc
 two-fail false false m n rest h = (refl, refl, h)
@@ -141,25 +141,30 @@ write-owned s scene given place bytes size none =
       | inl active ↦
           let rows = rw active at parts.2 in
           let both = uncommitted-owned s scene given size _ _ rows in
-          record { owned = λ _. both.0; whole = λ _. both.1; framed = λ fails. absurd (let e : true ≡ false = sym active ∙ fails in cc) }
+          record { owned = λ _. both.0; whole = λ _. both.1; framed = λ fails. absurd (let e : true ≡ false = sym active ∙ fails in cc); free = both.2 }
       | inr idle ↦
           let rows = rw idle at parts.2 in
           record {
             owned = λ holds. absurd (let e : false ≡ true = sym idle ∙ holds in cc);
             whole = λ holds. absurd (let e : false ≡ true = sym idle ∙ holds in cc);
             framed = λ _. checkpoint-framed s scene given size place bytes some rows;
+            free = nothing-held s (none-holds (checkpoint_rows s scene given size place bytes) rows).1.1.0;
           }
     ]
 
 -- the files stay sound while the database file is another
-sound-active : (s : Served) (d : DatabaseFile) → is_active s.journal.file ≡ true → IsSome (writer_of s.locks lock.Shared) → s.torn ≡ None → IsSound s →
-    IsSound (record s { database = d; writer = writer_of s.locks lock.Shared })
-sound-active s d active there whole sound = record {
+sound-active : (s : Served) (d : DatabaseFile) → is_active s.journal.file ≡ true → IsSome (writer_of s.locks lock.Shared) → s.torn ≡ None → s.held_write ≡ None →
+    IsSound s → IsSound (record s { database = d; writer = writer_of s.locks lock.Shared })
+sound-active s d active there whole free sound = record {
   exclusive = λ owner is. is;
   torn = λ owner is. absurd (let e : None ≡ Some owner = sym whole ∙ is in cc);
   apart = λ owner is. absurd (let e : None ≡ Some owner = sym whole ∙ is in cc);
   journaled = λ owner is. active;
   settled = λ none frames. absurd (let e = rw none at there in cc);
+  alone = λ call is. free;
+  unwritten = λ owner is. free;
+  logged = sound.logged;
+  left = sound.left;
 }
 
 sound-inactive : (s : Served) (d : DatabaseFile) → has_committed_frames s ≡ true → IsSound s → IsSound (record s { database = d; writer = s.writer })
@@ -169,13 +174,17 @@ sound-inactive s d framed sound = record {
   apart = sound.apart;
   journaled = sound.journaled;
   settled = λ none frames. absurd (let e : true ≡ false = sym framed ∙ frames in cc);
+  alone = sound.alone;
+  unwritten = sound.unwritten;
+  logged = sound.logged;
+  left = sound.left;
 }
 
 pub changed-sound : (s : Served) (d : DatabaseFile) (w : Option Owner) → w ≡ writer_after s → IsOwned s → IsSound s → IsSound (record s { database = d; writer = w })
 changed-sound s d w is owned sound = elim (cases_Bool (is_active s.journal.file)) [
   | inl holds ↦
       let e : w ≡ writer_of s.locks lock.Shared = is ∙ cond-true _ _ _ holds in
-      rw e (sound-active s d holds (owned.owned holds) (owned.whole holds) sound)
+      rw e (sound-active s d holds (owned.owned holds) (owned.whole holds) owned.free sound)
   | inr fails ↦
       let e : w ≡ s.writer = is ∙ cond-false _ _ _ fails in
       rw e (sound-inactive s d (owned.framed fails) sound)
@@ -193,10 +202,10 @@ resize-fits s scene given len size none =
     resize-small len size
     (two-fail (not (len % size == 0)) (nat_lt (most_pages size) (len / size)) EINVAL EFBIG (first_refusal (resize_rows s scene given size (len / size))) none).1
 
-three-fail : (a b : Bool) (m n : Errno) (rest : Option Errno) → (if a then Some m else (if b then Some n else rest)) ≡ None → rest ≡ None
+pub three-fail : (a b : Bool) (m n : Errno) (rest : Option Errno) → (if a then Some m else (if b then Some n else rest)) ≡ None → rest ≡ None
 three-fail a b m n rest h = (two-fail a b m n rest h).2
 
-resize-idle : (s : Served) (scene : Scene) (given : Option ℕ) (count : ℕ) → first_refusal (checkpoint_resize_rows s scene given count) ≡ None → has_committed_frames s ≡ true
+pub resize-idle : (s : Served) (scene : Scene) (given : Option ℕ) (count : ℕ) → first_refusal (checkpoint_resize_rows s scene given count) ≡ None → has_committed_frames s ≡ true
 resize-idle s scene given count none =
     let text : List ℕ = log_text s in
     let stated : is_log_size text count ≡ true = opposite (is_log_size text count) (none-holds (checkpoint_resize_rows s scene given count) none).1.0 in
@@ -210,13 +219,14 @@ resize-rows-owned s scene given size count none other =
       | inl active ↦
           let rows = rw active at rest in
           let both = uncommitted-owned s scene given size (kept_at_most s.database scene.commit count 0) false rows in
-          record { owned = λ _. both.0; whole = λ _. both.1; framed = λ fails. absurd (let e : true ≡ false = sym active ∙ fails in cc) }
+          record { owned = λ _. both.0; whole = λ _. both.1; framed = λ fails. absurd (let e : true ≡ false = sym active ∙ fails in cc); free = both.2 }
       | inr idle ↦
           let rows = rw idle at rest in
           record {
             owned = λ holds. absurd (let e : false ≡ true = sym idle ∙ holds in cc);
             whole = λ holds. absurd (let e : false ≡ true = sym idle ∙ holds in cc);
             framed = λ _. resize-idle s scene given count rows;
+            free = nothing-held s (none-holds (checkpoint_resize_rows s scene given count) rows).1.1.0;
           }
     ]
 

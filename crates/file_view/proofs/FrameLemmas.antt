@@ -1,5 +1,5 @@
 -- What committed frames hold and state, as tests.
-use Rattle.std.proofs.Common.{◌≡◌, ℕ, zero, suc, ◌+◌, ◌-◌, ◌<◌, ◌≤◌, Bool, true, false, ◌&&◌, ◌||◌, length, List, [], ◌∷◌, refl, sym, ap, ◌∙◌, arith, inl, inr, ⊎_elim, ◌↔◌, IsTrue, subst}
+use Rattle.std.proofs.Common.{◌≡◌, ℕ, zero, suc, ◌+◌, ◌<◌, Bool, true, false, List, refl, sym, ◌∙◌, arith, inl, inr, ⊎_elim, ◌↔◌, IsTrue}
 use Rattle.std.specs.Prelude.{◌==◌, get_or}
 use Rattle.std.specs.List.{list_any, list_all, range_with_len}
 use Rattle.std.specs.Str.{bytes_eq}
@@ -8,7 +8,7 @@ use Rattle.std.proofs.lemmas.Bool.Decides.{nat_tests}
 use Rattle.std.proofs.lemmas.List.Folds.{list_any_at}
 use Rattle.std.proofs.lemmas.List.FromFn.{length-range_with_len, get_or-range_with_len}
 use Rattle.std.proofs.lemmas.Slice.Eq.{bytes_eq-Decides}
-use Rattle.wal_watch.specs.Frames.{committed_count, number_in, size_in, page_in}
+use Rattle.wal_watch.specs.Frames.{committed_count, number_in, page_in}
 use Rattle.wal_watch.specs.News.{HoldsFrame, HasSize}
 use Rattle.file_view.specs.DatabaseRules.{holds_frame, states_size}
 
@@ -41,6 +41,13 @@ holds_frame_is text page bytes r decides =
     (found.0, record { among = omega (arith, found.1); number = grind (arith, nat_tests, both.0); same = (bytes_eq-Decides _ _).0 both.1 }))
     (λ held. any-among _ (committed_count text) held.0 held.1.among
     (and_from _ _ (grind (arith, nat_tests, held.1.number)) ((bytes_eq-Decides _ _).1 held.1.same)))
+
+-- what such a test says
+pub holds-is : (text : List ℕ) (page : ℕ) (bytes : List ℕ) → holds_frame text page bytes ≡ true → HoldsFrame text page bytes
+holds-is text page bytes holds =
+    let found = found-among _ 0 (committed_count text) holds in
+    let both = and_parts (number_in text found.0 == page) (bytes_eq (page_in text found.0) bytes) found.2 in
+    (found.0, record { among = omega (arith, found.1); number = grind (arith, nat_tests, both.0); same = (bytes_eq-Decides _ _).0 both.1 })
 
 pub states_size_is : (text : List ℕ) (count : ℕ) (r : Bool) → (IsTrue r ↔ HasSize text count) → r ≡ states_size text count
 states_size_is text count r decides =

@@ -1,5 +1,5 @@
 -- The log cut or removed: what the rules leave.
-use Rattle.std.proofs.Common.{◌≡◌, ◌≢◌, ℕ, ◌-◌, ◌<◌, ◌≤◌, Bool, true, false, ◌&&◌, not, length, List, [], ◌∷◌, take, inl, inr, Option, Some, None, refl, sym, ap, ◌∙◌, arith}
+use Rattle.std.proofs.Common.{◌≡◌, ◌≢◌, ℕ, ◌-◌, ◌<◌, ◌≤◌, true, false, ◌&&◌, not, length, List, [], inl, inr, Option, Some, None, refl, arith}
 use Rattle.std.specs.Prelude.{◌==◌, nat_lt, nat_le, is_none}
 use Rattle.std.specs.Ordering.{nat_cmp}
 use Rattle.std.specs.FinMap as pages
@@ -7,6 +7,7 @@ use Rattle.std.specs.FinMap.{empty_of_len}
 use Rattle.std.proofs.lemmas.Bool.{cases_Bool, cases_eq, cases_lt, and_parts, eqb-true, cond-false}
 use Rattle.std.proofs.lemmas.Bool.Decides.{nat_tests}
 use Rattle.lf_base.specs.FileBytes.{resized}
+use Rattle.lf_sqlite_pages.specs.Blocks.{ByteRoom, IsWithin}
 use Rattle.wal_watch.specs.Frames.{frame_place, committed_count, committed_end}
 use Rattle.wal_watch.specs.Refusals.{IsSoundCut, CutsCommitted}
 use Rattle.wal_watch.proofs.CommitLemmas.{has_committed}
@@ -14,11 +15,12 @@ use Rattle.wal_watch.proofs.LawLemmas.{keeps_count}
 use Rattle.wal_watch.proofs.StayLemmas.{take-resized}
 use Rattle.database_file.specs.DatabaseFile.{DatabaseFile, clean, is_clean}
 use Rattle.file_view.specs.declared.scene.Scene.{Scene}
+use Rattle.file_view.specs.DatabaseState.{HeldWrite}
 use Rattle.file_view.specs.LogRules.{log_cut_rows, log_unlink_rows}
 use Rattle.file_view.specs.Refusal.{first_refusal}
 use Rattle.file_view.specs.Served.{Served, log_text, has_committed_frames}
 use Rattle.file_view.specs.Sound.{IsSound}
-use Rattle.file_view.proofs.RowLemmas.{none-holds}
+use Rattle.file_view.proofs.RowLemmas.{none-holds, nothing-held}
 
 -- a file that is clean keeps nothing
 pub clean-is : (file : DatabaseFile) → is_clean file ≡ true → file ≡ clean file
@@ -66,7 +68,7 @@ not-grown count end after len none below grown empty more = elim (cases_lt len e
 ]
 
 -- a log cut to nothing has no frames
-nothing-left : (text : List ℕ) (len : ℕ) → committed_count [] ≡ 0 → len ≡ 0 → committed_count (resized len text) ≡ 0
+pub nothing-left : (text : List ℕ) (len : ℕ) → committed_count [] ≡ 0 → len ≡ 0 → committed_count (resized len text) ≡ 0
 nothing-left text len none zero =
     let e : resized 0 text ≡ [] = let z : 0 - length text ≡ 0 = omega arith in rw z refl in
     rw (zero, e) none
@@ -141,6 +143,10 @@ cut-log-sound s scene len none sound = record {
   apart = sound.apart;
   journaled = sound.journaled;
   settled = λ alone frames. cut-settled s scene len none (sound.settled alone) frames;
+  alone = sound.alone;
+  unwritten = sound.unwritten;
+  logged = λ w is. refl;
+  left = λ w is. absurd (let free = nothing-held s (none-holds (log_cut_rows s scene len) none).1.1.1.1.1.1.1.0 in cc (free, is));
 }
 
 pub removed-log-sound : (s : Served) (scene : Scene) → first_refusal (log_unlink_rows s scene) ≡ None → IsSound s → IsSound (record s { log = None })
@@ -150,4 +156,13 @@ removed-log-sound s scene none sound = record {
   apart = sound.apart;
   journaled = sound.journaled;
   settled = λ alone frames. removed-settled s scene none (sound.settled alone);
+  alone = sound.alone;
+  unwritten = sound.unwritten;
+  logged = λ w is. absurd (let free = nothing-held s (none-holds (log_unlink_rows s scene) none).1.1.1.1.0 in cc (free, is));
+  left = λ w is. absurd (let free = nothing-held s (none-holds (log_unlink_rows s scene) none).1.1.1.1.0 in cc (free, is));
 }
+
+-- no write waits for room
+pub removed-room : (s : Served) (scene : Scene) → first_refusal (log_unlink_rows s scene) ≡ None → (room : ByteRoom) (w : HeldWrite) → s.held_write ≡ Some w →
+    IsWithin room w.at (length w.bytes)
+removed-room s scene none room w is = absurd (let free = nothing-held s (none-holds (log_unlink_rows s scene) none).1.1.1.1.0 in cc (free, is))

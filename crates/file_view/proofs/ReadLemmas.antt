@@ -1,5 +1,5 @@
 -- A read into a buffer that has room for just the bytes that there are.
-use Rattle.std.proofs.Common.{◌≡◌, ℕ, ◌+◌, ◌-◌, ◌≤◌, ◌<◌, min, length, List, [], ◌++◌, take, drop, refl, ap, ◌∙◌, sym, arith, append-nil, length-drop, ⊎_elim, Option, Some, None, true}
+use Rattle.std.proofs.Common.{◌≡◌, ℕ, ◌-◌, ◌≤◌, min, length, List, [], ◌++◌, take, drop, refl, ◌∙◌, sym, arith, append-nil, length-drop, ⊎_elim, Option, Some, None, true}
 use Rattle.std.specs.Prelude.{unwrap_or, nat_le}
 use Rattle.std.specs.Option.{option_map}
 use Rattle.std.proofs.lemmas.List.{take_all}

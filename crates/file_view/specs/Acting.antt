@@ -1,5 +1,5 @@
 -- Who holds the locks that a rule asks for, and what follows from a change of locks.
-use Rattle.std.specs.Prelude.{◌≡◌, ℕ, Bool, true, false, ◌&&◌, ◌||◌, not, nat_eq, Option, Some, None, is_some, List, take, drop, unwrap_or, if◌then◌else◌}
+use Rattle.std.specs.Prelude.{ℕ, Bool, false, ◌&&◌, ◌||◌, not, nat_eq, Option, Some, None, List, take, drop, unwrap_or, if◌then◌else◌}
 use Rattle.std.specs.Option.{option_map}
 use Rattle.byte_locks.specs.declared.owner.Owner.{Owner}
 use Rattle.byte_locks.specs.declared.lock_id.LockId.{LockId}
@@ -10,7 +10,7 @@ use Rattle.database_file.specs.DatabaseFile.{DatabaseFile, clean}
 use Rattle.shm_index.specs.Shared.{Shared, has_index}
 use Rattle.shm_index.specs.Index.{names_log, without_header}
 use Rattle.wal_watch.specs.Frames.{committed_count}
-use Rattle.file_view.specs.Served.{Served, log_text, has_committed_frames}
+use Rattle.file_view.specs.Served.{Served, log_text}
 
 -- whether an owner is the session's, and of this number where one is given
 abbrev pub is_actor : ℕ → Option ℕ → Owner → Bool

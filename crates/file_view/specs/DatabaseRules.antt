@@ -1,5 +1,5 @@
 -- WRITE and SETATTR of a size of the database file.
-use Rattle.std.specs.Prelude.{◌≡◌, ℕ, ◌+◌, ◌-◌, ◌*◌, ◌/◌, ◌%◌, ◌==◌, Bool, true, false, ◌&&◌, ◌||◌, not, is_some, nat_lt, nat_le, min, Option, Some, None, IfSome, List, [], ◌∷◌, length, unwrap_or, if◌then◌else◌}
+use Rattle.std.specs.Prelude.{◌≡◌, ℕ, ◌+◌, ◌-◌, ◌/◌, ◌%◌, ◌==◌, Bool, true, false, ◌&&◌, ◌||◌, not, is_some, nat_lt, nat_le, min, Option, Some, None, IfSome, List, [], ◌∷◌, length, unwrap_or, if◌then◌else◌}
 use Rattle.std.specs.List.{list_any, list_all, range_with_len}
 use Rattle.std.specs.Option.{option_map, option_or}
 use Rattle.std.specs.Str.{bytes_eq}
@@ -7,15 +7,13 @@ use Rattle.std.specs.FinMap as pages
 use Rattle.byte_locks.specs.declared.owner.Owner.{Owner}
 use Rattle.byte_locks.specs.declared.lock_id.LockId.TheVariants as lock
 use Rattle.byte_locks.specs.LockList.{writer_of}
-use Rattle.database_file.specs.DatabaseFile.{DatabaseFile, KeepsDifferences, as_read, count_over, is_clean}
+use Rattle.database_file.specs.DatabaseFile.{DatabaseFile, FitsShape, KeepsDifferences, as_read, count_over, is_clean}
 use Rattle.database_file.specs.Writing.{with_pages, sized}
 use Rattle.database_file.specs.Writing.{page_in as page_of_bytes}
-use Rattle.journal_watch.specs.Journal.{is_active, bytes_of}
-use Rattle.lf_base.specs.Endian.{be32_at}
+use Rattle.journal_watch.specs.Journal.{is_active}
 use Rattle.lf_sqlite_pages.specs.Header.{page_size_of}
 use Rattle.lf_sqlite_pages.specs.Image.{DatabaseImage}
 use Rattle.lf_sqlite_pages.specs.LockPage.{lock_page_of}
-use Rattle.lf_sqlite_pages.specs.PageSize.{is_page_size}
 use Rattle.wal_watch.specs.Frames.{committed_count, number_in, size_in, page_in}
 use Rattle.wal_watch.specs.News.{last_size}
 use Rattle.file_view.specs.declared.scene.Scene.{Scene}
@@ -153,20 +151,22 @@ database_size_rows s scene given len =
 abbrev pub writer_after : Served → Option Owner
 writer_after s = if is_active s.journal.file then writer_of s.locks lock.Shared else s.writer
 
--- the database file is another, and all else is as before but for who has uncommitted pages
-pub record IsDatabaseChanged (told : Option DatabaseImage) (old new : Served) : Type 0 where
+-- the database file is another, which fits the image's shape and goes on to differ from the image; all else is as before but for
+-- who has uncommitted pages
+pub record IsDatabaseChanged (told : Option DatabaseImage) (old : Served) (scene : Scene) (new : Served) : Type 0 where
+  pub fits : FitsShape new.database scene.page_size scene.commit
   pub differs : IfSome told (λ i. KeepsDifferences old.database i → KeepsDifferences new.database i)
   pub rest : new ≡ record old { database = new.database; writer = writer_after old }
 
 -- what a WRITE does: the file reads as before with these pages
-pub record IsDatabaseWritten (told : Option DatabaseImage) (old : Served) (size place : ℕ) (bytes : List ℕ) (new : Served) : Type 0 where
+pub record IsDatabaseWritten (told : Option DatabaseImage) (old : Served) (scene : Scene) (size place : ℕ) (bytes : List ℕ) (new : Served) : Type 0 where
   pub pages : IfSome told (λ i. as_read new.database i ≡ with_pages (as_read old.database i) size (first_page size place) bytes)
-  pub all : IsDatabaseChanged told old new
+  pub all : IsDatabaseChanged told old scene new
 
 -- what a SETATTR of a size does: the file reads as before, cut or grown with zeros
-pub record IsDatabaseSized (told : Option DatabaseImage) (old : Served) (size count : ℕ) (new : Served) : Type 0 where
+pub record IsDatabaseSized (told : Option DatabaseImage) (old : Served) (scene : Scene) (size count : ℕ) (new : Served) : Type 0 where
   pub pages : IfSome told (λ i. as_read new.database i ≡ sized (as_read old.database i) size count)
-  pub all : IsDatabaseChanged told old new
+  pub all : IsDatabaseChanged told old scene new
 
 -- whether a resize changes anything: not to the size that the file has, nor by a checkpoint that a commit has overtaken
 abbrev pub resizes : Served → Scene → ℕ → Bool
@@ -174,5 +174,5 @@ resizes s scene count =
     not (count == count_over s.database scene.commit) && (is_active s.journal.file || (count == last_size (log_text s)))
 
 pub record DatabaseSized (told : Option DatabaseImage) (old : Served) (scene : Scene) (size count : ℕ) (new : Served) : Type 0 where
-  pub resized : resizes old scene count ≡ true → IsDatabaseSized told old size count new
+  pub resized : resizes old scene count ≡ true → IsDatabaseSized told old scene size count new
   pub same : resizes old scene count ≡ false → new ≡ old

@@ -1,5 +1,4 @@
 -- A fault of the database file as one of a request.
-use Rattle.std.specs.Prelude.{◌≡◌}
 use Rattle.database_file.specs.declared.fault.FileFault.{FileFault}
 use Rattle.database_file.specs.declared.fault.FileFault.TheVariants as file
 use Rattle.file_view.specs.declared.fault.ViewFault.{ViewFault}

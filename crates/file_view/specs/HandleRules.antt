@@ -1,5 +1,5 @@
 -- OPEN, RELEASE, FLUSH, FSYNC and GETATTR, and the rows that every request with a handle begins with.
-use Rattle.std.specs.Prelude.{◌≡◌, ℕ, ◌==◌, Bool, false, not, ◌&&◌, ◌||◌, Option, Some, is_none, unwrap_or, List, [], ◌∷◌}
+use Rattle.std.specs.Prelude.{◌≡◌, ℕ, ◌==◌, Bool, false, not, ◌||◌, Some, is_none, unwrap_or, List, [], ◌∷◌}
 use Rattle.std.specs.Option.{option_map}
 use Rattle.byte_locks.specs.declared.lock_bytes.FileKind.{FileKind}
 use Rattle.byte_locks.specs.declared.owner.Owner.{Owner}
@@ -11,7 +11,7 @@ use Rattle.file_view.specs.declared.scene.Scene.{Scene}
 use Rattle.file_view.specs.Acting.{with_locks}
 use Rattle.file_view.specs.Errno.{ENOENT, EBADF, ENFILE}
 use Rattle.file_view.specs.Refusal.{Row}
-use Rattle.file_view.specs.Served.{Served, exists}
+use Rattle.file_view.specs.Served.{Served, exists, file_size}
 
 -- whether a node is a file that is there
 abbrev pub is_served : Served → Scene → ℕ → Bool
@@ -45,6 +45,10 @@ lock_handle_rows s scene node fh = (not (is_served s scene node), ENOENT) ∷ (n
 abbrev pub closing_rows : Served → Scene → ℕ → ℕ → List Row
 closing_rows s scene node fh =
     (not (is_known s scene node || is_open_at s scene node fh), ENOENT) ∷ (not (is_open_at s scene node fh), EBADF) ∷ []
+
+-- GETATTR: how many bytes a node has; the folder has none
+abbrev pub size_at : Served → Scene → ℕ → ℕ
+size_at s scene node = unwrap_or (option_map (file_size s scene) (file_at node)) 0
 
 -- OPEN
 abbrev pub open_rows : Served → Scene → ℕ → List Row

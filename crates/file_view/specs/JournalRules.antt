@@ -1,5 +1,5 @@
 -- WRITE, SETATTR of a size and UNLINK of the journal, and the commits that they end in.
-use Rattle.std.specs.Prelude.{◌≡◌, ℕ, Bool, true, false, ◌&&◌, ◌||◌, not, is_some, nat_lt, Option, Some, None, IfSome, List, [], ◌∷◌, ◌++◌, length, if◌then◌else◌}
+use Rattle.std.specs.Prelude.{◌≡◌, ℕ, Bool, true, false, ◌&&◌, ◌||◌, not, is_some, nat_lt, Option, Some, None, IfSome, List, [], ◌∷◌, if◌then◌else◌}
 use Rattle.byte_locks.specs.declared.lock_id.LockId.TheVariants as lock
 use Rattle.byte_locks.specs.LockList.{LockList}
 use Rattle.database_file.specs.Commit.{IsChangeOf, LeadsTo, committed_image}
@@ -12,7 +12,7 @@ use Rattle.file_view.specs.declared.journal.JournalCall.TheVariants as call
 use Rattle.file_view.specs.declared.scene.Scene.{Scene}
 use Rattle.file_view.specs.Acting.{writes}
 use Rattle.file_view.specs.Errno.{EPERM, EIO, EAGAIN, EACCES, ENOSPC, EROFS}
-use Rattle.file_view.specs.JournalState.{JournalState, call_finishes, called, holding, reach}
+use Rattle.file_view.specs.JournalState.{call_finishes, called, holding, reach}
 use Rattle.file_view.specs.Refusal.{Row}
 use Rattle.file_view.specs.Roles.{is_replica}
 use Rattle.file_view.specs.Served.{Served, has_committed_frames, waits}
@@ -56,9 +56,10 @@ journal_unlink_rows s scene =
     ∷ finishing_rows s scene None call.Unlink
 
 -- the change that a call commits, if it does: where it ends a transaction that has written pages, the change that leads from the
--- committed image to the database file, cut to its header's size
+-- committed image to the database file, cut to its header's size. A file that is the image commits nothing
 pub record Commits (told : Option DatabaseImage) (s : Served) (scene : Scene) (c : JournalCall) (change : Option PageChange) : Type 0 where
   pub nothing : ends_writing s c ≡ false → change ≡ None
+  pub of_the_image : is_clean s.database ≡ true → change ≡ None
   pub leads : ends_writing s c ≡ true → IfSome told (λ i. KeepsDifferences s.database i → LeadsTo i (committed_image s.database i) change)
   pub is : ends_writing s c ≡ true → IfSome change (IsChangeOf s.database scene.page_size scene.commit)
 

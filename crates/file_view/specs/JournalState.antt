@@ -1,5 +1,5 @@
 -- The rollback journal with a call in store: what a call on it does, and which call waits for its commit.
-use Rattle.std.specs.Prelude.{◌≡◌, ℕ, ◌+◌, ◌≤◌, Bool, ◌&&◌, if◌then◌else◌, IsSome, Option, Some, None, List, length}
+use Rattle.std.specs.Prelude.{ℕ, ◌+◌, Bool, ◌&&◌, if◌then◌else◌, Option, Some, None, List, length}
 use Rattle.lf_base.specs.FileBytes.{written, resized}
 use Rattle.lf_base.specs.Endian.{be32_at}
 use Rattle.lf_sqlite_pages.specs.Blocks.{IsWithin}

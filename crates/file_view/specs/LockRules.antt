@@ -1,6 +1,5 @@
 -- GETLK, SETLK and SETLKW.
-use Rattle.std.specs.Prelude.{◌≡◌, ℕ, Bool, ◌&&◌, Option, Some, None, is_some, List, [], ◌∷◌, ◌++◌}
-use Rattle.std.specs.Option.{option_map}
+use Rattle.std.specs.Prelude.{ℕ, ◌&&◌, Option, Some, None, is_some, List, [], ◌∷◌, ◌++◌}
 use Rattle.byte_locks.specs.declared.lock_bytes.FileKind.{FileKind}
 use Rattle.byte_locks.specs.declared.lock_bytes.FileKind.TheVariants as file
 use Rattle.byte_locks.specs.declared.lock_id.LockId.{LockId}

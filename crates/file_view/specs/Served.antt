@@ -1,5 +1,5 @@
 -- The served files of a database: what a request is answered from, beside the committed image.
-use Rattle.std.specs.Prelude.{ℕ, ◌+◌, ◌*◌, ◌==◌, Bool, true, false, not, ◌&&◌, ◌||◌, Option, Some, None, is_some, nat_lt, List, [], length, unwrap_or}
+use Rattle.std.specs.Prelude.{ℕ, ◌+◌, ◌*◌, Bool, true, not, ◌&&◌, ◌||◌, Option, is_some, nat_lt, List, [], length, unwrap_or}
 use Rattle.std.specs.Option.{option_map}
 use Rattle.lf_base.specs.declared.pos.Pos.{Pos}
 use Rattle.byte_locks.specs.declared.owner.Owner.{Owner}
@@ -12,18 +12,20 @@ use Rattle.shm_index.specs.Shared.{Shared}
 use Rattle.wal_watch.specs.Frames.{committed_count}
 use Rattle.file_view.specs.declared.role.Role.{Role}
 use Rattle.file_view.specs.declared.scene.Scene.{Scene}
+use Rattle.file_view.specs.DatabaseState.{HeldWrite}
 use Rattle.file_view.specs.JournalState.{JournalState}
 use Rattle.file_view.specs.Roles.{is_primary}
 
 -- the name of the database; the database file, which is told by what it keeps over the committed image; journal, log and shared
--- memory, each absent or bytes; who holds which lock, and which handles are open; the owner of the uncommitted pages, and the
--- torn one, whose uncommitted pages were dropped in the midst of its transaction; the position and the primary's host as they
--- were told
+-- memory, each absent or bytes; the write to the log that waits for its commit, if one does; who holds which lock, and which
+-- handles are open; the owner of the uncommitted pages, and the torn one, whose uncommitted pages were dropped in the midst of
+-- its transaction; the position and the primary's host as they were told
 pub record Served : Type 0 where
   pub name : List ℕ
   pub database : DatabaseFile
   pub journal : JournalState
   pub log : Option (List ℕ)
+  pub held_write : Option HeldWrite
   pub shared : Shared
   pub locks : LockList
   pub handles : OpenHandles
@@ -40,9 +42,9 @@ log_text s = unwrap_or s.log []
 abbrev pub has_committed_frames : Served → Bool
 has_committed_frames s = nat_lt 0 (committed_count (log_text s))
 
--- whether a request waits for its commit
+-- whether a request waits for its commit: a write to the log, or a call on the journal
 abbrev pub waits : Served → Bool
-waits s = is_some s.journal.waiting
+waits s = is_some s.held_write || is_some s.journal.waiting
 
 -- whether a file is there at a node of this role. The primary's name is there where the node isn't the primary and knows it
 abbrev pub exists : Served → Role → FileKind → Bool

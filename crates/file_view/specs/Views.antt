@@ -11,6 +11,7 @@ new_view name = record {
   database = new_file;
   journal = record { file = None; waiting = None };
   log = None;
+  held_write = None;
   shared = no_shared;
   locks = [];
   handles = [];

@@ -151,7 +151,6 @@ impl View {
         requires fits { FitsShape self.old.database (S.page_size base.old) (S.commit base.old) }
         requires may { MayResize self.old scene.now len size }
         ensures done { OnOk result (DatabaseSized (S.image base.old) self.old scene.now size (len / size) self.new) }
-        ensures fits { OnOk result (FitsShape self.new.database (S.page_size base.old) (S.commit base.old)) }
         ensures cause { IfErr result (HasFileCause (S.faults base.old) (S.faults base.new)) }
         ensures err { OnErr result (self.new ≡ self.old) }
         ensures base { SameBase (S.image base.old) (S.image base.new) (S.page_size base.old) (S.page_size base.new) (S.commit base.old) (S.commit base.new) (S.wal_mode base.old) (S.wal_mode base.new) (S.is_broken base.old) (S.is_broken base.new) }
@@ -182,7 +181,6 @@ impl View {
         ensures done { OnOk result ((size : ℕ) → write_size self.old scene.now 0 [] ≡ Some size → DatabaseSized (S.image base.old) self.old scene.now size (len / size) self.new) }
         ensures allowed { OnOk result (IsAllowed (database_size_rows self.old scene.now given len)) }
         ensures cause { IfErr result (HasReadCause (database_size_rows self.old scene.now given len) (S.faults base.old) (S.faults base.new)) }
-        ensures fits { OnOk result (FitsShape self.new.database (S.page_size base.old) (S.commit base.old)) }
         ensures err { OnErr result (self.new ≡ self.old) }
         ensures base { SameBase (S.image base.old) (S.image base.new) (S.page_size base.old) (S.page_size base.new) (S.commit base.old) (S.commit base.new) (S.wal_mode base.old) (S.wal_mode base.new) (S.is_broken base.old) (S.is_broken base.new) }
     {

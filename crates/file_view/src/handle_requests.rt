@@ -1,8 +1,8 @@
-//! OPEN, RELEASE, FLUSH and GETATTR, and what every request with a handle begins with.
+//! OPEN, RELEASE, FLUSH, FSYNC and GETATTR, and what every request with a handle begins with.
 ghost use Rattle.std.specs.Prelude.{◌≡◌, Some, IfSome, IfOk, IfErr, OnOk, OnErr, is_some, true};
 ghost use Rattle.file_handles.specs.Nodes.{file_at as file_number, node_of};
 ghost use Rattle.file_handles.specs.Handles.{is_open, least_free};
-ghost use Rattle.file_view.specs.HandleRules.{is_served, is_known, is_open_at, known_rows, served_rows, handle_rows, lock_handle_rows, closing_rows, open_rows, IsOpened, released, flushed};
+ghost use Rattle.file_view.specs.HandleRules.{is_served, is_known, is_open_at, known_rows, served_rows, handle_rows, lock_handle_rows, closing_rows, size_at, open_rows, IsOpened, released, flushed};
 ghost use Rattle.file_view.specs.Refusal.{IsAllowed, HasCause};
 ghost use Rattle.file_view.specs.Served.{exists};
 
@@ -12,6 +12,7 @@ use crate::scene::Scene;
 use crate::view::View;
 use byte_locks::{FileKind, Owner};
 use file_handles::{ROOT, file_at};
+use fuse_msgs::Reply;
 
 impl View {
     /// The file of a node, if it is there.
@@ -120,6 +121,36 @@ impl View {
                 Err(ViewFault::Errno(EBADF))
             }
         }
+    }
+
+    /// How many bytes a node has; the folder has none.
+    fn size_at(&self, scene: &Scene, node: u64) -> u64
+        ensures { result ≡ size_at self.now scene.now node }
+    {
+        match file_at(node) {
+            Some(file) => self.file_size(scene, file),
+            None => 0,
+        }
+    }
+
+    /// GETATTR: the node's attributes.
+    pub(crate) fn getattr(&self, scene: &Scene, node: u64) -> Result<Reply, ViewFault>
+        ensures done { IfOk result (λ reply. reply ≡ Reply.Attr node (size_at self.now scene.now node)) }
+        ensures allowed { OnOk result (IsAllowed (known_rows self.now scene.now node)) }
+        ensures cause { IfErr result (HasCause (known_rows self.now scene.now node)) }
+    {
+        self.known(scene, node)?;
+        let size = self.size_at(scene, node);
+        Ok(Reply::Attr { node, size })
+    }
+
+    /// FSYNC: it is done, and does nothing more. What was committed is on the disk already.
+    pub(crate) fn fsync(&self, scene: &Scene, node: u64, fh: u64) -> Result<(), ViewFault>
+        ensures allowed { OnOk result (IsAllowed (handle_rows self.now scene.now node fh)) }
+        ensures cause { IfErr result (HasCause (handle_rows self.now scene.now node fh)) }
+    {
+        let _file = self.handle(scene, node, fh)?;
+        Ok(())
     }
 
     /// OPEN: the number of the new handle.

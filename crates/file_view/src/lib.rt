@@ -6,6 +6,13 @@
 #![tactic(auto)]
 
 mod acting;
+mod answer_bytes;
+mod answer_handles;
+mod answer_locks;
+mod answer_names;
+mod answer_sizes;
+mod answering;
+mod database;
 mod database_requests;
 mod database_resize;
 mod endings;
@@ -15,18 +22,28 @@ mod handle_requests;
 mod journal;
 mod journal_calls;
 mod journal_requests;
+mod laws;
 mod lock_requests;
+mod log_holding;
 mod log_requests;
+mod log_writing;
 mod name_requests;
 mod plan;
+mod prepare;
 mod read_requests;
 mod role;
 mod scene;
 mod shared_requests;
+mod stand_laws;
 mod view;
 
 pub use fault::ViewFault;
+pub use laws::log_write_keeps_the_database;
 pub use plan::Plan;
 pub use role::Role;
 pub use scene::Scene;
+pub use stand_laws::{
+    applied_view_stands, endings_keep_the_image, new_view_stands,
+    replica_requests_leave_the_database, waiting_requests_go_on,
+};
 pub use view::View;

@@ -1,15 +1,22 @@
 -- An acceptor and a dialer in memory.
-use Rattle.std.specs.Prelude.{◌≡◌, ℕ, ◌==◌, ◌≤◌, ◌⊎◌, Bool, not, nat_lt, List, [], ◌∷◌, ◌++◌, length, map, Option, Some, None, Contains, if◌then◌else◌}
+use Rattle.std.specs.Prelude.{◌≡◌, ℕ, ◌==◌, ◌≤◌, ◌⊎◌, Bool, not, nat_lt, List, [], ◌∷◌, ◌++◌, length, map, Option, Some, None, Result, Ok, Contains, if◌then◌else◌}
 use Rattle.lf_base.specs.Faults.{one_more}
 use Rattle.lf_base.specs.Wire.{Wire, given_by, left_on}
 use Rattle.lf_base.specs.Dials.{Dial, failed, hung_up}
 
--- an acceptor in memory: the links to come, the numbers of the calls that fail, the calls and faults so far, and whether it ended
+-- a link that is given is counted, up to the last number of a u64
+abbrev pub CountsLinks : {L E : Type 0} → ℕ → ℕ → Result (Option L) E → Type 0
+CountsLinks before now (Ok (Some link)) = now ≡ one_more before
+CountsLinks before now _ = now ≡ before
+
+-- an acceptor in memory: the links to come, the numbers of the calls that fail, the calls and faults so far, how many links
+-- it gave, and whether it ended
 pub record Door : Type 0 where
   pub links : List Wire
   pub failing : List ℕ
   pub calls : ℕ
   pub faults : ℕ
+  pub given : ℕ
   pub ended : Bool
 
 -- a dialer in memory: the links to come, how many dials it has places for, the numbers of the dials that fail, the calls

@@ -1,4 +1,4 @@
-ghost use Rattle.std.specs.Prelude.{◌≡◌, ◌↔◌, true, IfOk, IsOk, Contains};
+ghost use Rattle.std.specs.Prelude.{◌≡◌, ◌==◌, ◌↔◌, not, true, IfOk, IsOk, Contains};
 ghost use Rattle.lf_base.specs.Faults.{one_more, Rose};
 ghost use Rattle.lf_base.specs.Starts.{CountsRefusal, IsAsSaid};
 
@@ -34,6 +34,13 @@ impl CallSpawner {
             calls: 0,
             faults: 0,
         })
+    }
+
+    /// Whether its count of faults is not 0.
+    pub fn has_failed(&self) -> bool
+        ensures { result ≡ not (self.now.faults == 0) }
+    {
+        self.faults != 0
     }
 }
 

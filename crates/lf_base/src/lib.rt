@@ -63,7 +63,7 @@ pub use session_end::SessionEnd;
 pub use sink::Sink;
 pub use slice_source::SliceSource;
 pub use source::{Failed, Source};
-pub use spawner::{Job, Place, Spawner, start};
+pub use spawner::{Job, Place, Spawner, start, start_call};
 pub use status::Status;
 pub use std_accept::{TcpAccept, UnixAccept};
 pub use std_streams::{StdSink, StdSource};

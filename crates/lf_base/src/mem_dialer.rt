@@ -1,4 +1,4 @@
-ghost use Rattle.std.specs.Prelude.{◌≡◌, ◌==◌, ◌↔◌, ◌<◌, ◌≤◌, ◌+◌, ◌⊎◌, ◌∷◌, ◌++◌, [], nat_lt, if◌then◌else◌, length, Some, None, Option, All, IfOk, IsErr, IfSome, IfNone, IsNone, MatchResult, MatchBool, Contains};
+ghost use Rattle.std.specs.Prelude.{◌≡◌, ◌==◌, ◌↔◌, not, ◌<◌, ◌≤◌, ◌+◌, ◌⊎◌, ◌∷◌, ◌++◌, [], nat_lt, if◌then◌else◌, length, Some, None, Option, All, IfOk, IsErr, IfSome, IfNone, IsNone, MatchResult, MatchBool, Contains};
 ghost use Rattle.lf_base.specs.Faults.{CountsFaults, Rose, one_more};
 ghost use Rattle.lf_base.specs.Dials.{TellsSame, TellsMore, TellsNone, IsFailed, IsHungUp};
 ghost use Rattle.lf_base.specs.Doors.{IsUnused, FailsDial, dials_of, noted};
@@ -61,6 +61,13 @@ impl MemDialer {
             told,
             untold: 0,
         })
+    }
+
+    /// Whether its count of faults is not 0.
+    pub fn has_failed(&self) -> bool
+        ensures { result ≡ not (self.now.faults == 0) }
+    {
+        self.faults != 0
     }
 
     /// Tells a dial, where there is a place for it.

@@ -57,13 +57,31 @@ pub fn start<R: Handles + Copy + Send + 'static, S: Spawner, J: Job<R> + Send + 
     ensures said { S.says spawner.old ≡ true → IsErr result ↔ S.refuses spawner.old }
     ensures cause { CountsFaults (S.faults spawner.old) (S.faults spawner.new) result }
 {
+    start_call(rt, spawner, move || job.go(rt))
+}
+
+/// The same of a call. A call that starts others is one of these: in a method of an `impl` over type
+/// parameters no thread can be started.
+pub fn start_call<
+    R: Handles + Copy + Send + 'static,
+    S: Spawner,
+    F: FnOnce() + Send + Drop + 'static,
+>(
+    rt: R,
+    spawner: &mut S,
+    call: F,
+) -> Result<(), Failed>
+    requires { F.IsAlwaysCallable call }
+    ensures said { S.says spawner.old ≡ true → IsErr result ↔ S.refuses spawner.old }
+    ensures cause { CountsFaults (S.faults spawner.old) (S.faults spawner.new) result }
+{
     match spawner.place() {
         Place::Refused => Err(Failed),
         Place::Here => {
-            job.go(rt);
+            call();
             Ok(())
         }
-        Place::Thread(gate) => match start_thread(rt, gate, job) {
+        Place::Thread(gate) => match start_thread(rt, gate, call) {
             Ok(()) => Ok(()),
             Err(failed) => {
                 spawner.fail();
@@ -73,19 +91,26 @@ pub fn start<R: Handles + Copy + Send + 'static, S: Spawner, J: Job<R> + Send + 
     }
 }
 
-fn start_thread<R: Handles + Copy + Send + 'static, J: Job<R> + Send + Drop + 'static>(
+fn start_thread<R: Handles + Copy + Send + 'static, F: FnOnce() + Send + Drop + 'static>(
     rt: R,
     gate: Gate,
-    job: J,
-) -> Result<(), Failed> {
+    call: F,
+) -> Result<(), Failed>
+    requires { F.IsAlwaysCallable call }
+{
     let Ok(theirs) = gate.another() else {
         return Err(Failed);
     };
     gate.enter(&rt);
-    let started = thread::spawn(&rt, move || {
-        job.go(rt);
-        theirs.leave(&rt);
-    });
+    let started = thread::spawn(
+        &rt,
+        move ||
+            requires { F.IsAlwaysCallable call }
+        {
+            call();
+            theirs.leave(&rt);
+        },
+    );
     if started.is_err() {
         gate.leave(&rt);
         return Err(Failed);

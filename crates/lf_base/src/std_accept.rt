@@ -1,5 +1,5 @@
 //! Acceptors over the system's listeners. They look for a link and at the closing word by turns.
-ghost use Rattle.std.specs.Prelude.{◌≡◌, false, IfOk};
+ghost use Rattle.std.specs.Prelude.{◌≡◌, ◌==◌, not, false, IfOk};
 
 use crate::acceptor::Acceptor;
 use crate::closing::Closing;
@@ -66,6 +66,7 @@ pub struct TcpAccept {
     listener: TcpListener,
     closing: Closing,
     faults: u64,
+    given: u64,
     ended: bool,
 }
 
@@ -73,7 +74,7 @@ impl TcpAccept {
     /// It gives links until the word is closed.
     pub fn new(listener: TcpListener, closing: Closing) -> Result<TcpAccept, Failed>
         ensures faults { IfOk result (λ a. a.faults ≡ 0) }
-        ensures open { IfOk result (λ a. a.ended ≡ false) }
+        ensures open { IfOk result (λ a. (a.given ≡ 0) × (a.ended ≡ false)) }
     {
         if listener.set_nonblocking(true).is_err() {
             return Err(Failed);
@@ -82,8 +83,16 @@ impl TcpAccept {
             listener,
             closing,
             faults: 0,
+            given: 0,
             ended: false,
         })
+    }
+
+    /// Whether its count of faults is not 0.
+    pub fn has_failed(&self) -> bool
+        ensures { result ≡ not (self.now.faults == 0) }
+    {
+        self.faults != 0
     }
 }
 
@@ -94,12 +103,17 @@ impl Acceptor for TcpAccept {
 
     ghost ended = { λ a. a.ended };
 
+    ghost given = { λ a. a.given };
+
     fn accept<R: Handles>(&mut self, rt: &R) -> Result<Option<TcpLink>, Failed> {
         if self.ended {
             return Ok(None);
         }
         match next_stream(rt, &self.listener, &self.closing) {
-            Ok(Some(stream)) => Ok(Some(StreamLink::new(stream))),
+            Ok(Some(stream)) => {
+                self.given = self.given.saturating_add(1);
+                Ok(Some(StreamLink::new(stream)))
+            }
             Ok(None) => {
                 self.ended = true;
                 Ok(None)
@@ -118,6 +132,7 @@ pub struct UnixAccept {
     listener: UnixListener,
     closing: Closing,
     faults: u64,
+    given: u64,
     ended: bool,
 }
 
@@ -125,7 +140,7 @@ impl UnixAccept {
     /// It gives links until the word is closed.
     pub fn new(listener: UnixListener, closing: Closing) -> Result<UnixAccept, Failed>
         ensures faults { IfOk result (λ a. a.faults ≡ 0) }
-        ensures open { IfOk result (λ a. a.ended ≡ false) }
+        ensures open { IfOk result (λ a. (a.given ≡ 0) × (a.ended ≡ false)) }
     {
         if listener.set_nonblocking(true).is_err() {
             return Err(Failed);
@@ -134,8 +149,16 @@ impl UnixAccept {
             listener,
             closing,
             faults: 0,
+            given: 0,
             ended: false,
         })
+    }
+
+    /// Whether its count of faults is not 0.
+    pub fn has_failed(&self) -> bool
+        ensures { result ≡ not (self.now.faults == 0) }
+    {
+        self.faults != 0
     }
 }
 
@@ -146,12 +169,17 @@ impl Acceptor for UnixAccept {
 
     ghost ended = { λ a. a.ended };
 
+    ghost given = { λ a. a.given };
+
     fn accept<R: Handles>(&mut self, rt: &R) -> Result<Option<UnixLink>, Failed> {
         if self.ended {
             return Ok(None);
         }
         match next_stream(rt, &self.listener, &self.closing) {
-            Ok(Some(stream)) => Ok(Some(StreamLink::new(stream))),
+            Ok(Some(stream)) => {
+                self.given = self.given.saturating_add(1);
+                Ok(Some(StreamLink::new(stream)))
+            }
             Ok(None) => {
                 self.ended = true;
                 Ok(None)

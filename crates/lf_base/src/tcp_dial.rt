@@ -1,4 +1,4 @@
-ghost use Rattle.std.specs.Prelude.{◌≡◌, None};
+ghost use Rattle.std.specs.Prelude.{◌≡◌, ◌==◌, not, None};
 
 use crate::dialer::Dialer;
 use crate::handles::Handles;
@@ -18,6 +18,13 @@ impl TcpDial {
         ensures { result.faults ≡ 0 }
     {
         TcpDial { faults: 0 }
+    }
+
+    /// Whether its count of faults is not 0.
+    pub fn has_failed(&self) -> bool
+        ensures { result ≡ not (self.now.faults == 0) }
+    {
+        self.faults != 0
     }
 }
 

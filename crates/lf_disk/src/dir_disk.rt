@@ -1,6 +1,6 @@
 //! A folder of the system as a disk. What its files hold is known to no contract: it tells its
 //! moment and its count of faults alone.
-ghost use Rattle.std.specs.Prelude.{◌≡◌, ◌+◌, ◌<◌, ◌^◌, false, IfOk};
+ghost use Rattle.std.specs.Prelude.{◌≡◌, ◌==◌, ◌+◌, ◌<◌, ◌^◌, not, false, IfOk};
 ghost use Rattle.std.proofs.lemmas.Bool.{false≢true};
 ghost use Rattle.lf_base.specs.Faults.{Rose, CountsFaults};
 ghost use Rattle.lf_disk.specs.History.{untold};
@@ -45,6 +45,13 @@ impl<R: Files<File = File> + AllocGlobal + Copy> DirDisk<R> {
             }),
             Err(_) => Err(Failed),
         }
+    }
+
+    /// Whether its count of faults is not 0.
+    pub fn has_failed(&self) -> bool
+        ensures { result ≡ not (self.now.faults == 0) }
+    {
+        self.faults != 0
     }
 
     /// Counts a fault.

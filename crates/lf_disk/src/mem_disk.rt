@@ -1,6 +1,6 @@
 //! A disk in memory. It keeps the files that it had at first and each changing call, so that all
 //! that a crash may leave at any moment is known.
-ghost use Rattle.std.specs.Prelude.{◌≡◌, ◌⊎◌, ◌≤◌, ◌^◌, ◌++◌, ◌∷◌, [], true, false, length, IsErr, IfOk, IsOk, OnOk, OnErr};
+ghost use Rattle.std.specs.Prelude.{◌≡◌, ◌==◌, ◌⊎◌, not, ◌≤◌, ◌^◌, ◌++◌, ◌∷◌, [], true, false, length, IsErr, IfOk, IsOk, OnOk, OnErr};
 ghost use Rattle.lf_base.specs.Faults.{CountsFaults};
 ghost use Rattle.lf_disk.specs.Plan.{stopped_in, Follows};
 ghost use Rattle.lf_disk.specs.MemDisk.{FailsFor};
@@ -78,6 +78,13 @@ impl MemDisk {
         ensures { result ≡ self.now.plan.short }
     {
         self.schedule.short()
+    }
+
+    /// Whether its count of faults is not 0.
+    pub fn has_failed(&self) -> bool
+        ensures { result ≡ not (self.now.plan.faults == 0) }
+    {
+        self.schedule.has_failed()
     }
 
     /// A changing call.

@@ -1,5 +1,5 @@
 //! Which calls of a disk in memory fail.
-ghost use Rattle.std.specs.Prelude.{◌≡◌};
+ghost use Rattle.std.specs.Prelude.{◌≡◌, ◌==◌, not};
 ghost use Rattle.lf_base.specs.Faults.{one_more, Rose};
 ghost use Rattle.lf_disk.specs.Plan.{fails_next, stopped_in};
 
@@ -75,6 +75,13 @@ impl Schedule {
         self.faults = self.faults.saturating_add(1);
         self.short = self.short.saturating_add(1);
         Failed
+    }
+
+    /// Whether its count of faults is not 0.
+    pub fn has_failed(&self) -> bool
+        ensures { result ≡ not (self.now.faults == 0) }
+    {
+        self.faults != 0
     }
 
     /// How many calls found no memory.

@@ -23,7 +23,7 @@ pub use asking::ask_until;
 pub use feed::{Feed, FeedFault};
 pub use inbox::Inbox;
 pub use laws::rounds_follow;
-pub use patience::{Patience, Timed};
+pub use patience::Patience;
 pub use piece::Piece;
 pub use seat::{AtSeat, SeatPlace};
 pub use stage::Stage;

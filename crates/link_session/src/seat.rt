@@ -16,14 +16,14 @@ pub struct SeatPlace<D> {
 
 /// A seat at its desk.
 #[derive(Drop)]
-pub struct AtSeat<'a, M: Machine, R> {
-    pub rt: R,
+pub struct AtSeat<'r, 'a, M: Machine, R> {
+    pub rt: &'r R,
     pub desk: &'a Desk<M>,
     pub seat: &'a mut Seat<M>,
     pub ghost at: { IsOf seat.now desk.now },
 }
 
-impl<M: Machine, R: Wait + Copy> Steps for AtSeat<'_, M, R> {
+impl<M: Machine, R: Wait + Copy> Steps for AtSeat<'_, '_, M, R> {
     type Ask = M::Ask;
 
     type Answer = M::Answer;
@@ -43,6 +43,6 @@ impl<M: Machine, R: Wait + Copy> Steps for AtSeat<'_, M, R> {
     ghost gives = { Gives M.steps };
 
     fn ask(&mut self, ask: &M::Ask) -> Result<M::Answer, Worn> {
-        self.desk.step(self.rt, self.seat, ask)
+        self.desk.step(*self.rt, self.seat, ask)
     }
 }

@@ -1,5 +1,6 @@
 pub mod BlockLemmas
 pub mod CrcLemmas
+pub mod JoinedLemmas
 pub mod Linear
 pub mod ListLemmas
 pub mod PieceLemmas

@@ -1,5 +1,6 @@
 -- A table of page sums, with room for more.
-use Rattle.std.specs.Prelude.{ℕ, ◌+◌, ◌-◌, ◌≤◌, List, [], ◌++◌, length, take, replicate, max, slice_set, slice_index}
+use Rattle.std.specs.Prelude.{ℕ, ◌≡◌, ◌+◌, ◌-◌, ◌≤◌, List, [], ◌++◌, length, take, replicate, max, slice_set, slice_index}
+use Rattle.page_checksum.specs.Sums.{joined as joined_sums}
 
 -- the sum of each page, from page 1 on, and how many more have room
 pub record PageSums : Type 0 where
@@ -33,3 +34,8 @@ sum_at table n = slice_index table.sums (n - 1)
 pub record HasRoom (count room capacity : ℕ) : Type 0 where
   pub holds : count ≤ room
   pub there : room ≤ capacity
+
+-- there is room for the sums that are told, and all of them taken together are kept beside them
+pub record IsTable (sums : List ℕ) (room capacity joined : ℕ) : Type 0 where
+  pub fits : HasRoom (length sums) room capacity
+  pub kept : joined ≡ joined_sums sums

@@ -1,5 +1,5 @@
 //! A table of page sums, from which the sum of a database is taken without reading its pages.
-ghost use Rattle.std.specs.Prelude.{◌≡◌, ◌+◌, ◌≤◌, length, OnOk, OnErr};
+ghost use Rattle.std.specs.Prelude.{◌≡◌, ◌+◌, ◌≤◌, length, take, OnOk, OnErr};
 ghost use Rattle.page_checksum.specs.Sums.{flagged, joined};
 ghost use Rattle.page_checksum.specs.Table.{no_sums, with_room, with_pages, with_sum, sum_at};
 
@@ -13,17 +13,19 @@ use std::marker::Model;
 pub struct Sums {
     sums: Vec<u64>,
     room: usize,
+    /// All sums taken together by XOR.
+    joined: u64,
 }
 
 impl Model for Sums {
     ghost use Rattle.std.specs.Prelude.{◌-◌, length, vec_capacity};
-    ghost use Rattle.page_checksum.specs.Table.{PageSums, HasRoom};
+    ghost use Rattle.page_checksum.specs.Table.{PageSums, IsTable};
 
     ghost Value = { PageSums };
 
     ghost view = { λ s. record { sums = s.sums.items; spare = s.room - length s.sums.items } };
 
-    ghost invariant = { λ s. HasRoom (length s.sums.items) s.room (vec_capacity s.sums) };
+    ghost invariant = { λ s. IsTable s.sums.items s.room (vec_capacity s.sums) s.joined };
 }
 
 impl Sums {
@@ -34,6 +36,7 @@ impl Sums {
         Sums {
             sums: Vec::new(alloc),
             room: 0,
+            joined: 0,
         }
     }
 
@@ -55,7 +58,9 @@ impl Sums {
         requires { pages ≤ length self.old.sums + self.old.spare }
         ensures { self.new ≡ with_pages self.old pages }
     {
+        let joined = self.joined_to(pages);
         let _ = self.sums.resize(pages as usize, 0);
+        self.joined = joined;
     }
 
     /// Puts the sum of page `n`.
@@ -64,7 +69,9 @@ impl Sums {
         requires last { n ≤ length self.old.sums }
         ensures { self.new ≡ with_sum self.old n sum }
     {
-        self.sums[n as usize - 1] = sum;
+        let place = n as usize - 1;
+        self.joined ^= self.sums[place] ^ sum;
+        self.sums[place] = sum;
     }
 
     /// The sum of page `n`, 0 past the last page.
@@ -84,12 +91,32 @@ impl Sums {
     pub fn total(&self) -> u64
         ensures { result ≡ flagged (joined self.now.sums) }
     {
-        let mut total = 0;
-        for sum in self.sums.as_slice() {
-            total ^= *sum;
-        }
-        total | FLAG
+        self.joined | FLAG
     }
+
+    /// The sums of the first `pages` pages taken together by XOR. Only the sums past them are gone
+    /// through.
+    pub fn joined_to(&self, pages: u32) -> u64
+        ensures { result ≡ joined (take pages self.now.sums) }
+    {
+        let pages = pages as usize;
+        if self.sums.len() <= pages {
+            return self.joined;
+        }
+        let (_, past) = self.sums.as_slice().split_at(pages);
+        self.joined ^ joined_of(past)
+    }
+}
+
+/// Sums taken together by XOR.
+fn joined_of(sums: &[u64]) -> u64
+    ensures { result ≡ joined sums.now }
+{
+    let mut joined = 0;
+    for sum in sums {
+        joined ^= *sum;
+    }
+    joined
 }
 
 /// Bit 63, which every sum carries.

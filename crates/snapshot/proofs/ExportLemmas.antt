@@ -1,13 +1,13 @@
 -- Pages that are appended one after another, while the disk rests.
-use Rattle.std.proofs.Common.{◌≡◌, ℕ, ◌+◌, ◌<◌, ◌≤◌, List, [], ◌∷◌, ◌++◌, Some, length, length-append, get_or, take, drop, refl, sym, ◌∙◌, ap, subst, arith, add-one, append_assoc, append-nil}
+use Rattle.std.proofs.Common.{◌≡◌, ℕ, ◌+◌, ◌<◌, ◌≤◌, List, [], ◌∷◌, ◌++◌, Some, length, length-append, get_or, take, drop, refl, sym, ◌∙◌, ap, arith, add-one, append_assoc, append-nil}
 use Rattle.std.proofs.Math.Seq.{take-add, drop-cons, take-append_seam, take-length}
 use Rattle.std.proofs.lemmas.List.{take-append-drop, take_all}
 use Rattle.std.proofs.lemmas.List.Folds.{concat-append}
 use Rattle.std.proofs.lemmas.Option.{slice_get_within, get_or_from_slice_get}
 use Rattle.std.specs.Io.{StartsWith}
 use Rattle.std.specs.List.{concat, slice_get}
-use Rattle.lf_disk.specs.History.{History, now, Rests}
-use Rattle.lf_sqlite_pages.specs.Image.{DatabaseImage, page_at, image_bytes}
+use Rattle.lf_disk.specs.History.{History, Rests}
+use Rattle.lf_sqlite_pages.specs.Image.{DatabaseImage, image_bytes}
 use Rattle.lf_sqlite_pages.proofs.PageNumbers.{page_at-next}
 use Rattle.snapshot.specs.Pages.{AppendsPage}
 

@@ -1,5 +1,5 @@
 -- The text of a store's snapshot is its parts.
-use Rattle.std.proofs.Common.{◌≡◌, ℕ, ◌<◌, ◌≤◌, List, ◌++◌, Result, Ok, Err, length, refl, sym, ◌∙◌, ap, subst, append_assoc}
+use Rattle.std.proofs.Common.{◌≡◌, ℕ, List, ◌++◌, length, refl, sym, ◌∙◌, ap, append_assoc}
 use Rattle.page_checksum.specs.Crc.{after_bytes, all_ones}
 use Rattle.page_checksum.proofs.CrcLemmas.{after_bytes-append}
 use Rattle.lf_base.specs.declared.pos.Pos.{Pos}

@@ -6,7 +6,7 @@ use Rattle.lf_disk.specs.Folder.{Folder, bytes_of}
 use Rattle.lf_sqlite_pages.specs.LockPage.{lock_page_of}
 use Rattle.lf_sqlite_pages.specs.Image.{page_at}
 use Rattle.txn_log.specs.Store.{image_in}
-use Rattle.txn_log.proofs.PagesRead.{count, reads_page, reads_lock}
+use Rattle.txn_log.proofs.PagesRead.{count, reads_page}
 use Rattle.snapshot.specs.Pages.{HasPages}
 
 -- the file is as long as its image

@@ -22,7 +22,8 @@ use Rattle.txn_log.specs.declared.entry.Entry.{Entry}
 use Rattle.txn_log.specs.Durable.{log_of, IsText}
 use Rattle.txn_log.specs.Kept.{LogFile, file_of, last_of, Decides, change_of}
 use Rattle.txn_log.specs.Store.{image_in, files_in, state_of, meant, end_of_entries, IsStore, IsSized}
-use Rattle.txn_log.proofs.PagesRead.{count, is_image}
+use Rattle.txn_log.proofs.Commits.{end_of-push}
+use Rattle.txn_log.proofs.PagesRead.{is_image}
 use Rattle.snapshot.proofs.StoreLemmas.{page_size-most}
 
 -- the last file of some files
@@ -112,3 +113,8 @@ small_size size commit sized = elim (cases_lt 0 size) [
   | inl some ↦ omega (arith, page_size-most size (sized.sized some))
   | inr none ↦ omega (arith, none)
 ]
+
+-- installed, the snapshot leads back to the position
+pub leads_back : (store : StoreState) → end_of (snapshot_of store ∷ []) ≡ at store
+unfolding snapshot_of
+leads_back store = end_of-push [] (snapshot_of store)

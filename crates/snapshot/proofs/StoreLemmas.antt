@@ -1,5 +1,5 @@
 -- A store of which pages were read is as it was.
-use Rattle.std.proofs.Common.{◌≡◌, ℕ, ◌*◌, ◌<◌, ◌≤◌, arith, Bool, true, false, List, [], None, length, refl, sym, ◌∙◌, ap, subst}
+use Rattle.std.proofs.Common.{◌≡◌, ℕ, ◌*◌, ◌≤◌, arith, Bool, false, List, [], None, refl, sym, ◌∙◌, ap, subst}
 use Rattle.lf_disk.specs.Folder.{Folder}
 use Rattle.lf_disk.specs.History.{History, now, Rests}
 use Rattle.lf_disk.proofs.Moments.{rests_on, started}

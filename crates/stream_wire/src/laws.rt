@@ -1,10 +1,21 @@
 //! Laws of the definitions, each proved as the contract of a function that does nothing.
 
-ghost use Rattle.std.specs.Prelude.{◌≡◌, ◌++◌, ℕ, List};
+ghost use Rattle.std.specs.Prelude.{◌≡◌, ◌++◌, ◌<◌, ◌≤◌, ◌^◌, ◌⊎◌, ℕ, List, Option, Result, IfSome, length};
+ghost use Rattle.http.specs.StatusCode.{IsStatusCode};
+ghost use Rattle.httparse.specs.Grammar.{AllPass, is_value_byte};
+ghost use Rattle.stream_wire.specs.declared.call.Call.{Call};
 ghost use Rattle.stream_wire.specs.declared.frame.Frame.{Frame};
+ghost use Rattle.stream_wire.specs.declared.request.Heard.{Heard};
+ghost use Rattle.stream_wire.specs.declared.request.Heard.TheVariants as heard;
+ghost use Rattle.stream_wire.specs.declared.response.Told.{Told};
+ghost use Rattle.stream_wire.specs.declared.response.Told.TheVariants as told;
 ghost use Rattle.stream_wire.specs.declared.wire_fault.WireFault.{WireFault};
+ghost use Rattle.stream_wire.specs.declared.wire_fault.WireFault.TheVariants as wire_fault;
+ghost use Rattle.stream_wire.specs.Call.{IsNamed};
 ghost use Rattle.stream_wire.specs.Frame.{frame_text, FitsFrame};
 ghost use Rattle.stream_wire.specs.Front.{broken, whole, BeginsWith};
+ghost use Rattle.stream_wire.specs.Head.{HearsRequest, HearsResponse};
+ghost use Rattle.stream_wire.specs.Writing.{reply_head, request_head};
 
 /// No two frames have the same bytes.
 pub fn one_reading()
@@ -18,4 +29,18 @@ pub fn fronts_stay()
         → BeginsWith limit bytes (whole len) → BeginsWith limit (bytes ++ more) (whole len) }
     ensures fault { (limit : ℕ) (bytes more : List ℕ) (fault : WireFault)
         → BeginsWith limit bytes (broken fault) → BeginsWith limit (bytes ++ more) (broken fault) }
+{}
+
+/// What is written is read back. Of a reply's head the reader answers its length, its status and the length
+/// of its body, whatever follows. Of a request's, where the host has no control character and the head is
+/// within the limit, it answers the head's length, the call and the length of the body, or memory runs out.
+pub fn written_heads_are_read()
+    ensures reply { (status : ℕ) (len : Option ℕ) (more : List ℕ) (answer : Result Told WireFault)
+        → IsStatusCode status → IfSome len (λ n. n < 2 ^ 64)
+        → HearsResponse (reply_head status len ++ more) answer
+        → answer ≡ Ok (told.Whole (length (reply_head status len)) status len) }
+    ensures request { (call : Call) (host : List ℕ) (len : ℕ) (more : List ℕ) (answer : Result Heard WireFault)
+        → IsNamed call → AllPass is_value_byte host → len < 2 ^ 64 → length (request_head call host len) ≤ 8192
+        → HearsRequest (request_head call host len ++ more) answer
+        → (answer ≡ Ok (heard.Whole (length (request_head call host len)) call len)) ⊎ (answer ≡ Err wire_fault.NoMemory) }
 {}

@@ -24,7 +24,7 @@ pub use feed::{Fed, FrameFeed};
 pub use frame::Frame;
 pub use head_reading::{read_request, read_response};
 pub use head_writing::{write_head, write_request};
-pub use laws::{fronts_stay, one_reading};
+pub use laws::{fronts_stay, one_reading, written_heads_are_read};
 pub use request::Heard;
 pub use response::Told;
 pub use wire_fault::WireFault;

@@ -1,5 +1,5 @@
--- On a dropped store the file is published as a snapshot, and settled.
-use Rattle.std.proofs.Common.{inl, inr, ℕ, true, Option, List, [], refl, sym, ◌∙◌, subst}
+-- A staged file is published as a snapshot, and settled.
+use Rattle.std.proofs.Common.{◌≡◌, inl, inr, ℕ, Option, List, [], ◌∷◌, refl, sym, ◌∙◌, ap, subst}
 use Rattle.lf_disk.specs.declared.name.FileName.TheVariants.{Database, Staged, Snapshot, Ltx}
 use Rattle.lf_disk.specs.Folder.{Folder, bytes_of, SameBut}
 use Rattle.lf_disk.specs.History.{History, now, EachMoment}
@@ -7,48 +7,36 @@ use Rattle.lf_disk.specs.Publish.{IsOldOrPublished, IsPublished, with_bytes}
 use Rattle.lf_disk.proofs.Moments.{joined, weakened}
 use Rattle.lf_sqlite_pages.specs.Image.{DatabaseImage}
 use Rattle.lf_sqlite_pages.specs.Change.{PageChange}
-use Rattle.lf_sqlite_pages.specs.Apply.{apply}
+use Rattle.txn_log.specs.declared.entry.Entry.{Entry}
 use Rattle.txn_log.specs.Kept.{LogFile, change_of, Decides, IsBySnapshot}
-use Rattle.txn_log.specs.Placing.{IsBetween}
-use Rattle.txn_log.specs.Putting.{IsReady}
+use Rattle.txn_log.specs.Installing.{IsReadyAnew, IsAsBeforeOrInstalled}
 use Rattle.txn_log.specs.Settling.{IsUnsettled, IsInstalled}
-use Rattle.txn_log.proofs.Placings.{kept_same}
-use Rattle.txn_log.proofs.Puttings.{decides}
+use Rattle.txn_log.proofs.Settlings.{without-alike}
 
-module _ (h : History) (image : DatabaseImage) (change : PageChange) (file : LogFile) (ready : IsReady image [] true file.text change h) where
-  abbrev pub made : DatabaseImage
-  made = apply image change
-
-  by_snapshot : (c : Folder) → SameBut Staged (with_bytes Snapshot file.text ready.before) c → IsBySnapshot made file.text c
+module _ (h : History) (before : Folder) (image : DatabaseImage) (entries : List Entry) (change : PageChange) (file : LogFile) (ready : IsReadyAnew before image file.text entries change h) where
+  by_snapshot : (c : Folder) → SameBut Staged (with_bytes Snapshot file.text before) c → IsBySnapshot image file.text c
   by_snapshot c same = record {
     stands = same Snapshot refl;
     decides =
-        subst (λ (o : Option (List ℕ)). Decides (change_of file.text) made (bytes_of o)) (sym (same Database refl))
-        (subst (λ (x : PageChange). Decides x made (bytes_of (ready.before Database))) (sym ready.tells)
-        (decides image change (bytes_of (ready.before Database)) ready.valid ready.shows ready.complete));
+        subst (λ (o : Option (List ℕ)). Decides (change_of file.text) image (bytes_of o)) (sym (same Database refl))
+        (subst (λ (x : PageChange). Decides x image (bytes_of (before Database))) (sym ready.would.tells) ready.would.decides);
   }
 
-  pub first : (c : Folder) → IsOldOrPublished ready.before Snapshot file.text c → IsBetween image [] true made file c
+  pub first : (c : Folder) → IsOldOrPublished before Snapshot file.text c → IsAsBeforeOrInstalled before image file c
   first c is = elim is [
-    | inl old ↦ inl (kept_same image [] true ready.before c ready.kept old)
-    | inr new ↦ inr (inl (refl, by_snapshot c new))
+    | inl old ↦ inl old
+    | inr new ↦ inr (inl (by_snapshot c new))
   ]
 
-  pub second : (c : Folder) → IsInstalled made file c → IsBetween image [] true made file c
-  second c is = elim is [
-    | inl by ↦ inr (inl (refl, by))
-    | inr kept ↦ inr (inr kept)
-  ]
-
-  pub unsettled : (mid : History) → IsPublished ready.before Snapshot file.text mid → IsUnsettled made file.text [] change (now mid)
+  pub unsettled : (mid : History) → IsPublished before Snapshot file.text mid → IsUnsettled image file.text entries change (now mid)
   unsettled mid published = record {
     by = by_snapshot (now mid) published.seen;
-    tells = ready.tells;
-    others = λ a b. published.seen (Ltx a b) refl ∙ ready.kept.log a b;
+    tells = ready.would.tells;
+    others = λ a b. without-alike entries before (now mid) (λ x y. published.seen (Ltx x y) refl) a b ∙ ready.would.others a b;
   }
 
-  pub moments : (mid new : History) → EachMoment h mid (IsOldOrPublished ready.before Snapshot file.text) → EachMoment mid new (IsInstalled made file) → EachMoment h new (IsBetween image [] true made file)
-  moments mid new before after =
-      joined h mid new (IsBetween image [] true made file)
-      (weakened h mid (IsOldOrPublished ready.before Snapshot file.text) (IsBetween image [] true made file) before first)
-      (weakened mid new (IsInstalled made file) (IsBetween image [] true made file) after second)
+  pub moments : (mid new : History) → EachMoment h mid (IsOldOrPublished before Snapshot file.text) → EachMoment mid new (IsInstalled image file) → EachMoment h new (IsAsBeforeOrInstalled before image file)
+  moments mid new run after =
+      joined h mid new (IsAsBeforeOrInstalled before image file)
+      (weakened h mid (IsOldOrPublished before Snapshot file.text) (IsAsBeforeOrInstalled before image file) run first)
+      (weakened mid new (IsInstalled image file) (IsAsBeforeOrInstalled before image file) after (λ c is. inr is))

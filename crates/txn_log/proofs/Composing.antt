@@ -1,12 +1,11 @@
 -- Calls on a store, after others.
-use Rattle.std.proofs.Common.{◌≡◌, ℕ, ◌≤◌, List, [], ◌∷◌, ◌++◌, Option, None, Some, IsSome, Bool, true, false, Result, Ok, Err, inl, inr, refl, sym, ap, subst, ◌∙◌, arith, append_assoc}
+use Rattle.std.proofs.Common.{◌≡◌, ℕ, List, [], ◌∷◌, ◌++◌, Option, None, Some, Bool, true, false, Result, Ok, Err, inl, inr, refl, sym, ap, subst, ◌∙◌, arith, append_assoc}
 use Rattle.std.proofs.lemmas.List.{append-nil}
 use Rattle.std.proofs.lemmas.List.Sums.{fold-append}
 use Rattle.std.proofs.Math.Logic.{∥∥₁_map}
-use Rattle.lf_disk.specs.Folder.{Folder}
-use Rattle.lf_disk.specs.History.{History, EachMoment, may_leave}
+use Rattle.lf_disk.specs.History.{History, EachMoment}
 use Rattle.lf_disk.proofs.Moments.{joined, weakened}
-use Rattle.world_laws.specs.Store.{StoreState, StoreCall, Commit, Apply, Install, PruneTo, DropAll, Failure, FailedBefore, FailedIn, CanDoAll, all_done, done, begun_by, broken_by, MayLeave, MayBeFound, IsCandidate}
+use Rattle.world_laws.specs.Store.{StoreState, StoreCall, Commit, Apply, Install, PruneTo, DropAll, Failure, FailedBefore, FailedIn, CanDoAll, all_done, done, begun_by, broken_by, MayLeave, IsCandidate}
 use Rattle.txn_log.specs.declared.fault.StoreFault.{StoreFault}
 use Rattle.txn_log.specs.declared.fault.StoreFault.TheVariants as fault
 use Rattle.txn_log.specs.Calls.{StandsForOne, MayFind, Moved, Went, ThenPruned}

@@ -1,5 +1,5 @@
 -- The pages of a change, one after another.
-use Rattle.std.proofs.Common.{◌≡◌, ℕ, zero, suc, ◌+◌, ◌<◌, ◌≤◌, List, [], ◌∷◌, length, take, fold, get_or, subst, sym, arith}
+use Rattle.std.proofs.Common.{◌≡◌, ℕ, zero, suc, ◌<◌, List, [], ◌∷◌, length, take, fold, get_or, subst, sym, arith}
 use Rattle.lf_sqlite_pages.specs.Change.{AscendsAbove, last_number}
 use Rattle.lf_sqlite_pages.specs.declared.page_write.PageWrite.{PageWrite}
 

@@ -1,5 +1,5 @@
 -- What a complete change holds while its pages come.
-use Rattle.std.proofs.Common.{◌≡◌, ◌≢◌, inl, inr, ℕ, ◌+◌, ◌-◌, ◌<◌, ◌≤◌, Bool, true, false, eqb, cond, Option, Some, None, List, [], ◌∷◌, ◌++◌, fold, replicate, refl, sym, ◌∙◌, ap, subst, arith, unwrap_or}
+use Rattle.std.proofs.Common.{◌≡◌, ◌≢◌, inl, inr, ℕ, ◌<◌, ◌≤◌, Bool, true, false, eqb, cond, Option, Some, None, List, [], ◌∷◌, ◌++◌, fold, replicate, refl, sym, ◌∙◌, ap, subst, arith, unwrap_or}
 use Rattle.std.specs.Prelude.{◌==◌, nat_le, find, if◌then◌else◌}
 use Rattle.std.specs.Option.{option_map}
 use Rattle.std.proofs.lemmas.Bool.{cases_lt}
@@ -7,16 +7,13 @@ use Rattle.std.proofs.lemmas.Bool.Decides.{nat_tests}
 use Rattle.lf_sqlite_pages.specs.LockPage.{lock_page_of, IsDataPage}
 use Rattle.lf_sqlite_pages.specs.Change.{PageChange, IsChange, AscendsAbove, last_number, with_page, written}
 use Rattle.lf_sqlite_pages.specs.Complete.{completed_page}
-use Rattle.lf_sqlite_pages.specs.Writes.{writes_of}
 use Rattle.lf_sqlite_pages.specs.declared.page_write.PageWrite.{PageWrite}
 use Rattle.lf_sqlite_pages.proofs.Completing.{completed-within, completed-past}
 use Rattle.lf_sqlite_pages.proofs.Writes.{writes_of-same}
-use Rattle.ltx_codec.specs.declared.header.Header.{Header}
-use Rattle.ltx_codec.specs.steps.ChangedSum.{joined_over}
 use Rattle.ltx_codec.proofs.SumLemmas.{map-same}
-use Rattle.page_checksum.specs.Sums.{joined, page_sum_of}
+use Rattle.page_checksum.specs.Sums.{joined}
 use Rattle.txn_log.specs.declared.receiving.Receiving.{Receiving}
-use Rattle.txn_log.specs.Receiving.{lacking_page, sum_with, HasPassed, Lacks, ComesNext}
+use Rattle.txn_log.specs.Receiving.{lacking_page, sum_with, HasPassed, ComesNext}
 use Rattle.txn_log.specs.Staging.{IsStaging}
 
 kept : (b : Bool) (x : PageWrite) (r s : Option PageWrite) → option_map (λ (w : PageWrite). w.bytes) s ≡ option_map (λ (w : PageWrite). w.bytes) r
@@ -25,7 +22,7 @@ kept true x r s same = refl
 kept false x r s same = same
 
 -- a page more is written at its number alone
-written-push-other : (ws : List PageWrite) (w : PageWrite) (n : ℕ) → n ≢ w.number → written (ws ++ w ∷ []) n ≡ written ws n
+pub written-push-other : (ws : List PageWrite) (w : PageWrite) (n : ℕ) → n ≢ w.number → written (ws ++ w ∷ []) n ≡ written ws n
 written-push-other [] w n other =
     let test : eqb w.number n ≡ false = grind (arith, nat_tests) in
     rw test refl
@@ -37,7 +34,7 @@ found : (b : Bool) (x : PageWrite) (r s : Option PageWrite) (bytes : List ℕ) �
 found true x r s bytes none more = cc
 found false x r s bytes none more = more none
 
-written-push-here : (ws : List PageWrite) (w : PageWrite) → written ws w.number ≡ None → written (ws ++ w ∷ []) w.number ≡ Some w.bytes
+pub written-push-here : (ws : List PageWrite) (w : PageWrite) → written ws w.number ≡ None → written (ws ++ w ∷ []) w.number ≡ Some w.bytes
 written-push-here [] w none =
     let test : eqb w.number w.number ≡ true = grind (arith, nat_tests) in
     rw test refl

@@ -10,9 +10,11 @@ pub mod Drafts
 pub mod Droppings
 pub mod Emptyings
 pub mod Entries
+pub mod Fittings
 pub mod Givings
 pub mod Growths
 pub mod Installed
+pub mod Installings
 pub mod Marks
 pub mod Modes
 pub mod Moves
@@ -20,6 +22,7 @@ pub mod Naming
 pub mod PagesRead
 pub mod Places
 pub mod Placings
+pub mod PlacingsAnew
 pub mod Prunings
 pub mod Puttings
 pub mod Receivings

@@ -1,16 +1,15 @@
 -- The journal mode of a database after a change.
-use Rattle.std.proofs.Common.{◌≡◌, ◌⊎◌, inl, inr, ℕ, ◌<◌, ◌≤◌, Bool, true, false, eqb, Option, Some, None, List, [], length, get_or, replicate, refl, sym, ◌∙◌, ap, subst, arith, unwrap_or}
-use Rattle.std.specs.Prelude.{◌==◌, if◌then◌else◌}
+use Rattle.std.proofs.Common.{◌≡◌, inl, inr, ℕ, ◌≤◌, Bool, true, false, eqb, Option, Some, List, [], length, get_or, replicate, sym, ◌∙◌, ap, arith, unwrap_or}
 use Rattle.std.specs.Option.{option_map}
 use Rattle.std.proofs.lemmas.Bool.{cases_lt, cases_eq}
 use Rattle.std.proofs.lemmas.Bool.Decides.{nat_tests}
 use Rattle.std.proofs.lemmas.Option.{slice_get-get_or}
-use Rattle.lf_sqlite_pages.specs.LockPage.{lock_page_of, IsDataPage}
+use Rattle.lf_sqlite_pages.specs.LockPage.{IsDataPage}
 use Rattle.lf_sqlite_pages.specs.Change.{PageChange, written}
 use Rattle.lf_sqlite_pages.specs.Image.{DatabaseImage, page_at}
 use Rattle.lf_sqlite_pages.specs.Header.{is_wal, image_is_wal}
 use Rattle.lf_sqlite_pages.specs.Apply.{apply}
-use Rattle.lf_sqlite_pages.proofs.Laws.{length-apply, page_at-apply, page_after-data}
+use Rattle.lf_sqlite_pages.proofs.Laws.{page_at-apply, page_after-data}
 use Rattle.lf_sqlite_pages.proofs.PageNumbers.{page_at-first}
 use Rattle.txn_log.specs.Kept.{IsComplete}
 use Rattle.txn_log.specs.Modes.{wal_after}

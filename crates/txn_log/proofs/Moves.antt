@@ -104,6 +104,7 @@ can-publish attempt.Commit store file publishes can = (can.is, can.joins, publis
 can-publish attempt.Apply store file publishes can = (can.is, can.joins)
 can-publish attempt.Unpublished store file publishes can = absurd publishes
 can-publish attempt.Drop store file publishes can = absurd publishes
+can-publish attempt.Install store file publishes can = absurd publishes
 can-publish (attempt.Prune keep) store file publishes can = absurd publishes
 
 done-publish : (tries : Attempt) (store : StoreState) (file : Ltx) → done store (call_of tries file) ≡ with_file store file
@@ -111,6 +112,7 @@ done-publish attempt.Commit store file = refl
 done-publish attempt.Apply store file = refl
 done-publish attempt.Unpublished store file = refl
 done-publish attempt.Drop store file = refl
+done-publish attempt.Install store file = refl
 done-publish (attempt.Prune keep) store file = refl
 
 may_leave-publish : (tries : Attempt) (store : StoreState) (file : Ltx) (left : StoreState) → (left ≡ store) ⊎ (left ≡ with_file store file) → MayLeave store (call_of tries file) left
@@ -118,6 +120,7 @@ may_leave-publish attempt.Commit store file left either = either
 may_leave-publish attempt.Apply store file left either = either
 may_leave-publish attempt.Unpublished store file left either = either
 may_leave-publish attempt.Drop store file left either = either
+may_leave-publish attempt.Install store file left either = either
 may_leave-publish (attempt.Prune keep) store file left either = either
 
 failure-publish : (tries : Attempt) (h : History) (tried : ℕ) (file : Ltx) → Publishes tries file → failure_of h tried tries ≡ FailedIn (call_of tries (file_of (bytes_of (h.seen tried Staged))))
@@ -125,6 +128,7 @@ failure-publish attempt.Commit h tried file publishes = refl
 failure-publish attempt.Apply h tried file publishes = refl
 failure-publish attempt.Unpublished h tried file publishes = absurd publishes
 failure-publish attempt.Drop h tried file publishes = absurd publishes
+failure-publish attempt.Install h tried file publishes = absurd publishes
 failure-publish (attempt.Prune keep) h tried file publishes = absurd publishes
 
 -- a store that is not broken

@@ -1,11 +1,9 @@
 -- Pages in the bytes of a file, under writes and cuts.
-use Rattle.std.proofs.Common.{◌≡◌, ◌≢◌, ◌⊎◌, inl, inr, ℕ, zero, suc, ◌+◌, ◌-◌, ◌*◌, ◌<◌, ◌≤◌, min, List, [], ◌∷◌, ◌++◌, length, take, drop, replicate, refl, sym, ◌∙◌, ap, subst, arith, length-append, length-take, length-drop, get_or, get_or-take, get_or-drop, slice_index}
+use Rattle.std.proofs.Common.{◌≡◌, ◌≢◌, ◌⊎◌, inl, inr, ℕ, zero, suc, ◌+◌, ◌-◌, ◌*◌, ◌<◌, ◌≤◌, List, length, drop, sym, ◌∙◌, ap, arith, length-take, length-drop, get_or-take, get_or-drop, slice_index}
 use Rattle.std.proofs.Math.Nat.{mul-le-mul_right, suc-mul}
 use Rattle.std.proofs.lemmas.Bool.{cases_lt}
 use Rattle.std.proofs.lemmas.Grind.{same_number_lists}
-use Rattle.lf_base.specs.FileBytes.{resized, overwritten}
 use Rattle.lf_disk.specs.Change.{Torn, Cropped}
-use Rattle.lf_disk.specs.Tears.{Torn-overwritten, Cropped-resized}
 use Rattle.txn_log.specs.Pages.{in_place, SamePage}
 
 -- a page ends where the next begins

@@ -10,9 +10,11 @@ use Rattle.lf_disk.proofs.Moments.{joined, weakened}
 use Rattle.lf_sqlite_pages.specs.Image.{DatabaseImage}
 use Rattle.lf_sqlite_pages.specs.Change.{PageChange}
 use Rattle.lf_sqlite_pages.specs.Apply.{apply}
-use Rattle.txn_log.specs.Kept.{LogFile, Kept, IsAtRest, IsDecided, last_of}
+use Rattle.txn_log.specs.Kept.{LogFile, text_of, Kept, IsAtRest, IsDecided, last_of}
 use Rattle.txn_log.specs.Putting.{IsSettled, IsReady, IsBeforeOrAfter}
+use Rattle.txn_log.specs.Installing.{IsReadyAnew, IsAsBeforeOrInstalled}
 use Rattle.txn_log.specs.Placing.{IsOver, IsTried, IsBetween}
+use Rattle.txn_log.proofs.Puttings.{decides}
 
 -- the staged file is of no account
 pub kept_same : (image : DatabaseImage) (files : List LogFile) (dropped : _) (f c : Folder) → Kept image files dropped f → SameBut Staged f c → Kept image files dropped c
@@ -32,15 +34,25 @@ between image files dropped made file unmarked c either = elim either [
 ]
 
 -- a store with the mark has no files
-pub anew_ready : (image : DatabaseImage) (files : List LogFile) (dropped : Bool) (text : List ℕ) (change : PageChange) (h : History) → dropped ≡ true → files ≡ []
-    → IsReady image files dropped text change h → IsReady image [] true text change h
-anew_ready image files dropped text change h marked none ready =
-    subst (λ (fs : List LogFile). IsReady image fs true text change h) none (subst (λ (d : Bool). IsReady image files d text change h) marked ready)
+module _ (image : DatabaseImage) (files : List LogFile) (dropped : Bool) (text : List ℕ) (change : PageChange) (h : History) (marked : dropped ≡ true) (none : files ≡ []) (ready : IsReady image files dropped text change h) where
+  pub anew_ready : IsReadyAnew ready.before (apply image change) text [] change h
+  anew_ready = record {
+    staged = ready.staged;
+    would = record {
+      decides = decides image change (bytes_of (ready.before Database)) ready.valid ready.shows ready.complete;
+      tells = ready.tells;
+      others = λ a b. ready.kept.log a b ∙ ap (λ (fs : List LogFile). text_of fs a b) none;
+    };
+  }
 
-pub anew_moments : (image : DatabaseImage) (files : List LogFile) (dropped : Bool) (made : DatabaseImage) (file : LogFile) (h new : History) → dropped ≡ true → files ≡ []
-    → EachMoment h new (IsBetween image [] true made file) → EachMoment h new (IsBetween image files dropped made file)
-anew_moments image files dropped made file h new marked none run =
-    subst (λ (d : Bool). EachMoment h new (IsBetween image files d made file)) (sym marked) (subst (λ (fs : List LogFile). EachMoment h new (IsBetween image fs true made file)) (sym none) run)
+  pub anew_moments : (file : LogFile) (new : History) → EachMoment h new (IsAsBeforeOrInstalled ready.before (apply image change) file) → EachMoment h new (IsBetween image files dropped (apply image change) file)
+  anew_moments file new run =
+      weakened h new (IsAsBeforeOrInstalled ready.before (apply image change) file) (IsBetween image files dropped (apply image change) file) run
+      (λ c is. elim is [
+        | inl same ↦ inl (kept_same image files dropped ready.before c ready.kept same)
+        | inr (inl by) ↦ inr (inl (marked, by))
+        | inr (inr kept) ↦ inr (inr (subst (λ (fs : List LogFile). Kept (apply image change) (fs ++ file ∷ []) false c) (sym none) kept))
+      ])
 
 pub anew_rest : (files : List LogFile) (made : DatabaseImage) (file : LogFile) (new : History) → files ≡ [] → IsAtRest made (file ∷ []) false new → IsAtRest made (files ++ file ∷ []) false new
 anew_rest files made file new none rest = subst (λ (fs : List LogFile). IsAtRest made (fs ++ file ∷ []) false new) (sym none) rest

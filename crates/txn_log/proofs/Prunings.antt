@@ -1,22 +1,20 @@
 -- The oldest file of a log is removed.
-use Rattle.std.proofs.Common.{◌≡◌, ◌⊎◌, inl, inr, ℕ, zero, suc, ◌+◌, ◌<◌, ◌≤◌, Bool, false, true, cond, eqb, eqb-true, Option, Some, None, Result, List, [], ◌∷◌, length, length-drop, drop, get_or, fold, refl, sym, ◌∙◌, ap, subst, arith}
+use Rattle.std.proofs.Common.{◌≡◌, ◌⊎◌, inl, inr, ℕ, zero, suc, ◌+◌, ◌<◌, ◌≤◌, Bool, false, cond, eqb-true, Option, Some, None, Result, List, [], ◌∷◌, length, length-drop, drop, get_or, refl, sym, ◌∙◌, ap, subst, arith}
 use Rattle.std.specs.Prelude.{◌==◌, ◌&&◌, is_some}
-use Rattle.std.proofs.lemmas.Bool.{cases_Bool, and_parts, false≢true}
-use Rattle.std.proofs.lemmas.Bool.Decides.{nat_tests}
+use Rattle.std.proofs.lemmas.Bool.{cases_Bool, and_parts}
 use Rattle.std.proofs.lemmas.List.{drop_more}
-use Rattle.lf_disk.specs.declared.name.FileName.{FileName}
-use Rattle.lf_disk.specs.declared.name.FileName.TheVariants.{Database, Staged, Snapshot, Dropped, Ltx}
-use Rattle.lf_disk.specs.Folder.{Folder, bytes_of, Same, SameBut, same_name}
+use Rattle.lf_disk.specs.declared.name.FileName.TheVariants.{Database, Snapshot, Dropped, Ltx}
+use Rattle.lf_disk.specs.Folder.{Folder, bytes_of, same_name}
 use Rattle.lf_disk.specs.Names.{same_name-one}
 use Rattle.txn_log.specs.declared.entry.Entry.{Entry}
 use Rattle.txn_log.proofs.Placings.{kept_same}
 use Rattle.txn_log.specs.Entries.{AreNamed}
 use Rattle.txn_log.proofs.Stores.{text_from, unnamed}
-use Rattle.lf_disk.specs.Change.{Step, OnFile, Perhaps, Becomes, SetsFile}
+use Rattle.lf_disk.specs.Change.{Step, Perhaps, SetsFile}
 use Rattle.lf_disk.specs.History.{History, now, may_leave, Ticks, Moves, EachMoment}
 use Rattle.lf_disk.proofs.Moments.{started, goes_on}
 use Rattle.lf_sqlite_pages.specs.Image.{DatabaseImage}
-use Rattle.txn_log.specs.Kept.{LogFile, text_of, last_of, IsDecided, Kept, Shows, IsAtRestAt, IsAtRest, Ascends}
+use Rattle.txn_log.specs.Kept.{LogFile, last_of, IsDecided, Kept, Shows, IsAtRest, Ascends}
 use Rattle.txn_log.specs.Pruning.{IsPruned}
 
 last_rest : (file : LogFile) (rest : List LogFile) → 0 < length rest → last_of (file ∷ rest) ≡ last_of rest

@@ -1,6 +1,6 @@
 -- A transaction file is published and its change written over the database file.
-use Rattle.std.proofs.Common.{◌≡◌, ◌≢◌, ◌⊎◌, inl, inr, ℕ, zero, suc, take, drop, get_or, eqb-true, length-append, append_assoc, ◌+◌, ◌-◌, ◌*◌, ◌<◌, ◌≤◌, false, true, cond, eqb, Option, Some, None, List, [], ◌∷◌, ◌++◌, length, fold, unwrap_or, refl, sym, ◌∙◌, ap, subst, arith}
-use Rattle.std.specs.Prelude.{◌==◌, ◌&&◌, if◌then◌else◌, replicate, IsSome, Bool, is_some}
+use Rattle.std.proofs.Common.{◌≡◌, ◌≢◌, ◌⊎◌, inl, inr, ℕ, suc, take, drop, get_or, eqb-true, length-append, append_assoc, ◌+◌, ◌-◌, ◌*◌, ◌<◌, ◌≤◌, false, true, cond, eqb, Option, Some, None, List, [], ◌∷◌, ◌++◌, length, unwrap_or, refl, sym, ◌∙◌, ap, subst, arith}
+use Rattle.std.specs.Prelude.{◌==◌, ◌&&◌, replicate, IsSome, Bool, is_some}
 use Rattle.std.proofs.Math.Nat.{mul-le-mul_right}
 use Rattle.std.proofs.lemmas.Bool.{cases_lt, cases_Bool, cases_eq}
 use Rattle.std.proofs.lemmas.Bool.Decides.{nat_tests}
@@ -8,31 +8,29 @@ use Rattle.std.proofs.lemmas.List.Sums.{fold-append}
 use Rattle.std.proofs.lemmas.List.{drop_at, take_at}
 use Rattle.std.proofs.lemmas.Option.{same_Some}
 use Rattle.txn_log.proofs.Wearing.{other_number, written_rest}
-use Rattle.lf_disk.specs.declared.name.FileName.{FileName}
 use Rattle.lf_disk.specs.declared.name.FileName.TheVariants.{Database, Staged, Snapshot, Dropped, Ltx}
 use Rattle.lf_base.specs.FileBytes.{resized, overwritten}
 use Rattle.lf_base.proofs.FileLemmas.{length-resized}
 use Rattle.lf_disk.specs.Folder.{Folder, bytes_of, SameBut}
 use Rattle.lf_disk.specs.Tears.{Torn-overwritten, Cropped-resized}
 use Rattle.lf_disk.specs.Change.{Torn, Cropped}
-use Rattle.lf_disk.specs.History.{History, now, may_leave, EachMoment, IsSettledBut}
+use Rattle.lf_disk.specs.History.{History, now, may_leave, EachMoment}
 use Rattle.lf_disk.specs.Publish.{IsStaged, IsOldOrPublished, IsPublished, with_bytes}
 use Rattle.lf_disk.proofs.Moments.{joined, weakened}
-use Rattle.lf_sqlite_pages.specs.Image.{DatabaseImage, page_at}
+use Rattle.lf_sqlite_pages.specs.Image.{DatabaseImage}
 use Rattle.lf_sqlite_pages.specs.Change.{PageChange, IsChange, AscendsAbove, written}
 use Rattle.lf_sqlite_pages.specs.Apply.{apply}
 use Rattle.lf_sqlite_pages.specs.declared.page_write.PageWrite.{PageWrite}
 use Rattle.lf_sqlite_pages.specs.LockPage.{lock_page_of, IsDataPage}
-use Rattle.lf_sqlite_pages.specs.Change.{HoldsEveryPage}
 use Rattle.lf_sqlite_pages.specs.Apply.{page_after}
 use Rattle.lf_sqlite_pages.proofs.Laws.{length-apply, page_at-apply, page_after-data, page_after-lock_page}
 use Rattle.lf_sqlite_pages.proofs.Applying.{written-lock_page}
 use Rattle.lf_sqlite_pages.proofs.Applying.{written-above}
-use Rattle.txn_log.specs.Pages.{in_place, page_in, SamePage, KeepsPages, IsLeft, Wears, patched}
+use Rattle.txn_log.specs.Pages.{in_place, page_in, SamePage, KeepsPages, IsLeft, patched}
 use Rattle.txn_log.specs.Rewriting.{IsWorn, IsRewritten}
 use Rattle.txn_log.specs.Kept.{LogFile, change_of, text_of, last_of, Decides, IsDecided, Kept, Shows, IsAtRest, IsComplete}
 use Rattle.txn_log.specs.Putting.{IsSettled, IsReady, IsBeforeOrAfter}
-use Rattle.txn_log.proofs.Places.{torn_page, cropped_page, page_end, same_page}
+use Rattle.txn_log.proofs.Places.{torn_page, cropped_page, page_end}
 
 pub cases_option : (o : Option (List ℕ)) → (o ≡ None) ⊎ ((x : List ℕ) × (o ≡ Some x))
 cases_option None = inl refl

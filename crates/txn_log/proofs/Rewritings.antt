@@ -1,5 +1,5 @@
 -- What a crash leaves while a change is written over the database file.
-use Rattle.std.proofs.Common.{◌≡◌, inl, inr, ℕ, ◌*◌, ◌≤◌, false, Some, Result, refl, sym, ◌∙◌, ap, subst, arith}
+use Rattle.std.proofs.Common.{◌≡◌, inl, inr, ℕ, ◌*◌, Some, Result, refl, sym, ◌∙◌, ap, subst, arith}
 use Rattle.std.proofs.lemmas.Bool.{cases_Bool}
 use Rattle.lf_disk.specs.Names.{same_name-one}
 use Rattle.lf_disk.specs.declared.name.FileName.{FileName}
@@ -8,10 +8,10 @@ use Rattle.lf_base.specs.FileBytes.{resized}
 use Rattle.lf_disk.specs.Folder.{Folder, bytes_of, Same, same_name}
 use Rattle.lf_disk.specs.Change.{Step, OnFile, Perhaps, Cuts, CropsFile, SetsFile}
 use Rattle.lf_disk.specs.History.{History, now, may_leave, Ticks, Moves, EachMoment, IsSettledBut}
-use Rattle.lf_disk.proofs.Moments.{goes_on}
+use Rattle.lf_disk.proofs.Moments.{goes_on, joined}
 use Rattle.lf_sqlite_pages.specs.Change.{PageChange}
 use Rattle.lf_disk.specs.Stretch.{Stretch}
-use Rattle.txn_log.specs.Pages.{Wears, Patches, patched}
+use Rattle.txn_log.specs.Pages.{Wears, Patches}
 use Rattle.txn_log.specs.Rewriting.{IsWorn, IsRewritten}
 use Rattle.lf_disk.proofs.Stretches.{each_moment}
 use Rattle.txn_log.proofs.Wearing.{wears_none, wears_both, cut_wears}
@@ -38,14 +38,12 @@ module _ (change : PageChange) (h : History) where
       })
       (λ f g. worn_step f g)
 
-  -- the cut, whether it succeeds or not
-  pub cuts : {T E : Type 0} (result : Result T E) (mid new : History) (sees : Step) (len : ℕ) → len ≡ change.commit * change.page_size → Runs mid → Ticks result mid new
-      → Moves sees (CropsFile Database len) mid new → Runs new
-  cuts result mid new sees len size runs ticks moves =
-      goes_on result h mid new (IsWorn change (now h)) runs ticks
-      (λ c may.
-      let from = moves.left c may in
-      worn_step from.0 c (here mid runs from.0 from.1) (cut_wears change from.0 c (subst (λ (l : ℕ). CropsFile Database l from.0 c) size from.2)))
+  -- the length, whether it is given or not
+  pub fits : (mid new : History) (len : ℕ) → len ≡ change.commit * change.page_size → Runs mid → Stretch (CropsFile Database len) mid new → Runs new
+  fits mid new len size runs run =
+      joined h mid new (IsWorn change (now h)) runs
+      (each_moment mid new (CropsFile Database len) (IsWorn change (now h)) run (here mid runs)
+      (λ d c worn crops. worn_step d c worn (cut_wears change d c (subst (λ (l : ℕ). CropsFile Database l d c) size crops))))
 
   set : (mid : History) → Runs mid → may_leave mid (now mid) → (d c : Folder) → may_leave mid d → SetsFile Database (now mid Database) d c → IsWorn change (now h) c
   set mid runs real d c may sets = record {

@@ -42,7 +42,7 @@ unmarked_settled h mid settled moves c may n other =
     ]
 
 -- the transaction files of a folder are removed alike where they are alike
-without-alike : (entries : List Entry) (f g : Folder) → ((a b : ℕ) → g (Ltx a b) ≡ f (Ltx a b)) → (a b : ℕ) → without entries g (Ltx a b) ≡ without entries f (Ltx a b)
+pub without-alike : (entries : List Entry) (f g : Folder) → ((a b : ℕ) → g (Ltx a b) ≡ f (Ltx a b)) → (a b : ℕ) → without entries g (Ltx a b) ≡ without entries f (Ltx a b)
 without-alike [] f g alike a b = alike a b
 without-alike (e ∷ es) f g alike a b =
     without-alike es (with_file (Ltx e.min e.max) None f) (with_file (Ltx e.min e.max) None g)

@@ -1,20 +1,18 @@
 -- A file whose pages are being written.
-use Rattle.std.proofs.Common.{◌≡◌, ◌≢◌, inl, inr, ℕ, zero, suc, ◌+◌, ◌-◌, ◌*◌, ◌<◌, ◌≤◌, true, false, cond, eqb, eqb-true, Option, Some, None, IsSome, Result, List, [], ◌∷◌, length, take, get_or, refl, sym, ◌∙◌, ap, subst, arith}
-use Rattle.std.specs.Option.{option_map}
+use Rattle.std.proofs.Common.{◌≡◌, ◌≢◌, inl, inr, ℕ, zero, suc, ◌+◌, ◌-◌, ◌*◌, ◌<◌, true, eqb, Option, Some, None, Result, List, [], ◌∷◌, length, take, get_or, refl, sym, ◌∙◌, ap, subst, arith}
 use Rattle.std.proofs.Math.Nat.{mul-le-mul_right}
 use Rattle.std.proofs.lemmas.Bool.{cases_Bool}
 use Rattle.std.proofs.lemmas.Bool.Decides.{nat_tests}
 use Rattle.std.proofs.lemmas.List.Sums.{fold_more}
-use Rattle.lf_disk.specs.declared.name.FileName.{FileName}
 use Rattle.lf_disk.specs.declared.name.FileName.TheVariants.{Database}
 use Rattle.lf_base.specs.FileBytes.{overwritten}
 use Rattle.lf_disk.specs.Folder.{Folder, bytes_of}
-use Rattle.lf_disk.specs.Change.{Step, OnFile, Stands, Torn, Cropped, Writes, TearsFile, CropsFile}
-use Rattle.lf_disk.specs.History.{History, now, Ticks, Moves}
+use Rattle.lf_disk.specs.Change.{Step, OnFile, Torn, Writes, TearsFile, CropsFile}
+use Rattle.lf_disk.specs.History.{History, Ticks, Moves}
 use Rattle.lf_sqlite_pages.specs.Change.{PageChange, IsChange, written}
 use Rattle.lf_sqlite_pages.specs.declared.page_write.PageWrite.{PageWrite}
 use Rattle.lf_sqlite_pages.proofs.Applying.{WritesWhole, WritesWhole-at}
-use Rattle.txn_log.specs.Pages.{SamePage, KeepsPages, IsLeft, Wears, Patches, patched}
+use Rattle.txn_log.specs.Pages.{Wears, Patches, patched}
 use Rattle.txn_log.proofs.Places.{torn_page, cropped_page}
 use Rattle.lf_disk.specs.Stretch.{Stretch}
 use Rattle.lf_disk.proofs.Stretches.{IsPath, goes_on}

@@ -1,5 +1,5 @@
 -- A file of the log is given.
-use Rattle.std.specs.Prelude.{◌≡◌, ℕ, Bool, true, false, List, get_or, Result, Ok, Err}
+use Rattle.std.specs.Prelude.{◌≡◌, ◌⊎◌, ℕ, ◌+◌, min, Bool, true, false, List, get_or, Result, Ok, Err}
 use Rattle.lf_base.specs.Faults.{Rose}
 use Rattle.ltx_codec.specs.Format.{IsLtx}
 use Rattle.ltx_codec.specs.declared.file.Ltx.{Ltx}
@@ -21,3 +21,11 @@ ReadsFile before (Err _) now = ⊥
 abbrev pub Gives : {T : Type 0} → Bool → ℕ → Result T StoreFault → ℕ → Type 0
 Gives broken before (Err fault.Broken) now = (broken ≡ true) × (now ≡ before)
 Gives {T = T} broken before result now = (broken ≡ false) × ReadsFile {T = T} before result now
+
+-- a page is read; or the disk fails, whose count then rose; while the store is broken each read is refused and counted, up to the
+-- last number of a u64
+abbrev pub ReadsPage : {T E : Type 0} → Bool → ℕ → ℕ → Result T E → ℕ → ℕ → Type 0
+ReadsPage broken faults refused (Ok _) faults_now refused_now = (broken ≡ false) × (faults_now ≡ faults) × (refused_now ≡ refused)
+ReadsPage broken faults refused (Err _) faults_now refused_now =
+    ((broken ≡ false) × Rose faults faults_now × (refused_now ≡ refused))
+    ⊎ ((broken ≡ true) × (faults_now ≡ faults) × (refused_now ≡ min (refused + 1) 18446744073709551615))

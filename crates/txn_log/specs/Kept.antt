@@ -1,5 +1,5 @@
 -- What a folder holds: a log of transaction files, and the image that the last of them decides.
-use Rattle.std.specs.Prelude.{◌≡◌, ◌≢◌, ◌⊎◌, ℕ, ◌+◌, ◌*◌, ◌<◌, ◌≤◌, Bool, true, false, ◌==◌, ◌&&◌, List, [], ◌∷◌, ◌++◌, length, map, fold, All, Option, None, Some, IsSome, is_some, unwrap_or, if◌then◌else◌}
+use Rattle.std.specs.Prelude.{◌≡◌, ◌≢◌, ℕ, ◌*◌, ◌<◌, ◌≤◌, Bool, ◌==◌, ◌&&◌, List, [], ◌∷◌, length, fold, Option, None, Some, IsSome, is_some, unwrap_or, if◌then◌else◌}
 use Rattle.std.proofs.Props.{props}
 use Rattle.lf_disk.specs.declared.name.FileName.TheVariants.{Database, Staged, Snapshot, Dropped, Ltx}
 use Rattle.lf_disk.specs.Folder.{Folder, bytes_of, SameBut}

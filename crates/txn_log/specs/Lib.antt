@@ -8,6 +8,7 @@ pub mod Durable
 pub mod Entries
 pub mod FaultNumber
 pub mod Giving
+pub mod Installing
 pub mod Kept
 pub mod Modes
 pub mod Opening

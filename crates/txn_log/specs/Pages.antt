@@ -1,6 +1,6 @@
 -- A database image in the bytes of a file.
-use Rattle.std.specs.Prelude.{◌≡◌, ℕ, ◌+◌, ◌-◌, ◌*◌, ◌≤◌, ◌==◌, List, [], ◌∷◌, length, take, drop, replicate, fold, Option, None, Some, unwrap_or, if◌then◌else◌}
-use Rattle.lf_base.specs.FileBytes.{resized, overwritten}
+use Rattle.std.specs.Prelude.{◌≡◌, ℕ, ◌-◌, ◌*◌, ◌≤◌, ◌==◌, List, length, take, drop, replicate, fold, None, if◌then◌else◌}
+use Rattle.lf_base.specs.FileBytes.{overwritten}
 use Rattle.lf_disk.specs.Folder.{bytes_of}
 use Rattle.lf_disk.specs.Change.{Edit, Stands}
 use Rattle.lf_sqlite_pages.specs.LockPage.{lock_page_of}

@@ -1,5 +1,5 @@
 -- The first files of a log are removed.
-use Rattle.std.specs.Prelude.{◌≡◌, ℕ, ◌-◌, ◌≤◌, Bool, true, false, List, drop, length, Result, Ok, Err}
+use Rattle.std.specs.Prelude.{◌≡◌, ℕ, ◌-◌, ◌≤◌, Bool, true, false, List, drop, Result, Ok, Err}
 use Rattle.lf_disk.specs.Folder.{Folder}
 use Rattle.lf_sqlite_pages.specs.Image.{DatabaseImage}
 use Rattle.txn_log.specs.declared.fault.StoreFault.{StoreFault}

@@ -1,5 +1,5 @@
 -- The database file while and after a change is written over it.
-use Rattle.std.specs.Prelude.{◌≡◌, ℕ, ◌*◌, Bool, false, Some}
+use Rattle.std.specs.Prelude.{◌≡◌, ◌*◌, false, Some}
 use Rattle.lf_disk.specs.declared.name.FileName.{FileName}
 use Rattle.lf_disk.specs.declared.name.FileName.TheVariants.{Database, Staged}
 use Rattle.lf_base.specs.FileBytes.{resized}

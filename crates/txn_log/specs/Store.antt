@@ -11,7 +11,7 @@ use Rattle.lf_sqlite_pages.specs.Image.{DatabaseImage}
 use Rattle.ltx_codec.specs.Positions.{before, after, nowhere}
 use Rattle.ltx_codec.specs.Sums.{sum_table}
 use Rattle.ltx_codec.specs.declared.file.Ltx.{Ltx}
-use Rattle.world_laws.specs.Store.{StoreState, Failure, FailedBefore, FailedIn, Commit, Apply, PruneTo, DropAll}
+use Rattle.world_laws.specs.Store.{StoreState, Failure, FailedBefore, FailedIn, Commit, Apply, Install, PruneTo, DropAll}
 use Rattle.txn_log.specs.declared.entry.Entry.{Entry}
 use Rattle.txn_log.specs.declared.attempt.Attempt.{Attempt}
 use Rattle.txn_log.specs.declared.attempt.Attempt.TheVariants as attempt
@@ -48,6 +48,7 @@ abbrev pub failure_of : History → ℕ → Attempt → Failure
 failure_of h tried attempt.Unpublished = FailedBefore
 failure_of h tried attempt.Commit = FailedIn (Commit (file_of (bytes_of (h.seen tried Staged))))
 failure_of h tried attempt.Apply = FailedIn (Apply (file_of (bytes_of (h.seen tried Staged))))
+failure_of h tried attempt.Install = FailedIn (Install (file_of (bytes_of (h.seen tried Staged))))
 failure_of h tried (attempt.Prune keep) = FailedIn (PruneTo keep)
 failure_of h tried attempt.Drop = FailedIn DropAll
 

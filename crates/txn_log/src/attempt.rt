@@ -9,6 +9,8 @@ pub enum Attempt {
     Drop,
     /// The application of another's file, from the rename on.
     Apply,
+    /// The installation of another's snapshot, from the rename on.
+    Install,
     /// The removal of all but the last `keep` files.
     Prune { keep: u64 },
 }

@@ -1,5 +1,5 @@
 //! A change is committed.
-ghost use Rattle.std.specs.Prelude.{◌≡◌, IsTrue};
+ghost use Rattle.std.specs.Prelude.{◌≡◌, IsTrue, IfOk, OnOk, OnErr};
 ghost use Rattle.world_laws.specs.Store.{Commit};
 ghost use Rattle.txn_log.specs.Calls.{Went};
 ghost use Rattle.txn_log.specs.Causes.{Breaks};
@@ -21,6 +21,10 @@ impl<D: Disk> Store<D> {
         ensures commits { Commits self.old.broken (end_of_entries self.old.entries.items) self.old.page_size self.old.commit
             self.old.sums.sums change.now stamp node result }
         ensures cause { Breaks self.old.broken (D.faults self.old.disk) result self.new.broken (D.faults self.new.disk) }
+        ensures shape { OnOk result ((self.new.page_size ≡ change.now.page_size) × (self.new.commit ≡ change.now.commit)) }
+        ensures position { IfOk result (λ told. end_of_entries self.new.entries.items ≡ told) }
+        ensures same { OnErr result ((self.new.page_size ≡ self.old.page_size) × (self.new.commit ≡ self.old.commit)
+            × (self.new.entries.items ≡ self.old.entries.items)) }
 
         // What a crash leaves at each moment.
         ensures went { IsTrue (D.honest self.old.disk) → Went

@@ -1,5 +1,5 @@
 //! The database is dropped.
-ghost use Rattle.std.specs.Prelude.{◌≡◌, ◌≤◌, IsTrue};
+ghost use Rattle.std.specs.Prelude.{◌≡◌, ◌≤◌, [], IsTrue, OnOk, OnErr};
 ghost use Rattle.world_laws.specs.Store.{DropAll};
 ghost use Rattle.txn_log.specs.Calls.{Went};
 ghost use Rattle.txn_log.specs.Causes.{Breaks};
@@ -20,6 +20,9 @@ impl<D: Disk> Store<D> {
         requires { 1 ≤ (end_of_entries self.old.entries.items).txid }
         ensures drops { DropsAll self.old.broken result }
         ensures cause { Breaks self.old.broken (D.faults self.old.disk) result self.new.broken (D.faults self.new.disk) }
+        ensures shape { OnOk result ((self.new.page_size ≡ 0) × (self.new.commit ≡ 0) × (self.new.entries.items ≡ [])) }
+        ensures same { OnErr result ((self.new.page_size ≡ self.old.page_size) × (self.new.commit ≡ self.old.commit)
+            × (self.new.entries.items ≡ self.old.entries.items)) }
 
         // What a crash leaves at each moment.
         ensures went { IsTrue (D.honest self.old.disk) → Went

@@ -37,7 +37,7 @@ fn put_staged<D: Disk>(
     ensures cause { CountsFaults (D.faults disk.old) (D.faults disk.new) result }
 {
     if dropped {
-        put_anew(disk, min, max, change)?;
+        put_anew(disk, &[], min, max, change)?;
         return Ok(());
     }
     put(disk, min, max, change)?;

@@ -4,7 +4,7 @@ ghost use Rattle.world_laws.specs.Store.{PruneTo};
 ghost use Rattle.txn_log.specs.Calls.{Went};
 ghost use Rattle.txn_log.specs.Causes.{Breaks};
 ghost use Rattle.txn_log.specs.Pruning.{Prunes};
-ghost use Rattle.txn_log.specs.Store.{state_of, failed_of};
+ghost use Rattle.txn_log.specs.Store.{end_of_entries, state_of, failed_of};
 
 use crate::attempt::Attempt;
 use crate::entry::Entry;
@@ -28,6 +28,8 @@ impl<D: Disk> Store<D> {
         requires { 1 ≤ keep }
         ensures prunes { Prunes self.old.broken (length self.old.entries.items) keep result }
         ensures cause { Breaks self.old.broken (D.faults self.old.disk) result self.new.broken (D.faults self.new.disk) }
+        ensures shape { (self.new.page_size ≡ self.old.page_size) × (self.new.commit ≡ self.old.commit) }
+        ensures position { end_of_entries self.new.entries.items ≡ end_of_entries self.old.entries.items }
 
         // What a crash leaves at each moment.
         ensures went { IsTrue (D.honest self.old.disk) → Went

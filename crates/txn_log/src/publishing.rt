@@ -1,11 +1,11 @@
 //! A file is published as the next of a store.
-ghost use Rattle.std.specs.Prelude.{◌≡◌, ◌∷◌, false, IsTrue, IfOk, IfErr};
+ghost use Rattle.std.specs.Prelude.{◌≡◌, ◌∷◌, false, IsTrue, IfOk, IfErr, OnOk, OnErr};
 ghost use Rattle.ltx_codec.specs.Format.{IsFile};
 ghost use Rattle.ltx_codec.specs.Positions.{after};
 ghost use Rattle.txn_log.specs.Calls.{Went};
 ghost use Rattle.txn_log.specs.Causes.{Breaks, IsDiskOrMemory};
 ghost use Rattle.txn_log.specs.Publishing.{Publishes, call_of, CanTake, IsSummedBy};
-ghost use Rattle.txn_log.specs.Store.{state_of, failed_of, entry_of as entry};
+ghost use Rattle.txn_log.specs.Store.{end_of_entries, state_of, failed_of, entry_of as entry};
 
 use crate::attempt::Attempt;
 use crate::encoding::text_of;
@@ -21,7 +21,7 @@ use lf_disk::Disk;
 use ltx_codec::Ltx;
 
 /// The entry of a file.
-fn entry_of(file: &Ltx) -> Entry
+pub fn entry_of(file: &Ltx) -> Entry
     requires { IsFile file.now }
     ensures { result ≡ entry file.now }
 {
@@ -54,6 +54,10 @@ pub fn publish<D: Disk>(
         (D.history store.new.disk) }
     ensures told { IfOk result (λ position. position ≡ after file.now) }
     ensures refusal { IfErr result IsDiskOrMemory }
+    ensures shape { OnOk result ((store.new.page_size ≡ file.now.header.page_size) × (store.new.commit ≡ file.now.header.commit)) }
+    ensures position { OnOk result (end_of_entries store.new.entries.items ≡ after file.now) }
+    ensures same { OnErr result ((store.new.page_size ≡ store.old.page_size) × (store.new.commit ≡ store.old.commit)
+        × (store.new.entries.items ≡ store.old.entries.items)) }
     ensures cause { Breaks store.old.broken (D.faults store.old.disk) result store.new.broken (D.faults store.new.disk) }
     ensures honest { D.honest store.new.disk ≡ D.honest store.old.disk }
 {
@@ -63,7 +67,8 @@ pub fn publish<D: Disk>(
     if store.entries.reserve(1).is_err() {
         return Err(StoreFault::NoMemory);
     }
-    match store.sums.reserve(file.header.commit) {
+    let more = file.header.commit.saturating_sub(store.commit);
+    match store.sums.reserve(more) {
         Ok(()) => {}
         Err(_) => return Err(StoreFault::NoMemory),
     }

@@ -5,6 +5,7 @@ ghost use Rattle.lf_disk.specs.declared.name.FileName.{FileName};
 ghost use Rattle.lf_sqlite_pages.specs.Change.{IsChange};
 ghost use Rattle.txn_log.specs.Rewriting.{IsWorn, IsRewritten};
 
+use crate::fitting::fit;
 use crate::writing::write_pages;
 use lf_base::Failed;
 use lf_disk::{Disk, FileName};
@@ -23,7 +24,7 @@ pub fn rewrite<D: Disk>(disk: &mut D, change: &Change) -> Result<(), Failed>
 {
     write_pages(disk, change)?;
     let len = u64::from(change.commit()) * u64::from(change.page_size());
-    disk.cut(FileName::Database, len)?;
+    fit(disk, len)?;
     disk.sync(FileName::Database)?;
     Ok(())
 }

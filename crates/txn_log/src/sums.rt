@@ -1,8 +1,10 @@
-//! The page sums of a database after a change.
-ghost use Rattle.std.specs.Prelude.{◌≡◌, ◌+◌, ◌<◌, ◌≤◌, length, replicate};
-ghost use Rattle.page_checksum.specs.Sums.{flagged, joined, page_sum_of};
-ghost use Rattle.lf_sqlite_pages.specs.PageSize.{IsPageSize};
+//! The page sums of a database after a change. Only the pages that the change writes are looked at,
+//! and those that come or go.
+ghost use Rattle.std.specs.Prelude.{◌≡◌, ◌+◌, ◌<◌, ◌≤◌, ℕ, List, [], length, replicate};
+ghost use Rattle.page_checksum.specs.Sums.{flagged, joined};
+ghost use Rattle.lf_sqlite_pages.specs.Change.{empty_change};
 ghost use Rattle.lf_sqlite_pages.specs.Complete.{completed};
+ghost use Rattle.ltx_codec.specs.steps.ChangedSum.{joined_over};
 ghost use Rattle.txn_log.specs.Draft.{sum_after, sums_after};
 
 use crate::zeros::zeros;
@@ -12,48 +14,47 @@ use page_checksum::{Sums, page_sum};
 /// Bit 63, which every sum carries.
 const FLAG: u64 = 1 << 63;
 
-/// The sum of page `n` after a change.
-fn page_sum_after(sums: &Sums, change: &Change, n: u32) -> u64
-    requires { 1 ≤ n }
-    ensures { result ≡ sum_after sums.now.sums change.now n }
+/// The sums of the first `count` pages, taken together, where the page size is this one: its lock
+/// page has no sum.
+fn total_before(sums: &Sums, page_size: u32, count: u32) -> u64
+    requires { 0 < page_size }
+    ensures { result ≡ joined_over (sum_after sums.now.sums (empty_change page_size 0)) 1 count }
 {
-    if n == lock_page(change.page_size()) {
-        return 0;
+    let total = sums.joined_to(count);
+    let lock = lock_page(page_size);
+    if lock <= count {
+        return total ^ sums.get(lock);
     }
-    match change.page(n) {
-        Some(page) => page_sum(n, page),
-        None => sums.get(n),
-    }
+    total
 }
 
-/// The sum of page `n` of zeros.
-pub fn zero_page_sum(n: u32, page_size: u32) -> u64
-    requires { page_size ≤ 65536 }
-    ensures { result ≡ page_sum_of n (replicate page_size 0) }
+/// The sums of the first `count` pages after a change, taken together.
+fn total_to(sums: &Sums, change: &Change, count: u32) -> u64
+    ensures { result ≡ joined_over (sum_after sums.now.sums change.now) 1 count }
 {
-    let zeros = zeros();
-    let (page, _) = zeros.split_at(page_size as usize);
-    page_sum(n, page)
-}
-
-/// The sum of page `n` after a change made complete over `count` pages.
-fn page_sum_behind(sums: &Sums, change: &Change, count: u32, n: u32) -> u64
-    requires first { 1 ≤ n }
-    requires last { n ≤ change.now.commit }
-    ensures { result ≡ sum_after sums.now.sums (completed change.now count) n }
-{
-    if n == lock_page(change.page_size()) {
-        return 0;
-    }
-    match change.page(n) {
-        Some(page) => page_sum(n, page),
-        None => {
-            if n <= count {
-                sums.get(n)
-            } else {
-                zero_page_sum(n, change.page_size())
-            }
+    let mut total = total_before(sums, change.page_size(), count);
+    for page in change.pages() {
+        if page.number <= count {
+            total ^= sums.get(page.number) ^ page_sum(page.number, page.bytes.as_slice());
         }
+    }
+    total
+}
+
+/// The sum of page `n`, past the old size of `count` pages, after a change made complete. `zeros` are
+/// a page of zeros.
+fn sum_past(change: &Change, zeros: &[u8], count: u32, n: u32) -> u64
+    requires past { count < n }
+    requires last { n ≤ change.now.commit }
+    requires zeros { zeros.now ≡ replicate change.now.page_size 0 }
+    ensures { (sums : List ℕ) → result ≡ sum_after sums (completed change.now count) n }
+{
+    if n == lock_page(change.page_size()) {
+        return 0;
+    }
+    match change.page(n) {
+        Some(page) => page_sum(n, page),
+        None => page_sum(n, zeros),
     }
 }
 
@@ -61,9 +62,12 @@ fn page_sum_behind(sums: &Sums, change: &Change, count: u32, n: u32) -> u64
 pub fn total_behind(sums: &Sums, change: &Change, count: u32) -> u64
     ensures { result ≡ flagged (joined (sums_after sums.now.sums (completed change.now count))) }
 {
-    let mut total = 0;
-    for page in 0..change.commit() {
-        total ^= page_sum_behind(sums, change, count, page + 1);
+    let zeros = zeros();
+    let (zeros, _) = zeros.split_at(change.page_size() as usize);
+    let stay = count.min(change.commit());
+    let mut total = total_to(sums, change, stay);
+    for page in stay..change.commit() {
+        total ^= sum_past(change, zeros, count, page + 1);
     }
     total | FLAG
 }
@@ -72,11 +76,20 @@ pub fn total_behind(sums: &Sums, change: &Change, count: u32) -> u64
 pub fn total_after(sums: &Sums, change: &Change) -> u64
     ensures { result ≡ flagged (joined (sums_after sums.now.sums change.now)) }
 {
-    let mut total = 0;
-    for page in 0..change.commit() {
-        total ^= page_sum_after(sums, change, page + 1);
+    total_to(sums, change, change.commit()) | FLAG
+}
+
+/// Gives the table so many pages, where the page size is this one: its lock page has no sum.
+fn resize(sums: &mut Sums, page_size: u32, count: u32)
+    requires room { count ≤ length sums.old.sums + sums.old.spare }
+    requires sized { 0 < page_size }
+    ensures { sums.new.sums ≡ sums_after sums.old.sums (empty_change page_size count) }
+{
+    sums.resize(count);
+    let lock = lock_page(page_size);
+    if lock <= count {
+        sums.set(lock, 0);
     }
-    total | FLAG
 }
 
 /// Makes the table that of the database after a change.
@@ -84,9 +97,17 @@ pub fn update(sums: &mut Sums, change: &Change)
     requires { change.now.commit ≤ length sums.old.sums + sums.old.spare }
     ensures { sums.new.sums ≡ sums_after sums.old.sums change.now }
 {
-    sums.resize(change.commit());
-    for page in 0..change.commit() {
-        let sum = page_sum_after(sums, change, page + 1);
-        sums.set(page + 1, sum);
+    resize(sums, change.page_size(), change.commit());
+    for page in change.pages() {
+        sums.set(page.number, page_sum(page.number, page.bytes.as_slice()));
     }
+}
+
+/// Makes the table that of the database that a change makes of nothing.
+pub fn fill(sums: &mut Sums, change: &Change)
+    requires { change.now.commit ≤ length sums.old.sums + sums.old.spare }
+    ensures { sums.new.sums ≡ sums_after [] change.now }
+{
+    sums.resize(0);
+    update(sums, change);
 }

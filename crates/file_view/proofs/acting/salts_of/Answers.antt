@@ -1,5 +1,5 @@
 -- A log with committed frames has a header.
-use Rattle.std.proofs.Common.{◌≡◌, ◌<◌, ◌≤◌, length, arith, refl, ⊎_elim}
+use Rattle.std.proofs.Common.{◌≤◌, length, arith, refl, ⊎_elim}
 use Rattle.std.proofs.lemmas.Bool.{cases_lt}
 use Rattle.wal_watch.specs.File.{text_of}
 use Rattle.file_view.proofs.ReadLemmas.{salts_read}

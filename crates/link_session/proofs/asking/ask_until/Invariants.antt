@@ -4,8 +4,8 @@ use Rattle.link_session.proofs.asking.ask_until.Given as goal
 
 abbrev pub invariant-asks : goal.invariant-asks
 invariant-asks g l = record {
-  vain : AskedInVain (record { may = g.C.Clock.may_give l.initial.clock; at_moment = g.Q.Timed.at_moment; again = g.T.Patience.again l.patience; caller = g.S.Steps.number l.initial.steps }) l.fn.ask (g.S.Steps.entries l.initial.steps) (g.S.Steps.entries l.steps);
-  at : (now : ℕ) → g.Q.Timed.at_moment now l.asked ≡ g.Q.Timed.at_moment now l.fn.ask;
+  vain : AskedInVain (record { may = g.C.Clock.may_give l.initial.clock; at_moment = g.T.Patience.at_moment; again = g.T.Patience.again l.patience; caller = g.S.Steps.number l.initial.steps }) l.fn.ask (g.S.Steps.entries l.initial.steps) (g.S.Steps.entries l.steps);
+  at : (now : ℕ) → g.T.Patience.at_moment now l.asked ≡ g.T.Patience.at_moment now l.fn.ask;
   turns : l.turns ≤ l.initial.turns;
   of : g.S.Steps.of l.steps ≡ g.S.Steps.of l.initial.steps;
   number : g.S.Steps.number l.steps ≡ g.S.Steps.number l.initial.steps;

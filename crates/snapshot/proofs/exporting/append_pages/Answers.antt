@@ -1,4 +1,4 @@
-use Rattle.std.proofs.Common.{◌≡◌, ◌+◌, ◌++◌, ◌≤◌, ℕ, length, sym, ◌∙◌, ap, subst, arith, rules}
+use Rattle.std.proofs.Common.{◌≡◌, ◌+◌, ◌++◌, ◌≤◌, length, sym, ◌∙◌, ap, subst, arith}
 use Rattle.lf_disk.specs.Folder.{Folder}
 use Rattle.lf_disk.specs.History.{now}
 use Rattle.lf_sqlite_pages.specs.Image.{DatabaseImage}

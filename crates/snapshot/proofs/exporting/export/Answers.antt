@@ -1,4 +1,4 @@
-use Rattle.std.proofs.Common.{◌≡◌, ◌++◌, sym, ◌∙◌, ap}
+use Rattle.std.proofs.Common.{◌++◌, sym, ◌∙◌, ap}
 use Rattle.lf_sqlite_pages.specs.Image.{image_bytes}
 use Rattle.lf_sqlite_pages.proofs.LockPages.{page_size-positive}
 use Rattle.txn_log.proofs.Moves.{moved-none}

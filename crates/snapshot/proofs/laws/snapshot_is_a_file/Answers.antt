@@ -1,4 +1,4 @@
-use Rattle.std.proofs.Common.{◌≡◌, ◌≤◌, ℕ, sym, ◌∙◌, ap, subst}
+use Rattle.std.proofs.Common.{◌≤◌, sym, ◌∙◌, ap, subst}
 use Rattle.lf_base.specs.declared.pos.Pos.{Pos}
 use Rattle.txn_log.specs.Store.{state_of}
 use Rattle.world_laws.specs.SnapshotLaw.{IsFullStore}

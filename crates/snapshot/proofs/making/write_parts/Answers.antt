@@ -1,4 +1,4 @@
-use Rattle.std.proofs.Common.{◌≡◌, ◌++◌, ℕ, List, length, refl, sym, ◌∙◌, ap, subst}
+use Rattle.std.proofs.Common.{◌≡◌, ◌++◌, ℕ, List, length, refl, ◌∙◌, ap, subst}
 use Rattle.std.specs.Io.KnownBytes.{Appends}
 use Rattle.std.proofs.KnownBytes.{Appends-trans}
 use Rattle.page_checksum.specs.Crc.{after_bytes, all_ones}
@@ -7,7 +7,7 @@ use Rattle.lf_sqlite_pages.specs.Writes.{data_writes}
 use Rattle.ltx_codec.specs.Encoding.{trailer_text}
 use Rattle.ltx_codec.specs.Format.{header_text, no_meaning, pages_text}
 use Rattle.txn_log.specs.Store.{image_in}
-use Rattle.snapshot.specs.Output.{AppendsPrefix, AppendsSome}
+use Rattle.snapshot.specs.Output.{AppendsPrefix}
 use Rattle.snapshot.proofs.OutputLemmas.{AppendsPrefix-after, AppendsPrefix-more}
 use Rattle.snapshot.proofs.WriteLemmas.{some_more}
 use Rattle.snapshot.proofs.making.write_parts.Goals as goal

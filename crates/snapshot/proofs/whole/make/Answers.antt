@@ -1,4 +1,4 @@
-use Rattle.std.proofs.Common.{◌≡◌, ◌++◌, List, ℕ, Some, subst}
+use Rattle.std.proofs.Common.{List, ℕ, Some, subst}
 use Rattle.std.specs.Io.KnownBytes.{Appends}
 use Rattle.txn_log.proofs.Moves.{moved-none}
 use Rattle.txn_log.specs.Store.{state_of, failed_of}

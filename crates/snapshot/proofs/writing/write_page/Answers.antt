@@ -1,4 +1,4 @@
-use Rattle.std.proofs.Common.{◌≡◌, List, ℕ, refl}
+use Rattle.std.proofs.Common.{refl}
 use Rattle.std.specs.Int.{w32, to_be_bytes}
 use Rattle.snapshot.proofs.OutputLemmas.{AppendsPrefix-after, AppendsPrefix-more, on_err, map_on_err}
 use Rattle.snapshot.proofs.writing.write_page.Goals as goal

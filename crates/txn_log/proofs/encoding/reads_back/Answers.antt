@@ -1,4 +1,4 @@
-use Rattle.std.proofs.Common.{◌≡◌, ◌∙◌, arith}
+use Rattle.std.proofs.Common.{arith}
 use Rattle.txn_log.specs.Kept.{file_of}
 use Rattle.txn_log.proofs.encoding.reads_back.Goals as goal
 

@@ -1,4 +1,4 @@
-use Rattle.std.proofs.Common.{◌≡◌, ◌∙◌, ℕ, sym, ap, arith}
+use Rattle.std.proofs.Common.{◌∙◌, ℕ, sym, ap, arith}
 use Rattle.txn_log.specs.Receiving.{lacking_page}
 use Rattle.txn_log.proofs.Growths.{comes-next, lacks-past}
 use Rattle.txn_log.proofs.laws_of_passing.pages_come_in_order.Goals as goal

@@ -13,20 +13,18 @@ returns-in_err-put_anew-clause-moments g c honest image files text ready empty =
     let h = g.D.Disk.history c.args.disk.now in
     let new = g.D.Disk.history c.put_anew.new.disk in
     let file : LogFile = record { min = c.args.min; max = c.args.max; text = text } in
-    let made : DatabaseImage = apply image c.args.change.now in
     let none = empty c.if-dropped.true in
-    anew_moments image files c.args.dropped made file h new c.if-dropped.true none
-    (c.put_anew.ensures.moments honest image text (anew_ready image files c.args.dropped text c.args.change.now h c.if-dropped.true none ready))
+    anew_moments image files c.args.dropped text c.args.change.now h c.if-dropped.true none ready file new
+    (c.put_anew.ensures.moments honest ready.before (apply image c.args.change.now) text (anew_ready image files c.args.dropped text c.args.change.now h c.if-dropped.true none ready))
 
 pub returns-then-dropped-clause-moments : goal.returns-then-dropped-clause-moments
 returns-then-dropped-clause-moments g c honest image files text ready empty =
     let h = g.D.Disk.history c.args.disk.now in
     let new = g.D.Disk.history c.put_anew.new.disk in
     let file : LogFile = record { min = c.args.min; max = c.args.max; text = text } in
-    let made : DatabaseImage = apply image c.args.change.now in
     let none = empty c.if-dropped.true in
-    anew_moments image files c.args.dropped made file h new c.if-dropped.true none
-    (c.put_anew.ensures.moments honest image text (anew_ready image files c.args.dropped text c.args.change.now h c.if-dropped.true none ready))
+    anew_moments image files c.args.dropped text c.args.change.now h c.if-dropped.true none ready file new
+    (c.put_anew.ensures.moments honest ready.before (apply image c.args.change.now) text (anew_ready image files c.args.dropped text c.args.change.now h c.if-dropped.true none ready))
 
 pub returns-then-dropped-clause-done : goal.returns-then-dropped-clause-done
 returns-then-dropped-clause-done g c honest image files text ready empty =
@@ -35,7 +33,8 @@ returns-then-dropped-clause-done g c honest image files text ready empty =
     let file : LogFile = record { min = c.args.min; max = c.args.max; text = text } in
     let made : DatabaseImage = apply image c.args.change.now in
     let none = empty c.if-dropped.true in
-    anew_rest files made file new none (c.in_ok-put_anew.ensures.done honest image text (anew_ready image files c.args.dropped text c.args.change.now h c.if-dropped.true none ready))
+    anew_rest files made file new none
+    (c.in_ok-put_anew.ensures.done honest ready.before made text (anew_ready image files c.args.dropped text c.args.change.now h c.if-dropped.true none ready))
 
 pub returns-in_err-put-clause-moments : goal.returns-in_err-put-clause-moments
 returns-in_err-put-clause-moments g c honest image files text ready empty =

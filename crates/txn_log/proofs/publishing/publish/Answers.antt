@@ -8,7 +8,9 @@ use Rattle.world_laws.specs.Store.{StoreState, MayBeFound}
 use Rattle.txn_log.specs.Calls.{RestsAs}
 use Rattle.txn_log.specs.declared.entry.Entry.{Entry}
 use Rattle.txn_log.specs.Store.{IsStore, IsSized, image_in, state_in, state_of, failure_of, failed_of}
+use Rattle.txn_log.specs.Store.{entry_of as entry}
 use Rattle.txn_log.proofs.Moves.{moved-none, is_done, image, files, over, stands, left_done, went_done, left_before, went_before, left_in, went_in, shaped-after}
+use Rattle.txn_log.proofs.Entries.{end-push}
 use Rattle.txn_log.proofs.Modes.{mode_after}
 use Rattle.txn_log.proofs.Stores.{broken, mode_before}
 use Rattle.txn_log.proofs.publishing.publish.Goals as goal
@@ -277,3 +279,7 @@ returns-clause-went g c honest =
     let read : file_of text ≡ file = ap file_of c.as_slice.ensures.value ∙ c.in-Ok.ensures.read in
     let places = c.in-From.ensures.places honest (image h s.page_size s.commit s.entries.items s.dropped s.sums.sums s.whole s.tried s.shaped kept) (files h s.page_size s.commit s.entries.items s.dropped s.sums.sums s.whole s.tried s.shaped kept) (over h s.page_size s.commit s.entries.items s.dropped s.sums.sums s.whole s.tried s.shaped kept c.args.attempt file text c.requires.publishes can is read) in
     rw (c.reserve.ensures.items, c.moment-store.ensures, c.requires.open_) (inr (went_in h s.page_size s.commit s.entries.items s.dropped s.sums.sums s.whole s.tried s.shaped kept c.args.attempt file text c.requires.publishes can is read new c.in-From.tried places.0 places.1))
+
+pub returns-in-Whole-clause-position : goal.returns-in-Whole-clause-position
+returns-in-Whole-clause-position g c =
+    rw (c.push_reserved.ensures.items, c.entry_of.ensures) (end-push c.reserve.new.self.items (entry c.args.file.now))

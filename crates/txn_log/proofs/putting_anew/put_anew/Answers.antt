@@ -4,7 +4,7 @@ use Rattle.lf_disk.specs.History.{now}
 use Rattle.lf_disk.specs.declared.name.FileName.TheVariants.{Staged, Snapshot}
 use Rattle.lf_disk.proofs.Moments.{weakened}
 use Rattle.txn_log.specs.Kept.{LogFile}
-use Rattle.txn_log.proofs.Anew.{first, unsettled, moments, made}
+use Rattle.txn_log.proofs.Anew.{first, unsettled, moments}
 use Rattle.txn_log.proofs.Puttings.{settled_staged}
 use Rattle.txn_log.proofs.putting_anew.put_anew.Goals as goal
 
@@ -22,36 +22,36 @@ settle-requires-clause-there g c still =
     subst (λ (o : Option (List ℕ)). IsSome o) (sym (published.seen Snapshot refl)) refl
 
 pub returns-in_err-put_in_place-clause-moments : goal.returns-in_err-put_in_place-clause-moments
-returns-in_err-put_in_place-clause-moments g c honest image text ready =
+returns-in_err-put_in_place-clause-moments g c honest before image text ready =
     let h = g.D.Disk.history c.args.disk.now in
     let file : LogFile = record { min = c.args.min; max = c.args.max; text = text } in
-    weakened _ _ _ _ (c.put_in_place.ensures.moments honest ready.before text ready.staged) (first h image c.args.change.now file ready)
+    weakened _ _ _ _ (c.put_in_place.ensures.moments honest before text ready.staged) (first h before image c.args.entries.now c.args.change.now file ready)
 
 pub returns-in_err-settle-clause-moments : goal.returns-in_err-settle-clause-moments
-returns-in_err-settle-clause-moments g c honest image text ready =
+returns-in_err-settle-clause-moments g c honest before image text ready =
     let h = g.D.Disk.history c.args.disk.now in
     let mid = g.D.Disk.history c.put_in_place.new.disk in
     let new = g.D.Disk.history c.settle.new.disk in
     let still = c.put_in_place.ensures.honest ∙ honest in
     let file : LogFile = record { min = c.args.min; max = c.args.max; text = text } in
-    moments h image c.args.change.now file ready mid new (c.put_in_place.ensures.moments honest ready.before text ready.staged)
-    (c.settle.ensures.moments still (made h image c.args.change.now file ready) text (unsettled h image c.args.change.now file ready mid (c.in_ok-put_in_place.ensures.published honest ready.before text ready.staged)))
+    moments h before image c.args.entries.now c.args.change.now file ready mid new (c.put_in_place.ensures.moments honest before text ready.staged)
+    (c.settle.ensures.moments still image text (unsettled h before image c.args.entries.now c.args.change.now file ready mid (c.in_ok-put_in_place.ensures.published honest before text ready.staged)))
 
 pub returns-clause-moments : goal.returns-clause-moments
-returns-clause-moments g c honest image text ready =
+returns-clause-moments g c honest before image text ready =
     let h = g.D.Disk.history c.args.disk.now in
     let mid = g.D.Disk.history c.put_in_place.new.disk in
     let new = g.D.Disk.history c.settle.new.disk in
     let still = c.put_in_place.ensures.honest ∙ honest in
     let file : LogFile = record { min = c.args.min; max = c.args.max; text = text } in
-    moments h image c.args.change.now file ready mid new (c.put_in_place.ensures.moments honest ready.before text ready.staged)
-    (c.settle.ensures.moments still (made h image c.args.change.now file ready) text (unsettled h image c.args.change.now file ready mid (c.in_ok-put_in_place.ensures.published honest ready.before text ready.staged)))
+    moments h before image c.args.entries.now c.args.change.now file ready mid new (c.put_in_place.ensures.moments honest before text ready.staged)
+    (c.settle.ensures.moments still image text (unsettled h before image c.args.entries.now c.args.change.now file ready mid (c.in_ok-put_in_place.ensures.published honest before text ready.staged)))
 
 pub returns-clause-done : goal.returns-clause-done
-returns-clause-done g c honest image text ready =
+returns-clause-done g c honest before image text ready =
     let h = g.D.Disk.history c.args.disk.now in
     let mid = g.D.Disk.history c.put_in_place.new.disk in
     let still = c.put_in_place.ensures.honest ∙ honest in
     let file : LogFile = record { min = c.args.min; max = c.args.max; text = text } in
-    c.in_ok-settle.ensures.done still (made h image c.args.change.now file ready) text
-    (unsettled h image c.args.change.now file ready mid (c.in_ok-put_in_place.ensures.published honest ready.before text ready.staged))
+    c.in_ok-settle.ensures.done still image text
+    (unsettled h before image c.args.entries.now c.args.change.now file ready mid (c.in_ok-put_in_place.ensures.published honest before text ready.staged))

@@ -1,4 +1,4 @@
-use Rattle.std.proofs.Common.{◌≡◌, ◌∙◌, ℕ, length, refl}
+use Rattle.std.proofs.Common.{◌∙◌, length, refl}
 use Rattle.txn_log.specs.declared.entry.Entry.{Entry}
 use Rattle.txn_log.proofs.Stores.{no_entry}
 use Rattle.txn_log.proofs.Prunings.{begins, next, removed, not_removed}

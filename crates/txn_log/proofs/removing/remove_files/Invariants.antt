@@ -1,4 +1,4 @@
-use Rattle.std.proofs.Common.{◌≡◌, ℕ, ◌<◌, List, length, false, IsTrue}
+use Rattle.std.proofs.Common.{◌≡◌, ◌<◌, List, length, false, IsTrue}
 use Rattle.lf_sqlite_pages.specs.Image.{DatabaseImage}
 use Rattle.txn_log.specs.Kept.{LogFile, Ascends, IsAtRest}
 use Rattle.txn_log.specs.Entries.{AreNamed}

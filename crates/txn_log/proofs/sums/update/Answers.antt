@@ -1,9 +1,41 @@
-use Rattle.std.proofs.Common.{◌≡◌, subst, arith}
-use Rattle.txn_log.proofs.SumTables.{Updated, ended}
+-- One write more.
+use Rattle.std.proofs.Common.{◌∙◌, ◌≡◌, ap, arith, map, length, take, ℕ, List}
+use Rattle.std.specs.List.{range_with_len}
+use Rattle.std.proofs.lemmas.List.FromFn.{length-map-range_with_len}
+use Rattle.lf_sqlite_pages.specs.declared.page_write.PageWrite.{PageWrite}
+use Rattle.lf_sqlite_pages.proofs.LockPages.{page_size-positive}
+use Rattle.page_checksum.specs.Sums.{page_sum_of}
+use Rattle.page_checksum.specs.Table.{PageSums}
+use Rattle.txn_log.proofs.SumTables.{sum_over, next-known, next-set, taken-all}
 use Rattle.txn_log.proofs.sums.update.Goals as goal
+
+pub resize-requires-clause-sized : goal.resize-requires-clause-sized
+resize-requires-clause-sized c = page_size-positive c.page_size.result c.page_size.ensures.sqlite
+
+pub set-requires-clause-first : goal.set-requires-clause-first
+set-requires-clause-first c =
+    let known = next-known c.args.change.now c.pages-page-items.result.now c.pages-page-items.ensures.valid c.pages-page-items.ensures.value c.loop-page.page-index c.page-item.result
+    c.loop-page-test.true c.page-item.is in
+    omega (arith, known.first)
+
+pub set-requires-clause-last : goal.set-requires-clause-last
+set-requires-clause-last c =
+    let known = next-known c.args.change.now c.pages-page-items.result.now c.pages-page-items.ensures.valid c.pages-page-items.ensures.value c.loop-page.page-index c.page-item.result
+    c.loop-page-test.true c.page-item.is in
+    let count : length c.loop-page.sums.sums ≡ c.args.change.now.commit =
+    ap (λ (t : List ℕ). length t) c.loop-page.invariant
+    ∙ length-map-range_with_len (sum_over c.args.change.now.page_size c.args.sums.now.sums (take c.loop-page.page-index c.pages-page-items.result.now)) 1 c.args.change.now.commit in
+    omega (arith, known.last, count)
+
+pub loop-page-preserved : goal.loop-page-preserved
+loop-page-preserved c =
+    ap (λ (t : PageSums). t.sums) c.set.ensures
+    ∙ next-set c.args.change.now c.pages-page-items.result.now c.pages-page-items.ensures.valid c.pages-page-items.ensures.value c.loop-page.page-index c.page-item.result
+    c.loop-page-test.true c.page-item.is c.args.sums.now.sums c.loop-page.sums.sums c.page_sum.result c.loop-page.invariant
+    (c.page_sum.ensures ∙ ap (page_sum_of c.page-item.result.number) c.as_slice.ensures)
 
 pub returns : goal.returns
 returns c =
-    let all : c.loop-page.page ≡ c.args.change.now.commit = omega (arith, c.loop-page-test.false, c.loop-page.auto.page-end, c.commit-page-end.ensures) in
-    ended c.args.sums.now.sums c.args.change.now c.loop-page.sums.sums
-    (subst (λ (k : _). Updated c.args.sums.now.sums c.args.change.now k c.loop-page.sums.sums) all c.loop-page.invariant)
+    c.loop-page.invariant
+    ∙ ap (λ (ws : List PageWrite). map (sum_over c.args.change.now.page_size c.args.sums.now.sums ws) (range_with_len 1 c.args.change.now.commit))
+    (taken-all c.pages-page-items.result.now c.loop-page.page-index c.loop-page-test.false ∙ c.pages-page-items.ensures.value)

@@ -1,4 +1,4 @@
-use Rattle.std.proofs.Common.{◌≡◌, ◌-◌, ◌*◌, ◌<◌, length, get_or, ◌∙◌, ap, refl, sym, arith}
+use Rattle.std.proofs.Common.{◌≡◌, ◌-◌, ◌*◌, ◌<◌, length, get_or, ◌∙◌, ap, refl, arith}
 use Rattle.lf_disk.specs.History.{now}
 use Rattle.lf_disk.specs.Change.{OnFile}
 use Rattle.lf_disk.specs.declared.name.FileName.TheVariants.{Database}

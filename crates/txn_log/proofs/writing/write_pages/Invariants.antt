@@ -1,4 +1,4 @@
-use Rattle.std.proofs.Common.{◌≡◌, ℕ, take, IsTrue}
+use Rattle.std.proofs.Common.{◌≡◌, take, IsTrue}
 use Rattle.lf_disk.specs.History.{now}
 use Rattle.lf_disk.specs.Change.{OnFile}
 use Rattle.lf_disk.specs.declared.name.FileName.TheVariants.{Database}

@@ -1,5 +1,5 @@
 -- A node has one file.
-use Rattle.std.proofs.Common.{◌≡◌, Option, Some, sym, ◌∙◌, subst}
+use Rattle.std.proofs.Common.{◌≡◌, Some, sym, ◌∙◌, subst}
 use Rattle.byte_locks.specs.declared.lock_bytes.FileKind.{FileKind}
 use Rattle.file_view.specs.HandleRules.{flushed}
 use Rattle.file_view.proofs.view.View.flush.Goals as goal

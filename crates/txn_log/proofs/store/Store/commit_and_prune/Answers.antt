@@ -1,5 +1,4 @@
-use Rattle.std.proofs.Common.{◌≡◌, ◌∙◌, Bool, false, Option, None, ap, length, refl}
-use Rattle.world_laws.specs.Store.{Failure}
+use Rattle.std.proofs.Common.{◌≡◌, ◌∙◌, Bool, false, None, ap, length}
 use Rattle.txn_log.specs.Store.{failed_of}
 use Rattle.txn_log.proofs.Composing.{then-pruned}
 use Rattle.txn_log.proofs.store.Store.commit_and_prune.Goals as goal

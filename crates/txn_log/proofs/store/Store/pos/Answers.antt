@@ -1,4 +1,4 @@
-use Rattle.std.proofs.Common.{◌∙◌, sym, ap}
+use Rattle.std.proofs.Common.{◌∙◌, ap}
 use Rattle.txn_log.specs.Store.{end_of_entries}
 use Rattle.txn_log.proofs.Entries.{end-log}
 use Rattle.txn_log.proofs.store.Store.pos.Goals as goal

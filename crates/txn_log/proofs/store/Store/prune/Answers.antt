@@ -5,7 +5,7 @@ use Rattle.txn_log.specs.declared.entry.Entry.{Entry}
 use Rattle.world_laws.specs.Store.{MayBeFound}
 use Rattle.txn_log.specs.Calls.{RestsAs}
 use Rattle.txn_log.specs.Store.{IsStore, IsShaped, image_in, state_in, state_of, failed_of}
-use Rattle.txn_log.proofs.Cleanings.{old_image, old_files, ascends, named, room, left_done, went_done, stands, left_in, went_in, went_idle, shaped-drop, unmarked, log_count, mode_after}
+use Rattle.txn_log.proofs.Cleanings.{entries-drop, old_image, old_files, ascends, named, room, left_done, went_done, stands, left_in, went_in, went_idle, shaped-drop, unmarked, log_count, mode_after}
 use Rattle.txn_log.proofs.Moves.{moved-none}
 use Rattle.txn_log.proofs.Stores.{broken, mode_before}
 use Rattle.txn_log.proofs.store.Store.prune.Goals as goal
@@ -185,3 +185,10 @@ returns-in-Err-clause-went g c honest =
     let fits : gone < length s.entries.items = omega (arith, amount, c.if-gone-eq0.false, c.requires) in
     let runs = c.remove_files.ensures.moments honest (old_image h s.page_size s.commit s.entries.items s.sums.sums s.whole s.tried shaped kept front gone c.args.keep taken fits c.requires amount) (old_files h s.page_size s.commit s.entries.items s.sums.sums s.whole s.tried shaped kept front gone c.args.keep taken fits c.requires amount) kept.rest (ascends h s.page_size s.commit s.entries.items s.sums.sums s.whole s.tried shaped kept front gone c.args.keep taken fits c.requires amount) (named h s.page_size s.commit s.entries.items s.sums.sums s.whole s.tried shaped kept front gone c.args.keep taken fits c.requires amount) (room h s.page_size s.commit s.entries.items s.sums.sums s.whole s.tried shaped kept front gone c.args.keep taken fits c.requires amount) in
     rw (c.moment-self.ensures, c.if-self.false, isnt) (inr (went_in h s.page_size s.commit s.entries.items s.sums.sums s.whole s.tried shaped kept front gone c.args.keep taken fits c.requires amount new runs))
+
+pub returns-in-Ok-clause-position : goal.returns-in-Ok-clause-position
+returns-in-Ok-clause-position g c =
+    let s = c.args.self.now in
+    let gone : ℕ = c.saturating_sub-gone.result in
+    let fits : gone < length s.entries.items = omega (arith, c.saturating_sub-gone.ensures, c.len.ensures, c.if-gone-eq0.false, c.requires) in
+    rw (c.forget_front.ensures) (entries-drop gone s.entries.items fits)

@@ -1,0 +1,49 @@
+-- A session on the files, from its first message to its end.
+use Rattle.std.specs.Prelude.{◌≡◌, ℕ, false, List, [], ◌∷◌, ◌++◌, Result, Err}
+use Rattle.std.specs.Io.KnownBytes.{Consumes}
+use Rattle.lf_base.specs.declared.session_end.SessionEnd.{SessionEnd}
+use Rattle.lf_base.specs.declared.session_end.SessionEnd.TheVariants as ends
+use Rattle.fuse_msgs.specs.Feed.{IsWholeMessage}
+use Rattle.turn_desk.specs.declared.history.Entry.{Entry}
+use Rattle.turn_desk.specs.History.{entry, IsLegal}
+use Rattle.link_session.specs.Messages.{IsPart, IsRefused}
+use Rattle.link_session.specs.Reading.{EndsReading}
+use Rattle.link_session.specs.Rounds.{Place, Talked}
+use Rattle.node_core.specs.declared.ask.Ask.TheVariants as ask
+use Rattle.node_core.specs.declared.answer.Answer.{Answer}
+use Rattle.file_session.specs.Asking.{Asker}
+use Rattle.file_session.specs.Message.{IsRound, IsSilent, EndsMessage}
+use Rattle.file_session.specs.Stands.{FileEntry, Stand, Spends}
+
+-- why no more messages were answered, behind this place: there was no memory to begin with, no message could be read, or the next
+-- one was not answered whole
+pub data Ends (who : Asker) (place last : Stand) (turns : ℕ) (end : SessionEnd) : Type 0 where
+  starting : end ≡ ends.NoMemory → last ≡ place → Ends who place last turns end
+  reading : EndsReading {T = Unit {0}} false IsPart IsRefused place.place.text last.place.text place.faults last.faults turns (Err end)
+      → IsSilent place.place last.place → Ends who place last turns end
+  answering : (message ahead : List ℕ) → IsWholeMessage message → Consumes place.place.text last.place.text (message ++ ahead)
+      → EndsMessage {T = Unit {0}} who message place last turns (Err end) → Ends who place last turns end
+
+-- messages were answered, each in its turn, up to a place, where it ended so; and what became of the turns
+pub record Conversation (who : Asker) (turns : ℕ) (old new : Stand) (end : SessionEnd) : Type 0 where
+  pub place : Place FileEntry
+  pub left : ℕ
+  pub talked : Talked (IsRound who) old.place place
+  pub ending : Ends who (record old { place = place }) new left end
+  pub spent : Spends {T = Unit {0}} turns old left new (Err end)
+
+-- the node is told of the end, and that is the last entry, unless no step can be taken
+abbrev pub IsTold : ℕ → List FileEntry → List FileEntry → SessionEnd → SessionEnd → Type 0
+IsTold caller said all end ends.Worn = all ≡ said
+IsTold caller said all end result = (result ≡ end) × ((answer : Answer) × (all ≡ said ++ entry caller ask.EndSession answer ∷ []))
+
+-- A SESSION: a conversation, and then its end
+pub record IsSession (who : Asker) (budget : ℕ) (old new : Stand) (result : SessionEnd) : Type 0 where
+  pub said : List FileEntry
+  pub end : SessionEnd
+  pub conversation : Conversation who budget old (record new { place = record new.place { entries = said } }) end
+  pub told : IsTold who.caller said new.place.entries end result
+
+-- the history that the seat has seen stays one of the machine's steps
+pub record StaysLegal {M Q A : Type 0} (steps : M → ℕ → Q → A → M → Type 0) (opened : M) (before after : List (Entry Q A)) : Type 0 where
+  pub legal : IsLegal steps opened before → IsLegal steps opened after

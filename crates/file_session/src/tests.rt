@@ -1,0 +1,4 @@
+//! Sessions over a link in memory, with a machine that answers by the operation alone.
+
+mod rows;
+mod scripted;

@@ -1,0 +1,125 @@
+//! READ and WRITE, from the request to its reply.
+ghost use Rattle.std.specs.Prelude.{◌≡◌, ◌<◌, ◌^◌, ◌++◌, ℕ, List, Some, IsSomeAnd, true, IfOk, IfErr, OnOk, OnErr, length};
+ghost use Rattle.database_file.specs.DatabaseFile.{FitsShape};
+ghost use Rattle.database_file.specs.Fault.{SameBase};
+ghost use Rattle.file_handles.specs.Nodes.{file_at as file_number};
+ghost use Rattle.fuse_msgs.specs.declared.reply.Reply.TheVariants as reply;
+ghost use Rattle.file_view.specs.Done.{HasRead, IsWritten};
+ghost use Rattle.file_view.specs.HandleRules.{handle_rows};
+ghost use Rattle.file_view.specs.Overlay.{FitsImage};
+ghost use Rattle.file_view.specs.Refusal.{IsAllowed, HasReadCause};
+ghost use Rattle.file_view.specs.Requests.{write_rows};
+ghost use Rattle.file_view.specs.Served.{exists};
+
+use crate::errno::EPERM;
+use crate::fault::ViewFault;
+use crate::plan::Plan;
+use crate::scene::Scene;
+use crate::view::View;
+use byte_locks::FileKind;
+use fuse_msgs::Reply;
+use lf_sqlite_pages::PageStore;
+use std::alloc::Global;
+
+/// The reply to a WRITE of some bytes.
+fn written(bytes: &[u8]) -> Reply
+    requires { length bytes.now < 2 ^ 32 }
+    ensures { result ≡ reply.Written (length bytes.now) }
+{
+    Reply::Written {
+        size: bytes.len() as u32,
+    }
+}
+
+impl View {
+    /// READ.
+    pub(crate) fn answer_read<S: PageStore>(
+        &self,
+        alloc: Global,
+        scene: &Scene,
+        base: &mut S,
+        node: u64,
+        fh: u64,
+        at: u64,
+        size: u32,
+    ) -> Result<Plan, ViewFault>
+        requires over { (scene.now.page_size ≡ S.page_size base.old) × (scene.now.commit ≡ S.commit base.old) }
+        requires fits { FitsShape self.now.database (S.page_size base.old) (S.commit base.old) }
+        ensures done { IfOk result (λ plan. IsSomeAnd (file_number node) (λ file. (bytes : List ℕ) × HasRead (S.image base.old) self.now scene.now file at size bytes plan self.now)) }
+        ensures allowed { OnOk result (IsAllowed (handle_rows self.now scene.now node fh)) }
+        ensures cause { IfErr result (HasReadCause (handle_rows self.now scene.now node fh) (S.faults base.old) (S.faults base.new)) }
+        ensures base { SameBase (S.image base.old) (S.image base.new) (S.page_size base.old) (S.page_size base.new) (S.commit base.old) (S.commit base.new) (S.wal_mode base.old) (S.wal_mode base.new) (S.is_broken base.old) (S.is_broken base.new) }
+    {
+        let file = self.handle(scene, node, fh)?;
+        let bytes = self.read_file(alloc, scene, base, file, at, size)?;
+        Ok(Plan::Reply(Reply::Bytes { bytes }))
+    }
+
+    /// WRITE to a file that is there.
+    fn write_file<S: PageStore>(
+        &mut self,
+        alloc: Global,
+        scene: &Scene,
+        base: &mut S,
+        file: FileKind,
+        given: Option<u64>,
+        at: u64,
+        bytes: &[u8],
+    ) -> Result<Plan, ViewFault>
+        requires over { (scene.now.page_size ≡ S.page_size base.old) × (scene.now.commit ≡ S.commit base.old) }
+        requires fits { FitsImage self.old (S.page_size base.old) (S.commit base.old) }
+        requires there { exists self.old scene.now.role file ≡ true }
+        ensures done { IfOk result (λ plan. IsWritten (S.image base.old) self.old scene.now (Some file) at bytes.now plan self.new) }
+        ensures allowed { OnOk result (IsAllowed (write_rows self.old scene.now (Some file) given at bytes.now)) }
+        ensures cause { IfErr result (HasReadCause (write_rows self.old scene.now (Some file) given at bytes.now) (S.faults base.old) (S.faults base.new)) }
+        ensures err { OnErr result (self.new ≡ self.old) }
+        ensures base { SameBase (S.image base.old) (S.image base.new) (S.page_size base.old) (S.page_size base.new) (S.commit base.old) (S.commit base.new) (S.wal_mode base.old) (S.wal_mode base.new) (S.is_broken base.old) (S.is_broken base.new) }
+    {
+        match file {
+            FileKind::Database => {
+                self.write_database(alloc, scene, base, given, at, bytes)?;
+                Ok(Plan::Reply(written(bytes)))
+            }
+            FileKind::Journal => {
+                let change = self.write_journal(alloc, scene, base, given, at, bytes)?;
+                Ok(Plan::of(written(bytes), change))
+            }
+            FileKind::Wal => {
+                let change = self.write_log(alloc, scene, base, given, at, bytes)?;
+                Ok(Plan::of(written(bytes), change))
+            }
+            FileKind::Shm => {
+                self.write_shared(at, bytes)?;
+                Ok(Plan::Reply(written(bytes)))
+            }
+            FileKind::PosFile | FileKind::LockFile | FileKind::Primary => {
+                Err(ViewFault::Errno(EPERM))
+            }
+        }
+    }
+
+    /// WRITE.
+    #[tactic(auto, using(crate::proofs::RequestLemmas::cause_first, crate::proofs::RequestLemmas::cause_behind))]
+    pub(crate) fn answer_write<S: PageStore>(
+        &mut self,
+        alloc: Global,
+        scene: &Scene,
+        base: &mut S,
+        node: u64,
+        fh: u64,
+        at: u64,
+        given: Option<u64>,
+        bytes: &[u8],
+    ) -> Result<Plan, ViewFault>
+        requires over { (scene.now.page_size ≡ S.page_size base.old) × (scene.now.commit ≡ S.commit base.old) }
+        requires fits { FitsImage self.old (S.page_size base.old) (S.commit base.old) }
+        ensures done { IfOk result (λ plan. IsWritten (S.image base.old) self.old scene.now (file_number node) at bytes.now plan self.new) }
+        ensures allowed { OnOk result (IsAllowed (handle_rows self.old scene.now node fh ++ write_rows self.old scene.now (file_number node) given at bytes.now)) }
+        ensures cause { IfErr result (HasReadCause (handle_rows self.old scene.now node fh ++ write_rows self.old scene.now (file_number node) given at bytes.now) (S.faults base.old) (S.faults base.new)) }
+        ensures err { OnErr result (self.new ≡ self.old) }
+        ensures base { SameBase (S.image base.old) (S.image base.new) (S.page_size base.old) (S.page_size base.new) (S.commit base.old) (S.commit base.new) (S.wal_mode base.old) (S.wal_mode base.new) (S.is_broken base.old) (S.is_broken base.new) }
+    {
+        let file = self.handle(scene, node, fh)?;
+        self.write_file(alloc, scene, base, file, given, at, bytes)
+    }
+}

@@ -1,0 +1,32 @@
+use Rattle.std.proofs.Common.{◌≡◌, ◌∙◌, ap, refl, subst, sym}
+use Rattle.file_view.specs.Overlay.{FitsImage, IsOverImage}
+use Rattle.file_view.specs.Served.{Served, waits}
+use Rattle.world_laws.specs.Served.{ShareForReading}
+use Rattle.node_core.specs.Nodes.{seen}
+use Rattle.node_core.specs.Opening.{opened, seen_opened}
+use Rattle.node_core.specs.Stores.{fields_of, history_of, state}
+use Rattle.node_core.proofs.Opening.{opened-fits, opened-over, opened-seen, shares-none}
+use Rattle.node_core.proofs.node.Node.open.Goals as goal
+
+pub invariant_of-result : goal.invariant_of-result
+invariant_of-result g c =
+    let store = c.args.store in
+    let f = fields_of store in
+    let config = c.args.config in
+    let is : c.in-Ok.view ≡ (opened f config).files = c.in-Ok.ensures in
+    record {
+      shape = subst (λ (s : Served). FitsImage s store.page_size store.commit) (sym is) (opened-fits f config store.page_size store.commit store.sized.pages);
+      image = λ honest. let image = (state (history_of store) f).image in subst (λ (s : Served). IsOverImage s image) (sym is) (opened-over f config image);
+      told = ap (λ (s : Served). s.position) is;
+      replica = λ not. ap (λ (s : Served). s.writer) is;
+      idle = ap waits is;
+      shares = subst (λ (s : Served). ShareForReading s.locks) (sym is) shares-none;
+    }
+
+pub returns-in-Ok-clause-seen : goal.returns-in-Ok-clause-seen
+returns-in-Ok-clause-seen g c honest =
+    let store = c.args.store in
+    let f = fields_of store in
+    let config = c.args.config in
+    let h = history_of store in
+    ap (λ (s : Served). seen h (record (opened f config) { files = s })) c.in-Ok.ensures ∙ opened-seen f config h

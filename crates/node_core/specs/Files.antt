@@ -1,0 +1,36 @@
+-- A request on the served files: what it is answered over, and what the files' rules did with it.
+use Rattle.std.specs.Prelude.{◌≡◌, ◌⊎◌, ℕ, true, List, Option, Some, None, if◌then◌else◌}
+use Rattle.lf_base.specs.Faults.{Rose}
+use Rattle.fuse_msgs.specs.declared.request.Request.{Request}
+use Rattle.lf_disk.specs.History.{History}
+use Rattle.lf_sqlite_pages.specs.Image.{DatabaseImage}
+use Rattle.file_view.specs.declared.fault.ViewFault.{ViewFault}
+use Rattle.file_view.specs.declared.fault.ViewFault.TheVariants as fault
+use Rattle.file_view.specs.declared.plan.Plan.{Plan}
+use Rattle.file_view.specs.declared.scene.Scene.{Scene}
+use Rattle.file_view.specs.Done.{IsDone}
+use Rattle.file_view.specs.Refusal.{IsAllowed, Row, first_refusal}
+use Rattle.file_view.specs.Requests.{rows_of, scene_of}
+use Rattle.file_view.specs.Served.{Served}
+use Rattle.node_core.specs.Nodes.{NodeParts}
+use Rattle.node_core.specs.Roles.{role_of}
+use Rattle.node_core.specs.Stores.{IsRead, StoreFields, state}
+
+-- the committed image, where the disk tells it
+abbrev pub told : History → StoreFields → Option DatabaseImage
+told h s = if s.honest then Some (state h s).image else None
+
+-- who asks, what the node is, the shape of the committed image, and whether the store is broken
+abbrev pub scene : NodeParts → ℕ → Scene
+scene n caller = scene_of caller (role_of n.config) n.store.page_size n.store.commit n.store.broken
+
+-- no rule refuses the request, it does what it says, and these are the files then; of the store pages were read
+pub record IsPlanned (start : History) (old : NodeParts) (caller : ℕ) (request : Request) (plan : Plan) (files : Served) : Type 0 where
+  pub done : IsDone (told start old.store) old.files (scene old caller) request plan files
+  pub allowed : IsAllowed (rows_of old.files (scene old caller) request)
+
+-- why a request is refused: by the first row that holds; or a page couldn't be read, since the store is broken or its disk failed
+abbrev pub RefusesBy : List Row → StoreFields → StoreFields → ViewFault → Type 0
+RefusesBy rows old new (fault.Errno number) = first_refusal rows ≡ Some number
+RefusesBy rows old new (fault.Page failed) = (old.broken ≡ true) ⊎ Rose old.faults new.faults
+RefusesBy rows old new fault.NoMemory = Unit {0}

@@ -1,0 +1,13 @@
+pub mod Roles
+pub mod Stores
+pub mod Nodes
+pub mod Errors
+pub mod Calls
+pub mod Safely
+pub mod Files
+pub mod Unlinking
+pub mod Committing
+pub mod Serving
+pub mod Steps
+pub mod Opening
+pub mod Runs

@@ -1,0 +1,34 @@
+-- A node that was opened.
+use Rattle.std.specs.Prelude.{ℕ, ◌==◌, Option, Some, None, List, length, if◌then◌else◌}
+use Rattle.lf_disk.specs.History.{History}
+use Rattle.file_view.specs.Views.{new_view}
+use Rattle.world_laws.specs.Node.{NodeState}
+use Rattle.world_laws.specs.Served.{untouched}
+use Rattle.node_core.specs.declared.config.NodeConfig.{NodeConfig}
+use Rattle.node_core.specs.Nodes.{NodeParts}
+use Rattle.node_core.specs.Roles.{law_role, role_of}
+use Rattle.node_core.specs.Stores.{StoreFields, failed, position, state}
+
+-- an empty text names no host
+abbrev pub host_in : List ℕ → Option (List ℕ)
+host_in text = if length text == 0 then None else Some text
+
+-- nobody was at the files, which tell where the store stands and who the primary is; no moment was given yet
+abbrev pub opened : StoreFields → NodeConfig → NodeParts
+opened store config = record {
+  files = record (new_view config.name) { position = position store; host = host_in config.primary_host };
+  store = store;
+  config = config;
+  moment = 0;
+}
+
+-- the cluster sees it so: nothing waits, and nobody has used the files
+abbrev pub seen_opened : History → StoreFields → NodeConfig → NodeState
+seen_opened h store config = record {
+  store = state h store;
+  failed = failed h store;
+  faults = store.faults;
+  role = law_role (role_of config);
+  waits = None;
+  served = untouched (state h store).image;
+}

@@ -1,0 +1,42 @@
+//! The error numbers of Linux that a node answers with.
+ghost use Rattle.std.specs.Prelude.{◌≡◌};
+ghost use Rattle.node_core.specs.Errors.{errno_of_store, errno_of_view};
+
+use file_view::ViewFault;
+use lf_base::Errno;
+use txn_log::StoreFault;
+
+const EIO: Errno = Errno(5);
+
+pub const EAGAIN: Errno = Errno(11);
+
+pub const ENOMEM: Errno = Errno(12);
+
+const EFBIG: Errno = Errno(27);
+
+pub const EROFS: Errno = Errno(30);
+
+/// The number of a fault of the store.
+pub fn errno_of_store(fault: StoreFault) -> Errno
+    ensures { result ≡ errno_of_store fault }
+{
+    match fault {
+        StoreFault::Disk | StoreFault::Broken => EIO,
+        StoreFault::Limit => EFBIG,
+        StoreFault::NoMemory => ENOMEM,
+        StoreFault::NotNext { .. }
+        | StoreFault::SumDiffers { .. }
+        | StoreFault::PageSize { .. } => EIO,
+    }
+}
+
+/// The number of a request's fault.
+pub fn errno_of_view(fault: ViewFault) -> Errno
+    ensures { result ≡ errno_of_view fault }
+{
+    match fault {
+        ViewFault::Errno(number) => number,
+        ViewFault::Page(_) => EIO,
+        ViewFault::NoMemory => ENOMEM,
+    }
+}

@@ -1,0 +1,21 @@
+//! Laws of a node's steps, each the contract of a function that does nothing else.
+ghost use Rattle.node_core.specs.Nodes.{history, parts_of, seen};
+ghost use Rattle.node_core.specs.Runs.{CrashesAreOpened, RunsAreSteps};
+
+use crate::node::Node;
+use lf_disk::Disk;
+use turn_desk::Machine;
+use world_laws::stops_are_failures;
+
+/// The history of a desk over a node is a list of steps of this node.
+pub fn runs_are_steps<D: Disk>()
+    ensures { RunsAreSteps ⟦<Node<D> as Machine>⟧.steps (λ n. D.honest n.store.disk) (λ n. seen (history n) (parts_of n)) (λ n. history n) }
+{}
+
+/// Each folder that a crash leaves while a desk's steps are made stands for a store that the node may
+/// be opened on, after some of these steps, of which the last may have failed.
+pub fn crashes_are_opened<D: Disk>()
+    ensures { CrashesAreOpened ⟦<Node<D> as Machine>⟧.steps (λ n. D.honest n.store.disk) (λ n. seen (history n) (parts_of n)) (λ n. history n) }
+{
+    stops_are_failures();
+}

@@ -1,0 +1,23 @@
+//! A node as one machine: a request in, an answer and a new state out.
+//!
+//! It serves the files of one database over its store. What each ask does is said by `Does` in the
+//! specifications, and what a step tells the cluster by `StepsSafely`.
+#![tactic(auto)]
+
+mod answer;
+mod ask;
+mod config;
+mod errno;
+mod laws;
+mod lending;
+mod node;
+mod opening;
+mod serving;
+mod stepping;
+mod unlinking;
+
+pub use answer::Answer;
+pub use ask::Ask;
+pub use config::NodeConfig;
+pub use laws::{crashes_are_opened, runs_are_steps};
+pub use node::Node;

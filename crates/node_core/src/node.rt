@@ -1,0 +1,33 @@
+ghost use Rattle.std.specs.Prelude.{◌≡◌, false, None, IsTrue};
+ghost use Rattle.std.proofs.Props.{props};
+ghost use Rattle.file_view.specs.Overlay.{FitsImage, IsOverImage};
+ghost use Rattle.file_view.specs.Served.{waits};
+ghost use Rattle.world_laws.specs.Served.{ShareForReading};
+ghost use Rattle.node_core.specs.Stores.{fields_of, history_of, position, state};
+
+use crate::config::NodeConfig;
+use file_view::View;
+use lf_disk::Disk;
+use std::alloc::Global;
+use txn_log::Store;
+
+/// A node: the served files of a database over its store.
+///
+/// The files stand over the committed image, and they tell the store's position. At a replica nobody
+/// has uncommitted pages. No request waits between two steps. Different owners share a lock only for
+/// reading.
+#[derive(Drop)]
+pub struct Node<D: Disk> {
+    pub(crate) alloc: Global,
+    pub(crate) store: Store<D>,
+    pub(crate) view: View,
+    pub(crate) config: NodeConfig,
+    /// The greatest moment that it was given.
+    pub(crate) moment: u64,
+    ghost shape: { FitsImage view store.page_size store.commit },
+    ghost image: { IsTrue (D.honest store.disk) → IsOverImage view (state (history_of store) (fields_of store)).image } by { Prim.hlevel props },
+    ghost told: { view.position ≡ position (fields_of store) },
+    ghost replica: { config.candidate ≡ false → view.writer ≡ None } by { Prim.hlevel props },
+    ghost idle: { waits view ≡ false },
+    ghost shares: { ShareForReading view.locks } by { Prim.hlevel props },
+}

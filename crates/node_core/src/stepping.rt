@@ -1,0 +1,43 @@
+//! The node as one machine.
+ghost use Rattle.std.specs.Prelude.{◌≡◌, ℕ};
+ghost use Rattle.node_core.specs.Nodes.{history, parts_of};
+ghost use Rattle.node_core.specs.Steps.{IsStep};
+
+use crate::answer::Answer;
+use crate::ask::Ask;
+use crate::node::Node;
+use lf_disk::Disk;
+use turn_desk::Machine;
+
+impl<D: Disk> Node<D> {
+    /// The session of this caller has ended.
+    fn end_session(&mut self, caller: u64) -> Answer
+        ensures step { IsStep (history self.old) (parts_of self.old) caller Ask.EndSession result (history self.new) (parts_of self.new) }
+    {
+        self.view.end_session(caller);
+        Answer::Quiet
+    }
+
+    /// Where the node stands.
+    fn tell_position(&self) -> Answer
+        ensures step { (caller : ℕ) → IsStep (history self.now) (parts_of self.now) caller Ask.Where result (history self.now) (parts_of self.now) }
+    {
+        Answer::At(self.store.pos())
+    }
+}
+
+impl<D: Disk> Machine for Node<D> {
+    type Ask = Ask;
+
+    type Answer = Answer;
+
+    ghost steps = { λ old caller ask answer new. IsStep (history old) (parts_of old) caller ask answer (history new) (parts_of new) };
+
+    fn step(&mut self, caller: u64, ask: &Ask) -> Answer {
+        match ask {
+            Ask::File { now, request } => self.answer_file(caller, *now, request),
+            Ask::EndSession => self.end_session(caller),
+            Ask::Where => self.tell_position(),
+        }
+    }
+}

@@ -1,0 +1,58 @@
+-- From what one reader answers to what another does.
+use Rattle.std.proofs.Common.{◌≡◌, ℕ, List, Option, Some, None, IsSomeAnd, IsErrAnd, MatchOption, Result, Ok, Err, [], codes, inl, refl, sym, subst, arith, rules}
+use Rattle.toml.specs.Data.{Data, Members}
+use Rattle.node_settings.specs.declared.settings_fault.SettingsFault.{SettingsFault}
+use Rattle.node_settings.specs.declared.settings_fault.SettingsFault.TheVariants as fault
+use Rattle.node_settings.specs.Address.{IsAddress}
+use Rattle.node_settings.specs.Answers.{Reads}
+use Rattle.node_settings.specs.Values.{IsUrlText, IsSomeUrlText}
+
+-- a refusal where P never holds is one where Q never does, if Q gives P
+pub fails : {A B : Type 0} (P : A → Type 0) (Q : B → Type 0) (f : SettingsFault) → ((b : B) → Q b → (a : A) × P a) → Reads P (Err f) → Reads Q (Err f)
+fails P Q fault.Config step h = λ b q. let x = step b q in h x.0 x.1
+fails P Q fault.NoMemory step h = tt
+
+-- the value at a key, read by its rule
+pub at_key : {A : Type 0} (Rule : Data → A → Type 0) (o : Option Data) (d : Data) (r : Result A SettingsFault) → Some d ≡ o
+    → Reads (Rule d) r → Reads (λ a. IsSomeAnd o (λ e. Rule e a)) r
+at_key Rule o d r e h = subst (λ x. Reads (λ a. IsSomeAnd x (λ y. Rule y a)) r) e h
+
+-- the same where a `?` passes the refusal on
+pub passed : {A B : Type 0} (P : A → Type 0) (Q : B → Type 0) (f : SettingsFault) (r : Result B SettingsFault) → ((b : B) → Q b → (a : A) × P a)
+    → IsErrAnd r (λ e. e ≡ f) → Reads P (Err f) → Reads Q r
+passed P Q f (Ok b) step err h = absurd err
+passed P Q f (Err e) step err h = fails P Q e step (subst (λ (x : SettingsFault). Reads P (Err x)) (sym err) h)
+
+-- two facts of which each gives the other
+pub both : {A : Type 0} (P Q : A → Type 0) (r : Result A SettingsFault) → ((a : A) → P a → Q a) → ((a : A) → Q a → P a) → Reads P r → Reads Q r
+both P Q (Ok a) to from h = to a h
+both P Q (Err fault.Config) to from h = λ a q. h a (from a q)
+both P Q (Err fault.NoMemory) to from h = tt
+
+-- the default
+pub at_none : {A : Type 0} (Rule : Data → A → Type 0) (o : Option Data) (default : A) (r : Result A SettingsFault) → None ≡ o
+    → Reads (λ a. a ≡ default) r → Reads (λ a. MatchOption o (a ≡ default) (λ e. Rule e a)) r
+at_none Rule o default r e h = subst (λ x. Reads (λ a. MatchOption x (a ≡ default) (λ y. Rule y a)) r) e h
+
+pub at_some : {A : Type 0} (Rule : Data → A → Type 0) (o : Option Data) (d : Data) (default : A) (r : Result A SettingsFault) → Some d ≡ o
+    → Reads (Rule d) r → Reads (λ a. MatchOption o (a ≡ default) (λ e. Rule e a)) r
+at_some Rule o d default r e h = subst (λ x. Reads (λ a. MatchOption x (a ≡ default) (λ y. Rule y a)) r) e h
+
+-- what is read of a table is read of the one at a key
+pub in_section : {A : Type 0} (P : Members → A → Type 0) (o : Option Members) (ms : Members) (r : Result A SettingsFault) → o ≡ Some ms
+    → Reads (P ms) r → Reads (λ a. IsSomeAnd o (λ t. P t a)) r
+in_section P o ms r e h = subst (λ x. Reads (λ a. IsSomeAnd x (λ t. P t a)) r) (sym e) h
+
+pub some_url : (d : Data) (url : Option (List ℕ)) → IsSomeUrlText d url → (u : List ℕ) × IsUrlText d u
+some_url d None h = absurd h
+some_url d (Some u) h = (u, h)
+
+-- the default of where HTTP is served
+pub default_address : IsAddress (codes ":20202")
+default_address = record {
+  host = [];
+  port = codes "20202";
+  parts = refl;
+  is_host = inl (λ k x lt. absurd (omega arith));
+  is_port = ((omega arith, search rules), omega arith);
+}

@@ -1,0 +1,4 @@
+pub mod Parts
+pub mod Answering
+pub mod Tables
+pub mod OneConfiguration

@@ -1,0 +1,86 @@
+-- A configuration says one thing.
+use Rattle.std.proofs.Common.{◌≡◌, ℕ, pos, List, Option, Some, None, IsSomeAnd, MatchOption, sym, ap, ◌∙◌, subst, refl, codes}
+use Rattle.toml.specs.Data.{Data, Members}
+use Rattle.node_settings.specs.declared.settings.Settings.{Settings}
+use Rattle.node_settings.specs.declared.settings.LeaseSettings.{LeaseSettings}
+use Rattle.node_settings.specs.declared.settings.LeaseType.TheVariants as lease
+use Rattle.node_settings.specs.Configuration.{IsFuse, IsHttp, IsData, IsLease, IsRoot, IsConfiguration}
+use Rattle.node_settings.specs.Values.{section, IsText, IsNameText, IsAddressText, IsUrlText, IsSomeUrlText, IsFlag, IsOff, IsNumber, IsLeaseType}
+
+-- a rule reads one value
+abbrev ReadsOne : {A : Type 0} → (Data → A → Type 0) → Type 0
+ReadsOne {A} Rule = (d : Data) (a b : A) → Rule d a → Rule d b → a ≡ b
+
+one_text : ReadsOne IsText
+one_text d a b x y = cc
+
+one_name : ReadsOne IsNameText
+one_name d a b x y = one_text d a b x.0 y.0
+
+one_address : ReadsOne IsAddressText
+one_address d a b x y = one_text d a b x.0 y.0
+
+one_url : ReadsOne IsUrlText
+one_url d a b x y = one_text d a b x.0 y.0
+
+one_some_url : ReadsOne IsSomeUrlText
+one_some_url d None b x y = absurd x
+one_some_url d (Some a) None x y = absurd y
+one_some_url d (Some a) (Some b) x y = ap Some (one_url d a b x y)
+
+one_flag : ReadsOne IsFlag
+one_flag d a b x y = cc
+
+one_off : ReadsOne IsOff
+one_off d a b x y = x.1 ∙ sym y.1
+
+one_number : (least most : ℕ) → ReadsOne (IsNumber least most)
+one_number least most d a b x y = let e : pos a ≡ pos b = cc (x.0, y.0) in cc
+
+one_lease_type : ReadsOne IsLeaseType
+one_lease_type d lease.Static lease.Static x y = refl
+
+holds : {A : Type 0} (Rule : Data → A → Type 0) → ReadsOne Rule → (o : Option Data) (a b : A) → IsSomeAnd o (λ d. Rule d a) → IsSomeAnd o (λ d. Rule d b) → a ≡ b
+holds Rule one None a b x y = absurd x
+holds Rule one (Some d) a b x y = one d a b x y
+
+holds_or : {A : Type 0} (Rule : Data → A → Type 0) → ReadsOne Rule → (default : A) (o : Option Data) (a b : A)
+    → MatchOption o (a ≡ default) (λ d. Rule d a) → MatchOption o (b ≡ default) (λ d. Rule d b) → a ≡ b
+holds_or Rule one default None a b x y = x ∙ sym y
+holds_or Rule one default (Some d) a b x y = one d a b x y
+
+-- two facts of one table
+both : (o : Option Members) (P Q : Members → Type 0) → IsSomeAnd o P → IsSomeAnd o Q → (t : Members) × P t × Q t
+both None P Q x y = absurd x
+both (Some t) P Q x y = (t, x, y)
+
+one_lease : (t : Members) (a b : LeaseSettings) → IsLease t a → IsLease t b → a ≡ b
+one_lease t a b x y = λ i. record {
+  lease_type = holds_or IsLeaseType one_lease_type lease.Static _ a.lease_type b.lease_type x.lease_type y.lease_type i;
+  candidate = holds_or IsFlag one_flag _ _ a.candidate b.candidate x.candidate y.candidate i;
+  advertise_url = holds IsUrlText one_url _ a.advertise_url b.advertise_url x.advertise_url y.advertise_url i;
+  hostname = holds IsText one_text _ a.hostname b.hostname x.hostname y.hostname i;
+  service_url = holds_or IsSomeUrlText one_some_url None _ a.service_url b.service_url x.service_url y.service_url i;
+  ttl = holds_or (IsNumber 1 86400000) (one_number 1 86400000) _ _ a.ttl b.ttl x.ttl y.ttl i;
+}
+
+one_root : (root : Members) (s t : Settings) → IsRoot root s → IsRoot root t → s ≡ t
+one_root root s t x y =
+    let fuse = both (section (codes "fuse") root) (λ m. IsFuse m s.socket) (λ m. IsFuse m t.socket) x.fuse y.fuse in
+    let http = both (section (codes "http") root) (λ m. IsHttp m s.http) (λ m. IsHttp m t.http) x.http y.http in
+    let log = both (section (codes "data") root) (λ m. IsData m s.compress s.retention_files) (λ m. IsData m t.compress t.retention_files) x.log y.log in
+    let leases = both (section (codes "lease") root) (λ m. IsLease m s.lease) (λ m. IsLease m t.lease) x.lease y.lease in
+    λ i. record {
+      database = holds IsNameText one_name _ s.database t.database x.database y.database i;
+      socket = holds_or IsText one_text _ _ s.socket t.socket fuse.1.listen fuse.2.listen i;
+      http = holds_or IsAddressText one_address _ _ s.http t.http http.1.addr http.2.addr i;
+      compress = holds_or IsOff one_off _ _ s.compress t.compress log.1.compress log.2.compress i;
+      retention_files = holds_or (IsNumber 1 _) (one_number 1 _) _ _ s.retention_files t.retention_files log.1.retention_files log.2.retention_files i;
+      lease = one_lease leases.0 s.lease t.lease leases.1 leases.2 i;
+    }
+
+pub one_configuration : (bytes : List ℕ) (s t : Settings) → IsConfiguration bytes s → IsConfiguration bytes t → s ≡ t
+one_configuration bytes s t x y =
+    let same : Some x.root ≡ Some y.root = sym x.is_toml ∙ y.is_toml in
+    let root : x.root ≡ y.root = cc in
+    one_root x.root s t x.says (subst (λ (r : Members). IsRoot r t) (sym root) y.says)

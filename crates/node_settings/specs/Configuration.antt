@@ -1,0 +1,51 @@
+-- The configuration of a node, `litefs.toml`: TOML of at most 65,536 bytes, with these keys and no others.
+use Rattle.std.specs.Prelude.{◌≡◌, ℕ, ◌≤◌, ◌^◌, ◌-◌, List, [], ◌∷◌, length, Bool, Some, None, false, IsUtf8, IsSomeAnd, codes}
+use Rattle.toml.specs.Data.{Members}
+use Rattle.toml.specs.Parse.{parse_document}
+use Rattle.node_settings.specs.declared.settings.Settings.{Settings}
+use Rattle.node_settings.specs.declared.settings.LeaseSettings.{LeaseSettings}
+use Rattle.node_settings.specs.declared.settings.LeaseType.TheVariants as lease_type
+use Rattle.node_settings.specs.Values.{Holds, HoldsOr, HasOnly, section, IsText, IsNameText, IsAddressText, IsUrlText, IsSomeUrlText, IsFlag, IsOff, IsNumber, IsLeaseType}
+
+-- [fuse]
+pub record IsFuse (members : Members) (socket : List ℕ) : Type 0 where
+  pub keys : HasOnly (codes "listen" ∷ []) members
+  pub listen : HoldsOr (codes "listen") IsText (codes "litefs.sock") members socket
+
+-- [http]
+pub record IsHttp (members : Members) (address : List ℕ) : Type 0 where
+  pub keys : HasOnly (codes "addr" ∷ []) members
+  pub addr : HoldsOr (codes "addr") IsAddressText (codes ":20202") members address
+
+-- [data]
+pub record IsData (members : Members) (packed : Bool) (files : ℕ) : Type 0 where
+  pub keys : HasOnly (codes "compress" ∷ codes "retention-files" ∷ []) members
+  pub compress : HoldsOr (codes "compress") IsOff false members packed
+  pub retention_files : HoldsOr (codes "retention-files") (IsNumber 1 (2 ^ 63 - 1)) 1000 members files
+
+-- [lease]
+pub record IsLease (members : Members) (lease : LeaseSettings) : Type 0 where
+  pub keys : HasOnly (codes "type" ∷ codes "candidate" ∷ codes "advertise-url" ∷ codes "hostname" ∷ codes "service-url" ∷ codes "ttl" ∷ []) members
+  pub lease_type : HoldsOr (codes "type") IsLeaseType lease_type.Static members lease.lease_type
+  pub candidate : HoldsOr (codes "candidate") IsFlag false members lease.candidate
+  pub advertise_url : Holds (codes "advertise-url") IsUrlText members lease.advertise_url
+  pub hostname : Holds (codes "hostname") IsText members lease.hostname
+  pub service_url : HoldsOr (codes "service-url") IsSomeUrlText None members lease.service_url
+  pub ttl : HoldsOr (codes "ttl") (IsNumber 1 86400000) 10000 members lease.ttl
+
+-- the whole table
+pub record IsRoot (members : Members) (s : Settings) : Type 0 where
+  pub keys : HasOnly (codes "database" ∷ codes "fuse" ∷ codes "http" ∷ codes "data" ∷ codes "lease" ∷ []) members
+  pub database : Holds (codes "database") IsNameText members s.database
+  pub fuse : IsSomeAnd (section (codes "fuse") members) (λ fuse. IsFuse fuse s.socket)
+  pub http : IsSomeAnd (section (codes "http") members) (λ http. IsHttp http s.http)
+  pub log : IsSomeAnd (section (codes "data") members) (λ log. IsData log s.compress s.retention_files)
+  pub lease : IsSomeAnd (section (codes "lease") members) (λ lease. IsLease lease s.lease)
+
+-- the bytes are a configuration that says these settings
+pub record IsConfiguration (bytes : List ℕ) (s : Settings) : Type 0 where
+  pub size : length bytes ≤ 65536
+  pub text : IsUtf8 bytes
+  pub root : Members
+  pub is_toml : parse_document bytes ≡ Some root
+  pub says : IsRoot root s

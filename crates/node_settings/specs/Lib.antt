@@ -1,0 +1,4 @@
+pub mod Address
+pub mod Answers
+pub mod Values
+pub mod Configuration

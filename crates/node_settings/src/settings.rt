@@ -1,0 +1,40 @@
+use crate::{Address, Url};
+use lf_base::{Name, Text};
+
+/// What a node is told when it is started.
+#[derive(Debug, Drop)]
+pub struct Settings {
+    /// The database that the node keeps.
+    pub database: Name,
+    /// The path of the Unix socket on which files are served.
+    pub socket: Text,
+    /// Where HTTP is served.
+    pub http: Address,
+    /// Whether LTX files are compressed, which is never so.
+    pub compress: bool,
+    /// How many LTX files are kept.
+    pub retention_files: u64,
+    pub lease: LeaseSettings,
+}
+
+/// Who may be primary, and where it is found.
+#[derive(Debug, Drop)]
+pub struct LeaseSettings {
+    pub lease_type: LeaseType,
+    /// Whether this node may become primary.
+    pub candidate: bool,
+    /// Where the primary of a static lease is found.
+    pub advertise_url: Url,
+    pub hostname: Text,
+    /// Where the lease service is found.
+    pub service_url: Option<Url>,
+    /// How long a lease lasts, in milliseconds.
+    pub ttl: u64,
+}
+
+/// How a primary is found.
+#[derive(Clone, Copy, Debug, PartialEq, Eq)]
+pub enum LeaseType {
+    /// The candidate is primary for good, and every other node follows the advertised URL.
+    Static,
+}

@@ -1,0 +1,87 @@
+//! Values read by their rules.
+
+ghost use Rattle.std.specs.Prelude.{◌≡◌, ℕ, List, IfOk, IfErr};
+ghost use Rattle.toml.specs.Data.{string};
+ghost use Rattle.toml.specs.View.{view};
+ghost use Rattle.node_settings.specs.declared.settings_fault.SettingsFault.TheVariants as fault;
+ghost use Rattle.node_settings.specs.Answers.{Reads};
+ghost use Rattle.node_settings.specs.Values.{IsText, IsNameText, IsAddressText, IsUrlText, IsFlag, IsOff, IsNumber, IsLeaseType};
+
+use crate::{Address, LeaseType, SettingsFault, Url};
+use lf_base::{Name, NameFault, Text};
+use std::alloc::Global;
+use toml::Value;
+
+fn as_text(value: &Value) -> Result<&str, SettingsFault>
+    ensures ok { IfOk result (λ text. view value.now ≡ string text.now) }
+    ensures fault { IfErr result (λ f. (f ≡ fault.Config) × ((text : List ℕ) → view value.now ≡ string text → ⊥)) }
+{
+    value.as_str().ok_or(SettingsFault::Config)
+}
+
+pub(crate) fn text(alloc: Global, value: &Value) -> Result<Text, SettingsFault>
+    ensures { Reads (IsText (view value.now)) result }
+{
+    let text = as_text(value)?;
+    Ok(Text::of(alloc, text)?)
+}
+
+pub(crate) fn name(alloc: Global, value: &Value) -> Result<Name, SettingsFault>
+    ensures { Reads (IsNameText (view value.now)) result }
+{
+    let text = as_text(value)?;
+    match Name::read(alloc, text.as_bytes()) {
+        Ok(name) => Ok(name),
+        Err(NameFault::NoMemory) => Err(SettingsFault::NoMemory),
+        Err(_) => Err(SettingsFault::Config),
+    }
+}
+
+pub(crate) fn address(alloc: Global, value: &Value) -> Result<Address, SettingsFault>
+    ensures { Reads (IsAddressText (view value.now)) result }
+{
+    Address::read(alloc, as_text(value)?)
+}
+
+pub(crate) fn url(alloc: Global, value: &Value) -> Result<Url, SettingsFault>
+    ensures { Reads (IsUrlText (view value.now)) result }
+{
+    Url::read(alloc, as_text(value)?)
+}
+
+pub(crate) fn flag(value: &Value) -> Result<bool, SettingsFault>
+    ensures { Reads (IsFlag (view value.now)) result }
+{
+    value.as_bool().ok_or(SettingsFault::Config)
+}
+
+/// Nothing but false.
+pub(crate) fn off(value: &Value) -> Result<bool, SettingsFault>
+    ensures { Reads (IsOff (view value.now)) result }
+{
+    match value.as_bool() {
+        Some(false) => Ok(false),
+        _ => Err(SettingsFault::Config),
+    }
+}
+
+pub(crate) fn number(value: &Value, least: u64, most: u64) -> Result<u64, SettingsFault>
+    ensures { Reads (IsNumber least most (view value.now)) result }
+{
+    let Some(integer) = value.as_integer() else {
+        return Err(SettingsFault::Config);
+    };
+    match u64::try_from(integer) {
+        Ok(number) if least <= number && number <= most => Ok(number),
+        _ => Err(SettingsFault::Config),
+    }
+}
+
+pub(crate) fn lease_type(value: &Value) -> Result<LeaseType, SettingsFault>
+    ensures { Reads (IsLeaseType (view value.now)) result }
+{
+    match as_text(value)? {
+        "static" => Ok(LeaseType::Static),
+        _ => Err(SettingsFault::Config),
+    }
+}

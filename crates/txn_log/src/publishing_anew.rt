@@ -1,0 +1,83 @@
+//! A snapshot is published in place of a store's image and log.
+ghost use Rattle.std.specs.Prelude.{◌≡◌, false, IsTrue, IfOk, IfErr};
+ghost use Rattle.ltx_codec.specs.Format.{IsFile};
+ghost use Rattle.ltx_codec.specs.Positions.{after};
+ghost use Rattle.world_laws.specs.Store.{Install};
+ghost use Rattle.txn_log.specs.Calls.{Went};
+ghost use Rattle.txn_log.specs.Causes.{Breaks, IsDiskOrMemory};
+ghost use Rattle.txn_log.specs.Store.{state_of, failed_of};
+
+use crate::attempt::Attempt;
+use crate::encoding::text_of;
+use crate::fault::StoreFault;
+use crate::mode::wal_after;
+use crate::placed::Placed;
+use crate::placing_anew::place_anew;
+use crate::publishing::entry_of;
+use crate::store::Store;
+use crate::sums::fill;
+use lf_base::Pos;
+use lf_disk::Disk;
+use ltx_codec::Ltx;
+
+/// Publishes a snapshot, which is then the whole log, and makes the database file its pages.
+pub fn publish_anew<D: Disk>(store: &mut Store<D>, file: &Ltx) -> Result<Pos, StoreFault>
+    requires open_ { store.old.broken ≡ false }
+    requires valid { IsFile file.now }
+    requires first { file.now.header.min ≡ 1 }
+    ensures went { IsTrue (D.honest store.old.disk) → Went
+        (state_of (D.history store.old.disk) store.old.page_size store.old.commit store.old.entries.items store.old.dropped store.old.broken store.old.whole)
+        (failed_of (D.history store.old.disk) store.old.broken store.old.attempt store.old.tried)
+        (D.history store.old.disk) (Install file.now) result
+        (state_of (D.history store.new.disk) store.new.page_size store.new.commit store.new.entries.items store.new.dropped store.new.broken store.new.whole)
+        (failed_of (D.history store.new.disk) store.new.broken store.new.attempt store.new.tried)
+        (D.history store.new.disk) }
+    ensures told { IfOk result (λ position. position ≡ after file.now) }
+    ensures refusal { IfErr result IsDiskOrMemory }
+    ensures cause { Breaks store.old.broken (D.faults store.old.disk) result store.new.broken (D.faults store.new.disk) }
+    ensures honest { D.honest store.new.disk ≡ D.honest store.old.disk }
+{
+    let Ok(text) = text_of(*store.entries.allocator(), file) else {
+        return Err(StoreFault::NoMemory);
+    };
+    if store.entries.reserve(1).is_err() {
+        return Err(StoreFault::NoMemory);
+    }
+    let more = file.header.commit.saturating_sub(store.commit);
+    match store.sums.reserve(more) {
+        Ok(()) => {}
+        Err(_) => return Err(StoreFault::NoMemory),
+    }
+    store.whole = store.disk.moment();
+    match place_anew(
+        &mut store.disk,
+        store.entries.as_slice(),
+        text.as_slice(),
+        file.header.min,
+        file.header.max,
+        &file.change,
+    ) {
+        Placed::Whole => {
+            store.page_size = file.header.page_size;
+            store.commit = file.header.commit;
+            store.wal = wal_after(false, &file.change);
+            store.dropped = false;
+            store.entries.clear();
+            store.entries.push_reserved(entry_of(file));
+            fill(&mut store.sums, &file.change);
+            Ok(file.after())
+        }
+        Placed::Unpublished => {
+            store.broken = true;
+            store.attempt = Attempt::Unpublished;
+            store.tried = store.whole;
+            Err(StoreFault::Disk)
+        }
+        Placed::From(tried) => {
+            store.broken = true;
+            store.attempt = Attempt::Install;
+            store.tried = tried;
+            Err(StoreFault::Disk)
+        }
+    }
+}
