@@ -4,7 +4,7 @@ use Rattle.std.proofs.lemmas.Bool.{cases_lt, false≢true}
 use Rattle.std.proofs.Math.Seq.{get_or-append_seam}
 use Rattle.std.proofs.lemmas.List.{append-nil, take_at, take_more, take-take, take-append-drop, get_or-take}
 use Rattle.std.proofs.lemmas.List.FromFn.{take-map-range_with_len}
-use Rattle.lf_disk.specs.Change.{Step, OnFile, Writes, TearsFile}
+use Rattle.lf_disk.specs.Change.{Step, OnFile, Writes, TearsFile, CropsFile}
 use Rattle.lf_disk.specs.Folder.{Folder, bytes_of, same_name, SameBut}
 use Rattle.lf_disk.specs.History.{History, now, Rests, Ticks, Moves}
 use Rattle.lf_disk.specs.Stretch.{Stretch}
@@ -27,6 +27,8 @@ use Rattle.ltx_codec.proofs.AgreeLemmas.{Agree, longer, size_same, pages_same, w
 use Rattle.ltx_codec.proofs.FileLemmas.{file_is}
 use Rattle.ltx_codec.proofs.LawLemmas.{one_reading_lem}
 use Rattle.ltx_codec.proofs.SoundLemmas.{text_sound}
+use Rattle.txn_log.proofs.Fittings.{crops_none, then_moved}
+use Rattle.txn_log.proofs.Rewritings.{Runs, fits}
 use Rattle.txn_log.specs.Pages.{Wears, Patches}
 use Rattle.txn_log.proofs.Wearing.{wears_path, wears_more, patches_by}
 use Rattle.node_recovery.specs.declared.piece_reader.PieceReader.{PieceReader}
@@ -35,7 +37,7 @@ use Rattle.node_recovery.specs.declared.part.Part.TheVariants as part
 use Rattle.node_recovery.specs.declared.tally.Tally.{Tally}
 use Rattle.node_recovery.specs.Reading.{left_over, change_after, IsIn, IsFilled, Stands, HasCome, Comes, IsSound}
 use Rattle.node_recovery.specs.Rewriting.{HoldsFile}
-use Rattle.node_recovery.proofs.Judgings.{same_now}
+use Rattle.node_recovery.proofs.Judgings.{rests_none, same_now}
 use Rattle.node_recovery.proofs.Readings.{Reads, reads_on, reads_part, in_after, whole_text}
 use Rattle.node_recovery.proofs.Tallies.{last_within}
 
@@ -270,3 +272,9 @@ length_said name header file f holds =
     let size : header.page_size ≡ file.change.page_size = ap (λ (x : Header). x.page_size) holds.header_is ∙ sym holds.is.valid.block.page_size in
     let commit : header.commit ≡ file.change.commit = ap (λ (x : Header). x.commit) holds.header_is ∙ sym holds.is.valid.block.commit in
     ap (λ (c : ℕ). c * header.page_size) commit ∙ ap (λ (s : ℕ). file.change.commit * s) size
+
+-- the cut, whether it succeeds or not
+pub cuts : (change : PageChange) (h : History) {T E : Type 0} (result : Result T E) (mid new : History) (sees : Step) (len : ℕ) → len ≡ change.commit * change.page_size → Runs change h mid → Ticks result mid new
+    → Moves sees (CropsFile Database len) mid new → Runs change h new
+cuts change h result mid new sees len size runs ticks moves =
+    fits change h mid new len size runs (then_moved (CropsFile Database len) (crops_none Database len) mid mid (rests_none mid) result new sees ticks moves)

@@ -1,7 +1,7 @@
 use Rattle.std.proofs.Common.{◌≡◌, ◌*◌, ◌∙◌, arith}
 use Rattle.lf_disk.specs.History.{now, may_leave}
-use Rattle.txn_log.proofs.Rewritings.{Runs, writes, cuts, syncs, perhaps_syncs, rewritten}
-use Rattle.node_recovery.proofs.Rewritings.{length_said}
+use Rattle.txn_log.proofs.Rewritings.{Runs, writes, syncs, perhaps_syncs, rewritten}
+use Rattle.node_recovery.proofs.Rewritings.{cuts, length_said}
 use Rattle.node_recovery.proofs.rewriting.rewrite_from.Goals as goal
 
 pub returns-in_err-write_pages-clause-moments : goal.returns-in_err-write_pages-clause-moments
