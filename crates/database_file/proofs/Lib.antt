@@ -1,4 +1,5 @@
 pub mod TextLemmas
+pub mod PassLemmas
 pub mod PutLemmas
 pub mod ZeroLemmas
 pub mod WriteLemmas

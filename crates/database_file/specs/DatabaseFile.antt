@@ -1,5 +1,5 @@
 -- The database file: pages kept over those of a committed image.
-use Rattle.std.specs.Prelude.{◌≡◌, ◌≢◌, ℕ, ◌==◌, ◌<◌, ◌≤◌, ◌&&◌, Bool, Option, Some, None, is_none, List, length, map, replicate, take, drop, unwrap_or, if◌then◌else◌, refl}
+use Rattle.std.specs.Prelude.{◌≡◌, ◌≢◌, ℕ, ◌==◌, ◌<◌, ◌≤◌, ◌&&◌, Bool, Option, Some, None, is_none, List, length, map, fold, replicate, take, drop, unwrap_or, if◌then◌else◌, refl}
 use Rattle.std.specs.List.{range_with_len}
 use Rattle.std.specs.Ordering.{nat_cmp}
 use Rattle.std.specs.FinMap as pages
@@ -27,6 +27,10 @@ new_file = record { kept = pages.empty; page_size = 0; count = None }
 -- the file without what it keeps: it is the committed image, whatever that is
 abbrev pub clean : DatabaseFile → DatabaseFile
 clean file = record { kept = pages.empty; page_size = file.page_size; count = None }
+
+-- the file without what it keeps of some pages
+abbrev pub without_pages : DatabaseFile → List ℕ → DatabaseFile
+without_pages file numbers = record file { kept = fold (λ m n. pages.remove m n) file.kept numbers }
 
 -- whether it keeps nothing
 abbrev pub is_clean : DatabaseFile → Bool

@@ -3,7 +3,9 @@ ghost use Rattle.std.specs.Prelude.{◌≡◌, ◌+◌, ◌-◌, ◌*◌, ◌≤
 ghost use Rattle.std.specs.List.{concat, range_with_len};
 ghost use Rattle.lf_base.specs.Faults.{CountsFaults};
 ghost use Rattle.lf_sqlite_pages.specs.Image.{image_bytes};
-ghost use Rattle.database_file.specs.DatabaseFile.{size_over, count_over, page_of, as_read, FitsShape, bytes_from};
+ghost use Rattle.std.specs.Option.{option_copied};
+ghost use Rattle.std.specs.FinMap as pages;
+ghost use Rattle.database_file.specs.DatabaseFile.{size_over, count_over, page_of, as_read, without_pages, FitsShape, bytes_from};
 ghost use Rattle.database_file.specs.Fault.{HasCause, SameBase};
 
 use crate::database_file::DatabaseFile;
@@ -33,6 +35,16 @@ fn copied(alloc: Global, text: &[u8], from: usize, to: usize) -> Result<Vec<u8>,
 }
 
 impl DatabaseFile {
+    /// The bytes that are kept of page `n`, passing over some pages.
+    fn kept_without(&self, passed: &[u32], n: u32) -> Option<&[u8]>
+        ensures { option_copied result ≡ pages.get (without_pages self.now passed.now).kept n }
+    {
+        if passed.contains(&n) {
+            return None;
+        }
+        self.kept(n)
+    }
+
     /// Puts page `n` into `out`, which is one page long, as the file reads: a kept page, else the
     /// image's, else zeros.
     pub fn read_page<S: PageStore>(
@@ -48,9 +60,27 @@ impl DatabaseFile {
         ensures cause { CountsFaults (S.faults base.old) (S.faults base.new) result }
         ensures base { SameBase (S.image base.old) (S.image base.new) (S.page_size base.old) (S.page_size base.new) (S.commit base.old) (S.commit base.new) (S.wal_mode base.old) (S.wal_mode base.new) (S.is_broken base.old) (S.is_broken base.new) }
     {
+        self.read_page_without(&[], base, n, out)
+    }
+
+    /// The same as if nothing were kept of some pages.
+    fn read_page_without<S: PageStore>(
+        &self,
+        passed: &[u32],
+        base: &mut S,
+        n: u32,
+        out: &mut [u8],
+    ) -> Result<(), Failed>
+        requires fits { FitsShape (without_pages self.now passed.now) (S.page_size base.old) (S.commit base.old) }
+        requires first { 1 ≤ n }
+        requires whole { length out.old ≡ size_over self.now (S.page_size base.old) (S.commit base.old) }
+        ensures bytes { OnOk result (IfSome (S.image base.old) (λ i. out.new ≡ page_of (without_pages self.now passed.now) i n)) }
+        ensures cause { CountsFaults (S.faults base.old) (S.faults base.new) result }
+        ensures base { SameBase (S.image base.old) (S.image base.new) (S.page_size base.old) (S.page_size base.new) (S.commit base.old) (S.commit base.new) (S.wal_mode base.old) (S.wal_mode base.new) (S.is_broken base.old) (S.is_broken base.new) }
+    {
         let _page_size = base.page_size();
         let commit = base.commit();
-        if let Some(page) = self.kept(n) {
+        if let Some(page) = self.kept_without(passed, n) {
             out.copy_from_slice(page);
             return Ok(());
         }
@@ -61,50 +91,53 @@ impl DatabaseFile {
         Ok(())
     }
 
-    /// Puts page `n`, as the file reads, behind a text. The page is read into a buffer of its size.
+    /// Puts page `n`, as the file reads without what it keeps of some pages, behind a text. The page is
+    /// read into a buffer of its size.
     fn append<S: PageStore>(
         &self,
+        passed: &[u32],
         base: &mut S,
         n: u32,
         page: &mut [u8],
         text: &mut Vec<u8>,
     ) -> Result<(), FileFault>
-        requires fits { FitsShape self.now (S.page_size base.old) (S.commit base.old) }
+        requires fits { FitsShape (without_pages self.now passed.now) (S.page_size base.old) (S.commit base.old) }
         requires first { 1 ≤ n }
         requires whole { length page.old ≡ size_over self.now (S.page_size base.old) (S.commit base.old) }
-        ensures bytes { OnOk result (IfSome (S.image base.old) (λ i. text.new.items ≡ text.old.items ++ page_of self.now i n)) }
+        ensures bytes { OnOk result (IfSome (S.image base.old) (λ i. text.new.items ≡ text.old.items ++ page_of (without_pages self.now passed.now) i n)) }
         ensures length { OnOk result (length text.new.items ≡ length text.old.items + length page.old) }
         ensures faults { OnOk result (S.faults base.new ≡ S.faults base.old) }
         ensures cause { IfErr result (HasCause (S.faults base.old) (S.faults base.new)) }
         ensures base { SameBase (S.image base.old) (S.image base.new) (S.page_size base.old) (S.page_size base.new) (S.commit base.old) (S.commit base.new) (S.wal_mode base.old) (S.wal_mode base.new) (S.is_broken base.old) (S.is_broken base.new) }
     {
-        self.read_page(base, n, page)?;
+        self.read_page_without(passed, base, n, page)?;
         text.extend_from_slice(page).map_err(NoMemory::from)?;
         Ok(())
     }
 
-    /// Puts the pages behind the first `before` pages up to the first `after`, as the file reads,
-    /// behind an empty text, one after another.
+    /// Puts the pages behind the first `before` pages up to the first `after`, as the file reads without
+    /// what it keeps of some pages, behind an empty text, one after another.
     fn append_all<S: PageStore>(
         &self,
+        passed: &[u32],
         base: &mut S,
         before: u32,
         after: u32,
         page: &mut [u8],
         text: &mut Vec<u8>,
     ) -> Result<(), FileFault>
-        requires fits { FitsShape self.now (S.page_size base.old) (S.commit base.old) }
+        requires fits { FitsShape (without_pages self.now passed.now) (S.page_size base.old) (S.commit base.old) }
         requires order { before ≤ after }
         requires whole { length page.old ≡ size_over self.now (S.page_size base.old) (S.commit base.old) }
         requires empty { text.old.items ≡ [] }
-        ensures bytes { OnOk result (IfSome (S.image base.old) (λ i. text.new.items ≡ concat (map (page_of self.now i) (range_with_len (before + 1) (after - before))))) }
+        ensures bytes { OnOk result (IfSome (S.image base.old) (λ i. text.new.items ≡ concat (map (page_of (without_pages self.now passed.now) i) (range_with_len (before + 1) (after - before))))) }
         ensures length { OnOk result (length text.new.items ≡ (after - before) * length page.old) }
         ensures faults { OnOk result (S.faults base.new ≡ S.faults base.old) }
         ensures cause { IfErr result (HasCause (S.faults base.old) (S.faults base.new)) }
         ensures base { SameBase (S.image base.old) (S.image base.new) (S.page_size base.old) (S.page_size base.new) (S.commit base.old) (S.commit base.new) (S.wal_mode base.old) (S.wal_mode base.new) (S.is_broken base.old) (S.is_broken base.new) }
     {
         for number in before..after {
-            self.append(base, number + 1, page, text)?;
+            self.append(passed, base, number + 1, page, text)?;
         }
         Ok(())
     }
@@ -123,6 +156,25 @@ impl DatabaseFile {
         ensures cause { IfErr result (HasCause (S.faults base.old) (S.faults base.new)) }
         ensures base { SameBase (S.image base.old) (S.image base.new) (S.page_size base.old) (S.page_size base.new) (S.commit base.old) (S.commit base.new) (S.wal_mode base.old) (S.wal_mode base.new) (S.is_broken base.old) (S.is_broken base.new) }
     {
+        self.read_without(alloc, &[], base, at, size)
+    }
+
+    /// The same as if nothing were kept of the pages of some numbers, which are few: each page that is
+    /// read is looked for among them.
+    pub fn read_without<S: PageStore>(
+        &self,
+        alloc: Global,
+        passed: &[u32],
+        base: &mut S,
+        at: u64,
+        size: u32,
+    ) -> Result<Vec<u8>, FileFault>
+        requires fits { FitsShape (without_pages self.now passed.now) (S.page_size base.old) (S.commit base.old) }
+        ensures bytes { IfOk result (λ bytes. IfSome (S.image base.old) (λ i. bytes.items ≡ bytes_from (image_bytes (as_read (without_pages self.now passed.now) i)) at size)) }
+        ensures faults { OnOk result (S.faults base.new ≡ S.faults base.old) }
+        ensures cause { IfErr result (HasCause (S.faults base.old) (S.faults base.new)) }
+        ensures base { SameBase (S.image base.old) (S.image base.new) (S.page_size base.old) (S.page_size base.new) (S.commit base.old) (S.commit base.new) (S.wal_mode base.old) (S.wal_mode base.new) (S.is_broken base.old) (S.is_broken base.new) }
+    {
         let commit = base.commit();
         let page_size = self.size_over(base.page_size(), commit);
         let count = self.count_over(commit);
@@ -135,6 +187,7 @@ impl DatabaseFile {
         let mut page = zeros(alloc, page_size as usize)?;
         let mut text = Vec::new(alloc);
         self.append_all(
+            passed,
             base,
             before as u32,
             after as u32,

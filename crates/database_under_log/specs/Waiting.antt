@@ -4,10 +4,11 @@ use Rattle.lf_base.specs.FileBytes.{written}
 use Rattle.lf_sqlite_pages.specs.Apply.{apply}
 use Rattle.lf_sqlite_pages.specs.Blocks.{IsWithin}
 use Rattle.lf_sqlite_pages.specs.Image.{DatabaseImage}
+use Rattle.lf_sqlite_pages.specs.LockPage.{IsWithinLimit}
 use Rattle.wal_watch.specs.File.{Wal, text_of, after_write, with_room}
 use Rattle.wal_watch.specs.Refusals.{KeepsCommitted}
-use Rattle.wal_watch.specs.Frames.{committed_count}
-use Rattle.wal_watch.specs.News.{first_new, change_between}
+use Rattle.wal_watch.specs.Frames.{page_size_in, committed_count}
+use Rattle.wal_watch.specs.News.{first_new, change_between, last_size}
 use Rattle.database_file.specs.DatabaseFile.{DatabaseFile, FitsShape, as_read, is_clean}
 use Rattle.database_under_log.specs.LogChange.{log_change}
 use Rattle.database_under_log.specs.Over.{over, Agrees}
@@ -56,6 +57,11 @@ abbrev pub IsPrepared : DatabaseFile → DatabaseFile → Wal → Wal → ℕ �
 IsPrepared old new log later page_size commit at bytes Stored = IsStored old new log later at bytes
 IsPrepared old new log later page_size commit at bytes (Waiting c) =
     IsReady old new (text_of log) page_size commit at bytes c × HasRoomFor log later at bytes
+
+-- one that waits commits no more pages than a database may have
+abbrev pub IsLimited : List ℕ → LogWrite → Type 0
+IsLimited text Stored = Unit {0}
+IsLimited text (Waiting c) = IsWithinLimit (page_size_in text) (last_size text)
 
 -- and over the image, where that is told
 abbrev pub IsPreparedOver : DatabaseFile → DatabaseFile → DatabaseImage → List ℕ → LogWrite → Type 0

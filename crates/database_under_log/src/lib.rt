@@ -8,6 +8,7 @@ mod fault;
 mod holding;
 mod laws;
 mod news;
+mod reading;
 #[cfg(test)]
 mod tests;
 mod waiting;
@@ -21,5 +22,6 @@ pub use laws::{
     cut_keeps_the_database, frames_keep_the_database, new_file_agrees, resize_keeps_the_database,
     stored_write_keeps_the_database,
 };
+pub use reading::read_before;
 pub use waiting::{LogCommit, LogWrite, WaitingWrite};
 pub use writing::{finish_log_write, forget_log_write, prepare_log_write};

@@ -14,7 +14,7 @@ ghost use Rattle.database_under_log.specs.LogChange.{log_news};
 ghost use Rattle.database_under_log.specs.Over.{Agrees, FollowsLog};
 ghost use Rattle.database_under_log.specs.Staying.{finished, forgotten, without};
 ghost use Rattle.database_file.specs.WalCommit.{change_over};
-ghost use Rattle.database_under_log.specs.Waiting.{IsPrepared, IsPreparedOver, MayChangeHeader};
+ghost use Rattle.database_under_log.specs.Waiting.{IsLimited, IsPrepared, IsPreparedOver, MayChangeHeader};
 ghost use Rattle.database_under_log.specs.WaitingParts.{IsHeld, Stays};
 
 use crate::fault::LogWriteFault;
@@ -113,9 +113,11 @@ fn limited_commit<S: PageStore>(
     ensures change { IfOk result (λ c. (first : ℕ) → news ≡ change_of (text_of log.now) first (committed_count (text_of log.now)) → c.change ≡ change_over file.old (log_news (text_of log.now) first (S.commit base.old)) (S.commit base.old)) }
     ensures ready { IfOk result (IsHeld file.old file.new (S.page_size base.old) (S.commit base.old) at bytes.now) }
     ensures told { IfOk result (λ c. IfSome (S.image base.old) (λ i. KeepsDifferences file.old i → Stays file.old file.new i c)) }
+    ensures limit { OnOk result (IsWithinLimit (page_size_in (text_of log.now)) (last_size (text_of log.now))) }
     ensures err { OnErr result (file.new ≡ file.old) }
     ensures cause { IfErr result (HasCommitCause (text_of log.now) (S.faults base.old) (S.faults base.new)) }
     ensures base { SameBase (S.image base.old) (S.image base.new) (S.page_size base.old) (S.page_size base.new) (S.commit base.old) (S.commit base.new) (S.wal_mode base.old) (S.wal_mode base.new) (S.is_broken base.old) (S.is_broken base.new) }
+    ensures faults { OnOk result (S.faults base.new ≡ S.faults base.old) }
 {
     if !is_within_limit(news.page_size(), news.commit()) {
         return Err(LogWriteFault::TooManyPages);
@@ -152,6 +154,8 @@ pub fn prepare_log_write<S: PageStore>(
     requires follows { FollowsLog file.old (S.page_size base.old) (S.commit base.old) (text_of log.old) }
     ensures ok { IfOk result (IsPrepared file.old file.new log.old log.new (S.page_size base.old) (S.commit base.old) at bytes.now) }
     ensures told { IfOk result (λ w. IfSome (S.image base.old) (λ i. MayChangeHeader file.old (text_of log.old) (written at bytes.now (text_of log.old)) → KeepsDifferences file.old i → Agrees file.old i (text_of log.old) → IsPreparedOver file.old file.new i (written at bytes.now (text_of log.old)) w)) }
+    ensures limit { IfOk result (IsLimited (written at bytes.now (text_of log.old))) }
+    ensures faults { OnOk result (S.faults base.new ≡ S.faults base.old) }
     ensures err_file { OnErr result (file.new ≡ file.old) }
     ensures err_log { OnErr result (log.new.text ≡ log.old.text) }
     ensures cause { IfErr result (HasWriteCause (text_of log.old) (wanted_size (S.page_size base.old) (S.commit base.old)) at bytes.now (S.faults base.old) (S.faults base.new)) }

@@ -104,15 +104,15 @@ log-awaits told old scene given place bytes change new none done stands =
     let waits = done.1 in
     let alone : old.writer ≡ None = log-alone old scene given place bytes none in
     let text : written waits.write.at waits.write.bytes (log_text old) ≡ log_after old place bytes =
-    ap (λ (n : ℕ). written n waits.write.bytes (log_text old)) waits.at_is ∙ ap (λ (b : List ℕ). written place b (log_text old)) waits.bytes_are in
+    ap (λ (n : ℕ). written n waits.write.bytes (log_text old)) waits.is.at_is ∙ ap (λ (b : List ℕ). written place b (log_text old)) waits.is.bytes_are in
     let is : change ≡ _ = done.0.is in
     subst (λ (s : Served). StandsOver (option_map (λ i. apply i change) told) change.page_size change.commit (committed s)) (sym waits.state)
     (record {
       shape = record {
-        fits = waits.fits;
+        fits = waits.is.fits;
         follows = rw text (record { page_size_is = λ some. sym (ap (λ (p : PageChange). p.page_size) is); commit_is = λ some. sym (ap (λ (p : PageChange). p.commit) is) });
       };
-      image = over-told told waits text alone waits.leads stands.image;
+      image = over-told told waits text alone waits.is.leads stands.image;
     }) where
       over-told : (told : Option DatabaseImage) (waits : LogWaits told old place bytes change new) → written waits.write.at waits.write.bytes (log_text old) ≡ log_after old place bytes →
           old.writer ≡ None → IfSome told (λ i. KeepsDifferences old.database i → Agrees old.database i (log_text old) → LeadsUnderLog old.database i (log_after old place bytes) change waits.write.file) →

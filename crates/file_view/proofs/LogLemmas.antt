@@ -7,6 +7,7 @@ use Rattle.std.specs.FinMap.{empty_of_len}
 use Rattle.std.proofs.lemmas.Bool.{cases_Bool, cases_eq, cases_lt, and_parts, eqb-true, cond-false}
 use Rattle.std.proofs.lemmas.Bool.Decides.{nat_tests}
 use Rattle.lf_base.specs.FileBytes.{resized}
+use Rattle.lf_sqlite_pages.specs.Blocks.{ByteRoom, IsWithin}
 use Rattle.wal_watch.specs.Frames.{frame_place, committed_count, committed_end}
 use Rattle.wal_watch.specs.Refusals.{IsSoundCut, CutsCommitted}
 use Rattle.wal_watch.proofs.CommitLemmas.{has_committed}
@@ -14,6 +15,7 @@ use Rattle.wal_watch.proofs.LawLemmas.{keeps_count}
 use Rattle.wal_watch.proofs.StayLemmas.{take-resized}
 use Rattle.database_file.specs.DatabaseFile.{DatabaseFile, clean, is_clean}
 use Rattle.file_view.specs.declared.scene.Scene.{Scene}
+use Rattle.file_view.specs.DatabaseState.{HeldWrite}
 use Rattle.file_view.specs.LogRules.{log_cut_rows, log_unlink_rows}
 use Rattle.file_view.specs.Refusal.{first_refusal}
 use Rattle.file_view.specs.Served.{Served, log_text, has_committed_frames}
@@ -159,3 +161,8 @@ removed-log-sound s scene none sound = record {
   logged = λ w is. absurd (let free = nothing-held s (none-holds (log_unlink_rows s scene) none).1.1.1.1.0 in cc (free, is));
   left = λ w is. absurd (let free = nothing-held s (none-holds (log_unlink_rows s scene) none).1.1.1.1.0 in cc (free, is));
 }
+
+-- no write waits for room
+pub removed-room : (s : Served) (scene : Scene) → first_refusal (log_unlink_rows s scene) ≡ None → (room : ByteRoom) (w : HeldWrite) → s.held_write ≡ Some w →
+    IsWithin room w.at (length w.bytes)
+removed-room s scene none room w is = absurd (let free = nothing-held s (none-holds (log_unlink_rows s scene) none).1.1.1.1.0 in cc (free, is))

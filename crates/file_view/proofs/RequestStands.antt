@@ -33,7 +33,7 @@ use Rattle.file_view.specs.declared.scene.Scene.{Scene}
 use Rattle.file_view.specs.Done.{IsReplied, MayCommit, IsWritten, IsSized, IsUnlinked, IsDoneAt, IsDone}
 use Rattle.file_view.specs.JournalRules.{ends_writing, finishes, after_journal_call, JournalDone}
 use Rattle.file_view.specs.LockRules.{locks_at, after_wish}
-use Rattle.file_view.specs.LogRules.{log_after, log_written, log_write_rows, LogStored, LogDone}
+use Rattle.file_view.specs.LogRules.{log_after, log_written, log_write_rows, LogKeeps, LogDone}
 use Rattle.file_view.specs.NameRules.{with_file, unlinking_rows}
 use Rattle.file_view.specs.Overlay.{without_uncommitted, IsOverImage, StandsOver}
 use Rattle.file_view.specs.Refusal.{Row, first_refusal, IsAllowed}
@@ -90,11 +90,11 @@ log-alone s scene given place bytes none =
       second true b h = absurd cc
       second false b h = h
 
-stored-stands : (told : Option DatabaseImage) (old : Served) (scene : Scene) (place : ℕ) (bytes : List ℕ) (new : Served) → old.writer ≡ None → LogStored told old scene place bytes new →
-    StandsOver told scene.page_size scene.commit old → StandsOver told scene.page_size scene.commit new
-stored-stands told old scene place bytes new alone stored stands =
-    subst (λ (s : Served). StandsOver told scene.page_size scene.commit s) (sym stored.state)
-    (record { shape = record { fits = stands.shape.fits; follows = stored.follows }; image = over-told told stored.agrees stands.image }) where
+stored-stands : (told : Option DatabaseImage) (old : Served) (scene : Scene) (place : ℕ) (bytes : List ℕ) (new : Served) → old.writer ≡ None →
+    LogKeeps told old.database (log_text old) (log_after old place bytes) scene.page_size scene.commit → new ≡ log_written old place bytes → StandsOver told scene.page_size scene.commit old → StandsOver told scene.page_size scene.commit new
+stored-stands told old scene place bytes new alone keeps is stands =
+    subst (λ (s : Served). StandsOver told scene.page_size scene.commit s) (sym is)
+    (record { shape = record { fits = stands.shape.fits; follows = keeps.follows }; image = over-told told keeps.agrees stands.image }) where
       over-told : (told : Option DatabaseImage) → IfSome told (λ i. KeepsDifferences old.database i → Agrees old.database i (log_text old) → Agrees old.database i (log_after old place bytes)) →
           IfSome told (IsOverImage old) → IfSome told (IsOverImage (log_written old place bytes))
       over-told None agrees h = tt
@@ -103,7 +103,7 @@ stored-stands told old scene place bytes new alone stored stands =
 pub log-stands : (told : Option DatabaseImage) (old : Served) (scene : Scene) (given : Option ℕ) (place : ℕ) (bytes : List ℕ) (change : Option PageChange) (new : Served) →
     first_refusal (log_write_rows old scene given place bytes) ≡ None → LogDone told old scene place bytes change new →
     StandsOver told scene.page_size scene.commit old → StandsOver told scene.page_size scene.commit new
-log-stands told old scene given place bytes None new none done stands = stored-stands told old scene place bytes new (log-alone old scene given place bytes none) done.1 stands
+log-stands told old scene given place bytes None new none done stands = stored-stands told old scene place bytes new (log-alone old scene given place bytes none) done.1.0 done.1.1 stands
 log-stands told old scene given place bytes (Some change) new none done stands =
     let is = done.1.state in
     stands-still told scene.page_size scene.commit old new (ap (λ (s : Served). s.database) is) (ap (λ (s : Served). s.writer) is) (ap (λ (s : Served). log_text s) is) stands

@@ -7,11 +7,13 @@ pub mod Endings
 pub mod Errno
 pub mod FileFaults
 pub mod HandleRules
+pub mod HeldParts
 pub mod JournalParts
 pub mod JournalRules
 pub mod JournalState
 pub mod LockRules
 pub mod LogLaws
+pub mod LogParts
 pub mod LogRules
 pub mod NameRules
 pub mod Overlay

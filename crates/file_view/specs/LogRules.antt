@@ -34,8 +34,8 @@ changes_header old new = not (bytes_eq (take 32 new) (take 32 old))
 -- whether a write touches the header and leaves no valid one, or leaves one of another page size; size 0 stands for any
 abbrev pub breaks_header : ℕ → ℕ → List ℕ → List ℕ → Bool
 breaks_header page_size at bytes new =
-    (nat_lt at 32 && nat_lt 0 (length bytes) && not (is_header new))
-    || (not (page_size == 0) && is_header new && not (page_size_in new == page_size))
+    (nat_lt at 32 && (nat_lt 0 (length bytes) && not (is_header new)))
+    || (not (page_size == 0) && (is_header new && not (page_size_in new == page_size)))
 
 -- whether a byte of a committed frame is another, under the same header
 abbrev pub changes_committed : List ℕ → List ℕ → Bool
@@ -71,24 +71,22 @@ pub record FollowsImage (text : List ℕ) (page_size commit : ℕ) : Type 0 wher
   pub page_size_is : 0 < committed_count text → page_size_in text ≡ page_size
   pub commit_is : 0 < committed_count text → last_size text ≡ commit
 
--- the change of the frames that a write commits
-abbrev pub change_by : Served → Scene → ℕ → List ℕ → PageChange
-change_by s scene at bytes = log_change s.database (log_text s) (log_after s at bytes) scene.commit
-
 -- whether a change is made of an image: where it alters that
 abbrev pub IsMade : DatabaseImage → PageChange → Option PageChange → Type 0
 IsMade image change None = SameImage (apply image change) image
 IsMade image change (Some _) = SameImage (apply image change) image → ⊥
 
--- what a write commits: nothing where no frames are committed, else their change, where it alters the committed image
-pub record LogCommits (told : Option DatabaseImage) (s : Served) (scene : Scene) (at : ℕ) (bytes : List ℕ) (change : Option PageChange) : Type 0 where
-  pub nothing : commits_frames (log_text s) (log_after s at bytes) ≡ false → change ≡ None
-  pub made : commits_frames (log_text s) (log_after s at bytes) ≡ true → IfSome told (λ i. IsMade i (change_by s scene at bytes) change)
-  pub is : IfSome change (λ c. c ≡ change_by s scene at bytes)
+-- what a step of the log commits over an image of a number of pages: nothing where no frames are committed, else their change,
+-- where it alters the image
+pub record LogCommits (told : Option DatabaseImage) (file : DatabaseFile) (old new : List ℕ) (commit : ℕ) (change : Option PageChange) : Type 0 where
+  pub nothing : commits_frames old new ≡ false → change ≡ None
+  pub made : commits_frames old new ≡ true → IfSome told (λ i. IsMade i (log_change file old new commit) change)
+  pub is : IfSome change (λ c. c ≡ log_change file old new commit)
 
--- the files after a write that is done
-abbrev pub log_written : Served → ℕ → List ℕ → Served
-log_written s at bytes = record s { log = Some (log_after s at bytes) }
+-- the log goes on following the image, and the database file agrees with it
+pub record LogKeeps (told : Option DatabaseImage) (file : DatabaseFile) (old new : List ℕ) (page_size commit : ℕ) : Type 0 where
+  pub follows : FollowsImage new page_size commit
+  pub agrees : IfSome told (λ i. KeepsDifferences file i → Agrees file i old → Agrees file i new)
 
 -- a change leads to the database under the log's new bytes; over that image a later file reads as the old one did over the old
 -- image, and agrees with the log
@@ -97,26 +95,29 @@ pub record LeadsUnderLog (old : DatabaseFile) (image : DatabaseImage) (text : Li
   pub stays : StaysAsRead old image later (apply image change)
   pub agrees : Agrees later (apply image change) text
 
--- a write waits for its change, and all else is as before
+-- a write of bytes waits for its change, and leaves a file that fits the image with it
+pub record IsHeldFor (told : Option DatabaseImage) (file : DatabaseFile) (old : List ℕ) (at : ℕ) (bytes : List ℕ) (change : PageChange) (w : HeldWrite) : Type 0 where
+  pub at_is : w.at ≡ at
+  pub bytes_are : w.bytes ≡ bytes
+  pub fits : FitsShape w.file change.page_size change.commit
+  pub leads : IfSome told (λ i. KeepsDifferences file i → Agrees file i old → LeadsUnderLog file i (written at bytes old) change w.file)
+
+-- the files after a write that is done; and while it waits, when all else is as before
+abbrev pub log_written : Served → ℕ → List ℕ → Served
+log_written s at bytes = record s { log = Some (log_after s at bytes) }
+
 pub record LogWaits (told : Option DatabaseImage) (old : Served) (at : ℕ) (bytes : List ℕ) (change : PageChange) (new : Served) : Type 0 where
   pub write : HeldWrite
   pub state : new ≡ record old { held_write = Some write }
-  pub at_is : write.at ≡ at
-  pub bytes_are : write.bytes ≡ bytes
-  pub fits : FitsShape write.file change.page_size change.commit
-  pub leads : IfSome told (λ i. KeepsDifferences old.database i → Agrees old.database i (log_text old) →
-      LeadsUnderLog old.database i (log_after old at bytes) change write.file)
-
--- a write is done, and the database under the log stays the committed image
-pub record LogStored (told : Option DatabaseImage) (old : Served) (scene : Scene) (at : ℕ) (bytes : List ℕ) (new : Served) : Type 0 where
-  pub state : new ≡ log_written old at bytes
-  pub follows : FollowsImage (log_after old at bytes) scene.page_size scene.commit
-  pub agrees : IfSome told (λ i. KeepsDifferences old.database i → Agrees old.database i (log_text old) → Agrees old.database i (log_after old at bytes))
+  pub is : IsHeldFor told old.database (log_text old) at bytes change write
 
 -- what a write does: it is done where it commits nothing; else it waits for its commit
 abbrev pub LogDone : Option DatabaseImage → Served → Scene → ℕ → List ℕ → Option PageChange → Served → Type 0
-LogDone told old scene at bytes None new = LogCommits told old scene at bytes None × LogStored told old scene at bytes new
-LogDone told old scene at bytes (Some change) new = LogCommits told old scene at bytes (Some change) × LogWaits told old at bytes change new
+LogDone told old scene at bytes None new =
+    LogCommits told old.database (log_text old) (log_after old at bytes) scene.commit None
+    × (LogKeeps told old.database (log_text old) (log_after old at bytes) scene.page_size scene.commit × (new ≡ log_written old at bytes))
+LogDone told old scene at bytes (Some change) new =
+    LogCommits told old.database (log_text old) (log_after old at bytes) scene.commit (Some change) × LogWaits told old at bytes change new
 
 -- an owner of the session may cut or remove the log by WRITE, CKPT or EXCLUSIVE
 abbrev pub may_cut_log : LockList → ℕ → Bool

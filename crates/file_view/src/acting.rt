@@ -1,13 +1,13 @@
 //! Who holds the locks that a rule asks for, and what follows from a change of locks.
-ghost use Rattle.std.specs.Prelude.{◌≡◌, ◌<◌, take, drop};
+ghost use Rattle.std.specs.Prelude.{◌≡◌, ◌<◌, None, Some, take, drop};
 ghost use Rattle.byte_locks.specs.declared.lock_id.LockId.TheVariants as lock;
 ghost use Rattle.wal_watch.specs.File.{text_of};
 ghost use Rattle.wal_watch.specs.Frames.{committed_count};
 ghost use Rattle.file_view.specs.Acting.{is_actor, writes, is_writer, while_exclusive, settled_database, has_left, is_index_of, settled_index};
 ghost use Rattle.byte_locks.specs.LockList.{writer_of};
 
+use crate::database::Database;
 use byte_locks::{LockId, LockTable, Owner};
-use database_file::DatabaseFile;
 use shm_index::SharedMemory;
 use wal_watch::{WalFile, committed_frames_say};
 
@@ -54,8 +54,10 @@ fn while_exclusive(locks: &LockTable, owner: Option<Owner>) -> Option<Owner>
 }
 
 /// Drops the uncommitted pages of an owner who no longer holds EXCLUSIVE.
-pub fn settle_database(database: &mut DatabaseFile, writer: &mut Option<Owner>, locks: &LockTable)
-    ensures database { database.new ≡ settled_database locks.now writer.old database.old }
+pub fn settle_database(database: &mut Database, writer: &mut Option<Owner>, locks: &LockTable)
+    requires { (owner : Owner) → writer.old ≡ Some owner → database.old.held ≡ None }
+    ensures database { database.new.file ≡ settled_database locks.now writer.old database.old.file }
+    ensures held { database.new.held ≡ database.old.held }
     ensures writer { writer.new ≡ while_exclusive locks.now writer.old }
 {
     let Some(owner) = *writer else {

@@ -58,7 +58,7 @@ impl View {
             } => self.answer_write(alloc, scene, base, node, *fh, *at, *owner, bytes.as_slice()),
             Op::Release { fh, owner: _ } => self.answer_release(scene, node, *fh),
             Op::Fsync { fh } => self.answer_fsync(scene, node, *fh),
-            Op::Flush { fh, owner } => { self.answer_flush(scene, node, *fh, *owner) }
+            Op::Flush { fh, owner } => self.answer_flush(scene, node, *fh, *owner),
             Op::Init { major: _, minor: _ } => Ok(Plan::Reply(Reply::Init)),
             Op::Getlk {
                 fh,

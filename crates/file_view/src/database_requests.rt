@@ -11,12 +11,12 @@ ghost use Rattle.wal_watch.specs.News.{HoldsFrame};
 ghost use Rattle.lf_sqlite_pages.specs.PageSize.{IsPageSize};
 
 use crate::acting::writes;
+use crate::database::Database;
 use crate::errno::{EACCES, EAGAIN, EFBIG, EINVAL, EIO, ENOSPC, EPERM, EROFS};
 use crate::fault::ViewFault;
 use crate::scene::Scene;
 use crate::view::View;
 use byte_locks::{LockId, Owner};
-use database_file::DatabaseFile;
 use lf_base::Errno;
 use lf_sqlite_pages::{PageStore, lock_page, page_size_of};
 use std::alloc::Global;
@@ -51,9 +51,9 @@ pub(crate) fn most_pages(size: u32) -> u64
 
 /// Whether more pages may be kept than may be uncommitted, once `more` were written behind the first
 /// `before` ones.
-fn is_full(file: &DatabaseFile, size: u32, commit: u32, before: u32, more: u32) -> bool
+fn is_full(file: &Database, size: u32, commit: u32, before: u32, more: u32) -> bool
     requires { 0 < size }
-    ensures { result ≡ is_past_uncommitted size (kept_at_most file.now commit before more) }
+    ensures { result ≡ is_past_uncommitted size (kept_at_most file.now.file commit before more) }
 {
     let back = before.min(commit).saturating_sub(file.count_over(commit));
     let kept = (file.kept_pages() as u64).saturating_add(u64::from(back) + u64::from(more));

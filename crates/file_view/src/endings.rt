@@ -35,6 +35,7 @@ fn blocking_locks(wal: bool) -> &'static [LockId]
 /// Cuts the log to no bytes, if it is there.
 fn empty_log(log: &mut WalFile)
     ensures text { log.new.text ≡ option_map (λ _. []) log.old.text }
+    ensures room { log.new.room ≡ log.old.room }
 {
     if log.len().is_some() {
         committed_frames_say();
@@ -108,6 +109,10 @@ impl View {
         ensures done { self.new ≡ committed self.old }
         ensures fits { self.old.held_write ≡ None → KeepsNothing self.new.database }
     {
+        if self.database.waits() {
+            self.database.finish(&mut self.log);
+            return;
+        }
         self.journal.finish();
         self.database.clear();
         self.writer = None;
@@ -119,6 +124,7 @@ impl View {
         ensures { self.new ≡ abandoned self.old }
     {
         self.journal.forget();
+        self.database.forget();
     }
 
     /// The committed image is another now, of this page size and number of pages: the database file is
@@ -129,7 +135,7 @@ impl View {
         ensures done { self.new ≡ applied self.old page_size commit }
         ensures fits { KeepsNothing self.new.database }
     {
-        self.database.clear();
+        self.database.overtake();
         self.journal.empty();
         empty_log(&mut self.log);
         settle_applied(&mut self.shared, page_size, commit);

@@ -1,8 +1,11 @@
 ghost use Rattle.std.specs.Prelude.{◌≡◌};
 ghost use Rattle.file_view.specs.declared.fault.ViewFault.TheVariants as fault;
 
+use crate::errno::{EFBIG, EINVAL, ENOSPC, EPERM};
 use database_file::FileFault;
+use database_under_log::LogWriteFault;
 use lf_base::{Errno, Failed, NoMemory};
+use wal_watch::WalFault;
 
 /// Why a request was refused. The served files are then as before.
 #[derive(Clone, Copy, Debug)]
@@ -47,6 +50,23 @@ impl From<FileFault> for ViewFault {
         match file {
             FileFault::Unread => ViewFault::Page(Failed),
             FileFault::NoMemory => ViewFault::NoMemory,
+        }
+    }
+}
+
+impl From<LogWriteFault> for ViewFault {
+    ghost use Rattle.file_view.specs.LogParts.{IsLogFault};
+
+    ghost from_gives = { IsLogFault };
+
+    fn from(write: LogWriteFault) -> ViewFault {
+        match write {
+            LogWriteFault::Log(WalFault::TooLong) => ViewFault::Errno(ENOSPC),
+            LogWriteFault::Log(WalFault::Header) => ViewFault::Errno(EINVAL),
+            LogWriteFault::Log(WalFault::Part) => ViewFault::Errno(EPERM),
+            LogWriteFault::Log(WalFault::NoMemory) => ViewFault::NoMemory,
+            LogWriteFault::TooManyPages => ViewFault::Errno(EFBIG),
+            LogWriteFault::File(cause) => cause.into(),
         }
     }
 }

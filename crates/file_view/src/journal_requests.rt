@@ -43,6 +43,7 @@ impl View {
     ) -> Option<Errno>
         ensures value { result ≡ first_refusal (finishing_rows self.now scene.now given call.now) }
         ensures free { IfNone result (self.now.journal.waiting ≡ None) }
+        ensures unheld { IfNone result (self.now.held_write ≡ None) }
     {
         let ends_writing = self.ends_writing(call);
         if self.journal.would_finish(call) && self.torn.is_some() {
@@ -69,6 +70,7 @@ impl View {
     ) -> Option<Errno>
         ensures value { result ≡ first_refusal (journal_rows self.now scene.now given call.now) }
         ensures free { IfNone result (self.now.journal.waiting ≡ None) }
+        ensures unheld { IfNone result (self.now.held_write ≡ None) }
         ensures short { IfNone result (reach call.now ≤ 268435456) }
     {
         if scene.is_broken {
@@ -90,6 +92,7 @@ impl View {
     pub(crate) fn journal_unlink_refusal(&self, scene: &Scene) -> Option<Errno>
         ensures value { result ≡ first_refusal (journal_unlink_rows self.now scene.now) }
         ensures free { IfNone result (self.now.journal.waiting ≡ None) }
+        ensures unheld { IfNone result (self.now.held_write ≡ None) }
     {
         let active = self.journal.is_active();
         if scene.is_broken {
@@ -114,6 +117,7 @@ impl View {
     ) -> Result<Option<Change>, FileFault>
         requires over { (scene.now.page_size ≡ S.page_size base.old) × (scene.now.commit ≡ S.commit base.old) }
         requires fits { FitsShape self.now.database (S.page_size base.old) (S.commit base.old) }
+        requires unheld { self.now.held_write ≡ None }
         ensures commits { IfOk result (Commits (S.image base.old) self.now scene.now call.now) }
         ensures cause { IfErr result (HasFileCause (S.faults base.old) (S.faults base.new)) }
         ensures base { SameBase (S.image base.old) (S.image base.new) (S.page_size base.old) (S.page_size base.new) (S.commit base.old) (S.commit base.new) (S.wal_mode base.old) (S.wal_mode base.new) (S.is_broken base.old) (S.is_broken base.new) }
@@ -129,6 +133,7 @@ impl View {
         requires there { IsSome self.old.journal.file }
         requires short { reach call.now ≤ 268435456 }
         requires free { self.old.journal.waiting ≡ None }
+        requires unheld { self.old.held_write ≡ None }
         ensures done { OnOk result (self.new ≡ after_journal_call self.old call.now) }
         ensures err { OnErr result (self.new ≡ self.old) }
     {
@@ -154,6 +159,7 @@ impl View {
         requires there { IsSome self.old.journal.file }
         requires short { reach call ≤ 268435456 }
         requires free { self.old.journal.waiting ≡ None }
+        requires unheld { self.old.held_write ≡ None }
         ensures done { IfOk result (λ change. JournalDone (S.image base.old) self.old scene.now call change self.new) }
         ensures err { OnErr result (self.new ≡ self.old) }
         ensures cause { IfErr result (HasFileCause (S.faults base.old) (S.faults base.new)) }

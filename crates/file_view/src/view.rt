@@ -4,11 +4,11 @@ ghost use Rattle.file_view.specs.Served.{exists, host_size, file_size, has_commi
 ghost use Rattle.file_view.specs.Views.{new_view};
 ghost use Rattle.database_file.specs.DatabaseFile.{KeepsNothing};
 
+use crate::database::Database;
 use crate::journal::Journal;
 use crate::role::Role;
 use crate::scene::Scene;
 use byte_locks::{FileKind, LockTable, Owner};
-use database_file::DatabaseFile;
 use file_handles::Handles;
 use lf_base::{Name, NoMemory, Pos, Text};
 use shm_index::SharedMemory;
@@ -21,7 +21,7 @@ use wal_watch::WalFile;
 #[derive(Drop)]
 pub struct View {
     pub(crate) name: Name,
-    pub(crate) database: DatabaseFile,
+    pub(crate) database: Database,
     pub(crate) journal: Journal,
     pub(crate) log: WalFile,
     pub(crate) shared: SharedMemory,
@@ -60,7 +60,7 @@ impl View {
     {
         Ok(View {
             name: name.copy()?,
-            database: DatabaseFile::new(alloc),
+            database: Database::new(alloc),
             journal: Journal::new(alloc),
             log: WalFile::new(alloc),
             shared: SharedMemory::new(alloc),
@@ -113,7 +113,7 @@ impl View {
     pub fn waits(&self) -> bool
         ensures { result ≡ waits self.now }
     {
-        self.journal.waits()
+        self.database.waits() || self.journal.waits()
     }
 
     /// How many bytes the primary's name has, if it is known.

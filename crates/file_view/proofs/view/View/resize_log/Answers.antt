@@ -8,5 +8,7 @@ use Rattle.file_view.proofs.view.View.resize_log.Goals as goal
 pub invariant_of-self : goal.invariant_of-self
 invariant_of-self c =
     let cut : c.cut.new.self ≡ after_cut c.self.inside.log c.args.len = search rules in
-    rw cut
-    (cut-log-sound (served_of c.self.inside) c.args.scene.now c.args.len (rw (← c.self.view_is) at c.in_ok-log_cut_allowed.ensures.allowed) c.self.invariant)
+    rw cut (record {
+      sound = cut-log-sound (served_of c.self.inside) c.args.scene.now c.args.len (rw (← c.self.view_is) at c.in_ok-log_cut_allowed.ensures.allowed) c.self.invariant.sound;
+      room = c.self.invariant.room;
+    })

@@ -1,8 +1,8 @@
 -- The size by what the database file ensures; all else by the rules.
 use Rattle.std.proofs.Common.{◌≡◌, ◌/◌, true, arith, rules}
 use Rattle.file_view.specs.DatabaseRules.{resizes}
-use Rattle.file_view.specs.ServedParts.{served_of}
-use Rattle.file_view.proofs.DatabaseLemmas.{size-some, changed-sound}
+use Rattle.file_view.proofs.DatabaseLemmas.{size-some}
+use Rattle.file_view.proofs.SoundLemmas.{changed-kept}
 use Rattle.file_view.proofs.view.View.resize_pages.Goals as goal
 
 pub nonzero_div-count : goal.nonzero_div-count
@@ -10,8 +10,8 @@ nonzero_div-count g c = let some = size-some c.args.size c.requires.may.takes.sq
 
 pub invariant_of-self-2 : goal.invariant_of-self-2
 invariant_of-self-2 g c =
-    changed-sound (served_of c.self.inside) c.resize.new.self c.writer_after-writer.result (rw (← c.self.view_is) at c.writer_after-writer.ensures)
-    (rw (← c.self.view_is) at (c.requires.may.owned (search rules))) c.self.invariant
+    changed-kept c.self.inside c.resize.new.self c.writer_after-writer.result (rw (← c.self.view_is) at c.writer_after-writer.ensures)
+    (rw (← c.self.view_is) at (c.requires.may.owned (search rules))) c.resize.ensures.held c.self.invariant
 
 pub returns-clause-done : goal.returns-clause-done
 returns-clause-done g c =

@@ -1,13 +1,13 @@
 -- The pages by what the database file ensures; all else by the rules.
 use Rattle.std.proofs.Common.{rules}
-use Rattle.file_view.specs.ServedParts.{served_of}
-use Rattle.file_view.proofs.DatabaseLemmas.{changed-sound, for-size}
+use Rattle.file_view.proofs.DatabaseLemmas.{for-size}
+use Rattle.file_view.proofs.SoundLemmas.{changed-kept}
 use Rattle.file_view.proofs.view.View.write_database.Goals as goal
 
 pub invariant_of-self-2 : goal.invariant_of-self-2
 invariant_of-self-2 g c =
-    changed-sound (served_of c.self.inside) c.write_pages.new.self c.writer_after-writer.result (rw (← c.self.view_is) at c.writer_after-writer.ensures)
-    (rw (← c.self.view_is) at c.in_ok-size.ensures.may.owned) c.self.invariant
+    changed-kept c.self.inside c.write_pages.new.self c.writer_after-writer.result (rw (← c.self.view_is) at c.writer_after-writer.ensures)
+    (rw (← c.self.view_is) at c.in_ok-size.ensures.may.owned) c.write_pages.ensures.held c.self.invariant
 
 pub returns-clause-done : goal.returns-clause-done
 returns-clause-done g c =

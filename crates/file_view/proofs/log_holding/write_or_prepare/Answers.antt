@@ -1,0 +1,41 @@
+-- By the lemmas on a write that was prepared.
+use Rattle.std.proofs.Common.{◌<◌, ◌∙◌, sym, ap, subst, ℕ, Option, arith}
+use Rattle.lf_base.specs.FileBytes.{written}
+use Rattle.lf_sqlite_pages.specs.Change.{PageChange}
+use Rattle.lf_sqlite_pages.specs.Image.{DatabaseImage}
+use Rattle.lf_sqlite_pages.specs.PageSize.{IsPageSize}
+use Rattle.wal_watch.specs.File.{text_of}
+use Rattle.wal_watch.specs.Frames.{committed_count}
+use Rattle.file_view.specs.HeldParts.{IsSettled}
+use Rattle.file_view.proofs.PrepareLemmas.{step-sized, stored, settled}
+use Rattle.file_view.proofs.log_holding.write_or_prepare.Goals as goal
+
+pub settle_commit-requires-clause-sized : goal.settle_commit-requires-clause-sized
+settle_commit-requires-clause-sized g c = λ many.
+    let ready = (rw c.in-Waiting.is at c.in_ok-prepare_log_write.ensures.ok).0 in
+    let base = c.in_ok-prepare_log_write.ensures.base in
+    let some : 0 < committed_count (written c.args.at c.args.bytes.now (text_of c.args.log.now)) = omega (arith, ready.more) in
+    let size = step-sized (text_of c.args.log.now) c.args.bytes.now (g.S.PageStore.page_size c.args.base.now) (g.S.PageStore.commit c.args.base.now) c.args.at c.requires.sound
+    (subst (λ (n : ℕ). 0 < n → IsPageSize (g.S.PageStore.page_size c.args.base.now)) c.commit-commit.ensures.value c.commit-commit.ensures.sized) some (omega (arith, many, base.commit)) in
+    base.page_size ∙ sym size ∙ sym (ap (λ (x : PageChange). x.page_size) ready.change)
+
+pub returns-in-Stored-clause-done : goal.returns-in-Stored-clause-done
+returns-in-Stored-clause-done g c =
+    let is = rw c.in-Stored.is at c.in_ok-prepare_log_write.ensures.ok in
+    let told = rw c.in-Stored.is at c.in_ok-prepare_log_write.ensures.told in
+    stored (g.S.PageStore.image c.args.base.now) (g.S.PageStore.page_size c.args.base.now) (g.S.PageStore.commit c.args.base.now) c.args.at c.args.bytes.now
+    c.args.file.now c.prepare_log_write.new.file c.args.log.now c.prepare_log_write.new.log is c.requires.header c.requires.follows told
+
+pub returns-in_ok-settled-in-Waiting-clause-done : goal.returns-in_ok-settled-in-Waiting-clause-done
+returns-in_ok-settled-in-Waiting-clause-done g c =
+    let ready = rw c.in-Waiting.is at c.in_ok-prepare_log_write.ensures.ok in
+    let told = rw c.in-Waiting.is at c.in_ok-prepare_log_write.ensures.told in
+    let base = c.in_ok-prepare_log_write.ensures.base in
+    let one = subst (λ (i : Option DatabaseImage). IsSettled i (g.S.PageStore.commit c.prepare_log_write.new.base) c.in-Waiting.commit c.prepare_log_write.new.file c.prepare_log_write.new.log c.args.at c.args.bytes.now c.in_ok-settled-in-Waiting.settled c.settle_commit.new.file c.settle_commit.new.log) base.image
+    c.in_ok-settled-in-Waiting.ensures.settled in
+    let two = subst (λ (n : ℕ). IsSettled (g.S.PageStore.image c.args.base.now) n c.in-Waiting.commit c.prepare_log_write.new.file c.prepare_log_write.new.log c.args.at c.args.bytes.now c.in_ok-settled-in-Waiting.settled c.settle_commit.new.file c.settle_commit.new.log) base.commit
+    one in
+    settled (g.S.PageStore.image c.args.base.now) (g.S.PageStore.page_size c.args.base.now) (g.S.PageStore.commit c.args.base.now) c.args.at c.args.bytes.now
+    c.args.file.now c.prepare_log_write.new.file c.settle_commit.new.file c.args.log.now c.prepare_log_write.new.log c.settle_commit.new.log c.in-Waiting.commit c.in_ok-settled-in-Waiting.settled
+    ready.0 ready.1 c.requires.header c.requires.sound
+    (subst (λ (n : ℕ). 0 < n → IsPageSize (g.S.PageStore.page_size c.args.base.now)) c.commit-commit.ensures.value c.commit-commit.ensures.sized) told two
