@@ -1,5 +1,5 @@
 -- A request that commits nothing, and what is common to all requests.
-use Rattle.std.proofs.Common.{◌≡◌, ◌∙◌, ℕ, Bool, true, false, IsTrue, List, [], inl, inr, Option, None, Some, refl, sym, ap, subst, arith}
+use Rattle.std.proofs.Common.{◌≡◌, ◌∙◌, ℕ, Bool, true, false, IsTrue, List, [], inl, inr, Option, None, Some, refl, sym, ap, subst, arith, ◌<◌}
 use Rattle.std.specs.Prelude.{IfSome, nat_lt, if◌then◌else◌}
 use Rattle.std.specs.Option.{option_map}
 use Rattle.std.proofs.lemmas.Bool.{cases_Bool}
@@ -9,6 +9,7 @@ use Rattle.lf_sqlite_pages.specs.Apply.{apply}
 use Rattle.lf_sqlite_pages.specs.Image.{DatabaseImage}
 use Rattle.fuse_msgs.specs.declared.reply.Reply.{Reply}
 use Rattle.fuse_msgs.specs.declared.request.Request.{Request}
+use Rattle.lf_sqlite_pages.specs.PageSize.{IsPageSize}
 use Rattle.lf_sqlite_pages.specs.Change.{PageChange}
 use Rattle.file_view.specs.declared.plan.Plan.{Plan}
 use Rattle.file_view.specs.declared.plan.Plan.TheVariants as plan
@@ -88,6 +89,7 @@ pub record Prepared (start : History) (old : NodeParts) (caller : ℕ) (request 
   pub told_position : old.files.position ≡ position old.store
   pub replica : old.config.candidate ≡ false → old.files.writer ≡ None
   pub idle : waits old.files ≡ false
+  pub sized : 0 < old.store.commit → IsPageSize old.store.page_size
 
 module _ (law : LeavesReplica) (start mid : History) (old : NodeParts) (store : StoreFields) (files : Served) (caller : ℕ) (request : Request) (p : Plan)
     (prepared : Prepared start old caller request p files mid store) where
@@ -96,8 +98,8 @@ module _ (law : LeavesReplica) (start mid : History) (old : NodeParts) (store : 
   quiet not =
       law (told start old.store) old.files files (scene old caller) request p (ap role_by not) (record { alone = prepared.replica not; free = prepared.idle }) prepared.planned.allowed prepared.planned.done
 
-  pub left : Leaves old.files p files
-  left = leaves (told start old.store) old.files (scene old caller) prepared.idle request.node request.op p files prepared.planned.allowed prepared.planned.done
+  pub left : Leaves old.store.page_size old.store.commit old.files p files
+  left = leaves (told start old.store) old.files (scene old caller) prepared.sized prepared.idle request.node request.op p files prepared.planned.allowed prepared.planned.done
 
   -- the store's shape and its image are as before
   pub shape-read : FitsImage files store.page_size store.commit

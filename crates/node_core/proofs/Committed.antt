@@ -5,7 +5,7 @@ use Rattle.lf_base.specs.declared.pos.Pos.{Pos}
 use Rattle.lf_base.specs.Faults.{Rose}
 use Rattle.lf_disk.specs.History.{History}
 use Rattle.lf_sqlite_pages.specs.Apply.{apply}
-use Rattle.lf_sqlite_pages.specs.Change.{PageChange}
+use Rattle.lf_sqlite_pages.specs.Change.{FitsOver, PageChange}
 use Rattle.lf_sqlite_pages.specs.Complete.{completed}
 use Rattle.lf_sqlite_pages.specs.Image.{DatabaseImage}
 use Rattle.lf_sqlite_pages.proofs.Completing.{apply-complete}
@@ -26,7 +26,7 @@ use Rattle.world_laws.specs.Node.{IsSoundNode}
 use Rattle.world_laws.specs.Step.{commits, commits_and_prunes}
 use Rattle.world_laws.specs.Store.{Commit, Failure, PruneTo, StoreState, all_done, done}
 use Rattle.node_core.specs.Calls.{ChangesAndPrunes}
-use Rattle.node_core.specs.Committing.{BreaksBy, CommitsStore, file_of, kept_files}
+use Rattle.node_core.specs.Committing.{BreaksBy, Comes, CommitsStore, file_of, kept_files}
 use Rattle.node_core.specs.Nodes.{NodeParts, seen}
 use Rattle.node_core.specs.Safely.{StepsSafely}
 use Rattle.node_core.specs.Stores.{IsRead, StoreFields, failed, position, state}
@@ -153,3 +153,13 @@ committed-fits s at page_size commit fits = record { fits = fits.fits; follows =
 
 pub committed-over : (s : Served) (at : Pos) (i : DatabaseImage) → IsOverImage (committed s) i → IsOverImage (record (committed s) { position = at }) i
 committed-over s at i over = record { differs = over.differs; agrees = over.agrees }
+
+-- a change that fits is refused for one of four reasons
+pub comes : (broken : Bool) (at : Pos) (size commit : ℕ) (sums : List ℕ) (change : PageChange) (stamp node : ℕ) (why : StoreFault) → Commits broken at size commit sums change stamp node (Err why) → FitsOver size commit change → Comes why
+comes broken at size commit sums change stamp node fault.Disk answers fits = tt
+comes broken at size commit sums change stamp node fault.Broken answers fits = tt
+comes broken at size commit sums change stamp node fault.Limit answers fits = tt
+comes broken at size commit sums change stamp node fault.NoMemory answers fits = tt
+comes broken at size commit sums change stamp node (fault.NotNext have want) answers fits = answers
+comes broken at size commit sums change stamp node (fault.SumDiffers want got) answers fits = answers
+comes broken at size commit sums change stamp node (fault.PageSize have want) answers fits = answers.1 fits

@@ -1,8 +1,9 @@
 -- What every request leaves as it was: the position that was told, that nothing waits but for what is to be committed, and that
 -- the locks are a lock list.
-use Rattle.std.proofs.Common.{◌≡◌, ◌∙◌, ℕ, ◌/◌, Bool, true, false, length, List, [], ◌∷◌, Option, Some, None, inl, inr, refl, sym, ap, subst}
-use Rattle.std.specs.Prelude.{is_some, not, IsSomeAnd, if◌then◌else◌}
-use Rattle.std.proofs.lemmas.Bool.{cases_Bool}
+use Rattle.std.proofs.Common.{◌≡◌, ◌∙◌, ℕ, ◌/◌, Bool, true, false, length, List, [], ◌∷◌, Option, Some, None, inl, inr, refl, sym, ap, subst, arith, ◌<◌, ◌&&◌}
+use Rattle.std.specs.Prelude.{◌==◌, is_some, nat_lt, not, IsSomeAnd, if◌then◌else◌}
+use Rattle.std.proofs.lemmas.Bool.{cases_Bool, cases_eq, cond-false, ne_eqb}
+use Rattle.std.proofs.lemmas.Bool.Decides.{nat_tests}
 use Rattle.byte_locks.specs.declared.lock_bytes.FileKind.{FileKind}
 use Rattle.byte_locks.specs.declared.lock_bytes.FileKind.TheVariants as file
 use Rattle.byte_locks.specs.declared.owner.Owner.{Owner}
@@ -20,8 +21,15 @@ use Rattle.fuse_msgs.specs.declared.request.LockWish.{LockWish}
 use Rattle.fuse_msgs.specs.declared.request.LockWish.TheVariants as wish
 use Rattle.fuse_msgs.specs.declared.request.Op.{Op}
 use Rattle.fuse_msgs.specs.declared.request.Op.TheVariants as op
-use Rattle.lf_sqlite_pages.specs.Change.{PageChange}
+use Rattle.lf_sqlite_pages.specs.Change.{FitsOver, PageChange}
 use Rattle.lf_sqlite_pages.specs.Image.{DatabaseImage}
+use Rattle.lf_sqlite_pages.specs.PageSize.{IsPageSize}
+use Rattle.lf_sqlite_pages.proofs.LockPages.{page_size-positive}
+use Rattle.database_file.specs.DatabaseFile.{size_over}
+use Rattle.database_under_log.specs.Fault.{wanted_size}
+use Rattle.wal_watch.specs.Frames.{committed_count, is_header, page_size_in}
+use Rattle.wal_watch.specs.News.{first_new}
+use Rattle.wal_watch.proofs.ScanLemmas.{none_committed}
 use Rattle.file_view.specs.declared.journal.JournalCall.{JournalCall}
 use Rattle.file_view.specs.declared.journal.JournalCall.TheVariants as call
 use Rattle.file_view.specs.declared.plan.Plan.{Plan}
@@ -32,33 +40,45 @@ use Rattle.file_view.specs.Done.{IsDoneAt, IsReplied, IsSized, IsUnlinked, IsWri
 use Rattle.file_view.specs.Endings.{abandoned, committed}
 use Rattle.file_view.specs.Errno.{EBADF, EIO, EINVAL, ENOENT, EROFS}
 use Rattle.file_view.specs.HandleRules.{is_open_at, is_served}
-use Rattle.file_view.specs.JournalRules.{JournalDone, after_journal_call, ends_writing}
+use Rattle.file_view.specs.JournalRules.{Commits, JournalDone, after_journal_call, ends_writing}
 use Rattle.file_view.specs.LockRules.{after_wish, grant_rows, locks_at, setlk_rows, wish_rows}
-use Rattle.file_view.specs.LogRules.{LogDone}
+use Rattle.file_view.specs.LogRules.{LogCommits, LogDone, breaks_header, commits_frames, log_after, log_write_rows}
 use Rattle.file_view.specs.NameRules.{with_file}
 use Rattle.file_view.specs.Refusal.{Row, first_refusal}
 use Rattle.file_view.specs.Requests.{owner_of, rows_at, write_rows}
 use Rattle.file_view.specs.Roles.{is_replica}
-use Rattle.file_view.specs.Served.{Served, waits}
+use Rattle.file_view.specs.Served.{Served, log_text, waits}
 use Rattle.file_view.proofs.RowLemmas.{none-holds}
 use Rattle.file_view.proofs.RequestLemmas.{rest-allowed, write-allowed}
 use Rattle.node_core.proofs.Endings.{either, none-in}
 
--- whether anything waits afterwards: what is to be committed may be given up without a trace, and once it is done nothing waits
-abbrev pub Rests : Served → Plan → Served → Type 0
-Rests old (plan.Reply r) new = waits new ≡ false
-Rests old plan.Silent new = waits new ≡ false
-Rests old (plan.Commit r change) new = (abandoned new ≡ old) × (waits (committed new) ≡ false)
+-- whether anything waits afterwards: what is to be committed fits the image, may be given up without a trace, and once it is done
+-- nothing waits
+abbrev pub Rests : ℕ → ℕ → Served → Plan → Served → Type 0
+Rests page_size commit old (plan.Reply r) new = waits new ≡ false
+Rests page_size commit old plan.Silent new = waits new ≡ false
+Rests page_size commit old (plan.Commit r change) new = (abandoned new ≡ old) × (waits (committed new) ≡ false) × FitsOver page_size commit change
 
-pub record Leaves (old : Served) (p : Plan) (new : Served) : Type 0 where
+pub record Leaves (page_size commit : ℕ) (old : Served) (p : Plan) (new : Served) : Type 0 where
   pub position : new.position ≡ old.position
-  pub rests : Rests old p new
+  pub rests : Rests page_size commit old p new
   pub locks : IsLockList old.locks → IsLockList new.locks
+
+true_false : true ≡ false → ⊥
+true_false same = cc
+
+-- three tests that all hold
+all-true : {a b c : Bool} → a ≡ false → b ≡ true → c ≡ false → (not a && b && not c) ≡ true
+all-true a b c = rw (a, b, c) refl
+
+-- nothing is below no frame
+nothing-below : (first count : ℕ) → nat_lt first count ≡ true → count ≡ 0 → ⊥
+nothing-below first count below none = let less : first < count = grind (arith, nat_tests, below) in omega (arith, less, none)
 
 some_none : {X : Type 0} (x : X) → Some x ≡ None → ⊥
 some_none x same = cc
 
-module _ (told : Option DatabaseImage) (old : Served) (scene : Scene) (idle : waits old ≡ false) where
+module _ (told : Option DatabaseImage) (old : Served) (scene : Scene) (sized : 0 < scene.commit → IsPageSize scene.page_size) (idle : waits old ≡ false) where
   held : old.held_write ≡ None
   held = none-in old.held_write (either (is_some old.held_write) (is_some old.journal.waiting) idle).0
 
@@ -69,17 +89,17 @@ module _ (told : Option DatabaseImage) (old : Served) (scene : Scene) (idle : wa
   given-up : record old { journal = record { file = old.journal.file; waiting = None }; held_write = None } ≡ old
   given-up = λ i. record old { journal = record { file = old.journal.file; waiting = sym free i }; held_write = sym held i }
 
-  replied : (p : Plan) (r : Reply) (files new : Served) → files.position ≡ old.position → waits files ≡ waits old → (IsLockList old.locks → IsLockList files.locks) → IsReplied p r files new → Leaves old p new
+  replied : (p : Plan) (r : Reply) (files new : Served) → files.position ≡ old.position → waits files ≡ waits old → (IsLockList old.locks → IsLockList files.locks) → IsReplied p r files new → Leaves scene.page_size scene.commit old p new
   replied p r files new position waiting locks done = record {
     position = ap (λ (s : Served). s.position) done.files_are ∙ position;
-    rests = subst (λ (q : Plan). Rests old q new) (sym done.reply) (ap waits done.files_are ∙ waiting ∙ idle);
+    rests = subst (λ (q : Plan). Rests scene.page_size scene.commit old q new) (sym done.reply) (ap waits done.files_are ∙ waiting ∙ idle);
     locks = λ list. subst (λ (s : Served). IsLockList s.locks) (sym done.files_are) (locks list);
   }
 
-  stays : (p : Plan) (r : Reply) (new : Served) → p ≡ plan.Reply r → (new.position ≡ old.position) → waits new ≡ waits old → new.locks ≡ old.locks → Leaves old p new
+  stays : (p : Plan) (r : Reply) (new : Served) → p ≡ plan.Reply r → (new.position ≡ old.position) → waits new ≡ waits old → new.locks ≡ old.locks → Leaves scene.page_size scene.commit old p new
   stays p r new is position waiting locks = record {
     position = position;
-    rests = subst (λ (q : Plan). Rests old q new) (sym is) (waiting ∙ idle);
+    rests = subst (λ (q : Plan). Rests scene.page_size scene.commit old q new) (sym is) (waiting ∙ idle);
     locks = λ list. subst IsLockList (sym locks) list;
   }
 
@@ -93,7 +113,46 @@ module _ (told : Option DatabaseImage) (old : Served) (scene : Scene) (idle : wa
   called-waits : (c : JournalCall) → waits (after_journal_call old c) ≡ false
   called-waits c = elim (cases_Bool (ends_writing old c)) [ | inl ends ↦ rw (ends, held) refl | inr not ↦ rw (not, held) refl ]
 
-  called : (c : JournalCall) (p : Plan) (r : Reply) (new : Served) → MayCommit p r (λ change. JournalDone told old scene c change new) → Leaves old p new
+  -- the change of a journal's end is of the image's page size, where the image has pages
+  called-fits : (c : JournalCall) (change : PageChange) → Commits told old scene c (Some change) → FitsOver scene.page_size scene.commit change
+  called-fits c change commits = elim (cases_Bool (ends_writing old c)) [
+    | inl ends ↦ elim (cases_eq scene.commit 0) [
+          | inl none ↦ inr (inl none)
+          | inr some ↦
+              let size : change.page_size ≡ size_over old.database scene.page_size scene.commit = ap (λ (x : PageChange). x.page_size) (commits.is ends).is in
+              inl (sym (size ∙ cond-false (scene.commit == 0) old.database.page_size scene.page_size (ne_eqb scene.commit 0 some)))
+        ]
+    | inr not ↦ absurd (some_none change (commits.nothing not))
+  ]
+
+  -- so is that of a write to the log, whose header is of that page size
+  logged-fits : (given : Option ℕ) (place : ℕ) (bytes : List ℕ) (change : PageChange) → first_refusal (log_write_rows old scene given place bytes) ≡ None → LogCommits told old scene place bytes (Some change) →
+      FitsOver scene.page_size scene.commit change
+  logged-fits given place bytes change none commits =
+      let text : List ℕ = log_after old place bytes in
+      let size : change.page_size ≡ page_size_in text = ap (λ (x : PageChange). x.page_size) commits.is in
+      let kept : breaks_header (wanted_size scene.page_size scene.commit) place bytes text ≡ false = (none-holds (log_write_rows old scene given place bytes) none).1.1.1.1.1.0 in
+      elim (cases_Bool (commits_frames (log_text old) text)) [
+        | inr not ↦ absurd (some_none change (commits.nothing not))
+        | inl more ↦ elim (cases_eq scene.commit 0) [
+              | inl zero ↦ inr (inl zero)
+              | inr some ↦
+                  let wanted : wanted_size scene.page_size scene.commit ≡ scene.page_size = cond-false (scene.commit == 0) 0 scene.page_size (ne_eqb scene.commit 0 some) in
+                  let positive : 0 < scene.page_size = page_size-positive scene.page_size (sized (omega (arith, some))) in
+                  let header : is_header text ≡ true = elim (cases_Bool (is_header text)) [
+                    | inl valid ↦ valid
+                    | inr invalid ↦ absurd (nothing-below (first_new (log_text old) text) (committed_count text) more (none_committed text invalid))
+                  ] in
+                  let other : (not (scene.page_size == 0) && is_header text && not (page_size_in text == scene.page_size)) ≡ false =
+                  (either _ _ (subst (λ (k : ℕ). breaks_header k place bytes text ≡ false) wanted kept)).1 in
+                  elim (cases_eq (page_size_in text) scene.page_size) [
+                    | inl same ↦ inl (sym (size ∙ same))
+                    | inr apart ↦ absurd (true_false (sym (all-true (ne_eqb scene.page_size 0 (λ zero. omega (arith, zero, positive))) header (ne_eqb (page_size_in text) scene.page_size apart)) ∙ other))
+                  ]
+            ]
+      ]
+
+  called : (c : JournalCall) (p : Plan) (r : Reply) (new : Served) → MayCommit p r (λ change. JournalDone told old scene c change new) → Leaves scene.page_size scene.commit old p new
   called c (plan.Reply given) r new done = record {
     position = ap (λ (s : Served). s.position) done.1.1 ∙ called-position c;
     rests = ap waits done.1.1 ∙ called-waits c;
@@ -102,21 +161,21 @@ module _ (told : Option DatabaseImage) (old : Served) (scene : Scene) (idle : wa
   called c plan.Silent r new done = absurd done
   called c (plan.Commit given change) r new done = record {
     position = ap (λ (s : Served). s.position) done.1.1;
-    rests = (ap abandoned done.1.1 ∙ given-up, ap (λ (s : Served). waits (committed s)) done.1.1 ∙ rw held refl);
+    rests = (ap abandoned done.1.1 ∙ given-up, ap (λ (s : Served). waits (committed s)) done.1.1 ∙ rw held refl, called-fits c change done.1.0);
     locks = λ list. subst IsLockList (sym (ap (λ (s : Served). s.locks) done.1.1)) list;
   }
 
   -- a write to the log
-  logged : (place : ℕ) (bytes : List ℕ) (p : Plan) (r : Reply) (new : Served) → MayCommit p r (λ change. LogDone told old scene place bytes change new) → Leaves old p new
-  logged place bytes (plan.Reply given) r new done = record {
+  logged : (given : Option ℕ) (place : ℕ) (bytes : List ℕ) (p : Plan) (r : Reply) (new : Served) → first_refusal (log_write_rows old scene given place bytes) ≡ None → MayCommit p r (λ change. LogDone told old scene place bytes change new) → Leaves scene.page_size scene.commit old p new
+  logged given place bytes (plan.Reply is) r new none done = record {
     position = ap (λ (s : Served). s.position) done.1.1.state;
     rests = ap waits done.1.1.state ∙ idle;
     locks = λ list. subst IsLockList (sym (ap (λ (s : Served). s.locks) done.1.1.state)) list;
   }
-  logged place bytes plan.Silent r new done = absurd done
-  logged place bytes (plan.Commit given change) r new done = record {
+  logged given place bytes plan.Silent r new none done = absurd done
+  logged given place bytes (plan.Commit is change) r new none done = record {
     position = ap (λ (s : Served). s.position) done.1.1.state;
-    rests = (ap abandoned done.1.1.state ∙ given-up, ap (λ (s : Served). waits (committed s)) done.1.1.state ∙ rw free refl);
+    rests = (ap abandoned done.1.1.state ∙ given-up, ap (λ (s : Served). waits (committed s)) done.1.1.state ∙ rw free refl, logged-fits given place bytes change none done.1.0);
     locks = λ list. subst IsLockList (sym (ap (λ (s : Served). s.locks) done.1.1.state)) list;
   }
 
@@ -145,18 +204,18 @@ module _ (told : Option DatabaseImage) (old : Served) (scene : Scene) (idle : wa
 
   -- file by file
   written : (f : Option FileKind) (given : Option ℕ) (place : ℕ) (bytes : List ℕ) (p : Plan) (new : Served) → first_refusal (write_rows old scene f given place bytes) ≡ None →
-      IsWritten told old scene f place bytes p new → Leaves old p new
+      IsWritten told old scene f place bytes p new → Leaves scene.page_size scene.commit old p new
   written None given place bytes p new none done = absurd done
   written (Some file.Database) given place bytes p new none done =
       let is = database-written given place bytes new none done.1 in stays p _ new done.0 (ap (λ (s : Served). s.position) is) (ap waits is) (ap (λ (s : Served). s.locks) is)
   written (Some file.Journal) given place bytes p new none done = called (call.Write place bytes) p _ new done
-  written (Some file.Wal) given place bytes p new none done = logged place bytes p _ new done
+  written (Some file.Wal) given place bytes p new none done = logged given place bytes p _ new none done
   written (Some file.Shm) given place bytes p new none done = replied p _ _ new refl refl (λ l. l) done
   written (Some file.PosFile) given place bytes p new none done = absurd done
   written (Some file.LockFile) given place bytes p new none done = absurd done
   written (Some file.Primary) given place bytes p new none done = absurd done
 
-  resized : (node : ℕ) (f : Option FileKind) (len : ℕ) (p : Plan) (new : Served) → IsSized told old scene node f len p new → Leaves old p new
+  resized : (node : ℕ) (f : Option FileKind) (len : ℕ) (p : Plan) (new : Served) → IsSized told old scene node f len p new → Leaves scene.page_size scene.commit old p new
   resized node None len p new done = absurd done
   resized node (Some file.Database) len p new done =
       let same = database-sized len new (write_size old scene 0 []) refl done.1 in stays p _ new done.0 same.0 same.1 same.2
@@ -167,7 +226,7 @@ module _ (told : Option DatabaseImage) (old : Served) (scene : Scene) (idle : wa
   resized node (Some file.LockFile) len p new done = absurd done
   resized node (Some file.Primary) len p new done = absurd done
 
-  unlinked : (f : Option FileKind) (p : Plan) (new : Served) → IsUnlinked told old scene f p new → Leaves old p new
+  unlinked : (f : Option FileKind) (p : Plan) (new : Served) → IsUnlinked told old scene f p new → Leaves scene.page_size scene.commit old p new
   unlinked None p new done = absurd done
   unlinked (Some file.Database) p new done = absurd done
   unlinked (Some file.Journal) p new done = called call.Unlink p _ new done
@@ -205,16 +264,16 @@ module _ (told : Option DatabaseImage) (old : Served) (scene : Scene) (idle : wa
   created file.LockFile handles = (refl, refl, refl)
   created file.Primary handles = (refl, refl, refl)
 
-  on-file : (o : Option FileKind) (Does : FileKind → Type 0) (p : Plan) (new : Served) → ((f : FileKind) → Does f → Leaves old p new) → IsSomeAnd o Does → Leaves old p new
+  on-file : (o : Option FileKind) (Does : FileKind → Type 0) (p : Plan) (new : Served) → ((f : FileKind) → Does f → Leaves scene.page_size scene.commit old p new) → IsSomeAnd o Does → Leaves scene.page_size scene.commit old p new
   on-file None Does p new each done = absurd done
   on-file (Some f) Does p new each done = each f done
 
   -- EVERY REQUEST
-  pub leaves : (node : ℕ) (o : Op) (p : Plan) (new : Served) → first_refusal (rows_at old scene node o) ≡ None → IsDoneAt told old scene node o p new → Leaves old p new
+  pub leaves : (node : ℕ) (o : Op) (p : Plan) (new : Served) → first_refusal (rows_at old scene node o) ≡ None → IsDoneAt told old scene node o p new → Leaves scene.page_size scene.commit old p new
   leaves node (op.Lookup name) p new none done = on-file (file_named old.name name) _ p new (λ f d. replied p _ old new refl refl (λ l. l) d) done
   leaves node op.Forget p new none done = record {
     position = ap (λ (s : Served). s.position) done.1;
-    rests = subst (λ (q : Plan). Rests old q new) (sym done.0) (ap waits done.1 ∙ idle);
+    rests = subst (λ (q : Plan). Rests scene.page_size scene.commit old q new) (sym done.0) (ap waits done.1 ∙ idle);
     locks = λ list. subst (λ (s : Served). IsLockList s.locks) (sym done.1) list;
   }
   leaves node op.Getattr p new none done = replied p _ old new refl refl (λ l. l) done

@@ -46,6 +46,16 @@ pub record CommitsStore (start : History) (old : NodeParts) (change : PageChange
       ChangesAndPrunes (state start old.store) (failed start old.store) (Commit (file_of old change)) (kept_files old.config) result (state end new) (failed end new)
   pub honest : new.honest ≡ old.store.honest
 
+-- why the store doesn't commit the change of a request: the disk failed, or did before, a limit is passed, or memory is wanting
+abbrev pub Comes : StoreFault → Type 0
+Comes fault.Disk = Unit {0}
+Comes fault.Broken = Unit {0}
+Comes fault.Limit = Unit {0}
+Comes fault.NoMemory = Unit {0}
+Comes (fault.NotNext have want) = ⊥
+Comes (fault.SumDiffers want got) = ⊥
+Comes (fault.PageSize have want) = ⊥
+
 -- what a request waited for is committed: the files are those over the new image, and tell the new position
 pub record IsCommitted (start : History) (old : NodeParts) (caller : ℕ) (request : Request) (reply : Reply) (end : History) (new : NodeParts) : Type 0 where
   pub change : PageChange
@@ -64,6 +74,7 @@ pub record IsNotCommitted (start : History) (old : NodeParts) (caller : ℕ) (re
   pub why : StoreFault
   pub planned : IsPlanned start old caller request (plan.Commit reply change) waiting
   pub store : CommitsStore start old change (Err why) end new.store
+  pub comes : Comes why
   pub number_is : number ≡ errno_of_store why
   pub shape : (new.store.page_size ≡ old.store.page_size) × (new.store.commit ≡ old.store.commit) × (position new.store ≡ position old.store)
   pub same : new ≡ record old { store = new.store }

@@ -22,7 +22,7 @@ use Rattle.node_core.specs.Safely.{StepsSafely}
 use Rattle.node_core.specs.Stores.{StoreFields, failed, fields_of, history_of, position, state}
 use Rattle.node_core.proofs.Answering.{Prepared, image-read, left, plan-safely, position-read, primary, quiet, reads-safely, shape-read, told-after}
 use Rattle.node_core.proofs.Calls.{err-same}
-use Rattle.node_core.proofs.Committed.{commits-safely, commits-store, committed-fits, committed-locks, committed-over, image-after, store-changes}
+use Rattle.node_core.proofs.Committed.{comes, commits-safely, commits-store, committed-fits, committed-locks, committed-over, image-after, store-changes}
 use Rattle.node_core.proofs.Leaving.{Rests}
 use Rattle.node_core.proofs.Sound.{leads, sound}
 use Rattle.node_core.proofs.node.Node.serve.Goals as goal
@@ -49,13 +49,14 @@ invariant_of-self g c =
       told_position = n.told;
       replica = n.replica;
       idle = n.idle;
+      sized = n.store.sized.pages;
     } in
     record {
       shape = shape-read law h hm old fm w c.args.caller request p prepared;
       image = image-read law h hm old fm w c.args.caller request p prepared;
       told = position-read law h hm old fm w c.args.caller request p prepared;
       replica = λ not. (quiet law h hm old fm w c.args.caller request p prepared not).1.alone;
-      idle = subst (λ (q : Plan). Rests n.view q w) c.in-Ok-Reply.field-0-is (left law h hm old fm w c.args.caller request p prepared).rests;
+      idle = subst (λ (q : Plan). Rests n.store.page_size n.store.commit n.view q w) c.in-Ok-Reply.field-0-is (left law h hm old fm w c.args.caller request p prepared).rests;
       locked = (left law h hm old fm w c.args.caller request p prepared).locks n.locked;
     }
 
@@ -78,13 +79,14 @@ invariant_of-self-in-Ok-Silent g c =
       told_position = n.told;
       replica = n.replica;
       idle = n.idle;
+      sized = n.store.sized.pages;
     } in
     record {
       shape = shape-read law h hm old fm w c.args.caller request p prepared;
       image = image-read law h hm old fm w c.args.caller request p prepared;
       told = position-read law h hm old fm w c.args.caller request p prepared;
       replica = λ not. (quiet law h hm old fm w c.args.caller request p prepared not).1.alone;
-      idle = subst (λ (q : Plan). Rests n.view q w) c.in-Ok-Silent.field-0-is (left law h hm old fm w c.args.caller request p prepared).rests;
+      idle = subst (λ (q : Plan). Rests n.store.page_size n.store.commit n.view q w) c.in-Ok-Silent.field-0-is (left law h hm old fm w c.args.caller request p prepared).rests;
       locked = (left law h hm old fm w c.args.caller request p prepared).locks n.locked;
     }
 
@@ -107,6 +109,7 @@ returns-in-Ok-Reply-clause-safe g c honest =
       told_position = n.told;
       replica = n.replica;
       idle = n.idle;
+      sized = n.store.sized.pages;
     } in
     plan-safely law h hm old fm w c.args.caller request p prepared laws.Done honest (m.left (ap (λ (s : StoreFields). s.honest) c.prepare.ensures.read.same ∙ honest)) ((left law h hm old fm w c.args.caller request p prepared).locks n.locked).together tt tt
 
@@ -129,6 +132,7 @@ returns-in-Ok-Silent-clause-safe g c honest =
       told_position = n.told;
       replica = n.replica;
       idle = n.idle;
+      sized = n.store.sized.pages;
     } in
     plan-safely law h hm old fm w c.args.caller request p prepared laws.Done honest (m.left (ap (λ (s : StoreFields). s.honest) c.prepare.ensures.read.same ∙ honest)) ((left law h hm old fm w c.args.caller request p prepared).locks n.locked).together tt tt
 
@@ -165,6 +169,7 @@ invariant_of-self-in-Ok g c =
       told_position = n.told;
       replica = n.replica;
       idle = n.idle;
+      sized = n.store.sized.pages;
     } in
     let t = c.commit_and_prune.new.self in
     let ht = history_of t in
@@ -182,7 +187,7 @@ invariant_of-self-in-Ok g c =
     (subst (λ (i : DatabaseImage). IsOverImage files i) (sym (image-after h old change c.in-Ok.position (state ht ft) (failed ht ft) (store-changes h hm ht old fm ft change result c.prepare.ensures.read c.in-Ok.ensures.commits went c.in-Ok.ensures.cause c.in-Ok.ensures.honest honest)))
     (committed-over w c.in-Ok.position (apply (state h old.store).image change) (told-after h old.store change (λ i. IsOverImage (committed w) i) honest awaits.image))) in
     let candidate : n.config.candidate ≡ true = primary law h hm old fm w c.args.caller request p prepared c.in-Ok-Commit.reply change is_plan in
-    let rests = subst (λ (q : Plan). Rests n.view q w) is_plan (left law h hm old fm w c.args.caller request p prepared).rests in
+    let rests = subst (λ (q : Plan). Rests n.store.page_size n.store.commit n.view q w) is_plan (left law h hm old fm w c.args.caller request p prepared).rests in
     let shape = c.in-Ok.ensures.shape in
     record {
       shape = subst (λ (s : Served). FitsImage s t.page_size t.commit) (sym is)
@@ -213,6 +218,7 @@ returns-in-Ok-clause-does g c =
       told_position = n.told;
       replica = n.replica;
       idle = n.idle;
+      sized = n.store.sized.pages;
     } in
     let t = c.commit_and_prune.new.self in
     let ht = history_of t in
@@ -257,6 +263,7 @@ returns-in-Ok-clause-safe g c honest =
       told_position = n.told;
       replica = n.replica;
       idle = n.idle;
+      sized = n.store.sized.pages;
     } in
     let t = c.commit_and_prune.new.self in
     let ht = history_of t in
@@ -299,6 +306,7 @@ invariant_of-self-in-Err-commit_and_prune g c =
       told_position = n.told;
       replica = n.replica;
       idle = n.idle;
+      sized = n.store.sized.pages;
     } in
     let t = c.commit_and_prune.new.self in
     let ht = history_of t in
@@ -308,7 +316,7 @@ invariant_of-self-in-Err-commit_and_prune g c =
     let result : Result Pos StoreFault = Err c.in-Err-commit_and_prune.fault in
     let went : IsTrue fm.honest → WentPruned (state hm fm) (failed hm fm) hm (Commit (drafted (position fm) fm.commit fm.sums change n.moment n.config.node)) (kept_files n.config) result (state ht ft) (failed ht ft) ht =
     subst (λ (k : ℕ). IsTrue fm.honest → WentPruned (state hm fm) (failed hm fm) hm (Commit (drafted (position fm) fm.commit fm.sums change n.moment n.config.node)) k result (state ht ft) (failed ht ft) ht) c.max-kept.ensures c.in-Err-commit_and_prune.ensures.went in
-    let rests = subst (λ (q : Plan). Rests n.view q w) is_plan (left law h hm old fm w c.args.caller request p prepared).rests in
+    let rests = subst (λ (q : Plan). Rests n.store.page_size n.store.commit n.view q w) is_plan (left law h hm old fm w c.args.caller request p prepared).rests in
     let is : c.abandon.new.self ≡ n.view = c.abandon.ensures ∙ rests.0 in
     let same = c.in-Err-commit_and_prune.ensures.same in
     let read = c.prepare.ensures.read in
@@ -346,6 +354,7 @@ returns-in-Err-commit_and_prune-clause-does g c =
       told_position = n.told;
       replica = n.replica;
       idle = n.idle;
+      sized = n.store.sized.pages;
     } in
     let t = c.commit_and_prune.new.self in
     let ht = history_of t in
@@ -355,7 +364,7 @@ returns-in-Err-commit_and_prune-clause-does g c =
     let result : Result Pos StoreFault = Err c.in-Err-commit_and_prune.fault in
     let went : IsTrue fm.honest → WentPruned (state hm fm) (failed hm fm) hm (Commit (drafted (position fm) fm.commit fm.sums change n.moment n.config.node)) (kept_files n.config) result (state ht ft) (failed ht ft) ht =
     subst (λ (k : ℕ). IsTrue fm.honest → WentPruned (state hm fm) (failed hm fm) hm (Commit (drafted (position fm) fm.commit fm.sums change n.moment n.config.node)) k result (state ht ft) (failed ht ft) ht) c.max-kept.ensures c.in-Err-commit_and_prune.ensures.went in
-    let rests = subst (λ (q : Plan). Rests n.view q w) is_plan (left law h hm old fm w c.args.caller request p prepared).rests in
+    let rests = subst (λ (q : Plan). Rests n.store.page_size n.store.commit n.view q w) is_plan (left law h hm old fm w c.args.caller request p prepared).rests in
     let is : c.abandon.new.self ≡ n.view = c.abandon.ensures ∙ rests.0 in
     let same = c.in-Err-commit_and_prune.ensures.same in
     let read = c.prepare.ensures.read in
@@ -369,6 +378,8 @@ returns-in-Err-commit_and_prune-clause-does g c =
         allowed = c.in-Ok-Commit.ensures.allowed;
       };
       store = commits-store h hm ht old fm ft change result c.prepare.ensures.read c.in-Err-commit_and_prune.ensures.commits went c.in-Err-commit_and_prune.ensures.cause c.in-Err-commit_and_prune.ensures.honest;
+      comes = comes old.store.broken (position old.store) old.store.page_size old.store.commit old.store.sums change n.moment n.config.node c.in-Err-commit_and_prune.fault
+          (commits-store h hm ht old fm ft change result c.prepare.ensures.read c.in-Err-commit_and_prune.ensures.commits went c.in-Err-commit_and_prune.ensures.cause c.in-Err-commit_and_prune.ensures.honest).answers rests.2;
       number_is = c.errno_of_store.ensures;
       shape = (same.0 ∙ ap (λ (s : StoreFields). s.page_size) read.same, same.1 ∙ ap (λ (s : StoreFields). s.commit) read.same, ap end_of_entries same.2 ∙ ap position read.same);
       same = ap (λ (s : Served). record old { store = ft; files = s }) is;
@@ -393,6 +404,7 @@ returns-in-Err-commit_and_prune-clause-safe g c honest =
       told_position = n.told;
       replica = n.replica;
       idle = n.idle;
+      sized = n.store.sized.pages;
     } in
     let t = c.commit_and_prune.new.self in
     let ht = history_of t in
@@ -402,7 +414,7 @@ returns-in-Err-commit_and_prune-clause-safe g c honest =
     let result : Result Pos StoreFault = Err c.in-Err-commit_and_prune.fault in
     let went : IsTrue fm.honest → WentPruned (state hm fm) (failed hm fm) hm (Commit (drafted (position fm) fm.commit fm.sums change n.moment n.config.node)) (kept_files n.config) result (state ht ft) (failed ht ft) ht =
     subst (λ (k : ℕ). IsTrue fm.honest → WentPruned (state hm fm) (failed hm fm) hm (Commit (drafted (position fm) fm.commit fm.sums change n.moment n.config.node)) k result (state ht ft) (failed ht ft) ht) c.max-kept.ensures c.in-Err-commit_and_prune.ensures.went in
-    let rests = subst (λ (q : Plan). Rests n.view q w) is_plan (left law h hm old fm w c.args.caller request p prepared).rests in
+    let rests = subst (λ (q : Plan). Rests n.store.page_size n.store.commit n.view q w) is_plan (left law h hm old fm w c.args.caller request p prepared).rests in
     let is : c.abandon.new.self ≡ n.view = c.abandon.ensures ∙ rests.0 in
     let same = c.in-Err-commit_and_prune.ensures.same in
     let read = c.prepare.ensures.read in
