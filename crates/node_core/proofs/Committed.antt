@@ -1,6 +1,5 @@
 -- A request whose change is committed, or refused by the store.
-use Rattle.std.proofs.Common.{◌≡◌, ◌⊎◌, ◌∙◌, ℕ, ◌≤◌, Bool, true, false, IsTrue, IsSome, List, Option, None, Some, Result, Ok, Err, inl, inr, refl, sym, ap, subst, arith}
-use Rattle.std.specs.Prelude.{min, if◌then◌else◌}
+use Rattle.std.proofs.Common.{◌≡◌, ◌∙◌, ℕ, ◌≤◌, Bool, true, false, IsTrue, IsSome, List, Option, None, Some, Result, Ok, Err, inl, inr, refl, sym, ap, subst, arith}
 use Rattle.lf_base.specs.declared.pos.Pos.{Pos}
 use Rattle.lf_base.specs.Faults.{Rose}
 use Rattle.lf_disk.specs.History.{History}
@@ -24,7 +23,7 @@ use Rattle.txn_log.proofs.PagesRead.{count}
 use Rattle.world_laws.specs.Node as laws
 use Rattle.world_laws.specs.Node.{IsSoundNode}
 use Rattle.world_laws.specs.Step.{commits, commits_and_prunes}
-use Rattle.world_laws.specs.Store.{Commit, Failure, PruneTo, StoreState, all_done, done}
+use Rattle.world_laws.specs.Store.{Commit, Failure, StoreState}
 use Rattle.node_core.specs.Calls.{ChangesAndPrunes}
 use Rattle.node_core.specs.Committing.{BreaksBy, Comes, CommitsStore, file_of, kept_files}
 use Rattle.node_core.specs.Nodes.{NodeParts, seen}

@@ -1,7 +1,7 @@
 -- What every request leaves as it was: the position that was told, that nothing waits but for what is to be committed, and that
 -- the locks are a lock list.
-use Rattle.std.proofs.Common.{◌≡◌, ◌∙◌, ℕ, ◌/◌, Bool, true, false, length, List, [], ◌∷◌, Option, Some, None, inl, inr, refl, sym, ap, subst, arith, ◌<◌, ◌&&◌}
-use Rattle.std.specs.Prelude.{◌==◌, is_some, nat_lt, not, IsSomeAnd, if◌then◌else◌}
+use Rattle.std.proofs.Common.{◌≡◌, ◌∙◌, ℕ, ◌/◌, Bool, true, false, List, [], ◌∷◌, Option, Some, None, inl, inr, refl, sym, ap, subst, arith, ◌<◌, ◌&&◌}
+use Rattle.std.specs.Prelude.{◌==◌, is_some, nat_lt, not, IsSomeAnd}
 use Rattle.std.proofs.lemmas.Bool.{cases_Bool, cases_eq, cond-false, ne_eqb}
 use Rattle.std.proofs.lemmas.Bool.Decides.{nat_tests}
 use Rattle.byte_locks.specs.declared.lock_bytes.FileKind.{FileKind}
@@ -68,7 +68,7 @@ true_false : true ≡ false → ⊥
 true_false same = cc
 
 -- three tests that all hold
-all-true : {a b c : Bool} → a ≡ false → b ≡ true → c ≡ false → (not a && b && not c) ≡ true
+all-true : {a b c : Bool} → a ≡ false → b ≡ true → c ≡ false → (not a && (b && not c)) ≡ true
 all-true a b c = rw (a, b, c) refl
 
 -- nothing is below no frame
@@ -105,28 +105,28 @@ module _ (told : Option DatabaseImage) (old : Served) (scene : Scene) (sized : 0
 
   -- a call on the journal
   called-position : (c : JournalCall) → (after_journal_call old c).position ≡ old.position
-  called-position c = elim (cases_Bool (ends_writing old c)) [ | inl ends ↦ rw ends refl | inr not ↦ rw not refl ]
+  called-position c = elim (cases_Bool (ends_writing old c)) [ inl ends ↦ rw ends refl | inr not ↦ rw not refl ]
 
   called-locks : (c : JournalCall) → (after_journal_call old c).locks ≡ old.locks
-  called-locks c = elim (cases_Bool (ends_writing old c)) [ | inl ends ↦ rw ends refl | inr not ↦ rw not refl ]
+  called-locks c = elim (cases_Bool (ends_writing old c)) [ inl ends ↦ rw ends refl | inr not ↦ rw not refl ]
 
   called-waits : (c : JournalCall) → waits (after_journal_call old c) ≡ false
-  called-waits c = elim (cases_Bool (ends_writing old c)) [ | inl ends ↦ rw (ends, held) refl | inr not ↦ rw (not, held) refl ]
+  called-waits c = elim (cases_Bool (ends_writing old c)) [ inl ends ↦ rw (ends, held) refl | inr not ↦ rw (not, held) refl ]
 
   -- the change of a journal's end is of the image's page size, where the image has pages
   called-fits : (c : JournalCall) (change : PageChange) → Commits told old scene c (Some change) → FitsOver scene.page_size scene.commit change
   called-fits c change commits = elim (cases_Bool (ends_writing old c)) [
     | inl ends ↦ elim (cases_eq scene.commit 0) [
-          | inl none ↦ inr (inl none)
-          | inr some ↦
-              let size : change.page_size ≡ size_over old.database scene.page_size scene.commit = ap (λ (x : PageChange). x.page_size) (commits.is ends).is in
-              inl (sym (size ∙ cond-false (scene.commit == 0) old.database.page_size scene.page_size (ne_eqb scene.commit 0 some)))
-        ]
+      | inl none ↦ inr (inl none)
+      | inr some ↦
+          let size : change.page_size ≡ size_over old.database scene.page_size scene.commit = ap (λ (x : PageChange). x.page_size) (commits.is ends).is in
+          inl (sym (size ∙ cond-false (scene.commit == 0) old.database.page_size scene.page_size (ne_eqb scene.commit 0 some)))
+    ]
     | inr not ↦ absurd (some_none change (commits.nothing not))
   ]
 
   -- so is that of a write to the log, whose header is of that page size
-  logged-fits : (given : Option ℕ) (place : ℕ) (bytes : List ℕ) (change : PageChange) → first_refusal (log_write_rows old scene given place bytes) ≡ None → LogCommits told old scene place bytes (Some change) →
+  logged-fits : (given : Option ℕ) (place : ℕ) (bytes : List ℕ) (change : PageChange) → first_refusal (log_write_rows old scene given place bytes) ≡ None → LogCommits told old.database (log_text old) (log_after old place bytes) scene.commit (Some change) →
       FitsOver scene.page_size scene.commit change
   logged-fits given place bytes change none commits =
       let text : List ℕ = log_after old place bytes in
@@ -135,21 +135,21 @@ module _ (told : Option DatabaseImage) (old : Served) (scene : Scene) (sized : 0
       elim (cases_Bool (commits_frames (log_text old) text)) [
         | inr not ↦ absurd (some_none change (commits.nothing not))
         | inl more ↦ elim (cases_eq scene.commit 0) [
-              | inl zero ↦ inr (inl zero)
-              | inr some ↦
-                  let wanted : wanted_size scene.page_size scene.commit ≡ scene.page_size = cond-false (scene.commit == 0) 0 scene.page_size (ne_eqb scene.commit 0 some) in
-                  let positive : 0 < scene.page_size = page_size-positive scene.page_size (sized (omega (arith, some))) in
-                  let header : is_header text ≡ true = elim (cases_Bool (is_header text)) [
-                    | inl valid ↦ valid
-                    | inr invalid ↦ absurd (nothing-below (first_new (log_text old) text) (committed_count text) more (none_committed text invalid))
-                  ] in
-                  let other : (not (scene.page_size == 0) && is_header text && not (page_size_in text == scene.page_size)) ≡ false =
-                  (either _ _ (subst (λ (k : ℕ). breaks_header k place bytes text ≡ false) wanted kept)).1 in
-                  elim (cases_eq (page_size_in text) scene.page_size) [
-                    | inl same ↦ inl (sym (size ∙ same))
-                    | inr apart ↦ absurd (true_false (sym (all-true (ne_eqb scene.page_size 0 (λ zero. omega (arith, zero, positive))) header (ne_eqb (page_size_in text) scene.page_size apart)) ∙ other))
-                  ]
-            ]
+          | inl zero ↦ inr (inl zero)
+          | inr some ↦
+              let wanted : wanted_size scene.page_size scene.commit ≡ scene.page_size = cond-false (scene.commit == 0) 0 scene.page_size (ne_eqb scene.commit 0 some) in
+              let positive : 0 < scene.page_size = page_size-positive scene.page_size (sized (omega (arith, some))) in
+              let header : is_header text ≡ true = elim (cases_Bool (is_header text)) [
+                | inl valid ↦ valid
+                | inr invalid ↦ absurd (nothing-below (first_new (log_text old) text) (committed_count text) more (none_committed text invalid))
+              ] in
+              let other : (not (scene.page_size == 0) && (is_header text && not (page_size_in text == scene.page_size))) ≡ false =
+              (either _ _ (subst (λ (k : ℕ). breaks_header k place bytes text ≡ false) wanted kept)).1 in
+              elim (cases_eq (page_size_in text) scene.page_size) [
+                | inl same ↦ inl (sym (size ∙ same))
+                | inr apart ↦ absurd (true_false (sym (all-true (ne_eqb scene.page_size 0 (λ zero. omega (arith, zero, positive))) header (ne_eqb (page_size_in text) scene.page_size apart)) ∙ other))
+              ]
+        ]
       ]
 
   called : (c : JournalCall) (p : Plan) (r : Reply) (new : Served) → MayCommit p r (λ change. JournalDone told old scene c change new) → Leaves scene.page_size scene.commit old p new
@@ -168,9 +168,9 @@ module _ (told : Option DatabaseImage) (old : Served) (scene : Scene) (sized : 0
   -- a write to the log
   logged : (given : Option ℕ) (place : ℕ) (bytes : List ℕ) (p : Plan) (r : Reply) (new : Served) → first_refusal (log_write_rows old scene given place bytes) ≡ None → MayCommit p r (λ change. LogDone told old scene place bytes change new) → Leaves scene.page_size scene.commit old p new
   logged given place bytes (plan.Reply is) r new none done = record {
-    position = ap (λ (s : Served). s.position) done.1.1.state;
-    rests = ap waits done.1.1.state ∙ idle;
-    locks = λ list. subst IsLockList (sym (ap (λ (s : Served). s.locks) done.1.1.state)) list;
+    position = ap (λ (s : Served). s.position) done.1.1.1;
+    rests = ap waits done.1.1.1 ∙ idle;
+    locks = λ list. subst IsLockList (sym (ap (λ (s : Served). s.locks) done.1.1.1)) list;
   }
   logged given place bytes plan.Silent r new none done = absurd done
   logged given place bytes (plan.Commit is change) r new none done = record {

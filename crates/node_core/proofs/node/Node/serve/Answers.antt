@@ -1,11 +1,11 @@
-use Rattle.std.proofs.Common.{◌≡◌, ◌∙◌, ℕ, Bool, true, false, None, Some, IsTrue, Result, Ok, Err, inl, inr, refl, sym, ap, subst}
+use Rattle.std.proofs.Common.{◌≡◌, ◌∙◌, ℕ, true, false, IsTrue, Result, Ok, Err, inr, refl, sym, ap, subst}
 use Rattle.lf_base.specs.declared.pos.Pos.{Pos}
 use Rattle.lf_sqlite_pages.specs.Apply.{apply}
 use Rattle.lf_sqlite_pages.specs.Image.{DatabaseImage}
 use Rattle.file_view.specs.declared.plan.Plan.{Plan}
 use Rattle.file_view.specs.declared.plan.Plan.TheVariants as plan
 use Rattle.file_view.specs.Done.{IsDone}
-use Rattle.file_view.specs.Endings.{abandoned, committed}
+use Rattle.file_view.specs.Endings.{committed}
 use Rattle.file_view.specs.Overlay.{AwaitsOver, FitsImage, IsOverImage}
 use Rattle.file_view.specs.Served.{Served, waits}
 use Rattle.txn_log.specs.declared.fault.StoreFault.{StoreFault}
