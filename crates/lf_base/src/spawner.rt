@@ -66,11 +66,7 @@ pub fn start_call<
     R: Handles + Copy + Send + 'static,
     S: Spawner,
     F: FnOnce() + Send + Drop + 'static,
->(
-    rt: R,
-    spawner: &mut S,
-    call: F,
-) -> Result<(), Failed>
+>(rt: R, spawner: &mut S, call: F) -> Result<(), Failed>
     requires { F.IsAlwaysCallable call }
     ensures said { S.says spawner.old ≡ true → IsErr result ↔ S.refuses spawner.old }
     ensures cause { CountsFaults (S.faults spawner.old) (S.faults spawner.new) result }
