@@ -129,7 +129,8 @@ impl View {
 
     /// The committed image is another now, of this page size and number of pages: the database file is
     /// that, and journal and log have no bytes. A page size of 0 says that the database was dropped.
-    /// Handles, locks and the request that waits stay.
+    /// Handles and locks stay, and a request that waits goes on to wait; of a write to the log nothing is
+    /// left to write.
     pub fn applied(&mut self, page_size: u32, commit: u32)
         requires { page_size ≤ 65536 }
         ensures done { self.new ≡ applied self.old page_size commit }
