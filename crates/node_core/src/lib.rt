@@ -21,6 +21,3 @@ pub use ask::Ask;
 pub use config::NodeConfig;
 pub use laws::{crashes_are_opened, runs_are_steps};
 pub use node::Node;
-
-#[cfg(test)]
-mod tests;
