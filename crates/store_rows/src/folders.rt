@@ -1,0 +1,71 @@
+//! A store in a folder of the system.
+use crate::samples::{A, B, Sample, text_of};
+use crate::script::{around, script};
+use crate::stages::{Stage, is_just};
+use crate::steps::{Step, Went, does};
+use lf_disk::DirDisk;
+use node_recovery::recover;
+use std::{fs, io};
+use txn_log::Store;
+
+const TOP: &str = "store_rows_folder";
+
+const FOLDER: &str = "store_rows_folder/x";
+
+const FIRST: &str = "store_rows_folder/x/ltx/0000000000000001-0000000000000001.ltx";
+
+const SECOND: &str = "store_rows_folder/x/ltx/0000000000000002-0000000000000002.ltx";
+
+type FolderStore = Store<DirDisk<HostRuntime>>;
+
+/// The store of the folder.
+fn in_folder(rt: HostRuntime) -> Option<FolderStore> {
+    match DirDisk::open(rt, FOLDER) {
+        Ok(disk) => recover(rt.alloc(), disk).ok(),
+        Err(_) => None,
+    }
+}
+
+/// Opens the folder, looks whether its store is at a stage, and does a step.
+fn goes_on(rt: HostRuntime, stage: &Stage, step: Step) -> bool {
+    match in_folder(rt) {
+        Some(mut store) => {
+            is_just(&mut store, stage) && does(rt.alloc(), &mut store, step) == Went::Done
+        }
+        None => false,
+    }
+}
+
+/// The script on a folder that is opened anew before each step.
+pub fn print_script(rt: HostRuntime) -> io::Result<()> {
+    let _ = fs::remove_dir_all(&rt, TOP);
+    for (place, step) in script().iter().enumerate() {
+        let held = match around(place) {
+            Some((before, _)) => goes_on(rt, &before, *step),
+            None => false,
+        };
+        println!(rt; "folder: step {place}: {held}")?;
+    }
+    fs::remove_dir_all(&rt, TOP)
+}
+
+/// Whether a file of the folder has the text of a sample.
+fn has_text(rt: HostRuntime, path: &str, sample: &Sample) -> bool {
+    match (fs::read(&rt, path), text_of(rt.alloc(), sample)) {
+        (Ok(found), Some(text)) => found.as_slice() == text.as_slice(),
+        _ => false,
+    }
+}
+
+/// Two files are published, and the first stays as it was.
+pub fn print_two_files(rt: HostRuntime) -> io::Result<()> {
+    let Some(mut store) = in_folder(rt) else {
+        return println!(rt; "folder: not opened");
+    };
+    let first = does(rt.alloc(), &mut store, Step::Commit(A)) == Went::Done;
+    let second = does(rt.alloc(), &mut store, Step::Apply(B)) == Went::Done;
+    println!(rt; "folder: two files: {first} {second}")?;
+    let (first, second) = (has_text(rt, FIRST, &A), has_text(rt, SECOND, &B));
+    println!(rt; "folder: their texts: {first} {second}")?;
+    fs::remove_dir_all(&rt, TOP)
+}

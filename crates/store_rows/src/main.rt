@@ -1,0 +1,30 @@
+//! Rows of the store: calls on stores in memory and in a folder, stopped, crashed and recovered. It
+//! prints what it sees, and the gate compares that.
+#![tactic(auto)]
+
+mod answers;
+mod drills;
+mod folders;
+mod place;
+mod primaries;
+mod samples;
+mod scenes;
+mod script;
+mod stages;
+mod steps;
+mod stops;
+mod stores;
+
+use std::io;
+
+fn main(rt: HostRuntime) -> io::Result<()> {
+    scenes::print_commit(rt)?;
+    scenes::print_install(rt)?;
+    answers::print_log(rt)?;
+    answers::print_drop(rt)?;
+    primaries::print_primaries(rt)?;
+    drills::print_stops(rt)?;
+    drills::print_faults(rt)?;
+    folders::print_script(rt)?;
+    folders::print_two_files(rt)
+}
