@@ -1,0 +1,2 @@
+//! A table of sessions over a link in memory.
+mod rows;
