@@ -1,0 +1,104 @@
+//! One line of the record.
+
+use crate::fault::Fault;
+use crate::scene::{Ending, KeptFile, Left, Start};
+use serde_json::Value;
+use std::alloc::Global;
+
+/// The turns of a session where none are said.
+const TURNS: u64 = 1_000;
+
+#[derive(Drop)]
+pub enum Line {
+    /// A scene begins.
+    Start(Start),
+    /// A message, and its reply, which is empty where there is none.
+    Message { request: Vec<u8>, reply: Vec<u8> },
+    /// The session ends.
+    End(Ending),
+    /// The scene ends.
+    Left(Left),
+}
+
+fn number(value: &Value, name: &str) -> Option<u64> {
+    value.get(name).and_then(Value::as_u64)
+}
+
+fn text<'a>(value: &'a Value, name: &str) -> Option<&'a str> {
+    value.get(name).and_then(Value::as_str)
+}
+
+fn copy(alloc: Global, value: &Value, name: &str) -> Result<String, Fault> {
+    Ok(String::from_str(alloc, text(value, name).unwrap_or(""))?)
+}
+
+fn bytes(alloc: Global, value: &Value, name: &str) -> Result<Vec<u8>, Fault> {
+    Ok(hex::decode(alloc, text(value, name).unwrap_or(""))?)
+}
+
+fn start_of(alloc: Global, value: &Value) -> Result<Start, Fault> {
+    Ok(Start {
+        name: copy(alloc, value, "start")?,
+        page_size: number(value, "page_size").unwrap_or(0),
+        pages: number(value, "pages").unwrap_or(0),
+        transactions: number(value, "transactions").unwrap_or(0),
+        is_primary: text(value, "role").is_none(),
+        stop: number(value, "stop"),
+    })
+}
+
+fn message_of(alloc: Global, value: &Value) -> Result<Line, Fault> {
+    Ok(Line::Message {
+        request: bytes(alloc, value, "request")?,
+        reply: bytes(alloc, value, "reply")?,
+    })
+}
+
+fn ending_of(alloc: Global, value: &Value) -> Result<Ending, Fault> {
+    Ok(Ending {
+        end: copy(alloc, value, "end")?,
+        asked: number(value, "asked").unwrap_or(0),
+        budget: number(value, "budget").unwrap_or(TURNS),
+    })
+}
+
+fn file_of(alloc: Global, value: &Value) -> Result<KeptFile, Fault> {
+    Ok(KeptFile {
+        name: copy(alloc, value, "name")?,
+        size: number(value, "size").unwrap_or(0),
+        digest: copy(alloc, value, "sha256")?,
+    })
+}
+
+fn files_of(alloc: Global, value: &Value) -> Result<Vec<KeptFile>, Fault> {
+    let mut files = Vec::new(alloc);
+    if let Some(found) = value.get("files").and_then(Value::as_array) {
+        for file in found {
+            files.push(file_of(alloc, file)?)?;
+        }
+    }
+    Ok(files)
+}
+
+fn left_of(alloc: Global, value: &Value) -> Result<Left, Fault> {
+    Ok(Left {
+        position: copy(alloc, value, "position")?,
+        files: files_of(alloc, value)?,
+    })
+}
+
+impl Line {
+    pub fn read(alloc: Global, line: &str) -> Result<Line, Fault> {
+        let value = Value::from_str(alloc, line)?;
+        if value.get("start").is_some() {
+            return Ok(Line::Start(start_of(alloc, &value)?));
+        }
+        if value.get("request").is_some() {
+            return message_of(alloc, &value);
+        }
+        if value.get("end").is_some() {
+            return Ok(Line::End(ending_of(alloc, &value)?));
+        }
+        Ok(Line::Left(left_of(alloc, &value)?))
+    }
+}

@@ -1,0 +1,79 @@
+//! The node that a scene begins with.
+
+use crate::fault::Fault;
+use crate::scene::Start;
+use lf_base::{Name, Text};
+use lf_disk::MemDisk;
+use lf_sqlite_pages::{Change, is_page_size};
+use node_core::{Node, NodeConfig};
+use std::alloc::Global;
+use txn_log::Store;
+
+/// The number of the node, which its files carry.
+const NODE: u64 = 3;
+
+/// How many files of the log it keeps.
+const RETENTION: u64 = 3;
+
+fn config(alloc: Global, start: &Start) -> Result<NodeConfig, Fault> {
+    let Ok(name) = Name::read(alloc, b"app") else {
+        return Err(Fault::NoMemory);
+    };
+    let host = if start.is_primary { "" } else { "db1" };
+    Ok(NodeConfig {
+        name,
+        node: NODE,
+        candidate: start.is_primary,
+        primary_host: Text::of(alloc, host)?,
+        halt_ttl: 1_000,
+        retention: RETENTION,
+    })
+}
+
+/// Commits the next transaction of a start: the first one makes all pages, and the others change none.
+fn commit_next(
+    alloc: Global,
+    store: &mut Store<MemDisk>,
+    start: &Start,
+    txid: u64,
+) -> Result<(), Fault> {
+    let page_size = u32::try_from(start.page_size).unwrap_or(0);
+    let pages = u32::try_from(start.pages).unwrap_or(0);
+    if !is_page_size(page_size) {
+        return Err(Fault::Record);
+    }
+    let change = Change::new(alloc, page_size, pages);
+    store.commit(&change, txid.saturating_mul(1_000), NODE)?;
+    Ok(())
+}
+
+/// The store of a start, on a disk of which every call from a number on fails.
+fn store_of(alloc: Global, start: &Start, stop: Option<u64>) -> Result<Store<MemDisk>, Fault> {
+    let disk = MemDisk::new(alloc, Vec::new(alloc), stop)?;
+    let mut store = Store::on_blank(alloc, disk);
+    for txid in 1..=start.transactions {
+        commit_next(alloc, &mut store, start, txid)?;
+    }
+    Ok(store)
+}
+
+/// The same, where the disk fails after the start, if it is to.
+fn stopped_store(alloc: Global, start: &Start) -> Result<Store<MemDisk>, Fault> {
+    let store = store_of(alloc, start, None)?;
+    match start.stop {
+        None => Ok(store),
+        Some(calls) => {
+            let stop = store.disk.calls().saturating_add(calls);
+            store_of(alloc, start, Some(stop))
+        }
+    }
+}
+
+/// The node of a start.
+pub fn open_node(alloc: Global, start: &Start) -> Result<Node<MemDisk>, Fault> {
+    let store = stopped_store(alloc, start)?;
+    match Node::open(alloc, store, config(alloc, start)?) {
+        Ok(node) => Ok(node),
+        Err(_) => Err(Fault::NoMemory),
+    }
+}

@@ -1,0 +1,63 @@
+//! A scene: a node, the sessions of its clients one after another, and what is left of it.
+
+/// The node that a scene begins with. Its database has pages of zeros, all made by the first of its transactions.
+#[derive(Drop)]
+pub struct Start {
+    pub name: String,
+    pub page_size: u64,
+    pub pages: u64,
+    pub transactions: u64,
+    pub is_primary: bool,
+    /// How many calls of the disk succeed after the start.
+    pub stop: Option<u64>,
+}
+
+/// What a client sends, and what it is to be sent.
+#[derive(Drop)]
+pub struct Session {
+    pub messages: u64,
+    pub requests: Vec<u8>,
+    pub replies: Vec<u8>,
+    pub ending: Ending,
+}
+
+/// How a session ends, and how often the node was asked in it. `budget` is its number of turns.
+#[derive(Drop)]
+pub struct Ending {
+    pub end: String,
+    pub asked: u64,
+    pub budget: u64,
+}
+
+/// Where the node stands at the end, and the files of its disk.
+#[derive(Drop)]
+pub struct Left {
+    pub position: String,
+    pub files: Vec<KeptFile>,
+}
+
+/// A file: its name, its length, and the SHA-256 of its bytes as hex.
+#[derive(Debug, Drop, PartialEq, Eq)]
+pub struct KeptFile {
+    pub name: String,
+    pub size: u64,
+    pub digest: String,
+}
+
+#[derive(Drop)]
+pub struct Scene {
+    pub start: Start,
+    pub sessions: Vec<Session>,
+    pub left: Left,
+}
+
+impl Scene {
+    /// How many messages its clients send.
+    pub fn messages(&self) -> u64 {
+        let mut messages = 0_u64;
+        for session in &self.sessions {
+            messages = messages.saturating_add(session.messages);
+        }
+        messages
+    }
+}

@@ -1,0 +1,95 @@
+//! A node at its desk, and the seat of which each client's is split.
+ghost use Rattle.turn_desk.specs.Seats.{IsOf};
+
+use crate::fault::Fault;
+use file_session::serve_files;
+use lf_base::{FixedClock, MemDialer, MemLink, Name, NoPause, Pos, SessionEnd};
+use lf_disk::MemDisk;
+use node_core::{Answer, Ask, Node};
+use std::alloc::Global;
+use std::sync::Wait;
+use turn_desk::{Desk, Seat};
+
+/// The moment at which everything is asked.
+const NOW: u64 = 1_700_000_000_000;
+
+#[derive(Drop)]
+pub struct Stage {
+    desk: Desk<Node<MemDisk>>,
+    seat: Seat<Node<MemDisk>>,
+    ghost of: { IsOf seat desk },
+}
+
+impl Stage {
+    pub fn new(alloc: Global, node: Node<MemDisk>) -> Result<Stage, Fault> {
+        match Desk::open(alloc, node) {
+            Ok((desk, seat)) => Ok(Stage { desk, seat }),
+            Err(_) => Err(Fault::NoMemory),
+        }
+    }
+
+    /// Serves the client of a link by a seat of its own.
+    pub fn serve<R: Wait + Copy>(
+        &mut self,
+        rt: R,
+        alloc: Global,
+        link: &mut MemLink,
+        budget: u64,
+    ) -> Result<SessionEnd, Fault> {
+        let Ok(mut seat) = self.desk.split(rt, &mut self.seat) else {
+            return Err(Fault::Worn);
+        };
+        serve_seat(rt, alloc, &self.desk, &mut seat, link, budget)
+    }
+
+    /// How many steps the node has made.
+    pub fn steps(&mut self) -> u64 {
+        self.desk.edition(&mut self.seat)
+    }
+
+    /// Where the node stands.
+    pub fn position<R: Wait + Copy>(&mut self, rt: R) -> Result<Pos, Fault> {
+        match self.desk.step(rt, &mut self.seat, &Ask::Where) {
+            Ok(Answer::At(position)) => Ok(position),
+            _ => Err(Fault::Worn),
+        }
+    }
+
+    /// The disk of the node, after its last step.
+    pub fn close<R: Wait + Copy>(self, rt: R) -> MemDisk {
+        let Stage { desk, seat } = self;
+        desk.close(rt, seat).into_store().disk
+    }
+}
+
+/// Serves the client of a link by a seat at a desk.
+fn serve_seat<R: Wait + Copy>(
+    rt: R,
+    alloc: Global,
+    desk: &Desk<Node<MemDisk>>,
+    seat: &mut Seat<Node<MemDisk>>,
+    link: &mut MemLink,
+    budget: u64,
+) -> Result<SessionEnd, Fault>
+    requires { IsOf seat.old desk.now }
+{
+    let Ok(name) = Name::read(alloc, b"app") else {
+        return Err(Fault::NoMemory);
+    };
+    let mut dialer = MemDialer::new(alloc, Vec::new(alloc), 0, Vec::new(alloc))?;
+    let mut clock = FixedClock::new(NOW);
+    let mut pause = NoPause::new();
+    Ok(serve_files(
+        rt,
+        alloc,
+        desk,
+        seat,
+        &name,
+        3,
+        link,
+        &mut dialer,
+        &mut clock,
+        &mut pause,
+        budget,
+    ))
+}
