@@ -22,6 +22,7 @@ pub fn recover<D: Disk>(alloc: Global, disk: D) -> Result<Store<D>, (RecoverFaul
     ensures store { IsTrue (D.honest disk) → IfOk result (λ store. (stood : StoreState) → Durable (now (D.history disk)) stood
         → state_of (D.history store.disk) store.page_size store.commit store.entries.items store.dropped store.broken store.whole ≡ stood) }
     ensures open_ { IfOk result (λ store. store.broken ≡ false) }
+    ensures honest { (IfOk result (λ store. D.honest store.disk ≡ D.honest disk)) × (IfErr result (λ gone. D.honest gone.1 ≡ D.honest disk)) }
     ensures why { IsTrue (D.honest disk) → IfErr result (λ gone. IsWhy (now (D.history disk)) gone.0) }
     ensures cause { (IfOk result (λ store. D.faults store.disk ≡ D.faults disk))
         × (IfErr result (λ gone. IsCause (D.faults disk) (D.faults gone.1) gone.0)) }
