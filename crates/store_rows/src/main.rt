@@ -10,6 +10,7 @@ mod primaries;
 mod samples;
 mod scenes;
 mod script;
+mod sources;
 mod stages;
 mod steps;
 mod stops;
@@ -23,6 +24,7 @@ fn main(rt: HostRuntime) -> io::Result<()> {
     answers::print_log(rt)?;
     answers::print_drop(rt)?;
     primaries::print_primaries(rt)?;
+    sources::print_sources(rt)?;
     drills::print_stops(rt)?;
     drills::print_faults(rt)?;
     folders::print_script(rt)?;

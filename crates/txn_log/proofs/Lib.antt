@@ -3,6 +3,7 @@ pub mod Applyings
 pub mod Blank
 pub mod Cleanings
 pub mod Clearings
+pub mod Comings
 pub mod Commits
 pub mod Composing
 pub mod Copies

@@ -2,6 +2,7 @@ pub mod Answering
 pub mod Apply
 pub mod Calls
 pub mod Causes
+pub mod Coming
 pub mod Draft
 pub mod Dropping
 pub mod Durable

@@ -1,10 +1,10 @@
 //! A decoder for files of any page size.
-ghost use Rattle.std.specs.Prelude.{◌≡◌, ℕ, [], IfOk};
-ghost use Rattle.ltx_codec.specs.Decoding.{HasFed, page_limit_of};
+ghost use Rattle.std.specs.Prelude.{◌≡◌, ℕ, List, [], IfOk};
+ghost use Rattle.ltx_codec.specs.Decoding.{HasFed, FeedGives, page_limit_of};
 ghost use Rattle.ltx_codec.specs.WholePages.{largest_page};
 
 use lf_base::NoMemory;
-use ltx_codec::Decoder;
+use ltx_codec::{Decoder, LtxFault, Seen};
 use std::alloc::Global;
 
 /// The size of SQLite's largest page, in bytes.
@@ -23,5 +23,19 @@ impl FileDecoder {
     {
         let decoder = Decoder::new(alloc, LARGEST_PAGE)?;
         Ok(FileDecoder { decoder })
+    }
+
+    /// Begins a file, also after a fault.
+    pub fn restart(&mut self)
+        ensures { HasFed self.new.decoder largest_page [] }
+    {
+        self.decoder.restart();
+    }
+
+    /// Takes a piece of the text, up to the end of a part.
+    pub fn feed(&mut self, piece: &[u8]) -> Result<Seen, LtxFault>
+        ensures { (text : List ℕ) → HasFed self.old.decoder largest_page text → FeedGives self.new.decoder largest_page text piece.now result }
+    {
+        self.decoder.feed(piece)
     }
 }

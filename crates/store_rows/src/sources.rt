@@ -1,0 +1,73 @@
+//! Sources that are read as a file.
+ghost use Rattle.std.specs.Prelude.{◌≡◌, length, IfSome};
+
+use crate::samples::{A, text_of};
+use lf_base::SliceSource;
+use std::alloc::Global;
+use std::io;
+use txn_log::{Coming, FileDecoder, Outline, TextFault, read_source};
+
+/// Room for a piece.
+fn room(alloc: Global) -> Option<Vec<u8>>
+    ensures { IfSome result (λ room. length room.items ≡ 65536) }
+{
+    vec![in alloc; 0u8; 65536].ok()
+}
+
+/// A source of these bytes, whose first call fails or not.
+fn source_of(alloc: Global, bytes: &[u8], fails: bool) -> Option<SliceSource<'_>> {
+    let mut failing = Vec::new(alloc);
+    if fails && failing.push(0).is_err() {
+        return None;
+    }
+    SliceSource::new(bytes, failing).ok()
+}
+
+/// What a source is.
+fn read(alloc: Global, bytes: &[u8], fails: bool) -> Option<Result<Outline, TextFault>> {
+    let mut source = source_of(alloc, bytes, fails)?;
+    let mut coming = Coming::new(FileDecoder::new(alloc).ok()?);
+    let mut page = room(alloc)?;
+    Some(read_source(&mut source, &mut coming, page.as_mut_slice()))
+}
+
+/// Prints what a source of these bytes is.
+fn print_read(rt: HostRuntime, title: &str, bytes: &[u8], fails: bool) -> io::Result<()> {
+    match read(rt.alloc(), bytes, fails) {
+        Some(Ok(file)) => {
+            let header = file.header;
+            println!(rt;
+                "  {title}: {} to {}, {:x}",
+                header.min, header.max, file.post
+            )
+        }
+        Some(Err(why)) => println!(rt; "  {title}: {why:?}"),
+        None => println!(rt; "  {title}: no memory"),
+    }
+}
+
+/// The text of a file, whole, cut off, with a byte behind it and with another byte in it.
+pub fn print_sources(rt: HostRuntime) -> io::Result<()> {
+    let Some(mut text) = text_of(rt.alloc(), &A) else {
+        return println!(rt; "no text");
+    };
+    println!(rt; "a source of {} bytes", text.len())?;
+    print_read(rt, "whole", text.as_slice(), false)?;
+    print_read(rt, "failing", text.as_slice(), true)?;
+    print_read(
+        rt,
+        "cut off",
+        text.as_slice().get(..635).unwrap_or(&[]),
+        false,
+    )?;
+    if text.push(0).is_err() {
+        return println!(rt; "no memory");
+    }
+    print_read(rt, "one byte more", text.as_slice(), false)?;
+    print_read(
+        rt,
+        "its end",
+        text.as_slice().get(1..).unwrap_or(&[]),
+        false,
+    )
+}

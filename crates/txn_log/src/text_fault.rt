@@ -1,0 +1,10 @@
+use ltx_codec::LtxFault;
+
+/// Why a source is not read as a file.
+#[derive(Clone, Copy, Debug)]
+pub enum TextFault {
+    /// The source failed.
+    Source,
+    /// Its bytes are the text of no file.
+    Ltx(LtxFault),
+}
