@@ -1,0 +1,48 @@
+//! How much of a conversation was replayed, and how much of it differs.
+
+use crate::difference::Difference;
+use crate::fault::Fault;
+use crate::replay::Replay;
+use crate::turn::Turn;
+use std::alloc::Global;
+
+/// A conversation, how many of its lines were taken, and how many of these differ.
+#[derive(Drop)]
+pub struct Tally {
+    replay: Replay,
+    turns: u64,
+    differ: u64,
+}
+
+impl Tally {
+    pub fn new(alloc: Global) -> Result<Tally, Fault> {
+        Ok(Tally {
+            replay: Replay::new(alloc)?,
+            turns: 0,
+            differ: 0,
+        })
+    }
+
+    pub fn turns(&self) -> u64 {
+        self.turns
+    }
+
+    pub fn differ(&self) -> u64 {
+        self.differ
+    }
+
+    pub fn transactions(&self) -> u64 {
+        self.replay.transactions()
+    }
+
+    /// Takes one line of a record, and says what differs.
+    pub fn take(&mut self, alloc: Global, line: &str) -> Result<Option<Difference>, Fault> {
+        self.turns = self.turns.saturating_add(1);
+        let turn = Turn::read(alloc, line)?;
+        let difference = self.replay.take(alloc, &turn)?;
+        if difference.is_some() {
+            self.differ = self.differ.saturating_add(1);
+        }
+        Ok(difference)
+    }
+}
