@@ -16,6 +16,7 @@ pub mod Givings
 pub mod Growths
 pub mod Installed
 pub mod Installings
+pub mod Intakes
 pub mod Marks
 pub mod Modes
 pub mod Moves

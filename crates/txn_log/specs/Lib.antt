@@ -10,6 +10,7 @@ pub mod Entries
 pub mod FaultNumber
 pub mod Giving
 pub mod Installing
+pub mod Intake
 pub mod Kept
 pub mod Modes
 pub mod Opening
