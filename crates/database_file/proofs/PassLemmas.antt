@@ -1,5 +1,5 @@
 -- Kept pages without those of some numbers.
-use Rattle.std.proofs.Common.{◌≡◌, ◌≢◌, ℕ, ◌||◌, List, [], ◌∷◌, Bool, true, false, inl, inr, Option, Some, None, refl, ap, ◌∙◌, if◌then◌else◌}
+use Rattle.std.proofs.Common.{◌≡◌, ℕ, ◌||◌, List, [], ◌∷◌, Bool, true, false, inl, inr, Option, None, refl, ap, ◌∙◌, if◌then◌else◌}
 use Rattle.std.specs.Prelude.{◌==◌, fold}
 use Rattle.std.specs.List.{list_any}
 use Rattle.std.specs.FinMap as pages

@@ -24,13 +24,26 @@ pub(crate) fn zeros(alloc: Global, size: usize) -> Result<Vec<u8>, NoMemory>
     Ok(bytes)
 }
 
-/// A copy of the bytes from one place to another.
-fn copied(alloc: Global, text: &[u8], from: usize, to: usize) -> Result<Vec<u8>, NoMemory>
-    requires order { from ≤ to }
-    requires within { to ≤ length text.now }
-    ensures { IfOk result (λ bytes. bytes.items ≡ bytes_from text.now from (to - from)) }
+/// An empty text with room for some pages.
+fn room(alloc: Global, pages: u32, page_size: u32) -> Result<Vec<u8>, NoMemory>
+    ensures { IfOk result (λ text. text.items ≡ []) }
 {
-    let bytes = Vec::from_slice(alloc, &text[from..to])?;
+    let bytes = u64::from(pages) * u64::from(page_size);
+    let text = Vec::with_capacity(alloc, bytes as usize)?;
+    Ok(text)
+}
+
+/// The bytes of a text from one place to another: the text itself, cut short, where they are its first.
+fn part(alloc: Global, mut text: Vec<u8>, from: usize, to: usize) -> Result<Vec<u8>, NoMemory>
+    requires order { from ≤ to }
+    requires within { to ≤ length text.items }
+    ensures { IfOk result (λ bytes. bytes.items ≡ bytes_from text.items from (to - from)) }
+{
+    text.truncate(to);
+    if from == 0 {
+        return Ok(text);
+    }
+    let bytes = Vec::from_slice(alloc, &text.as_slice()[from..])?;
     Ok(bytes)
 }
 
@@ -92,26 +105,29 @@ impl DatabaseFile {
     }
 
     /// Puts page `n`, as the file reads without what it keeps of some pages, behind a text. The page is
-    /// read into a buffer of its size.
+    /// read where it is to stand.
     fn append<S: PageStore>(
         &self,
         passed: &[u32],
         base: &mut S,
         n: u32,
-        page: &mut [u8],
+        page_size: u32,
         text: &mut Vec<u8>,
     ) -> Result<(), FileFault>
         requires fits { FitsShape (without_pages self.now passed.now) (S.page_size base.old) (S.commit base.old) }
         requires first { 1 ≤ n }
-        requires whole { length page.old ≡ size_over self.now (S.page_size base.old) (S.commit base.old) }
+        requires whole { page_size ≡ size_over self.now (S.page_size base.old) (S.commit base.old) }
         ensures bytes { OnOk result (IfSome (S.image base.old) (λ i. text.new.items ≡ text.old.items ++ page_of (without_pages self.now passed.now) i n)) }
-        ensures length { OnOk result (length text.new.items ≡ length text.old.items + length page.old) }
+        ensures length { OnOk result (length text.new.items ≡ length text.old.items + page_size) }
         ensures faults { OnOk result (S.faults base.new ≡ S.faults base.old) }
         ensures cause { IfErr result (HasCause (S.faults base.old) (S.faults base.new)) }
         ensures base { SameBase (S.image base.old) (S.image base.new) (S.page_size base.old) (S.page_size base.new) (S.commit base.old) (S.commit base.new) (S.wal_mode base.old) (S.wal_mode base.new) (S.is_broken base.old) (S.is_broken base.new) }
     {
+        let start = text.len();
+        text.resize(start + page_size as usize, 0)
+            .map_err(NoMemory::from)?;
+        let (_, page) = text.as_mut_slice().split_at_mut(start);
         self.read_page_without(passed, base, n, page)?;
-        text.extend_from_slice(page).map_err(NoMemory::from)?;
         Ok(())
     }
 
@@ -123,21 +139,21 @@ impl DatabaseFile {
         base: &mut S,
         before: u32,
         after: u32,
-        page: &mut [u8],
+        page_size: u32,
         text: &mut Vec<u8>,
     ) -> Result<(), FileFault>
         requires fits { FitsShape (without_pages self.now passed.now) (S.page_size base.old) (S.commit base.old) }
         requires order { before ≤ after }
-        requires whole { length page.old ≡ size_over self.now (S.page_size base.old) (S.commit base.old) }
+        requires whole { page_size ≡ size_over self.now (S.page_size base.old) (S.commit base.old) }
         requires empty { text.old.items ≡ [] }
         ensures bytes { OnOk result (IfSome (S.image base.old) (λ i. text.new.items ≡ concat (map (page_of (without_pages self.now passed.now) i) (range_with_len (before + 1) (after - before))))) }
-        ensures length { OnOk result (length text.new.items ≡ (after - before) * length page.old) }
+        ensures length { OnOk result (length text.new.items ≡ (after - before) * page_size) }
         ensures faults { OnOk result (S.faults base.new ≡ S.faults base.old) }
         ensures cause { IfErr result (HasCause (S.faults base.old) (S.faults base.new)) }
         ensures base { SameBase (S.image base.old) (S.image base.new) (S.page_size base.old) (S.page_size base.new) (S.commit base.old) (S.commit base.new) (S.wal_mode base.old) (S.wal_mode base.new) (S.is_broken base.old) (S.is_broken base.new) }
     {
         for number in before..after {
-            self.append(passed, base, number + 1, page, text)?;
+            self.append(passed, base, number + 1, page_size, text)?;
         }
         Ok(())
     }
@@ -184,18 +200,17 @@ impl DatabaseFile {
             return Ok(Vec::new(alloc));
         }
         let (before, after) = span(at, end, u64::from(page_size), u64::from(count));
-        let mut page = zeros(alloc, page_size as usize)?;
-        let mut text = Vec::new(alloc);
+        let mut text = room(alloc, (after - before) as u32, page_size)?;
         self.append_all(
             passed,
             base,
             before as u32,
             after as u32,
-            page.as_mut_slice(),
+            page_size,
             &mut text,
         )?;
         let from = (at - before * u64::from(page_size)) as usize;
-        let bytes = copied(alloc, text.as_slice(), from, from + (end - at) as usize)?;
+        let bytes = part(alloc, text, from, from + (end - at) as usize)?;
         Ok(bytes)
     }
 }

@@ -3,7 +3,7 @@ use Rattle.std.proofs.Common.{◌≡◌, ◌+◌, ◌-◌, ◌*◌, length, map}
 use Rattle.std.specs.Prelude.{IfSome}
 use Rattle.std.specs.List.{concat, range_with_len}
 use Rattle.lf_sqlite_pages.specs.Image.{DatabaseImage}
-use Rattle.database_file.specs.DatabaseFile.{size_over, page_of, without_pages}
+use Rattle.database_file.specs.DatabaseFile.{page_of, without_pages}
 use Rattle.database_file.specs.Fault.{SameBase}
 use Rattle.database_file.proofs.database_file.DatabaseFile.append_all.Given as goal
 
@@ -12,9 +12,8 @@ invariant-loop-number g l = record {
   base : SameBase (g.S.PageStore.image l.fn.base) (g.S.PageStore.image l.base) (g.S.PageStore.page_size l.fn.base) (g.S.PageStore.page_size l.base)
       (g.S.PageStore.commit l.fn.base) (g.S.PageStore.commit l.base) (g.S.PageStore.wal_mode l.fn.base) (g.S.PageStore.wal_mode l.base)
       (g.S.PageStore.is_broken l.fn.base) (g.S.PageStore.is_broken l.base);
-  page : length l.page ≡ size_over l.self (g.S.PageStore.page_size l.fn.base) (g.S.PageStore.commit l.fn.base);
   bytes : IfSome (g.S.PageStore.image l.fn.base)
       (λ (i : DatabaseImage). l.text.items ≡ concat (map (page_of (without_pages l.self l.passed) i) (range_with_len (l.before + 1) (l.number - l.before))));
   faults : g.S.PageStore.faults l.base ≡ g.S.PageStore.faults l.fn.base;
-  size : length l.text.items ≡ (l.number - l.before) * length l.page;
+  size : length l.text.items ≡ (l.number - l.before) * l.page_size;
 }

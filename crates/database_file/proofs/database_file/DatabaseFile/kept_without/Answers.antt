@@ -1,5 +1,5 @@
 -- A number is among them or isn't.
-use Rattle.std.proofs.Common.{◌≡◌, ◌∙◌, sym, true, false, None, Some, refl}
+use Rattle.std.proofs.Common.{◌≡◌, ◌∙◌, sym, true, false, None}
 use Rattle.std.specs.Prelude.{◌==◌}
 use Rattle.std.specs.List.{list_any}
 use Rattle.std.specs.FinMap as pages

@@ -21,9 +21,9 @@ returns-then-at-end-clause-bytes g c =
     c.page_size.ensures.told c.commit-commit.ensures.told c.commit-commit.ensures.valid
     c.size_over-page_size.ensures c.count_over-count.ensures (search rules))
 
-pub copied-requires-clause-within : goal.copied-requires-clause-within
-copied-requires-clause-within g c =
+pub part-requires-clause-within : goal.part-requires-clause-within
+part-requires-clause-within g c =
     let h = span_fits c.span-before.result.0 c.span-before.result.1 c.args.at c.min-end.result c.from-6.result (search rules) (omega arith)
     c.span-before.ensures.order (search rules) in
-    let len : length c.as_slice.result.now ≡ (c.span-before.result.1 - c.span-before.result.0) * c.from-6.result = search rules in
+    let len : length c.append_all.new.text.items ≡ (c.span-before.result.1 - c.span-before.result.0) * c.from-6.result = search rules in
     rw len h
