@@ -82,6 +82,8 @@ fn pages_are_written_and_read(rt: HostRuntime) -> Result<(), Fail> {
     assert_eq!(rt; (open.file.kept_pages(), open.file.is_clean()), (1, false));
     let read = open.file.read(alloc, &mut open.base, 1022, 4)?;
     assert_eq!(rt; read.as_slice(), [9, 9, 3, 3].as_slice());
+    let read = open.file.read(alloc, &mut open.base, 1024, 2)?;
+    assert_eq!(rt; read.as_slice(), [3, 3].as_slice());
     let change = open.file.commit_change(alloc, &mut open.base)?;
     assert_eq!(rt; numbers(&change), [Some(3), Some(2), None, None]);
     open.file.clear();
