@@ -5,14 +5,23 @@
 //! the system's differ in their maker alone.
 #![tactic(auto)]
 
+mod configuring;
 mod counts;
 mod data_directory;
+mod file_links;
+mod http_links;
 mod keeping;
 mod listening;
 mod maker;
 mod mem_maker;
 mod mem_spawn;
+mod mount_fault;
+mod mounting;
+mod opening;
+mod place;
 mod returned;
+mod serving;
+mod sessions;
 mod system;
 mod system_maker;
 
@@ -21,6 +30,8 @@ pub use keeping::Keeping;
 pub use maker::Maker;
 pub use mem_maker::{MemMaker, MemReturned};
 pub use mem_spawn::MemSpawn;
+pub use mount_fault::MountFault;
+pub use mounting::mount;
 pub use returned::Returned;
 pub use system::System;
 pub use system_maker::{SystemMaker, SystemReturned};

@@ -11,6 +11,7 @@ mod serving;
 mod session;
 
 pub use serving::serve_http;
+pub use session::serve_link;
 
 #[cfg(test)]
 mod tests;

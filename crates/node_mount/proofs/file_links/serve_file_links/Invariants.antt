@@ -1,0 +1,10 @@
+use Rattle.std.proofs.Common.{◌≡◌}
+use Rattle.node_mount.proofs.file_links.serve_file_links.Given as goal
+
+-- each link so far was given in turn, and nothing failed
+abbrev pub invariant-loop : goal.invariant-loop
+invariant-loop g l = record {
+  given : g.A.Acceptor.given l.accept ≡ l.counter;
+  accept : g.A.Acceptor.faults l.accept ≡ g.A.Acceptor.faults l.fn.accept;
+  spawner : g.S.Spawner.faults l.spawner ≡ g.S.Spawner.faults l.fn.spawner;
+}

@@ -1,0 +1,12 @@
+use Rattle.node_settings.specs.declared.settings.Settings.{Settings}
+use Rattle.node_mount.proofs.ConfigLemmas.{reads-on, counts-on, counts-why, raises-none}
+use Rattle.node_mount.proofs.mounting.mount.Goals as goal
+
+pub returns-in-Ok-clause-config : goal.returns-in-Ok-clause-config
+returns-in-Ok-clause-config g c = reads-on _ _ c.in-Ok.settings c.mount_disk.result c.in-Ok.ensures.config c.mount_disk.ensures.kind
+
+pub returns-in-Ok-clause-cause : goal.returns-in-Ok-clause-cause
+returns-in-Ok-clause-cause g c = (counts-on _ _ c.mount_disk.result c.in-Ok.ensures.cause c.mount_disk.ensures.kind, c.mount_disk.ensures.cause)
+
+pub returns-in-Err-clause-cause : goal.returns-in-Err-clause-cause
+returns-in-Err-clause-cause g c = (counts-why Settings (Unit {0}) _ _ c.in-Err.fault c.in-Err.ensures.cause, raises-none Settings (Unit {0}) _ c.in-Err.fault c.in-Err.ensures.kind)

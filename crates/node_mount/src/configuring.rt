@@ -1,0 +1,78 @@
+//! The configuration read from its source.
+ghost use Rattle.std.specs.Prelude.{◌≡◌, ◌<◌, [], length, IfOk, OnOk, vec_len};
+ghost use Rattle.node_mount.specs.Configuring.{CountsSource, IsReading, ReadsConfiguration, ReadsPast, SaysSettings};
+ghost use Rattle.node_mount.specs.Mounting.{IsOfReading};
+
+use crate::mount_fault::MountFault;
+use lf_base::Source;
+use node_settings::{Settings, SettingsFault, read_settings};
+use std::alloc::{AllocError, Global};
+
+/// The most bytes of a configuration.
+const SIZE_MAX: usize = 65_536;
+
+/// How many bytes are asked for at a time.
+const PIECE: usize = 4_096;
+
+/// The settings that a source says. It is read to its end, or until it is known to be too long.
+pub fn read_configuration<G: Source>(alloc: Global, source: &mut G) -> Result<Settings, MountFault>
+    ensures config { ReadsConfiguration (G.left source.old) (G.left source.new) result }
+    ensures cause { CountsSource (G.faults source.old) (G.faults source.new) result }
+    ensures kind { IsOfReading result }
+{
+    let Ok(mut piece) = new_piece(alloc) else {
+        return Err(MountFault::NoMemory);
+    };
+    let mut bytes = Vec::new(alloc);
+    read_pieces(source, SIZE_MAX, piece.as_mut_slice(), &mut bytes)?;
+    settings_in(alloc, bytes.as_slice())
+}
+
+fn new_piece(alloc: Global) -> Result<Vec<u8>, AllocError>
+    ensures { IfOk result (λ piece. vec_len piece ≡ PIECE) }
+{
+    vec![in alloc; 0u8; PIECE]
+}
+
+/// Reads on until the source is at its end, or has given more bytes than so many.
+fn read_pieces<G: Source>(
+    source: &mut G,
+    most: usize,
+    piece: &mut [u8],
+    bytes: &mut Vec<u8>,
+) -> Result<(), MountFault>
+    requires some { 0 < length piece.old }
+    requires none { bytes.old.items ≡ [] }
+    ensures read { OnOk result (ReadsPast most (G.left source.old) (G.left source.new) bytes.new.items) }
+    ensures cause { CountsSource (G.faults source.old) (G.faults source.new) result }
+    ensures fault { IsReading result }
+{
+    let mut room = most;
+    loop {
+        let count = match source.read(piece) {
+            Ok(count) => count,
+            Err(_) => return Err(MountFault::Read),
+        };
+        if count == 0 {
+            return Ok(());
+        }
+        match bytes.extend_from_slice(&piece[..count]) {
+            Ok(()) => {}
+            Err(_) => return Err(MountFault::NoMemory),
+        }
+        if room < count {
+            return Ok(());
+        }
+        room -= count;
+    }
+}
+
+fn settings_in(alloc: Global, bytes: &[u8]) -> Result<Settings, MountFault>
+    ensures { SaysSettings bytes.now result }
+{
+    match read_settings(alloc, bytes) {
+        Ok(settings) => Ok(settings),
+        Err(SettingsFault::Config) => Err(MountFault::Config),
+        Err(SettingsFault::NoMemory) => Err(MountFault::NoMemory),
+    }
+}

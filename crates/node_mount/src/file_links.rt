@@ -1,0 +1,47 @@
+//! File links are accepted, and each is served in a job of its own.
+ghost use Rattle.std.specs.Prelude.{◌≡◌, true, OnOk};
+ghost use Rattle.node_mount.specs.Serving.{CountsServing, GivesLimit};
+
+use crate::mount_fault::MountFault;
+use crate::place::Place;
+use crate::sessions::{LINKS, open_session};
+use lf_base::{Acceptor, Clock, Handles, Pause, Spawner};
+use node_core::{Answer, Ask};
+use std::alloc::Global;
+use turn_desk::Machine;
+
+/// Starts a session for each link, until no more come.
+pub fn serve_file_links<
+    R: Handles + Copy + Send + 'static,
+    K: Machine<Ask = Ask, Answer = Answer> + Send + Drop + 'static,
+    A: Acceptor,
+    S: Spawner,
+    C: Clock + Copy + Send + 'static,
+    P: Pause + Copy + Send + 'static,
+>(
+    rt: R,
+    alloc: Global,
+    place: &mut Place<K>,
+    clock: C,
+    pause: P,
+    accept: &mut A,
+    spawner: &mut S,
+) -> Result<(), MountFault>
+    requires { A.given accept.old ≡ 0 }
+    ensures ended { OnOk result (A.ended accept.new ≡ true) }
+    ensures limit { GivesLimit (A.given accept.new) result }
+    ensures cause { CountsServing (A.faults accept.old) (A.faults accept.new) (S.faults spawner.old) (S.faults spawner.new) result }
+{
+    for _ in 0..LINKS {
+        let link = match accept.accept(&rt) {
+            Ok(Some(link)) => link,
+            Ok(None) => return Ok(()),
+            Err(_) => return Err(MountFault::Network),
+        };
+        match open_session(rt, alloc, place, link, clock, pause, spawner) {
+            Ok(()) => {}
+            Err(_) => return Err(MountFault::NoThread),
+        }
+    }
+    Err(MountFault::Limit)
+}
