@@ -2,7 +2,6 @@ pub mod Command
 pub mod CompactRefusal
 pub mod Compaction
 pub mod Files
-pub mod Mount
 pub mod Output
 pub mod Refusal
 pub mod Run

@@ -12,8 +12,6 @@ pub enum Command {
     Apply,
     /// LTX files that join become one.
     Compact,
-    /// A node serves the files of a database.
-    Mount,
 }
 
 /// The command of these arguments. They are read to the letter: none more, and none less.
@@ -28,9 +26,6 @@ pub fn read_arguments(arguments: &[Text]) -> Option<Command>
     }
     if is_name(argument, b"compact".as_slice()) {
         return Some(Command::Compact);
-    }
-    if is_name(argument, b"mount".as_slice()) {
-        return Some(Command::Mount);
     }
     None
 }

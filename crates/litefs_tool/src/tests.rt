@@ -4,6 +4,5 @@ mod compact;
 mod faults;
 mod files;
 mod limits;
-mod mounting;
 mod pieces;
 mod runs;
