@@ -13,5 +13,6 @@ pub mod Answering
 pub mod Committed
 pub mod Ledgers
 pub mod Clusters
+pub mod ClusterMoves
 pub mod Deliveries
 pub mod ClusterNodes

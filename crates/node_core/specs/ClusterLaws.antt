@@ -2,7 +2,7 @@
 --
 -- Their premises are those of world_laws, by name: `CommitsAsHolder` and `WasSent` in what goes along with a step,
 -- `OneImagePerPosition` here, and of the third that a disk is honest; what a restart may find is proved.
-use Rattle.std.specs.Prelude.{◌≡◌, ◌≢◌, ◌⊎◌, ℕ, false, IsTrue, []}
+use Rattle.std.specs.Prelude.{◌≡◌, ◌≢◌, ◌⊎◌, ℕ, false, IsTrue, List, [], ◌∷◌, None}
 use Rattle.byte_locks.specs.declared.owner.Owner.{Owner}
 use Rattle.lf_base.specs.declared.pos.Pos.{Pos}
 use Rattle.lf_disk.specs.declared.disk.Disk.{Ghosts}
@@ -14,7 +14,7 @@ use Rattle.ltx_codec.specs.Positions.{after, before, nowhere}
 use Rattle.txn_log.specs.Durable.{Durable}
 use Rattle.world_laws.specs.Answers.{Knows, snapshot_of}
 use Rattle.world_laws.specs.CatchUpLaw.{IsFreeRefusal, IsHeldBack, IsWhole}
-use Rattle.world_laws.specs.Events.{IsStart}
+use Rattle.world_laws.specs.Events.{Event, IsStart, Runs}
 use Rattle.world_laws.specs.Node as laws
 use Rattle.world_laws.specs.Premises.{CommitsAsHolder, OneImagePerPosition, WasSent}
 use Rattle.world_laws.specs.ReaderLaw.{IsRead}
@@ -34,6 +34,10 @@ use Rattle.node_core.specs.Safely.{StepsSafely, law_answer, law_ask}
 use Rattle.node_core.specs.Stores.{fields_of, state}
 
 module _ {M : Type 0} (p : Program M) where
+  -- a list of moves is a list of events of the laws
+  abbrev pub MovesAreEvents : Type 0
+  MovesAreEvents = (c d : Cluster p) → Moves p c d → (events : List Event) × Runs (world p c) events (world p d)
+
   -- after every list of moves from nodes with empty disks, the invariant holds: each node's committed pages are those of every
   -- lineage that its position names
   abbrev pub ClusterIsKept : Type 0
@@ -106,6 +110,10 @@ module _ {M : Type 0} (p : Program M) where
       Delivers c k (laws.Frame file) answer d →
       IsWaiting (c.nodes k) (d.nodes k) answer ⊎ ((law_answer answer ≡ laws.Applied (after file)) × (at (p.seen (d.nodes k)).store ≡ after file))
 
+-- a folder without files
+abbrev pub no_files : Folder
+no_files name = None
+
 -- the nodes of this crate, by the relation of their steps and what each step tells
 module _ {D : Type 0} {G : Ghosts D} where
   abbrev pub program : (steps : Node D G → ℕ → Ask → Answer → Node D G → Type 0) →
@@ -124,3 +132,15 @@ module _ {D : Type 0} {G : Ghosts D} where
   abbrev pub RecoveredIsOpened : Program (Node D G) → Type 0
   RecoveredIsOpened p = (n : Node D G) (config : NodeConfig) (folder : Folder) → p.seen n ≡ seen_opened (history n) (fields_of n.store) config → n.store.broken ≡ false →
       ((left : StoreState) → Durable folder left → state (history n) (fields_of n.store) ≡ left) → IsOpenedOn folder (p.seen n)
+
+-- nodes that were each opened on a folder without files, and a ledger of nothing
+pub record IsBegun {M : Type 0} {p : Program M} (c : Cluster p) : Type 0 where
+  pub nodes : (k : ℕ) → IsOpenedOn no_files (p.seen (c.nodes k))
+  pub tree : c.tree ≡ [] ∷ []
+  pub frames : (c.sent ≡ []) × (c.accepted ≡ [])
+  pub lease : (c.granted ≡ []) × (c.holder ≡ None)
+  pub acts : c.acts ≡ []
+
+-- from which the laws start
+abbrev pub BegunIsStart : {M : Type 0} → Program M → Type 0
+BegunIsStart p = (c : Cluster p) → IsBegun c → IsStart (world p c)

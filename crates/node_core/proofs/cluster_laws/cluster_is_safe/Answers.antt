@@ -1,5 +1,8 @@
-use Rattle.node_core.proofs.ClusterNodes.{kept, opens, restarts, steps, stops}
+use Rattle.node_core.proofs.ClusterNodes.{events, kept, restarts, steps, stops}
 use Rattle.node_core.proofs.cluster_laws.cluster_is_safe.Goals as goal
+
+pub returns-clause-events : goal.returns-clause-events
+returns-clause-events g c = events
 
 pub returns-clause-kept : goal.returns-clause-kept
 returns-clause-kept g c = kept c.safe_kept.ensures
@@ -12,6 +15,3 @@ returns-clause-stops g c = stops c.stops_are_failures.ensures.restart c.stops_ar
 
 pub returns-clause-restarts : goal.returns-clause-restarts
 returns-clause-restarts g c = restarts c.stops_are_failures.ensures.restart
-
-pub returns-clause-opens : goal.returns-clause-opens
-returns-clause-opens g c = opens
