@@ -2,7 +2,7 @@
 use Rattle.std.proofs.Common.{◌≡◌, ◌≢◌, ℕ, ◌+◌, ◌≤◌, ◌-◌, Bool, true, false, cond, eqb, List, [], ◌∷◌, ◌++◌, length, Option, Some, None, IsSome, inl, inr, refl, sym, ap, subst, ◌∙◌, arith, append_assoc, length-append}
 use Rattle.std.proofs.lemmas.List.{append-nil}
 use Rattle.ltx_codec.specs.declared.file.Ltx.{Ltx}
-use Rattle.world_laws.specs.Answers.{Answers, LeavesUndone, call_of}
+use Rattle.world_laws.specs.Answers.{Answers, LeavesUndone}
 use Rattle.world_laws.specs.Events.{Turns}
 use Rattle.world_laws.specs.Lineage.{Lineage, Names}
 use Rattle.world_laws.specs.Node.{Answer, Ask, Disk, Done, Drop, File, Forward, Forwarded, Frame, Import, IsPlain, NodeState, Primary, Prune, Refused, Replica, Role}
@@ -81,39 +81,43 @@ at-either P one two (d ∷ ds) call rest same first second =
     subst (λ (c : StoreCall). P (c ∷ ds) call) (head_alike one d (two ∷ []) (ds ++ call ∷ rest) same)
     (at-only (λ (f : List StoreCall) (c : StoreCall). P (one ∷ f) c) two ds call rest (tail_alike one d (two ∷ []) (ds ++ call ∷ rest) same) second)
 
+-- the calls that an ask may make on a store
+abbrev MayMake : StoreState → Role → Option Ltx → Ask → List StoreCall → Type 0
+MayMake store role waits ask calls = Makes role waits ask calls
+
 -- how a step answers that fails in this call after these: it sends nothing, and accepts nothing
-record FailsSo (role : Role) (waits : Option Ltx) (ask : Ask) (front : List StoreCall) (call : StoreCall) : Type 0 where
-  pub makes : Makes role waits ask (front ++ call ∷ [])
+record FailsSo (store : StoreState) (role : Role) (waits : Option Ltx) (ask : Ask) (front : List StoreCall) (call : StoreCall) : Type 0 where
+  pub makes : MayMake store role waits ask (front ++ call ∷ [])
   pub answer : Answer
   pub answers : (old new : NodeState) → Answers old role ask front (Some (FailedIn call)) answer new
   pub refused : LeavesUndone answer front
   pub sends : sent_by ask answer ≡ []
   pub accepts : accepted_by ask answer ≡ []
 
-fails-so : {role : Role} {waits : Option Ltx} {ask : Ask} {calls : List StoreCall} → Makes role waits ask calls → (front : List StoreCall) (call : StoreCall) (rest : List StoreCall) →
-    calls ≡ front ++ call ∷ rest → FailsSo role waits ask front call
-fails-so nothing front call rest same = absurd (no_end front call rest same)
-fails-so (commits {waits = w} {file = f}) front call rest same =
-    at-only (FailsSo Primary w File) (Commit f) front call rest same record { makes = commits; answer = Refused Disk; answers = λ old new. tt; refused = refl; sends = refl; accepts = refl }
-fails-so (commits_and_prunes {waits = w} {file = f} {keep = n}) front call rest same =
-    at-either (FailsSo Primary w File) (Commit f) (PruneTo n) front call rest same
+fails-so : (store : StoreState) {role : Role} {waits : Option Ltx} {ask : Ask} {calls : List StoreCall} → MayMake store role waits ask calls → (front : List StoreCall) (call : StoreCall) (rest : List StoreCall) →
+    calls ≡ front ++ call ∷ rest → FailsSo store role waits ask front call
+fails-so store nothing front call rest same = absurd (no_end front call rest same)
+fails-so store (commits {waits = w} {file = f}) front call rest same =
+    at-only (FailsSo store Primary w File) (Commit f) front call rest same record { makes = commits; answer = Refused Disk; answers = λ old new. tt; refused = refl; sends = refl; accepts = refl }
+fails-so store (commits_and_prunes {waits = w} {file = f} {keep = n}) front call rest same =
+    at-either (FailsSo store Primary w File) (Commit f) (PruneTo n) front call rest same
     record { makes = commits; answer = Refused Disk; answers = λ old new. tt; refused = refl; sends = refl; accepts = refl }
     record { makes = commits_and_prunes; answer = Done; answers = λ old new. tt; refused = tt; sends = refl; accepts = refl }
-fails-so (unlinks {waits = w}) front call rest same =
-    at-only (FailsSo Primary w File) DropAll front call rest same record { makes = unlinks; answer = Refused Disk; answers = λ old new. tt; refused = refl; sends = refl; accepts = refl }
-fails-so (imports {waits = w} {file = f}) front call rest same =
-    at-only (FailsSo Primary w Import) (Commit f) front call rest same record { makes = imports; answer = Refused Disk; answers = λ old new. tt; refused = refl; sends = refl; accepts = refl }
-fails-so (accepts {waits = w} {file = f}) front call rest same =
-    at-only (FailsSo Primary w (Forward f)) (Commit f) front call rest same record { makes = accepts; answer = Refused Disk; answers = λ old new. tt; refused = refl; sends = refl; accepts = refl }
-fails-so (takes {role = r} {waits = w} {file = f} other) front call rest same =
-    at-only (FailsSo r w (Frame f)) (call_of f) front call rest same record { makes = takes other; answer = Refused Disk; answers = λ old new. refl; refused = refl; sends = refl; accepts = refl }
-fails-so (drops {role = r} {waits = w} other) front call rest same =
-    at-only (FailsSo r w Drop) DropAll front call rest same record { makes = drops other; answer = Refused Disk; answers = λ old new. refl; refused = refl; sends = refl; accepts = refl }
-fails-so (finishes {role = r} {file = f}) front call rest same =
-    at-only (FailsSo r (Some f) (Forwarded true)) (Apply f) front call rest same
+fails-so store (unlinks {waits = w}) front call rest same =
+    at-only (FailsSo store Primary w File) DropAll front call rest same record { makes = unlinks; answer = Refused Disk; answers = λ old new. tt; refused = refl; sends = refl; accepts = refl }
+fails-so store (imports {waits = w} {file = f}) front call rest same =
+    at-only (FailsSo store Primary w Import) (Commit f) front call rest same record { makes = imports; answer = Refused Disk; answers = λ old new. tt; refused = refl; sends = refl; accepts = refl }
+fails-so store (accepts {waits = w} {file = f}) front call rest same =
+    at-only (FailsSo store Primary w (Forward f)) (Commit f) front call rest same record { makes = accepts; answer = Refused Disk; answers = λ old new. tt; refused = refl; sends = refl; accepts = refl }
+fails-so store (takes {role = r} {waits = w} {file = f} other) front call rest same =
+    at-only (FailsSo store r w (Frame f)) _ front call rest same record { makes = takes other; answer = Refused Disk; answers = λ old new. refl; refused = refl; sends = refl; accepts = refl }
+fails-so store (drops {role = r} {waits = w} other) front call rest same =
+    at-only (FailsSo store r w Drop) DropAll front call rest same record { makes = drops other; answer = Refused Disk; answers = λ old new. refl; refused = refl; sends = refl; accepts = refl }
+fails-so store (finishes {role = r} {file = f}) front call rest same =
+    at-only (FailsSo store r (Some f) (Forwarded true)) (Apply f) front call rest same
     record { makes = finishes; answer = Refused Disk; answers = λ old new none. absurd (some_none (FailedIn (Apply f)) none); refused = refl; sends = refl; accepts = refl }
-fails-so (prunes {role = r} {waits = w} {keep = n}) front call rest same =
-    at-only (FailsSo r w (Prune n)) (PruneTo n) front call rest same record { makes = prunes; answer = Refused Disk; answers = λ old new. tt; refused = refl; sends = refl; accepts = refl }
+fails-so store (prunes {role = r} {waits = w} {keep = n}) front call rest same =
+    at-only (FailsSo store r w (Prune n)) (PruneTo n) front call rest same record { makes = prunes; answer = Refused Disk; answers = λ old new. tt; refused = refl; sends = refl; accepts = refl }
 
 -- a step that fails in one of its calls, after those in front of it
 module _ (w : World) (k : ℕ) (ask : Ask) {answer : Answer} {new : NodeState} (facts : StepFacts (w.nodes k) ask answer new) (whole : (w.nodes k).failed ≡ None)
@@ -132,8 +136,8 @@ module _ (w : World) (k : ℕ) (ask : Ask) {answer : Answer} {new : NodeState} (
   abbrev pub failing_nodes : ℕ → NodeState
   failing_nodes = put k failing_node w.nodes
 
-  so : FailsSo facts.role (w.nodes k).waits ask front call
-  so = fails-so facts.makes front call rest split
+  so : FailsSo (w.nodes k).store facts.role (w.nodes k).waits ask front call
+  so = fails-so (w.nodes k).store facts.makes front call rest split
 
   pub failing-answer : Answer
   failing-answer = so.answer
@@ -220,15 +224,15 @@ holder-front w k (PruneTo keep ∷ calls) rest leads = holder-front w k calls re
 holder-front w k (DropAll ∷ calls) rest leads = holder-front w k calls rest leads
 
 -- a tree that goes along with the calls of an ask
-grows-if : (tree : List Lineage) (store : StoreState) (file : Ltx) (b : Bool) → GrowsBy tree store (cond b (Install file) (Apply file)) tree
-grows-if tree store file true = refl
-grows-if tree store file false = refl
+grows-if : (tree : List Lineage) (store : StoreState) (first next : Ltx) (b : Bool) → GrowsBy tree store (cond b (Install first) (Apply next)) tree
+grows-if tree store first next true = refl
+grows-if tree store first next false = refl
 
 grown-by : (tree : List Lineage) (store : StoreState) (file : Ltx) → Names tree (at store) store.image → (grown : List Lineage) × Grown tree store file grown
 grown-by tree store file named =
     (tree ++ (named.lineage ++ file.change ∷ []) ∷ [], record { lineage = named.lineage; stands = named.stands; position_is = named.position_is; is = refl })
 
-pub grows-with : (tree : List Lineage) (store : StoreState) → Names tree (at store) store.image → {role : Role} {waits : Option Ltx} {ask : Ask} {calls : List StoreCall} → Makes role waits ask calls →
+pub grows-with : (tree : List Lineage) (store : StoreState) → Names tree (at store) store.image → {role : Role} {waits : Option Ltx} {ask : Ask} {calls : List StoreCall} → MayMake store role waits ask calls →
     (grown : List Lineage) × GrowsAlong tree store calls grown
 grows-with tree store named nothing = (tree, refl)
 grows-with tree store named (commits {file = f}) = let g = grown-by tree store f named in (g.0, (g.0, g.1, refl))
@@ -236,7 +240,7 @@ grows-with tree store named (commits_and_prunes {file = f}) = let g = grown-by t
 grows-with tree store named unlinks = (tree, (tree, refl, refl))
 grows-with tree store named (imports {file = f}) = let g = grown-by tree store f named in (g.0, (g.0, g.1, refl))
 grows-with tree store named (accepts {file = f}) = let g = grown-by tree store f named in (g.0, (g.0, g.1, refl))
-grows-with tree store named (takes {file = f} other) = (tree, (tree, grows-if tree store f (eqb f.header.min 1), refl))
+grows-with tree store named (takes {file = f} other) = (tree, (tree, grows-if tree store _ _ (eqb f.header.min 1), refl))
 grows-with tree store named (drops other) = (tree, (tree, refl, refl))
 grows-with tree store named finishes = (tree, (tree, refl, refl))
 grows-with tree store named prunes = (tree, (tree, refl, refl))
