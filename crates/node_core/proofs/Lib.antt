@@ -11,3 +11,8 @@ pub mod Histories
 pub mod Leaving
 pub mod Answering
 pub mod Committed
+pub mod Ledgers
+pub mod Clusters
+pub mod ClusterMoves
+pub mod Deliveries
+pub mod ClusterNodes

@@ -11,3 +11,5 @@ pub mod Serving
 pub mod Steps
 pub mod Opening
 pub mod Runs
+pub mod Cluster
+pub mod ClusterLaws

@@ -6,6 +6,7 @@
 
 mod answer;
 mod ask;
+mod cluster_laws;
 mod config;
 mod errno;
 mod laws;
@@ -18,6 +19,9 @@ mod unlinking;
 
 pub use answer::Answer;
 pub use ask::Ask;
+pub use cluster_laws::{
+    cluster_answers_install, cluster_is_safe, cluster_opens, cluster_reader_steady,
+};
 pub use config::NodeConfig;
 pub use laws::{crashes_are_opened, runs_are_steps};
 pub use node::Node;

@@ -1,0 +1,86 @@
+-- The nodes of this crate, as those of a cluster.
+use Rattle.std.proofs.Common.{◌≡◌, ◌∙◌, ℕ, Bool, IsTrue, ap}
+use Rattle.lf_disk.specs.declared.disk.Disk.{Ghosts}
+use Rattle.txn_log.specs.Calls.{RestsAs}
+use Rattle.txn_log.specs.Store.{failed_of}
+use Rattle.world_laws.specs.CatchUpLaw.{AnswersByWhole, DropInstalls, SentFileApplies, SnapshotInstalls}
+use Rattle.world_laws.specs.Node.{IsSoundNode, NodeState}
+use Rattle.world_laws.specs.ReaderLaw.{ReaderSteady}
+use Rattle.world_laws.specs.SafetyLaw.{SafeKept}
+use Rattle.world_laws.specs.Served.{untouched}
+use Rattle.world_laws.specs.StopLaw.{EachIsFound, StopsAreCuts}
+use Rattle.world_laws.specs.Store.{MayBeFound, StoreState}
+use Rattle.node_core.specs.declared.answer.Answer.{Answer}
+use Rattle.node_core.specs.declared.ask.Ask.{Ask}
+use Rattle.node_core.specs.declared.node.Node.{Node}
+use Rattle.node_core.specs.Cluster.{Program}
+use Rattle.node_core.specs.ClusterLaws.{BegunIsStart, ClusterIsKept, MovesAreEvents, DeliveredDropInstalls, DeliveredFileApplies, DeliveredSnapshotInstalls, ReaderIsSteady, RecoveredIsOpened, RestartsAreMoves, StepAnswersByWhole, StepsAreMoves, StopsAreMoves, program}
+use Rattle.node_core.specs.Nodes.{history, parts_of}
+use Rattle.node_core.specs.Steps.{IsStep}
+use Rattle.node_core.specs.Stores.{fields_of, state}
+use Rattle.node_core.proofs.Clusters.{cluster-is-kept, moves-are-events}
+use Rattle.node_core.proofs.ClusterMoves.{begun-is-start, restarts-are-moves, steps-are-moves, stops-are-moves}
+use Rattle.node_core.proofs.Deliveries.{drop-installs, file-applies, reader-is-steady, snapshot-installs, step-answers-by-whole}
+use Rattle.node_core.proofs.Sound.{sound}
+
+module _ {D : Type 0} {G : Ghosts D} where
+  abbrev step : Node D G → ℕ → Ask → Answer → Node D G → Type 0
+  step old caller ask answer new = IsStep (history old) (parts_of old) caller ask answer (history new) (parts_of new)
+
+  abbrev nodes : Program (Node D G)
+  nodes = program step (λ old new caller ask answer taken. taken.safe)
+
+  stays : (old new : Node D G) (caller : ℕ) (ask : Ask) (answer : Answer) → nodes.steps old caller ask answer new → nodes.honest new ≡ nodes.honest old
+  stays old new caller ask answer taken = taken.honest
+
+  -- between two steps a crash leaves what a restart may find
+  rests-as : (n : Node D G) → IsTrue (nodes.honest n) → RestsAs (MayBeFound (nodes.seen n).store (nodes.seen n).failed) (nodes.history n)
+  rests-as n disk = n.store.left disk
+
+  -- and each node is sound
+  is-sound : (n : Node D G) → IsTrue (nodes.honest n) → IsSoundNode (nodes.seen n)
+  is-sound n disk = sound (history n) (parts_of n) (n.image disk) n.locked.together n.replica
+
+  -- it is the store's, whole, with nothing that waits and nobody at its files
+  pub opens : RecoveredIsOpened nodes
+  opens n config folder seen_so unbroken same left stands =
+      let here : state (history n) (fields_of n.store) ≡ left = same left stands in
+      record {
+        store = ap (λ (s : NodeState). s.store) seen_so ∙ here;
+        whole = ap (λ (s : NodeState). s.failed) seen_so ∙ ap (λ (b : Bool). failed_of (history n) b n.store.attempt n.store.tried) unbroken;
+        waits = ap (λ (s : NodeState). s.waits) seen_so;
+        served = ap (λ (s : NodeState). s.served) seen_so ∙ ap (λ (s : StoreState). untouched s.image) here;
+      }
+
+  pub begins : BegunIsStart nodes
+  begins = begun-is-start nodes
+
+  pub events : MovesAreEvents nodes
+  events = moves-are-events nodes
+
+  pub kept : SafeKept → ClusterIsKept nodes
+  kept law = cluster-is-kept nodes law
+
+  pub steps : StepsAreMoves nodes
+  steps = steps-are-moves nodes stays
+
+  pub stops : EachIsFound → StopsAreCuts → StopsAreMoves nodes
+  stops each cuts = stops-are-moves nodes each cuts
+
+  pub restarts : EachIsFound → RestartsAreMoves nodes
+  restarts each = restarts-are-moves nodes each rests-as
+
+  pub steady : ReaderSteady → ReaderIsSteady nodes
+  steady law = reader-is-steady nodes stays is-sound law
+
+  pub by-whole : AnswersByWhole → StepAnswersByWhole nodes
+  by-whole law = step-answers-by-whole nodes law
+
+  pub snapshot : SnapshotInstalls → DeliveredSnapshotInstalls nodes
+  snapshot law = snapshot-installs nodes law
+
+  pub dropped : DropInstalls → DeliveredDropInstalls nodes
+  dropped law = drop-installs nodes law
+
+  pub file : SentFileApplies → DeliveredFileApplies nodes
+  file law = file-applies nodes law

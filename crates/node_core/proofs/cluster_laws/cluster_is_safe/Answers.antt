@@ -1,0 +1,17 @@
+use Rattle.node_core.proofs.ClusterNodes.{events, kept, restarts, steps, stops}
+use Rattle.node_core.proofs.cluster_laws.cluster_is_safe.Goals as goal
+
+pub returns-clause-events : goal.returns-clause-events
+returns-clause-events g c = events
+
+pub returns-clause-kept : goal.returns-clause-kept
+returns-clause-kept g c = kept c.safe_kept.ensures
+
+pub returns-clause-steps : goal.returns-clause-steps
+returns-clause-steps g c = steps
+
+pub returns-clause-stops : goal.returns-clause-stops
+returns-clause-stops g c = stops c.stops_are_failures.ensures.restart c.stops_are_failures.ensures.store
+
+pub returns-clause-restarts : goal.returns-clause-restarts
+returns-clause-restarts g c = restarts c.stops_are_failures.ensures.restart

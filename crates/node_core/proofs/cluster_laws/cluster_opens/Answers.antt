@@ -1,0 +1,8 @@
+use Rattle.node_core.proofs.ClusterNodes.{begins, opens}
+use Rattle.node_core.proofs.cluster_laws.cluster_opens.Goals as goal
+
+pub returns-clause-node : goal.returns-clause-node
+returns-clause-node g c = opens
+
+pub returns-clause-start : goal.returns-clause-start
+returns-clause-start g c = begins

@@ -1,0 +1,146 @@
+-- THE LAWS OF A CLUSTER of nodes that run this program.
+--
+-- Their premises are those of world_laws, by name: `CommitsAsHolder` and `WasSent` in what goes along with a step,
+-- `OneImagePerPosition` here, and of the third that a disk is honest; what a restart may find is proved.
+use Rattle.std.specs.Prelude.{◌≡◌, ◌≢◌, ◌⊎◌, ℕ, false, IsTrue, List, [], ◌∷◌, None}
+use Rattle.byte_locks.specs.declared.owner.Owner.{Owner}
+use Rattle.lf_base.specs.declared.pos.Pos.{Pos}
+use Rattle.lf_disk.specs.declared.disk.Disk.{Ghosts}
+use Rattle.lf_disk.specs.Folder.{Folder}
+use Rattle.lf_disk.specs.History.{may_leave}
+use Rattle.lf_sqlite_pages.specs.Image.{IsImage, SameImage}
+use Rattle.ltx_codec.specs.declared.file.Ltx.{Ltx}
+use Rattle.ltx_codec.specs.Positions.{after, before, nowhere}
+use Rattle.txn_log.specs.Durable.{Durable}
+use Rattle.world_laws.specs.Answers.{Knows, snapshot_of}
+use Rattle.world_laws.specs.CatchUpLaw.{IsFreeRefusal, IsHeldBack, IsWhole}
+use Rattle.world_laws.specs.Events.{Event, IsStart, Runs}
+use Rattle.world_laws.specs.Node as laws
+use Rattle.world_laws.specs.Premises.{CommitsAsHolder, OneImagePerPosition, WasSent}
+use Rattle.world_laws.specs.ReaderLaw.{IsRead}
+use Rattle.world_laws.specs.Safe.{IsSafe}
+use Rattle.world_laws.specs.SafetyLaw.{IsKept}
+use Rattle.world_laws.specs.Served.{over}
+use Rattle.world_laws.specs.Step.{Steady}
+use Rattle.world_laws.specs.Store.{StoreState, at}
+use Rattle.node_core.specs.declared.answer.Answer.{Answer}
+use Rattle.node_core.specs.declared.ask.Ask.{Ask}
+use Rattle.node_core.specs.Cluster.{Cluster, IsLeftBetween, IsOpenedOn, Moves, Program, Restarts, Stops, TakesStep, calls_of, world}
+use Rattle.node_core.specs.declared.config.NodeConfig.{NodeConfig}
+use Rattle.node_core.specs.declared.node.Node.{Node}
+use Rattle.node_core.specs.Nodes.{history, parts_of, seen}
+use Rattle.node_core.specs.Opening.{seen_opened}
+use Rattle.node_core.specs.Safely.{StepsSafely, law_answer, law_ask}
+use Rattle.node_core.specs.Stores.{fields_of, state}
+
+module _ {M : Type 0} (p : Program M) where
+  -- a list of moves is a list of events of the laws
+  abbrev pub MovesAreEvents : Type 0
+  MovesAreEvents = (c d : Cluster p) → Moves p c d → (events : List Event) × Runs (world p c) events (world p d)
+
+  -- after every list of moves from nodes with empty disks, the invariant holds: each node's committed pages are those of every
+  -- lineage that its position names
+  abbrev pub ClusterIsKept : Type 0
+  ClusterIsKept = (c d : Cluster p) → IsStart (world p c) → Moves p c d → OneImagePerPosition d.tree →
+      IsKept (world p d)
+
+  -- every step of a node is a move, where what is delivered was sent and what is committed is the holder's
+  abbrev pub StepsAreMoves : Type 0
+  StepsAreMoves = (c : Cluster p) (k caller : ℕ) (ask : Ask) (answer : Answer) (new : M) → IsSafe (world p c) → (step : p.steps (c.nodes k) caller ask answer new) →
+      WasSent (world p c) (p.seen (c.nodes k)).waits (law_ask ask) → CommitsAsHolder (world p c) k (calls_of (p.tells step (c.disks k)).facts) →
+      (d : Cluster p) × (d.nodes k ≡ new) × TakesStep p c k caller ask answer d
+
+  -- wherever a node may take a step, a stop at any of its moments is a move, whatever folder the crash leaves and whatever node is
+  -- opened on it
+  abbrev pub StopsAreMoves : Type 0
+  StopsAreMoves = (c e : Cluster p) (k caller : ℕ) (ask : Ask) (answer : Answer) → IsSafe (world p c) → OneImagePerPosition e.tree →
+      TakesStep p c k caller ask answer e →
+      (folder : Folder) → IsLeftBetween p (c.nodes k) (e.nodes k) folder → (new : M) → IsTrue (p.honest new) → IsOpenedOn folder (p.seen new) →
+      ∥ ((d : Cluster p) × (d.nodes k ≡ new) × Stops p c k d) ∥₁
+
+  -- and so is a stop between two steps
+  abbrev pub RestartsAreMoves : Type 0
+  RestartsAreMoves = (c : Cluster p) (k : ℕ) → IsSafe (world p c) → (folder : Folder) → may_leave (p.history (c.nodes k)) folder →
+      (new : M) → IsTrue (p.honest new) → IsOpenedOn folder (p.seen new) → ∥ ((d : Cluster p) × (d.nodes k ≡ new) × Restarts p c k d) ∥₁
+
+  -- steps of a node, before and after each of which it is a plain replica and the owner is inside
+  pub data ReadsOn (owner : Owner) : M → M → Type 0 where
+    rests : {n : M} → IsRead (p.seen n) owner → ReadsOn owner n n
+    goes_on : {n m u : M} {caller : ℕ} {ask : Ask} {answer : Answer} → IsRead (p.seen n) owner → p.steps n caller ask answer m → ReadsOn owner m u → ReadsOn owner n u
+
+  -- meanwhile position, image, database file and committed frames stay, and file and frames together are the committed image
+  abbrev pub ReaderIsSteady : Type 0
+  ReaderIsSteady = (owner : Owner) (old new : M) → IsTrue (p.honest old) → ReadsOn owner old new →
+      Steady (p.seen old) (p.seen new) × SameImage (over (p.seen new).served.file (p.seen new).served.frames) (p.seen new).store.image
+
+  -- a primary answers a position that its log lacks by one snapshot, or by word of the drop
+  abbrev pub StepAnswersByWhole : Type 0
+  StepAnswersByWhole = (old new : M) (caller : ℕ) (ask : Ask) (answer : Answer) (position : Pos) → law_ask ask ≡ laws.Hello position →
+      (disk : IsTrue (p.honest old)) → (step : p.steps old caller ask answer new) → (p.tells step disk).facts.role ≡ laws.Primary → (Knows (p.seen old).store position → ⊥) →
+      IsWhole (p.seen old).store (law_answer answer) ⊎ IsFreeRefusal (p.seen old) (p.seen new) (law_answer answer)
+
+  -- a delivery of this frame to a node of the cluster that isn't primary
+  pub record Delivers (c : Cluster p) (k : ℕ) (frame : laws.Ask) (answer : Answer) (d : Cluster p) : Type 0 where
+    pub safe : IsSafe (world p c)
+    pub caller : ℕ
+    pub ask : Ask
+    pub asks : law_ask ask ≡ frame
+    pub takes : TakesStep p c k caller ask answer d
+    pub role : (p.tells takes.step (c.disks k)).facts.role ≢ laws.Primary
+
+  -- it is held back by a lock that somebody holds, or refused for the disk, a broken store or want of memory
+  abbrev pub IsWaiting : M → M → Answer → Type 0
+  IsWaiting old new answer = IsHeldBack (p.seen old) (p.seen new) (law_answer answer) ⊎ IsFreeRefusal (p.seen old) (p.seen new) (law_answer answer)
+
+  -- else a snapshot that was sent is installed at its position with its pages
+  abbrev pub DeliveredSnapshotInstalls : Type 0
+  DeliveredSnapshotInstalls = (c d : Cluster p) (k : ℕ) (from : StoreState) (answer : Answer) → IsImage from.image → Delivers c k (laws.Frame (snapshot_of from)) answer d →
+      IsWaiting (c.nodes k) (d.nodes k) answer
+      ⊎ ((law_answer answer ≡ laws.Applied (at from)) × (at (p.seen (d.nodes k)).store ≡ at from) × SameImage (p.seen (d.nodes k)).store.image from.image)
+
+  -- a drop leaves nothing
+  abbrev pub DeliveredDropInstalls : Type 0
+  DeliveredDropInstalls = (c d : Cluster p) (k : ℕ) (answer : Answer) → Delivers c k laws.Drop answer d →
+      IsWaiting (c.nodes k) (d.nodes k) answer
+      ⊎ ((law_answer answer ≡ laws.Applied nowhere) × (at (p.seen (d.nodes k)).store ≡ nowhere) × ((p.seen (d.nodes k)).store.image.pages ≡ []))
+
+  -- and a file that joins is applied
+  abbrev pub DeliveredFileApplies : Type 0
+  DeliveredFileApplies = (c d : Cluster p) (k : ℕ) (file : Ltx) (answer : Answer) → OneImagePerPosition c.tree → before file ≡ at (p.seen (c.nodes k)).store →
+      Delivers c k (laws.Frame file) answer d →
+      IsWaiting (c.nodes k) (d.nodes k) answer ⊎ ((law_answer answer ≡ laws.Applied (after file)) × (at (p.seen (d.nodes k)).store ≡ after file))
+
+-- a folder without files
+abbrev pub no_files : Folder
+no_files name = None
+
+-- the nodes of this crate, by the relation of their steps and what each step tells
+module _ {D : Type 0} {G : Ghosts D} where
+  abbrev pub program : (steps : Node D G → ℕ → Ask → Answer → Node D G → Type 0) →
+      ((old new : Node D G) (caller : ℕ) (ask : Ask) (answer : Answer) → steps old caller ask answer new → IsTrue (G.honest old.store.disk) →
+      StepsSafely (seen (history old) (parts_of old)) (law_ask ask) (law_answer answer) (seen (history new) (parts_of new)) (history old) (history new)) → Program (Node D G)
+  program steps told = record {
+    steps = steps;
+    honest = λ n. G.honest n.store.disk;
+    seen = λ n. seen (history n) (parts_of n);
+    history = λ n. history n;
+    tells = λ {old} {new} {caller} {ask} {answer} step disk. told old new caller ask answer step disk;
+  }
+
+  -- a node that was opened (`Node::open`, seen) over a store that was recovered (node_recovery's `recover`, store and open_) was
+  -- opened on the folder
+  abbrev pub RecoveredIsOpened : Program (Node D G) → Type 0
+  RecoveredIsOpened p = (n : Node D G) (config : NodeConfig) (folder : Folder) → p.seen n ≡ seen_opened (history n) (fields_of n.store) config → n.store.broken ≡ false →
+      ((left : StoreState) → Durable folder left → state (history n) (fields_of n.store) ≡ left) → IsOpenedOn folder (p.seen n)
+
+-- nodes that were each opened on a folder without files, and a ledger of nothing
+pub record IsBegun {M : Type 0} {p : Program M} (c : Cluster p) : Type 0 where
+  pub nodes : (k : ℕ) → IsOpenedOn no_files (p.seen (c.nodes k))
+  pub tree : c.tree ≡ [] ∷ []
+  pub frames : (c.sent ≡ []) × (c.accepted ≡ [])
+  pub lease : (c.granted ≡ []) × (c.holder ≡ None)
+  pub acts : c.acts ≡ []
+
+-- from which the laws start
+abbrev pub BegunIsStart : {M : Type 0} → Program M → Type 0
+BegunIsStart p = (c : Cluster p) → IsBegun c → IsStart (world p c)

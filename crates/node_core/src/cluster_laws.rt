@@ -1,0 +1,48 @@
+//! Laws of clusters of these nodes, each the contract of a function that calls other laws at most.
+ghost use Rattle.node_core.specs.ClusterLaws.{BegunIsStart, ClusterIsKept, DeliveredDropInstalls, DeliveredFileApplies, DeliveredSnapshotInstalls, MovesAreEvents, ReaderIsSteady, RecoveredIsOpened, RestartsAreMoves, StepAnswersByWhole, StepsAreMoves, StopsAreMoves, program};
+
+use crate::node::Node;
+use lf_disk::Disk;
+use turn_desk::Machine;
+use world_laws::{answer_installs, reader_steady, safe_kept, stops_are_failures};
+
+/// After every list of steps, deliveries, losses, lease changes, stops and restarts of nodes over any
+/// honest disks, each node's committed pages are those of the lineage that its position names. A stop
+/// at any moment of a step is among them, whatever the crash leaves, and so is one between two steps.
+pub fn cluster_is_safe<D: Disk>()
+    ensures events { MovesAreEvents (program ⟦<Node<D> as Machine>⟧.steps (λ old new caller ask answer step. step.safe)) }
+    ensures kept { ClusterIsKept (program ⟦<Node<D> as Machine>⟧.steps (λ old new caller ask answer step. step.safe)) }
+    ensures steps { StepsAreMoves (program ⟦<Node<D> as Machine>⟧.steps (λ old new caller ask answer step. step.safe)) }
+    ensures stops { StopsAreMoves (program ⟦<Node<D> as Machine>⟧.steps (λ old new caller ask answer step. step.safe)) }
+    ensures restarts { RestartsAreMoves (program ⟦<Node<D> as Machine>⟧.steps (λ old new caller ask answer step. step.safe)) }
+{
+    safe_kept();
+    stops_are_failures();
+}
+
+/// A node that was opened over a store that was recovered from a folder is one that was opened on this
+/// folder; and nodes that were opened on folders without files are a start.
+pub fn cluster_opens<D: Disk>()
+    ensures node { RecoveredIsOpened (program ⟦<Node<D> as Machine>⟧.steps (λ old new caller ask answer step. step.safe)) }
+    ensures start { BegunIsStart (program ⟦<Node<D> as Machine>⟧.steps (λ old new caller ask answer step. step.safe)) }
+{}
+
+/// While an owner is inside at a node that is a plain replica before and after each of its steps,
+/// position, image, database file and committed frames stay.
+pub fn cluster_reader_steady<D: Disk>()
+    ensures { ReaderIsSteady (program ⟦<Node<D> as Machine>⟧.steps (λ old new caller ask answer step. step.safe)) }
+{
+    reader_steady();
+}
+
+/// A primary answers a position that its log lacks by one snapshot, or by word of the drop. What was sent
+/// and is delivered waits for a lock or is refused for a fault of the disk, a broken store or want of
+/// memory; else it is installed or applied.
+pub fn cluster_answers_install<D: Disk>()
+    ensures answer { StepAnswersByWhole (program ⟦<Node<D> as Machine>⟧.steps (λ old new caller ask answer step. step.safe)) }
+    ensures snapshot { DeliveredSnapshotInstalls (program ⟦<Node<D> as Machine>⟧.steps (λ old new caller ask answer step. step.safe)) }
+    ensures dropped { DeliveredDropInstalls (program ⟦<Node<D> as Machine>⟧.steps (λ old new caller ask answer step. step.safe)) }
+    ensures file { DeliveredFileApplies (program ⟦<Node<D> as Machine>⟧.steps (λ old new caller ask answer step. step.safe)) }
+{
+    answer_installs();
+}
