@@ -61,7 +61,7 @@ module _ (h : History) (size commit : ℕ) (entries : List Entry) (dropped : Boo
       none_some x same = cc
 
   -- the sum of the pages after it is that of the table
-  sum_is : image_sum (apply image (completed change commit)) ≡ flagged (joined (sums_after sums (completed change commit)))
+  pub sum_is : image_sum (apply image (completed change commit)) ≡ flagged (joined (sums_after sums (completed change commit)))
   sum_is = image_sum-apply image (completed change commit) complete ∙ sym (ap (λ (s : List ℕ). flagged (joined (sums_after s (completed change commit)))) kept.table)
 
   -- the draft of the change

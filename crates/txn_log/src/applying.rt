@@ -1,6 +1,7 @@
 //! Another's file is applied.
-ghost use Rattle.std.specs.Prelude.{◌≡◌, IsTrue, IfOk};
+ghost use Rattle.std.specs.Prelude.{◌≡◌, IsTrue, IfOk, OnOk, OnErr};
 ghost use Rattle.ltx_codec.specs.Format.{IsFile};
+ghost use Rattle.ltx_codec.specs.Positions.{after};
 ghost use Rattle.world_laws.specs.Store.{Apply};
 ghost use Rattle.txn_log.specs.Apply.{whole_file, Judges, Completes, Applies};
 ghost use Rattle.txn_log.specs.Calls.{Went};
@@ -77,6 +78,10 @@ impl<D: Disk> Store<D> {
         ensures applies { Applies self.old.broken (end_of_entries self.old.entries.items) self.old.page_size self.old.commit
             self.old.sums.sums file.now result }
         ensures cause { Breaks self.old.broken (D.faults self.old.disk) result self.new.broken (D.faults self.new.disk) }
+        ensures shape { OnOk result ((self.new.page_size ≡ file.now.header.page_size) × (self.new.commit ≡ file.now.header.commit)) }
+        ensures position { OnOk result (end_of_entries self.new.entries.items ≡ after file.now) }
+        ensures same { OnErr result ((self.new.page_size ≡ self.old.page_size) × (self.new.commit ≡ self.old.commit)
+            × (self.new.entries.items ≡ self.old.entries.items)) }
 
         // What a crash leaves at each moment.
         ensures went { IsTrue (D.honest self.old.disk) → Went

@@ -1,11 +1,11 @@
 //! A snapshot is published in place of a store's image and log.
-ghost use Rattle.std.specs.Prelude.{◌≡◌, false, IsTrue, IfOk, IfErr};
+ghost use Rattle.std.specs.Prelude.{◌≡◌, false, IsTrue, IfOk, IfErr, OnOk, OnErr};
 ghost use Rattle.ltx_codec.specs.Format.{IsFile};
 ghost use Rattle.ltx_codec.specs.Positions.{after};
 ghost use Rattle.world_laws.specs.Store.{Install};
 ghost use Rattle.txn_log.specs.Calls.{Went};
 ghost use Rattle.txn_log.specs.Causes.{Breaks, IsDiskOrMemory};
-ghost use Rattle.txn_log.specs.Store.{state_of, failed_of};
+ghost use Rattle.txn_log.specs.Store.{end_of_entries, state_of, failed_of};
 
 use crate::attempt::Attempt;
 use crate::encoding::text_of;
@@ -34,6 +34,10 @@ pub fn publish_anew<D: Disk>(store: &mut Store<D>, file: &Ltx) -> Result<Pos, St
         (D.history store.new.disk) }
     ensures told { IfOk result (λ position. position ≡ after file.now) }
     ensures refusal { IfErr result IsDiskOrMemory }
+    ensures shape { OnOk result ((store.new.page_size ≡ file.now.header.page_size) × (store.new.commit ≡ file.now.header.commit)) }
+    ensures position { OnOk result (end_of_entries store.new.entries.items ≡ after file.now) }
+    ensures same { OnErr result ((store.new.page_size ≡ store.old.page_size) × (store.new.commit ≡ store.old.commit)
+        × (store.new.entries.items ≡ store.old.entries.items)) }
     ensures cause { Breaks store.old.broken (D.faults store.old.disk) result store.new.broken (D.faults store.new.disk) }
     ensures honest { D.honest store.new.disk ≡ D.honest store.old.disk }
 {

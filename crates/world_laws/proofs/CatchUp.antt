@@ -7,7 +7,7 @@ use Rattle.lf_sqlite_pages.specs.Image.{DatabaseImage, IsImage, SameImage}
 use Rattle.ltx_codec.specs.declared.file.Ltx.{Ltx}
 use Rattle.ltx_codec.specs.Positions.{Joins, after, before, nowhere}
 use Rattle.ltx_codec.specs.Sums.{image_sum}
-use Rattle.world_laws.specs.Answers.{AnswersDrop, AnswersFrame, AnswersHello, Knows, LeavesUndone, Owes, by_file, by_snapshot, call_of, snapshot_of}
+use Rattle.world_laws.specs.Answers.{AnswersDrop, AnswersFrame, AnswersHello, Knows, LeavesUndone, Owes, by_file, by_snapshot, call_of, completed_over, snapshot_of}
 use Rattle.world_laws.specs.CatchUpLaw.{AnswersByWhole, DropInstalls, IsFreeRefusal, IsHeldBack, IsWhole, SentFileApplies, SnapshotInstalls}
 use Rattle.world_laws.specs.Lineage.{Lineage, Suits, image_of, position_of}
 use Rattle.world_laws.specs.Node.{Answer, Applied, BadFile, Broken, Disk, Gone, Held, Item, Level, Limit, NoMemory, NodeState, NotNext, NotPrimary, NotReplica, PageSize, Primary, Refused, Role, SumDiffers}
@@ -45,9 +45,9 @@ pub answers_by_whole-of : AnswersByWhole
 answers_by_whole-of old new position answer facts primary lacks = answered old new facts.role position answer facts.answers primary lacks
 
 -- the call that a snapshot asks for, and what it makes
-pub snapshot-call : (from : StoreState) → call_of (snapshot_of from) ≡ Install (snapshot_of from)
+pub snapshot-call : (old from : StoreState) → call_of old (snapshot_of from) ≡ Install (snapshot_of from)
 unfolding snapshot_of
-snapshot-call from = refl
+snapshot-call old from = refl
 
 pub snapshot-end : (from : StoreState) → at (installed (snapshot_of from)) ≡ at from
 unfolding snapshot_of
@@ -74,7 +74,7 @@ frame-answered : (old new : NodeState) (role : Role) (from : StoreState) (did : 
     ⊎ IsFreeRefusal old new answer
 frame-answered old new role from did failed (Applied position) tree may valid not_primary store rose undone answers =
     let store_is : new.store ≡ installed (snapshot_of from) =
-    store ∙ ap (λ (ds : List StoreCall). all_done old.store ds) (answers.0 ∙ ap (λ (c : StoreCall). c ∷ []) (snapshot-call from))
+    store ∙ ap (λ (ds : List StoreCall). all_done old.store ds) (answers.0 ∙ ap (λ (c : StoreCall). c ∷ []) (snapshot-call old.store from))
     in
     let here : at new.store ≡ at from = ap (λ (s : StoreState). at s) store_is ∙ snapshot-end from in
     let image : SameImage new.store.image from.image = ap (λ (s : StoreState). s.image.pages) store_is ∙ snapshot-image from valid in
@@ -146,9 +146,9 @@ joins-of_tree w k file safe one may follows =
       sum = ap image_sum (sym (apply-same (image_of of.from) store.image file.change image)) ∙ of.sum;
     }
 
-called-end : (old : StoreState) (file : Ltx) (first : Bool) → at (done old (cond first (Install file) (Apply file))) ≡ after file
+called-end : (old : StoreState) (file : Ltx) (first : Bool) → at (done old (cond first (Install file) (Apply (completed_over old file)))) ≡ after file
 called-end old file true = end_of-one file
-called-end old file false = end_of-push old.log file
+called-end old file false = end_of-push old.log (completed_over old file)
 
 sent-answered : (old new : NodeState) (role : Role) (file : Ltx) (did : List StoreCall) (failed : Option Failure) (answer : Answer) → (tree : List Lineage) →
     IsSendable tree file → role ≢ Primary → Joins old.store.image (at old.store) file → new.store ≡ all_done old.store did → (IsSome failed → Rose old.faults new.faults) → LeavesUndone answer did →

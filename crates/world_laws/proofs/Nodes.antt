@@ -2,8 +2,14 @@
 use Rattle.std.proofs.Common.{◌≡◌, ◌≢◌, ℕ, Bool, true, false, cond, eqb, List, [], ◌∷◌, length, Option, Some, None, IsSome, inl, inr, refl, sym, ap, subst, ◌∙◌, ◌⊎◌, ◌≤◌}
 use Rattle.std.specs.List.{Contains}
 use Rattle.lf_base.specs.declared.pos.Pos.{Pos}
+use Rattle.lf_sqlite_pages.specs.Apply.{apply}
+use Rattle.lf_sqlite_pages.specs.Complete.{complete, completed}
+use Rattle.lf_sqlite_pages.specs.Image.{DatabaseImage, SameImage}
+use Rattle.lf_sqlite_pages.proofs.Completing.{apply-complete}
+use Rattle.ltx_codec.specs.Sums.{image_sum}
 use Rattle.ltx_codec.specs.declared.file.Ltx.{Ltx}
-use Rattle.world_laws.specs.Lineage.{IsOfTree, Lineage}
+use Rattle.world_laws.specs.Answers.{completed_over}
+use Rattle.world_laws.specs.Lineage.{IsOfTree, Lineage, Suits, image_of}
 use Rattle.world_laws.specs.Node.{Ask, IsSoundNode, NodeState, Role}
 use Rattle.world_laws.specs.Premises.{FindsACandidate, IsFoundDone, IsFoundPruned, IsFoundUndone, OneImagePerPosition, WasSent}
 use Rattle.world_laws.specs.Safe.{IsAllowed, IsAtTip, IsLed, IsPending, IsSafe, IsSafeNode, TakesOfTree}
@@ -12,6 +18,7 @@ use Rattle.world_laws.specs.Store.{Apply, CanDo, CanDoAll, Commit, DropAll, Fail
 use Rattle.world_laws.specs.Terms.{AreInLine, tip}
 use Rattle.world_laws.specs.World.{Act, World, acts_by, failing_by}
 use Rattle.world_laws.proofs.Calls.{AllTakeOfTree, Allowed-done, Allowed-more, Allowed-pruned, GrowsBy-extends, TakesOfTree-more}
+use Rattle.world_laws.proofs.Images.{suits-of}
 use Rattle.world_laws.proofs.Lineages.{Committed-of_tree, Extends}
 use Rattle.world_laws.proofs.Scenes.{node}
 use Rattle.world_laws.proofs.Stores.{end_of-pruned}
@@ -72,22 +79,45 @@ Node-moved tree more granted given acts now term when k node new tree_is granted
     (subst (λ (n : ℕ). IsSafeNode tree granted acts n k new) (sym term_is)
     (subst (λ (n : NodeState). IsSafeNode tree granted acts term k n) (sym node_is) safe))))
 
-takes_if : (tree : List Lineage) (file : Ltx) (b : Bool) → IsOfTree tree file → TakesOfTree tree (cond b (Install file) (Apply file))
-takes_if tree file true of = of
-takes_if tree file false of = of
+-- a file of the tree that is made complete over a store that it joins is of the tree too
+completed-of_tree : (tree : List Lineage) (store : StoreState) (file : Ltx) → OneImagePerPosition tree → IsAllowed tree store → IsOfTree tree file → CanDo store (Apply (completed_over store file)) →
+    IsOfTree tree (completed_over store file)
+completed-of_tree tree store file one allowed of can =
+    let image : SameImage (image_of of.from) store.image =
+    one of.from allowed.named.lineage of.from_stands allowed.named.stands (of.from_at ∙ can.1.next ∙ sym allowed.named.position_is) ∙ allowed.named.image_is
+    in
+    let same : apply (image_of of.from) (complete store.image file.change) ≡ apply (image_of of.from) file.change =
+    ap (λ (pages : List (List ℕ)). apply (image_of of.from) (completed file.change (length pages))) (sym image) ∙ apply-complete (image_of of.from) file.change in
+    record {
+      from = of.from;
+      to = of.to;
+      from_stands = of.from_stands;
+      to_stands = of.to_stands;
+      from_at = of.from_at;
+      to_at = of.to_at;
+      suits = subst (λ (pages : List (List ℕ)). Suits pages (complete store.image file.change)) (sym image) (suits-of store.image (complete store.image file.change) allowed.image can.1.fits);
+      leads = of.leads ∙ ap (λ (i : DatabaseImage). i.pages) (sym same);
+      sum = ap image_sum same ∙ of.sum;
+    }
+
+takes_if : (tree : List Lineage) (store : StoreState) (file : Ltx) (b : Bool) → OneImagePerPosition tree → IsAllowed tree store → IsOfTree tree file →
+    CanDo store (cond b (Install file) (Apply (completed_over store file))) → TakesOfTree tree (cond b (Install file) (Apply (completed_over store file)))
+takes_if tree store file true one allowed of can = of
+takes_if tree store file false one allowed of can = completed-of_tree tree store file one allowed of can
 
 -- the calls of an ask take files of the tree alone
-pub makes-take : (w : World) → IsSafe w → {role : Role} {waits : Option Ltx} {ask : Ask} {calls : List StoreCall} → Makes role waits ask calls → WasSent w waits ask → AllTakeOfTree w.tree calls
-makes-take w safe nothing comes = tt
-makes-take w safe commits comes = (tt, tt)
-makes-take w safe commits_and_prunes comes = (tt, (tt, tt))
-makes-take w safe unlinks comes = (tt, tt)
-makes-take w safe imports comes = (tt, tt)
-makes-take w safe accepts comes = (tt, tt)
-makes-take w safe (takes {file = f} not_primary) comes = (takes_if w.tree f (eqb f.header.min 1) (safe.sent f comes).of_tree, tt)
-makes-take w safe (drops not_primary) comes = (tt, tt)
-makes-take w safe (finishes {file = f}) comes = (Committed-of_tree w.tree f (safe.accepted f (comes f refl)), tt)
-makes-take w safe prunes comes = (tt, tt)
+pub makes-take : (w : World) → IsSafe w → OneImagePerPosition w.tree → {store : StoreState} {role : Role} {waits : Option Ltx} {ask : Ask} {calls : List StoreCall} → IsAllowed w.tree store →
+    Makes store role waits ask calls → WasSent w waits ask → CanDoAll store calls → AllTakeOfTree w.tree calls
+makes-take w safe one allowed nothing comes can = tt
+makes-take w safe one allowed commits comes can = (tt, tt)
+makes-take w safe one allowed commits_and_prunes comes can = (tt, (tt, tt))
+makes-take w safe one allowed unlinks comes can = (tt, tt)
+makes-take w safe one allowed imports comes can = (tt, tt)
+makes-take w safe one allowed accepts comes can = (tt, tt)
+makes-take w safe one {store = s} allowed (takes {file = f} not_primary) comes can = (takes_if w.tree s f (eqb f.header.min 1) one allowed (safe.sent f comes).of_tree can.0, tt)
+makes-take w safe one allowed (drops not_primary) comes can = (tt, tt)
+makes-take w safe one allowed (finishes {file = f}) comes can = (Committed-of_tree w.tree f (safe.accepted f (comes f refl)), tt)
+makes-take w safe one allowed prunes comes can = (tt, tt)
 
 pub some_none : (failure : Failure) → Some failure ≡ None → ⊥
 some_none failure same = cc

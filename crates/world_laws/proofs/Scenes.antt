@@ -56,7 +56,7 @@ none_before : (let nothing_there : Option Failure = None in nothing_there ≡ So
 none_before same = cc
 
 -- a step of a whole node that nobody uses
-pub made : (role was is : Role) (old new : StoreState) (waited waits : Option Ltx) (ask : Ask) (answer : Answer) (did : List StoreCall) → Makes role waited ask did → CanDoAll old did →
+pub made : (role was is : Role) (old new : StoreState) (waited waits : Option Ltx) (ask : Ask) (answer : Answer) (did : List StoreCall) → Makes old role waited ask did → CanDoAll old did →
     new ≡ all_done old did → Answers (node was old waited) role ask did None answer (node is new waits) → LeavesUndone answer did →
     Made (node was old waited) (node is new waits) ask answer did None
 made role was is old new waited waits ask answer did makes can store answers undone = record {
@@ -64,7 +64,7 @@ made role was is old new waited waits ask answer did makes can store answers und
     role = role;
     did = did;
     failed = None;
-    makes = subst (λ (calls : List StoreCall). Makes role waited ask calls) (sym (append-nil did)) makes;
+    makes = subst (λ (calls : List StoreCall). Makes old role waited ask calls) (sym (append-nil did)) makes;
     tries = λ same. absurd (none_before same);
     can = subst (λ (calls : List StoreCall). CanDoAll old calls) (sym (append-nil did)) can;
     whole = λ some. absurd (none_some some);

@@ -49,38 +49,38 @@ head_same a b more bs same = cc
 tail_same : (a b : StoreCall) (more bs : List StoreCall) → a ∷ more ≡ b ∷ bs → more ≡ bs
 tail_same a b more bs same = cc
 
-single : (role : Role) (waits : Option Ltx) (ask : Ask) (only : StoreCall) → Makes role waits ask (only ∷ []) → (did : List StoreCall) (call : StoreCall) (rest : List StoreCall) →
-    only ∷ [] ≡ did ++ call ∷ rest → Makes role waits ask (did ++ call ∷ [])
-single role waits ask only makes [] call rest same = subst (λ (c : StoreCall). Makes role waits ask (c ∷ [])) (head_same only call [] rest same) makes
-single role waits ask only makes (d ∷ ds) call rest same = absurd (no_end ds call rest (tail_same only d [] (ds ++ call ∷ rest) same))
+single : (store : StoreState) (role : Role) (waits : Option Ltx) (ask : Ask) (only : StoreCall) → Makes store role waits ask (only ∷ []) → (did : List StoreCall) (call : StoreCall) (rest : List StoreCall) →
+    only ∷ [] ≡ did ++ call ∷ rest → Makes store role waits ask (did ++ call ∷ [])
+single store role waits ask only makes [] call rest same = subst (λ (c : StoreCall). Makes store role waits ask (c ∷ [])) (head_same only call [] rest same) makes
+single store role waits ask only makes (d ∷ ds) call rest same = absurd (no_end ds call rest (tail_same only d [] (ds ++ call ∷ rest) same))
 
-double : (waits : Option Ltx) (file : Ltx) (keep : ℕ) (did : List StoreCall) (call : StoreCall) (rest : List StoreCall) → Commit file ∷ PruneTo keep ∷ [] ≡ did ++ call ∷ rest →
-    Makes Primary waits File (did ++ call ∷ [])
-double waits file keep [] call rest same =
-    subst (λ (c : StoreCall). Makes Primary waits File (c ∷ [])) (head_same (Commit file) call (PruneTo keep ∷ []) rest same) commits
-double waits file keep (d ∷ []) call rest same =
+double : (store : StoreState) (waits : Option Ltx) (file : Ltx) (keep : ℕ) (did : List StoreCall) (call : StoreCall) (rest : List StoreCall) → Commit file ∷ PruneTo keep ∷ [] ≡ did ++ call ∷ rest →
+    Makes store Primary waits File (did ++ call ∷ [])
+double store waits file keep [] call rest same =
+    subst (λ (c : StoreCall). Makes store Primary waits File (c ∷ [])) (head_same (Commit file) call (PruneTo keep ∷ []) rest same) commits
+double store waits file keep (d ∷ []) call rest same =
     let more : PruneTo keep ∷ [] ≡ call ∷ rest = tail_same (Commit file) d (PruneTo keep ∷ []) (call ∷ rest) same in
-    subst (λ (c : StoreCall). Makes Primary waits File (d ∷ c ∷ [])) (head_same (PruneTo keep) call [] rest more)
-    (subst (λ (c : StoreCall). Makes Primary waits File (c ∷ PruneTo keep ∷ [])) (head_same (Commit file) d (PruneTo keep ∷ []) (call ∷ rest) same) commits_and_prunes)
-double waits file keep (d ∷ e ∷ es) call rest same =
+    subst (λ (c : StoreCall). Makes store Primary waits File (d ∷ c ∷ [])) (head_same (PruneTo keep) call [] rest more)
+    (subst (λ (c : StoreCall). Makes store Primary waits File (c ∷ PruneTo keep ∷ [])) (head_same (Commit file) d (PruneTo keep ∷ []) (call ∷ rest) same) commits_and_prunes)
+double store waits file keep (d ∷ e ∷ es) call rest same =
     let more : PruneTo keep ∷ [] ≡ e ∷ (es ++ call ∷ rest) = tail_same (Commit file) d (PruneTo keep ∷ []) (e ∷ (es ++ call ∷ rest)) same in
     absurd (no_end es call rest (tail_same (PruneTo keep) e [] (es ++ call ∷ rest) more))
 
 -- an ask that may make calls may make those of a front
-makes-front : {role : Role} {waits : Option Ltx} {ask : Ask} {calls : List StoreCall} → Makes role waits ask calls → (did : List StoreCall) (call : StoreCall) (rest : List StoreCall) →
-    calls ≡ did ++ call ∷ rest → Makes role waits ask (did ++ call ∷ [])
+makes-front : {store : StoreState} {role : Role} {waits : Option Ltx} {ask : Ask} {calls : List StoreCall} → Makes store role waits ask calls → (did : List StoreCall) (call : StoreCall) (rest : List StoreCall) →
+    calls ≡ did ++ call ∷ rest → Makes store role waits ask (did ++ call ∷ [])
 makes-front nothing did call rest same = absurd (no_end did call rest same)
-makes-front (commits {waits = w} {file = f}) did call rest same = single Primary w File (Commit f) commits did call rest same
-makes-front (commits_and_prunes {waits = w} {file = f} {keep = k}) did call rest same = double w f k did call rest same
-makes-front (unlinks {waits = w}) did call rest same = single Primary w File DropAll unlinks did call rest same
-makes-front (imports {waits = w} {file = f}) did call rest same = single Primary w Import (Commit f) imports did call rest same
-makes-front (accepts {waits = w} {file = f}) did call rest same = single Primary w (Forward f) (Commit f) accepts did call rest same
-makes-front (takes {role = r} {waits = w} {file = f} other) did call rest same = single r w (Frame f) _ (takes other) did call rest same
-makes-front (drops {role = r} {waits = w} other) did call rest same = single r w Drop DropAll (drops other) did call rest same
-makes-front (finishes {role = r} {file = f}) did call rest same = single r (Some f) (Forwarded true) _ finishes did call rest same
-makes-front (prunes {role = r} {waits = w} {keep = k}) did call rest same = single r w (Prune k) (PruneTo k) prunes did call rest same
+makes-front (commits {waits = w} {file = f}) did call rest same = single _ Primary w File (Commit f) commits did call rest same
+makes-front (commits_and_prunes {waits = w} {file = f} {keep = k}) did call rest same = double _ w f k did call rest same
+makes-front (unlinks {waits = w}) did call rest same = single _ Primary w File DropAll unlinks did call rest same
+makes-front (imports {waits = w} {file = f}) did call rest same = single _ Primary w Import (Commit f) imports did call rest same
+makes-front (accepts {waits = w} {file = f}) did call rest same = single _ Primary w (Forward f) (Commit f) accepts did call rest same
+makes-front (takes {role = r} {waits = w} {file = f} other) did call rest same = single _ r w (Frame f) _ (takes other) did call rest same
+makes-front (drops {role = r} {waits = w} other) did call rest same = single _ r w Drop DropAll (drops other) did call rest same
+makes-front (finishes {role = r} {file = f}) did call rest same = single _ r (Some f) (Forwarded true) _ finishes did call rest same
+makes-front (prunes {role = r} {waits = w} {keep = k}) did call rest same = single _ r w (Prune k) (PruneTo k) prunes did call rest same
 
-failed-answers : {role : Role} {waits : Option Ltx} {ask : Ask} {calls : List StoreCall} → Makes role waits ask calls → (did : List StoreCall) (call : StoreCall) → calls ≡ did ++ call ∷ [] →
+failed-answers : {store : StoreState} {role : Role} {waits : Option Ltx} {ask : Ask} {calls : List StoreCall} → Makes store role waits ask calls → (did : List StoreCall) (call : StoreCall) → calls ≡ did ++ call ∷ [] →
     (old new : NodeState) → Answers old role ask did (Some (FailedIn call)) (Refused Disk) new
 failed-answers nothing did call same old new = absurd (no_end did call [] same)
 failed-answers commits did call same old new = tt
@@ -102,7 +102,7 @@ record CutAnswer (old new : NodeState) (role : Role) (ask : Ask) (did : List Sto
 too_long : (only d : StoreCall) (ds : List StoreCall) (call : StoreCall) → only ∷ [] ≡ (d ∷ ds) ++ call ∷ [] → ⊥
 too_long only d ds call same = no_end ds call [] (tail_same only d [] (ds ++ call ∷ []) same)
 
-cut-later : {role : Role} {waits : Option Ltx} {ask : Ask} {calls : List StoreCall} → Makes role waits ask calls → (d : StoreCall) (ds : List StoreCall) (call : StoreCall) → calls ≡ (d ∷ ds) ++ call ∷ [] →
+cut-later : {store : StoreState} {role : Role} {waits : Option Ltx} {ask : Ask} {calls : List StoreCall} → Makes store role waits ask calls → (d : StoreCall) (ds : List StoreCall) (call : StoreCall) → calls ≡ (d ∷ ds) ++ call ∷ [] →
     (old new : NodeState) → CutAnswer old new role ask (d ∷ ds) call
 cut-later nothing d ds call same old new = absurd (no_end (d ∷ ds) call [] same)
 cut-later (commits {file = f}) d ds call same old new = absurd (too_long (Commit f) d ds call same)
@@ -115,7 +115,7 @@ cut-later (drops other) d ds call same old new = absurd (too_long DropAll d ds c
 cut-later (finishes {file = f}) d ds call same old new = absurd (too_long _ d ds call same)
 cut-later (prunes {keep = k}) d ds call same old new = absurd (too_long (PruneTo k) d ds call same)
 
-cut-answer : {role : Role} {waits : Option Ltx} {ask : Ask} {calls : List StoreCall} → Makes role waits ask calls → (did : List StoreCall) (call : StoreCall) → calls ≡ did ++ call ∷ [] →
+cut-answer : {store : StoreState} {role : Role} {waits : Option Ltx} {ask : Ask} {calls : List StoreCall} → Makes store role waits ask calls → (did : List StoreCall) (call : StoreCall) → calls ≡ did ++ call ∷ [] →
     (old new : NodeState) → CutAnswer old new role ask did call
 cut-answer makes [] call same old new = record { answer = Refused Disk; answers = failed-answers makes [] call same old new; refused = refl }
 cut-answer makes (d ∷ ds) call same old new = cut-later makes d ds call same old new
@@ -141,7 +141,7 @@ pub record FailedStep (old : NodeState) (ask : Ask) (calls : List StoreCall) (le
   pub failed : mid.failed ≡ Some (FailedIn call)
   pub leaves : MayBeFound mid.store mid.failed left
 
-pub failed-step : (old : NodeState) (ask : Ask) (role : Role) (calls : List StoreCall) (left : StoreState) → old.failed ≡ None → Makes role old.waits ask calls → CanDoAll old.store calls →
+pub failed-step : (old : NodeState) (ask : Ask) (role : Role) (calls : List StoreCall) (left : StoreState) → old.failed ≡ None → Makes old.store role old.waits ask calls → CanDoAll old.store calls →
     IsCut old.store calls left → FailedStep old ask calls left
 failed-step old ask role calls left whole makes can cut =
     let mid : NodeState = record {
@@ -152,7 +152,7 @@ failed-step old ask role calls left whole makes can cut =
       waits = old.waits;
       served = untouched (all_done old.store cut.did).image;
     } in
-    let front : Makes role old.waits ask (cut.did ++ cut.call ∷ []) = makes-front makes cut.did cut.call cut.rest cut.split in
+    let front : Makes old.store role old.waits ask (cut.did ++ cut.call ∷ []) = makes-front makes cut.did cut.call cut.rest cut.split in
     let regroup : (cut.did ++ cut.call ∷ []) ++ cut.rest ≡ calls = append_assoc cut.did (cut.call ∷ []) cut.rest ∙ sym cut.split in
     let told = cut-answer front cut.did cut.call refl old mid in
     record {

@@ -35,9 +35,9 @@ installs : (file : Ltx) (old : StoreState) → IsFile file → file.header.min �
     Made (node Replica old None) (node Replica (installed file) None) (Frame file) (Applied position) (Install file ∷ []) None
 installs file old sound first position here =
     made Replica Replica Replica old (installed file) None None (Frame file) (Applied position) (Install file ∷ [])
-    (subst (λ (c : StoreCall). Makes Replica None (Frame file) (c ∷ [])) (call-first file first) (takes replica_primary))
+    (subst (λ (c : StoreCall). Makes old Replica None (Frame file) (c ∷ [])) (call-first old file first) (takes replica_primary))
     ((sound, first), tt) refl
-    (ap (λ (c : StoreCall). c ∷ []) (sym (call-first file first)), refl, sym here) tt
+    (ap (λ (c : StoreCall). c ∷ []) (sym (call-first old file first)), refl, sym here) tt
 
 sends-snapshot : (here there : Ltx) → IsFirst here → IsFirst there → after here ≢ after there →
     Made (node Primary (store_of here) None) (node Primary (store_of here) None) (Hello (after there)) (Item (snapshot_of (store_of here))) [] None

@@ -27,8 +27,8 @@ use Rattle.world_laws.proofs.Scenes.{empty-three, node, three}
 use Rattle.world_laws.proofs.SnapshotFile.{snapshot-sound}
 use Rattle.world_laws.proofs.Stores.{end_of-none, end_of-one}
 
-pub call-first : (file : Ltx) → file.header.min ≡ 1 → call_of file ≡ Install file
-call-first file first =
+pub call-first : (store : StoreState) (file : Ltx) → file.header.min ≡ 1 → call_of store file ≡ Install file
+call-first store file first =
     let test : eqb file.header.min 1 ≡ true = grind (arith, nat_tests) in
     rw test
 

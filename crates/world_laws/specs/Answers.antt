@@ -9,6 +9,7 @@ use Rattle.lf_base.specs.declared.pos.Pos.{Pos}
 use Rattle.lf_base.specs.Faults.{Rose}
 use Rattle.lf_sqlite_pages.specs.LockPage.{IsWithinLimit}
 use Rattle.lf_sqlite_pages.specs.Apply.{Fits}
+use Rattle.lf_sqlite_pages.specs.Complete.{complete}
 use Rattle.ltx_codec.specs.declared.file.Ltx.{Ltx}
 use Rattle.ltx_codec.specs.Format.{IsFile}
 use Rattle.ltx_codec.specs.Positions.{after, before, nowhere, sum_after}
@@ -65,9 +66,13 @@ AnswersHello old new role position (Refused Broken) = IsSome old.failed
 AnswersHello old new role position (Refused NoMemory) = Unit {0}
 AnswersHello old new role position other = ⊥
 
+-- a file made complete over a store: as zeros it then also holds each data page past the old size that it does not write
+abbrev pub completed_over : StoreState → Ltx → Ltx
+completed_over store file = record file { change = complete store.image file.change }
+
 -- the call that an LTX frame asks for
-abbrev pub call_of : Ltx → StoreCall
-call_of file = if file.header.min == 1 then Install file else Apply file
+abbrev pub call_of : StoreState → Ltx → StoreCall
+call_of store file = if file.header.min == 1 then Install file else Apply (completed_over store file)
 
 -- why an LTX frame is refused; of a snapshot it is of no account what the store holds
 abbrev pub RefusesFrame : NodeState → Role → Ltx → Option Failure → Refusal → Type 0
@@ -84,7 +89,7 @@ RefusesFrame old role file failed why = ⊥
 
 -- an LTX frame is applied or installed, held back by a lock that somebody holds, or refused
 abbrev pub AnswersFrame : NodeState → Role → Ltx → List StoreCall → Option Failure → Answer → NodeState → Type 0
-AnswersFrame old role file did failed (Applied position) new = (did ≡ call_of file ∷ []) × (failed ≡ None) × (position ≡ at new.store)
+AnswersFrame old role file did failed (Applied position) new = (did ≡ call_of old.store file ∷ []) × (failed ≡ None) × (position ≡ at new.store)
 AnswersFrame old role file did failed (Held lock) new = HoldsBack old.served old.store.image lock
 AnswersFrame old role file did failed (Refused why) new = RefusesFrame old role file failed why
 AnswersFrame old role file did failed other new = ⊥

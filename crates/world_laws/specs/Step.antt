@@ -9,24 +9,24 @@ use Rattle.ltx_codec.specs.declared.file.Ltx.{Ltx}
 use Rattle.world_laws.specs.Answers.{Answers, LeavesUndone, call_of}
 use Rattle.world_laws.specs.Node.{Answer, Ask, Drop, File, Forward, Forwarded, Frame, Import, IsPlain, IsSoundNode, NodeState, Primary, Prune, Role}
 use Rattle.world_laws.specs.Served.{HoldsBack}
-use Rattle.world_laws.specs.Store.{Apply, CanDoAll, Commit, DropAll, FailedBefore, Failure, PruneTo, StoreCall, all_done, at, begun_by, broken_by}
+use Rattle.world_laws.specs.Store.{Apply, CanDoAll, Commit, DropAll, FailedBefore, Failure, PruneTo, StoreCall, StoreState, all_done, at, begun_by, broken_by}
 
--- the calls that an ask may make, in this role, while this file waits
-pub data Makes : Role → Option Ltx → Ask → List StoreCall → Type 0 where
-  nothing : {role : Role} {waits : Option Ltx} {ask : Ask} → Makes role waits ask []
-  commits : {waits : Option Ltx} {file : Ltx} → Makes Primary waits File (Commit file ∷ [])
-  commits_and_prunes : {waits : Option Ltx} {file : Ltx} {keep : ℕ} → Makes Primary waits File (Commit file ∷ PruneTo keep ∷ [])
-  unlinks : {waits : Option Ltx} → Makes Primary waits File (DropAll ∷ [])
-  imports : {waits : Option Ltx} {file : Ltx} → Makes Primary waits Import (Commit file ∷ [])
-  accepts : {waits : Option Ltx} {file : Ltx} → Makes Primary waits (Forward file) (Commit file ∷ [])
-  takes : {role : Role} {waits : Option Ltx} {file : Ltx} → role ≢ Primary → Makes role waits (Frame file) (call_of file ∷ [])
-  drops : {role : Role} {waits : Option Ltx} → role ≢ Primary → Makes role waits Drop (DropAll ∷ [])
-  finishes : {role : Role} {file : Ltx} → Makes role (Some file) (Forwarded true) (Apply file ∷ [])
-  prunes : {role : Role} {waits : Option Ltx} {keep : ℕ} → Makes role waits (Prune keep) (PruneTo keep ∷ [])
+-- the calls that an ask may make on a store, in this role, while this file waits
+pub data Makes (store : StoreState) : Role → Option Ltx → Ask → List StoreCall → Type 0 where
+  nothing : {role : Role} {waits : Option Ltx} {ask : Ask} → Makes store role waits ask []
+  commits : {waits : Option Ltx} {file : Ltx} → Makes store Primary waits File (Commit file ∷ [])
+  commits_and_prunes : {waits : Option Ltx} {file : Ltx} {keep : ℕ} → Makes store Primary waits File (Commit file ∷ PruneTo keep ∷ [])
+  unlinks : {waits : Option Ltx} → Makes store Primary waits File (DropAll ∷ [])
+  imports : {waits : Option Ltx} {file : Ltx} → Makes store Primary waits Import (Commit file ∷ [])
+  accepts : {waits : Option Ltx} {file : Ltx} → Makes store Primary waits (Forward file) (Commit file ∷ [])
+  takes : {role : Role} {waits : Option Ltx} {file : Ltx} → role ≢ Primary → Makes store role waits (Frame file) (call_of store file ∷ [])
+  drops : {role : Role} {waits : Option Ltx} → role ≢ Primary → Makes store role waits Drop (DropAll ∷ [])
+  finishes : {role : Role} {file : Ltx} → Makes store role (Some file) (Forwarded true) (Apply file ∷ [])
+  prunes : {role : Role} {waits : Option Ltx} {keep : ℕ} → Makes store role waits (Prune keep) (PruneTo keep ∷ [])
 
 -- a call that failed before it published anything is one that the ask may make after these
-abbrev pub MayTryMore : Role → Option Ltx → Ask → List StoreCall → Type 0
-MayTryMore role waits ask did = (call : StoreCall) × Makes role waits ask (did ++ call ∷ [])
+abbrev pub MayTryMore : StoreState → Role → Option Ltx → Ask → List StoreCall → Type 0
+MayTryMore store role waits ask did = (call : StoreCall) × Makes store role waits ask (did ++ call ∷ [])
 
 -- what a reader sees stays
 pub record Steady (old new : NodeState) : Type 0 where
@@ -40,8 +40,8 @@ pub record StepFacts (old : NodeState) (ask : Ask) (answer : Answer) (new : Node
   pub role : Role  -- the role in this step, once its moment has ended what expired
   pub did : List StoreCall  -- the calls on the store that went well, in order
   pub failed : Option Failure  -- and the one that failed
-  pub makes : Makes role old.waits ask (did ++ begun_by failed)
-  pub tries : failed ≡ Some FailedBefore → MayTryMore role old.waits ask did
+  pub makes : Makes old.store role old.waits ask (did ++ begun_by failed)
+  pub tries : failed ≡ Some FailedBefore → MayTryMore old.store role old.waits ask did
   pub can : CanDoAll old.store (did ++ begun_by failed)
   pub whole : IsSome old.failed → (did ≡ []) × (failed ≡ None)
   pub store : new.store ≡ all_done old.store did

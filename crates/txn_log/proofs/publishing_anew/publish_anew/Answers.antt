@@ -11,7 +11,8 @@ use Rattle.txn_log.specs.declared.entry.Entry.{Entry}
 use Rattle.txn_log.specs.Calls.{RestsAs}
 use Rattle.txn_log.specs.Installing.{IsOverAnew}
 use Rattle.txn_log.specs.Kept.{LogFile, file_of}
-use Rattle.txn_log.specs.Store.{IsStore, IsSized, image_in, state_of, failure_of, failed_of}
+use Rattle.txn_log.specs.Store.{IsStore, IsSized, image_in, state_of, failure_of, failed_of, entry_of as entry}
+use Rattle.txn_log.proofs.Entries.{end-push}
 use Rattle.txn_log.proofs.Installings.{old_image, old_files, over, complete, shaped-installed, is_done, stands, left_done, went_done, left_in, went_in}
 use Rattle.txn_log.proofs.Modes.{mode_after}
 use Rattle.txn_log.proofs.Moves.{moved-none, left_before, went_before}
@@ -305,3 +306,7 @@ returns-clause-went g c honest =
     subst (λ (es : List Entry). IsOverAnew old before s.dropped made text es file.change h) (sym (c.as_slice.ensures.value ∙ c.reserve.ensures.items)) (over file c.requires.valid c.requires.first text is read h s.page_size s.commit s.entries.items s.dropped s.sums.sums s.whole s.tried s.shaped kept) in
     let places = c.in-From.ensures.places honest old made before s.dropped ready in
     rw (c.reserve.ensures.items, c.moment-store.ensures, c.requires.open_) (inr (went_in file c.requires.valid c.requires.first text is read h s.page_size s.commit s.entries.items s.dropped s.sums.sums s.whole s.tried s.shaped kept new c.in-From.tried places.0 places.1))
+
+pub returns-in-Whole-clause-position : goal.returns-in-Whole-clause-position
+returns-in-Whole-clause-position g c =
+    rw (c.push_reserved.ensures.items, c.entry_of.ensures) (end-push c.clear.new.self.items (entry c.args.file.now))
