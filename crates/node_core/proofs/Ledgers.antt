@@ -83,7 +83,7 @@ at-either P one two (d ∷ ds) call rest same first second =
 
 -- the calls that an ask may make on a store
 abbrev MayMake : StoreState → Role → Option Ltx → Ask → List StoreCall → Type 0
-MayMake store role waits ask calls = Makes role waits ask calls
+MayMake store role waits ask calls = Makes store role waits ask calls
 
 -- how a step answers that fails in this call after these: it sends nothing, and accepts nothing
 record FailsSo (store : StoreState) (role : Role) (waits : Option Ltx) (ask : Ask) (front : List StoreCall) (call : StoreCall) : Type 0 where
