@@ -6,3 +6,4 @@ pub mod Frames
 pub mod Asks
 pub mod Seats
 pub mod Talking
+pub mod Stands

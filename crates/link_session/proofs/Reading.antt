@@ -1,8 +1,11 @@
 -- Reading messages.
-use Rattle.std.proofs.Common.{◌≡◌, ℕ, List, [], ◌++◌, Option, None, Some, sym, ap, refl, ◌∙◌, subst, append_assoc, append-nil}
+use Rattle.std.proofs.Common.{◌≡◌, ℕ, Bool, List, [], ◌++◌, Option, None, Some, Result, Ok, Err, sym, ap, refl, ◌∙◌, subst, append_assoc, append-nil}
 use Rattle.std.specs.Option.{IfSome}
 use Rattle.std.specs.Io.KnownBytes.{Keeps, Consumes, prepend_known}
-use Rattle.link_session.specs.Reading.{IsUnread, text_of}
+use Rattle.link_session.specs.declared.unread.Unread.{Unread}
+use Rattle.link_session.specs.declared.unread.Unread.TheVariants as why
+use Rattle.link_session.specs.Reading.{broken, cut, EndsReading, IsUnread, text_of}
+use Rattle.link_session.specs.Unread.{ended, LeavesUnread}
 
 pub kept_consumes : (a b : Option (List ℕ)) (bs : List ℕ) → Keeps a (prepend_known bs b) → Consumes a b bs
 kept_consumes None b bs p = tt
@@ -37,3 +40,14 @@ pub none_read : (a b c : Option (List ℕ)) (fed piece : List ℕ) → Keeps a (
     → piece ≡ [] → Keeps a (prepend_known fed c)
 none_read a b c fed piece k r e =
     fed_on_text a c fed piece fed piece (refilled a b c fed piece k r) refl e
+
+-- why no message could be read is how the session ends
+pub reading_ends : {T : Type 0} (memory : Bool) (Partial Broken : List ℕ → Type 0) (text left : Option (List ℕ)) (before now turns : ℕ) (r : Result T Unread)
+    → LeavesUnread memory Partial Broken text left before now turns r → EndsReading memory Partial Broken text left before now turns (ended r)
+reading_ends memory Partial Broken text left before now turns (Ok x) l = l
+reading_ends memory Partial Broken text left before now turns (Err why.Ended) l = l
+reading_ends memory Partial Broken text left before now turns (Err why.Cut) l = (cut l.0, l.1)
+reading_ends memory Partial Broken text left before now turns (Err why.Broken) l = (broken l.0, l.1)
+reading_ends memory Partial Broken text left before now turns (Err why.ReadFault) l = l
+reading_ends memory Partial Broken text left before now turns (Err why.Turns) l = l
+reading_ends memory Partial Broken text left before now turns (Err why.NoMemory) l = l

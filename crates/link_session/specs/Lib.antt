@@ -6,3 +6,5 @@ pub mod Writing
 pub mod Asking
 pub mod Seats
 pub mod Rounds
+pub mod Unread
+pub mod Stands

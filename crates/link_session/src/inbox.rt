@@ -3,10 +3,12 @@ ghost use Rattle.std.specs.Io.KnownBytes.{Keeps};
 ghost use Rattle.link_session.specs.declared.stage.Stage.TheVariants as stages;
 ghost use Rattle.link_session.specs.Spending.{MovesFor};
 ghost use Rattle.link_session.specs.Reading.{coming, text_of, EndsReading, Faulted};
+ghost use Rattle.link_session.specs.Unread.{ended, LeavesUnread};
 
 use crate::feed::{Feed, FeedFault};
 use crate::piece::Piece;
 use crate::turns::Turns;
+use crate::unread::Unread;
 use lf_base::{Link, NoMemory, SessionEnd};
 use std::alloc::Global;
 use std::marker::Model;
@@ -39,6 +41,7 @@ impl<F: Feed + Drop> Inbox<F> {
     ///
     /// Closed at the end of input between messages; BadMessage where the input begins no message, or
     /// ends inside one; ReadFault where the link's count of faults rose; Turns where none is left.
+    #[tactic(auto, using(crate::proofs::Reading::reading_ends))]
     pub fn read_message<L: Link>(
         &mut self,
         link: &mut L,
@@ -50,6 +53,21 @@ impl<F: Feed + Drop> Inbox<F> {
         ensures taken { Keeps (L.taken link.old) (L.taken link.new) }
         ensures spent { MovesFor result turns.old (L.moves link.old) turns.new (L.moves link.new) }
         ensures cause { EndsReading F.takes_memory (F.partial self.old.limit) (F.broken self.old.limit) (coming self.old (L.left link.old)) (L.left link.new) (L.faults link.old) (L.faults link.new) turns.new result }
+    {
+        match read_whole(&mut self.feed, &mut self.piece, link, turns) {
+            Ok(()) => Ok(()),
+            Err(why) => Err(why.end()),
+        }
+    }
+
+    /// The same, and tells an input that ends inside a message from one that begins none.
+    pub fn gather<L: Link>(&mut self, link: &mut L, turns: &mut Turns) -> Result<(), Unread>
+        requires { self.old.stage ≡ stages.Open }
+        ensures whole { OnOk result (F.message self.old.limit self.new.message × (self.new.stage ≡ stages.Whole)) }
+        ensures same { OnOk result (Keeps (coming self.old (L.left link.old)) (coming self.new (L.left link.new)) × (self.new.limit ≡ self.old.limit)) }
+        ensures taken { Keeps (L.taken link.old) (L.taken link.new) }
+        ensures spent { MovesFor (ended result) turns.old (L.moves link.old) turns.new (L.moves link.new) }
+        ensures cause { LeavesUnread F.takes_memory (F.partial self.old.limit) (F.broken self.old.limit) (coming self.old (L.left link.old)) (L.left link.new) (L.faults link.old) (L.faults link.new) turns.new result }
     {
         read_whole(&mut self.feed, &mut self.piece, link, turns)
     }
@@ -87,34 +105,34 @@ fn read_whole<F: Feed, L: Link>(
     piece: &mut Piece,
     link: &mut L,
     turns: &mut Turns,
-) -> Result<(), SessionEnd>
+) -> Result<(), Unread>
     requires { F.stage feed.old ≡ stages.Open }
     ensures whole { OnOk result (F.message (F.limit feed.old) (F.held feed.new) × (F.stage feed.new ≡ stages.Whole)) }
     ensures same { OnOk result (Keeps (text_of (F.held feed.old) piece.old (L.left link.old)) (text_of (F.held feed.new) piece.new (L.left link.new)) × (F.limit feed.new ≡ F.limit feed.old)) }
     ensures taken { Keeps (L.taken link.old) (L.taken link.new) }
-    ensures spent { MovesFor result turns.old (L.moves link.old) turns.new (L.moves link.new) }
-    ensures cause { EndsReading F.takes_memory (F.partial (F.limit feed.old)) (F.broken (F.limit feed.old)) (text_of (F.held feed.old) piece.old (L.left link.old)) (L.left link.new) (L.faults link.old) (L.faults link.new) turns.new result }
+    ensures spent { MovesFor (ended result) turns.old (L.moves link.old) turns.new (L.moves link.new) }
+    ensures cause { LeavesUnread F.takes_memory (F.partial (F.limit feed.old)) (F.broken (F.limit feed.old)) (text_of (F.held feed.old) piece.old (L.left link.old)) (L.left link.new) (L.faults link.old) (L.faults link.new) turns.new result }
 {
     loop {
         match feed_some(feed, piece) {
             Ok(true) => return Ok(()),
             Ok(false) => {}
-            Err(FeedFault::Broken) => return Err(SessionEnd::BadMessage),
-            Err(FeedFault::NoMemory) => return Err(SessionEnd::NoMemory),
+            Err(FeedFault::Broken) => return Err(Unread::Broken),
+            Err(FeedFault::NoMemory) => return Err(Unread::NoMemory),
         }
         match turns.take() {
             Ok(()) => {}
-            Err(_) => return Err(SessionEnd::Turns),
+            Err(_) => return Err(Unread::Turns),
         }
         match piece.refill(link) {
             Ok(()) => {}
-            Err(_) => return Err(SessionEnd::ReadFault),
+            Err(_) => return Err(Unread::ReadFault),
         }
         if piece.unread().is_empty() {
             if feed.is_between() {
-                return Err(SessionEnd::Closed);
+                return Err(Unread::Ended);
             }
-            return Err(SessionEnd::BadMessage);
+            return Err(Unread::Cut);
         }
     }
 }

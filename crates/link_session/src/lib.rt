@@ -17,6 +17,7 @@ mod seat;
 mod stage;
 mod steps;
 mod turns;
+mod unread;
 mod writing;
 
 pub use asking::ask_until;
@@ -29,6 +30,7 @@ pub use seat::{AtSeat, SeatPlace};
 pub use stage::Stage;
 pub use steps::Steps;
 pub use turns::Turns;
+pub use unread::Unread;
 pub use writing::write_whole;
 
 #[cfg(test)]

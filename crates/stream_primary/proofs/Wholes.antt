@@ -3,6 +3,7 @@ use Rattle.std.proofs.Common.{◌≡◌, ◌≢◌, zero, ℕ, true, ◌+◌, �
 use Rattle.std.specs.Option.{IfSome}
 use Rattle.std.specs.Io.KnownBytes.{Appends, Consumes, IsAtEnd, Keeps}
 use Rattle.std.proofs.KnownBytes.{Appends-nil, Consumes-kept, Consumes-trans}
+use Rattle.std.proofs.lemmas.List.{length-drop, length-take-le, take-append-le}
 use lib.Seq.{drop-append-le}
 use Rattle.httparse.specs.Ascii.{space}
 use Rattle.httparse.specs.Grammar.{print_blank, print_end, print_request, print_section, print_version, ReadsRequest, RequestHead}
@@ -14,10 +15,18 @@ use Rattle.link_session.specs.Reading.{broken, cut, EndsReading, IsCut, IsUnread
 use Rattle.link_session.specs.Writing.{AppendsPart}
 use Rattle.stream_wire.specs.declared.wire_fault.WireFault.{WireFault}
 use Rattle.stream_wire.specs.declared.wire_fault.WireFault.TheVariants as fault
-use Rattle.stream_wire.specs.Head.{HearsRequest, NeverTakesRequest, TakesRequest}
+use Rattle.stream_wire.specs.Head.{HearsRequest, IsRequest, NeverTakesRequest, TakesRequest}
 use Rattle.stream_wire.specs.Writing.{reply_head, status_line, version}
-use Rattle.stream_primary.specs.Request.{in_body, AwaitsOn, EndsBody, GaveAtLeast, HasHead, IsFewer, IsPart, RefusesHead, WasRead, end_by}
-use Rattle.stream_primary.specs.Session.{EndsReply, not_served}
+use Rattle.stream_wire.proofs.StreamLines.{line_length}
+use Rattle.lf_base.specs.Name.{IsName}
+use Rattle.lf_base.specs.declared.pos.Pos.{Pos}
+use Rattle.stream_wire.specs.StreamLine.{stream_line, IsNoStreamLine}
+use Rattle.stream_wire.specs.declared.call.Call.{Call}
+use Rattle.stream_wire.specs.declared.call.Call.TheVariants as call
+use Rattle.stream_primary.specs.declared.wish.Wish.{Wish}
+use Rattle.stream_primary.specs.declared.wish.Wish.TheVariants as wish
+use Rattle.stream_primary.specs.Refusing.{reply, EndsReply}
+use Rattle.stream_primary.specs.Request.{in_body, no_line, other_call, other_name, Awaits, AwaitsOn, EndsBody, GaveAtLeast, HasHead, IsFewer, IsPart, IsRest, RefusesHead, Wants, WasRead, body_in, end_by}
 
 -- a head lies within the bytes that begin with it
 pub head_is_within : (bytes : List ℕ) (size len : ℕ) → HasHead bytes size len → size ≤ length bytes
@@ -37,9 +46,9 @@ refused bytes (fault.TooLong len) h = absurd h
 pub nothing_written : (taken : Option (List ℕ)) (text : List ℕ) → 0 < length text → AppendsPart taken taken text
 nothing_written taken text some = (zero, some, Appends-nil taken)
 
-pub some_bytes : 0 < length not_served
+pub some_bytes : (status : ℕ) → 0 < length (reply status [])
 unfolding reply_head status_line version
-some_bytes = omega arith
+some_bytes status = omega arith
 
 -- bytes that came of so many that were to come
 pub record Came (count : ℕ) (text left : Option (List ℕ)) (missing : ℕ) : Type 0 where
@@ -75,20 +84,84 @@ unheard text left bytes before now turns ends.Turns c r same = absurd r
 unheard text left bytes before now turns ends.Worn c r same = absurd r
 
 -- a head stays one, whatever bytes follow
+pub longer_request : (bytes more : List ℕ) (size len : ℕ) (called : Call) → IsRequest bytes size called len → IsRequest (bytes ++ more) size called len
+longer_request bytes more size len called h =
+    let front : drop size (bytes ++ more) ≡ drop size bytes ++ more = drop-append-le size bytes more (head_is_within bytes size len (called, h)) in
+    record {
+      head = h.head;
+      said = h.said;
+      reads = subst (λ (rest : List ℕ). ReadsRequest (bytes ++ more) h.head rest) (sym front) (ReadsRequest-append bytes h.head (drop size bytes) more h.reads);
+      size_is = h.size_is;
+      taken = h.taken;
+      names = h.names;
+      len_is = h.len_is;
+    }
+
 pub longer_head : (bytes more : List ℕ) (size len : ℕ) → HasHead bytes size len → HasHead (bytes ++ more) size len
-longer_head bytes more size len h =
-    let front : drop size (bytes ++ more) ≡ drop size bytes ++ more = drop-append-le size bytes more (head_is_within bytes size len h) in (
-      h.0,
-      record {
-        head = h.1.head;
-        said = h.1.said;
-        reads = subst (λ (rest : List ℕ). ReadsRequest (bytes ++ more) h.1.head rest) (sym front) (ReadsRequest-append bytes h.1.head (drop size bytes) more h.1.reads);
-        size_is = h.1.size_is;
-        taken = h.1.taken;
-        names = h.1.names;
-        len_is = h.1.len_is;
-      },
-    )
+longer_head bytes more size len h = (h.0, longer_request bytes more size len h.0 h.1)
+
+-- the body of a request that is whole stays the same
+body_stays : (bytes more : List ℕ) (size len : ℕ) → size + len ≤ length bytes → body_in (bytes ++ more) size len ≡ body_in bytes size len
+body_stays bytes more size len fits =
+    ap (λ (rest : List ℕ). take len rest) (drop-append-le size bytes more (omega (arith, fits)))
+    ∙ take-append-le len (drop size bytes) more (omega (arith, length-drop size bytes, fits))
+
+-- a body has the length that its head says
+body_length : (bytes : List ℕ) (size len : ℕ) → size + len ≤ length bytes → length (body_in bytes size len) ≡ len
+body_length bytes size len fits = length-take-le len (drop size bytes) (omega (arith, length-drop size bytes, fits))
+
+-- a body of more than 99 bytes is no line of a stream
+long_body : (body : List ℕ) → 99 < length body → IsNoStreamLine body
+long_body body long = λ name pos is fits e. absurd omega (arith, line_length body name pos e, is.fits.1, long)
+
+-- the line of this database, and of another
+pub wants_stream : (name other body : List ℕ) (pos : Pos) → other ≡ name → body ≡ stream_line other pos → Wants name call.Stream body (wish.Stream pos)
+wants_stream name other body pos same e = (refl, e ∙ ap (λ (n : List ℕ). stream_line n pos) same)
+
+pub wants_other : (name other body : List ℕ) (pos : Pos) → (other ≡ name → ⊥) → IsName other → body ≡ stream_line other pos → Wants name call.Stream body (wish.Refused 404)
+wants_other name other body pos differs is e = other_name other pos refl is differs e refl
+
+-- another call is not served, whatever its body
+pub awaits_other : (name bytes : List ℕ) (size len count : ℕ) (called : Call) → IsRequest bytes size called len → (called ≡ call.Stream → ⊥) → IsRest bytes size len count
+    → Awaits name bytes (wish.Refused 404) count
+awaits_other name bytes size len count called h other rest = record {
+  size = size;
+  len = len;
+  called = called;
+  head = h;
+  rest = rest;
+  wants = λ more fits. other_call other refl;
+}
+
+-- nor is a body that is too long
+pub awaits_long : (name bytes : List ℕ) (size len count : ℕ) → IsRequest bytes size call.Stream len → 99 < len → IsRest bytes size len count
+    → Awaits name bytes (wish.Refused 400) count
+awaits_long name bytes size len count h long rest = record {
+  size = size;
+  len = len;
+  called = call.Stream;
+  head = h;
+  rest = rest;
+  wants = λ more fits. no_line refl (long_body (body_in (bytes ++ more) size len) (omega (arith, long, body_length (bytes ++ more) size len fits))) refl;
+}
+
+-- what a request that is whole wants
+pub awaits_none : (name bytes : List ℕ) (size len count : ℕ) (wanted : Wish) → IsRequest bytes size call.Stream len → IsRest bytes size len count → count ≡ 0
+    → Wants name call.Stream (body_in bytes size len) wanted → Awaits name bytes wanted 0
+awaits_none name bytes size len count wanted h rest none wants =
+    let all : size + len ≤ length bytes = omega (arith, rest.most, none) in
+    record {
+      size = size;
+      len = len;
+      called = call.Stream;
+      head = h;
+      rest = record { most = omega (arith, all); some = λ h. absurd omega (arith, h) };
+      wants = λ more fits. subst (λ (body : List ℕ). Wants name call.Stream body wanted) (sym (body_stays bytes more size len all)) wants;
+    }
+
+-- a head and a part of its body
+pub part_of_body : (bytes : List ℕ) (size len count : ℕ) → HasHead bytes size len → IsRest bytes size len count → 0 < count → IsPart bytes
+part_of_body bytes size len count h rest some = in_body size len h (omega (arith, rest.some some, some))
 
 abbrev behind_method : RequestHead → List ℕ
 behind_method h = h.target ++ (space ∷ print_version h.minor) ++ print_end h.line_end ++ print_section h.fields h.last
@@ -120,79 +193,80 @@ appended_some [] more some none = some refl
 appended_some (b ∷ bytes) more some none = absurd cc
 
 -- a head and its body are a request
-pub whole : (count : ℕ) (text mid left : Option (List ℕ)) → AwaitsOn text mid count → GaveAtLeast count mid left → WasRead text left
-whole count text mid left a g = record {
-  bytes = a.bytes ++ g.bytes;
-  request = record {
-    size = a.awaits.size;
-    len = a.awaits.len;
-    head = longer_head a.bytes g.bytes a.awaits.size a.awaits.len a.awaits.head;
-    body = omega (arith, length-append a.bytes g.bytes, a.awaits.most, g.enough);
-  };
-  read = Consumes-trans text mid left a.bytes g.bytes a.read g.read;
-}
-
-pub whole_if : {T : Type 0} (count : ℕ) (text mid left : Option (List ℕ)) (r : Result T SessionEnd) → AwaitsOn text mid count → OnOk r (GaveAtLeast count mid left)
-    → OnOk r (WasRead text left)
-whole_if count text mid left (Ok x) a g = whole count text mid left a g
-whole_if count text mid left (Err e) a g = tt
+pub whole : (name : List ℕ) (wanted : Wish) (count : ℕ) (text mid left : Option (List ℕ)) → AwaitsOn name text mid wanted count → GaveAtLeast count mid left
+    → WasRead name text left wanted
+whole name wanted count text mid left a g =
+    let all : a.awaits.size + a.awaits.len ≤ length (a.bytes ++ g.bytes) = omega (arith, length-append a.bytes g.bytes, a.awaits.rest.most, g.enough) in
+    record {
+      bytes = a.bytes ++ g.bytes;
+      request = record {
+        size = a.awaits.size;
+        len = a.awaits.len;
+        called = a.awaits.called;
+        head = longer_request a.bytes g.bytes a.awaits.size a.awaits.len a.awaits.called a.awaits.head;
+        body = all;
+        wants = a.awaits.wants g.bytes all;
+      };
+      read = Consumes-trans text mid left a.bytes g.bytes a.read g.read;
+    }
 
 -- a head and a part of its body are a part of a request
-abbrev read_on : (count : ℕ) (text mid left : Option (List ℕ)) → AwaitsOn text mid count → IsUnread (IsFewer count) mid left → IsUnread IsPart text left
-read_on count text mid left a u = record {
+abbrev read_on : (name : List ℕ) (wanted : Wish) (count : ℕ) (text mid left : Option (List ℕ)) → AwaitsOn name text mid wanted count → IsUnread (IsFewer count) mid left
+    → IsUnread IsPart text left
+read_on name wanted count text mid left a u = record {
   bytes = a.bytes ++ u.bytes;
-  part = in_body a.awaits.size a.awaits.len (longer_head a.bytes u.bytes a.awaits.size a.awaits.len a.awaits.head)
-      (omega (arith, length-append a.bytes u.bytes, u.part, a.awaits.some (omega (arith, u.part))));
+  part = in_body a.awaits.size a.awaits.len (longer_head a.bytes u.bytes a.awaits.size a.awaits.len (a.awaits.called, a.awaits.head))
+      (omega (arith, length-append a.bytes u.bytes, u.part, a.awaits.rest.some (omega (arith, u.part))));
   read = Consumes-trans text mid left a.bytes u.bytes a.read u.read;
 }
 
-cut_off : (count : ℕ) (text mid left : Option (List ℕ)) → AwaitsOn text mid count → IsUnread (IsFewer count) mid left → IsAtEnd left → IsCut IsPart text left
-cut_off count text mid left a u end =
-    let all : IsUnread IsPart text left = read_on count text mid left a u in
+cut_off : (name : List ℕ) (wanted : Wish) (count : ℕ) (text mid left : Option (List ℕ)) → AwaitsOn name text mid wanted count → IsUnread (IsFewer count) mid left → IsAtEnd left
+    → IsCut IsPart text left
+cut_off name wanted count text mid left a u end =
+    let all : IsUnread IsPart text left = read_on name wanted count text mid left a u in
     record {
       bytes = a.bytes ++ u.bytes;
-      some = appended_some a.bytes u.bytes (some_head a.bytes a.awaits.size a.awaits.len a.awaits.head);
+      some = appended_some a.bytes u.bytes (some_head a.bytes a.awaits.size a.awaits.len (a.awaits.called, a.awaits.head));
       part = all.part;
       read = all.read;
       end = end;
     }
 
 -- how reading the body ended is how reading the request did
-pub body_ends : {T : Type 0} (count : ℕ) (text mid left : Option (List ℕ)) (before between now turns : ℕ) (r : Result T SessionEnd)
-    → AwaitsOn text mid count → between ≡ before → EndsBody count mid left between now turns r
-    → EndsReading true IsPart NeverTakesRequest text left before now turns r
-body_ends count text mid left before between now turns (Ok x) a same e = e ∙ same
-body_ends count text mid left before between now turns (Err ends.BadMessage) a same e = (cut (cut_off count text mid left a e.0 e.1), e.2 ∙ same)
-body_ends count text mid left before between now turns (Err ends.ReadFault) a same e = (read_on count text mid left a e.0, subst (λ n. Rose n now) same e.1)
-body_ends count text mid left before between now turns (Err ends.Turns) a same e = (read_on count text mid left a e.0, e.1, e.2 ∙ same)
-body_ends count text mid left before between now turns (Err ends.Closed) a same e = absurd e
-body_ends count text mid left before between now turns (Err ends.WriteFault) a same e = absurd e
-body_ends count text mid left before between now turns (Err ends.Worn) a same e = absurd e
-body_ends count text mid left before between now turns (Err ends.NoMemory) a same e = absurd e
+pub body_ends : (T : Type 0) (name : List ℕ) (wanted : Wish) (count : ℕ) (text mid left : Option (List ℕ)) (before between now turns : ℕ) (end : SessionEnd)
+    → AwaitsOn name text mid wanted count → between ≡ before → EndsBody {T = Unit {0}} count mid left between now turns (Err end)
+    → EndsReading {T = T} true IsPart NeverTakesRequest text left before now turns (Err end)
+body_ends T name wanted count text mid left before between now turns ends.BadMessage a same e = (cut (cut_off name wanted count text mid left a e.0 e.1), e.2 ∙ same)
+body_ends T name wanted count text mid left before between now turns ends.ReadFault a same e = (read_on name wanted count text mid left a e.0, subst (λ n. Rose n now) same e.1)
+body_ends T name wanted count text mid left before between now turns ends.Turns a same e = (read_on name wanted count text mid left a e.0, e.1, e.2 ∙ same)
+body_ends T name wanted count text mid left before between now turns ends.Closed a same e = absurd e
+body_ends T name wanted count text mid left before between now turns ends.WriteFault a same e = absurd e
+body_ends T name wanted count text mid left before between now turns ends.Worn a same e = absurd e
+body_ends T name wanted count text mid left before between now turns ends.NoMemory a same e = absurd e
 
 -- the text that was read stays read while the reply is written
-pub was_read : (text mid left : Option (List ℕ)) → WasRead text mid → Keeps mid left → WasRead text left
-was_read text mid left w k = record { bytes = w.bytes; request = w.request; read = Consumes-kept text mid left w.bytes w.read k }
+pub was_read : (name : List ℕ) (wanted : Wish) (text mid left : Option (List ℕ)) → WasRead name text mid wanted → Keeps mid left → WasRead name text left wanted
+was_read name wanted text mid left w k = record { bytes = w.bytes; request = w.request; read = Consumes-kept text mid left w.bytes w.read k }
 
-kept_appends : (old mid new : Option (List ℕ)) (bytes : List ℕ) → Keeps old mid → Appends mid new bytes → Appends old new bytes
+pub kept_appends : (old mid new : Option (List ℕ)) (bytes : List ℕ) → Keeps old mid → Appends mid new bytes → Appends old new bytes
 kept_appends None mid new bytes k a = tt
 kept_appends (Some x) None new bytes k a = absurd k
 kept_appends (Some x) (Some y) None bytes k a = absurd a
 kept_appends (Some x) (Some y) (Some z) bytes k a = a ∙ ap (λ xs. xs ++ bytes) k
 
-kept_part : (old mid new : Option (List ℕ)) → Keeps old mid → AppendsPart mid new not_served → AppendsPart old new not_served
-kept_part old mid new k a = (a.0, a.1, kept_appends old mid new (take a.0 not_served) k a.2)
+kept_part : (old mid new : Option (List ℕ)) (text : List ℕ) → Keeps old mid → AppendsPart mid new text → AppendsPart old new text
+kept_part old mid new text k a = (a.0, a.1, kept_appends old mid new (take a.0 text) k a.2)
 
 -- the reply ends the session, where reading it kept what was written
-pub replied : (old mid new : Option (List ℕ)) (before between now turns : ℕ) (end : SessionEnd) → Keeps old mid → between ≡ before
-    → EndsReply mid new between now turns end → EndsReply old new before now turns end
-replied old mid new before between now turns ends.Closed k same e = (kept_appends old mid new not_served k e.0, e.1 ∙ same)
-replied old mid new before between now turns ends.WriteFault k same e = (kept_part old mid new k e.0, subst (λ n. Rose n now) same e.1)
-replied old mid new before between now turns ends.Turns k same e = (kept_part old mid new k e.0, e.1, e.2 ∙ same)
-replied old mid new before between now turns ends.NoMemory k same e = (kept_part old mid new k e.0, e.1 ∙ same)
-replied old mid new before between now turns ends.BadMessage k same e = absurd e
-replied old mid new before between now turns ends.ReadFault k same e = absurd e
-replied old mid new before between now turns ends.Worn k same e = absurd e
+pub replied : (text : List ℕ) (old mid new : Option (List ℕ)) (before between now turns : ℕ) (end : SessionEnd) → Keeps old mid → between ≡ before
+    → EndsReply text mid new between now turns end → EndsReply text old new before now turns end
+replied text old mid new before between now turns ends.Closed k same e = (kept_appends old mid new text k e.0, e.1 ∙ same)
+replied text old mid new before between now turns ends.WriteFault k same e = (kept_part old mid new text k e.0, subst (λ n. Rose n now) same e.1)
+replied text old mid new before between now turns ends.Turns k same e = (kept_part old mid new text k e.0, e.1, e.2 ∙ same)
+replied text old mid new before between now turns ends.NoMemory k same e = (kept_part old mid new text k e.0, e.1 ∙ same)
+replied text old mid new before between now turns ends.BadMessage k same e = absurd e
+replied text old mid new before between now turns ends.ReadFault k same e = absurd e
+replied text old mid new before between now turns ends.Worn k same e = absurd e
 
 abbrev no_bytes : List ℕ
 no_bytes = []

@@ -1,2 +1,5 @@
 pub mod Request
+pub mod Refusing
+pub mod Telling
+pub mod Streaming
 pub mod Session

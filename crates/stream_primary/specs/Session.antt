@@ -1,49 +1,34 @@
 -- A session over HTTP: one request, and one reply.
-use Rattle.std.specs.Prelude.{◌≡◌, ℕ, true, List, Option, Some, Err}
-use Rattle.std.specs.Io.KnownBytes.{Appends, Keeps}
-use Rattle.lf_base.specs.Faults.{Rose}
-use Rattle.lf_base.specs.declared.link.Link.{Ghosts as LinkGhosts}
+use Rattle.std.specs.Prelude.{◌≡◌, ℕ, true, List, [], Err}
+use Rattle.lf_base.specs.declared.pos.Pos.{Pos}
 use Rattle.lf_base.specs.declared.session_end.SessionEnd.{SessionEnd}
-use Rattle.lf_base.specs.declared.session_end.SessionEnd.TheVariants as ends
+use Rattle.turn_desk.specs.declared.history.Entry.{Entry}
+use Rattle.turn_desk.specs.History.{IsLegal}
 use Rattle.link_session.specs.Reading.{EndsReading}
-use Rattle.link_session.specs.Spending.{MovesFor}
-use Rattle.link_session.specs.Writing.{AppendsPart}
+use Rattle.link_session.specs.Stands.{Asker, IsStill, Spends, Stand}
 use Rattle.stream_wire.specs.Head.{NeverTakesRequest}
-use Rattle.stream_wire.specs.Writing.{reply_head}
+use Rattle.stream_primary.specs.declared.wish.Wish.TheVariants as wish
+use Rattle.stream_primary.specs.Refusing.{reply, EndsReply}
 use Rattle.stream_primary.specs.Request.{IsPart, WasRead}
+use Rattle.stream_primary.specs.Streaming.{NodeEntry, Streams}
 
--- the text that is to come and the bytes that were written; the link's counts of faults and of calls that moved bytes
-pub record Stand : Type 0 where
-  pub text : Option (List ℕ)
-  pub taken : Option (List ℕ)
-  pub faults : ℕ
-  pub moves : ℕ
+-- what became of the session: no request could be read, and nothing was written or asked; one was read that is not served, and
+-- nothing was asked; or the stream was served that it wants
+pub data Ends (who : Asker) (name : List ℕ) (old new : Stand NodeEntry) (turns : ℕ) (end : SessionEnd) : Type 0 where
+  reading : EndsReading {T = Unit {0}} true IsPart NeverTakesRequest old.place.text new.place.text old.faults new.faults turns (Err end)
+      → IsStill old.place new.place → Ends who name old new turns end
+  refusing : (status : ℕ) → WasRead name old.place.text new.place.text (wish.Refused status)
+      → EndsReply (reply status []) old.place.taken new.place.taken old.faults new.faults turns end → new.place.entries ≡ old.place.entries
+      → Ends who name old new turns end
+  streaming : (from : Pos) → WasRead name old.place.text new.place.text (wish.Stream from) → Streams who name from old new turns end
+      → Ends who name old new turns end
 
--- a session on this link
-abbrev pub stand : {L : Type 0} → LinkGhosts L → L → Stand
-stand l link = record { text = l.left link; taken = l.taken link; faults = l.faults link; moves = l.moves link }
-
--- the reply to a call that is not served: status 404, and no body
-abbrev pub not_served : List ℕ
-not_served = reply_head 404 (Some 0)
-
--- how a request that was read ends: it was answered; or a part of the reply was written, since the link failed, no turn was left
--- or memory ran out. And what became of the count of faults
-abbrev pub EndsReply : Option (List ℕ) → Option (List ℕ) → ℕ → ℕ → ℕ → SessionEnd → Type 0
-EndsReply old new before now turns ends.Closed = Appends old new not_served × (now ≡ before)
-EndsReply old new before now turns ends.WriteFault = AppendsPart old new not_served × Rose before now
-EndsReply old new before now turns ends.Turns = AppendsPart old new not_served × (turns ≡ 0) × (now ≡ before)
-EndsReply old new before now turns ends.NoMemory = AppendsPart old new not_served × (now ≡ before)
-EndsReply old new before now turns _ = ⊥
-
--- a request was read and answered so, or none could be read and nothing was written
-pub data Ends (old new : Stand) (turns : ℕ) (end : SessionEnd) : Type 0 where
-  answering : WasRead old.text new.text → EndsReply old.taken new.taken old.faults new.faults turns end → Ends old new turns end
-  reading : EndsReading {T = Unit {0}} true IsPart NeverTakesRequest old.text new.text old.faults new.faults turns (Err end)
-      → Keeps old.taken new.taken → Ends old new turns end
-
--- A SESSION, with so many turns
-pub record IsSession (budget : ℕ) (old new : Stand) (end : SessionEnd) : Type 0 where
+-- A SESSION of the node of this database, with so many turns
+pub record IsSession (who : Asker) (name : List ℕ) (budget : ℕ) (old new : Stand NodeEntry) (end : SessionEnd) : Type 0 where
   pub left : ℕ
-  pub ends : Ends old new left end
-  pub spent : MovesFor {T = Unit {0}} (Err end) budget old.moves left new.moves
+  pub ends : Ends who name old new left end
+  pub spent : Spends {T = Unit {0}} budget old left new (Err end)
+
+-- the history that the seat has seen stays one of the machine's steps
+pub record StaysLegal {M Q A : Type 0} (steps : M → ℕ → Q → A → M → Type 0) (opened : M) (before after : List (Entry Q A)) : Type 0 where
+  pub legal : IsLegal steps opened before → IsLegal steps opened after

@@ -1,20 +1,24 @@
 //! The calls of a node over HTTP.
 ghost use Rattle.std.specs.Prelude.{◌≡◌};
-ghost use Rattle.turn_desk.specs.Seats.{view, number_of, IsOf};
-ghost use Rattle.stream_primary.specs.Session.{IsSession, stand};
+ghost use Rattle.lf_base.specs.declared.session_end.SessionEnd.TheVariants as ends;
+ghost use Rattle.link_session.specs.Seats.{FoundWorn};
+ghost use Rattle.link_session.specs.Stands.{stand};
+ghost use Rattle.turn_desk.specs.Seats.{view, number_of, opened_on, IsOf};
+ghost use Rattle.stream_primary.specs.Session.{IsSession, StaysLegal};
 
-use crate::session::serve_link;
+use crate::seat::serve_seat;
 use lf_base::{Clock, Link, Name, Pause, SessionEnd};
 use lf_disk::Disk;
 use node_core::Node;
 use std::alloc::Global;
 use std::sync::Wait;
-use turn_desk::{Desk, Seat};
+use turn_desk::{Desk, Machine, Seat};
 
 /// Serves the one request of a link, to the end of its session.
 ///
-/// `budget` is the number of turns: each is a call of the link that moves bytes. No call is served
-/// yet, so a request that is read is answered with status 404, and nothing is asked of the node.
+/// `POST /stream` with a line `name pos` is served: what a follower at this position lacks, file by
+/// file, and then each commit as it is made. Any other request is answered with a status. `budget` is
+/// the number of turns: each is a call of the link that moves bytes, or an ask.
 pub fn serve_http<R: Wait + Copy, D: Disk, L: Link, C: Clock, P: Pause>(
     rt: R,
     alloc: Global,
@@ -27,10 +31,11 @@ pub fn serve_http<R: Wait + Copy, D: Disk, L: Link, C: Clock, P: Pause>(
     budget: u64,
 ) -> SessionEnd
     requires { IsOf seat.old desk.now }
-    ensures session { IsSession budget (stand L.Link link.old) (stand L.Link link.new) result }
-    ensures quiet { view seat.new ≡ view seat.old }
+    ensures session { IsSession (record { caller = number_of seat.old; may = C.may_give clock.old }) name.now budget (stand L.Link link.old (view seat.old).mine) (stand L.Link link.new (view seat.new).mine) result }
+    ensures worn { result ≡ ends.Worn → FoundWorn seat.new }
+    ensures legal { StaysLegal ⟦<Node<D> as Machine>⟧.steps (opened_on desk.now) (view seat.old).seen (view seat.new).seen }
     ensures seat { IsOf seat.new desk.now × (number_of seat.new ≡ number_of seat.old) }
     ensures clock { C.may_give clock.new ≡ C.may_give clock.old }
 {
-    serve_link(alloc, link, budget)
+    serve_seat(rt, alloc, desk, seat, name, link, clock, pause, budget)
 }

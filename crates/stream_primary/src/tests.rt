@@ -1,2 +1,4 @@
-//! A table of sessions over a link in memory.
+//! Sessions over a link in memory, with a machine that answers by a script.
+
 mod rows;
+mod scripted;

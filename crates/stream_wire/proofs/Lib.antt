@@ -15,3 +15,5 @@ pub mod RequestEnds
 pub mod ResponseEnds
 pub mod Ended
 pub mod NeverEnds
+pub mod StreamLines
+pub mod FrameFronts

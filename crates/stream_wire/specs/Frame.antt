@@ -17,6 +17,10 @@ be64 n = to_be_bytes w64 n
 unfoldable pub frame_of : ℕ → List ℕ → List ℕ → List ℕ
 frame_of kind name body = be32 kind ++ be32 (length name) ++ be64 (length body) ++ name ++ body
 
+-- all of it but the body, which has so many bytes
+unfoldable pub front_of : ℕ → List ℕ → ℕ → List ℕ
+front_of kind name count = be32 kind ++ be32 (length name) ++ be64 count ++ name
+
 abbrev pub kind_of : Frame → ℕ
 kind_of (frame.Ltx name bytes) = 1
 kind_of (frame.Ready name pos) = 2

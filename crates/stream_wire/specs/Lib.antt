@@ -5,3 +5,4 @@ pub mod Head
 pub mod Writing
 pub mod Feeding
 pub mod Ends
+pub mod StreamLine

@@ -1,9 +1,10 @@
-ghost use Rattle.std.specs.Prelude.{◌≡◌, ◌++◌, ◌<◌, ◌^◌, length, OnOk, OnErr};
+ghost use Rattle.std.specs.Prelude.{ℕ, List, ◌≡◌, ◌++◌, ◌<◌, ◌^◌, length, OnOk, OnErr};
 ghost use Rattle.std.specs.Io.{StartsWith};
-ghost use Rattle.stream_wire.specs.Frame.{frame_text, frame_of, pos_body, be32, be64};
+ghost use Rattle.stream_wire.specs.declared.frame.Frame.TheVariants as frame;
+ghost use Rattle.stream_wire.specs.Frame.{frame_text, frame_of, front_of, pos_body, be32, be64};
 
 use crate::Frame;
-use lf_base::{NoMemory, Pos};
+use lf_base::{Name, NoMemory, Pos};
 
 /// Appends the bytes of a frame.
 pub fn encode_frame(frame: &Frame, out: &mut Vec<u8>) -> Result<(), NoMemory>
@@ -16,6 +17,27 @@ pub fn encode_frame(frame: &Frame, out: &mut Vec<u8>) -> Result<(), NoMemory>
         Frame::End => append(out, 3, &[], &[]),
         Frame::Drop { name } => append(out, 4, name.bytes(), &[]),
     }
+}
+
+/// Appends the frame of an LTX file of `count` bytes, up to the file itself: so it can be written from
+/// where it stands.
+#[tactic(auto, using(crate::proofs::FrameFronts::front_written))]
+pub fn encode_ltx_front(name: &Name, count: u64, out: &mut Vec<u8>) -> Result<(), NoMemory>
+    ensures { OnOk result ((bytes : List ℕ) → length bytes ≡ count → out.new.items ++ bytes ≡ out.old.items ++ frame_text (frame.Ltx name.now bytes)) }
+{
+    append_front(out, 1, name.bytes(), count)
+}
+
+#[tactic(auto, unfolding(crate::specs::Frame::front_of))]
+fn append_front(out: &mut Vec<u8>, kind: u32, name: &[u8], count: u64) -> Result<(), NoMemory>
+    requires { length name.now < 2 ^ 32 }
+    ensures { OnOk result (out.new.items ≡ out.old.items ++ front_of kind name.now count) }
+{
+    put_u32(out, kind)?;
+    put_u32(out, name.len() as u32)?;
+    put_u64(out, count)?;
+    out.extend_from_slice(name)?;
+    Ok(())
 }
 
 #[tactic(auto, unfolding(crate::specs::Frame::pos_body, crate::specs::Frame::be64))]

@@ -17,10 +17,11 @@ mod laws;
 mod naming;
 mod request;
 mod response;
+mod stream_line;
 mod wire_fault;
 
 pub use call::Call;
-pub use encoding::encode_frame;
+pub use encoding::{encode_frame, encode_ltx_front};
 pub use feed::{Fed, FrameFeed};
 pub use frame::Frame;
 pub use head_reading::{read_request, read_response};
@@ -28,6 +29,7 @@ pub use head_writing::{write_head, write_request};
 pub use laws::{fronts_stay, one_reading, written_heads_are_read};
 pub use request::Heard;
 pub use response::Told;
+pub use stream_line::{read_stream_line, write_stream_line};
 pub use wire_fault::WireFault;
 
 #[cfg(test)]

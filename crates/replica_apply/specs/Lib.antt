@@ -1,0 +1,4 @@
+pub mod Heads
+pub mod Asking
+pub mod Frames
+pub mod Following

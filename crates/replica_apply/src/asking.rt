@@ -1,0 +1,32 @@
+//! Where the node stands.
+ghost use Rattle.std.specs.Prelude.{◌≡◌, length, IfErr};
+ghost use Rattle.link_session.specs.Stands.{asker, AsksOn};
+ghost use Rattle.replica_apply.specs.declared.follow_end.FollowEnd.TheVariants as ends;
+ghost use Rattle.replica_apply.specs.Following.{Asks, SaysWhere};
+
+use crate::follow_end::FollowEnd;
+use lf_base::Pos;
+use link_session::{Steps, Turns};
+use node_core::{Answer, Ask};
+
+/// Asks the node, once, where it stands. It is a turn.
+pub fn ask_where<S: Steps<Ask = Ask, Answer = Answer>>(
+    steps: &mut S,
+    turns: &mut Turns,
+) -> Result<Pos, FollowEnd>
+    ensures says { SaysWhere (S.number steps.old) (S.entries steps.old) (S.entries steps.new) turns.new result }
+    ensures same { (S.of steps.new ≡ S.of steps.old) × (S.number steps.new ≡ S.number steps.old) × (S.is_legal steps.old → S.is_legal steps.new) }
+    ensures spent { Asks turns.old (length (S.entries steps.old)) turns.new (length (S.entries steps.new)) result }
+    ensures worn { IfErr result (λ end. end ≡ ends.Worn → S.is_worn steps.new) }
+{
+    match turns.take() {
+        Ok(()) => {}
+        Err(_) => return Err(FollowEnd::Turns),
+    }
+    match steps.ask(&Ask::Where) {
+        Ok(Answer::At(pos)) => Ok(pos),
+        Ok(Answer::Refused(refusal)) => Err(FollowEnd::Refused(refusal)),
+        Ok(_) => Err(FollowEnd::NoMemory),
+        Err(_) => Err(FollowEnd::Worn),
+    }
+}

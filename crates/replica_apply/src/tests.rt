@@ -1,0 +1,4 @@
+//! Streams over a link in memory, with a machine that answers by a script.
+
+mod rows;
+mod scripted;

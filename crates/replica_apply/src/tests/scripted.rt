@@ -1,0 +1,72 @@
+//! A machine that answers each file and each drop by the next word of a script, and keeps what it was
+//! asked.
+use byte_locks::LockId;
+use lf_base::Pos;
+use node_core::{Answer, Ask, Refusal};
+use std::alloc::Global;
+use turn_desk::Machine;
+use txn_log::StoreFault;
+
+/// What it answers.
+#[derive(Clone, Copy, PartialEq, Eq)]
+pub enum Word {
+    Applied,
+    Held,
+    Disk,
+}
+
+#[derive(Drop)]
+pub struct Scripted {
+    pos: Pos,
+    script: &'static [Word],
+    at: usize,
+    /// The number of bytes of each file that it was asked, 1 for Where and 0 for a drop.
+    pub asked: Vec<u64>,
+}
+
+impl Scripted {
+    pub fn new(alloc: Global, pos: Pos, script: &'static [Word]) -> Scripted {
+        Scripted {
+            pos,
+            script,
+            at: 0,
+            asked: Vec::new(alloc),
+        }
+    }
+
+    fn next_word(&mut self) -> Answer {
+        let word = self.script.get(self.at);
+        self.at = self.at.wrapping_add(1);
+        match word {
+            Some(Word::Held) => Answer::Held(LockId::Shared),
+            Some(Word::Disk) => Answer::Refused(Refusal::Store(StoreFault::Disk)),
+            _ => Answer::Applied(self.pos),
+        }
+    }
+}
+
+impl Machine for Scripted {
+    type Ask = Ask;
+
+    type Answer = Answer;
+
+    ghost steps = { λ before caller ask answer after. Unit {0} };
+
+    fn step(&mut self, _caller: u64, ask: &Ask) -> Answer {
+        match ask {
+            Ask::Where => {
+                let _ = self.asked.push(1);
+                Answer::At(self.pos)
+            }
+            Ask::Frame { bytes, .. } => {
+                let _ = self.asked.push(bytes.as_slice().len() as u64);
+                self.next_word()
+            }
+            Ask::Drop { .. } => {
+                let _ = self.asked.push(0);
+                self.next_word()
+            }
+            _ => Answer::Quiet,
+        }
+    }
+}

@@ -1,0 +1,143 @@
+-- Streams: what was told so far, and how they end.
+use Rattle.std.proofs.Common.{◌≡◌, ◌⊎◌, inl, inr, ℕ, ◌+◌, Bool, true, false, IsTrue, List, [], ◌∷◌, ◌++◌, length, take, Option, None, Some, Result, Ok, Err, OnOk, OnErr, refl, sym, ap, ◌∙◌, subst, append_assoc, append-nil, length-append, arith, ◌<◌}
+use Rattle.std.specs.Io.KnownBytes.{Appends, Keeps}
+use Rattle.std.proofs.KnownBytes.{Appends-nil, Appends-trans, Keeps-refl}
+use Rattle.std.proofs.lemmas.List.{take-append-le}
+use Rattle.std.proofs.Math.Seq.{take-append-add}
+use Rattle.lf_base.specs.Faults.{Rose}
+use Rattle.lf_base.specs.declared.pos.Pos.{Pos}
+use Rattle.lf_base.specs.declared.session_end.SessionEnd.{SessionEnd}
+use Rattle.lf_base.specs.declared.session_end.SessionEnd.TheVariants as ends
+use Rattle.link_session.specs.Asking.{EndsAsking}
+use Rattle.link_session.specs.Rounds.{Place}
+use Rattle.link_session.specs.Stands.{Asker, IsStill, Stand}
+use Rattle.link_session.specs.Writing.{AppendsPart}
+use Rattle.node_core.specs.declared.answer.Answer.{Answer}
+use Rattle.stream_primary.specs.declared.standing.Standing.{Standing}
+use Rattle.stream_primary.specs.Telling.{goes_on, next, standing_at, words}
+use Rattle.stream_primary.specs.Streaming.{NodeEntry, AreHellos, AsksHello, EndsRound, EndsTelling, IsHello, IsRound, Streamed, Streams, behind, told_by}
+use Rattle.stream_primary.proofs.Wholes.{kept_appends}
+
+-- ---- two texts, one behind the other
+
+pub part_of_front : (old new : Option (List ℕ)) (front back : List ℕ) → AppendsPart old new front → AppendsPart old new (front ++ back)
+part_of_front old new front back a = (
+  a.0,
+  omega (arith, length-append front back, a.1),
+  subst (λ (text : List ℕ). Appends old new text) (sym (take-append-le a.0 front back (omega (arith, a.1)))) a.2,
+)
+
+pub part_of_back : (old mid new : Option (List ℕ)) (front back : List ℕ) → Appends old mid front → AppendsPart mid new back → AppendsPart old new (front ++ back)
+part_of_back old mid new front back w a = (
+  length front + a.0,
+  omega (arith, length-append front back, a.1),
+  subst (λ (text : List ℕ). Appends old new text) (sym (take-append-add front back a.0)) (Appends-trans old mid new front (take a.0 back) w a.2),
+)
+
+pub both_written : {T F : Type 0} (old mid new : Option (List ℕ)) (front back : List ℕ) (r : Result T F) → Appends old mid front → OnOk r (Appends mid new back)
+    → OnOk r (Appends old new (front ++ back))
+both_written old mid new front back (Ok x) w a = Appends-trans old mid new front back w a
+both_written old mid new front back (Err e) w a = tt
+
+pub back_in_part : {T F : Type 0} (old mid new : Option (List ℕ)) (front back : List ℕ) (r : Result T F) → Appends old mid front → OnErr r (AppendsPart mid new back)
+    → OnErr r (AppendsPart old new (front ++ back))
+back_in_part old mid new front back (Ok x) w a = tt
+back_in_part old mid new front back (Err e) w a = part_of_back old mid new front back w a
+
+-- ---- one Hello
+
+-- it was asked, and so its answer was told
+pub told_on : (who : Asker) (name : List ℕ) (at : Standing) (given : Answer) (old new : Place NodeEntry) (before now turns : ℕ) (r : Result Standing SessionEnd)
+    → AsksHello who at.pos given old.entries new.entries → EndsTelling name at given old.taken new.taken before now turns r
+    → EndsRound who name at old new before now turns r
+told_on who name at given old new before now turns (Ok then) h t = (given, record { hello = h; written = t.0 }, t.1, t.2, t.3)
+told_on who name at given old new before now turns (Err ends.Closed) h t = (given, record { hello = h; written = t.0 }, t.1, t.2)
+told_on who name at given old new before now turns (Err ends.WriteFault) h t = (given, record { hello = h; written = t.0 }, t.1)
+told_on who name at given old new before now turns (Err ends.Turns) h t = (inr (given, record { hello = h; written = t.0 }), t.1, t.2)
+told_on who name at given old new before now turns (Err ends.NoMemory) h t = ((given, record { hello = h; written = t.0 }), t.1)
+told_on who name at given old new before now turns (Err ends.ReadFault) h t = absurd t
+told_on who name at given old new before now turns (Err ends.BadMessage) h t = absurd t
+told_on who name at given old new before now turns (Err ends.Worn) h t = absurd t
+
+-- it was not asked
+pub not_asked : (T : Type 0) (who : Asker) (name : List ℕ) (at : Standing) (old new : Place NodeEntry) (count turns : ℕ) (worn : Type 0) (end : SessionEnd)
+    → new.taken ≡ old.taken → new.entries ≡ old.entries → EndsAsking {T = T} worn turns (Err end) → EndsRound who name at old new count count turns (Err end)
+not_asked T who name at old new count turns worn ends.Turns same still e =
+    (inl (record { written = subst (λ (t : Option (List ℕ)). Keeps old.taken t) (sym same) (Keeps-refl old.taken); asked = still }), e, refl)
+not_asked T who name at old new count turns worn ends.Worn same still e =
+    (record { written = subst (λ (t : Option (List ℕ)). Keeps old.taken t) (sym same) (Keeps-refl old.taken); asked = still }, refl)
+not_asked T who name at old new count turns worn ends.Closed same still e = absurd e
+not_asked T who name at old new count turns worn ends.ReadFault same still e = absurd e
+not_asked T who name at old new count turns worn ends.WriteFault same still e = absurd e
+not_asked T who name at old new count turns worn ends.BadMessage same still e = absurd e
+not_asked T who name at old new count turns worn ends.NoMemory same still e = absurd e
+
+-- ---- Hellos
+
+-- none yet
+pub none_told : (who : Asker) (name : List ℕ) (start : Standing) (place : Place NodeEntry) → Streamed who name start start place place
+none_told who name start place = record {
+  hellos = [];
+  each = tt;
+  stands = refl;
+  written = Appends-nil place.taken;
+  asked = sym (append-nil place.entries);
+}
+
+each_pushed : (who : Asker) (start : Standing) (hellos : List NodeEntry) (one : NodeEntry) → AreHellos who start hellos → IsHello who (behind start hellos).pos one
+    → IsTrue (goes_on one.answer) → AreHellos who start (hellos ++ one ∷ [])
+each_pushed who start [] one all h g = (h, g, tt)
+each_pushed who start (x ∷ xs) one all h g = (all.0, all.1, each_pushed who (next start x.answer) xs one all.2 h g)
+
+behind_pushed : (start : Standing) (hellos : List NodeEntry) (one : NodeEntry) → behind start (hellos ++ one ∷ []) ≡ next (behind start hellos) one.answer
+behind_pushed start [] one = refl
+behind_pushed start (x ∷ xs) one = behind_pushed (next start x.answer) xs one
+
+told_pushed : (name : List ℕ) (start : Standing) (hellos : List NodeEntry) (one : NodeEntry)
+    → told_by name start hellos ++ words name (behind start hellos).told one.answer ≡ told_by name start (hellos ++ one ∷ [])
+told_pushed name start [] one = sym (append-nil (words name start.told one.answer))
+told_pushed name start (x ∷ xs) one =
+    append_assoc (words name start.told x.answer) (told_by name (next start x.answer) xs) (words name (behind (next start x.answer) xs).told one.answer)
+    ∙ ap (λ (bytes : List ℕ). words name start.told x.answer ++ bytes) (told_pushed name (next start x.answer) xs one)
+
+is_true : (b : Bool) → b ≡ true → IsTrue b
+is_true true e = refl
+is_true false e = absurd cc
+
+-- one more was told
+pub one_told : (who who_now : Asker) (name : List ℕ) (start at then : Standing) (old mid new : Place NodeEntry) (before now turns : ℕ) → who_now ≡ who → Streamed who name start at old mid
+    → EndsRound who_now name at mid new before now turns (Ok then) → Streamed who name start then old new
+one_told who who_now name start at then old mid new before now turns by s told =
+    let e : EndsRound who name at mid new before now turns (Ok then) = subst (λ (w : Asker). EndsRound w name at mid new before now turns (Ok then)) by told in
+    let given : Answer = e.0 in
+    let one : NodeEntry = e.1.hello.one in
+    let same : one.answer ≡ given = e.1.hello.answered in
+    record {
+      hellos = s.hellos ++ one ∷ [];
+      each = each_pushed who start s.hellos one s.each (subst (λ (st : Standing). IsHello who st.pos one) s.stands e.1.hello.hello)
+          (is_true (goes_on one.answer) (ap goes_on same ∙ e.2));
+      stands = e.3 ∙ ap (λ (st : Standing). next st given) s.stands ∙ ap (λ (a : Answer). next (behind start s.hellos) a) (sym same)
+          ∙ sym (behind_pushed start s.hellos one);
+      written = subst (λ (bytes : List ℕ). Appends old.taken new.taken bytes)
+          (ap (λ (st : Standing). told_by name start s.hellos ++ words name st.told given) s.stands
+          ∙ ap (λ (a : Answer). told_by name start s.hellos ++ words name (behind start s.hellos).told a) (sym same)
+          ∙ told_pushed name start s.hellos one)
+          (Appends-trans old.taken mid.taken new.taken (told_by name start s.hellos) (words name at.told given) s.written e.1.written);
+      asked = e.1.hello.asked ∙ ap (λ (es : List NodeEntry). es ++ one ∷ []) s.asked ∙ append_assoc old.entries s.hellos (one ∷ []);
+    }
+
+-- the stream begins where the request was read
+pub stream_from : (who : Asker) (name : List ℕ) (from : Pos) (old mid new : Stand NodeEntry) (turns : ℕ) (end : SessionEnd) → Keeps old.place.taken mid.place.taken
+    → mid.place.entries ≡ old.place.entries → mid.faults ≡ old.faults → Streams who name from mid new turns end → Streams who name from old new turns end
+stream_from who name from old mid new turns end kept entries faults s = record {
+  at = s.at;
+  place = s.place;
+  rounds = record {
+    hellos = s.rounds.hellos;
+    each = s.rounds.each;
+    stands = s.rounds.stands;
+    written = kept_appends old.place.taken mid.place.taken s.place.taken (told_by name (standing_at from) s.rounds.hellos) kept s.rounds.written;
+    asked = s.rounds.asked ∙ ap (λ (es : List NodeEntry). es ++ s.rounds.hellos) entries;
+  };
+  last = subst (λ (count : ℕ). EndsRound who name s.at s.place new.place count new.faults turns (Err end)) faults s.last;
+}

@@ -1,0 +1,25 @@
+use Rattle.std.proofs.Common.{◌∙◌, arith}
+use Rattle.std.proofs.KnownBytes.{Keeps-trans}
+use Rattle.link_session.specs.Stands.{stand}
+use Rattle.link_session.proofs.Stands.{same_asker, spent_on}
+use Rattle.stream_primary.proofs.Streams.{one_told}
+use Rattle.stream_primary.proofs.streaming.stream.Goals as goal
+
+pub hellos-preserved : goal.hellos-preserved
+hellos-preserved g c = record {
+  told = one_told _ _ _ _ c.hellos.at c.in-Ok.next _
+      (stand g.L.Link c.hellos.link (g.S.Steps.entries c.hellos.steps)).place (stand g.L.Link c.greet.new.link (g.S.Steps.entries c.greet.new.steps)).place
+      (g.L.Link.faults c.hellos.link) (g.L.Link.faults c.greet.new.link) c.greet.new.turns
+      (same_asker _ _ _ _ c.hellos.invariant.same.1 c.hellos.invariant.same.3) c.hellos.invariant.told c.in-Ok.ensures.round;
+  left = Keeps-trans _ _ _ c.hellos.invariant.left c.greet.ensures.left;
+  same = (
+    c.greet.ensures.same.0 ∙ c.hellos.invariant.same.0,
+    c.greet.ensures.same.1 ∙ c.hellos.invariant.same.1,
+    λ legal. c.greet.ensures.same.2 (c.hellos.invariant.same.2 legal),
+    c.greet.ensures.same.3 ∙ c.hellos.invariant.same.3,
+  );
+  turns = omega (arith, c.in-Ok.ensures.spent.0, c.hellos.invariant.turns);
+  spent = spent_on _ _ _ (stand g.L.Link c.args.link.now (g.S.Steps.entries c.args.steps.now)) (stand g.L.Link c.hellos.link (g.S.Steps.entries c.hellos.steps))
+      (stand g.L.Link c.greet.new.link (g.S.Steps.entries c.greet.new.steps)) c.hellos.invariant.spent c.in-Ok.ensures.spent.1;
+  count = c.in-Ok.ensures.round.4 ∙ c.hellos.invariant.count;
+}

@@ -1,0 +1,20 @@
+use Rattle.std.proofs.Common.{◌≡◌, ◌≤◌}
+use Rattle.std.specs.Io.KnownBytes.{Keeps}
+use Rattle.link_session.specs.Stands.{asker, stand, AsksOn, Spent}
+use Rattle.stream_primary.specs.Telling.{standing_at}
+use Rattle.stream_primary.specs.Streaming.{Streamed}
+use Rattle.stream_primary.proofs.streaming.stream.Given as goal
+
+abbrev pub invariant-hellos : goal.invariant-hellos
+invariant-hellos g l = record {
+  told : Streamed (asker g.S.Steps g.C.Clock l.initial.steps l.initial.clock) l.name (standing_at l.fn.pos) l.at
+      (stand g.L.Link l.initial.link (g.S.Steps.entries l.initial.steps)).place (stand g.L.Link l.link (g.S.Steps.entries l.steps)).place;
+  left : Keeps (g.L.Link.left l.initial.link) (g.L.Link.left l.link);
+  same : AsksOn g.S.Steps g.C.Clock l.initial.steps l.steps l.initial.clock l.clock;
+  turns : l.turns ≤ l.initial.turns;
+  spent : Spent l.initial.turns (stand g.L.Link l.initial.link (g.S.Steps.entries l.initial.steps)) l.turns (stand g.L.Link l.link (g.S.Steps.entries l.steps));
+  count : g.L.Link.faults l.link ≡ g.L.Link.faults l.initial.link;
+}
+
+abbrev pub decreases-hellos : goal.decreases-hellos
+decreases-hellos g l = l.turns

@@ -1,0 +1,71 @@
+-- The reply to what is refused: a status, and as body the refusal's name.
+use Rattle.std.specs.Prelude.{◌≡◌, ℕ, List, [], ◌∷◌, ◌++◌, codes, length, Option, Some}
+use Rattle.std.specs.Io.KnownBytes.{Appends}
+use Rattle.lf_base.specs.Faults.{Rose}
+use Rattle.lf_base.specs.declared.session_end.SessionEnd.{SessionEnd}
+use Rattle.lf_base.specs.declared.session_end.SessionEnd.TheVariants as ends
+use Rattle.link_session.specs.Writing.{AppendsPart}
+use Rattle.node_core.specs.declared.answer.Answer.{Answer}
+use Rattle.node_core.specs.declared.answer.Answer.TheVariants as answer
+use Rattle.node_core.specs.declared.refusal.Refusal.{Refusal}
+use Rattle.node_core.specs.declared.refusal.Refusal.TheVariants as refusal
+use Rattle.stream_wire.specs.Writing.{reply_head}
+use Rattle.txn_log.specs.declared.fault.StoreFault.{StoreFault}
+use Rattle.txn_log.specs.declared.fault.StoreFault.TheVariants as store
+
+-- a reply with a body
+abbrev pub reply : ℕ → List ℕ → List ℕ
+reply status body = reply_head status (Some (length body)) ++ body
+
+abbrev pub store_status : StoreFault → ℕ
+store_status store.Disk = 500
+store_status store.Broken = 500
+store_status (store.NotNext have want) = 409
+store_status (store.SumDiffers want got) = 409
+store_status store.Limit = 413
+store_status store.NoMemory = 507
+store_status (store.PageSize have want) = 409
+
+abbrev pub store_name : StoreFault → List ℕ
+store_name store.Disk = codes "Disk"
+store_name store.Broken = codes "Broken"
+store_name (store.NotNext have want) = codes "NotNext"
+store_name (store.SumDiffers want got) = codes "SumDiffers"
+store_name store.Limit = codes "Limit"
+store_name store.NoMemory = codes "NoMemory"
+store_name (store.PageSize have want) = codes "PageSize"
+
+-- the status of a refusal
+abbrev pub status_of : Refusal → ℕ
+status_of refusal.NotPrimary = 503
+status_of refusal.NotReplica = 503
+status_of (refusal.Ltx fault) = 400
+status_of (refusal.Store fault) = store_status fault
+status_of refusal.Absent = 404
+status_of refusal.NoMemory = 507
+
+-- its name, which of a store's fault is the fault's
+abbrev pub name_of : Refusal → List ℕ
+name_of refusal.NotPrimary = codes "NotPrimary"
+name_of refusal.NotReplica = codes "NotReplica"
+name_of (refusal.Ltx fault) = codes "Ltx"
+name_of (refusal.Store fault) = store_name fault
+name_of refusal.Absent = codes "Absent"
+name_of refusal.NoMemory = codes "NoMemory"
+
+-- the reply to a refusal: its name and a newline
+abbrev pub refusal_reply : Refusal → List ℕ
+refusal_reply refused = reply (status_of refused) (name_of refused ++ 10 ∷ [])
+
+-- the reply to a request whose answer is no stream. An answer to something else is a failure without a name
+abbrev pub refused_reply : Answer → List ℕ
+refused_reply (answer.Refused refused) = refusal_reply refused
+refused_reply _ = reply 500 []
+
+-- how a request ends that is answered by this text alone, and what became of the count of faults
+abbrev pub EndsReply : List ℕ → Option (List ℕ) → Option (List ℕ) → ℕ → ℕ → ℕ → SessionEnd → Type 0
+EndsReply text old new before now turns ends.Closed = Appends old new text × (now ≡ before)
+EndsReply text old new before now turns ends.WriteFault = AppendsPart old new text × Rose before now
+EndsReply text old new before now turns ends.Turns = AppendsPart old new text × (turns ≡ 0) × (now ≡ before)
+EndsReply text old new before now turns ends.NoMemory = AppendsPart old new text × (now ≡ before)
+EndsReply text old new before now turns _ = ⊥

@@ -1,0 +1,120 @@
+//! One Hello: it is asked, and its answer told.
+ghost use Rattle.std.specs.Prelude.{◌≡◌, ◌++◌, length, Err, IfErr, IfOk, OnErr, OnOk};
+ghost use Rattle.std.specs.Io.KnownBytes.{Appends, Keeps};
+ghost use Rattle.lf_base.specs.declared.session_end.SessionEnd.TheVariants as ends;
+ghost use Rattle.link_session.specs.Asking.{EndsAsking};
+ghost use Rattle.link_session.specs.Spending.{AsksFor, MovesFor};
+ghost use Rattle.link_session.specs.Stands.{asker, stand, AsksOn, Spends};
+ghost use Rattle.link_session.specs.Writing.{AppendsPart, EndsWriting};
+ghost use Rattle.stream_primary.specs.Streaming.{AsksHello, EndsRound, EndsTelling};
+
+use crate::standing::Standing;
+use crate::telling::{file_of, goes_on, next, put_words};
+use lf_base::{Clock, Link, Name, Pause, Pos, SessionEnd};
+use link_session::{Steps, Turns, write_whole};
+use node_core::{Answer, Ask};
+use std::alloc::Global;
+
+/// Asks one Hello and tells its answer, and answers how the follower stands then.
+///
+/// Closed where the Hello was refused, and that is told.
+pub fn greet<S: Steps<Ask = Ask, Answer = Answer>, L: Link, C: Clock, P: Pause>(
+    alloc: Global,
+    steps: &mut S,
+    name: &Name,
+    link: &mut L,
+    clock: &mut C,
+    pause: &mut P,
+    at: Standing,
+    text: &mut Vec<u8>,
+    turns: &mut Turns,
+) -> Result<Standing, SessionEnd>
+    ensures round { EndsRound (asker S.Steps C.Clock steps.old clock.old) name.now at (stand L.Link link.old (S.entries steps.old)).place (stand L.Link link.new (S.entries steps.new)).place (L.faults link.old) (L.faults link.new) turns.new result }
+    ensures left { Keeps (L.left link.old) (L.left link.new) }
+    ensures same { AsksOn S.Steps C.Clock steps.old steps.new clock.old clock.new }
+    ensures spent { Spends turns.old (stand L.Link link.old (S.entries steps.old)) turns.new (stand L.Link link.new (S.entries steps.new)) result }
+    ensures worn { IfErr result (λ end. end ≡ ends.Worn → S.is_worn steps.new) }
+{
+    match ask_hello(steps, clock, at.pos, turns) {
+        Ok(answer) => tell(alloc, name, link, pause, at, answer, text, turns),
+        Err(end) => Err(end),
+    }
+}
+
+/// Asks what is owed to a follower at this position. It is a turn.
+fn ask_hello<S: Steps<Ask = Ask, Answer = Answer>, C: Clock>(
+    steps: &mut S,
+    clock: &mut C,
+    pos: Pos,
+    turns: &mut Turns,
+) -> Result<Answer, SessionEnd>
+    ensures asked { IfOk result (λ answer. AsksHello (asker S.Steps C.Clock steps.old clock.old) pos answer (S.entries steps.old) (S.entries steps.new)) }
+    ensures still { OnErr result (S.entries steps.new ≡ S.entries steps.old) }
+    ensures same { AsksOn S.Steps C.Clock steps.old steps.new clock.old clock.new }
+    ensures spent { AsksFor result turns.old (length (S.entries steps.old)) turns.new (length (S.entries steps.new)) }
+    ensures cause { EndsAsking (S.is_worn steps.new) turns.new result }
+{
+    match turns.take() {
+        Ok(()) => {}
+        Err(_) => return Err(SessionEnd::Turns),
+    }
+    let ask = Ask::Hello {
+        now: clock.now_ms(),
+        pos,
+    };
+    match steps.ask(&ask) {
+        Ok(answer) => Ok(answer),
+        Err(_) => Err(SessionEnd::Worn),
+    }
+}
+
+/// Tells the follower the answer, and naps where it is level. Nothing is written where memory runs out.
+fn tell<L: Link, P: Pause>(
+    alloc: Global,
+    name: &Name,
+    link: &mut L,
+    pause: &mut P,
+    at: Standing,
+    answer: Answer,
+    text: &mut Vec<u8>,
+    turns: &mut Turns,
+) -> Result<Standing, SessionEnd>
+    ensures told { EndsTelling name.now at answer (L.taken link.old) (L.taken link.new) (L.faults link.old) (L.faults link.new) turns.new result }
+    ensures left { Keeps (L.left link.old) (L.left link.new) }
+    ensures spent { MovesFor result turns.old (L.moves link.old) turns.new (L.moves link.new) }
+{
+    match put_words(alloc, name, at.told, &answer, text) {
+        Ok(()) => {}
+        Err(_) => return Err(SessionEnd::NoMemory),
+    }
+    match write_both(link, text.as_slice(), file_of(&answer), turns) {
+        Ok(()) => {}
+        Err(end) => return Err(end),
+    }
+    if !goes_on(&answer) {
+        return Err(SessionEnd::Closed);
+    }
+    if matches!(answer, Answer::Level(_)) {
+        pause.nap();
+    }
+    Ok(next(at, &answer))
+}
+
+/// Writes one text and then another.
+fn write_both<L: Link>(
+    link: &mut L,
+    front: &[u8],
+    back: &[u8],
+    turns: &mut Turns,
+) -> Result<(), SessionEnd>
+    ensures whole { OnOk result (Appends (L.taken link.old) (L.taken link.new) (front.now ++ back.now)) }
+    ensures part { OnErr result (AppendsPart (L.taken link.old) (L.taken link.new) (front.now ++ back.now)) }
+    ensures left { Keeps (L.left link.old) (L.left link.new) }
+    ensures spent { MovesFor result turns.old (L.moves link.old) turns.new (L.moves link.new) }
+    ensures cause { EndsWriting (L.faults link.old) (L.faults link.new) turns.new result }
+{
+    match write_whole(link, front, turns) {
+        Ok(()) => write_whole(link, back, turns),
+        Err(end) => Err(end),
+    }
+}

@@ -1,0 +1,150 @@
+//! What an answer is to a follower: the bytes, and how it stands then. Nothing is written here.
+ghost use Rattle.std.specs.Prelude.{◌≡◌, ◌++◌, false, OnOk};
+ghost use Rattle.stream_primary.specs.Telling.{begun, end_frame, file_of, frame_for, goes_on, last_words, next, opening, ready_frame, words};
+ghost use Rattle.stream_wire.specs.Frame.{frame_text};
+ghost use Rattle.stream_wire.specs.declared.frame.Frame.TheVariants as frame;
+
+use crate::replies::put_refused;
+use crate::standing::{Standing, Told};
+use lf_base::{Name, NoMemory, Pos};
+use node_core::{Answer, Refusal};
+use std::alloc::Global;
+use stream_wire::{Frame, encode_frame, encode_ltx_front, write_head};
+
+/// Whether the stream goes on with this answer.
+pub fn goes_on(answer: &Answer) -> bool
+    ensures { result ≡ goes_on answer.now }
+{
+    matches!(
+        answer,
+        Answer::Item { .. } | Answer::Gone | Answer::Level(_)
+    )
+}
+
+/// How the follower stands behind this answer.
+pub fn next(at: Standing, answer: &Answer) -> Standing
+    ensures { result ≡ next at answer.now }
+{
+    match answer {
+        Answer::Item { after, .. } => Standing {
+            pos: *after,
+            told: begun(at.told),
+        },
+        Answer::Gone => Standing {
+            pos: Pos { txid: 0, sum: 0 },
+            told: begun(at.told),
+        },
+        Answer::Level(_) => Standing {
+            pos: at.pos,
+            told: Told::Ready,
+        },
+        _ => at,
+    }
+}
+
+fn begun(told: Told) -> Told
+    ensures { result ≡ begun told }
+{
+    match told {
+        Told::Ready => Told::Ready,
+        _ => Told::Head,
+    }
+}
+
+/// The file that an answer brings.
+pub fn file_of(answer: &Answer) -> &[u8]
+    ensures { result.now ≡ file_of answer.now }
+{
+    match answer {
+        Answer::Item { ltx, .. } => ltx.as_slice(),
+        _ => b"",
+    }
+}
+
+/// Puts the bytes that an answer is to the follower in place of what is in the buffer, up to its file.
+pub fn put_words(
+    alloc: Global,
+    name: &Name,
+    told: Told,
+    answer: &Answer,
+    text: &mut Vec<u8>,
+) -> Result<(), NoMemory>
+    ensures { OnOk result (text.new.items ++ file_of answer.now ≡ words name.now told answer.now) }
+{
+    text.clear();
+    if !goes_on(answer) {
+        return put_last_words(alloc, told, answer, text);
+    }
+    match put_opening(alloc, told, text) {
+        Ok(()) => put_frame(name, told, answer, text),
+        Err(_) => Err(NoMemory),
+    }
+}
+
+fn put_opening(alloc: Global, told: Told, text: &mut Vec<u8>) -> Result<(), NoMemory>
+    ensures { OnOk result (text.new.items ≡ text.old.items ++ opening told) }
+{
+    match told {
+        Told::Nothing => write_head(alloc, 200, None, text),
+        Told::Head | Told::Ready => Ok(()),
+    }
+}
+
+fn put_frame(name: &Name, told: Told, answer: &Answer, text: &mut Vec<u8>) -> Result<(), NoMemory>
+    ensures { OnOk result (text.new.items ++ file_of answer.now ≡ text.old.items ++ frame_for name.now told answer.now) }
+{
+    match answer {
+        Answer::Item { ltx, .. } => put_front(name, ltx.as_slice(), text),
+        Answer::Gone => put_drop(name, text),
+        Answer::Level(pos) => put_ready(name, told, *pos, text),
+        _ => Ok(()),
+    }
+}
+
+fn put_front(name: &Name, ltx: &[u8], text: &mut Vec<u8>) -> Result<(), NoMemory>
+    ensures { OnOk result (text.new.items ++ ltx.now ≡ text.old.items ++ frame_text (frame.Ltx name.now ltx.now)) }
+{
+    encode_ltx_front(name, ltx.len() as u64, text)
+}
+
+fn put_drop(name: &Name, text: &mut Vec<u8>) -> Result<(), NoMemory>
+    ensures { OnOk result (text.new.items ≡ text.old.items ++ frame_text (frame.Drop name.now)) }
+{
+    let name = name.copy()?;
+    encode_frame(&Frame::Drop { name }, text)
+}
+
+fn put_ready(name: &Name, told: Told, pos: Pos, text: &mut Vec<u8>) -> Result<(), NoMemory>
+    ensures { OnOk result (text.new.items ≡ text.old.items ++ ready_frame name.now told pos) }
+{
+    if told == Told::Ready {
+        return Ok(());
+    }
+    let name = name.copy()?;
+    encode_frame(&Frame::Ready { name, pos }, text)
+}
+
+/// Appends what ends the stream, or the reply where none was begun.
+fn put_last_words(
+    alloc: Global,
+    told: Told,
+    answer: &Answer,
+    text: &mut Vec<u8>,
+) -> Result<(), NoMemory>
+    requires { goes_on answer.now ≡ false }
+    ensures { OnOk result (text.new.items ++ file_of answer.now ≡ text.old.items ++ last_words told answer.now) }
+{
+    match told {
+        Told::Nothing => put_refused(alloc, answer, text),
+        Told::Head | Told::Ready => put_end(answer, text),
+    }
+}
+
+fn put_end(answer: &Answer, text: &mut Vec<u8>) -> Result<(), NoMemory>
+    ensures { OnOk result (text.new.items ≡ text.old.items ++ end_frame answer.now) }
+{
+    match answer {
+        Answer::Refused(Refusal::NotPrimary) => encode_frame(&Frame::End, text),
+        _ => Ok(()),
+    }
+}

@@ -1,0 +1,16 @@
+use Rattle.std.proofs.Common.{ap, sym, subst, ◌∙◌, arith, length, ◌-◌, take}
+use Rattle.lf_base.specs.Name.{IsName}
+use Rattle.stream_wire.specs.StreamLine.{line_end, ReadsLineEnd}
+use Rattle.stream_wire.proofs.StreamLines.{end_part, line_length, name_part}
+use Rattle.stream_wire.proofs.stream_line.read_stream_line.Goals as goal
+
+pub returns-then-line-lt-LINE_END : goal.returns-then-line-lt-LINE_END
+returns-then-line-lt-LINE_END c = λ name pos is fits e. absurd omega (arith, line_length c.args.line.now name pos e, c.if-line-lt-LINE_END.true)
+
+pub returns-in_default : goal.returns-in_default
+returns-in_default c = λ name pos is fits e.
+    c.in_default.ensures pos fits (c.split_at.ensures.back ∙ end_part c.args.line.now name pos e)
+
+pub returns-in-Ok-None : goal.returns-in-Ok-None
+returns-in-Ok-None c = λ name pos is fits e.
+    (rw c.in-Ok-None.field-0-is at c.in-Ok-None.ensures) (subst IsName (sym (c.split_at.ensures.front ∙ name_part c.args.line.now name pos e)) is)
