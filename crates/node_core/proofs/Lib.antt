@@ -11,3 +11,11 @@ pub mod Histories
 pub mod Leaving
 pub mod Answering
 pub mod Committed
+pub mod Owing
+pub mod Locks
+pub mod Asking
+pub mod Framed
+pub mod Refusing
+pub mod Following
+pub mod Looked
+pub mod Texts
