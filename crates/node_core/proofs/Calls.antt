@@ -19,7 +19,7 @@ Begins (Ok told) = Unit {0}
 Begins (Err fault.Disk) = Unit {0}
 Begins (Err why) = ⊥
 
-stays : (was : Option Failure) → broken_by was None ≡ was
+pub stays : (was : Option Failure) → broken_by was None ≡ was
 stays None = refl
 stays (Some failure) = refl
 

@@ -3,6 +3,7 @@ use Rattle.std.proofs.Common.{◌≡◌, ◌∙◌, ℕ, true, false, List, [], 
 use Rattle.std.proofs.Math.Logic.{∥∥₁_elim, ∥∥₁_map, ∥∥₁_prop}
 use Rattle.std.proofs.Props.{props}
 use Rattle.lf_base.specs.Faults.{Rose}
+use Rattle.byte_locks.specs.declared.lock_id.LockId.{LockId}
 use Rattle.lf_disk.specs.History.{History}
 use Rattle.lf_disk.proofs.Moments.{past_joins}
 use Rattle.txn_log.specs.declared.fault.StoreFault.{StoreFault}
@@ -10,6 +11,7 @@ use Rattle.txn_log.specs.declared.fault.StoreFault.TheVariants as fault
 use Rattle.txn_log.specs.Calls.{Moved, Went, WentPruned}
 use Rattle.world_laws.specs.Answers.{Answers, LeavesUndone}
 use Rattle.world_laws.specs.Node.{Answer, Ask, Done, File, IsPlain, IsSoundNode, NodeState, Other, Primary, Refused, Replica, Role}
+use Rattle.world_laws.specs.Served.{HoldsBack}
 use Rattle.world_laws.specs.Step.{Makes, MayTryMore, Steady, nothing}
 use Rattle.world_laws.specs.Store.{FailedBefore, FailedIn, Failure, PruneTo, StoreCall, begun_by, broken_by}
 use Rattle.node_core.specs.Safely.{StepsSafely}
@@ -35,12 +37,12 @@ some-broken (Some earlier) failure = refl
 
 -- what is left to say of a step, once its calls are known
 pub record Says (old : NodeState) (role : Role) (ask : Ask) (did : List StoreCall) (failed : Option Failure) (answer : Answer) (new : NodeState) : Type 0 where
-  pub makes : Makes role old.waits ask (did ++ begun_by failed)
-  pub tries : failed ≡ Some FailedBefore → MayTryMore role old.waits ask did
+  pub makes : Makes old.store role old.waits ask (did ++ begun_by failed)
+  pub tries : failed ≡ Some FailedBefore → MayTryMore old.store role old.waits ask did
   pub rose : IsSome failed → Rose old.faults new.faults
   pub answers : Answers old role ask did failed answer new
   pub refused : LeavesUndone answer did
-  pub steady : IsPlain old → IsPlain new → Steady old new
+  pub steady : IsPlain old → IsPlain new → (lock : LockId) → HoldsBack old.served old.store.image lock → Steady old new
   pub keeps : IsSoundNode new
 
 -- a step that read pages and then made these calls
@@ -60,7 +62,7 @@ steps old new ask answer role did failed start mid end read moved says = record 
     rose = says.rose;
     answers = says.answers;
     refused = says.refused;
-    steady = λ plain still lock held. says.steady plain still;
+    steady = says.steady;
     keeps = λ sound. says.keeps;
   };
   later = ∥∥₁_elim read (hlevel props) (λ rests. omega (arith, rests.moment, moved.moments.later));
@@ -78,7 +80,7 @@ says-none old new role ask answer answers undone steady sound = record {
   rose = λ some. absurd (false_true some);
   answers = answers;
   refused = undone;
-  steady = steady;
+  steady = λ plain still lock held. steady plain still;
   keeps = sound;
 }
 
@@ -99,8 +101,8 @@ module _ (old new : NodeState) (start mid end : History) (read : OnlyRead start 
   refuses : Moved old.store old.failed mid [] None new.store new.failed end → StepsSafely old File (Refused Other) new start end
   refuses moved = steps old new File (Refused Other) Primary [] None start mid end read moved (says-none old new Primary File (Refused Other) tt refl (leading old new primary) sound)
 
-  module _ (call : StoreCall) (makes : Makes Primary old.waits File (call ∷ [])) where
-    fails : (failed : Failure) → Makes Primary old.waits File ([] ++ begun_by (Some failed)) → Rose old.faults new.faults → Moved old.store old.failed mid [] (Some failed) new.store new.failed end
+  module _ (call : StoreCall) (makes : Makes old.store Primary old.waits File (call ∷ [])) where
+    fails : (failed : Failure) → Makes old.store Primary old.waits File ([] ++ begun_by (Some failed)) → Rose old.faults new.faults → Moved old.store old.failed mid [] (Some failed) new.store new.failed end
         → StepsSafely old File (Refused Other) new start end
     fails failed begun rose moved = steps old new File (Refused Other) Primary [] (Some failed) start mid end read moved record {
       makes = begun;
@@ -108,7 +110,7 @@ module _ (old new : NodeState) (start mid end : History) (read : OnlyRead start 
       rose = λ some. rose;
       answers = tt;
       refused = refl;
-      steady = leading old new primary;
+      steady = λ plain still lock held. leading old new primary plain still;
       keeps = sound;
     }
 
@@ -120,7 +122,7 @@ module _ (old new : NodeState) (start mid end : History) (read : OnlyRead start 
       rose = λ some. absurd (false_true some);
       answers = tt;
       refused = tt;
-      steady = leading old new primary;
+      steady = λ plain still lock held. leading old new primary plain still;
       keeps = sound;
     }
     calls (Err fault.Disk) (inl before) rose = fails FailedBefore nothing (rose refl) before
@@ -132,8 +134,8 @@ module _ (old new : NodeState) (start mid end : History) (read : OnlyRead start 
     calls (Err (fault.SumDiffers want got)) went rose = refuses went
     calls (Err (fault.PageSize have want)) went rose = refuses went
 
-    module _ (keep : ℕ) (both : Makes Primary old.waits File (call ∷ PruneTo keep ∷ [])) where
-      pruned : (failed : Failure) → Makes Primary old.waits File ((call ∷ []) ++ begun_by (Some failed)) → Rose old.faults new.faults
+    module _ (keep : ℕ) (both : Makes old.store Primary old.waits File (call ∷ PruneTo keep ∷ [])) where
+      pruned : (failed : Failure) → Makes old.store Primary old.waits File ((call ∷ []) ++ begun_by (Some failed)) → Rose old.faults new.faults
           → Moved old.store old.failed mid (call ∷ []) (Some failed) new.store new.failed end → StepsSafely old File Done new start end
       pruned failed begun rose moved = steps old new File Done Primary (call ∷ []) (Some failed) start mid end read moved record {
         makes = begun;
@@ -141,7 +143,7 @@ module _ (old new : NodeState) (start mid end : History) (read : OnlyRead start 
         rose = λ some. rose;
         answers = tt;
         refused = tt;
-        steady = leading old new primary;
+        steady = λ plain still lock held. leading old new primary plain still;
         keeps = sound;
       }
 
@@ -154,7 +156,7 @@ module _ (old new : NodeState) (start mid end : History) (read : OnlyRead start 
         rose = λ some. absurd (false_true some);
         answers = tt;
         refused = tt;
-        steady = leading old new primary;
+        steady = λ plain still lock held. leading old new primary plain still;
         keeps = sound;
       }
       calls-pruned (Ok told) (inr (inl before)) broke rose = pruned FailedBefore makes (broke tt (some-now FailedBefore before.broken)) before

@@ -16,3 +16,11 @@ pub mod Clusters
 pub mod ClusterMoves
 pub mod Deliveries
 pub mod ClusterNodes
+pub mod Owing
+pub mod Locks
+pub mod Asking
+pub mod Framed
+pub mod Refusing
+pub mod Following
+pub mod Looked
+pub mod Texts

@@ -1,14 +1,33 @@
--- The error number of each fault (errno(3)).
+-- The error number of each fault (errno(3)), and the refusal of a fault of the store or of a text.
 use Rattle.lf_base.specs.declared.errno.Errno.{Errno}
 use Rattle.file_view.specs.declared.fault.ViewFault.{ViewFault}
 use Rattle.file_view.specs.declared.fault.ViewFault.TheVariants as view
 use Rattle.file_view.specs.Errno.{EFBIG, EIO}
+use Rattle.ltx_codec.specs.declared.fault.LtxFault.{LtxFault}
+use Rattle.ltx_codec.specs.declared.fault.LtxFault.TheVariants as text
 use Rattle.txn_log.specs.declared.fault.StoreFault.{StoreFault}
 use Rattle.txn_log.specs.declared.fault.StoreFault.TheVariants as store
+use Rattle.node_core.specs.declared.refusal.Refusal.{Refusal}
+use Rattle.node_core.specs.declared.refusal.Refusal.TheVariants as refusals
 
 -- want of memory
 abbrev pub ENOMEM : Errno
 ENOMEM = record { 0 = 12 }
+
+-- the refusal of a fault of the store. Want of memory is one of its own
+abbrev pub refusal_of : StoreFault → Refusal
+refusal_of store.Disk = refusals.Store store.Disk
+refusal_of store.Broken = refusals.Store store.Broken
+refusal_of store.Limit = refusals.Store store.Limit
+refusal_of store.NoMemory = refusals.NoMemory
+refusal_of (store.NotNext have want) = refusals.Store (store.NotNext have want)
+refusal_of (store.SumDiffers want got) = refusals.Store (store.SumDiffers want got)
+refusal_of (store.PageSize have want) = refusals.Store (store.PageSize have want)
+
+-- the refusal of bytes that are no file, by their fault
+abbrev pub refusal_of_text : LtxFault → Refusal
+refusal_of_text text.NoMemory = refusals.NoMemory
+refusal_of_text why = refusals.Ltx why
 
 -- of a fault of the store: where the database grows past its limit, the file is too large; the last three don't come
 abbrev pub errno_of_store : StoreFault → Errno

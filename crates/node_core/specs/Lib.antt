@@ -3,11 +3,16 @@ pub mod Stores
 pub mod Nodes
 pub mod Errors
 pub mod Calls
+pub mod Deciding
 pub mod Safely
 pub mod Files
 pub mod Unlinking
 pub mod Committing
 pub mod Serving
+pub mod Hello
+pub mod Pruning
+pub mod Dropping
+pub mod Framing
 pub mod Steps
 pub mod Opening
 pub mod Runs

@@ -7,7 +7,11 @@ use Rattle.node_core.specs.declared.answer.Answer.{Answer}
 use Rattle.node_core.specs.declared.answer.Answer.TheVariants as answers
 use Rattle.node_core.specs.declared.ask.Ask.{Ask}
 use Rattle.node_core.specs.declared.ask.Ask.TheVariants as asks
+use Rattle.node_core.specs.Dropping.{AnswersDrop}
+use Rattle.node_core.specs.Framing.{AnswersFrame}
+use Rattle.node_core.specs.Hello.{AnswersHello}
 use Rattle.node_core.specs.Nodes.{NodeParts, seen}
+use Rattle.node_core.specs.Pruning.{AnswersPrune}
 use Rattle.node_core.specs.Safely.{StepsSafely, law_answer, law_ask}
 use Rattle.node_core.specs.Serving.{ServesFiles}
 use Rattle.node_core.specs.Stores.{OnlyRead, position}
@@ -39,6 +43,10 @@ abbrev pub Does : History → NodeParts → ℕ → Ask → Answer → History �
 Does start old caller (asks.File now request) answer end new = AnswersFile (unlinks_database old.config request) start (at_moment old now) caller request answer end new
 Does start old caller asks.EndSession answer end new = EndsSession start old caller answer end new
 Does start old caller asks.Where answer end new = TellsPosition start old answer end new
+Does start old caller (asks.Hello now from) answer end new = AnswersHello start (at_moment old now) from answer end new
+Does start old caller (asks.Frame now bytes) answer end new = AnswersFrame start (at_moment old now) bytes answer end new
+Does start old caller (asks.Drop now) answer end new = AnswersDrop start (at_moment old now) answer end new
+Does start old caller (asks.Prune keep) answer end new = AnswersPrune start old keep answer end new
 
 -- ONE STEP: what it does, and over an honest disk what it tells the cluster and what a crash leaves at each of its moments
 pub record IsStep (start : History) (old : NodeParts) (caller : ℕ) (ask : Ask) (answer : Answer) (end : History) (new : NodeParts) : Type 0 where

@@ -1,5 +1,7 @@
+use crate::refusal::Refusal;
+use byte_locks::LockId;
 use fuse_msgs::Reply;
-use lf_base::{Errno, Pos};
+use lf_base::{Bytes, Errno, Pos};
 
 /// What a node answers.
 #[derive(Debug, Drop)]
@@ -12,4 +14,18 @@ pub enum Answer {
     Refuse(Errno),
     /// The position.
     At(Pos),
+    /// The follower needs nothing. The node stands here.
+    Level(Pos),
+    /// The follower needs this LTX file, and is then at this position.
+    Item { ltx: Bytes, after: Pos },
+    /// The database was dropped.
+    Gone,
+    /// It is applied, and the node stands here.
+    Applied(Pos),
+    /// A lock that somebody holds holds it back, and nothing is changed.
+    Held(LockId),
+    /// So many files are gone from the log.
+    Pruned(u64),
+    /// It is refused.
+    Refused(Refusal),
 }

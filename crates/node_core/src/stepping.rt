@@ -38,6 +38,10 @@ impl<D: Disk> Machine for Node<D> {
             Ask::File { now, request } => self.answer_file(caller, *now, request),
             Ask::EndSession => self.end_session(caller),
             Ask::Where => self.tell_position(),
+            Ask::Hello { now, pos } => self.answer_hello(*now, *pos),
+            Ask::Frame { now, bytes } => self.answer_frame(*now, bytes),
+            Ask::Drop { now } => self.answer_drop(*now),
+            Ask::Prune { keep } => self.prune(*keep),
         }
     }
 }

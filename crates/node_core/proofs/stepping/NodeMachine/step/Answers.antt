@@ -2,3 +2,15 @@ use Rattle.node_core.proofs.stepping.NodeMachine.step.Goals as goal
 
 pub returns-in-Where : goal.returns-in-Where
 returns-in-Where g c = rw c.in-Where.is (c.tell_position.ensures.step c.args.caller)
+
+pub returns-in-Hello : goal.returns-in-Hello
+returns-in-Hello g c = rw c.in-Hello.is (c.answer_hello.ensures.step c.args.caller)
+
+pub returns-in-Frame : goal.returns-in-Frame
+returns-in-Frame g c = rw c.in-Frame.is (c.answer_frame.ensures.step c.args.caller)
+
+pub returns-in-Drop : goal.returns-in-Drop
+returns-in-Drop g c = rw c.in-Drop.is (c.answer_drop.ensures.step c.args.caller)
+
+pub returns-in-Prune : goal.returns-in-Prune
+returns-in-Prune g c = rw c.in-Prune.is (c.prune.ensures.step c.args.caller)

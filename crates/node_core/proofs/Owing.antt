@@ -1,0 +1,141 @@
+-- What a follower is owed, as the laws say it.
+use Rattle.std.proofs.Common.{◌≡◌, ◌≢◌, ◌⊎◌, ◌∙◌, ℕ, ◌<◌, ◌≤◌, List, [], ◌∷◌, length, get_or, map, inl, inr, refl, sym, ap, subst, arith}
+use Rattle.std.proofs.Math.Logic.{∥∥₁_elim}
+use Rattle.std.proofs.Props.{props}
+use Rattle.std.proofs.lemmas.Bool.{cases_Bool, cases_eq}
+use Rattle.std.proofs.lemmas.List.{get_or-map, length-map}
+use Rattle.lf_base.specs.declared.pos.Pos.{Pos}
+use Rattle.lf_disk.specs.History.{History}
+use Rattle.lf_sqlite_pages.specs.Change.{AscendsAbove}
+use Rattle.lf_sqlite_pages.specs.declared.page_write.PageWrite.{PageWrite}
+use Rattle.ltx_codec.specs.Fields.{AreBytes}
+use Rattle.ltx_codec.specs.FileIn.{file_in}
+use Rattle.ltx_codec.specs.Format.{IsFile, IsLtx, file_text, no_meaning}
+use Rattle.ltx_codec.specs.Positions.{before, nowhere}
+use Rattle.ltx_codec.specs.declared.file.Ltx.{Ltx}
+use Rattle.txn_log.specs.declared.answer.Answer.TheVariants as owed
+use Rattle.txn_log.specs.declared.entry.Entry.{Entry}
+use Rattle.txn_log.specs.Answering.{Answers, IsFirstBehind}
+use Rattle.txn_log.specs.Durable.{log_of}
+use Rattle.txn_log.specs.Giving.{IsTextAt}
+use Rattle.txn_log.specs.Kept.{LogFile, file_of}
+use Rattle.txn_log.specs.Store.{IsShaped, IsStore, end_of_entries, entry_of, files_in, meant}
+use Rattle.txn_log.proofs.Entries.{end-empty, end-log}
+use Rattle.txn_log.proofs.Stores.{length-files_in, no_entry}
+use Rattle.world_laws.specs.Answers.{AnswersHello, IsBlank, Knows, Owes, by_file, by_snapshot, snapshot_of}
+use Rattle.world_laws.specs.Node as laws
+use Rattle.world_laws.specs.Node.{NodeState}
+use Rattle.world_laws.specs.Store.{at, end_of}
+use Rattle.world_laws.proofs.Stores.{end_of-none}
+use Rattle.node_core.specs.Stores.{StoreFields, position, state}
+
+AscendsAbove-prop : (number : ℕ) (pages : List PageWrite) → IsProp (AscendsAbove number pages)
+AscendsAbove-prop number [] = hlevel props
+AscendsAbove-prop number (w ∷ ws) = hlevel (props, AscendsAbove-prop w.number ws)
+
+-- that a value is a file is a proposition
+IsFile-prop : (file : Ltx) → IsProp (IsFile file)
+IsFile-prop file = hlevel (props, AscendsAbove-prop)
+
+-- a position is this one or another
+cases_nowhere : (p : Pos) → (p ≡ nowhere) ⊎ (p ≢ nowhere)
+cases_nowhere p = elim (cases_eq p.txid 0) [
+  | inl txid ↦ elim (cases_eq p.sum 0) [
+    | inl sum ↦ inl (λ i. record { txid = txid i; sum = sum i })
+    | inr other ↦ inr (λ same. other (ap (λ (q : Pos). q.sum) same))
+  ]
+  | inr other ↦ inr (λ same. other (ap (λ (q : Pos). q.txid) same))
+]
+
+abbrev no_file : LogFile
+no_file = record { min = 0; max = 0; text = [] }
+
+module _ (h : History) (s : StoreFields) (is : IsStore h s.page_size s.commit s.entries s.dropped s.sums s.broken s.whole s.tried) where
+  abbrev files : List LogFile
+  files = files_in s.entries (h.seen (meant h s.broken s.whole))
+
+  count : length files ≡ length s.entries
+  count = length-files_in s.entries (h.seen (meant h s.broken s.whole))
+
+  -- the position is the end of the log
+  pub at-position : at (state h s) ≡ position s
+  at-position = sym (end-log s.entries files is.log)
+
+  -- the entry of a file at its place
+  entry-at : (k : ℕ) (d : Ltx) (e : Entry) → k < length s.entries → entry_of (get_or (state h s).log k d) ≡ get_or s.entries k e
+  entry-at k d e within =
+      let there : k < length files = omega (arith, count, within) in
+      let in_log : get_or (log_of files) k d ≡ file_of (get_or files k no_file).text = get_or-map (λ (f : LogFile). file_of f.text) files k no_file d there in
+      let in_entries : get_or (map (λ (f : LogFile). entry_of (file_of f.text)) files) k e ≡ entry_of (file_of (get_or files k no_file).text) =
+      get_or-map (λ (f : LogFile). entry_of (file_of f.text)) files k no_file e there in
+      ap entry_of in_log ∙ sym in_entries ∙ ap (λ (es : List Entry). get_or es k e) is.log.same
+
+  length-log : length (state h s).log ≡ length s.entries
+  length-log = length-map files (λ (f : LogFile). file_of f.text) ∙ count
+
+  empty-log : s.entries ≡ [] → (state h s).log ≡ []
+  empty-log none = ap (λ (es : List Entry). log_of (files_in es (h.seen (meant h s.broken s.whole)))) none
+
+  module _ (from : Pos) where
+    -- a follower that is level
+    level : Answers s.entries s.dropped from owed.Level → (from ≡ position s) ⊎ IsBlank (state h s)
+    level answers = elim answers.1 [
+      | inr same ↦ inl same
+      | inl none ↦ elim (cases_Bool s.dropped) [
+        | inr whole ↦ inr (empty-log none, whole)
+        | inl dropped ↦ elim (cases_nowhere from) [
+          | inl same ↦ inl (same ∙ sym (ap end_of_entries none ∙ end-empty))
+          | inr other ↦ absurd (answers.0 (dropped, other))
+        ]
+      ]
+    ]
+
+    pub tells-level : (old new : NodeState) (role : laws.Role) → role ≡ laws.Primary → old.store ≡ state h s → Answers s.entries s.dropped from owed.Level
+        → AnswersHello old new role from (laws.Level (position s))
+    tells-level old new role primary same answers = (
+      primary,
+      sym at-position ∙ ap (λ t. at t) (sym same),
+      elim (level answers) [
+        | inl here ↦ inl here
+        | inr blank ↦ inr (subst (λ t. IsBlank t) (sym same) blank)
+      ],
+    )
+
+    pub tells-gone : (old new : NodeState) (role : laws.Role) → role ≡ laws.Primary → old.store ≡ state h s → IsShaped s.commit s.entries s.dropped s.sums → Answers s.entries s.dropped from owed.Gone
+        → AnswersHello old new role from laws.Gone
+    tells-gone old new role primary same shaped answers =
+        let none : s.entries ≡ [] = shaped.marked answers.0 in
+        (primary, ap (λ t. t.dropped) same ∙ answers.0, (λ here. answers.1 (here ∙ ap (λ t. at t) same ∙ at-position ∙ ap end_of_entries none ∙ end-empty)))
+
+    -- the file of the log
+    pub tells-file : (octets-law : (bytes : List ℕ) (file : Ltx) → AreBytes bytes → IsLtx bytes file → file_in bytes ≡ file) (first : ℕ) (ltx : List ℕ) → AreBytes ltx
+        → Answers s.entries s.dropped from (owed.Files first) → IsTextAt (state h s).log first ltx → Owes (state h s) from (file_in ltx) × IsFile (file_in ltx)
+    tells-file law first ltx octets answers text =
+        let file : Ltx = file_in ltx in
+        let behind : IsFirstBehind s.entries from first = answers.2 in
+        let same : get_or (state h s).log first file ≡ file = ∥∥₁_elim (text file) (hlevel props) (λ (it : IsLtx ltx (get_or (state h s).log first file)). sym (law ltx (get_or (state h s).log first file) octets it)) in
+        let valid : IsFile file = ∥∥₁_elim (text file) (IsFile-prop file) (λ (it : IsLtx ltx (get_or (state h s).log first file)). subst IsFile same it.valid) in
+        let within : first < length (state h s).log = omega (arith, length-log, behind.there) in
+        let leads : before file ≡ from =
+        ap before (sym same) ∙ ap (λ (e : Entry). e.pre) (entry-at first file no_entry behind.there) ∙ behind.follows no_entry in
+        (by_file (first, within, same) leads, valid)
+
+    -- the log does not know the position
+    unknown : 1 ≤ (position s).txid → Answers s.entries s.dropped from owed.Snapshot → Knows (state h s) from → ⊥
+    unknown written answers (inl here) = answers.1 (inr (here ∙ at-position))
+    unknown written answers (inr (inl known)) =
+        let k : ℕ = known.1.0 in
+        let within : k < length s.entries = omega (arith, length-log, known.1.1) in
+        answers.2 k no_entry within (ap (λ (e : Entry). e.pre) (sym (entry-at k known.0 no_entry within)) ∙ ap before known.1.2 ∙ known.2)
+    unknown written answers (inr (inr blank)) =
+        let none : (position s).txid ≡ 0 = ap (λ (p : Pos). p.txid) (sym at-position) ∙ ap (λ l. (end_of l).txid) blank.0 ∙ ap (λ (p : Pos). p.txid) end_of-none in
+        absurd (omega (arith, none, written))
+
+    pub tells-snapshot : (octets-law : (bytes : List ℕ) (file : Ltx) → AreBytes bytes → IsLtx bytes file → file_in bytes ≡ file) (ltx : List ℕ) → AreBytes ltx → 1 ≤ (position s).txid
+        → Answers s.entries s.dropped from owed.Snapshot → IsFile (snapshot_of (state h s)) → ltx ≡ file_text (snapshot_of (state h s)) no_meaning
+        → Owes (state h s) from (file_in ltx) × IsFile (file_in ltx)
+    tells-snapshot law ltx octets written answers valid text =
+        let is_text : IsLtx ltx (snapshot_of (state h s)) = record { valid = valid; reserved = no_meaning; room = refl; text = text } in
+        let same : file_in ltx ≡ snapshot_of (state h s) = law ltx (snapshot_of (state h s)) octets is_text in
+        let some : 1 ≤ (at (state h s)).txid = subst (λ (p : Pos). 1 ≤ p.txid) (sym at-position) written in
+        (subst (λ (f : Ltx). Owes (state h s) from f) (sym same) (by_snapshot some (unknown written answers)), subst IsFile (sym same) valid)

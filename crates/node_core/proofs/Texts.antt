@@ -1,0 +1,76 @@
+-- Bytes that are a file, or none.
+use Rattle.std.proofs.Common.{◌≡◌, ℕ, ◌<◌, ◌≤◌, ◌++◌, List, [], None, length, inl, inr, sym, ap, subst, arith}
+use Rattle.std.proofs.lemmas.List.{append-nil}
+use Rattle.ltx_codec.specs.Fields.{AreBytes}
+use Rattle.ltx_codec.specs.FileIn.{file_in}
+use Rattle.ltx_codec.specs.Format.{IsLtx}
+use Rattle.ltx_codec.specs.Places.{IsBroken, IsEarliest, IsRefused, last_place}
+use Rattle.ltx_codec.specs.declared.fault.LtxFault.{LtxFault}
+use Rattle.ltx_codec.specs.declared.fault.LtxFault.TheVariants as fault
+use Rattle.ltx_codec.specs.declared.file.Ltx.{Ltx}
+use Rattle.world_laws.specs.Answers.{Answers}
+use Rattle.world_laws.specs.Node as laws
+use Rattle.world_laws.specs.Node.{NodeState, Role}
+use Rattle.node_core.specs.declared.answer.Answer.TheVariants as answers
+use Rattle.node_core.specs.Deciding.{Decided, is_text}
+use Rattle.node_core.specs.Errors.{refusal_of_text}
+use Rattle.node_core.specs.Framing.{RefusesBytes}
+use Rattle.node_core.specs.Safely.{law_answer, law_frame, law_frame_by}
+
+-- a text has no earliest fault
+none-earliest : ((text rest : List ℕ) (file : Ltx) (f : LtxFault) (place : ℕ) → AreBytes (text ++ rest) → IsLtx text file → IsBroken (text ++ rest) f place → (f ≡ fault.Tail) × (length text < place))
+    → (bytes : List ℕ) (file : Ltx) (f : LtxFault) → AreBytes bytes → IsLtx bytes file → IsEarliest bytes f → ⊥
+none-earliest law bytes file f octets is earliest =
+    let nil : bytes ++ [] ≡ bytes = append-nil bytes in
+    let both = law bytes [] file f earliest.place (subst (λ (l : List ℕ). AreBytes l) (sym nil) octets) is (subst (λ (l : List ℕ). IsBroken l f earliest.place) (sym nil) earliest.broken) in
+    let there : earliest.place ≤ last_place bytes fault.Tail = subst (λ (g : LtxFault). earliest.place ≤ last_place bytes g) both.0 earliest.broken.there in
+    omega (arith, both.1, there)
+
+-- a fault that is not want of memory
+named : (bytes : List ℕ) (f : LtxFault) → (f ≡ fault.NoMemory → ⊥) → IsRefused bytes f → IsEarliest bytes f
+named bytes f other (inl same) = absurd (other same)
+named bytes f other (inr earliest) = earliest
+
+-- why the bytes are refused
+pub refuses-bytes : (bytes : List ℕ) (f : LtxFault) → IsRefused bytes f → RefusesBytes bytes (answers.Refused (refusal_of_text f))
+refuses-bytes bytes fault.NoMemory is = tt
+refuses-bytes bytes fault.Short is = named bytes fault.Short (λ same. cc) is
+refuses-bytes bytes fault.Magic is = named bytes fault.Magic (λ same. cc) is
+refuses-bytes bytes fault.Compressed is = named bytes fault.Compressed (λ same. cc) is
+refuses-bytes bytes fault.UnknownFlags is = named bytes fault.UnknownFlags (λ same. cc) is
+refuses-bytes bytes fault.PageSize is = named bytes fault.PageSize (λ same. cc) is
+refuses-bytes bytes fault.Txid is = named bytes fault.Txid (λ same. cc) is
+refuses-bytes bytes fault.Commit is = named bytes fault.Commit (λ same. cc) is
+refuses-bytes bytes fault.PreSum is = named bytes fault.PreSum (λ same. cc) is
+refuses-bytes bytes fault.PageOrder is = named bytes fault.PageOrder (λ same. cc) is
+refuses-bytes bytes fault.PageRange is = named bytes fault.PageRange (λ same. cc) is
+refuses-bytes bytes fault.NotWhole is = named bytes fault.NotWhole (λ same. cc) is
+refuses-bytes bytes fault.PostSum is = named bytes fault.PostSum (λ same. cc) is
+refuses-bytes bytes (fault.FileSum want got) is = named bytes (fault.FileSum want got) (λ same. cc) is
+refuses-bytes bytes fault.Tail is = named bytes fault.Tail (λ same. cc) is
+
+module _ (old new : NodeState) (role : Role) (bytes : List ℕ) where
+  -- whatever they are, the primary takes nothing
+  pub not-replica : role ≡ laws.Primary → (decided : Decided (IsLtx bytes (file_in bytes))) → Answers old role (law_frame_by bytes decided) [] None (laws.Refused laws.NotReplica) new
+  not-replica primary (inl is) = primary
+  not-replica primary (inr none) = tt
+
+  -- as the laws say it
+  module _ (law : (text rest : List ℕ) (file : Ltx) (f : LtxFault) (place : ℕ) → AreBytes (text ++ rest) → IsLtx text file → IsBroken (text ++ rest) f place → (f ≡ fault.Tail) × (length text < place))
+      (octets : AreBytes bytes) where
+    wanting : (f : LtxFault) → IsLtx bytes (file_in bytes) → IsRefused bytes f → f ≡ fault.NoMemory
+    wanting f is (inl same) = same
+    wanting f is (inr earliest) = absurd (none-earliest law bytes (file_in bytes) f octets is earliest)
+
+    pub bytes-refused : (f : LtxFault) → IsRefused bytes f → (decided : Decided (IsLtx bytes (file_in bytes)))
+        → Answers old role (law_frame_by bytes decided) [] None (law_answer (answers.Refused (refusal_of_text f))) new
+    bytes-refused f refused (inr none) = tt
+    bytes-refused f refused (inl is) =
+        subst (λ (g : LtxFault). Answers old role (laws.Frame (file_in bytes)) [] None (law_answer (answers.Refused (refusal_of_text g))) new) (sym (wanting f is refused)) tt
+
+-- the bytes of a file are that frame
+pub frame-is : ((bytes : List ℕ) (file : Ltx) → AreBytes bytes → IsLtx bytes file → file_in bytes ≡ file) → (bytes : List ℕ) (file : Ltx) → AreBytes bytes → IsLtx bytes file → laws.Frame file ≡ law_frame bytes
+frame-is law bytes file octets is = go (is_text bytes) where
+  go : (decided : Decided (IsLtx bytes (file_in bytes))) → laws.Frame file ≡ law_frame_by bytes decided
+  go (inl text) = ap (λ (f : Ltx). laws.Frame f) (sym (law bytes file octets is))
+  go (inr none) = absurd (none (subst (λ (f : Ltx). IsLtx bytes f) (sym (law bytes file octets is)) is))

@@ -1,0 +1,164 @@
+use Rattle.std.proofs.Common.{◌≡◌, ◌∙◌, Ok, Err, ap, refl, subst, sym, arith}
+use Rattle.byte_locks.specs.LockList.{IsLockList}
+use Rattle.lf_base.specs.declared.pos.Pos.{Pos}
+use Rattle.ltx_codec.specs.Positions.{after}
+use Rattle.file_view.specs.Endings.{applied}
+use Rattle.file_view.specs.Overlay.{FitsImage, IsOverImage}
+use Rattle.file_view.specs.Served.{Served, waits}
+use Rattle.txn_log.specs.declared.fault.StoreFault.TheVariants as fault
+use Rattle.world_laws.specs.Answers.{call_of}
+use Rattle.world_laws.specs.Node as laws
+use Rattle.world_laws.specs.Step.{takes}
+use Rattle.world_laws.specs.Store.{StoreState, at}
+use Rattle.node_core.specs.declared.answer.Answer.TheVariants as answers
+use Rattle.node_core.specs.declared.refusal.Refusal.{Refusal}
+use Rattle.node_core.specs.Framing.{RefusesFile, TakesStore}
+use Rattle.node_core.specs.Nodes.{NodeParts, parts_of, seen}
+use Rattle.node_core.specs.Safely.{StepsSafely, law_answer, law_store_fault}
+use Rattle.node_core.specs.Stores.{fields_of, history_of, state}
+use Rattle.node_core.proofs.Asking.{called}
+use Rattle.node_core.proofs.Dropped.{disk-rose}
+use Rattle.node_core.proofs.Endings.{applied-idle}
+use Rattle.node_core.proofs.Facts.{ok_err}
+use Rattle.node_core.proofs.Following.{free, not-primary, page_size-most, take-changes, take-same, take-told, took-fits, took-over}
+use Rattle.node_core.proofs.Framed.{refuses}
+use Rattle.node_core.proofs.Owing.{at-position}
+use Rattle.node_core.proofs.Refusing.{law-refusal-of, ran-undone, refuses-file}
+use Rattle.node_core.proofs.Sound.{sound}
+use Rattle.node_core.proofs.Steady.{steady-files}
+use Rattle.node_core.proofs.node.Node.take_file.Goals as goal
+
+pub applied-requires : goal.applied-requires
+applied-requires g c = omega (arith, c.in-Ok.ensures.stands.0, page_size-most c.args.file.now.header.page_size c.requires.valid.header.page_size)
+
+pub invariant_of-self : goal.invariant_of-self
+invariant_of-self g c =
+    let n = c.args.self.now in
+    let t = c.take.new.store in
+    let at = c.pos.result in
+    let files = record (applied n.view t.page_size t.commit) { position = at } in
+    let is : c.told_position.new.self ≡ files = c.told_position.ensures ∙ ap (λ (s : Served). record s { position = at }) c.applied.ensures.done in
+    record {
+      shape = subst (λ (s : Served). FitsImage s t.page_size t.commit) (sym is) (took-fits n.view at t.page_size t.commit t.sized.pages);
+      image = λ honest. let image = (state (history_of t) (fields_of t)).image in subst (λ (s : Served). IsOverImage s image) (sym is) (took-over n.view at t.page_size t.commit image);
+      told = ap (λ (s : Served). s.position) is ∙ c.pos.ensures.value;
+      replica = λ not. ap (λ (s : Served). s.writer) is;
+      idle = ap waits is ∙ applied-idle n.view t.page_size t.commit n.idle;
+      locked = subst (λ (s : Served). IsLockList s.locks) (sym is) n.locked;
+    }
+
+pub invariant_of-self-in-Err-1 : goal.invariant_of-self-in-Err-1
+invariant_of-self-in-Err-1 g c =
+    let n = c.args.self.now in
+    let s = n.store in
+    let t = c.take.new.store in
+    let given = c.in-Err.ensures in
+    record {
+      shape = subst (λ p. FitsImage n.view p t.commit) (sym given.stands.0) (subst (λ k. FitsImage n.view s.page_size k) (sym given.stands.1) n.shape);
+      image = λ still.
+          let honest = sym c.take.ensures.honest ∙ still in
+          subst (λ (st : StoreState). IsOverImage n.view st.image)
+          (sym (take-same (history_of s) (history_of t) (fields_of s) (fields_of t) c.args.file.now c.in-Err.fault given.answers (given.went honest))) (n.image honest);
+      told = n.told ∙ sym given.stands.2;
+      replica = n.replica;
+      idle = n.idle;
+      locked = n.locked;
+    }
+
+pub returns-in-Ok-clause-does : goal.returns-in-Ok-clause-does
+returns-in-Ok-clause-does g c =
+    let n = c.args.self.now in
+    let old = parts_of n in
+    let h = history_of n.store in
+    let t = c.take.new.store in
+    let end = history_of t in
+    let file = c.args.file.now in
+    let given = c.in-Ok.ensures in
+    let told : c.in-Ok.position ≡ after file = take-told old.store file c.in-Ok.position given.answers in
+    let here : c.pos.result ≡ after file = c.pos.ensures.value ∙ given.stands.2 in
+    let is : c.told_position.new.self ≡ record (applied n.view file.header.page_size file.header.commit) { position = after file } =
+    c.told_position.ensures ∙ ap (λ (s : Served). record s { position = c.pos.result }) c.applied.ensures.done
+    ∙ (λ i. record (applied n.view (given.stands.0 i) (given.stands.1 i)) { position = here i }) in (
+      told,
+      record {
+        free = c.requires.free;
+        store = subst (λ (p : Pos). TakesStore h old.store file (Ok p) end (fields_of t)) told record {
+          answers = given.answers;
+          cause = given.cause;
+          stands = given.stands;
+          store = λ honest. take-changes h end old.store (fields_of t) file (Ok c.in-Ok.position) given.answers (given.went honest);
+          honest = c.take.ensures.honest;
+        };
+        same = ap (λ (s : Served). record old { store = fields_of t; files = s }) is;
+      },
+    )
+
+pub returns-in-Ok-clause-safe : goal.returns-in-Ok-clause-safe
+returns-in-Ok-clause-safe g c honest =
+    let n = c.args.self.now in
+    let old = parts_of n in
+    let h = history_of n.store in
+    let t = c.take.new.store in
+    let end = history_of t in
+    let file = c.args.file.now in
+    let given = c.in-Ok.ensures in
+    let here = c.pos.result in
+    let files = record (applied n.view t.page_size t.commit) { position = here } in
+    let is : c.told_position.new.self ≡ files = c.told_position.ensures ∙ ap (λ (s : Served). record s { position = here }) c.applied.ensures.done in
+    let new : NodeParts = record old { store = fields_of t; files = c.told_position.new.self } in
+    let image = (state end (fields_of t)).image in
+    let told : c.in-Ok.position ≡ at (state end (fields_of t)) =
+    take-told old.store file c.in-Ok.position given.answers ∙ sym (at-position end (fields_of t) (t.kept (c.take.ensures.honest ∙ honest)) ∙ given.stands.2) in
+    called (seen h old) (seen end new) (laws.Frame file) (laws.Applied c.in-Ok.position) (call_of (state h old.store) file) h end (takes (not-primary n.config.candidate c.requires.replica))
+    (sound end new (subst (λ (s : Served). IsOverImage s image) (sym is) (took-over n.view here t.page_size t.commit image)) (subst (λ (s : Served). IsLockList s.locks) (sym is) n.locked).together
+    (λ not. ap (λ (s : Served). s.writer) is))
+    (λ plain still lock held. absurd (free n.view n.store.wal (state h old.store).image (n.store.mode honest) lock c.requires.free held))
+    (Ok c.in-Ok.position) (given.went honest) (λ same. absurd (ok_err c.in-Ok.position fault.Disk same)) (λ did failure ran. ((ran.0, ran.1, told), tt))
+
+pub returns-in-Err-clause-does : goal.returns-in-Err-clause-does
+returns-in-Err-clause-does g c =
+    let n = c.args.self.now in
+    let old = parts_of n in
+    let h = history_of n.store in
+    let t = c.take.new.store in
+    let end = history_of t in
+    let file = c.args.file.now in
+    let why = c.in-Err.fault in
+    let given = c.in-Err.ensures in
+    subst (λ (r : Refusal). RefusesFile h old file r end (record old { store = fields_of t })) (sym c.refusal_of.ensures)
+    (refuses-file h old file why end (record old { store = fields_of t }) record {
+      free = c.requires.free;
+      store = record {
+        answers = given.answers;
+        cause = given.cause;
+        stands = given.stands;
+        store = λ honest. take-changes h end old.store (fields_of t) file (Err why) given.answers (given.went honest);
+        honest = c.take.ensures.honest;
+      };
+      same = refl;
+    })
+
+pub returns-in-Err-clause-safe : goal.returns-in-Err-clause-safe
+returns-in-Err-clause-safe g c honest =
+    let n = c.args.self.now in
+    let old = parts_of n in
+    let h = history_of n.store in
+    let t = c.take.new.store in
+    let end = history_of t in
+    let file = c.args.file.now in
+    let why = c.in-Err.fault in
+    let given = c.in-Err.ensures in
+    let new : NodeParts = record old { store = fields_of t } in
+    let call = call_of (state h old.store) file in
+    let still : state end (fields_of t) ≡ state h old.store = take-same h end old.store (fields_of t) file why given.answers (given.went honest) in
+    let safe : StepsSafely (seen h old) (laws.Frame file) (laws.Refused (law_store_fault why)) (seen end new) h end =
+    called (seen h old) (seen end new) (laws.Frame file) (laws.Refused (law_store_fault why)) call h end (takes (not-primary n.config.candidate c.requires.replica))
+    (sound end new (subst (λ (s : StoreState). IsOverImage n.view s.image) (sym still) (n.image honest)) n.locked.together n.replica)
+    (λ plain again lock held. steady-files h end old (fields_of t) old.files still refl refl)
+    {T = Pos} (Err why) (given.went honest) (disk-rose {T = Pos} n.store.broken t.broken old.store.faults (fields_of t).faults (Err why) given.cause)
+    (λ did failure ran. (
+      refuses h old.store (n.store.kept honest) file c.requires.valid (seen h old) (seen h old).role refl refl why did failure given.answers ran,
+      ran-undone Pos why call did failure ran,
+    )) in
+    subst (λ (r : Refusal). StepsSafely (seen h old) (laws.Frame file) (law_answer (answers.Refused r)) (seen end new) h end) (sym c.refusal_of.ensures)
+    (subst (λ (r : laws.Refusal). StepsSafely (seen h old) (laws.Frame file) (laws.Refused r) (seen end new) h end) (sym (law-refusal-of why)) safe)

@@ -1,0 +1,104 @@
+-- FRAME: an LTX file of another node is installed where it begins with transaction 1, and else applied.
+use Rattle.std.specs.Prelude.{◌≡◌, ◌≢◌, ◌⊎◌, true, false, IsTrue, List, ℕ, Some, Result, Ok, Err}
+use Rattle.lf_base.specs.declared.pos.Pos.{Pos}
+use Rattle.lf_disk.specs.History.{History}
+use Rattle.ltx_codec.specs.Format.{IsLtx}
+use Rattle.ltx_codec.specs.Places.{IsEarliest}
+use Rattle.ltx_codec.specs.Positions.{after}
+use Rattle.ltx_codec.specs.declared.file.Ltx.{Ltx}
+use Rattle.file_view.specs.Endings.{applied, first_blocking}
+use Rattle.txn_log.specs.declared.fault.StoreFault.{StoreFault}
+use Rattle.txn_log.specs.declared.fault.StoreFault.TheVariants as fault
+use Rattle.txn_log.specs.Apply.{Applies}
+use Rattle.txn_log.specs.Causes.{Breaks}
+use Rattle.snapshot.specs.Installing.{Installs}
+use Rattle.world_laws.specs.Answers.{call_of}
+use Rattle.node_core.specs.declared.answer.Answer.{Answer}
+use Rattle.node_core.specs.declared.answer.Answer.TheVariants as answers
+use Rattle.node_core.specs.declared.refusal.Refusal.{Refusal}
+use Rattle.node_core.specs.declared.refusal.Refusal.TheVariants as refusals
+use Rattle.node_core.specs.Calls.{Changes}
+use Rattle.node_core.specs.Dropping.{IsFree, IsUntouched}
+use Rattle.node_core.specs.Nodes.{NodeParts}
+use Rattle.node_core.specs.Stores.{StoreFields, failed, position, state}
+
+-- what the store answers: it installs a snapshot, and applies any other file
+abbrev pub Takes : StoreFields → Ltx → Result Pos StoreFault → Type 0
+Takes old file result =
+    ((file.header.min ≡ 1) × Installs old.broken file result)
+    ⊎ ((file.header.min ≢ 1) × Applies old.broken (position old) old.page_size old.commit old.sums file result)
+
+-- the shape of the store and where it stands: those of the file, or as before
+abbrev pub Stands : StoreFields → Ltx → Result Pos StoreFault → StoreFields → Type 0
+Stands old file (Ok told) new = (new.page_size ≡ file.header.page_size) × (new.commit ≡ file.header.commit) × (position new ≡ after file)
+Stands old file (Err why) new = (new.page_size ≡ old.page_size) × (new.commit ≡ old.commit) × (position new ≡ position old)
+
+-- the store was asked to take a file, and answered this
+pub record TakesStore (start : History) (old : StoreFields) (file : Ltx) (result : Result Pos StoreFault) (end : History) (new : StoreFields) : Type 0 where
+  pub answers : Takes old file result
+  pub cause : Breaks old.broken old.faults result new.broken new.faults
+  pub stands : Stands old file result new
+  pub store : IsTrue old.honest → Changes (state start old) (failed start old) (call_of (state start old) file) result (state end new) (failed end new)
+  pub honest : new.honest ≡ old.honest
+
+-- the file is taken: the served files are the new image, and tell the new position; handles and locks stay
+pub record IsTaken (start : History) (old : NodeParts) (file : Ltx) (end : History) (new : NodeParts) : Type 0 where
+  pub free : IsFree old
+  pub store : TakesStore start old.store file (Ok (after file)) end new.store
+  pub same : new ≡ record old { store = new.store; files = record (applied old.files file.header.page_size file.header.commit) { position = after file } }
+
+-- the store refused or its disk failed: the files are as before
+pub record IsNotTaken (start : History) (old : NodeParts) (file : Ltx) (why : StoreFault) (end : History) (new : NodeParts) : Type 0 where
+  pub free : IsFree old
+  pub store : TakesStore start old.store file (Err why) end new.store
+  pub same : new ≡ record old { store = new.store }
+
+-- why a file is not taken: by the store; want of memory is a refusal of its own
+abbrev pub RefusesFile : History → NodeParts → Ltx → Refusal → History → NodeParts → Type 0
+RefusesFile start old file (refusals.Store fault.NoMemory) end new = ⊥
+RefusesFile start old file (refusals.Store why) end new = IsNotTaken start old file why end new
+RefusesFile start old file refusals.NoMemory end new = IsNotTaken start old file fault.NoMemory end new
+RefusesFile start old file refusals.NotPrimary end new = ⊥
+RefusesFile start old file refusals.NotReplica end new = ⊥
+RefusesFile start old file (refusals.Ltx why) end new = ⊥
+RefusesFile start old file refusals.Absent end new = ⊥
+
+-- what it answers to a file
+abbrev pub AnswersLtx : History → NodeParts → Ltx → Answer → History → NodeParts → Type 0
+AnswersLtx start old file (answers.Applied here) end new = (here ≡ after file) × IsTaken start old file end new
+AnswersLtx start old file (answers.Held lock) end new = (first_blocking old.files old.store.wal ≡ Some lock) × IsUntouched start old end new
+AnswersLtx start old file (answers.Refused why) end new = RefusesFile start old file why end new
+AnswersLtx start old file (answers.Done reply) end new = ⊥
+AnswersLtx start old file answers.Quiet end new = ⊥
+AnswersLtx start old file (answers.Refuse number) end new = ⊥
+AnswersLtx start old file (answers.At here) end new = ⊥
+AnswersLtx start old file (answers.Level here) end new = ⊥
+AnswersLtx start old file (answers.Item ltx to) end new = ⊥
+AnswersLtx start old file answers.Gone end new = ⊥
+AnswersLtx start old file (answers.Pruned count) end new = ⊥
+
+-- why bytes are refused before there is a file: by their earliest fault, or for want of memory
+abbrev pub RefusesBytes : List ℕ → Answer → Type 0
+RefusesBytes bytes (answers.Refused (refusals.Ltx why)) = IsEarliest bytes why
+RefusesBytes bytes (answers.Refused refusals.NoMemory) = Unit {0}
+RefusesBytes bytes (answers.Refused (refusals.Store why)) = ⊥
+RefusesBytes bytes (answers.Refused refusals.NotPrimary) = ⊥
+RefusesBytes bytes (answers.Refused refusals.NotReplica) = ⊥
+RefusesBytes bytes (answers.Refused refusals.Absent) = ⊥
+RefusesBytes bytes (answers.Applied here) = ⊥
+RefusesBytes bytes (answers.Held lock) = ⊥
+RefusesBytes bytes (answers.Done reply) = ⊥
+RefusesBytes bytes answers.Quiet = ⊥
+RefusesBytes bytes (answers.Refuse number) = ⊥
+RefusesBytes bytes (answers.At here) = ⊥
+RefusesBytes bytes (answers.Level here) = ⊥
+RefusesBytes bytes (answers.Item ltx to) = ⊥
+RefusesBytes bytes answers.Gone = ⊥
+RefusesBytes bytes (answers.Pruned count) = ⊥
+
+-- the primary takes nothing; elsewhere the bytes are no file that can be read, or the file that they are is answered
+abbrev pub AnswersFrame : History → NodeParts → List ℕ → Answer → History → NodeParts → Type 0
+AnswersFrame start old bytes answer end new =
+    ((old.config.candidate ≡ true) × (answer ≡ answers.Refused refusals.NotReplica) × IsUntouched start old end new)
+    ⊎ ((old.config.candidate ≡ false)
+    × ((RefusesBytes bytes answer × IsUntouched start old end new) ⊎ ((file : Ltx) × IsLtx bytes file × AnswersLtx start old file answer end new)))

@@ -1,0 +1,106 @@
+//! An LTX file of another node.
+ghost use Rattle.std.specs.Prelude.{◌≡◌, ℕ, false, IsTrue};
+ghost use Rattle.ltx_codec.specs.Format.{IsFile};
+ghost use Rattle.txn_log.specs.Calls.{Went};
+ghost use Rattle.txn_log.specs.Causes.{Breaks};
+ghost use Rattle.world_laws.specs.Answers.{call_of};
+ghost use Rattle.world_laws.specs.Node as laws;
+ghost use Rattle.node_core.specs.Dropping.{IsFree};
+ghost use Rattle.node_core.specs.Framing.{AnswersFrame, AnswersLtx, Stands, Takes};
+ghost use Rattle.node_core.specs.Nodes.{history, parts_of, seen};
+ghost use Rattle.node_core.specs.Safely.{StepsSafely, law_answer, law_frame};
+ghost use Rattle.node_core.specs.Steps.{IsStep};
+ghost use Rattle.node_core.specs.Stores.{failed, fields_of, history_of, state};
+
+use crate::answer::Answer;
+use crate::ask::Ask;
+use crate::node::Node;
+use crate::octets::are_bytes;
+use crate::refusal::{Refusal, refusal_of, refusal_of_text};
+use lf_base::{Bytes, Pos};
+use lf_disk::Disk;
+use ltx_codec::{Ltx, decode, file_is_read, text_breaks_no_rule};
+use snapshot::install;
+use txn_log::{Store, StoreFault};
+
+/// A store takes a file: a snapshot is installed, any other is applied.
+fn take<D: Disk>(store: &mut Store<D>, file: &Ltx) -> Result<Pos, StoreFault>
+    requires { IsFile file.now }
+    ensures answers { Takes (fields_of store.old) file.now result }
+    ensures cause { Breaks store.old.broken (D.faults store.old.disk) result store.new.broken (D.faults store.new.disk) }
+    ensures stands { Stands (fields_of store.old) file.now result (fields_of store.new) }
+    ensures went { IsTrue (D.honest store.old.disk) → Went (state (history_of store.old) (fields_of store.old)) (failed (history_of store.old) (fields_of store.old)) (history_of store.old)
+        (call_of (state (history_of store.old) (fields_of store.old)) file.now) result
+        (state (history_of store.new) (fields_of store.new)) (failed (history_of store.new) (fields_of store.new)) (history_of store.new) }
+    ensures honest { D.honest store.new.disk ≡ D.honest store.old.disk }
+{
+    if file.header.min == 1 {
+        install(store, file)
+    } else {
+        store.apply(file)
+    }
+}
+
+impl<D: Disk> Node<D> {
+    /// Takes a file that no lock holds back.
+    fn take_file(&mut self, file: &Ltx) -> Answer
+        requires valid { IsFile file.now }
+        requires replica { self.old.config.candidate ≡ false }
+        requires free { IsFree (parts_of self.old) }
+        ensures does { AnswersLtx (history self.old) (parts_of self.old) file.now result (history self.new) (parts_of self.new) }
+        ensures safe { IsTrue (D.honest self.old.store.disk) → StepsSafely (seen (history self.old) (parts_of self.old)) (laws.Frame file.now)
+            (law_answer result) (seen (history self.new) (parts_of self.new)) (history self.old) (history self.new) }
+        ensures honest { D.honest self.new.store.disk ≡ D.honest self.old.store.disk }
+    {
+        match take(&mut self.store, file) {
+            Ok(position) => {
+                self.view.applied(self.store.page_size, self.store.commit);
+                self.view.told_position(self.store.pos());
+                Answer::Applied(position)
+            }
+            Err(fault) => Answer::Refused(refusal_of(fault)),
+        }
+    }
+
+    /// Answers a file.
+    fn answer_ltx(&mut self, file: &Ltx) -> Answer
+        requires valid { IsFile file.now }
+        requires replica { self.old.config.candidate ≡ false }
+        ensures does { AnswersLtx (history self.old) (parts_of self.old) file.now result (history self.new) (parts_of self.new) }
+        ensures safe { IsTrue (D.honest self.old.store.disk) → StepsSafely (seen (history self.old) (parts_of self.old)) (laws.Frame file.now)
+            (law_answer result) (seen (history self.new) (parts_of self.new)) (history self.old) (history self.new) }
+        ensures honest { D.honest self.new.store.disk ≡ D.honest self.old.store.disk }
+    {
+        match self.view.apply_clear(self.store.wal) {
+            Ok(()) => self.take_file(file),
+            Err(lock) => Answer::Held(lock),
+        }
+    }
+
+    /// Answers the bytes of a file.
+    fn frame(&mut self, bytes: &Bytes) -> Answer
+        ensures does { AnswersFrame (history self.old) (parts_of self.old) bytes.now result (history self.new) (parts_of self.new) }
+        ensures safe { IsTrue (D.honest self.old.store.disk) → StepsSafely (seen (history self.old) (parts_of self.old)) (law_frame bytes.now)
+            (law_answer result) (seen (history self.new) (parts_of self.new)) (history self.old) (history self.new) }
+        ensures honest { D.honest self.new.store.disk ≡ D.honest self.old.store.disk }
+    {
+        if self.config.candidate {
+            return Answer::Refused(Refusal::NotReplica);
+        }
+        file_is_read();
+        text_breaks_no_rule();
+        are_bytes(bytes.as_slice());
+        match decode(self.alloc, bytes.as_slice()) {
+            Ok(file) => self.answer_ltx(&file),
+            Err(fault) => Answer::Refused(refusal_of_text(fault)),
+        }
+    }
+
+    /// Answers the bytes of a file, at a moment.
+    pub(crate) fn answer_frame(&mut self, now: u64, bytes: &Bytes) -> Answer
+        ensures step { (caller : ℕ) → IsStep (history self.old) (parts_of self.old) caller (Ask.Frame now bytes.now) result (history self.new) (parts_of self.new) }
+    {
+        self.moment = self.moment.max(now);
+        self.frame(bytes)
+    }
+}

@@ -1,0 +1,97 @@
+//! What is owed to a follower.
+ghost use Rattle.std.specs.Prelude.{◌≡◌, ◌<◌, ◌≤◌, ℕ, true, length, IsTrue};
+ghost use Rattle.node_core.specs.Hello.{AnswersHello};
+ghost use Rattle.node_core.specs.Nodes.{history, parts_of, seen};
+ghost use Rattle.node_core.specs.Safely.{StepsSafely, law_answer};
+ghost use Rattle.node_core.specs.Steps.{IsStep};
+ghost use Rattle.txn_log.specs.Answering.{Answers};
+ghost use Rattle.txn_log.specs.declared.answer.Answer.TheVariants as owed;
+ghost use Rattle.world_laws.specs.Node as laws;
+
+use crate::answer::Answer;
+use crate::ask::Ask;
+use crate::node::Node;
+use crate::octets::are_bytes;
+use crate::refusal::{Refusal, refusal_of};
+use lf_base::{Bytes, Pos};
+use lf_disk::Disk;
+use ltx_codec::file_is_read;
+use snapshot::{make, snapshot_is_a_file};
+use txn_log::Answer as Owed;
+
+impl<D: Disk> Node<D> {
+    /// Gives the file at a place of the log.
+    fn give_file(&mut self, from: Pos, first: usize) -> Answer
+        requires primary { self.old.config.candidate ≡ true }
+        requires owed { Answers self.old.store.entries.items self.old.store.dropped from (owed.Files first) }
+        ensures does { AnswersHello (history self.old) (parts_of self.old) from result (history self.new) (parts_of self.new) }
+        ensures safe { IsTrue (D.honest self.old.store.disk) → StepsSafely (seen (history self.old) (parts_of self.old)) (laws.Hello from)
+            (law_answer result) (seen (history self.new) (parts_of self.new)) (history self.old) (history self.new) }
+        ensures honest { D.honest self.new.store.disk ≡ D.honest self.old.store.disk }
+    {
+        file_is_read();
+        let after = self.store.entries[first].post;
+        let mut bytes = Vec::new(self.alloc);
+        match self.store.file(first, &mut bytes) {
+            Ok(()) => {
+                are_bytes(bytes.as_slice());
+                Answer::Item {
+                    ltx: Bytes::of(bytes),
+                    after,
+                }
+            }
+            Err(fault) => Answer::Refused(refusal_of(fault)),
+        }
+    }
+
+    /// Gives the snapshot.
+    fn give_snapshot(&mut self, from: Pos) -> Answer
+        requires primary { self.old.config.candidate ≡ true }
+        requires owed { Answers self.old.store.entries.items self.old.store.dropped from owed.Snapshot }
+        ensures does { AnswersHello (history self.old) (parts_of self.old) from result (history self.new) (parts_of self.new) }
+        ensures safe { IsTrue (D.honest self.old.store.disk) → StepsSafely (seen (history self.old) (parts_of self.old)) (laws.Hello from)
+            (law_answer result) (seen (history self.new) (parts_of self.new)) (history self.old) (history self.new) }
+        ensures honest { D.honest self.new.store.disk ≡ D.honest self.old.store.disk }
+    {
+        file_is_read();
+        snapshot_is_a_file(&self.store);
+        let after = self.store.pos();
+        let mut bytes = Vec::new(self.alloc);
+        match make(&mut self.store, &mut bytes) {
+            Ok(()) => {
+                are_bytes(bytes.as_slice());
+                Answer::Item {
+                    ltx: Bytes::of(bytes),
+                    after,
+                }
+            }
+            Err(fault) => Answer::Refused(refusal_of(fault)),
+        }
+    }
+
+    /// Answers a follower at a position.
+    fn hello(&mut self, from: Pos) -> Answer
+        ensures does { AnswersHello (history self.old) (parts_of self.old) from result (history self.new) (parts_of self.new) }
+        ensures safe { IsTrue (D.honest self.old.store.disk) → StepsSafely (seen (history self.old) (parts_of self.old)) (laws.Hello from)
+            (law_answer result) (seen (history self.new) (parts_of self.new)) (history self.old) (history self.new) }
+        ensures honest { D.honest self.new.store.disk ≡ D.honest self.old.store.disk }
+    {
+        if !self.config.candidate {
+            return Answer::Refused(Refusal::NotPrimary);
+        }
+        match self.store.answer(from) {
+            Owed::Gone => Answer::Gone,
+            Owed::Level => Answer::Level(self.store.pos()),
+            Owed::Files { first } => self.give_file(from, first),
+            Owed::Snapshot => self.give_snapshot(from),
+        }
+    }
+
+    /// Answers a follower at a position, at a moment.
+    pub(crate) fn answer_hello(&mut self, now: u64, from: Pos) -> Answer
+        ensures step { (caller : ℕ) → IsStep (history self.old) (parts_of self.old) caller (Ask.Hello now from) result (history self.new) (parts_of self.new) }
+    {
+        self.moment = self.moment.max(now);
+        self.hello(from)
+    }
+}

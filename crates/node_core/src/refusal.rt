@@ -1,0 +1,41 @@
+ghost use Rattle.std.specs.Prelude.{◌≡◌};
+ghost use Rattle.node_core.specs.Errors.{refusal_of, refusal_of_text};
+
+use ltx_codec::LtxFault;
+use txn_log::StoreFault;
+
+/// Why a node does not do what it is asked. Only after `Store(Disk)` may something be changed.
+#[derive(Clone, Copy, Debug, PartialEq, Eq)]
+pub enum Refusal {
+    /// Only the primary answers this.
+    NotPrimary,
+    /// The primary takes nothing of other nodes.
+    NotReplica,
+    /// The bytes are no LTX file.
+    Ltx(LtxFault),
+    /// The store does not do it.
+    Store(StoreFault),
+    /// The database was never written.
+    Absent,
+    NoMemory,
+}
+
+/// The refusal of a fault of the store.
+pub(crate) fn refusal_of(fault: StoreFault) -> Refusal
+    ensures { result ≡ refusal_of fault }
+{
+    match fault {
+        StoreFault::NoMemory => Refusal::NoMemory,
+        other => Refusal::Store(other),
+    }
+}
+
+/// The refusal of bytes that are no file.
+pub(crate) fn refusal_of_text(fault: LtxFault) -> Refusal
+    ensures { result ≡ refusal_of_text fault }
+{
+    match fault {
+        LtxFault::NoMemory => Refusal::NoMemory,
+        other => Refusal::Ltx(other),
+    }
+}
