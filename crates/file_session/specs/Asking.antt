@@ -15,12 +15,20 @@ abbrev pub at_moment : ℕ → Ask → Ask
 at_moment now (ask.File before request) = ask.File now request
 at_moment now ask.EndSession = ask.EndSession
 at_moment now ask.Where = ask.Where
+at_moment now (ask.Hello before from) = ask.Hello now from
+at_moment now (ask.Frame before bytes) = ask.Frame now bytes
+at_moment now (ask.Drop before) = ask.Drop now
+at_moment now (ask.Prune keep) = ask.Prune keep
 
 -- its last moment stands
 pub last_stands : (first last : ℕ) (asked : Ask) → at_moment last (at_moment first asked) ≡ at_moment last asked
 last_stands first last (ask.File before request) = refl
 last_stands first last ask.EndSession = refl
 last_stands first last ask.Where = refl
+last_stands first last (ask.Hello before from) = refl
+last_stands first last (ask.Frame before bytes) = refl
+last_stands first last (ask.Drop before) = refl
+last_stands first last (ask.Prune keep) = refl
 
 -- a SETLKW waits for its lock, every other request is asked once
 abbrev pub tries_of : Op → Tries

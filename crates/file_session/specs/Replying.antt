@@ -43,6 +43,13 @@ reply_of (answer.Done r) = sendable r
 reply_of answer.Quiet = reply.Error EIO
 reply_of (answer.Refuse number) = sendable (reply.Error number)
 reply_of (answer.At position) = reply.Error EIO
+reply_of (answer.Level position) = reply.Error EIO
+reply_of (answer.Item ltx after) = reply.Error EIO
+reply_of answer.Gone = reply.Error EIO
+reply_of (answer.Applied position) = reply.Error EIO
+reply_of (answer.Held lock) = reply.Error EIO
+reply_of (answer.Pruned count) = reply.Error EIO
+reply_of (answer.Refused why) = reply.Error EIO
 
 -- the bytes that answer a request of this number, where it has a reply
 abbrev pub reply_text : Bool → ℕ → Answer → List ℕ

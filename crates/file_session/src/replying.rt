@@ -61,7 +61,15 @@ fn reply_of(answer: Answer) -> Reply
     match answer {
         Answer::Done(reply) => sendable(reply),
         Answer::Refuse(errno) => sendable(Reply::Error(errno)),
-        Answer::Quiet | Answer::At(_) => Reply::Error(IO_FAILED),
+        Answer::Quiet
+        | Answer::At(_)
+        | Answer::Level(_)
+        | Answer::Item { .. }
+        | Answer::Gone
+        | Answer::Applied(_)
+        | Answer::Held(_)
+        | Answer::Pruned(_)
+        | Answer::Refused(_) => Reply::Error(IO_FAILED),
     }
 }
 

@@ -39,7 +39,10 @@ impl Patience for Tries {
     fn set_moment(&self, ask: &mut Ask, moment: u64) {
         match ask {
             Ask::File { now, .. } => *now = moment,
-            Ask::EndSession | Ask::Where => {}
+            Ask::Hello { now, .. } => *now = moment,
+            Ask::Frame { now, .. } => *now = moment,
+            Ask::Drop { now } => *now = moment,
+            Ask::EndSession | Ask::Where | Ask::Prune { .. } => {}
         }
     }
 

@@ -66,7 +66,12 @@ impl Machine for Scripted {
                 self.note(request.unique);
                 self.answer(&request.op)
             }
-            Ask::EndSession | Ask::Where => {
+            Ask::EndSession
+            | Ask::Where
+            | Ask::Hello { .. }
+            | Ask::Frame { .. }
+            | Ask::Drop { .. }
+            | Ask::Prune { .. } => {
                 self.note(0);
                 Answer::Quiet
             }
