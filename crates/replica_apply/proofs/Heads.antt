@@ -1,14 +1,14 @@
 -- Heads of replies as they come.
-use Rattle.std.proofs.Common.{◌≡◌, ◌⊎◌, inl, inr, ℕ, ◌+◌, ◌-◌, ◌<◌, ◌≤◌, List, [], ◌∷◌, ◌++◌, length, take, drop, Option, Some, None, Result, Err, refl, sym, ap, ◌∙◌, subst, append_assoc, append-nil, length-append, arith}
+use Rattle.std.proofs.Common.{◌≡◌, ◌⊎◌, inl, inr, ℕ, ◌-◌, ◌<◌, ◌≤◌, List, [], ◌∷◌, ◌++◌, length, take, drop, Option, Some, None, Err, sym, ap, ◌∙◌, subst, append_assoc, append-nil, length-append, arith}
 use Rattle.std.proofs.lemmas.Bool.{cases_lt}
 use Rattle.std.proofs.lemmas.List.{take-append-drop, take-append-le}
 use Rattle.std.proofs.Math.Seq.{take-append-add, take-append_seam, drop-length}
 use Rattle.httparse.specs.Ascii.{space}
-use Rattle.httparse.specs.Grammar.{print_blank, print_end, print_reason, print_response, print_section, print_version, HasNoResponse, ReadsResponse, ResponseHead}
+use Rattle.httparse.specs.Grammar.{print_blank, print_end, print_reason, print_response, print_section, print_version, HasNoResponse, ResponseHead}
 use Rattle.httparse.proofs.GrammarLemmas.{cons-append}
 use Rattle.stream_wire.specs.declared.wire_fault.WireFault.{WireFault}
 use Rattle.stream_wire.specs.declared.wire_fault.WireFault.TheVariants as fault
-use Rattle.stream_wire.specs.Head.{HearsResponse, IsResponse, IsTaken, NeverTakesResponse, TakesResponse}
+use Rattle.stream_wire.specs.Head.{HearsResponse, IsResponse, IsTaken, NeverTakesResponse}
 use Rattle.replica_apply.specs.Heads.{HoldsHead, IsHead}
 
 -- a response that is refused is never taken

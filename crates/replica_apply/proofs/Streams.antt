@@ -1,7 +1,7 @@
 -- Following: what was done so far, and how it ends.
-use Rattle.std.proofs.Common.{◌≡◌, ℕ, ◌+◌, ◌<◌, ◌≤◌, true, false, List, [], ◌∷◌, ◌++◌, length, Option, None, Some, Result, Ok, Err, OnOk, IfErr, refl, sym, ap, ◌∙◌, subst, append_assoc, append-nil, arith}
-use Rattle.std.specs.Io.KnownBytes.{Appends, Consumes, Keeps, prepend_known}
-use Rattle.std.proofs.KnownBytes.{Appends-nil, Consumes-nil, Keeps-refl}
+use Rattle.std.proofs.Common.{◌≡◌, ℕ, ◌+◌, ◌≤◌, true, List, [], ◌∷◌, ◌++◌, length, Option, None, Some, Result, Ok, Err, OnOk, IfErr, refl, sym, ap, ◌∙◌, subst, append_assoc, append-nil, arith}
+use Rattle.std.specs.Io.KnownBytes.{Appends, Consumes, Keeps}
+use Rattle.std.proofs.KnownBytes.{Consumes-nil, Keeps-refl}
 use Rattle.lf_base.specs.declared.session_end.SessionEnd.{SessionEnd}
 use Rattle.lf_base.specs.declared.session_end.SessionEnd.TheVariants as session
 use Rattle.turn_desk.specs.History.{entry}
@@ -19,7 +19,7 @@ use Rattle.link_session.specs.Unread.{end_of as session_end}
 use Rattle.stream_wire.specs.Head.{NeverTakesResponse}
 use Rattle.replica_apply.specs.Heads.{HeadBytes, IsHeadPart, head_stage}
 use Rattle.link_session.proofs.Reading.{kept_consumes}
-use Rattle.link_session.proofs.Stands.{spent_asking, spent_moving, spent_on}
+use Rattle.link_session.proofs.Stands.{spent_moving, spent_on}
 use Rattle.link_session.proofs.Talking.{one_more}
 use Rattle.node_core.specs.declared.ask.Ask.{Ask}
 use Rattle.node_core.specs.declared.answer.Answer.TheVariants as answer

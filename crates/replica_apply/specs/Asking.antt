@@ -1,8 +1,6 @@
 -- How a frame is asked.
-use Rattle.std.proofs.Common.{◌≡◌, refl, ℕ, Bool, true, false, List, ◌∷◌, [], ◌++◌}
-use Rattle.lf_base.specs.declared.pos.Pos.{Pos}
+use Rattle.std.proofs.Common.{◌≡◌, refl, ℕ, Bool, true, false, List}
 use Rattle.turn_desk.specs.declared.history.Entry.{Entry}
-use Rattle.turn_desk.specs.History.{entry}
 use Rattle.link_session.specs.Asking.{Manner}
 use Rattle.link_session.specs.Stands.{Asker}
 use Rattle.node_core.specs.declared.ask.Ask.{Ask}

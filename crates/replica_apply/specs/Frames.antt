@@ -1,6 +1,5 @@
 -- What becomes of one frame.
 use Rattle.std.specs.Prelude.{◌≡◌, ℕ, List, [], ◌++◌, Result, Ok, Err}
-use Rattle.lf_base.specs.Name.{IsName}
 use Rattle.lf_base.specs.declared.pos.Pos.{Pos}
 use Rattle.link_session.specs.Asking.{AskedUntil, AskedInVain}
 use Rattle.link_session.specs.Rounds.{Round}

@@ -1,5 +1,5 @@
 -- The head of a reply as what is read first.
-use Rattle.std.proofs.Common.{◌≡◌, ℕ, List, ◌++◌, length, Option, Some, None, subst, append_assoc}
+use Rattle.std.proofs.Common.{ℕ, List, ◌++◌, length, Option, Some, None, subst, append_assoc}
 use Rattle.httparse.specs.Grammar.{HasNoResponse}
 use Rattle.link_session.specs.declared.stage.Stage.{Stage}
 use Rattle.link_session.specs.declared.stage.Stage.TheVariants as stages

@@ -1,21 +1,20 @@
 -- Streams: what was told so far, and how they end.
-use Rattle.std.proofs.Common.{◌≡◌, ◌⊎◌, inl, inr, ℕ, ◌+◌, Bool, true, false, IsTrue, List, [], ◌∷◌, ◌++◌, length, take, Option, None, Some, Result, Ok, Err, OnOk, OnErr, refl, sym, ap, ◌∙◌, subst, append_assoc, append-nil, length-append, arith, ◌<◌}
+use Rattle.std.proofs.Common.{◌≡◌, inl, inr, ℕ, ◌+◌, Bool, true, false, IsTrue, List, [], ◌∷◌, ◌++◌, length, take, Option, Result, Ok, Err, OnOk, OnErr, refl, sym, ap, ◌∙◌, subst, append_assoc, append-nil, length-append, arith}
 use Rattle.std.specs.Io.KnownBytes.{Appends, Keeps}
 use Rattle.std.proofs.KnownBytes.{Appends-nil, Appends-trans, Keeps-refl}
 use Rattle.std.proofs.lemmas.List.{take-append-le}
 use Rattle.std.proofs.Math.Seq.{take-append-add}
-use Rattle.lf_base.specs.Faults.{Rose}
 use Rattle.lf_base.specs.declared.pos.Pos.{Pos}
 use Rattle.lf_base.specs.declared.session_end.SessionEnd.{SessionEnd}
 use Rattle.lf_base.specs.declared.session_end.SessionEnd.TheVariants as ends
 use Rattle.link_session.specs.Asking.{EndsAsking}
 use Rattle.link_session.specs.Rounds.{Place}
-use Rattle.link_session.specs.Stands.{Asker, IsStill, Stand}
+use Rattle.link_session.specs.Stands.{Asker, Stand}
 use Rattle.link_session.specs.Writing.{AppendsPart}
 use Rattle.node_core.specs.declared.answer.Answer.{Answer}
 use Rattle.stream_primary.specs.declared.standing.Standing.{Standing}
 use Rattle.stream_primary.specs.Telling.{goes_on, next, standing_at, words}
-use Rattle.stream_primary.specs.Streaming.{NodeEntry, AreHellos, AsksHello, EndsRound, EndsTelling, IsHello, IsRound, Streamed, Streams, behind, told_by}
+use Rattle.stream_primary.specs.Streaming.{NodeEntry, AreHellos, AsksHello, EndsRound, EndsTelling, IsHello, Streamed, Streams, behind, told_by}
 use Rattle.stream_primary.proofs.Wholes.{kept_appends}
 
 -- ---- two texts, one behind the other

@@ -1,5 +1,5 @@
 -- What a node's answer is to a follower, and how it stands then.
-use Rattle.std.specs.Prelude.{ℕ, Bool, true, false, List, [], ◌++◌, Option, None, if◌then◌else◌}
+use Rattle.std.specs.Prelude.{ℕ, Bool, true, false, List, [], ◌++◌, None, if◌then◌else◌}
 use Rattle.lf_base.specs.declared.pos.Pos.{Pos}
 use Rattle.node_core.specs.declared.answer.Answer.{Answer}
 use Rattle.node_core.specs.declared.answer.Answer.TheVariants as answer

@@ -1,5 +1,5 @@
 use Rattle.std.proofs.Common.{refl, subst}
-use Rattle.link_session.specs.Stands.{Asker, asker, stand}
+use Rattle.link_session.specs.Stands.{Asker, stand}
 use Rattle.link_session.proofs.Stands.{same_asker}
 use Rattle.replica_apply.specs.Following.{answered, unsent, EndsAnswer}
 use Rattle.replica_apply.proofs.following.follow_all.Goals as goal

@@ -1,4 +1,4 @@
-use Rattle.std.proofs.Common.{ℕ, true, [], Err, refl, sym, subst}
+use Rattle.std.proofs.Common.{ℕ, true, Err, refl, sym, subst}
 use Rattle.std.specs.Io.KnownBytes.{Consumes}
 use Rattle.link_session.specs.Frames.{IsBrokenFrame, IsFrame, IsFramePart}
 use Rattle.link_session.specs.Reading.{Held, coming}

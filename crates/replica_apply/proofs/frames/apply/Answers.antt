@@ -1,4 +1,3 @@
-use Rattle.std.proofs.Common.{refl}
 use Rattle.link_session.specs.Stands.{asker}
 use Rattle.replica_apply.proofs.Streams.{done_with}
 use Rattle.replica_apply.proofs.frames.apply.Goals as goal

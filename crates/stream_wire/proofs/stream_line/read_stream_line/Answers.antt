@@ -1,6 +1,5 @@
-use Rattle.std.proofs.Common.{ap, sym, subst, ◌∙◌, arith, length, ◌-◌, take}
+use Rattle.std.proofs.Common.{sym, subst, ◌∙◌, arith}
 use Rattle.lf_base.specs.Name.{IsName}
-use Rattle.stream_wire.specs.StreamLine.{line_end, ReadsLineEnd}
 use Rattle.stream_wire.proofs.StreamLines.{end_part, line_length, name_part}
 use Rattle.stream_wire.proofs.stream_line.read_stream_line.Goals as goal
 
