@@ -28,6 +28,7 @@ pub mod PlacingsAnew
 pub mod Prunings
 pub mod Puttings
 pub mod Receivings
+pub mod Republishings
 pub mod Reservings
 pub mod Resting
 pub mod Rewritings

@@ -20,6 +20,7 @@ pub mod Pruning
 pub mod Publishing
 pub mod Putting
 pub mod Receiving
+pub mod Republishing
 pub mod Reserve
 pub mod Rewriting
 pub mod Settling
