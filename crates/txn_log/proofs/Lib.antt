@@ -25,6 +25,7 @@ pub mod PagesRead
 pub mod Places
 pub mod Placings
 pub mod PlacingsAnew
+pub mod PlacingsFrom
 pub mod Prunings
 pub mod Puttings
 pub mod Receivings
@@ -37,4 +38,6 @@ pub mod Stagings
 pub mod Stores
 pub mod SumTables
 pub mod Taking
+pub mod TakingSources
+pub mod Takings
 pub mod Wearing
