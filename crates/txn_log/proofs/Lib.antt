@@ -1,6 +1,7 @@
 pub mod Anew
 pub mod Applyings
 pub mod Blank
+pub mod Bringings
 pub mod Cleanings
 pub mod Clearings
 pub mod Comings

@@ -1,9 +1,10 @@
 //! A source is read as one file, judged, and published, beside the fields of a store.
-ghost use Rattle.std.specs.Prelude.{◌≡◌, ◌≤◌, true, [], ℕ, List, Bool, length, IsTrue, IfOk};
+ghost use Rattle.std.specs.Prelude.{◌≡◌, ◌↔◌, ◌≤◌, ◌<◌, true, [], ℕ, List, Bool, length, IsTrue, IfOk};
 ghost use Rattle.lf_disk.specs.Folder.{bytes_of};
 ghost use Rattle.lf_disk.specs.History.{now, IsSettledBut};
 ghost use Rattle.lf_disk.specs.declared.name.FileName.{FileName as Name};
-ghost use Rattle.lf_sqlite_pages.specs.Change.{PageChange};
+ghost use Rattle.lf_sqlite_pages.specs.Change.{PageChange, IsChange, HoldsEveryPage, FitsOver};
+ghost use Rattle.lf_sqlite_pages.specs.PageSize.{IsPageSize};
 ghost use Rattle.lf_sqlite_pages.specs.Image.{DatabaseImage};
 ghost use Rattle.lf_sqlite_pages.specs.LockPage.{data_pages_to as data_pages};
 ghost use Rattle.ltx_codec.specs.Fields.{AreBytes};
@@ -27,6 +28,7 @@ use crate::taking_source::{TakeFault, take_source};
 use lf_base::{Pos, Source};
 use lf_disk::Disk;
 use lf_sqlite_pages::lock_page;
+use ltx_codec::Header;
 use page_checksum::Sums;
 
 /// What a store is, beside its disk and its table of sums.
@@ -60,6 +62,30 @@ fn data_pages_to(page_size: u32, n: u32) -> u32
     ensures { result ≡ data_pages page_size n }
 {
     if n < lock_page(page_size) { n } else { n - 1 }
+}
+
+/// Whether a file that holds so many pages holds every data page.
+fn holds_every(held: u32, header: &Header) -> bool
+    requires { IsPageSize header.now.page_size }
+    ensures { (change : PageChange) → IsChange change → change.page_size ≡ header.now.page_size → change.commit ≡ header.now.commit → held ≡ length change.pages
+        → (IsTrue result ↔ HoldsEveryPage change) }
+{
+    held == data_pages_to(header.page_size, header.commit)
+}
+
+/// Whether it can be applied to a database of `count` pages of `page_size` bytes.
+fn fits(held: u32, header: &Header, page_size: u32, count: u32) -> bool
+    requires { IsPageSize header.now.page_size }
+    ensures { (change : PageChange) → IsChange change → change.page_size ≡ header.now.page_size → change.commit ≡ header.now.commit → held ≡ length change.pages
+        → (IsTrue result ↔ FitsOver page_size count change) }
+{
+    if page_size == header.page_size {
+        return true;
+    }
+    if count == 0 {
+        return true;
+    }
+    holds_every(held, header)
 }
 
 /// The position that a file follows.
@@ -98,12 +124,15 @@ fn judge_taken(
     if want != have {
         return Err(FromFault::Store(StoreFault::NotNext { have, want }));
     }
-    let size = outline.header.page_size;
-    let every = intake.held == data_pages_to(size, outline.header.commit);
-    if size != ground.page_size && ground.commit != 0 && !every {
+    if !fits(
+        intake.held,
+        &outline.header,
+        ground.page_size,
+        ground.commit,
+    ) {
         return Err(FromFault::Store(StoreFault::PageSize {
             have: ground.page_size,
-            want: size,
+            want: outline.header.page_size,
         }));
     }
     let want = outline.post;
