@@ -22,6 +22,7 @@ pub mod Marks
 pub mod Modes
 pub mod Moves
 pub mod Naming
+pub mod Octets
 pub mod PagesRead
 pub mod Places
 pub mod Placings

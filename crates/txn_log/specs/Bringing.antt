@@ -12,7 +12,7 @@ use Rattle.ltx_codec.specs.declared.file.Ltx.{Ltx}
 use Rattle.txn_log.specs.Apply.{whole_file, IsTaken}
 use Rattle.txn_log.specs.Draft.{sums_after}
 use Rattle.txn_log.specs.From.{Gave, RefusesRead, RefusesFrom}
-use Rattle.txn_log.specs.Kept.{LogFile, file_of, IsAtRest, IsComplete}
+use Rattle.txn_log.specs.Kept.{LogFile, file_of, Kept, IsAtRest, IsComplete}
 use Rattle.txn_log.specs.Modes.{wal_after}
 use Rattle.txn_log.specs.Placing.{Places}
 use Rattle.txn_log.specs.Taking.{IsQuiet}
@@ -69,7 +69,8 @@ Brings honest left left_now start ground sums table (brought.Whole outline wal) 
     (file : Ltx) × IsBrought left left_now ground sums file × ReadsBack ground.commit file × TellsAfter outline wal ground sums table file × PlacesWhole honest start ground sums file placed.Whole end
 Brings honest left left_now start ground sums table (brought.From tried) end =
     (file : Ltx) × IsBrought left left_now ground sums file × ReadsBack ground.commit file × PlacesWhole honest start ground sums file (placed.From tried) end
-Brings honest left left_now start ground sums table brought.Unpublished end = IsTrue honest → EachMoment start end (SameBut Staged (now start))
+Brings honest left left_now start ground sums table brought.Unpublished end =
+    IsTrue honest → (image : DatabaseImage) (files : List LogFile) → IsOverGround image files start ground sums → EachMoment start end (Kept image files ground.dropped)
 Brings honest left left_now start ground sums table (brought.Refused why) end =
     (why ≢ from.Store fault.Disk) × RefusesFrom left left_now ground.room false ground.position ground.page_size ground.commit sums why
     × (IsTrue honest → EachMoment start end (SameBut Staged (now start)) × IsQuiet (now start) end)
