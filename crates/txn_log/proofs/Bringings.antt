@@ -96,8 +96,8 @@ module _ (honest : Bool) (left left_now : Option (List ℕ)) (start mid : Histor
   pub back : ReadsBack ground.commit file
   back = reads_back ground.commit gave.text file gave.octets gave.is
 
-  pub tells : TellsAfter outline intake.wal ground sums table file
-  tells = record { header = refl; post = refl; table_is = it.3.table_is; wal_is = it.3.wal_is }
+  pub tells : TellsAfter intake.wal ground sums table file
+  tells = record { table_is = it.3.table_is; wal_is = it.3.wal_is }
 
   over_from : (image : DatabaseImage) (files : List LogFile) → IsOverGround image files start ground sums
       → IsOverFrom (now start) image files ground.dropped intake.receiving sums ground.commit outline.post gave.change (whole_file ground.commit file)

@@ -13,6 +13,7 @@ pub mod Droppings
 pub mod Emptyings
 pub mod Entries
 pub mod Fittings
+pub mod FromMoves
 pub mod Givings
 pub mod Growths
 pub mod Installed

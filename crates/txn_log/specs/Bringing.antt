@@ -6,6 +6,7 @@ use Rattle.lf_disk.specs.declared.name.FileName.TheVariants.{Staged}
 use Rattle.lf_disk.specs.Folder.{SameBut}
 use Rattle.lf_disk.specs.History.{History, now, EachMoment}
 use Rattle.lf_sqlite_pages.specs.Apply.{apply}
+use Rattle.lf_sqlite_pages.specs.Change.{PageChange}
 use Rattle.lf_sqlite_pages.specs.Image.{DatabaseImage}
 use Rattle.ltx_codec.specs.Format.{IsFile, file_text, no_meaning}
 use Rattle.ltx_codec.specs.declared.file.Ltx.{Ltx}
@@ -56,17 +57,20 @@ PlacesWhole honest start ground sums file how end =
 abbrev pub ReadsBack : ℕ → Ltx → Type 0
 ReadsBack commit file = IsFile (whole_file commit file) → file_of (file_text (whole_file commit file) no_meaning) ≡ whole_file commit file
 
--- the fields of a store after it
-pub record TellsAfter (outline : Outline) (wal : Bool) (ground : Ground) (sums table : List ℕ) (file : Ltx) : Type 0 where
-  pub header : outline.header ≡ file.header
-  pub post : outline.post ≡ file.post
+-- the file with this outline and this change
+abbrev pub as_file : Outline → PageChange → Ltx
+as_file outline change = record { header = outline.header; change = change; post = outline.post }
+
+-- the table and the journal mode of a store after it
+pub record TellsAfter (wal : Bool) (ground : Ground) (sums table : List ℕ) (file : Ltx) : Type 0 where
   pub table_is : table ≡ sums_after sums (whole_file ground.commit file).change
   pub wal_is : wal ≡ wal_after ground.wal (whole_file ground.commit file).change
 
 -- how far a source came
 abbrev pub Brings : Bool → Option (List ℕ) → Option (List ℕ) → History → Ground → List ℕ → List ℕ → Brought → History → Type 0
 Brings honest left left_now start ground sums table (brought.Whole outline wal) end =
-    (file : Ltx) × IsBrought left left_now ground sums file × ReadsBack ground.commit file × TellsAfter outline wal ground sums table file × PlacesWhole honest start ground sums file placed.Whole end
+    (change : PageChange) × IsBrought left left_now ground sums (as_file outline change) × ReadsBack ground.commit (as_file outline change) × TellsAfter wal ground sums table (as_file outline change)
+    × PlacesWhole honest start ground sums (as_file outline change) placed.Whole end
 Brings honest left left_now start ground sums table (brought.From tried) end =
     (file : Ltx) × IsBrought left left_now ground sums file × ReadsBack ground.commit file × PlacesWhole honest start ground sums file (placed.From tried) end
 Brings honest left left_now start ground sums table brought.Unpublished end =

@@ -1,5 +1,5 @@
 -- A file is applied that a source gives.
-use Rattle.std.specs.Prelude.{◌≡◌, ◌≢◌, ◌⊎◌, ℕ, ◌<◌, ◌≤◌, Bool, false, true, Option, None, Some, Result, Ok, Err, List, [], ◌∷◌}
+use Rattle.std.specs.Prelude.{◌≡◌, ◌≢◌, ◌⊎◌, ℕ, ◌<◌, ◌≤◌, nat_lt, if◌then◌else◌, Bool, false, true, Option, None, Some, Result, Ok, Err, List, [], ◌∷◌}
 use Rattle.std.specs.Io.KnownBytes.{Consumes, IsAtEnd}
 use Rattle.lf_base.specs.Faults.{Rose}
 use Rattle.lf_base.specs.declared.pos.Pos.{Pos}
@@ -64,3 +64,12 @@ BreaksFrom was source disk (Err (from.Store fault.Disk)) broken source_now disk_
 BreaksFrom was source disk (Err from.Source) broken source_now disk_now = (broken ≡ was) × Rose source source_now × (disk_now ≡ disk)
 BreaksFrom was source disk (Ok _) broken source_now disk_now = (broken ≡ was) × (source_now ≡ source) × (disk_now ≡ disk)
 BreaksFrom was source disk (Err _) broken source_now disk_now = (broken ≡ was) × (source_now ≡ source) × (disk_now ≡ disk)
+
+-- the fault of a store that is broken, for a file of so many pages
+abbrev pub broken_or_past : ℕ → ℕ → FromFault
+broken_or_past commit room = if nat_lt room commit then from.Room commit else from.Store fault.Broken
+
+-- only a source that failed raises its count
+abbrev pub CountsRefused : ℕ → ℕ → FromFault → Type 0
+CountsRefused before now from.Source = Rose before now
+CountsRefused before now _ = now ≡ before

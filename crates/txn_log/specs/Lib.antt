@@ -23,6 +23,7 @@ pub mod Pruning
 pub mod Publishing
 pub mod Putting
 pub mod Receiving
+pub mod Renewing
 pub mod Republishing
 pub mod Reserve
 pub mod Rewriting

@@ -89,7 +89,7 @@ fn fits(held: u32, header: &Header, page_size: u32, count: u32) -> bool
 }
 
 /// The position that a file follows.
-fn before(outline: &Outline) -> Pos
+pub fn before(outline: &Outline) -> Pos
     requires { 1 ≤ outline.now.header.min }
     ensures { (change : PageChange) → result ≡ position_before (record { header = outline.now.header; change = change; post = outline.now.post }) }
 {

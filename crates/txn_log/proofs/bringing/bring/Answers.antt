@@ -31,7 +31,7 @@ returns-in-Whole-clause-brings g c =
     let judged = c.in-Ok-judge_taken.ensures.judges gave.text gave.change sums gave.octets gave.is gave.taken_in in
     let intake = c.in-Ok-judge_taken.intake in
     (
-      record { header = c.in-Ok.it.0.header; change = gave.change; post = c.in-Ok.it.0.post },
+      gave.change,
       brought honest left left_now start mid ground sums table c.in-Ok.it.0 c.in-Ok.it.1 intake gave judged,
       back honest left left_now start mid ground sums table c.in-Ok.it.0 c.in-Ok.it.1 intake gave judged,
       tells honest left left_now start mid ground sums table c.in-Ok.it.0 c.in-Ok.it.1 intake gave judged,
