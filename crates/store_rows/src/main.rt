@@ -3,6 +3,7 @@
 #![tactic(auto)]
 
 mod answers;
+mod applied;
 mod drills;
 mod folders;
 mod place;
@@ -25,6 +26,7 @@ fn main(rt: HostRuntime) -> io::Result<()> {
     answers::print_drop(rt)?;
     primaries::print_primaries(rt)?;
     sources::print_sources(rt)?;
+    applied::print_applied(rt)?;
     drills::print_stops(rt)?;
     drills::print_faults(rt)?;
     folders::print_script(rt)?;

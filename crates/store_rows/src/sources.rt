@@ -8,14 +8,14 @@ use std::io;
 use txn_log::{Coming, FileDecoder, Outline, TextFault, read_source};
 
 /// Room for a piece.
-fn room(alloc: Global) -> Option<Vec<u8>>
+pub fn room(alloc: Global) -> Option<Vec<u8>>
     ensures { IfSome result (λ room. length room.items ≡ 65536) }
 {
     vec![in alloc; 0u8; 65536].ok()
 }
 
 /// A source of these bytes, whose first call fails or not.
-fn source_of(alloc: Global, bytes: &[u8], fails: bool) -> Option<SliceSource<'_>> {
+pub fn source_of(alloc: Global, bytes: &[u8], fails: bool) -> Option<SliceSource<'_>> {
     let mut failing = Vec::new(alloc);
     if fails && failing.push(0).is_err() {
         return None;

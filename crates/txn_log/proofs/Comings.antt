@@ -92,7 +92,7 @@ rises number (w ∷ ws) ascending (suc k) d h =
     omega (arith, ascending.0, rises w.number ws ascending.1 k d below)
 
 -- so a change has no more pages than the database after it
-no_more : (ws : List PageWrite) (commit : ℕ) → AscendsAbove 0 ws → All (λ (w : PageWrite). w.number ≤ commit) ws → length ws ≤ commit
+pub no_more : (ws : List PageWrite) (commit : ℕ) → AscendsAbove 0 ws → All (λ (w : PageWrite). w.number ≤ commit) ws → length ws ≤ commit
 no_more [] commit ascending within = omega arith
 no_more (w ∷ ws) commit ascending within = omega (arith, rises 0 (w ∷ ws) ascending (length ws) w (omega arith), within (length ws) w (omega arith))
 

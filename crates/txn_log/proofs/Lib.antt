@@ -1,6 +1,7 @@
 pub mod Anew
 pub mod Applyings
 pub mod Blank
+pub mod Bringings
 pub mod Cleanings
 pub mod Clearings
 pub mod Comings
@@ -12,6 +13,7 @@ pub mod Droppings
 pub mod Emptyings
 pub mod Entries
 pub mod Fittings
+pub mod FromMoves
 pub mod Givings
 pub mod Growths
 pub mod Installed
@@ -21,13 +23,16 @@ pub mod Marks
 pub mod Modes
 pub mod Moves
 pub mod Naming
+pub mod Octets
 pub mod PagesRead
 pub mod Places
 pub mod Placings
 pub mod PlacingsAnew
+pub mod PlacingsFrom
 pub mod Prunings
 pub mod Puttings
 pub mod Receivings
+pub mod Republishings
 pub mod Reservings
 pub mod Resting
 pub mod Rewritings
@@ -36,4 +41,6 @@ pub mod Stagings
 pub mod Stores
 pub mod SumTables
 pub mod Taking
+pub mod TakingSources
+pub mod Takings
 pub mod Wearing

@@ -26,7 +26,7 @@ unfolding is_page_size
 page_size-most page_size is = grind (arith, common_steps, nat_tests)
 
 -- the first page holds data
-first-data : (page_size : ℕ) → IsPageSize page_size → IsDataPage page_size 1
+pub first-data : (page_size : ℕ) → IsPageSize page_size → IsDataPage page_size 1
 first-data page_size is = IsDataPage-below page_size 1 (page_size-positive page_size is) (omega (arith, page_size-most page_size is))
 
 pub mode_after : (image : DatabaseImage) (wal : Bool) (change : PageChange) → IsPageSize change.page_size → IsComplete image change → wal ≡ image_is_wal image → wal_after wal change ≡ image_is_wal (apply image change)

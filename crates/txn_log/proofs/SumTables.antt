@@ -200,7 +200,7 @@ module _ (sums : List ℕ) (change : PageChange) (count n : ℕ) where
       rw test refl
 
   module _ (first : 1 ≤ n) (last : n ≤ change.commit) (other : IsDataPage change.page_size n) where
-    behind : sum_after sums (completed change count) n ≡ unwrap_or (option_map (page_sum_of n) (completed_page change count n)) (slice_index sums (n - 1))
+    pub behind : sum_after sums (completed change count) n ≡ unwrap_or (option_map (page_sum_of n) (completed_page change count n)) (slice_index sums (n - 1))
     behind =
         let test : eqb n (lock_page_of change.page_size) ≡ false = grind (arith, nat_tests) in
         let here : written (completed change count).pages n ≡ completed_page change count n = written-writes_of (completed_page change count) change.commit n first last in

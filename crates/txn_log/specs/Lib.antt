@@ -1,5 +1,6 @@
 pub mod Answering
 pub mod Apply
+pub mod Bringing
 pub mod Calls
 pub mod Causes
 pub mod Coming
@@ -8,6 +9,7 @@ pub mod Dropping
 pub mod Durable
 pub mod Entries
 pub mod FaultNumber
+pub mod From
 pub mod Giving
 pub mod Installing
 pub mod Intake
@@ -16,12 +18,17 @@ pub mod Modes
 pub mod Opening
 pub mod Pages
 pub mod Placing
+pub mod PlacingFrom
 pub mod Pruning
 pub mod Publishing
 pub mod Putting
 pub mod Receiving
+pub mod Renewing
+pub mod Republishing
 pub mod Reserve
 pub mod Rewriting
 pub mod Settling
 pub mod Staging
 pub mod Store
+pub mod Taking
+pub mod TakingSource

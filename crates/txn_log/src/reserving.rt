@@ -1,9 +1,10 @@
 //! Memory is taken for later calls.
 ghost use Rattle.std.specs.Prelude.{◌≡◌, ◌<◌, ◌≤◌, length, vec_capacity, IsSome, OnOk};
+ghost use Rattle.txn_log.specs.Renewing.{spare_in};
 ghost use Rattle.txn_log.specs.Reserve.{spare_of};
 
 use crate::entry::Entry;
-use crate::file_decoder::FileDecoder;
+use crate::renewing::renew;
 use crate::store::Store;
 use lf_base::NoMemory;
 use lf_disk::Disk;
@@ -29,6 +30,7 @@ impl<D: Disk> Store<D> {
         ensures pages { OnOk result (pages ≤ spare_of self.new.sums) }
         ensures entry { OnOk result (length self.new.entries.items < vec_capacity self.new.entries) }
         ensures decoder { OnOk result (IsSome self.new.decoder) }
+        ensures room { OnOk result (pages ≤ spare_in self.new.decoder) }
         ensures no_less { spare_of self.old.sums ≤ spare_of self.new.sums }
         ensures tables { (self.new.entries.items ≡ self.old.entries.items) × (self.new.sums.sums ≡ self.old.sums.sums) }
         ensures same { (self.new.disk ≡ self.old.disk) × (self.new.page_size ≡ self.old.page_size) × (self.new.commit ≡ self.old.commit)
@@ -38,10 +40,7 @@ impl<D: Disk> Store<D> {
     {
         let more = pages.saturating_sub(self.commit);
         take_room(&mut self.entries, &mut self.sums, more)?;
-        if self.decoder.is_none() {
-            let decoder = FileDecoder::new(*self.entries.allocator())?;
-            self.decoder = Some(decoder);
-        }
+        renew(*self.entries.allocator(), &mut self.decoder, pages)?;
         Ok(())
     }
 }

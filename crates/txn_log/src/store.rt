@@ -8,7 +8,7 @@ ghost use Rattle.world_laws.specs.Store.{MayBeFound};
 
 use crate::attempt::Attempt;
 use crate::entry::Entry;
-use crate::file_decoder::FileDecoder;
+use crate::reserved::Reserved;
 use lf_disk::Disk;
 use page_checksum::Sums;
 
@@ -37,7 +37,7 @@ pub struct Store<D: Disk> {
     pub attempt: Attempt,
     pub tried: u64,
     /// For files that are read page by page, once memory was reserved for them.
-    pub decoder: Option<FileDecoder>,
+    pub decoder: Option<Reserved>,
     ghost shaped: { IsShaped commit entries.items dropped sums.sums },
     ghost sized: { IsSized page_size commit },
     ghost kept: { IsTrue (D.honest disk) → IsStore (D.history disk) page_size commit entries.items dropped sums.sums broken whole tried } by { Prim.hlevel (props, Ascends-prop) },

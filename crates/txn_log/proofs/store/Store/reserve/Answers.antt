@@ -12,30 +12,8 @@ invariant_of-self g c =
       sized = s.sized;
     }
 
-pub invariant_of-self-in-Break-branch-2 : goal.invariant_of-self-in-Break-branch-2
-invariant_of-self-in-Break-branch-2 g c =
-    let s = c.args.self.now in
-    record {
-      shaped = shaped-same s.entries.items _ s.sums.sums _ c.take_room.ensures.entries c.take_room.ensures.sums s.commit s.dropped s.shaped;
-      kept = λ honest. kept-same s.entries.items _ s.sums.sums _ c.take_room.ensures.entries c.take_room.ensures.sums (g.D.Disk.history s.disk) s.page_size s.commit s.dropped s.broken s.whole s.tried (s.kept honest);
-      left = λ honest. left-same s.entries.items _ s.sums.sums _ c.take_room.ensures.entries c.take_room.ensures.sums (g.D.Disk.history s.disk) s.page_size s.commit s.dropped s.broken s.whole s.tried s.attempt (s.left honest);
-      mode = s.mode;
-      sized = s.sized;
-    }
-
-pub invariant_of-self-then-is_none : goal.invariant_of-self-then-is_none
-invariant_of-self-then-is_none g c =
-    let s = c.args.self.now in
-    record {
-      shaped = shaped-same s.entries.items _ s.sums.sums _ c.take_room.ensures.entries c.take_room.ensures.sums s.commit s.dropped s.shaped;
-      kept = λ honest. kept-same s.entries.items _ s.sums.sums _ c.take_room.ensures.entries c.take_room.ensures.sums (g.D.Disk.history s.disk) s.page_size s.commit s.dropped s.broken s.whole s.tried (s.kept honest);
-      left = λ honest. left-same s.entries.items _ s.sums.sums _ c.take_room.ensures.entries c.take_room.ensures.sums (g.D.Disk.history s.disk) s.page_size s.commit s.dropped s.broken s.whole s.tried s.attempt (s.left honest);
-      mode = s.mode;
-      sized = s.sized;
-    }
-
-pub invariant_of-self-else-is_none : goal.invariant_of-self-else-is_none
-invariant_of-self-else-is_none g c =
+pub invariant_of-self-2 : goal.invariant_of-self-2
+invariant_of-self-2 g c =
     let s = c.args.self.now in
     record {
       shaped = shaped-same s.entries.items _ s.sums.sums _ c.take_room.ensures.entries c.take_room.ensures.sums s.commit s.dropped s.shaped;
