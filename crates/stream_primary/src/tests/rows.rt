@@ -223,14 +223,20 @@ fn rows() -> [Row; 24] {
 
 /// The bytes of the file.
 fn file(alloc: Global) -> Result<Vec<u8>, AllocError> {
-    let mut bytes = vec![in alloc; 0u8; 636]?;
-    for (at, b) in FRONT.iter().enumerate() {
-        bytes[at] = *b;
-    }
-    bytes[103] = 1;
-    bytes.truncate(620);
+    let mut bytes = Vec::new(alloc);
+    bytes.extend_from_slice(FRONT)?;
+    append_zeros(&mut bytes, 71)?;
+    bytes.push(1)?;
+    append_zeros(&mut bytes, 516)?;
     bytes.extend_from_slice(BACK)?;
     Ok(bytes)
+}
+
+fn append_zeros(bytes: &mut Vec<u8>, count: usize) -> Result<(), AllocError> {
+    for _ in 0..count {
+        bytes.push(0)?;
+    }
+    Ok(())
 }
 
 /// The texts, one behind another; a star at the end of one stands for the file.
