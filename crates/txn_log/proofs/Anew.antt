@@ -1,5 +1,5 @@
 -- A staged file is published as a snapshot, and settled.
-use Rattle.std.proofs.Common.{◌≡◌, inl, inr, ℕ, Option, List, [], ◌∷◌, refl, sym, ◌∙◌, ap, subst}
+use Rattle.std.proofs.Common.{inl, inr, ℕ, Option, List, refl, sym, ◌∙◌, subst}
 use Rattle.lf_disk.specs.declared.name.FileName.TheVariants.{Database, Staged, Snapshot, Ltx}
 use Rattle.lf_disk.specs.Folder.{Folder, bytes_of, SameBut}
 use Rattle.lf_disk.specs.History.{History, now, EachMoment}

@@ -1,5 +1,5 @@
 -- A file that was read is judged by what was taken in of it.
-use Rattle.std.proofs.Common.{◌≡◌, inl, ℕ, ◌<◌, ◌≤◌, Bool, Option, Some, None, Ok, List, length, IsTrue, refl, sym, ◌∙◌, ap, subst, arith}
+use Rattle.std.proofs.Common.{◌≡◌, inl, ℕ, ◌<◌, ◌≤◌, Bool, Option, Some, None, Ok, List, IsTrue, sym, ◌∙◌, ap, subst, arith}
 use Rattle.lf_disk.specs.declared.name.FileName.TheVariants.{Staged}
 use Rattle.lf_disk.specs.Folder.{Folder, SameBut}
 use Rattle.lf_disk.specs.History.{History, now, EachMoment}
@@ -24,13 +24,13 @@ use Rattle.txn_log.proofs.Octets.{reads_back}
 use Rattle.txn_log.proofs.Placings.{kept_same}
 use Rattle.page_checksum.specs.Sums.{flagged, joined}
 use Rattle.lf_sqlite_pages.specs.Change.{PageChange}
-use Rattle.ltx_codec.specs.Fields.{AreBytes, header_in}
+use Rattle.ltx_codec.specs.Fields.{AreBytes}
 use Rattle.ltx_codec.specs.Format.{IsLtx}
 use Rattle.ltx_codec.specs.declared.file.Ltx.{Ltx}
 use Rattle.ltx_codec.specs.declared.header.Header.{Header}
 use Rattle.ltx_codec.proofs.FileLemmas.{file_is}
 use Rattle.txn_log.specs.Apply.{sum_behind}
-use Rattle.txn_log.specs.Taking.{TakenUpTo, TakenIn}
+use Rattle.txn_log.specs.Taking.{TakenIn}
 use Rattle.txn_log.specs.declared.taking_in.Intake.{Intake}
 
 module _ (table sums : List ℕ) (count : ℕ) (wal : Bool) (room : ℕ) (text : List ℕ) (file : Ltx) (octets : AreBytes text) (is : IsLtx text file) where

@@ -1,18 +1,17 @@
 -- A store moves by the file of a source.
-use Rattle.std.proofs.Common.{◌≡◌, inl, inr, ℕ, ◌≤◌, Bool, true, false, Option, Some, None, Err, List, [], ◌∷◌, ◌++◌, IsTrue, refl, sym, ◌∙◌, ap, subst, arith}
+use Rattle.std.proofs.Common.{◌≡◌, ℕ, Bool, true, false, Option, None, Err, List, [], ◌∷◌, refl, sym, ◌∙◌, ap, subst, arith}
 use Rattle.lf_base.specs.declared.pos.Pos.{Pos}
 use Rattle.lf_disk.specs.declared.name.FileName.TheVariants.{Database, Staged}
-use Rattle.lf_disk.specs.Folder.{Folder, bytes_of, SameBut}
-use Rattle.lf_disk.specs.History.{History, now, may_leave, EachMoment}
+use Rattle.lf_disk.specs.Folder.{bytes_of, SameBut}
+use Rattle.lf_disk.specs.History.{History, now, EachMoment}
 use Rattle.lf_disk.proofs.Moments.{weakened}
-use Rattle.lf_sqlite_pages.specs.Change.{PageChange}
 use Rattle.lf_sqlite_pages.specs.Header.{image_is_wal}
 use Rattle.ltx_codec.specs.Format.{IsFile, IsLtx, no_meaning, file_text}
 use Rattle.ltx_codec.specs.Sums.{sum_table}
 use Rattle.ltx_codec.specs.declared.file.Ltx.{Ltx}
-use Rattle.world_laws.specs.Store.{StoreState, Apply, Failure, MayBeFound}
-use Rattle.txn_log.specs.Apply.{whole_file, IsTaken}
-use Rattle.txn_log.specs.Bringing.{IsBrought, IsOverGround, PlacesWhole, ReadsBack, CountsBrought}
+use Rattle.world_laws.specs.Store.{StoreState, Failure}
+use Rattle.txn_log.specs.Apply.{whole_file}
+use Rattle.txn_log.specs.Bringing.{IsBrought, IsOverGround, ReadsBack, CountsBrought}
 use Rattle.txn_log.specs.Calls.{StandsForOne, RestsAs, Moved}
 use Rattle.txn_log.specs.From.{RefusesFrom, WentFrom, BreaksFrom, CountsRefused}
 use Rattle.txn_log.specs.declared.bringing.Brought.TheVariants as brought
@@ -20,17 +19,13 @@ use Rattle.txn_log.specs.declared.fault.StoreFault.TheVariants as fault
 use Rattle.txn_log.specs.declared.from_fault.FromFault.{FromFault}
 use Rattle.txn_log.specs.declared.from_fault.FromFault.TheVariants as from
 use Rattle.txn_log.specs.Kept.{LogFile, file_of, Kept, IsAtRest, IsAtRestAt}
-use Rattle.txn_log.specs.Placing.{Places, IsBetween}
 use Rattle.txn_log.specs.Publishing.{CanTake}
 use Rattle.txn_log.specs.Store.{image_in, files_in, state_in, end_of_entries, AreEntries, IsStore, IsShaped}
 use Rattle.txn_log.specs.Taking.{IsQuiet}
-use Rattle.txn_log.specs.declared.attempt.Attempt.TheVariants as attempt
 use Rattle.txn_log.specs.declared.bringing.Ground.{Ground}
 use Rattle.txn_log.specs.declared.entry.Entry.{Entry}
-use Rattle.txn_log.specs.declared.placed.Placed.{Placed}
-use Rattle.txn_log.specs.declared.placed.Placed.TheVariants as placed
 use Rattle.txn_log.proofs.Applyings.{is_whole}
-use Rattle.txn_log.proofs.Moves.{image, files, store, itself, durable, went_done, left_done, is_done, stands, went_in, left_in, went_before, left_before}
+use Rattle.txn_log.proofs.Moves.{image, files, itself}
 use Rattle.txn_log.proofs.Placings.{kept_same}
 use Rattle.txn_log.proofs.Taking.{can_take-whole}
 

@@ -1,11 +1,11 @@
 -- A snapshot takes the place of a store.
-use Rattle.std.proofs.Common.{◌≡◌, ◌≢◌, inl, inr, ℕ, zero, suc, ◌+◌, ◌-◌, ◌<◌, ◌≤◌, ◌^◌, Bool, true, false, Option, Some, None, IsSome, List, [], ◌∷◌, ◌++◌, length, get_or, unwrap_or, replicate, refl, sym, ◌∙◌, ap, subst, arith}
+use Rattle.std.proofs.Common.{◌≡◌, inl, inr, ℕ, ◌-◌, ◌≤◌, Bool, true, false, Option, Some, None, IsSome, List, [], ◌∷◌, unwrap_or, refl, sym, ◌∙◌, ap, subst, arith}
 use Rattle.std.proofs.lemmas.Bool.{cases_eq}
 use Rattle.page_checksum.specs.Sums.{flagged, joined}
 use Rattle.lf_base.specs.declared.pos.Pos.{Pos}
-use Rattle.lf_disk.specs.declared.name.FileName.TheVariants.{Database, Staged}
+use Rattle.lf_disk.specs.declared.name.FileName.TheVariants.{Database}
 use Rattle.lf_disk.specs.Folder.{Folder, bytes_of}
-use Rattle.lf_disk.specs.History.{History, now, may_leave, EachMoment}
+use Rattle.lf_disk.specs.History.{History, now, EachMoment}
 use Rattle.lf_disk.proofs.Moments.{weakened}
 use Rattle.lf_sqlite_pages.specs.LockPage.{lock_page_of, IsDataPage}
 use Rattle.lf_sqlite_pages.specs.Image.{DatabaseImage, empty_image}
@@ -14,23 +14,21 @@ use Rattle.lf_sqlite_pages.specs.Apply.{apply, page_after}
 use Rattle.lf_sqlite_pages.proofs.Laws.{length-apply, page_at-apply, page_after-data, page_after-lock_page}
 use Rattle.lf_sqlite_pages.proofs.Applying.{written-lock_page}
 use Rattle.ltx_codec.specs.Format.{IsFile, IsLtx}
-use Rattle.ltx_codec.specs.Positions.{before, after, nowhere}
-use Rattle.ltx_codec.specs.Sums.{image_sum, sum_table}
+use Rattle.ltx_codec.specs.Positions.{before, nowhere}
 use Rattle.ltx_codec.specs.declared.file.Ltx.{Ltx}
 use Rattle.ltx_codec.proofs.ChangedSumLemmas.{image_sum-whole}
-use Rattle.world_laws.specs.Store.{StoreState, StoreCall, Failure, FailedIn, Install, MayBeFound, MayLeave, IsCandidate, end_of, installed}
+use Rattle.world_laws.specs.Store.{StoreState, Failure, FailedIn, Install, MayBeFound, IsCandidate, end_of, installed}
 use Rattle.txn_log.specs.declared.entry.Entry.{Entry}
 use Rattle.txn_log.specs.declared.attempt.Attempt.TheVariants as attempt
 use Rattle.txn_log.specs.Calls.{StandsForOne, RestsAs, Moved}
 use Rattle.txn_log.specs.Draft.{sums_after}
-use Rattle.txn_log.specs.Durable.{Durable, IsText, log_of, IsLog, IsSummed}
-use Rattle.txn_log.specs.Entries.{AreNamed}
+use Rattle.txn_log.specs.Durable.{Durable, IsText, IsLog, IsSummed}
 use Rattle.txn_log.specs.Installing.{IsKeptOrInstalled, IsOverAnew}
 use Rattle.txn_log.specs.Kept.{LogFile, file_of, Decides, Kept, IsAtRest, IsComplete}
 use Rattle.txn_log.specs.Pages.{page_in}
 use Rattle.txn_log.specs.Placing.{IsTried}
 use Rattle.txn_log.specs.Settling.{IsInstalled}
-use Rattle.txn_log.specs.Store.{image_in, files_in, state_in, state_of, failure_of, entry_of, end_of_entries, IsStore, IsShaped}
+use Rattle.txn_log.specs.Store.{state_in, state_of, failure_of, entry_of, IsStore, IsShaped}
 use Rattle.txn_log.proofs.Commits.{Follows, end_of-push, image_sum-apply, tells-more}
 use Rattle.txn_log.proofs.Entries.{end-push}
 use Rattle.txn_log.proofs.Installed.{alone}

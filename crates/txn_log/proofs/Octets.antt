@@ -1,21 +1,21 @@
 -- The numbers in the text of a file that was taken in are bytes, so that it reads back.
-use Rattle.std.proofs.Common.{◌≡◌, inl, inr, ℕ, zero, suc, ◌+◌, ◌<◌, ◌≤◌, true, false, eqb, Option, Some, None, List, [], ◌∷◌, ◌++◌, length, get_or, map, replicate, refl, sym, ◌∙◌, ap, subst, arith, unwrap_or}
+use Rattle.std.proofs.Common.{◌≡◌, inl, inr, ℕ, zero, suc, ◌+◌, ◌<◌, eqb, Option, Some, None, List, [], ◌∷◌, ◌++◌, length, get_or, replicate, refl, sym, ◌∙◌, ap, subst, arith, unwrap_or}
 use Rattle.std.specs.Prelude.{◌/◌, ◌%◌}
 use Rattle.std.specs.Int.{w32, w64, to_be_bytes}
-use Rattle.std.specs.List.{All, range_with_len}
+use Rattle.std.specs.List.{All}
 use Rattle.std.proofs.lemmas.Bool.{cases_lt, cases_Bool}
 use Rattle.std.proofs.lemmas.List.{get_or-replicate, get_or_past, length-replicate}
 use Rattle.std.proofs.lemmas.List.Elements.{All-tail}
 use Rattle.std.proofs.lemmas.List.FromFn.{get_or-map-range_with_len}
 use Rattle.lf_sqlite_pages.specs.LockPage.{IsDataPage}
-use Rattle.lf_sqlite_pages.specs.Change.{PageChange, IsChange, written}
-use Rattle.lf_sqlite_pages.specs.Complete.{completed, completed_page}
+use Rattle.lf_sqlite_pages.specs.Change.{PageChange, written}
+use Rattle.lf_sqlite_pages.specs.Complete.{completed_page}
 use Rattle.lf_sqlite_pages.specs.declared.page_write.PageWrite.{PageWrite}
 use Rattle.lf_sqlite_pages.proofs.Completing.{completed-lock_page, completed-within, completed-past}
 use Rattle.lf_sqlite_pages.proofs.Writes.{All-writes_of, option_cases}
 use Rattle.ltx_codec.specs.Fields.{AreBytes, stated_page_size}
-use Rattle.ltx_codec.specs.Format.{IsFile, IsLtx, magic, no_meaning, header_text, pages_text, file_text, file_sum, summed_text}
-use Rattle.ltx_codec.specs.Places.{page_in, write_in, number_place}
+use Rattle.ltx_codec.specs.Format.{IsLtx, magic, no_meaning, header_text, pages_text, file_text, file_sum, summed_text}
+use Rattle.ltx_codec.specs.Places.{write_in, number_place}
 use Rattle.ltx_codec.specs.declared.header.Header.{Header}
 use Rattle.ltx_codec.specs.declared.file.Ltx.{Ltx}
 use Rattle.ltx_codec.proofs.FeedLemmas.{AreBytes-append}

@@ -1,12 +1,12 @@
 -- A file that was received is sealed and published.
-use Rattle.std.proofs.Common.{◌≡◌, inl, ℕ, Bool, List, refl, sym, ◌∙◌, ap, subst, arith}
-use Rattle.lf_disk.specs.declared.name.FileName.TheVariants.{Database, Staged}
+use Rattle.std.proofs.Common.{◌≡◌, inl, ℕ, Bool, List, sym, ◌∙◌, ap, subst, arith}
+use Rattle.lf_disk.specs.declared.name.FileName.TheVariants.{Staged}
 use Rattle.lf_disk.specs.Folder.{Folder, bytes_of, SameBut}
 use Rattle.lf_disk.specs.History.{History, now, EachMoment}
 use Rattle.lf_disk.specs.Publish.{IsStaged}
 use Rattle.lf_disk.proofs.Moments.{joined, weakened}
 use Rattle.lf_sqlite_pages.specs.Apply.{apply}
-use Rattle.lf_sqlite_pages.specs.Change.{PageChange, IsChange}
+use Rattle.lf_sqlite_pages.specs.Change.{PageChange}
 use Rattle.lf_sqlite_pages.specs.Complete.{completed, completed_page}
 use Rattle.lf_sqlite_pages.specs.Image.{DatabaseImage}
 use Rattle.lf_sqlite_pages.specs.Writes.{writes_of}
@@ -14,7 +14,7 @@ use Rattle.lf_sqlite_pages.specs.declared.page_write.PageWrite.{PageWrite}
 use Rattle.ltx_codec.specs.Format.{file_text, no_meaning}
 use Rattle.ltx_codec.specs.declared.file.Ltx.{Ltx}
 use Rattle.ltx_codec.specs.declared.header.Header.{Header}
-use Rattle.txn_log.specs.Intake.{HasUpTo, HoldsUpTo}
+use Rattle.txn_log.specs.Intake.{HoldsUpTo}
 use Rattle.txn_log.specs.Kept.{LogFile, Kept}
 use Rattle.txn_log.specs.Placing.{IsBetween, IsTried}
 use Rattle.txn_log.specs.PlacingFrom.{IsOverFrom}

@@ -1,12 +1,11 @@
 -- The pages of a published file are read again and written.
 use Rattle.std.proofs.Common.{◌≡◌, inl, inr, ℕ, zero, suc, ◌+◌, ◌-◌, ◌*◌, ◌<◌, ◌≤◌, ◌^◌, Bool, true, Option, Some, None, IsSome, Result, List, [], ◌∷◌, ◌++◌, length, length-append, append_assoc, take, drop, get_or, IsTrue, refl, sym, ◌∙◌, ap, subst, arith}
 use Rattle.std.specs.Prelude.{◌==◌, ◌&&◌}
-use Rattle.std.specs.Int.{w32, w64, to_be_bytes, from_be_bytes}
+use Rattle.std.specs.Int.{w32, w64, to_be_bytes}
 use Rattle.std.proofs.lemmas.Bool.Decides.{nat_tests}
 use Rattle.std.proofs.Math.Nat.{mul-le-mul_right, suc-mul}
 use Rattle.std.proofs.lemmas.Bool.{cases_lt}
 use Rattle.std.proofs.lemmas.List.{append-nil, take_at, take_all, drop_at, drop_all, drop-drop}
-use Rattle.std.proofs.lemmas.Nat.{from_be_bytes-to_be_bytes_4}
 use Rattle.lf_base.specs.FileBytes.{Reads}
 use Rattle.lf_disk.specs.Change.{Step, OnFile, Writes, TearsFile, SetsFile}
 use Rattle.lf_disk.specs.Folder.{Folder, bytes_of, with_file, same_name, SameBut}
@@ -27,7 +26,6 @@ use Rattle.txn_log.specs.Settling.{IsCleared}
 use Rattle.txn_log.proofs.Settlings.{cleared-other}
 use Rattle.txn_log.specs.Pages.{Wears, Patches}
 use Rattle.txn_log.specs.Republishing.{HoldsFile, StandsAt}
-use Rattle.txn_log.specs.Staging.{front_text}
 use Rattle.txn_log.proofs.Fittings.{rested, reads_on}
 use Rattle.txn_log.proofs.Wearing.{wears_path, wears_more, patches_by}
 
@@ -73,10 +71,10 @@ page_stands size (w ∷ ws) whole (suc k) d within rest =
     let place : suc k * (4 + size) ≡ 4 + size + k * (4 + size) = omega (arith, suc-mul k (4 + size)) in (
       later.0,
       ap (λ (n : ℕ). drop n (pages_text (w ∷ ws) ++ rest)) place
-      ∙ sym (drop-drop (k * (4 + size)) (4 + size) (pages_text (w ∷ ws) ++ rest))
-      ∙ ap (λ (l : List ℕ). drop (k * (4 + size)) (drop (4 + size) l)) split
-      ∙ ap (drop (k * (4 + size))) (drop_at (page_text w.number w.bytes) (pages_text ws ++ rest) (4 + size) long)
-      ∙ later.1,
+          ∙ sym (drop-drop (k * (4 + size)) (4 + size) (pages_text (w ∷ ws) ++ rest))
+          ∙ ap (λ (l : List ℕ). drop (k * (4 + size)) (drop (4 + size) l)) split
+          ∙ ap (drop (k * (4 + size))) (drop_at (page_text w.number w.bytes) (pages_text ws ++ rest) (4 + size) long)
+          ∙ later.1,
     )
 
 length-pages : (size : ℕ) (ws : List PageWrite) → ((k : ℕ) (d : PageWrite) → k < length ws → length (get_or ws k d).bytes ≡ size) → length (pages_text ws) ≡ length ws * (4 + size)

@@ -1,24 +1,19 @@
 -- A source is read as one file, which is taken in.
 use Rattle.std.proofs.Common.{◌≡◌, inl, inr, ℕ, ◌+◌, ◌-◌, ◌<◌, ◌≤◌, Bool, true, false, Option, Some, None, Ok, Err, Result, List, [], ◌∷◌, ◌++◌, length, length-append, take, drop, IsTrue, refl, sym, ◌∙◌, ap, subst, arith, append_assoc}
-use Rattle.std.specs.Io.KnownBytes.{Consumes, IsAtEnd}
+use Rattle.std.specs.Io.KnownBytes.{Consumes}
 use Rattle.std.proofs.lemmas.Bool.{cases_lt}
-use Rattle.std.proofs.lemmas.List.{append-nil, drop_all, take-append-drop, drop-drop}
+use Rattle.std.proofs.lemmas.List.{append-nil, drop_all}
 use Rattle.lf_disk.specs.declared.name.FileName.TheVariants.{Staged}
 use Rattle.lf_disk.specs.Folder.{Folder, SameBut}
-use Rattle.lf_disk.specs.History.{History, now, may_leave, EachMoment, IsSettledBut}
+use Rattle.lf_disk.specs.History.{History, now, EachMoment, IsSettledBut}
 use Rattle.lf_disk.proofs.Moments.{started, joined, weakened}
 use Rattle.lf_sqlite_pages.specs.Change.{PageChange, IsChange, empty_change, with_page}
-use Rattle.ltx_codec.specs.Decoding.{header_shown, page_shown, IsInHeader, IsInBlock, IsPart}
-use Rattle.ltx_codec.specs.Fields.{AreBytes, stated_commit, stated_page_size, header_in}
-use Rattle.ltx_codec.specs.Format.{IsLtx}
-use Rattle.ltx_codec.specs.WholePages.{HoldsWholePages, HasTaken, largest_page}
-use Rattle.ltx_codec.specs.declared.decoder.Decoder.{Decoder}
-use Rattle.ltx_codec.specs.declared.fault.LtxFault.{LtxFault}
+use Rattle.ltx_codec.specs.Decoding.{header_shown, page_shown}
+use Rattle.ltx_codec.specs.Fields.{stated_page_size, header_in}
 use Rattle.ltx_codec.specs.declared.header.Header.{Header}
-use Rattle.ltx_codec.specs.declared.file.Ltx.{Ltx}
 use Rattle.ltx_codec.proofs.AgreeLemmas.{longer, header_same}
 use Rattle.ltx_codec.proofs.FileLemmas.{file_is}
-use Rattle.txn_log.specs.Coming.{Stands, HasCome, IsSound, Comes, change_after}
+use Rattle.txn_log.specs.Coming.{Stands, HasCome, Comes, change_after}
 use Rattle.txn_log.specs.Intake.{HoldsUpTo}
 use Rattle.txn_log.specs.Staging.{HoldsSoFar}
 use Rattle.txn_log.specs.Taking.{TakenUpTo, IsQuiet, TakenIn, StagedIn}

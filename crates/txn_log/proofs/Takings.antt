@@ -1,12 +1,12 @@
 -- A file is taken in page by page.
-use Rattle.std.proofs.Common.{◌≡◌, ◌≢◌, inl, inr, ℕ, ◌+◌, ◌-◌, ◌<◌, ◌≤◌, Bool, true, false, eqb, cond, Option, Some, None, List, [], ◌∷◌, ◌++◌, length, length-append, map, fold, get_or, replicate, refl, sym, ◌∙◌, ap, subst, arith, unwrap_or}
+use Rattle.std.proofs.Common.{◌≡◌, ◌≢◌, inl, inr, ℕ, ◌+◌, ◌-◌, ◌<◌, ◌≤◌, Bool, true, false, eqb, cond, Option, Some, List, [], ◌∷◌, ◌++◌, length, length-append, map, fold, get_or, replicate, refl, sym, ◌∙◌, ap, subst, arith, unwrap_or}
 use Rattle.std.specs.Prelude.{slice_index, slice_set, nat_lt, ◌&&◌, ◌==◌, if◌then◌else◌}
 use Rattle.std.specs.List.{All, range_with_len}
 use Rattle.std.specs.Option.{option_map}
 use Rattle.std.proofs.lemmas.Bool.{cases_eq, cases_lt}
 use Rattle.std.proofs.lemmas.Bool.Decides.{nat_tests}
 use Rattle.std.proofs.lemmas.List.{length-set, length-replicate, get_or-replicate, get_or-set_other}
-use Rattle.std.proofs.lemmas.List.Elements.{All-cons, All-tail}
+use Rattle.std.proofs.lemmas.List.Elements.{All-tail}
 use Rattle.std.proofs.lemmas.List.FromFn.{length-map-range_with_len, get_or-map-range_with_len}
 use Rattle.std.proofs.lemmas.Grind.{same_number_lists, get_or-set_at}
 use Rattle.page_checksum.specs.Sums.{page_sum_of}
@@ -21,11 +21,9 @@ use Rattle.lf_sqlite_pages.specs.PageSize.{IsPageSize}
 use Rattle.lf_sqlite_pages.specs.declared.page_write.PageWrite.{PageWrite}
 use Rattle.lf_sqlite_pages.proofs.Completing.{completed-within, completed-past}
 use Rattle.lf_sqlite_pages.proofs.Writes.{written-writes_of}
-use Rattle.txn_log.specs.declared.taking_in.Intake.{Intake}
 use Rattle.txn_log.specs.Draft.{sum_after}
-use Rattle.txn_log.specs.Intake.{HasUpTo}
 use Rattle.txn_log.specs.Modes.{wal_after}
-use Rattle.txn_log.specs.Taking.{sums_behind, mode_at_first, TakenUpTo}
+use Rattle.txn_log.specs.Taking.{sums_behind, mode_at_first}
 use Rattle.txn_log.proofs.Growths.{grown-other, grown-here}
 use Rattle.txn_log.proofs.Modes.{first-data}
 use Rattle.txn_log.proofs.SumTables.{behind, behind-lock}

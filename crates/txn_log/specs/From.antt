@@ -1,5 +1,5 @@
 -- A file is applied that a source gives.
-use Rattle.std.specs.Prelude.{◌≡◌, ◌≢◌, ◌⊎◌, ℕ, ◌<◌, ◌≤◌, nat_lt, if◌then◌else◌, Bool, false, true, Option, None, Some, Result, Ok, Err, List, [], ◌∷◌}
+use Rattle.std.specs.Prelude.{◌≡◌, ◌⊎◌, ℕ, ◌<◌, ◌≤◌, nat_lt, if◌then◌else◌, Bool, false, true, Option, None, Some, Result, Ok, Err, List, [], ◌∷◌}
 use Rattle.std.specs.Io.KnownBytes.{Consumes, IsAtEnd}
 use Rattle.lf_base.specs.Faults.{Rose}
 use Rattle.lf_base.specs.declared.pos.Pos.{Pos}
@@ -7,7 +7,7 @@ use Rattle.lf_disk.specs.History.{History}
 use Rattle.ltx_codec.specs.Format.{IsLtx}
 use Rattle.ltx_codec.specs.Positions.{after}
 use Rattle.ltx_codec.specs.declared.file.Ltx.{Ltx}
-use Rattle.world_laws.specs.Store.{StoreState, StoreCall, Apply, Failure, FailedBefore, FailedIn}
+use Rattle.world_laws.specs.Store.{StoreState, Apply, Failure, FailedBefore, FailedIn}
 use Rattle.txn_log.specs.Apply.{whole_file, IsTaken, Refuses}
 use Rattle.txn_log.specs.Calls.{Moved}
 use Rattle.txn_log.specs.Coming.{ReadsFault}

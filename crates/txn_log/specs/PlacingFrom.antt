@@ -1,5 +1,5 @@
 -- A file that was received is sealed and published.
-use Rattle.std.specs.Prelude.{◌≡◌, ◌≢◌, ℕ, Bool, true, List, []}
+use Rattle.std.specs.Prelude.{◌≡◌, ℕ, Bool, true, List, []}
 use Rattle.lf_disk.specs.declared.name.FileName.TheVariants.{Database}
 use Rattle.lf_disk.specs.Folder.{Folder, bytes_of}
 use Rattle.lf_sqlite_pages.specs.Change.{PageChange, IsChange}

@@ -1,5 +1,5 @@
 -- A published file whose pages are read again from the disk, and written over the database file.
-use Rattle.std.specs.Prelude.{◌≡◌, ℕ, ◌+◌, ◌<◌, ◌^◌, List, ◌++◌, length, drop, take}
+use Rattle.std.specs.Prelude.{◌≡◌, ℕ, ◌<◌, ◌^◌, List, ◌++◌, length, drop}
 use Rattle.lf_disk.specs.declared.name.FileName.{FileName}
 use Rattle.lf_disk.specs.Folder.{Folder, bytes_of}
 use Rattle.ltx_codec.specs.Format.{IsFile, no_meaning, file_text, page_text}

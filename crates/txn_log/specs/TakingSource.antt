@@ -1,5 +1,5 @@
 -- A source that is read as one file, which is taken in.
-use Rattle.std.specs.Prelude.{◌≡◌, ℕ, ◌<◌, length, Bool, IsTrue, Option, None, Some, Result, Ok, Err, List, ◌++◌}
+use Rattle.std.specs.Prelude.{◌≡◌, ℕ, ◌<◌, length, Bool, IsTrue, Option, Result, Ok, Err, List, ◌++◌}
 use Rattle.std.specs.Io.KnownBytes.{Consumes, IsAtEnd}
 use Rattle.lf_base.specs.Faults.{Rose}
 use Rattle.lf_disk.specs.Folder.{Folder}
@@ -7,7 +7,6 @@ use Rattle.lf_disk.specs.History.{History}
 use Rattle.lf_sqlite_pages.specs.Change.{PageChange}
 use Rattle.ltx_codec.specs.Fields.{AreBytes}
 use Rattle.ltx_codec.specs.Format.{IsLtx}
-use Rattle.ltx_codec.specs.declared.file.Ltx.{Ltx}
 use Rattle.txn_log.specs.Coming.{HasCome, IsSound, change_after, ReadsFault}
 use Rattle.txn_log.specs.Taking.{TakenIn, StagedIn, IsQuiet}
 use Rattle.txn_log.specs.declared.coming.Coming.{Coming}

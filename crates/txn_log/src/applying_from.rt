@@ -22,11 +22,7 @@ use lf_disk::Disk;
 use page_checksum::Sums;
 
 /// Why a store that is broken refuses what a source gives. The source is read all the same.
-fn refuse<S: Source>(
-    source: &mut S,
-    reserved: Reserved,
-    page: &mut [u8],
-) -> (FromFault, Reserved)
+fn refuse<S: Source>(source: &mut S, reserved: Reserved, page: &mut [u8]) -> (FromFault, Reserved)
     requires { length page.old ≡ 65536 }
     ensures refuses { (position : Pos) (size commit : ℕ) (sums : List ℕ) → RefusesFrom (S.left source.old) (S.left source.new) reserved.pages true position size commit sums result.0 }
     ensures cause { CountsRefused (S.faults source.old) (S.faults source.new) result.0 }

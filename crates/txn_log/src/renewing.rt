@@ -6,11 +6,7 @@ use lf_base::NoMemory;
 use std::alloc::Global;
 
 /// Sees to it that there is room for so many pages. After want of memory nothing changed.
-pub fn renew(
-    alloc: Global,
-    reserved: &mut Option<Reserved>,
-    pages: u32,
-) -> Result<(), NoMemory>
+pub fn renew(alloc: Global, reserved: &mut Option<Reserved>, pages: u32) -> Result<(), NoMemory>
     ensures some { OnOk result (IsSome reserved.new) }
     ensures room { OnOk result (pages ≤ spare_in reserved.new) }
 {

@@ -1,4 +1,4 @@
-use Rattle.std.proofs.Common.{◌≡◌, List, refl, sym, subst}
+use Rattle.std.proofs.Common.{List, refl, sym, subst}
 use Rattle.lf_disk.specs.History.{now}
 use Rattle.lf_sqlite_pages.specs.Change.{empty_change}
 use Rattle.lf_sqlite_pages.specs.Complete.{completed_page}

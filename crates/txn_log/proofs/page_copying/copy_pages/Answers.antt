@@ -1,9 +1,9 @@
-use Rattle.std.proofs.Common.{◌≡◌, ◌∙◌, ◌+◌, ◌*◌, ◌-◌, ◌≤◌, List, ℕ, length, length-append, sym, ap, subst, refl, arith, IsTrue}
+use Rattle.std.proofs.Common.{◌≡◌, ◌∙◌, ◌+◌, List, ℕ, length, length-append, ap, refl, arith, IsTrue}
 use Rattle.lf_disk.specs.Folder.{bytes_of}
 use Rattle.lf_disk.specs.History.{now}
 use Rattle.txn_log.specs.Republishing.{StandsAt}
 use Rattle.txn_log.proofs.Modes.{page_size-most}
-use Rattle.txn_log.proofs.Republishings.{Copied, moments_written, written_next, passed_next, copied_all}
+use Rattle.txn_log.proofs.Republishings.{moments_written, written_next, passed_next, copied_all}
 use Rattle.txn_log.proofs.page_copying.copy_pages.Goals as goal
 use Rattle.txn_log.proofs.page_copying.copy_pages.Goals.{then-number-gt0+in_ok-write, else-number-gt0}
 
@@ -37,23 +37,23 @@ loop-at-preserved g c =
     in
     elim c.if-number-gt0.branch [
       | then-number-gt0+in_ok-write w ↦ rw (w.disk-is, c.from-in-loop-at.ensures) (record {
-          honest = w.write.ensures.honest ∙ c.read_block.ensures.honest ∙ inv.honest;
-          faults = w.in_ok-write.ensures.cause ∙ c.in_ok-number.ensures.cause ∙ inv.faults;
-          room = ap length w.page-is ∙ length-append c.read_block.new.page c.split_at_mut-room.result.1.now ∙ back;
-          size = refl;
-          copied = written_next (g.D.Disk.honest c.args.disk.now) c.args.name c.args.header.now c.args.len c.loop-at.at h mid c.requires.apart inv.copied c.loop-at-test.true one c.read_block.ensures.rests
-              c.in_ok-number.number c.read_block.new.page reads long
-              _ (rw (w.from.ensures, w.from-then-number-gt0.ensures) refl) _ (g.D.Disk.history w.write.new.self) w.write.ensures.ticks
-              (λ is. w.in_ok-write.ensures.done (c.read_block.ensures.honest ∙ inv.honest ∙ is));
-        })
+        honest = w.write.ensures.honest ∙ c.read_block.ensures.honest ∙ inv.honest;
+        faults = w.in_ok-write.ensures.cause ∙ c.in_ok-number.ensures.cause ∙ inv.faults;
+        room = ap length w.page-is ∙ length-append c.read_block.new.page c.split_at_mut-room.result.1.now ∙ back;
+        size = refl;
+        copied = written_next (g.D.Disk.honest c.args.disk.now) c.args.name c.args.header.now c.args.len c.loop-at.at h mid c.requires.apart inv.copied c.loop-at-test.true one c.read_block.ensures.rests
+            c.in_ok-number.number c.read_block.new.page reads long
+            _ (rw (w.from.ensures, w.from-then-number-gt0.ensures) refl) _ (g.D.Disk.history w.write.new.self) w.write.ensures.ticks
+            (λ is. w.in_ok-write.ensures.done (c.read_block.ensures.honest ∙ inv.honest ∙ is));
+      })
       | else-number-gt0 w ↦ rw (w.disk-is, c.from-in-loop-at.ensures) (record {
-          honest = c.read_block.ensures.honest ∙ inv.honest;
-          faults = c.in_ok-number.ensures.cause ∙ inv.faults;
-          room = ap length w.page-is ∙ length-append c.read_block.new.page c.split_at_mut-room.result.1.now ∙ back;
-          size = refl;
-          copied = passed_next (g.D.Disk.honest c.args.disk.now) c.args.name c.args.header.now c.args.len c.loop-at.at h mid c.requires.apart inv.copied c.loop-at-test.true one c.read_block.ensures.rests
-              c.in_ok-number.number c.read_block.new.page reads long (omega (arith, w.if-number-gt0.false));
-        })
+        honest = c.read_block.ensures.honest ∙ inv.honest;
+        faults = c.in_ok-number.ensures.cause ∙ inv.faults;
+        room = ap length w.page-is ∙ length-append c.read_block.new.page c.split_at_mut-room.result.1.now ∙ back;
+        size = refl;
+        copied = passed_next (g.D.Disk.honest c.args.disk.now) c.args.name c.args.header.now c.args.len c.loop-at.at h mid c.requires.apart inv.copied c.loop-at-test.true one c.read_block.ensures.rests
+            c.in_ok-number.number c.read_block.new.page reads long (omega (arith, w.if-number-gt0.false));
+      })
     ]
 
 pub returns-clause-seen : goal.returns-clause-seen

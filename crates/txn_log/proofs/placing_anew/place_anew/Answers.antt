@@ -1,6 +1,4 @@
-use Rattle.std.proofs.Common.{◌∙◌, ℕ, sym, subst, ap, arith}
-use Rattle.lf_disk.specs.declared.name.FileName.TheVariants.{Staged}
-use Rattle.lf_disk.specs.Folder.{bytes_of}
+use Rattle.std.proofs.Common.{◌∙◌, ℕ, sym, subst}
 use Rattle.lf_disk.specs.History.{now}
 use Rattle.txn_log.specs.Kept.{LogFile}
 use Rattle.txn_log.specs.Placing.{IsTried}

@@ -93,9 +93,9 @@ returns-in-Ok-put_staged_from-clause-places g c honest before image files change
     let is = ready before image files c.args.dropped r s c.args.count c.args.post change file over two staged in
     let has = held before image files c.args.dropped r s c.args.count c.args.post change file over two c.pass_rest.new.self _ staged to_end staging refl in (
       goes before image files c.args.dropped r s c.args.count c.args.post change file over h two new c.pass_rest.new.self.header to_end first
-      (c.put_staged_from.ensures.moments yet image files (file_text file no_meaning) file is over.empty has),
+          (c.put_staged_from.ensures.moments yet image files (file_text file no_meaning) file is over.empty has),
       subst (λ (x : Header). IsAtRest (apply image file.change) (files ++ record { min = x.min; max = x.max; text = file_text file no_meaning } ∷ []) Rattle.std.proofs.Common.false new) to_end
-      (c.in-Ok-put_staged_from.ensures.done yet image files (file_text file no_meaning) file is over.empty has),
+          (c.in-Ok-put_staged_from.ensures.done yet image files (file_text file no_meaning) file is over.empty has),
     )
 
 pub returns-in-Err-put_staged_from-clause-places : goal.returns-in-Err-put_staged_from-clause-places

@@ -1,5 +1,5 @@
 -- The snapshot is published, or a call failed before its rename or from there on.
-use Rattle.std.proofs.Common.{◌≡◌, ◌∙◌, ℕ, List, [], ◌∷◌, Bool, true, false, Some, inl, inr, refl, sym, ap, subst, arith}
+use Rattle.std.proofs.Common.{◌≡◌, ◌∙◌, ℕ, List, Bool, true, false, Some, inl, inr, refl, sym, ap, subst}
 use Rattle.lf_disk.specs.History.{now}
 use Rattle.lf_sqlite_pages.specs.Apply.{apply}
 use Rattle.lf_sqlite_pages.specs.Header.{image_is_wal}

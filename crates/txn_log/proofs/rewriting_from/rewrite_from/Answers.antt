@@ -1,4 +1,4 @@
-use Rattle.std.proofs.Common.{◌≡◌, ◌*◌, ◌∙◌, refl, arith}
+use Rattle.std.proofs.Common.{◌≡◌, ◌*◌, ◌∙◌, arith}
 use Rattle.lf_disk.specs.History.{now, may_leave}
 use Rattle.txn_log.proofs.Rewritings.{Runs, writes, fits, syncs, perhaps_syncs, rewritten}
 use Rattle.txn_log.proofs.Republishings.{size_said}

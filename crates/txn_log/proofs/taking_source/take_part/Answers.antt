@@ -1,4 +1,4 @@
-use Rattle.std.proofs.Common.{◌≡◌, ◌∙◌, ◌≤◌, Option, Some, None, List, ℕ, refl, sym, ap, subst, arith}
+use Rattle.std.proofs.Common.{Option, Some, refl, sym, subst, arith}
 use Rattle.lf_disk.specs.declared.name.FileName.TheVariants.{Staged}
 use Rattle.lf_disk.specs.Folder.{SameBut}
 use Rattle.lf_disk.proofs.Moments.{started}
@@ -6,9 +6,8 @@ use Rattle.txn_log.specs.Coming.{change_after}
 use Rattle.txn_log.specs.Taking.{TakenIn, StagedIn}
 use Rattle.txn_log.specs.TakingSource.{Came}
 use Rattle.txn_log.specs.declared.coming.Part.{Part}
-use Rattle.txn_log.specs.declared.coming.Part.TheVariants as parts
 use Rattle.txn_log.specs.declared.taking_in.Intake.{Intake}
-use Rattle.txn_log.proofs.TakingSources.{quiet_of, quiet_settled, quiet_moments, more_taken, header_sized, header_refused, header_taken, header_staged, page_valid, page_refused, page_taken, page_staged}
+use Rattle.txn_log.proofs.TakingSources.{quiet_of, more_taken, header_taken, header_staged, page_valid, page_refused, page_taken, page_staged}
 use Rattle.txn_log.proofs.taking_source.take_part.Goals as goal
 
 pub returns-then-header-room-clause-moments : goal.returns-then-header-room-clause-moments

@@ -1,4 +1,4 @@
-use Rattle.std.proofs.Common.{◌≡◌, ◌∙◌, ◌++◌, ◌+◌, ◌≤◌, inr, List, ℕ, Bool, Option, length, take, drop, IsTrue, refl, sym, ap, subst, arith}
+use Rattle.std.proofs.Common.{◌≡◌, ◌∙◌, ◌++◌, ◌+◌, inr, List, ℕ, take, drop, sym, ap, subst, arith}
 use Rattle.std.proofs.lemmas.List.{take-append-drop, drop-drop}
 use Rattle.std.specs.Io.KnownBytes.{Consumes}
 use Rattle.lf_disk.specs.History.{now}
@@ -16,8 +16,7 @@ take_part-requires-clause-came g c =
     let rest_is : rest ≡ drop c.in-Ok.it.0 (take c.in-Ok.it.1 c.refill.new.page) = c.split_at-in-parts.ensures.back ∙ ap (drop c.in-Ok.it.0) c.split_at.ensures.front in
     let on : Going (g.D.Disk.honest c.args.disk.now) left left_now c.parts.coming c.parts.taken c.parts.table.sums c.args.old.now.sums c.args.count c.args.wal c.args.room rest h mid =
     going_read (g.D.Disk.honest c.args.disk.now) left _ c.parts.coming c.parts.taken c.parts.table.sums c.args.old.now.sums c.args.count c.args.wal c.args.room _ h mid inv.going left_now rest
-    (λ text read. subst (λ (l : List ℕ). Consumes left left_now (text ++ l)) (sym rest_is) (c.in-Ok.ensures.more left text read)) in
-    (
+    (λ text read. subst (λ (l : List ℕ). Consumes left left_now (text ++ l)) (sym rest_is) (c.in-Ok.ensures.more left text read)) in (
       now h,
       on.text,
       on.text ++ take c.in-Ok-step.came.1 rest,
@@ -91,8 +90,7 @@ pub returns-in-Err-finish-clause-takes : goal.returns-in-Err-finish-clause-takes
 returns-in-Err-finish-clause-takes g c =
     let going = c.parts.invariant.going in
     let left = g.S.Source.left c.args.source.now in
-    let left_now = g.S.Source.left c.refill.new.source in
-    (
+    let left_now = g.S.Source.left c.refill.new.source in (
       record {
         text = going.text;
         read = read_all left left_now going.text _ (none_left c.in-Ok.it.0 c.in-Ok.it.1 c.refill.new.page c.if-from-to.true) (c.in-Ok.ensures.more left going.text going.read);

@@ -1,4 +1,4 @@
-use Rattle.std.proofs.Common.{◌≡◌, ◌-◌, ◌≤◌, length, take, drop, ℕ}
+use Rattle.std.proofs.Common.{◌≡◌, ◌-◌, ◌≤◌, length, take, drop}
 use Rattle.txn_log.specs.Reserve.{spare_of}
 use Rattle.txn_log.proofs.TakingSources.{Going}
 use Rattle.txn_log.proofs.taking_source.take_source.Given as goal

@@ -1,13 +1,13 @@
-use Rattle.std.proofs.Common.{◌≡◌, ◌∙◌, ◌++◌, ◌∷◌, [], inl, inr, ℕ, ◌≤◌, Bool, true, false, Option, Some, None, List, sym, ap, subst, refl, arith}
+use Rattle.std.proofs.Common.{◌≡◌, ◌∙◌, inl, inr, ℕ, Bool, true, false, Some, sym, ap, subst, refl, arith}
 use Rattle.lf_base.specs.declared.pos.Pos.{Pos}
 use Rattle.lf_disk.specs.History.{now}
 use Rattle.lf_sqlite_pages.specs.Header.{image_is_wal}
-use Rattle.world_laws.specs.Store.{StoreState, Failure, MayBeFound}
+use Rattle.world_laws.specs.Store.{StoreState, MayBeFound}
 use Rattle.txn_log.specs.Bringing.{Brings, as_file}
 use Rattle.txn_log.specs.Calls.{RestsAs}
 use Rattle.txn_log.specs.From.{RefusesFrom}
 use Rattle.txn_log.specs.Renewing.{spare_in}
-use Rattle.txn_log.specs.Store.{IsStore, IsSized, end_of_entries, image_in, state_of, failed_of, failure_of}
+use Rattle.txn_log.specs.Store.{IsStore, end_of_entries, image_in, state_of, failure_of}
 use Rattle.txn_log.specs.declared.attempt.Attempt.TheVariants as attempt
 use Rattle.txn_log.specs.declared.bringing.Brought.{Brought}
 use Rattle.txn_log.specs.declared.bringing.Brought.TheVariants as brought
@@ -63,19 +63,19 @@ invariant_of-self-in-Whole g c =
       kept = λ still.
           let honest = sym c.bring_with-brought.ensures.honest ∙ still in
           let kept : IsStore h s.page_size s.commit s.entries.items s.dropped s.sums.sums false s.whole s.tried =
-        subst (λ (x : Bool). IsStore h s.page_size s.commit s.entries.items s.dropped s.sums.sums x s.whole s.tried) c.if-self.false (s.kept honest) in
+          subst (λ (x : Bool). IsStore h s.page_size s.commit s.entries.items s.dropped s.sums.sums x s.whole s.tried) c.if-self.false (s.kept honest) in
           let places = b.4 honest (image h s.page_size s.commit s.entries.items s.dropped s.sums.sums s.whole s.tried s.shaped kept) (files h s.page_size s.commit s.entries.items s.dropped s.sums.sums s.whole s.tried s.shaped kept) (over_ground h s.page_size s.commit s.entries.items s.dropped s.sums.sums s.whole s.tried s.shaped s.wal room kept) in
           rw (c.push_reserved.ensures.items, c.before-in-Whole.ensures b.0, c.exchange.ensures, b.3.table_is, c.if-self.false) (stands h s.page_size s.commit s.entries.items s.dropped s.sums.sums s.whole s.tried s.shaped kept attempt.Apply (made h s.page_size s.commit s.entries.items s.dropped s.sums.sums s.whole s.tried s.shaped s.wal room left left_now file b.1 b.2) (text h s.page_size s.commit s.entries.items s.dropped s.sums.sums s.whole s.tried s.shaped s.wal room left left_now file b.1 b.2) tt (can h s.page_size s.commit s.entries.items s.dropped s.sums.sums s.whole s.tried s.shaped s.wal room left left_now file b.1 b.2 kept) (is h s.page_size s.commit s.entries.items s.dropped s.sums.sums s.whole s.tried s.shaped s.wal room left left_now file b.1 b.2) (read h s.page_size s.commit s.entries.items s.dropped s.sums.sums s.whole s.tried s.shaped s.wal room left left_now file b.1 b.2) new places.0 places.1 s.whole s.tried);
       left = λ still.
           let honest = sym c.bring_with-brought.ensures.honest ∙ still in
           let kept : IsStore h s.page_size s.commit s.entries.items s.dropped s.sums.sums false s.whole s.tried =
-        subst (λ (x : Bool). IsStore h s.page_size s.commit s.entries.items s.dropped s.sums.sums x s.whole s.tried) c.if-self.false (s.kept honest) in
+          subst (λ (x : Bool). IsStore h s.page_size s.commit s.entries.items s.dropped s.sums.sums x s.whole s.tried) c.if-self.false (s.kept honest) in
           let places = b.4 honest (image h s.page_size s.commit s.entries.items s.dropped s.sums.sums s.whole s.tried s.shaped kept) (files h s.page_size s.commit s.entries.items s.dropped s.sums.sums s.whole s.tried s.shaped kept) (over_ground h s.page_size s.commit s.entries.items s.dropped s.sums.sums s.whole s.tried s.shaped s.wal room kept) in
           rw (c.push_reserved.ensures.items, c.before-in-Whole.ensures b.0, c.if-self.false) (left_done h s.page_size s.commit s.entries.items s.dropped s.sums.sums s.whole s.tried s.shaped kept attempt.Apply (made h s.page_size s.commit s.entries.items s.dropped s.sums.sums s.whole s.tried s.shaped s.wal room left left_now file b.1 b.2) (text h s.page_size s.commit s.entries.items s.dropped s.sums.sums s.whole s.tried s.shaped s.wal room left left_now file b.1 b.2) tt (can h s.page_size s.commit s.entries.items s.dropped s.sums.sums s.whole s.tried s.shaped s.wal room left left_now file b.1 b.2 kept) (is h s.page_size s.commit s.entries.items s.dropped s.sums.sums s.whole s.tried s.shaped s.wal room left left_now file b.1 b.2) (read h s.page_size s.commit s.entries.items s.dropped s.sums.sums s.whole s.tried s.shaped s.wal room left left_now file b.1 b.2) new places.0 places.1);
       mode = λ still.
           let honest = sym c.bring_with-brought.ensures.honest ∙ still in
           let kept : IsStore h s.page_size s.commit s.entries.items s.dropped s.sums.sums false s.whole s.tried =
-        subst (λ (x : Bool). IsStore h s.page_size s.commit s.entries.items s.dropped s.sums.sums x s.whole s.tried) c.if-self.false (s.kept honest) in
+          subst (λ (x : Bool). IsStore h s.page_size s.commit s.entries.items s.dropped s.sums.sums x s.whole s.tried) c.if-self.false (s.kept honest) in
           let places = b.4 honest (image h s.page_size s.commit s.entries.items s.dropped s.sums.sums s.whole s.tried s.shaped kept) (files h s.page_size s.commit s.entries.items s.dropped s.sums.sums s.whole s.tried s.shaped kept) (over_ground h s.page_size s.commit s.entries.items s.dropped s.sums.sums s.whole s.tried s.shaped s.wal room kept) in
           let mode : s.wal ≡ image_is_wal (image_in s.page_size s.commit (now h)) =
           subst (λ (x : Bool). s.wal ≡ image_is_wal (state_of h s.page_size s.commit s.entries.items s.dropped x s.whole).image) c.if-self.false (s.mode honest) in
@@ -98,7 +98,7 @@ returns-in-Whole-clause-went g c honest =
     (subst (λ (x : Brought). Brings (g.D.Disk.honest s.disk) left left_now h (record { position = c.pos.result; page_size = s.page_size; commit = s.commit; wal = s.wal; dropped = s.dropped; room = room }) s.sums.sums table x new) c.in-Whole.is c.bring_with-brought.ensures.brings) in
     let file = as_file c.in-Whole.outline b.0 in
     let kept : IsStore h s.page_size s.commit s.entries.items s.dropped s.sums.sums false s.whole s.tried =
-        subst (λ (x : Bool). IsStore h s.page_size s.commit s.entries.items s.dropped s.sums.sums x s.whole s.tried) c.if-self.false (s.kept honest) in
+    subst (λ (x : Bool). IsStore h s.page_size s.commit s.entries.items s.dropped s.sums.sums x s.whole s.tried) c.if-self.false (s.kept honest) in
     let places = b.4 honest (image h s.page_size s.commit s.entries.items s.dropped s.sums.sums s.whole s.tried s.shaped kept) (files h s.page_size s.commit s.entries.items s.dropped s.sums.sums s.whole s.tried s.shaped kept) (over_ground h s.page_size s.commit s.entries.items s.dropped s.sums.sums s.whole s.tried s.shaped s.wal room kept) in
     (file, b.1.gave, refl, rw (c.push_reserved.ensures.items, c.before-in-Whole.ensures b.0, c.if-self.false) (went_done h s.page_size s.commit s.entries.items s.dropped s.sums.sums s.whole s.tried s.shaped kept attempt.Apply (made h s.page_size s.commit s.entries.items s.dropped s.sums.sums s.whole s.tried s.shaped s.wal room left left_now file b.1 b.2) (text h s.page_size s.commit s.entries.items s.dropped s.sums.sums s.whole s.tried s.shaped s.wal room left left_now file b.1 b.2) tt (can h s.page_size s.commit s.entries.items s.dropped s.sums.sums s.whole s.tried s.shaped s.wal room left left_now file b.1 b.2 kept) (is h s.page_size s.commit s.entries.items s.dropped s.sums.sums s.whole s.tried s.shaped s.wal room left left_now file b.1 b.2) (read h s.page_size s.commit s.entries.items s.dropped s.sums.sums s.whole s.tried s.shaped s.wal room left left_now file b.1 b.2) new places.0 places.1))
 
@@ -120,19 +120,19 @@ invariant_of-self-in-Refused g c =
       kept = λ still.
           let honest = sym c.bring_with-brought.ensures.honest ∙ still in
           let kept : IsStore h s.page_size s.commit s.entries.items s.dropped s.sums.sums false s.whole s.tried =
-        subst (λ (x : Bool). IsStore h s.page_size s.commit s.entries.items s.dropped s.sums.sums x s.whole s.tried) c.if-self.false (s.kept honest) in
+          subst (λ (x : Bool). IsStore h s.page_size s.commit s.entries.items s.dropped s.sums.sums x s.whole s.tried) c.if-self.false (s.kept honest) in
           let quiet = b.2 honest in
           rw (c.if-self.false) (still_kept h new s.page_size s.commit s.entries.items s.dropped s.sums.sums s.whole s.tried s.shaped kept quiet.0 quiet.1 s.whole s.tried);
       left = λ still.
           let honest = sym c.bring_with-brought.ensures.honest ∙ still in
           let kept : IsStore h s.page_size s.commit s.entries.items s.dropped s.sums.sums false s.whole s.tried =
-        subst (λ (x : Bool). IsStore h s.page_size s.commit s.entries.items s.dropped s.sums.sums x s.whole s.tried) c.if-self.false (s.kept honest) in
+          subst (λ (x : Bool). IsStore h s.page_size s.commit s.entries.items s.dropped s.sums.sums x s.whole s.tried) c.if-self.false (s.kept honest) in
           let quiet = b.2 honest in
           rw (c.if-self.false) (still_left h new s.page_size s.commit s.entries.items s.dropped s.sums.sums s.whole s.tried s.shaped kept quiet.0 quiet.1);
       mode = λ still.
           let honest = sym c.bring_with-brought.ensures.honest ∙ still in
           let kept : IsStore h s.page_size s.commit s.entries.items s.dropped s.sums.sums false s.whole s.tried =
-        subst (λ (x : Bool). IsStore h s.page_size s.commit s.entries.items s.dropped s.sums.sums x s.whole s.tried) c.if-self.false (s.kept honest) in
+          subst (λ (x : Bool). IsStore h s.page_size s.commit s.entries.items s.dropped s.sums.sums x s.whole s.tried) c.if-self.false (s.kept honest) in
           let quiet = b.2 honest in
           let mode : s.wal ≡ image_is_wal (image_in s.page_size s.commit (now h)) =
           subst (λ (x : Bool). s.wal ≡ image_is_wal (state_of h s.page_size s.commit s.entries.items s.dropped x s.whole).image) c.if-self.false (s.mode honest) in
@@ -168,7 +168,7 @@ returns-in-Refused-clause-went g c honest =
     subst (λ (p : Pos). Brings (g.D.Disk.honest s.disk) left left_now h (record { position = p; page_size = s.page_size; commit = s.commit; wal = s.wal; dropped = s.dropped; room = room }) s.sums.sums table (brought.Refused c.in-Refused.fault) new) c.pos.ensures.value
     (subst (λ (x : Brought). Brings (g.D.Disk.honest s.disk) left left_now h (record { position = c.pos.result; page_size = s.page_size; commit = s.commit; wal = s.wal; dropped = s.dropped; room = room }) s.sums.sums table x new) c.in-Refused.is c.bring_with-brought.ensures.brings) in
     let kept : IsStore h s.page_size s.commit s.entries.items s.dropped s.sums.sums false s.whole s.tried =
-        subst (λ (x : Bool). IsStore h s.page_size s.commit s.entries.items s.dropped s.sums.sums x s.whole s.tried) c.if-self.false (s.kept honest) in
+    subst (λ (x : Bool). IsStore h s.page_size s.commit s.entries.items s.dropped s.sums.sums x s.whole s.tried) c.if-self.false (s.kept honest) in
     let quiet = b.2 honest in
     refused_went left left_now s.commit _ _ h c.in-Refused.fault _ _ new b.0 (rw (c.if-self.false) (went_nowhere h new s.page_size s.commit s.entries.items s.dropped s.sums.sums s.whole s.tried s.shaped kept quiet.0 quiet.1))
 
@@ -190,19 +190,19 @@ invariant_of-self-in-Unpublished g c =
       kept = λ still.
           let honest = sym c.bring_with-brought.ensures.honest ∙ still in
           let kept : IsStore h s.page_size s.commit s.entries.items s.dropped s.sums.sums false s.whole s.tried =
-        subst (λ (x : Bool). IsStore h s.page_size s.commit s.entries.items s.dropped s.sums.sums x s.whole s.tried) c.if-self.false (s.kept honest) in
+          subst (λ (x : Bool). IsStore h s.page_size s.commit s.entries.items s.dropped s.sums.sums x s.whole s.tried) c.if-self.false (s.kept honest) in
           let places = b honest (image h s.page_size s.commit s.entries.items s.dropped s.sums.sums s.whole s.tried s.shaped kept) (files h s.page_size s.commit s.entries.items s.dropped s.sums.sums s.whole s.tried s.shaped kept) (over_ground h s.page_size s.commit s.entries.items s.dropped s.sums.sums s.whole s.tried s.shaped s.wal room kept) in
           rw (c.moment-start.ensures) (broken s.page_size s.commit s.entries.items s.dropped s.sums.sums h new places.past s.whole s.tried h.moment places.later places.later kept);
       left = λ still.
           let honest = sym c.bring_with-brought.ensures.honest ∙ still in
           let kept : IsStore h s.page_size s.commit s.entries.items s.dropped s.sums.sums false s.whole s.tried =
-        subst (λ (x : Bool). IsStore h s.page_size s.commit s.entries.items s.dropped s.sums.sums x s.whole s.tried) c.if-self.false (s.kept honest) in
+          subst (λ (x : Bool). IsStore h s.page_size s.commit s.entries.items s.dropped s.sums.sums x s.whole s.tried) c.if-self.false (s.kept honest) in
           let places = b honest (image h s.page_size s.commit s.entries.items s.dropped s.sums.sums s.whole s.tried s.shaped kept) (files h s.page_size s.commit s.entries.items s.dropped s.sums.sums s.whole s.tried s.shaped kept) (over_ground h s.page_size s.commit s.entries.items s.dropped s.sums.sums s.whole s.tried s.shaped s.wal room kept) in
           rw (c.moment-start.ensures) (left_before h s.page_size s.commit s.entries.items s.dropped s.sums.sums s.whole s.tried s.shaped kept new places);
       mode = λ still.
           let honest = sym c.bring_with-brought.ensures.honest ∙ still in
           let kept : IsStore h s.page_size s.commit s.entries.items s.dropped s.sums.sums false s.whole s.tried =
-        subst (λ (x : Bool). IsStore h s.page_size s.commit s.entries.items s.dropped s.sums.sums x s.whole s.tried) c.if-self.false (s.kept honest) in
+          subst (λ (x : Bool). IsStore h s.page_size s.commit s.entries.items s.dropped s.sums.sums x s.whole s.tried) c.if-self.false (s.kept honest) in
           let places = b honest (image h s.page_size s.commit s.entries.items s.dropped s.sums.sums s.whole s.tried s.shaped kept) (files h s.page_size s.commit s.entries.items s.dropped s.sums.sums s.whole s.tried s.shaped kept) (over_ground h s.page_size s.commit s.entries.items s.dropped s.sums.sums s.whole s.tried s.shaped s.wal room kept) in
           let mode : s.wal ≡ image_is_wal (image_in s.page_size s.commit (now h)) =
           subst (λ (x : Bool). s.wal ≡ image_is_wal (state_of h s.page_size s.commit s.entries.items s.dropped x s.whole).image) c.if-self.false (s.mode honest) in
@@ -222,7 +222,7 @@ returns-in-Unpublished-clause-went g c honest =
     subst (λ (p : Pos). Brings (g.D.Disk.honest s.disk) left left_now h (record { position = p; page_size = s.page_size; commit = s.commit; wal = s.wal; dropped = s.dropped; room = room }) s.sums.sums table (brought.Unpublished) new) c.pos.ensures.value
     (subst (λ (x : Brought). Brings (g.D.Disk.honest s.disk) left left_now h (record { position = c.pos.result; page_size = s.page_size; commit = s.commit; wal = s.wal; dropped = s.dropped; room = room }) s.sums.sums table x new) c.in-Unpublished.is c.bring_with-brought.ensures.brings) in
     let kept : IsStore h s.page_size s.commit s.entries.items s.dropped s.sums.sums false s.whole s.tried =
-        subst (λ (x : Bool). IsStore h s.page_size s.commit s.entries.items s.dropped s.sums.sums x s.whole s.tried) c.if-self.false (s.kept honest) in
+    subst (λ (x : Bool). IsStore h s.page_size s.commit s.entries.items s.dropped s.sums.sums x s.whole s.tried) c.if-self.false (s.kept honest) in
     let places = b honest (image h s.page_size s.commit s.entries.items s.dropped s.sums.sums s.whole s.tried s.shaped kept) (files h s.page_size s.commit s.entries.items s.dropped s.sums.sums s.whole s.tried s.shaped kept) (over_ground h s.page_size s.commit s.entries.items s.dropped s.sums.sums s.whole s.tried s.shaped s.wal room kept) in
     rw (c.moment-start.ensures, c.if-self.false) (inl (went_before h s.page_size s.commit s.entries.items s.dropped s.sums.sums s.whole s.tried s.shaped kept new places))
 
@@ -245,20 +245,20 @@ invariant_of-self-in-From g c =
       kept = λ still.
           let honest = sym c.bring_with-brought.ensures.honest ∙ still in
           let kept : IsStore h s.page_size s.commit s.entries.items s.dropped s.sums.sums false s.whole s.tried =
-        subst (λ (x : Bool). IsStore h s.page_size s.commit s.entries.items s.dropped s.sums.sums x s.whole s.tried) c.if-self.false (s.kept honest) in
+          subst (λ (x : Bool). IsStore h s.page_size s.commit s.entries.items s.dropped s.sums.sums x s.whole s.tried) c.if-self.false (s.kept honest) in
           let places = b.3 honest (image h s.page_size s.commit s.entries.items s.dropped s.sums.sums s.whole s.tried s.shaped kept) (files h s.page_size s.commit s.entries.items s.dropped s.sums.sums s.whole s.tried s.shaped kept) (over_ground h s.page_size s.commit s.entries.items s.dropped s.sums.sums s.whole s.tried s.shaped s.wal room kept) in
           rw (c.moment-start.ensures) (broken s.page_size s.commit s.entries.items s.dropped s.sums.sums h new places.0.past s.whole s.tried c.in-From.tried places.0.later places.1.past kept);
       left = λ still.
           let honest = sym c.bring_with-brought.ensures.honest ∙ still in
           let kept : IsStore h s.page_size s.commit s.entries.items s.dropped s.sums.sums false s.whole s.tried =
-        subst (λ (x : Bool). IsStore h s.page_size s.commit s.entries.items s.dropped s.sums.sums x s.whole s.tried) c.if-self.false (s.kept honest) in
+          subst (λ (x : Bool). IsStore h s.page_size s.commit s.entries.items s.dropped s.sums.sums x s.whole s.tried) c.if-self.false (s.kept honest) in
           let places = b.3 honest (image h s.page_size s.commit s.entries.items s.dropped s.sums.sums s.whole s.tried s.shaped kept) (files h s.page_size s.commit s.entries.items s.dropped s.sums.sums s.whole s.tried s.shaped kept) (over_ground h s.page_size s.commit s.entries.items s.dropped s.sums.sums s.whole s.tried s.shaped s.wal room kept) in
           let P : ℕ → Type 0 = λ w. RestsAs (MayBeFound (state_of new s.page_size s.commit s.entries.items s.dropped true w) (Some (failure_of new c.in-From.tried attempt.Apply))) new in
           subst (λ (w : ℕ). P w) (sym c.moment-start.ensures) (left_in h s.page_size s.commit s.entries.items s.dropped s.sums.sums s.whole s.tried s.shaped kept attempt.Apply (made h s.page_size s.commit s.entries.items s.dropped s.sums.sums s.whole s.tried s.shaped s.wal room left left_now file b.1 b.2) (text h s.page_size s.commit s.entries.items s.dropped s.sums.sums s.whole s.tried s.shaped s.wal room left left_now file b.1 b.2) tt (can h s.page_size s.commit s.entries.items s.dropped s.sums.sums s.whole s.tried s.shaped s.wal room left left_now file b.1 b.2 kept) (is h s.page_size s.commit s.entries.items s.dropped s.sums.sums s.whole s.tried s.shaped s.wal room left left_now file b.1 b.2) (read h s.page_size s.commit s.entries.items s.dropped s.sums.sums s.whole s.tried s.shaped s.wal room left left_now file b.1 b.2) new c.in-From.tried places.0 places.1);
       mode = λ still.
           let honest = sym c.bring_with-brought.ensures.honest ∙ still in
           let kept : IsStore h s.page_size s.commit s.entries.items s.dropped s.sums.sums false s.whole s.tried =
-        subst (λ (x : Bool). IsStore h s.page_size s.commit s.entries.items s.dropped s.sums.sums x s.whole s.tried) c.if-self.false (s.kept honest) in
+          subst (λ (x : Bool). IsStore h s.page_size s.commit s.entries.items s.dropped s.sums.sums x s.whole s.tried) c.if-self.false (s.kept honest) in
           let places = b.3 honest (image h s.page_size s.commit s.entries.items s.dropped s.sums.sums s.whole s.tried s.shaped kept) (files h s.page_size s.commit s.entries.items s.dropped s.sums.sums s.whole s.tried s.shaped kept) (over_ground h s.page_size s.commit s.entries.items s.dropped s.sums.sums s.whole s.tried s.shaped s.wal room kept) in
           let mode : s.wal ≡ image_is_wal (image_in s.page_size s.commit (now h)) =
           subst (λ (x : Bool). s.wal ≡ image_is_wal (state_of h s.page_size s.commit s.entries.items s.dropped x s.whole).image) c.if-self.false (s.mode honest) in
@@ -279,6 +279,6 @@ returns-in-From-clause-went g c honest =
     (subst (λ (x : Brought). Brings (g.D.Disk.honest s.disk) left left_now h (record { position = c.pos.result; page_size = s.page_size; commit = s.commit; wal = s.wal; dropped = s.dropped; room = room }) s.sums.sums table x new) c.in-From.is c.bring_with-brought.ensures.brings) in
     let file = b.0 in
     let kept : IsStore h s.page_size s.commit s.entries.items s.dropped s.sums.sums false s.whole s.tried =
-        subst (λ (x : Bool). IsStore h s.page_size s.commit s.entries.items s.dropped s.sums.sums x s.whole s.tried) c.if-self.false (s.kept honest) in
+    subst (λ (x : Bool). IsStore h s.page_size s.commit s.entries.items s.dropped s.sums.sums x s.whole s.tried) c.if-self.false (s.kept honest) in
     let places = b.3 honest (image h s.page_size s.commit s.entries.items s.dropped s.sums.sums s.whole s.tried s.shaped kept) (files h s.page_size s.commit s.entries.items s.dropped s.sums.sums s.whole s.tried s.shaped kept) (over_ground h s.page_size s.commit s.entries.items s.dropped s.sums.sums s.whole s.tried s.shaped s.wal room kept) in
     rw (c.moment-start.ensures, c.if-self.false) (inr (file, b.1.gave, went_in h s.page_size s.commit s.entries.items s.dropped s.sums.sums s.whole s.tried s.shaped kept attempt.Apply (made h s.page_size s.commit s.entries.items s.dropped s.sums.sums s.whole s.tried s.shaped s.wal room left left_now file b.1 b.2) (text h s.page_size s.commit s.entries.items s.dropped s.sums.sums s.whole s.tried s.shaped s.wal room left left_now file b.1 b.2) tt (can h s.page_size s.commit s.entries.items s.dropped s.sums.sums s.whole s.tried s.shaped s.wal room left left_now file b.1 b.2 kept) (is h s.page_size s.commit s.entries.items s.dropped s.sums.sums s.whole s.tried s.shaped s.wal room left left_now file b.1 b.2) (read h s.page_size s.commit s.entries.items s.dropped s.sums.sums s.whole s.tried s.shaped s.wal room left left_now file b.1 b.2) new c.in-From.tried places.0 places.1))
