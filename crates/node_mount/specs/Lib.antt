@@ -5,4 +5,6 @@ pub mod MemMaker
 pub mod Configuring
 pub mod Serving
 pub mod Opening
+pub mod Returns
+pub mod Damage
 pub mod Mounting

@@ -32,6 +32,7 @@ pub use mem_maker::{MemMaker, MemReturned};
 pub use mem_spawn::MemSpawn;
 pub use mount_fault::MountFault;
 pub use mounting::mount;
+pub use opening::{OpenFault, open_recovered};
 pub use returned::Returned;
 pub use system::System;
 pub use system_maker::{SystemMaker, SystemReturned};

@@ -11,8 +11,8 @@ use node_core::{Answer, Ask};
 use std::alloc::Global;
 use turn_desk::Machine;
 
-/// Serves HTTP links in a job of its own, and file links until no more come. Then the HTTP job is told
-/// to end, and after Ok all jobs have ended.
+/// Starts the jobs that serve HTTP links, and serves file links until no more come. Then the HTTP jobs
+/// are told to end, and after Ok all jobs have ended.
 pub fn serve_links<
     R: Handles + Copy + Send + 'static,
     K: Machine<Ask = Ask, Answer = Answer> + Send + Drop + 'static,
@@ -40,9 +40,9 @@ pub fn serve_links<
     let Ok((closing, word)) = closing_word(alloc) else {
         return Err(MountFault::NoMemory);
     };
-    match start_http(rt, alloc, http, word, spawner) {
+    match start_http(rt, alloc, pause, http, word, spawner) {
         Ok(()) => {}
-        Err(_) => return Err(MountFault::NoThread),
+        Err(fault) => return Err(fault),
     }
     let served = serve_file_links(rt, alloc, &mut place, clock, pause, files, spawner);
     closing.close();
