@@ -1,28 +1,43 @@
-//! The program `litefs`: standard input, output and error, and the arguments of the command line,
-//! given to `litefs_tool`.
+//! The program `litefs`: standard input, output and error, the arguments of the command line, and for
+//! a node its configuration and the system's objects, given to `litefs_tool`.
 #![tactic(auto)]
 
-use lf_base::{NoMemory, Status, StdSink, StdSource, Text};
+mod config_file;
+
+use config_file::ConfigFile;
+use lf_base::{Closing, NoMemory, Status, StdSink, StdSource, Text};
 use litefs_tool::{Host, run};
+use node_mount::{System, SystemMaker};
 use std::process::ExitCode;
 use std::{env, io};
 
+/// The configuration of a node, in the working directory.
+const CONFIG: &str = "litefs.toml";
+
 fn main(rt: HostRuntime) -> ExitCode {
-    let status = match arguments(&rt) {
-        Ok(arguments) => {
+    let status = match (arguments(&rt), maker(rt)) {
+        (Ok(arguments), Ok(make)) => {
             let mut host = Host {
                 input: StdSource::new(rt.stdin()),
                 output: StdSink::new(rt.stdout()),
                 errors: StdSink::new(rt.stderr()),
+                config: ConfigFile::new(rt, CONFIG),
+                make,
             };
             run(rt, rt.alloc(), arguments.as_slice(), &mut host)
         }
-        Err(NoMemory) => {
+        _ => {
             let _ = eprintln!(rt; "litefs: out of memory");
             Status::NoMemory
         }
     };
     ExitCode::from(status.number())
+}
+
+/// What makes the system's objects. Nobody closes its word: a node goes on until it is stopped.
+fn maker<R: System + Send + 'static>(rt: R) -> Result<SystemMaker<R>, NoMemory> {
+    let closing = Closing::new(rt.alloc())?;
+    SystemMaker::new(rt, closing)
 }
 
 /// The arguments after the program's name. Arguments that are no text are read as none, which no

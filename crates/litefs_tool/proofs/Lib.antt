@@ -7,4 +7,5 @@ pub mod GatherLemmas
 pub mod InputLemmas
 pub mod OutputLemmas
 pub mod PerformLemmas
+pub mod RunLemmas
 pub mod ConsumerLemmas

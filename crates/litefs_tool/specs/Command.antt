@@ -6,7 +6,7 @@ use Rattle.litefs_tool.specs.CompactRefusal.{compact_refusal_name}
 use Rattle.litefs_tool.specs.Files.{Applies, never_written}
 use Rattle.litefs_tool.specs.Refusal.{refusal_name}
 use Rattle.litefs_tool.specs.declared.command.Command.{Command}
-use Rattle.litefs_tool.specs.declared.command.Command.TheVariants.{Apply, Compact}
+use Rattle.litefs_tool.specs.declared.command.Command.TheVariants.{Apply, Compact, Mount}
 use Rattle.litefs_tool.specs.declared.compact_refusal.CompactRefusal.{CompactRefusal}
 use Rattle.litefs_tool.specs.declared.refusal.Refusal.{Refusal}
 
@@ -14,13 +14,21 @@ use Rattle.litefs_tool.specs.declared.refusal.Refusal.{Refusal}
 abbrev pub arguments_of : Command → List (List ℕ)
 arguments_of Apply = codes "apply" ∷ []
 arguments_of Compact = codes "compact" ∷ []
+arguments_of Mount = codes "mount" ∷ []
+
+-- a command that turns its input into its output
+abbrev pub IsOverStreams : Command → Type 0
+IsOverStreams Mount = ⊥
+IsOverStreams command = Unit {0}
 
 -- the bytes that a command writes for an input
 abbrev pub WritesFor : Command → List ℕ → List ℕ → Type 0
 WritesFor Apply input bytes = (image : DatabaseImage) × Applies never_written input (Ok image) × (bytes ≡ image_bytes image)
 WritesFor Compact input bytes = BecomesEncoding input bytes
+WritesFor Mount input bytes = ⊥
 
 -- a command refuses an input, by the fault of this name
 abbrev pub RefusesBy : Command → List ℕ → List ℕ → Type 0
 RefusesBy Apply input name = (why : Refusal) × Applies never_written input (Err why) × (name ≡ refusal_name why)
 RefusesBy Compact input name = (why : CompactRefusal) × RefusesToCompact input why × (name ≡ compact_refusal_name why)
+RefusesBy Mount input name = ⊥

@@ -2,6 +2,7 @@ pub mod Command
 pub mod CompactRefusal
 pub mod Compaction
 pub mod Files
+pub mod Mount
 pub mod Output
 pub mod Refusal
 pub mod Run

@@ -1,13 +1,19 @@
 -- How a run of the program goes: what it reads, writes and says, and how it ends.
-use Rattle.std.specs.Prelude.{◌≡◌, ◌≢◌, ℕ, ◌<◌, ◌≤◌, List, [], ◌∷◌, ◌++◌, length, codes, Option, ◌⊎◌}
+use Rattle.std.specs.Prelude.{◌≡◌, ◌≢◌, ℕ, ◌<◌, ◌≤◌, List, [], ◌∷◌, ◌++◌, length, codes, Option, Result, ◌⊎◌}
 use Rattle.std.specs.Io.KnownBytes.{Consumes, Appends, IsAtEnd}
 use Rattle.lf_base.specs.Faults.{Rose}
 use Rattle.lf_base.specs.Status.{text_of}
 use Rattle.lf_base.specs.declared.status.Status.{Status}
 use Rattle.lf_base.specs.declared.status.Status.TheVariants as status
-use Rattle.litefs_tool.specs.Command.{arguments_of, WritesFor, RefusesBy}
+use Rattle.node_mount.specs.Configuring.{ReadsConfiguration}
+use Rattle.node_mount.specs.Mounting.{IsMountCause}
+use Rattle.node_mount.specs.declared.counts.Counts.{Counts}
+use Rattle.node_mount.specs.declared.mount_fault.MountFault.{MountFault}
+use Rattle.litefs_tool.specs.Command.{arguments_of, IsOverStreams, WritesFor, RefusesBy}
+use Rattle.litefs_tool.specs.Mount.{status_of_end, name_of_end}
 use Rattle.litefs_tool.specs.Output.{IsPrefix, AppendsPrefix}
 use Rattle.litefs_tool.specs.declared.command.Command.{Command}
+use Rattle.litefs_tool.specs.declared.command.Command.TheVariants.{Mount}
 
 -- a stream over a run: the bytes left to read, or those taken, where it tells them, and its count of faults
 pub record Stream : Type 0 where
@@ -21,11 +27,18 @@ abbrev pub stream : {S : Type 0} → (S → Option (List ℕ)) → (S → ℕ) �
 stream bytes faults before after =
     record { bytes = bytes before; bytes_after = bytes after; faults = faults before; faults_after = faults after }
 
--- a run: its arguments and its streams
-pub record Run : Type 0 where
-  pub arguments : List (List ℕ)
+-- what a run goes over: its streams, the configuration, and the maker's counts of faults, before it and after it
+pub record Outside : Type 0 where
   pub input : Stream
   pub output : Stream
+  pub config : Stream
+  pub counts : Counts
+  pub counts_after : Counts
+
+-- a run: its arguments, what it goes over, and standard error
+pub record Run : Type 0 where
+  pub arguments : List (List ℕ)
+  pub outside : Outside
   pub errors : Stream
 
 -- the run read these bytes
@@ -77,7 +90,7 @@ pub record RefusesArguments (arguments : List (List ℕ)) (input : List ℕ) (en
 abbrev pub ArgumentsOutcome : List (List ℕ) → List ℕ → Status → List ℕ → List ℕ → Type 0
 ArgumentsOutcome arguments input status written name =
     RefusesArguments arguments input status written
-    ⊎ (command : Command) × (arguments ≡ arguments_of command) × CommandOutcome command input status written name
+    ⊎ (command : Command) × (arguments ≡ arguments_of command) × IsOverStreams command × CommandOutcome command input status written name
 
 -- with these statuses the input was read to its end
 abbrev pub LeavesNothing : Stream → Status → Type 0
@@ -99,6 +112,22 @@ pub record Moves (input output : Stream) (status : Status) (read written : List 
   pub read_to_end : LeavesNothing input status
   pub cause : HasCause input output status
 
+-- What `mount` comes to. The configuration was read to its end or past 65,536 bytes, but where its source failed or memory ran
+-- out; each fault of it, of the disk, of the network and of the threads has raised its count; and of what came back this holds.
+pub record MountOutcome (Back : Result (Unit {0}) MountFault → Type 0) (outside : Outside) (status : Status) (name : List ℕ) : Type 0 where
+  pub end : Result (Unit {0}) MountFault
+  pub config : ReadsConfiguration outside.config.bytes outside.config.bytes_after end
+  pub cause : IsMountCause outside.config.faults outside.config.faults_after outside.counts outside.counts_after end
+  pub back : Back end
+  pub status_is : status ≡ status_of_end end
+  pub name_is : name ≡ name_of_end end
+
+-- what a run did: it read its input and wrote its output, or refused its arguments; or it was a node
+pub data Went (Back : Result (Unit {0}) MountFault → Type 0) (arguments : List (List ℕ)) (outside : Outside) (status : Status) (name : List ℕ) : Type 0 where
+  over_streams : (read written : List ℕ) → Moves outside.input outside.output status read written → ArgumentsOutcome arguments read status written name
+      → Went Back arguments outside status name
+  mounted : arguments ≡ arguments_of Mount → MountOutcome Back outside status name → Went Back arguments outside status name
+
 -- a line of standard error
 abbrev pub line : List ℕ → List ℕ
 line text = codes "litefs: " ++ text ++ 10 ∷ []
@@ -113,11 +142,13 @@ line_of other name = line (text_of other)
 abbrev pub Says : Stream → List ℕ → Type 0
 Says errors bytes = Holds errors × Takes errors bytes ⊎ Fails errors × AppendsPrefix errors.bytes errors.bytes_after bytes
 
--- how a run went that ended with this status: what it read and wrote, and the name of the fault on standard error
-pub record RunOutcome (run : Run) (status : Status) : Type 0 where
-  pub read : List ℕ
-  pub written : List ℕ
+-- how a run went that ended with this status: what it did, and the name of the fault on standard error
+pub record RunOutcome (Back : Result (Unit {0}) MountFault → Type 0) (run : Run) (status : Status) : Type 0 where
   pub name : List ℕ
-  pub moves : Moves run.input run.output status read written
-  pub outcome : ArgumentsOutcome run.arguments read status written name
+  pub went : Went Back run.arguments run.outside status name
   pub says : Says run.errors (line_of status name)
+
+-- what a run leaves: without `mount` the configuration and the maker, with it the input and the output
+pub record LeavesApart {I O G M : Type 0} (arguments : List (List ℕ)) (input input_after : I) (output output_after : O) (config config_after : G) (make make_after : M) : Type 0 where
+  pub unmounted : arguments ≢ arguments_of Mount → (config_after ≡ config) × (make_after ≡ make)
+  pub mounted : arguments ≡ arguments_of Mount → (input_after ≡ input) × (output_after ≡ output)

@@ -12,6 +12,8 @@ pub enum Command {
     Apply,
     /// LTX files that join become one.
     Compact,
+    /// A node serves the files of a database.
+    Mount,
 }
 
 /// The command of these arguments. They are read to the letter: none more, and none less.
@@ -26,6 +28,9 @@ pub fn read_arguments(arguments: &[Text]) -> Option<Command>
     }
     if is_name(argument, b"compact".as_slice()) {
         return Some(Command::Compact);
+    }
+    if is_name(argument, b"mount".as_slice()) {
+        return Some(Command::Mount);
     }
     None
 }

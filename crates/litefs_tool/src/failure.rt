@@ -4,8 +4,10 @@ ghost use Rattle.litefs_tool.specs.declared.failure.Failure.TheVariants as failu
 
 use crate::compact_refusal::CompactRefusal;
 use crate::input::InputFault;
+use crate::mounting::{name_of_fault, status_of_fault};
 use crate::refusal::Refusal;
 use lf_base::{Failed, NoMemory, Status};
+use node_mount::MountFault;
 
 /// Why a run ends before its output is whole.
 #[derive(Clone, Copy, Debug, PartialEq, Eq)]
@@ -18,6 +20,8 @@ pub enum Failure {
     Files(Refusal),
     /// The files in the input do not become one.
     Compaction(CompactRefusal),
+    /// The node did not start, or stopped serving.
+    Mount(MountFault),
     /// The output failed.
     Output,
     /// Memory ran out before anything was written.
@@ -56,6 +60,14 @@ impl From<CompactRefusal> for Failure {
     }
 }
 
+impl From<MountFault> for Failure {
+    ghost from_gives = { λ why f. f ≡ failure.Mount why };
+
+    fn from(fault: MountFault) -> Failure {
+        Failure::Mount(fault)
+    }
+}
+
 impl From<Failed> for Failure {
     ghost from_gives = { λ _ f. f ≡ failure.Output };
 
@@ -78,6 +90,7 @@ impl Failure {
             Failure::Files(_) => Status::InputRefused,
             Failure::Compaction(CompactRefusal::NoMemory) => Status::NoMemory,
             Failure::Compaction(_) => Status::InputRefused,
+            Failure::Mount(fault) => status_of_fault(fault),
             Failure::Output => Status::WriteFault,
             Failure::NoMemory => Status::NoMemory,
         }
@@ -92,6 +105,7 @@ impl Failure {
             Failure::Files(refusal) => refusal.name(),
             Failure::Compaction(CompactRefusal::NoMemory) => "",
             Failure::Compaction(refusal) => refusal.name(),
+            Failure::Mount(fault) => name_of_fault(fault),
             _ => "",
         }
     }

@@ -14,6 +14,7 @@ mod file_output;
 mod gathering;
 mod input;
 mod laws;
+mod mounting;
 mod output;
 mod refusal;
 mod report;

@@ -4,5 +4,6 @@ mod compact;
 mod faults;
 mod files;
 mod limits;
+mod mounting;
 mod pieces;
 mod runs;

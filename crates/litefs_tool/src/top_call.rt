@@ -1,6 +1,7 @@
 //! The top call.
-ghost use Rattle.litefs_tool.specs.Run.{Run, CommandOutcome, ArgumentsOutcome, RunOutcome, stream};
-ghost use Rattle.litefs_tool.specs.steps.Performing.{Performs};
+ghost use Rattle.litefs_tool.specs.Mount.{GoesBack};
+ghost use Rattle.litefs_tool.specs.Run.{CommandOutcome, LeavesApart, Outside, Run, RunOutcome, stream};
+ghost use Rattle.litefs_tool.specs.steps.Performing.{Goes, Mounts, Performs};
 
 use crate::applying::Applying;
 use crate::command::{Command, read_arguments};
@@ -11,35 +12,53 @@ use crate::gathering::Gathering;
 use crate::input::read_to_end;
 use crate::output::{new_buffer, write_image};
 use crate::report::report;
-use lf_base::{Sink, Source, Status, Text};
+use lf_base::{Handles, Sink, Source, Status, Text};
+use node_mount::{Maker, mount};
 use std::alloc::Global;
 
 /// The longest input that is read, in bytes.
 const INPUT_LIMIT: usize = 2_147_483_648;
 
-/// What a run of the program reads from, writes to, and says its failure on.
+/// What a run of the program reads from, writes to, and says its failure on; and for a node its
+/// configuration, and what makes the objects that it runs on.
 #[derive(Drop)]
-pub struct Host<I, O, E> {
+pub struct Host<I, O, E, G, M> {
     pub input: I,
     pub output: O,
     pub errors: E,
+    pub config: G,
+    pub make: M,
 }
 
 /// Runs the command of these arguments, and says on standard error why it failed, if it did.
-pub fn run<Rt: Copy, I: Source, O: Sink, E: Sink>(
-    _rt: Rt,
+pub fn run<R: Handles + Copy + Send + 'static, I: Source, O: Sink, E: Sink, G: Source, M: Maker>(
+    rt: R,
     alloc: Global,
     arguments: &[Text],
-    host: &mut Host<I, O, E>,
+    host: &mut Host<I, O, E, G, M>,
 ) -> Status
-    ensures { let run : Run = record {
+    ensures outcome { let run : Run = record {
       arguments = arguments.now;
-      input = stream I.left I.faults host.old.input host.new.input;
-      output = stream O.taken O.faults host.old.output host.new.output;
+      outside = record {
+        input = stream I.left I.faults host.old.input host.new.input;
+        output = stream O.taken O.faults host.old.output host.new.output;
+        config = stream G.left G.faults host.old.config host.new.config;
+        counts = M.counts host.old.make;
+        counts_after = M.counts host.new.make;
+      };
       errors = stream E.taken E.faults host.old.errors host.new.errors;
-    } in RunOutcome run result }
+    } in RunOutcome (GoesBack M.FileAccept.ended M.FileAccept.given M.Disk.honest M.Disk.history (M.may_give host.old.make) (M.back host.old.make) (M.back host.new.make)) run result }
+    ensures apart { LeavesApart arguments.now host.old.input host.new.input host.old.output host.new.output host.old.config host.new.config host.old.make host.new.make }
 {
-    match perform(alloc, arguments, &mut host.input, &mut host.output) {
+    match perform(
+        rt,
+        alloc,
+        arguments,
+        &mut host.input,
+        &mut host.output,
+        &mut host.config,
+        &mut host.make,
+    ) {
         Ok(()) => Status::Ok,
         Err(failure) => {
             // A fault of standard error changes nothing.
@@ -49,18 +68,44 @@ pub fn run<Rt: Copy, I: Source, O: Sink, E: Sink>(
     }
 }
 
-fn perform<I: Source, O: Sink>(
+fn perform<R: Handles + Copy + Send + 'static, I: Source, O: Sink, G: Source, M: Maker>(
+    rt: R,
     alloc: Global,
     arguments: &[Text],
     input: &mut I,
     output: &mut O,
+    config: &mut G,
+    make: &mut M,
 ) -> Result<(), Failure>
-    ensures { Performs (ArgumentsOutcome arguments.now) (stream I.left I.faults input.old input.new) (stream O.taken O.faults output.old output.new) result }
+    ensures went { let outside : Outside = record {
+      input = stream I.left I.faults input.old input.new;
+      output = stream O.taken O.faults output.old output.new;
+      config = stream G.left G.faults config.old config.new;
+      counts = M.counts make.old;
+      counts_after = M.counts make.new;
+    } in Goes (GoesBack M.FileAccept.ended M.FileAccept.given M.Disk.honest M.Disk.history (M.may_give make.old) (M.back make.old) (M.back make.new)) arguments.now outside result }
+    ensures apart { LeavesApart arguments.now input.old input.new output.old output.new config.old config.new make.old make.new }
 {
     match read_arguments(arguments) {
         Some(Command::Apply) => apply(alloc, input, output),
         Some(Command::Compact) => compact(alloc, input, output),
+        Some(Command::Mount) => mount_node(rt, alloc, config, make),
         None => Err(Failure::Arguments),
+    }
+}
+
+/// A node serves the files of a database, until no more links come.
+fn mount_node<R: Handles + Copy + Send + 'static, G: Source, M: Maker>(
+    rt: R,
+    alloc: Global,
+    config: &mut G,
+    make: &mut M,
+) -> Result<(), Failure>
+    ensures { Mounts (GoesBack M.FileAccept.ended M.FileAccept.given M.Disk.honest M.Disk.history (M.may_give make.old) (M.back make.old) (M.back make.new)) (stream G.left G.faults config.old config.new) (M.counts make.old) (M.counts make.new) result }
+{
+    match mount(rt, alloc, config, make) {
+        Ok(()) => Ok(()),
+        Err(fault) => Err(Failure::Mount(fault)),
     }
 }
 

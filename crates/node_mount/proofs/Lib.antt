@@ -1,2 +1,4 @@
 mod DiskLemmas
 mod ConfigLemmas
+mod ServingLemmas
+mod BackLemmas

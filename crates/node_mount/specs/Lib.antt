@@ -4,5 +4,8 @@ pub mod Keeping
 pub mod MemMaker
 pub mod Configuring
 pub mod Serving
+pub mod Following
 pub mod Opening
+pub mod Returns
+pub mod Damage
 pub mod Mounting

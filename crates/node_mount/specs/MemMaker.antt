@@ -51,6 +51,10 @@ IsNewSpawner spawner = faults_of spawner ≡ 0
 abbrev pub FailsNext : {T : Type 0} → Making → List T → Type 0
 FailsNext maker objects = Contains maker.failing maker.calls ⊎ (objects ≡ [])
 
+-- the next object of a list
+abbrev pub IsNext : {T : Type 0} → List T → T → Type 0
+IsNext {T} objects object = (rest : List T) × (objects ≡ object ∷ rest)
+
 -- the maker after one such call more
 abbrev pub called : Making → Making
 called maker = record maker { calls = one_more maker.calls }

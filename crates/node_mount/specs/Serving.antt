@@ -17,3 +17,10 @@ CountsServing accept accept_now spawner spawner_now (Err fault.NoThread) = (acce
 CountsServing accept accept_now spawner spawner_now (Err fault.Limit) = (accept_now ≡ accept) × (spawner_now ≡ spawner)
 CountsServing accept accept_now spawner spawner_now (Err fault.NoMemory) = (accept_now ≡ accept) × (spawner_now ≡ spawner)
 CountsServing accept accept_now spawner spawner_now (Err why) = ⊥
+
+-- jobs are started, or not for want of threads or of memory; the spawner's count rose with NoThread alone
+abbrev pub CountsStarts : {T : Type 0} → (spawner spawner_now : ℕ) → Result T MountFault → Type 0
+CountsStarts spawner spawner_now (Ok _) = spawner_now ≡ spawner
+CountsStarts spawner spawner_now (Err fault.NoThread) = Rose spawner spawner_now
+CountsStarts spawner spawner_now (Err fault.NoMemory) = spawner_now ≡ spawner
+CountsStarts spawner spawner_now (Err why) = ⊥

@@ -30,8 +30,12 @@ pub trait Maker {
     /// The objects that came back, in order, where it tells them.
     ghost back: { Self → Option (List (Returned Self.Disk Self.FileAccept Self.HttpAccept Self.Dial Self.Spawn)) };
 
+    /// Whether this disk may be the next that it gives.
+    ghost may_give: { Self → Self.Disk → Type 0 };
+
     /// The data directory of a database. Nothing is pending on it.
     fn disk(&mut self, name: &Name) -> Result<Self::Disk, Failed>
+        ensures next { IfOk result (may_give self.old) }
         ensures made { IfOk result (λ disk. Self.Disk.faults disk ≡ 0) }
         ensures rest { IfOk result (λ disk. IsAtRest (Self.Disk.honest disk) (Self.Disk.history disk)) }
         ensures back { back self.new ≡ back self.old }

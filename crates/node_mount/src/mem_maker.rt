@@ -3,7 +3,7 @@ ghost use Rattle.std.specs.Prelude.{◌≡◌, ◌==◌, ◌↔◌, ◌∷◌, [
 ghost use Rattle.lf_disk.specs.MemDisk.{history_of};
 ghost use Rattle.node_mount.specs.Keeping.{told_by, with};
 ghost use Rattle.node_mount.specs.Making.{no_faults, disk_failed, network_failed, spawner_failed, DisksRose, NetworkRose, SpawnersRose, FailsBy, TellsBy, IsAtRest, IsNew, TakesBack};
-ghost use Rattle.node_mount.specs.MemMaker.{IsNewDisk, IsNewDoor, IsNewPhone, IsNewSpawner, FailsNext, Gives, called, no_links};
+ghost use Rattle.node_mount.specs.MemMaker.{IsNewDisk, IsNewDoor, IsNewPhone, IsNewSpawner, FailsNext, Gives, IsNext, called, no_links};
 ghost use Rattle.node_mount.specs.MemSpawn.{faults_of};
 ghost use Rattle.node_mount.specs.declared.returned.Returned.TheVariants as returned;
 
@@ -139,7 +139,10 @@ impl Maker for MemMaker {
 
     ghost back = { λ m. told_by m.back };
 
+    ghost may_give = { λ m. IsNext m.disks };
+
     fn disk(&mut self, name: &Name) -> Result<MemDisk, Failed>
+        ensures next { IfOk result (IsNext self.old.disks) }
         ensures made { IfOk result (λ disk. disk.plan.faults ≡ 0) }
         ensures rest { IfOk result (λ disk. IsAtRest true (history_of disk)) }
         ensures cause { FailsBy DisksRose self.old.counts self.new.counts result }

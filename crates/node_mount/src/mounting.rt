@@ -1,23 +1,28 @@
 //! A node is started, serves, and stops.
-ghost use Rattle.std.specs.Prelude.{◌≡◌, OnErr};
+ghost use Rattle.std.specs.Prelude.{◌≡◌};
 ghost use Rattle.node_mount.specs.Configuring.{ReadsConfiguration};
-ghost use Rattle.node_mount.specs.Mounting.{fault_of as named, IsMountCause, IsPastReading, RaisesFor};
+ghost use Rattle.node_mount.specs.Damage.{DamageHasCause};
+ghost use Rattle.node_mount.specs.Making.{IsNew};
+ghost use Rattle.node_mount.specs.Mounting.{fault_of as named, IsMountCause, IsPastReading, IsServing, RaisesFor};
+ghost use Rattle.node_mount.specs.Returns.{CameBack};
 
 use crate::configuring::read_configuration;
+use crate::following::primary_of;
 use crate::maker::Maker;
 use crate::mount_fault::MountFault;
-use crate::opening::open_node;
+use crate::opening::{OpenFault, config_of, open_place, open_recovered};
+use crate::place::Place;
 use crate::serving::serve_links;
 use lf_base::{Handles, Source};
-use node_recovery::{RecoverFault, recover};
+use node_core::Node;
+use node_recovery::RecoverFault;
 use node_settings::Settings;
 use std::alloc::Global;
-use txn_log::Store;
 
 /// Runs the node that a configuration says, until no more file links come.
 ///
-/// The configuration is read, the disk made, its store recovered, the node opened and the acceptors
-/// made. Each link has a session of its own.
+/// The configuration is read, the disk made, the node opened over it, and the acceptors made. Each
+/// link has a session of its own. What was made for the caller's own thread comes back.
 pub fn mount<R: Handles + Copy + Send + 'static, G: Source, M: Maker>(
     rt: R,
     alloc: Global,
@@ -25,6 +30,8 @@ pub fn mount<R: Handles + Copy + Send + 'static, G: Source, M: Maker>(
     make: &mut M,
 ) -> Result<(), MountFault>
     ensures config { ReadsConfiguration (G.left config.old) (G.left config.new) result }
+    ensures back { CameBack M.FileAccept.ended M.FileAccept.given (M.back make.old) (M.back make.new) result }
+    ensures damage { DamageHasCause M.Disk.honest M.Disk.history (M.may_give make.old) (M.back make.old) (M.back make.new) result }
     ensures cause { IsMountCause (G.faults config.old) (G.faults config.new) (M.counts make.old) (M.counts make.new) result }
 {
     match read_configuration(alloc, config) {
@@ -33,26 +40,32 @@ pub fn mount<R: Handles + Copy + Send + 'static, G: Source, M: Maker>(
     }
 }
 
-/// Makes the disk and recovers its store.
+/// Makes the disk and opens a node over it.
 fn mount_disk<R: Handles + Copy + Send + 'static, M: Maker>(
     rt: R,
     alloc: Global,
     settings: &Settings,
     make: &mut M,
 ) -> Result<(), MountFault>
+    ensures back { CameBack M.FileAccept.ended M.FileAccept.given (M.back make.old) (M.back make.new) result }
+    ensures damage { DamageHasCause M.Disk.honest M.Disk.history (M.may_give make.old) (M.back make.old) (M.back make.new) result }
     ensures cause { RaisesFor (M.counts make.old) (M.counts make.new) result }
     ensures kind { IsPastReading result }
 {
+    let Ok(config) = config_of(alloc, settings, make.node_id()) else {
+        return Err(MountFault::NoMemory);
+    };
     let disk = match make.disk(&settings.database) {
         Ok(disk) => disk,
         Err(_) => return Err(MountFault::Disk),
     };
-    match recover(alloc, disk) {
-        Ok(store) => mount_store(rt, alloc, settings, store, make),
-        Err((why, disk)) => {
+    match open_recovered(alloc, disk, config) {
+        Ok(node) => mount_node(rt, alloc, settings, node, make),
+        Err(OpenFault::Unrecovered(why, disk)) => {
             make.back_disk(disk);
             Err(fault_of(why))
         }
+        Err(OpenFault::NoMemory) => Err(MountFault::NoMemory),
     }
 }
 
@@ -66,33 +79,55 @@ fn fault_of(why: RecoverFault) -> MountFault
     }
 }
 
-/// Opens the node over its store, makes what it serves by, and takes that back.
-fn mount_store<R: Handles + Copy + Send + 'static, M: Maker>(
+/// Makes where links come from.
+fn mount_node<R: Handles + Copy + Send + 'static, M: Maker>(
     rt: R,
     alloc: Global,
     settings: &Settings,
-    store: Store<M::Disk>,
+    node: Node<M::Disk>,
     make: &mut M,
 ) -> Result<(), MountFault>
+    ensures back { CameBack M.FileAccept.ended M.FileAccept.given (M.back make.old) (M.back make.new) result }
     ensures cause { RaisesFor (M.counts make.old) (M.counts make.new) result }
-    ensures kind { IsPastReading result }
+    ensures kind { IsServing result }
 {
-    let Ok(place) = open_node(alloc, store, settings, make.node_id()) else {
+    let Ok(place) = open_place(alloc, node) else {
         return Err(MountFault::NoMemory);
     };
-    let (clock, pause) = (make.clock(), make.pause());
-    let mut files = match make.files(&settings.socket) {
+    let files = match make.files(&settings.socket) {
         Ok(files) => files,
         Err(_) => return Err(MountFault::Network),
     };
-    let http = match make.http(settings.http.text()) {
-        Ok(http) => http,
+    match make.http(settings.http.text()) {
+        Ok(http) => serve_place(rt, alloc, settings, place, files, http, make),
         Err(_) => {
             make.back_files(files);
-            return Err(MountFault::Network);
+            Err(MountFault::Network)
         }
-    };
+    }
+}
+
+/// Makes what else a node serves by, serves, and takes back all.
+fn serve_place<R: Handles + Copy + Send + 'static, M: Maker>(
+    rt: R,
+    alloc: Global,
+    settings: &Settings,
+    place: Place<Node<M::Disk>>,
+    files: M::FileAccept,
+    http: M::HttpAccept,
+    make: &mut M,
+) -> Result<(), MountFault>
+    requires new { IsNew (M.FileAccept.given files) (M.FileAccept.faults files) (M.FileAccept.ended files) }
+    ensures back { CameBack M.FileAccept.ended M.FileAccept.given (M.back make.old) (M.back make.new) result }
+    ensures cause { RaisesFor (M.counts make.old) (M.counts make.new) result }
+    ensures kind { IsServing result }
+{
+    let mut files = files;
+    let (clock, pause) = (make.clock(), make.pause());
     let dialer = make.dialer();
+    let Ok(primary) = primary_of(settings, &dialer) else {
+        return Err(MountFault::NoMemory);
+    };
     let mut spawner = make.spawner();
     let served = serve_links(
         rt,
@@ -102,6 +137,8 @@ fn mount_store<R: Handles + Copy + Send + 'static, M: Maker>(
         pause,
         &mut files,
         http,
+        &settings.database,
+        primary,
         &mut spawner,
     );
     make.back_files(files);

@@ -1,48 +1,77 @@
-//! A node is opened over a store, at a desk.
-ghost use Rattle.std.specs.Prelude.{◌≡◌, IfOk};
+//! A node is opened over what a disk has kept, at a desk.
+ghost use Rattle.std.specs.Prelude.{◌≡◌, IsTrue, IfOk, IfErr};
+ghost use Rattle.lf_disk.specs.History.{now};
+ghost use Rattle.node_core.specs.Nodes.{history, parts_of, seen};
+ghost use Rattle.node_mount.specs.Opening.{config_of as told, primary_host as host_of, seen_anew, ComesBack, IsUnopened};
 ghost use Rattle.turn_desk.specs.Seats.{IsOf};
-ghost use Rattle.node_mount.specs.Opening.{config_of as told, primary_host as host_of};
+ghost use Rattle.txn_log.specs.Durable.{Durable};
+ghost use Rattle.txn_log.specs.Putting.{IsSettled};
+ghost use Rattle.world_laws.specs.Store.{StoreState};
 
 use crate::place::Place;
 use lf_base::{NoMemory, Text};
 use lf_disk::Disk;
 use node_core::{Node, NodeConfig};
+use node_recovery::{RecoverFault, recover};
 use node_settings::Settings;
 use std::alloc::Global;
 use std::sync::Arc;
 use turn_desk::{Desk, Seat};
-use txn_log::Store;
 
-/// The first seat at the desk of a node over this store.
-pub fn open_node<D: Disk + Drop>(
+/// Why no node is opened.
+#[derive(Debug, Drop)]
+pub enum OpenFault<D> {
+    /// The disk was not recovered, and comes back.
+    Unrecovered(RecoverFault, D),
+    NoMemory,
+}
+
+/// Opens a node over what a disk has kept. Over an honest disk whose folder stands for a store, the
+/// node has this store: nothing has failed, nothing waits, and nobody has used its files.
+pub fn open_recovered<D: Disk + Drop>(
     alloc: Global,
-    store: Store<D>,
-    settings: &Settings,
-    node: u64,
+    disk: D,
+    config: NodeConfig,
+) -> Result<Node<D>, OpenFault<D>>
+    requires settled { IsTrue (D.honest disk) → IsSettled (D.history disk) }
+    ensures seen { IsTrue (D.honest disk) → IfOk result (λ node. (stood : StoreState) → Durable (now (D.history disk)) stood
+        → seen (history node) (parts_of node) ≡ seen_anew stood (D.faults disk) config) }
+    ensures why { IsTrue (D.honest disk) → IfErr result (IsUnopened (now (D.history disk))) }
+    ensures back { IfErr result (ComesBack D.honest D.faults disk) }
+{
+    match recover(alloc, disk) {
+        Ok(store) => match Node::open(alloc, store, config) {
+            Ok(node) => Ok(node),
+            Err(_) => Err(OpenFault::NoMemory),
+        },
+        Err((why, disk)) => Err(OpenFault::Unrecovered(why, disk)),
+    }
+}
+
+/// The first seat at the desk of a node.
+pub fn open_place<D: Disk + Drop>(
+    alloc: Global,
+    node: Node<D>,
 ) -> Result<Place<Node<D>>, NoMemory> {
-    let (desk, seat) = open_desk(alloc, store, config_of(alloc, settings, node)?)?;
+    let (desk, seat) = open_desk(alloc, node)?;
     let desk = Arc::new(alloc, desk)?;
     Ok(Place { desk, seat })
 }
 
 fn open_desk<D: Disk + Drop>(
     alloc: Global,
-    store: Store<D>,
-    config: NodeConfig,
+    node: Node<D>,
 ) -> Result<(Desk<Node<D>>, Seat<Node<D>>), NoMemory>
     ensures { IfOk result (λ opened. IsOf opened.1 opened.0) }
 {
-    match Node::open(alloc, store, config) {
-        Ok(node) => match Desk::open(alloc, node) {
-            Ok(opened) => Ok(opened),
-            Err(_) => Err(NoMemory),
-        },
+    match Desk::open(alloc, node) {
+        Ok(opened) => Ok(opened),
         Err(_) => Err(NoMemory),
     }
 }
 
 /// What a node is told of itself.
-fn config_of(alloc: Global, settings: &Settings, node: u64) -> Result<NodeConfig, NoMemory>
+pub fn config_of(alloc: Global, settings: &Settings, node: u64) -> Result<NodeConfig, NoMemory>
     ensures { IfOk result (λ config. config ≡ told settings.now node) }
 {
     let name = settings.database.copy()?;

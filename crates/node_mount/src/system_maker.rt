@@ -83,6 +83,9 @@ impl<R: System + Send + 'static> Maker for SystemMaker<R> {
 
     ghost back = { λ m. told_by m.back };
 
+    /// Which disk it gives is not told.
+    ghost may_give = { λ _ _. Unit {0} };
+
     fn disk(&mut self, name: &Name) -> Result<DirDisk<R>, Failed> {
         match open_directory(self.rt, name) {
             Ok((disk, lock)) => {

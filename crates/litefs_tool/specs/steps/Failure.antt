@@ -2,6 +2,7 @@
 use Rattle.std.specs.Prelude.{ℕ, List, [], Result, Ok, Err}
 use Rattle.lf_base.specs.declared.status.Status.{Status}
 use Rattle.lf_base.specs.declared.status.Status.TheVariants as status
+use Rattle.litefs_tool.specs.Mount.{status_of_fault, name_of_fault}
 use Rattle.litefs_tool.specs.Refusal.{refusal_name}
 use Rattle.litefs_tool.specs.declared.input.InputFault.TheVariants as fault
 use Rattle.litefs_tool.specs.declared.refusal.Refusal.TheVariants as refusal
@@ -20,6 +21,7 @@ status_of_failure (failure.Files refusal.NoMemory) = status.NoMemory
 status_of_failure (failure.Files why) = status.InputRefused
 status_of_failure (failure.Compaction compaction.NoMemory) = status.NoMemory
 status_of_failure (failure.Compaction why) = status.InputRefused
+status_of_failure (failure.Mount why) = status_of_fault why
 status_of_failure failure.Output = status.WriteFault
 status_of_failure failure.NoMemory = status.NoMemory
 
@@ -29,6 +31,7 @@ name_of_failure (failure.Files refusal.NoMemory) = []
 name_of_failure (failure.Files why) = refusal_name why
 name_of_failure (failure.Compaction compaction.NoMemory) = []
 name_of_failure (failure.Compaction why) = compact_refusal_name why
+name_of_failure (failure.Mount why) = name_of_fault why
 name_of_failure other = []
 
 -- the status of a run with this result

@@ -1,7 +1,7 @@
 //! Whole runs of `compact`. The sum was computed by another program.
 use crate::tests::files::{DELTA, Fields, SNAPSHOT, TWO_PAGES, encode_all, file_sum};
-use crate::tests::runs::{arguments, expect};
-use crate::{Host, compact_files, run};
+use crate::tests::runs::{arguments, expect, host};
+use crate::{compact_files, run};
 use lf_base::{SliceSource, Status, VecSink};
 use std::test::Fail;
 
@@ -13,11 +13,12 @@ fn a_snapshot_and_a_delta_become_one_file(rt: HostRuntime) -> Result<(), Fail> {
     let alloc = rt.alloc();
     let input = encode_all(alloc, &[SNAPSHOT, DELTA])?;
     let arguments = arguments(alloc, &["compact"])?;
-    let mut host = Host {
-        input: SliceSource::new(input.as_slice(), Vec::new(alloc))?,
-        output: VecSink::new(alloc, 4096, Vec::new(alloc))?,
-        errors: VecSink::new(alloc, 4096, Vec::new(alloc))?,
-    };
+    let mut host = host(
+        alloc,
+        SliceSource::new(input.as_slice(), Vec::new(alloc))?,
+        VecSink::new(alloc, 4096, Vec::new(alloc))?,
+        VecSink::new(alloc, 4096, Vec::new(alloc))?,
+    )?;
     let status = run(rt, alloc, arguments.as_slice(), &mut host);
     assert_eq!(rt; status, Status::Ok);
     let taken = host.output.taken();
@@ -56,7 +57,7 @@ fn refuses_what_does_not_become_one(rt: HostRuntime) -> Result<(), Fail> {
         (front, "litefs: input refused: Short\n"),
         (&turned[..0], "litefs: input refused: Empty\n"),
     ] {
-        expect(&rt, alloc, &["compact"], input, refused, 0, line)?;
+        expect(rt, alloc, &["compact"], input, refused, 0, line)?;
     }
     Ok(())
 }

@@ -1,9 +1,9 @@
 //! Streams that fail in mid-stream.
 ghost use Rattle.std.specs.Prelude.{None};
 
+use crate::run;
 use crate::tests::files::{DELTA, SNAPSHOT, encode_all};
-use crate::tests::runs::arguments;
-use crate::{Host, run};
+use crate::tests::runs::{arguments, host};
 use lf_base::{Failed, Sink, SliceSource, Status, VecSink};
 use std::test::Fail;
 
@@ -72,11 +72,12 @@ fn streams_that_fail(rt: HostRuntime) -> Result<(), Fail> {
     let bytes = encode_all(alloc, &[SNAPSHOT, DELTA])?;
     let arguments = arguments(alloc, &["apply"])?;
     for (read, write, say, status, written, line) in ROWS {
-        let mut host = Host {
-            input: SliceSource::new(bytes.as_slice(), vec![in alloc; read]?)?,
-            output: Narrow(VecSink::new(alloc, 1024, vec![in alloc; write]?)?),
-            errors: VecSink::new(alloc, 64, vec![in alloc; say]?)?,
-        };
+        let mut host = host(
+            alloc,
+            SliceSource::new(bytes.as_slice(), vec![in alloc; read]?)?,
+            Narrow(VecSink::new(alloc, 1024, vec![in alloc; write]?)?),
+            VecSink::new(alloc, 64, vec![in alloc; say]?)?,
+        )?;
         assert_eq!(rt;
             run(rt, alloc, arguments.as_slice(), &mut host),
             status,

@@ -1,8 +1,8 @@
 //! Inputs at the limit and past it.
 ghost use Rattle.std.specs.Prelude.{None};
 
-use crate::tests::runs::arguments;
-use crate::{Host, run};
+use crate::run;
+use crate::tests::runs::{arguments, host};
 use lf_base::{Failed, Source, Status, VecSink};
 use std::test::Fail;
 
@@ -34,11 +34,12 @@ fn limit_of_the_input(rt: HostRuntime) -> Result<(), Fail> {
         ),
         (2_147_483_649, Status::Limit, "litefs: limit reached\n"),
     ] {
-        let mut host = Host {
-            input: Bytes(length),
-            output: VecSink::new(alloc, 0, Vec::new(alloc))?,
-            errors: VecSink::new(alloc, 64, Vec::new(alloc))?,
-        };
+        let mut host = host(
+            alloc,
+            Bytes(length),
+            VecSink::new(alloc, 0, Vec::new(alloc))?,
+            VecSink::new(alloc, 64, Vec::new(alloc))?,
+        )?;
         assert_eq!(rt; run(rt, alloc, arguments.as_slice(), &mut host), status);
         assert_eq!(rt; host.errors.taken(), line.as_bytes());
     }

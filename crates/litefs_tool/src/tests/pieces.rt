@@ -1,7 +1,7 @@
 //! Inputs and outputs of several pieces. The sums were computed by another program.
+use crate::run;
 use crate::tests::files::{DELTA, Fields, append, encode_all};
-use crate::tests::runs::arguments;
-use crate::{Host, run};
+use crate::tests::runs::{arguments, host};
 use lf_base::{SliceSource, Status, VecSink};
 use std::test::Fail;
 
@@ -53,11 +53,12 @@ fn pages_are_written_in_two_pieces(rt: HostRuntime) -> Result<(), Fail> {
     let input = encode_all(alloc, &FILES)?;
     let arguments = arguments(alloc, &["apply"])?;
     for (write, status, written) in WRITES {
-        let mut host = Host {
-            input: SliceSource::new(input.as_slice(), Vec::new(alloc))?,
-            output: VecSink::new(alloc, 200_000, vec![in alloc; write]?)?,
-            errors: VecSink::new(alloc, 64, Vec::new(alloc))?,
-        };
+        let mut host = host(
+            alloc,
+            SliceSource::new(input.as_slice(), Vec::new(alloc))?,
+            VecSink::new(alloc, 200_000, vec![in alloc; write]?)?,
+            VecSink::new(alloc, 64, Vec::new(alloc))?,
+        )?;
         assert_eq!(rt; run(rt, alloc, arguments.as_slice(), &mut host), status);
         assert_eq!(rt; host.output.taken().len(), written);
         assert!(rt; host.output.taken().iter().all(|byte| *byte == 0));
@@ -70,11 +71,12 @@ fn becomes_one_file(rt: HostRuntime) -> Result<(), Fail> {
     let alloc = rt.alloc();
     let input = encode_all(alloc, &FILES)?;
     let arguments = arguments(alloc, &["compact"])?;
-    let mut host = Host {
-        input: SliceSource::new(input.as_slice(), Vec::new(alloc))?,
-        output: VecSink::new(alloc, 200_000, Vec::new(alloc))?,
-        errors: VecSink::new(alloc, 64, Vec::new(alloc))?,
-    };
+    let mut host = host(
+        alloc,
+        SliceSource::new(input.as_slice(), Vec::new(alloc))?,
+        VecSink::new(alloc, 200_000, Vec::new(alloc))?,
+        VecSink::new(alloc, 64, Vec::new(alloc))?,
+    )?;
     let status = run(rt, alloc, arguments.as_slice(), &mut host);
     assert_eq!(rt; status, Status::Ok);
     let taken = host.output.taken();
@@ -95,11 +97,12 @@ fn the_source_fails_after_a_refusal(rt: HostRuntime) -> Result<(), Fail> {
     }
     for command in ["apply", "compact"] {
         let arguments = arguments(alloc, &[command])?;
-        let mut host = Host {
-            input: SliceSource::new(input.as_slice(), vec![in alloc; 3]?)?,
-            output: VecSink::new(alloc, 0, Vec::new(alloc))?,
-            errors: VecSink::new(alloc, 64, Vec::new(alloc))?,
-        };
+        let mut host = host(
+            alloc,
+            SliceSource::new(input.as_slice(), vec![in alloc; 3]?)?,
+            VecSink::new(alloc, 0, Vec::new(alloc))?,
+            VecSink::new(alloc, 64, Vec::new(alloc))?,
+        )?;
         let status = run(rt, alloc, arguments.as_slice(), &mut host);
         assert_eq!(rt; status, Status::ReadFault, "{command}");
     }

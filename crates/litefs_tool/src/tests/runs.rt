@@ -1,7 +1,8 @@
 //! Whole runs of the program over memory.
 use crate::tests::files::{DELTA, EMPTY, SNAPSHOT, encode_all};
 use crate::{Host, run};
-use lf_base::{NoMemory, SliceSource, Status, Text, VecSink};
+use lf_base::{FixedClock, Handles, NoMemory, SliceSource, Status, Text, VecSink};
+use node_mount::MemMaker;
 use std::alloc::Global;
 use std::process::Abort;
 use std::test::Fail;
@@ -15,10 +16,41 @@ pub(super) fn arguments(alloc: Global, given: &[&str]) -> Result<Vec<Text>, NoMe
     Ok(arguments)
 }
 
+/// A host without a configuration, whose maker has nothing to give.
+pub(super) fn host<I: Drop, O: Drop, E: Drop>(
+    alloc: Global,
+    input: I,
+    output: O,
+    errors: E,
+) -> Result<Host<I, O, E, SliceSource<'static>, MemMaker>, NoMemory> {
+    Ok(Host {
+        input,
+        output,
+        errors,
+        config: SliceSource::new(b"", Vec::new(alloc))?,
+        make: empty_maker(alloc)?,
+    })
+}
+
+pub(super) fn empty_maker(alloc: Global) -> Result<MemMaker, NoMemory> {
+    MemMaker::new(
+        alloc,
+        Vec::new(alloc),
+        Vec::new(alloc),
+        Vec::new(alloc),
+        Vec::new(alloc),
+        Vec::new(alloc),
+        FixedClock::new(0),
+        1,
+        8,
+        Vec::new(alloc),
+    )
+}
+
 /// Runs `litefs` with these arguments over this input, and looks at how it ends, how many zeros it
 /// writes and what it says.
-pub(super) fn expect(
-    rt: &impl Abort,
+pub(super) fn expect<R: Abort + Handles + Copy + Send + 'static>(
+    rt: R,
     alloc: Global,
     given: &[&str],
     input: &[u8],
@@ -27,11 +59,12 @@ pub(super) fn expect(
     line: &str,
 ) -> Result<(), Fail> {
     let arguments = arguments(alloc, given)?;
-    let mut host = Host {
-        input: SliceSource::new(input, Vec::new(alloc))?,
-        output: VecSink::new(alloc, 4096, Vec::new(alloc))?,
-        errors: VecSink::new(alloc, 4096, Vec::new(alloc))?,
-    };
+    let mut host = host(
+        alloc,
+        SliceSource::new(input, Vec::new(alloc))?,
+        VecSink::new(alloc, 4096, Vec::new(alloc))?,
+        VecSink::new(alloc, 4096, Vec::new(alloc))?,
+    )?;
     assert_eq!(rt;
         run(rt, alloc, arguments.as_slice(), &mut host),
         status,
@@ -48,7 +81,7 @@ fn applies_files_one_after_another(rt: HostRuntime) -> Result<(), Fail> {
     let alloc = rt.alloc();
     let snapshot = encode_all(alloc, &[SNAPSHOT])?;
     expect(
-        &rt,
+        rt,
         alloc,
         &["apply"],
         snapshot.as_slice(),
@@ -57,17 +90,9 @@ fn applies_files_one_after_another(rt: HostRuntime) -> Result<(), Fail> {
         "",
     )?;
     let both = encode_all(alloc, &[SNAPSHOT, DELTA])?;
-    expect(
-        &rt,
-        alloc,
-        &["apply"],
-        both.as_slice(),
-        Status::Ok,
-        1024,
-        "",
-    )?;
+    expect(rt, alloc, &["apply"], both.as_slice(), Status::Ok, 1024, "")?;
     let empty = encode_all(alloc, &[EMPTY])?;
-    expect(&rt, alloc, &["apply"], empty.as_slice(), Status::Ok, 0, "")
+    expect(rt, alloc, &["apply"], empty.as_slice(), Status::Ok, 0, "")
 }
 
 #[test]
@@ -77,20 +102,12 @@ fn refuses_what_makes_no_database(rt: HostRuntime) -> Result<(), Fail> {
     let short = "litefs: input refused: Short\n";
     for length in [0, 99, 630] {
         let input = snapshot.get(..length).ok_or("a file has 636 bytes")?;
-        expect(
-            &rt,
-            alloc,
-            &["apply"],
-            input,
-            Status::InputRefused,
-            0,
-            short,
-        )?;
+        expect(rt, alloc, &["apply"], input, Status::InputRefused, 0, short)?;
     }
     let not_next = "litefs: input refused: NotNext\n";
     let delta = encode_all(alloc, &[DELTA])?;
     expect(
-        &rt,
+        rt,
         alloc,
         &["apply"],
         delta.as_slice(),
@@ -101,7 +118,7 @@ fn refuses_what_makes_no_database(rt: HostRuntime) -> Result<(), Fail> {
     let mut longer = snapshot;
     longer.push(0)?;
     expect(
-        &rt,
+        rt,
         alloc,
         &["apply"],
         longer.as_slice(),
@@ -117,19 +134,11 @@ fn refuses_other_arguments(rt: HostRuntime) -> Result<(), Fail> {
     let snapshot = encode_all(alloc, &[SNAPSHOT])?;
     let line = "litefs: words refused\n";
     let input = snapshot.as_slice();
-    expect(&rt, alloc, &[], input, Status::WordsRefused, 0, line)?;
-    expect(&rt, alloc, &["Apply"], input, Status::WordsRefused, 0, line)?;
+    expect(rt, alloc, &[], input, Status::WordsRefused, 0, line)?;
+    expect(rt, alloc, &["Apply"], input, Status::WordsRefused, 0, line)?;
+    expect(rt, alloc, &["--help"], input, Status::WordsRefused, 0, line)?;
     expect(
-        &rt,
-        alloc,
-        &["--help"],
-        input,
-        Status::WordsRefused,
-        0,
-        line,
-    )?;
-    expect(
-        &rt,
+        rt,
         alloc,
         &["apply", "apply"],
         input,

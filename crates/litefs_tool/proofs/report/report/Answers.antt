@@ -7,6 +7,7 @@ use Rattle.litefs_tool.specs.declared.refusal.Refusal.TheVariants as refusal
 use Rattle.litefs_tool.specs.declared.compact_refusal.CompactRefusal.TheVariants as compaction
 use Rattle.litefs_tool.specs.declared.failure.Failure.{Failure}
 use Rattle.litefs_tool.specs.declared.failure.Failure.TheVariants as failure
+use Rattle.node_mount.specs.declared.mount_fault.MountFault.TheVariants as mount
 use Rattle.litefs_tool.proofs.report.report.Goals as goal
 
 -- the name is empty but where the line has it
@@ -19,6 +20,14 @@ line-of_failure (failure.Files refusal.NoMemory) = refl
 line-of_failure (failure.Files why) = refl
 line-of_failure (failure.Compaction compaction.NoMemory) = refl
 line-of_failure (failure.Compaction why) = refl
+line-of_failure (failure.Mount mount.Read) = refl
+line-of_failure (failure.Mount mount.Config) = refl
+line-of_failure (failure.Mount mount.Damaged) = refl
+line-of_failure (failure.Mount mount.Disk) = refl
+line-of_failure (failure.Mount mount.Network) = refl
+line-of_failure (failure.Mount mount.NoThread) = refl
+line-of_failure (failure.Mount mount.Limit) = refl
+line-of_failure (failure.Mount mount.NoMemory) = refl
 line-of_failure failure.Output = refl
 line-of_failure failure.NoMemory = refl
 

@@ -1,4 +1,5 @@
 use Rattle.node_settings.specs.declared.settings.Settings.{Settings}
+use Rattle.node_mount.proofs.BackLemmas.{none_back, none_found}
 use Rattle.node_mount.proofs.ConfigLemmas.{reads-on, counts-on, counts-why, raises-none}
 use Rattle.node_mount.proofs.mounting.mount.Goals as goal
 
@@ -10,3 +11,9 @@ returns-in-Ok-clause-cause g c = (counts-on _ _ c.mount_disk.result c.in-Ok.ensu
 
 pub returns-in-Err-clause-cause : goal.returns-in-Err-clause-cause
 returns-in-Err-clause-cause g c = (counts-why Settings (Unit {0}) _ _ c.in-Err.fault c.in-Err.ensures.cause, raises-none Settings (Unit {0}) _ c.in-Err.fault c.in-Err.ensures.kind)
+
+pub returns-in-Err-clause-back : goal.returns-in-Err-clause-back
+returns-in-Err-clause-back g c = none_back (Unit {0}) g.M.FileAccept.Acceptor.ended g.M.FileAccept.Acceptor.given (g.M.Maker.back c.args.make.now) Settings c.in-Err.fault c.in-Err.ensures.kind
+
+pub returns-in-Err-clause-damage : goal.returns-in-Err-clause-damage
+returns-in-Err-clause-damage g c = none_found (Unit {0}) _ _ _ (g.M.Maker.back c.args.make.now) Settings c.in-Err.fault c.in-Err.ensures.kind

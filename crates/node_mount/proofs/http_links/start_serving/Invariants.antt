@@ -1,0 +1,6 @@
+use Rattle.std.proofs.Common.{◌≡◌}
+use Rattle.node_mount.proofs.http_links.start_serving.Given as goal
+
+-- no start has failed so far
+abbrev pub invariant-loop : goal.invariant-loop
+invariant-loop g l = g.S.Spawner.faults l.spawner ≡ g.S.Spawner.faults l.fn.spawner
