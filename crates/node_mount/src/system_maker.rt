@@ -23,8 +23,8 @@ pub type SystemReturned<R> = Returned<DirDisk<R>, UnixAccept, TcpAccept, TcpDial
 /// How many objects that come back have a place.
 const PLACES: usize = 8;
 
-/// How long a nap takes, in milliseconds.
-const NAP_MS: u64 = 5;
+/// How long a nap takes, in milliseconds. Each follower that is level asks once a nap.
+const NAP_MS: u64 = 50;
 
 /// A maker of what a node runs on in the system: a folder below the working directory, listening
 /// sockets, threads and the time.
