@@ -11,7 +11,7 @@ use crate::opening::{open_place, open_recovered};
 use crate::place::Place;
 use crate::work::Work;
 use file_session::serve_seat;
-use lf_base::{Closing, FixedClock, MemDialer, MemLink, Name, NoPause, Text};
+use lf_base::{Closing, FixedClock, Handles, MemDialer, MemLink, Name, NoPause, Text};
 use lf_disk::MemDisk;
 use node_core::{Node, NodeConfig};
 use std::alloc::Global;
@@ -73,6 +73,25 @@ fn link(alloc: Global, input: Vec<u8>) -> Result<MemLink, Fail>
     )
 }
 
+fn serve_files<R: Handles + Copy>(
+    rt: R,
+    alloc: Global,
+    place: &mut Place<Node<MemDisk>>,
+    link: &mut MemLink,
+) {
+    let (mut clock, mut pause) = (FixedClock::new(7), NoPause::new());
+    serve_seat(
+        rt,
+        alloc,
+        &*place.desk,
+        &mut place.seat,
+        link,
+        &mut clock,
+        &mut pause,
+        100,
+    );
+}
+
 /// No link comes back to the job that dials, so it ends after the first.
 #[test]
 fn a_replica_has_what_its_primary_sent(rt: HostRuntime) -> Result<(), Fail> {
@@ -89,7 +108,7 @@ fn a_replica_has_what_its_primary_sent(rt: HostRuntime) -> Result<(), Fail> {
     let closing = Closing::new(alloc).ok().ok_or("a word")?;
     let mut place = replica(alloc)?;
     let seated = place.another(rt).ok_or("a seat")?;
-    let (mut clock, mut pause) = (FixedClock::new(7), NoPause::new());
+    let (clock, pause) = (FixedClock::new(7), NoPause::new());
     ours.close(&rt);
     dial_primary(rt, dialer(alloc, stream)?, address, pause, ours, closing, 2);
     let work = Streams {
@@ -101,16 +120,7 @@ fn a_replica_has_what_its_primary_sent(rt: HostRuntime) -> Result<(), Fail> {
     assert_eq!(rt; sent.as_slice(), REQUEST);
     let mut files = link(alloc, all_hex(alloc, &[OPEN, READ])?)?;
     let read = files.watch();
-    serve_seat(
-        rt,
-        alloc,
-        &*place.desk,
-        &mut place.seat,
-        &mut files,
-        &mut clock,
-        &mut pause,
-        100,
-    );
+    serve_files(rt, alloc, &mut place, &mut files);
     let read = read.bytes().ok().ok_or("memory")?;
     let wanted = all_hex(alloc, &[OPENED, POSITION])?;
     assert_eq!(rt; read.as_slice(), wanted.as_slice());
