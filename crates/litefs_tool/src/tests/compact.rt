@@ -3,6 +3,7 @@ use crate::tests::files::{DELTA, Fields, SNAPSHOT, TWO_PAGES, encode_all, file_s
 use crate::tests::runs::{arguments, expect, host};
 use crate::{compact_files, run};
 use lf_base::{SliceSource, Status, VecSink};
+use std::net::{TcpListener, TcpStream};
 use std::test::Fail;
 
 /// The file sum of what the snapshot and the delta become.
@@ -10,6 +11,7 @@ const FILE_SUM: u64 = 0x9e66_a912_50ad_8a38;
 
 #[test]
 fn a_snapshot_and_a_delta_become_one_file(rt: HostRuntime) -> Result<(), Fail> {
+    let _named: Option<(TcpListener, TcpStream)> = None;
     let alloc = rt.alloc();
     let input = encode_all(alloc, &[SNAPSHOT, DELTA])?;
     let arguments = arguments(alloc, &["compact"])?;
@@ -42,6 +44,7 @@ fn the_named_call_gives_the_same_bytes(rt: HostRuntime) -> Result<(), Fail> {
 
 #[test]
 fn refuses_what_does_not_become_one(rt: HostRuntime) -> Result<(), Fail> {
+    let _named: Option<(TcpListener, TcpStream)> = None;
     let alloc = rt.alloc();
     let other = Fields {
         post: TWO_PAGES ^ 1,

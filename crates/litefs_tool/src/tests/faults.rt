@@ -5,6 +5,7 @@ use crate::run;
 use crate::tests::files::{DELTA, SNAPSHOT, encode_all};
 use crate::tests::runs::{arguments, host};
 use lf_base::{Failed, Sink, SliceSource, Status, VecSink};
+use std::net::{TcpListener, TcpStream};
 use std::test::Fail;
 
 /// A sink that takes no more than 512 bytes a call.
@@ -68,6 +69,7 @@ const ROWS: [Row; 6] = [
 
 #[test]
 fn streams_that_fail(rt: HostRuntime) -> Result<(), Fail> {
+    let _named: Option<(TcpListener, TcpStream)> = None;
     let alloc = rt.alloc();
     let bytes = encode_all(alloc, &[SNAPSHOT, DELTA])?;
     let arguments = arguments(alloc, &["apply"])?;

@@ -4,6 +4,7 @@ ghost use Rattle.std.specs.Prelude.{None};
 use crate::run;
 use crate::tests::runs::{arguments, host};
 use lf_base::{Failed, Source, Status, VecSink};
+use std::net::{TcpListener, TcpStream};
 use std::test::Fail;
 
 /// So many bytes, whatever they are: those that stand in the buffer.
@@ -24,6 +25,7 @@ impl Source for Bytes {
 
 #[test]
 fn limit_of_the_input(rt: HostRuntime) -> Result<(), Fail> {
+    let _named: Option<(TcpListener, TcpStream)> = None;
     let alloc = rt.alloc();
     let arguments = arguments(alloc, &["apply"])?;
     for (length, status, line) in [

@@ -2,6 +2,7 @@
 use crate::tests::runs::{arguments, empty_maker};
 use crate::{Host, run};
 use lf_base::{SliceSource, Status, VecSink};
+use std::net::{TcpListener, TcpStream};
 use std::test::Fail;
 
 const SETTINGS: &[u8] = b"database = \"app\"
@@ -33,6 +34,7 @@ const NEVER: u64 = 999;
 
 #[test]
 fn nodes_that_do_not_start(rt: HostRuntime) -> Result<(), Fail> {
+    let _named: Option<(TcpListener, TcpStream)> = None;
     let alloc = rt.alloc();
     let arguments = arguments(alloc, &["mount"])?;
     for (config, failing, status, line) in ROWS {

@@ -3,6 +3,7 @@ use crate::run;
 use crate::tests::files::{DELTA, Fields, append, encode_all};
 use crate::tests::runs::{arguments, host};
 use lf_base::{SliceSource, Status, VecSink};
+use std::net::{TcpListener, TcpStream};
 use std::test::Fail;
 
 /// The sums of databases of one page of 65,536 zeros, of two, and of three.
@@ -49,6 +50,7 @@ const WRITES: [(u64, Status, usize); 3] = [
 
 #[test]
 fn pages_are_written_in_two_pieces(rt: HostRuntime) -> Result<(), Fail> {
+    let _named: Option<(TcpListener, TcpStream)> = None;
     let alloc = rt.alloc();
     let input = encode_all(alloc, &FILES)?;
     let arguments = arguments(alloc, &["apply"])?;
@@ -68,6 +70,7 @@ fn pages_are_written_in_two_pieces(rt: HostRuntime) -> Result<(), Fail> {
 
 #[test]
 fn becomes_one_file(rt: HostRuntime) -> Result<(), Fail> {
+    let _named: Option<(TcpListener, TcpStream)> = None;
     let alloc = rt.alloc();
     let input = encode_all(alloc, &FILES)?;
     let arguments = arguments(alloc, &["compact"])?;
@@ -90,6 +93,7 @@ fn becomes_one_file(rt: HostRuntime) -> Result<(), Fail> {
 
 #[test]
 fn the_source_fails_after_a_refusal(rt: HostRuntime) -> Result<(), Fail> {
+    let _named: Option<(TcpListener, TcpStream)> = None;
     let alloc = rt.alloc();
     let mut input = encode_all(alloc, &[DELTA])?;
     for fields in FILES {

@@ -4,6 +4,7 @@ use crate::{Host, run};
 use lf_base::{FixedClock, Handles, NoMemory, SliceSource, Status, Text, VecSink};
 use node_mount::MemMaker;
 use std::alloc::Global;
+use std::net::{TcpListener, TcpStream};
 use std::process::Abort;
 use std::test::Fail;
 
@@ -78,6 +79,7 @@ pub(super) fn expect<R: Abort + Handles + Copy + Send + 'static>(
 
 #[test]
 fn applies_files_one_after_another(rt: HostRuntime) -> Result<(), Fail> {
+    let _named: Option<(TcpListener, TcpStream)> = None;
     let alloc = rt.alloc();
     let snapshot = encode_all(alloc, &[SNAPSHOT])?;
     expect(
@@ -97,6 +99,7 @@ fn applies_files_one_after_another(rt: HostRuntime) -> Result<(), Fail> {
 
 #[test]
 fn refuses_what_makes_no_database(rt: HostRuntime) -> Result<(), Fail> {
+    let _named: Option<(TcpListener, TcpStream)> = None;
     let alloc = rt.alloc();
     let snapshot = encode_all(alloc, &[SNAPSHOT])?;
     let short = "litefs: input refused: Short\n";
@@ -130,6 +133,7 @@ fn refuses_what_makes_no_database(rt: HostRuntime) -> Result<(), Fail> {
 
 #[test]
 fn refuses_other_arguments(rt: HostRuntime) -> Result<(), Fail> {
+    let _named: Option<(TcpListener, TcpStream)> = None;
     let alloc = rt.alloc();
     let snapshot = encode_all(alloc, &[SNAPSHOT])?;
     let line = "litefs: words refused\n";
