@@ -41,42 +41,42 @@ chosen false true zeros image_page file_page None old latest held past kept = ke
 chosen false false zeros image_page file_page new old latest held past kept = rw (past refl refl) refl
 
 -- what the log writes at a page
-newest-is : (text : List ℕ) (first commit n : ℕ) →
-    newest_page text first commit n
-    ≡ (if n == lock_page_of (page_size_in text) then None
-    else if nat_le n commit then option_map (page_in text) (latest_frame text n first (committed_count text)) else latest_page text n)
-newest-is text first commit n = by (n == lock_page_of (page_size_in text)) (nat_le n commit) where
+newest-is : (contents : List ℕ) (first commit n : ℕ) →
+    newest_page contents first commit n
+    ≡ (if n == lock_page_of (page_size_in contents) then None
+    else if nat_le n commit then option_map (page_in contents) (latest_frame contents n first (committed_count contents)) else latest_page contents n)
+newest-is contents first commit n = by (n == lock_page_of (page_size_in contents)) (nat_le n commit) where
   by : (lock within : Bool) →
-      option_map (page_in text) (if lock then None else latest_frame text n (if within then first else 0) (committed_count text))
-      ≡ (if lock then None else if within then option_map (page_in text) (latest_frame text n first (committed_count text)) else latest_page text n)
+      option_map (page_in contents) (if lock then None else latest_frame contents n (if within then first else 0) (committed_count contents))
+      ≡ (if lock then None else if within then option_map (page_in contents) (latest_frame contents n first (committed_count contents)) else latest_page contents n)
   by true within = refl
   by false true = refl
   by false false = refl
 
 -- where each page of the image that no new frame holds is there already, the file under the log's pages is the file under the log
-under-is : (file : DatabaseFile) (image : DatabaseImage) (text : List ℕ) (first : ℕ) → 0 < committed_count text →
-    ((n : ℕ) → 1 ≤ n → n ≤ length image.pages → n ≢ lock_page_of (page_size_in text) → latest_frame text n first (committed_count text) ≡ None →
-    page_or_zeros image (page_size_in text) n ≡ page_over (as_read file image) text n) →
-    under_log file image (log_news text first (length image.pages)) ≡ over (as_read file image) text
-under-is file image text first some kept =
-    let news : PageChange = log_news text first (length image.pages) in
-    let size : ℕ = page_size_in text in
+under-is : (file : DatabaseFile) (image : DatabaseImage) (contents : List ℕ) (first : ℕ) → 0 < committed_count contents →
+    ((n : ℕ) → 1 ≤ n → n ≤ length image.pages → n ≢ lock_page_of (page_size_in contents) → latest_frame contents n first (committed_count contents) ≡ None →
+    page_or_zeros image (page_size_in contents) n ≡ page_over (as_read file image) contents n) →
+    under_log file image (log_news contents first (length image.pages)) ≡ over (as_read file image) contents
+under-is file image contents first some kept =
+    let news : PageChange = log_news contents first (length image.pages) in
+    let size : ℕ = page_size_in contents in
     ap (λ (ps : List (List ℕ)). record { page_size = size; pages = ps })
-    (same-pages (page_under file image news) (page_over (as_read file image) text) (last_size text)
+    (same-pages (page_under file image news) (page_over (as_read file image) contents) (last_size contents)
     (λ n low high.
     ap (λ (o : Option (List ℕ)). if n == lock_page_of size then replicate size 0
     else unwrap_or o (if nat_le n (length image.pages) then page_or_zeros image size n else page_or_zeros (as_read file image) size n))
-    (written-writes_of (newest_page text first (length image.pages)) (last_size text) n low high ∙ newest-is text first (length image.pages) n)
+    (written-writes_of (newest_page contents first (length image.pages)) (last_size contents) n low high ∙ newest-is contents first (length image.pages) n)
     ∙ chosen (n == lock_page_of size) (nat_le n (length image.pages)) (replicate size 0) (page_or_zeros image size n) (page_or_zeros (as_read file image) size n)
-    (option_map (page_in text) (latest_frame text n first (committed_count text))) (latest_page text n) (latest_page text n)
-    (λ page is. latest_new text n first page is)
+    (option_map (page_in contents) (latest_frame contents n first (committed_count contents))) (latest_page contents n) (latest_page contents n)
+    (λ page is. latest_new contents n first page is)
     (λ data_page past. refl)
     (λ data_page within none.
     let other : n ≢ lock_page_of size = λ is. let on = eq-eqb n (lock_page_of size) is in cc (on, data_page) in
     let inside : n ≤ length image.pages = grind (arith, nat_tests) in
-    kept n low inside other (no_frame text (latest_frame text n first (committed_count text)) none)
-    ∙ cond-false (n == lock_page_of size) (replicate size 0) (unwrap_or (latest_page text n) (page_or_zeros (as_read file image) size n)) data_page)))
-    ∙ sym (over_some (as_read file image) text some)
+    kept n low inside other (no_frame contents (latest_frame contents n first (committed_count contents)) none)
+    ∙ cond-false (n == lock_page_of size) (replicate size 0) (unwrap_or (latest_page contents n) (page_or_zeros (as_read file image) size n)) data_page)))
+    ∙ sym (over_some (as_read file image) contents some)
 
 -- the log goes on over committed frames
 goes-on : (file : DatabaseFile) (image : DatabaseImage) (old new : List ℕ) → 0 < committed_count old → committed_count old ≤ committed_count new → HasSameFrames old new →

@@ -21,7 +21,7 @@ page_same : (old new : List ℕ) (frame : Option ℕ) (n : ℕ) → ((k : ℕ) �
 page_same old new None n among same = refl
 page_same old new (Some k) n among same = ap Some (same k (among k refl))
 
--- a page that no new frame holds is as under the old text
+-- a page that no new frame holds is as under the old contents
 pub latest_kept : (old new : List ℕ) (page : ℕ) → committed_count old ≤ committed_count new → HasSameFrames old new →
     latest_frame new page (committed_count old) (committed_count new) ≡ None → latest_page new page ≡ latest_page old page
 latest_kept old new page grows frames none =
@@ -33,16 +33,16 @@ latest_kept old new page grows frames none =
     ∙ page_same old new (latest_frame old page 0 count) count (λ k is. latest_among old page 0 count k is) (λ k less. (frames k less).page)
 
 -- the page of the latest new frame is the latest of all
-pub latest_new : (text : List ℕ) (page first : ℕ) (bytes : List ℕ) → option_map (page_in text) (latest_frame text page first (committed_count text)) ≡ Some bytes →
-    latest_page text page ≡ Some bytes
-latest_new text page first bytes is = looked (latest_frame text page first (committed_count text)) refl is where
-  looked : (o : Option ℕ) → latest_frame text page first (committed_count text) ≡ o → option_map (page_in text) o ≡ Some bytes → latest_page text page ≡ Some bytes
+pub latest_new : (contents : List ℕ) (page first : ℕ) (bytes : List ℕ) → option_map (page_in contents) (latest_frame contents page first (committed_count contents)) ≡ Some bytes →
+    latest_page contents page ≡ Some bytes
+latest_new contents page first bytes is = looked (latest_frame contents page first (committed_count contents)) refl is where
+  looked : (o : Option ℕ) → latest_frame contents page first (committed_count contents) ≡ o → option_map (page_in contents) o ≡ Some bytes → latest_page contents page ≡ Some bytes
   looked None e own = absurd cc
-  looked (Some k) e own = ap (λ (f : Option ℕ). option_map (page_in text) f) (split_some text page first (committed_count text) k e) ∙ own
+  looked (Some k) e own = ap (λ (f : Option ℕ). option_map (page_in contents) f) (split_some contents page first (committed_count contents) k e) ∙ own
 
-pub no_frame : (text : List ℕ) (o : Option ℕ) → option_map (page_in text) o ≡ None → o ≡ None
-no_frame text None h = refl
-no_frame text (Some k) h = absurd cc
+pub no_frame : (contents : List ℕ) (o : Option ℕ) → option_map (page_in contents) o ≡ None → o ≡ None
+no_frame contents None h = refl
+no_frame contents (Some k) h = absurd cc
 
 -- bytes that don't differ are the same
 pub kept_bytes : (xs ys : List ℕ) → (xs ≢ ys → ⊥) → xs ≡ ys

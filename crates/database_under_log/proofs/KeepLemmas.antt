@@ -30,27 +30,27 @@ use Rattle.database_under_log.proofs.FrameLemmas.{latest_kept}
 use Rattle.database_under_log.proofs.OverLemmas.{over_none, over_some, over-same, made-at, made-past, past-zeros}
 
 -- a file that is the image goes under any log without committed frames
-pub clean-agrees : (file : DatabaseFile) (image : DatabaseImage) (text : List ℕ) → committed_count text ≡ 0 → is_clean file ≡ true → Agrees file image text
-clean-agrees file image text none clean = ap (λ (i : DatabaseImage). i.pages) (over_none (as_read file image) text none) ∙ same-of_clean file image clean
+pub clean-agrees : (file : DatabaseFile) (image : DatabaseImage) (contents : List ℕ) → committed_count contents ≡ 0 → is_clean file ≡ true → Agrees file image contents
+clean-agrees file image contents none clean = ap (λ (i : DatabaseImage). i.pages) (over_none (as_read file image) contents none) ∙ same-of_clean file image clean
 
-pub agrees-same : (file : DatabaseFile) (image : DatabaseImage) (text : List ℕ) → committed_count text ≡ 0 → Agrees file image text → SameImage (as_read file image) image
-agrees-same file image text none agrees = sym (ap (λ (i : DatabaseImage). i.pages) (over_none (as_read file image) text none)) ∙ agrees
+pub agrees-same : (file : DatabaseFile) (image : DatabaseImage) (contents : List ℕ) → committed_count contents ≡ 0 → Agrees file image contents → SameImage (as_read file image) image
+agrees-same file image contents none agrees = sym (ap (λ (i : DatabaseImage). i.pages) (over_none (as_read file image) contents none)) ∙ agrees
 
 pub empty_none : committed_count [] ≡ 0
 empty_none = short_none [] (omega arith)
 
 -- a log that goes on and commits nothing
-pub text-keeps : (file : DatabaseImage) (old new : List ℕ) → take (committed_end old) new ≡ take (committed_end old) old → committed_count new ≡ committed_count old →
+pub contents-keeps : (file : DatabaseImage) (old new : List ℕ) → take (committed_end old) new ≡ take (committed_end old) old → committed_count new ≡ committed_count old →
     over file new ≡ over file old
-text-keeps file old new same count = elim (cases_eq (committed_count old) 0) [
+contents-keeps file old new same count = elim (cases_eq (committed_count old) 0) [
   | inl none ↦ over_none file new (count ∙ none) ∙ sym (over_none file old none)
   | inr some ↦
       let more : 0 < committed_count old = omega (arith, some) in
       let many : 0 < committed_count new = omega (arith, more, count) in
       let frames : HasSameFrames old new = keeps_frames old new same in
       let size : page_size_in new ≡ page_size_in old = keeps_size old new same more in
-      let own : (text : List ℕ) → 0 < committed_count text → last_size text ≡ size_in text (committed_count text - 1) =
-      λ text there. let test : (committed_count text == 0) ≡ false = grind (arith, nat_tests) in cond-false _ _ _ test in
+      let own : (contents : List ℕ) → 0 < committed_count contents → last_size contents ≡ size_in contents (committed_count contents - 1) =
+      λ contents there. let test : (committed_count contents == 0) ≡ false = grind (arith, nat_tests) in cond-false _ _ _ test in
       let last : last_size new ≡ last_size old =
       own new many ∙ ap (λ (k : ℕ). size_in new (k - 1)) count ∙ (frames (committed_count old - 1) (omega (arith, more))).size ∙ sym (own old more) in
       over_some file new many
@@ -78,7 +78,7 @@ stored-keeps old new file image kept none clean agrees = elim (cases_lt (first_n
     | inl head ↦
         let same = kept head in
         let count : committed_count new ≡ committed_count old = omega (arith, keeps_count old new same, fewer, first_same old new head) in
-        ap (λ (i : DatabaseImage). i.pages) (text-keeps (as_read file image) old new same count) ∙ agrees
+        ap (λ (i : DatabaseImage). i.pages) (contents-keeps (as_read file image) old new same count) ∙ agrees
     | inr other ↦
         let none : committed_count new ≡ 0 = omega (arith, fewer, first_other old new (inl other)) in
         clean-agrees file image new none (clean other)
@@ -90,41 +90,41 @@ stored-keeps old new file image kept none clean agrees = elim (cases_lt (first_n
     ]
 
 -- a cut of the log
-pub cut-keeps : (text : List ℕ) (len : ℕ) (file : DatabaseFile) (image : DatabaseImage) → IsSoundCut text len → (len ≡ 0 → 0 < committed_count text → is_clean file ≡ true) →
-    Agrees file image text → Agrees file image (resized len text)
-cut-keeps text len file image sound clean agrees = elim (cases_eq (committed_count text) 0) [
+pub cut-keeps : (contents : List ℕ) (len : ℕ) (file : DatabaseFile) (image : DatabaseImage) → IsSoundCut contents len → (len ≡ 0 → 0 < committed_count contents → is_clean file ≡ true) →
+    Agrees file image contents → Agrees file image (resized len contents)
+cut-keeps contents len file image sound clean agrees = elim (cases_eq (committed_count contents) 0) [
   | inl none ↦
-      let count : committed_count (resized len text) ≡ 0 = elim (cases_lt (committed_count text) (committed_count (resized len text))) [
+      let count : committed_count (resized len contents) ≡ 0 = elim (cases_lt (committed_count contents) (committed_count (resized len contents))) [
         | inl more ↦ absurd (sound.part (inr more))
         | inr fewer ↦ omega (arith, fewer, none)
       ] in
-      ap (λ (i : DatabaseImage). i.pages) (over_none (as_read file image) (resized len text) count) ∙ agrees-same file image text none agrees
+      ap (λ (i : DatabaseImage). i.pages) (over_none (as_read file image) (resized len contents) count) ∙ agrees-same file image contents none agrees
   | inr some ↦ elim (cases_eq len 0) [
-    | inl nothing ↦ clean-agrees file image (resized len text) (nothing_left text len nothing) (clean nothing (omega (arith, some)))
-    | inr rest ↦ elim (cases_lt len (committed_end text)) [
+    | inl nothing ↦ clean-agrees file image (resized len contents) (nothing_left contents len nothing) (clean nothing (omega (arith, some)))
+    | inr rest ↦ elim (cases_lt len (committed_end contents)) [
       | inl short ↦ absurd (sound.part (inl (rest, short)))
       | inr long ↦
-          let more : 0 < committed_count text = omega (arith, some) in
-          let place : committed_end text ≡ frame_place text (committed_count text) = let test : (committed_count text == 0) ≡ false = grind (arith, nat_tests) in cond-false _ _ _ test in
-          let there : committed_end text ≤ length text = omega (arith, place, (has_committed text (committed_count text) refl more).room) in
-          let same : take (committed_end text) (resized len text) ≡ take (committed_end text) text = take-resized text (committed_end text) len long there in
-          let fewer : committed_count (resized len text) ≤ committed_count text = elim (cases_lt (committed_count text) (committed_count (resized len text))) [
+          let more : 0 < committed_count contents = omega (arith, some) in
+          let place : committed_end contents ≡ frame_place contents (committed_count contents) = let test : (committed_count contents == 0) ≡ false = grind (arith, nat_tests) in cond-false _ _ _ test in
+          let there : committed_end contents ≤ length contents = omega (arith, place, (has_committed contents (committed_count contents) refl more).room) in
+          let same : take (committed_end contents) (resized len contents) ≡ take (committed_end contents) contents = take-resized contents (committed_end contents) len long there in
+          let fewer : committed_count (resized len contents) ≤ committed_count contents = elim (cases_lt (committed_count contents) (committed_count (resized len contents))) [
             | inl up ↦ absurd (sound.part (inr up))
             | inr down ↦ down
           ] in
-          ap (λ (i : DatabaseImage). i.pages) (text-keeps (as_read file image) text (resized len text) same (omega (arith, fewer, keeps_count text (resized len text) same))) ∙ agrees
+          ap (λ (i : DatabaseImage). i.pages) (contents-keeps (as_read file image) contents (resized len contents) same (omega (arith, fewer, keeps_count contents (resized len contents) same))) ∙ agrees
     ]
   ]
 ] where
-  nothing_left : (text : List ℕ) (len : ℕ) → len ≡ 0 → committed_count (resized len text) ≡ 0
-  nothing_left text len nothing = short_none (resized len text) (omega (arith, nothing, length-resized len text))
+  nothing_left : (contents : List ℕ) (len : ℕ) → len ≡ 0 → committed_count (resized len contents) ≡ 0
+  nothing_left contents len nothing = short_none (resized len contents) (omega (arith, nothing, length-resized len contents))
 
 -- a resize to the last commit's size
-pub resize-keeps : (text : List ℕ) (file : DatabaseImage) → 0 < committed_count text → over (sized file (page_size_in text) (last_size text)) text ≡ over file text
-resize-keeps text file some =
-    over-same file (sized file (page_size_in text) (last_size text)) text some
-    (λ n low high none. ap (λ (o : Option (List ℕ)). unwrap_or o (replicate (page_size_in text) 0))
-    (made-at (page_or_zeros file (page_size_in text)) (page_size_in text) (last_size text) n low high))
+pub resize-keeps : (contents : List ℕ) (file : DatabaseImage) → 0 < committed_count contents → over (sized file (page_size_in contents) (last_size contents)) contents ≡ over file contents
+resize-keeps contents file some =
+    over-same file (sized file (page_size_in contents) (last_size contents)) contents some
+    (λ n low high none. ap (λ (o : Option (List ℕ)). unwrap_or o (replicate (page_size_in contents) 0))
+    (made-at (page_or_zeros file (page_size_in contents)) (page_size_in contents) (last_size contents) n low high))
 
 off-pages : (file : DatabaseImage) (size first n : ℕ) (bytes : List ℕ) → (first ≤ n → n < first + length bytes / size → ⊥) → page_written file size first bytes n ≡ page_or_zeros file size n
 off-pages file size first n bytes off = elim (cases_lt n first) [
@@ -136,17 +136,17 @@ off-pages file size first n bytes off = elim (cases_lt n first) [
 ]
 
 -- a write of pages that committed frames hold
-pub frames-keep : (text bytes : List ℕ) (first : ℕ) (file : DatabaseImage) → AreFrames text first bytes → over (with_pages file (page_size_in text) first bytes) text ≡ over file text
-frames-keep text bytes first file are =
-    let size : ℕ = page_size_in text in
+pub frames-keep : (contents bytes : List ℕ) (first : ℕ) (file : DatabaseImage) → AreFrames contents first bytes → over (with_pages file (page_size_in contents) first bytes) contents ≡ over file contents
+frames-keep contents bytes first file are =
+    let size : ℕ = page_size_in contents in
     let count : ℕ = max (length file.pages) (first + length bytes / size - 1) in
     let one = are.frames 0 (omega (arith, are.some)) in
-    over-same file (with_pages file size first bytes) text (omega (arith, one.1.among))
+    over-same file (with_pages file size first bytes) contents (omega (arith, one.1.among))
     (λ n low high none.
     let off : first ≤ n → n < first + length bytes / size → ⊥ = λ from within.
     let held = are.frames (n - first) (omega (arith, from, within)) in
     let number : first + (n - first) ≡ n = omega (arith, from) in
-    latest_absent text n 0 (committed_count text) held.0 none (omega arith) held.1.among (held.1.number ∙ number) in
+    latest_absent contents n 0 (committed_count contents) held.0 none (omega arith) held.1.among (held.1.number ∙ number) in
     elim (cases_lt count n) [
       | inl past ↦ ap (λ (o : Option (List ℕ)). unwrap_or o (replicate size 0)) (made-past (page_written file size first bytes) size count n past) ∙ sym (past-zeros file size n (omega (arith, past)))
       | inr within ↦

@@ -16,65 +16,65 @@ use Rattle.database_under_log.specs.LogChangeParts.{joined_page, joined}
 use Rattle.lf_sqlite_pages.specs.declared.page_write.PageWrite.{PageWrite}
 
 -- within the image and past it
-pub newest-within : (text : List ℕ) (first commit n : ℕ) → n ≤ commit → newest_page text first commit n ≡ changed_page text first (committed_count text) n
-newest-within text first commit n within =
+pub newest-within : (contents : List ℕ) (first commit n : ℕ) → n ≤ commit → newest_page contents first commit n ≡ changed_page contents first (committed_count contents) n
+newest-within contents first commit n within =
     let test : nat_le n commit ≡ true = grind (arith, nat_tests) in
-    ap (λ (b : Bool). changed_page text (if b then first else 0) (committed_count text) n) test
+    ap (λ (b : Bool). changed_page contents (if b then first else 0) (committed_count contents) n) test
 
-newest-past : (text : List ℕ) (first commit n : ℕ) → commit < n → changed_page text 0 (committed_count text) n ≡ newest_page text first commit n
-newest-past text first commit n past =
+newest-past : (contents : List ℕ) (first commit n : ℕ) → commit < n → changed_page contents 0 (committed_count contents) n ≡ newest_page contents first commit n
+newest-past contents first commit n past =
     let test : nat_le n commit ≡ false = grind (arith, nat_tests) in
-    sym (ap (λ (b : Bool). changed_page text (if b then first else 0) (committed_count text) n) test)
+    sym (ap (λ (b : Bool). changed_page contents (if b then first else 0) (committed_count contents) n) test)
 
-pub last-is : (text : List ℕ) → 0 < committed_count text → last_size text ≡ size_in text (committed_count text - 1)
-last-is text some =
-    let test : (committed_count text == 0) ≡ false = grind (arith, nat_tests) in
+pub last-is : (contents : List ℕ) → 0 < committed_count contents → last_size contents ≡ size_in contents (committed_count contents - 1)
+last-is contents some =
+    let test : (committed_count contents == 0) ≡ false = grind (arith, nat_tests) in
     cond-false _ _ _ test
 
 -- the pages of the news
-pub news-written : (text : List ℕ) (first n : ℕ) (news : PageChange) → 0 < committed_count text → news ≡ change_of text first (committed_count text) → 1 ≤ n → n ≤ last_size text →
-    written news.pages n ≡ changed_page text first (committed_count text) n
-news-written text first n news some is low high =
+pub news-written : (contents : List ℕ) (first n : ℕ) (news : PageChange) → 0 < committed_count contents → news ≡ change_of contents first (committed_count contents) → 1 ≤ n → n ≤ last_size contents →
+    written news.pages n ≡ changed_page contents first (committed_count contents) n
+news-written contents first n news some is low high =
     ap (λ (c : PageChange). written c.pages n) is
-    ∙ ap (λ ws. written ws n) (latest-writes text first (committed_count text) (size_in text (committed_count text - 1)))
-    ∙ written-writes_of (changed_page text first (committed_count text)) (size_in text (committed_count text - 1)) n low (omega (arith, high, last-is text some))
+    ∙ ap (λ ws. written ws n) (latest-writes contents first (committed_count contents) (size_in contents (committed_count contents - 1)))
+    ∙ written-writes_of (changed_page contents first (committed_count contents)) (size_in contents (committed_count contents - 1)) n low (omega (arith, high, last-is contents some))
 
 -- news that grow the image by nothing are what the log writes
-pub news-same : (text : List ℕ) (first commit : ℕ) (news : PageChange) → 0 < committed_count text → news.commit ≡ last_size text → news.commit ≤ commit →
-    news ≡ change_of text first (committed_count text) → news ≡ log_news text first commit
-news-same text first commit news some count few is =
-    let last = last-is text some in
-    same_change news (page_size_in text) (last_size text) (writes_of (newest_page text first commit) (last_size text))
+pub news-same : (contents : List ℕ) (first commit : ℕ) (news : PageChange) → 0 < committed_count contents → news.commit ≡ last_size contents → news.commit ≤ commit →
+    news ≡ change_of contents first (committed_count contents) → news ≡ log_news contents first commit
+news-same contents first commit news some count few is =
+    let last = last-is contents some in
+    same_change news (page_size_in contents) (last_size contents) (writes_of (newest_page contents first commit) (last_size contents))
     (ap (λ (c : PageChange). c.page_size) is) count
     (ap (λ (c : PageChange). c.pages) is
-    ∙ latest-writes text first (committed_count text) (size_in text (committed_count text - 1))
-    ∙ ap (λ (c : ℕ). writes_of (changed_page text first (committed_count text)) c) (sym last)
-    ∙ writes_of-same (changed_page text first (committed_count text)) (newest_page text first commit) (last_size text)
-    (λ n low high. sym (newest-within text first commit n (omega (arith, high, few, count)))))
+    ∙ latest-writes contents first (committed_count contents) (size_in contents (committed_count contents - 1))
+    ∙ ap (λ (c : ℕ). writes_of (changed_page contents first (committed_count contents)) c) (sym last)
+    ∙ writes_of-same (changed_page contents first (committed_count contents)) (newest_page contents first commit) (last_size contents)
+    (λ n low high. sym (newest-within contents first commit n (omega (arith, high, few, count)))))
 
 -- the writes within a count of pages, and the log past it
-pub joined-start : (ws : List PageWrite) (text : List ℕ) (count : ℕ) (writes : List PageWrite) → WritesTo (written ws) count writes → WritesTo (joined_page ws text count) count writes
-joined-start ws text count writes kept n = kept n ∙ either (nat_le n count) where
-  either : (b : Bool) → (if b then written ws n else None) ≡ (if b then (if b then written ws n else changed_page text 0 (committed_count text) n) else None)
+pub joined-start : (ws : List PageWrite) (contents : List ℕ) (count : ℕ) (writes : List PageWrite) → WritesTo (written ws) count writes → WritesTo (joined_page ws contents count) count writes
+joined-start ws contents count writes kept n = kept n ∙ either (nat_le n count) where
+  either : (b : Bool) → (if b then written ws n else None) ≡ (if b then (if b then written ws n else changed_page contents 0 (committed_count contents) n) else None)
   either true = refl
   either false = refl
 
-pub joined-past : (ws : List PageWrite) (text : List ℕ) (count n : ℕ) → count < n → changed_page text 0 (committed_count text) n ≡ joined_page ws text count n
-joined-past ws text count n past =
+pub joined-past : (ws : List PageWrite) (contents : List ℕ) (count n : ℕ) → count < n → changed_page contents 0 (committed_count contents) n ≡ joined_page ws contents count n
+joined-past ws contents count n past =
     let test : nat_le n count ≡ false = grind (arith, nat_tests) in
-    sym (cond-false (nat_le n count) (written ws n) (changed_page text 0 (committed_count text) n) test)
+    sym (cond-false (nat_le n count) (written ws n) (changed_page contents 0 (committed_count contents) n) test)
 
-joined-within : (ws : List PageWrite) (text : List ℕ) (count n : ℕ) → n ≤ count → joined_page ws text count n ≡ written ws n
-joined-within ws text count n within =
+joined-within : (ws : List PageWrite) (contents : List ℕ) (count n : ℕ) → n ≤ count → joined_page ws contents count n ≡ written ws n
+joined-within ws contents count n within =
     let test : nat_le n count ≡ true = grind (arith, nat_tests) in
-    cond-true (nat_le n count) (written ws n) (changed_page text 0 (committed_count text) n) test
+    cond-true (nat_le n count) (written ws n) (changed_page contents 0 (committed_count contents) n) test
 
-pub joined-news : (text : List ℕ) (first commit : ℕ) (news : PageChange) → 0 < committed_count text → news ≡ change_of text first (committed_count text) →
-    joined news.pages text commit ≡ log_news text first commit
-joined-news text first commit news some is =
-    ap (λ (ws : List PageWrite). record { page_size = page_size_in text; commit = last_size text; pages = ws })
-    (writes_of-same (joined_page news.pages text commit) (newest_page text first commit) (last_size text)
+pub joined-news : (contents : List ℕ) (first commit : ℕ) (news : PageChange) → 0 < committed_count contents → news ≡ change_of contents first (committed_count contents) →
+    joined news.pages contents commit ≡ log_news contents first commit
+joined-news contents first commit news some is =
+    ap (λ (ws : List PageWrite). record { page_size = page_size_in contents; commit = last_size contents; pages = ws })
+    (writes_of-same (joined_page news.pages contents commit) (newest_page contents first commit) (last_size contents)
     (λ n low high. elim (cases_lt commit n) [
-      | inl past ↦ sym (joined-past news.pages text commit n past) ∙ newest-past text first commit n past
-      | inr within ↦ joined-within news.pages text commit n within ∙ news-written text first n news some is low high ∙ sym (newest-within text first commit n within)
+      | inl past ↦ sym (joined-past news.pages contents commit n past) ∙ newest-past contents first commit n past
+      | inr within ↦ joined-within news.pages contents commit n within ∙ news-written contents first n news some is low high ∙ sym (newest-within contents first commit n within)
     ]))

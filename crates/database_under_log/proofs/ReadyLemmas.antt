@@ -142,9 +142,9 @@ news-facts old new news is = elim (cases_Bool (nat_lt (first_new old new) (commi
   | inr off ↦ absurd (let none = is ∙ cond-false (nat_lt (first_new old new) (committed_count new)) (Some (change_of new (first_new old new) (committed_count new))) None off in cc)
 ]
 
-pub follows-clean : (file : DatabaseFile) (page_size commit : ℕ) (text : List ℕ) → FollowsLog file page_size commit text → commit ≡ 0 → count_over file commit ≡ 0
-follows-clean file page_size commit text follows none = elim (cases_eq (committed_count text) 0) [
-  | inr some ↦ absurd (let more : 0 < committed_count text = omega (arith, some) in omega (arith, none, follows.commit_is more, last_some text more))
+pub follows-clean : (file : DatabaseFile) (page_size commit : ℕ) (contents : List ℕ) → FollowsLog file page_size commit contents → commit ≡ 0 → count_over file commit ≡ 0
+follows-clean file page_size commit contents follows none = elim (cases_eq (committed_count contents) 0) [
+  | inr some ↦ absurd (let more : 0 < committed_count contents = omega (arith, some) in omega (arith, none, follows.commit_is more, last_some contents more))
   | inl empty ↦
       let parts = and_parts (pages.len file.kept == 0) (is_none file.count) (follows.clean empty) in
       no_count file.count parts.1 ∙ none

@@ -13,18 +13,18 @@ use Rattle.database_under_log.specs.declared.fault.LogWriteFault.TheVariants.{Lo
 abbrev pub wanted_size : ℕ → ℕ → ℕ
 wanted_size page_size commit = if commit == 0 then 0 else page_size
 
--- the step from one text to another commits a database past the limit
+-- the step from one contents to another commits a database past the limit
 pub record CommitsTooMany (old new : List ℕ) : Type 0 where
   pub commits : first_new old new < committed_count new
   pub many : IsWithinLimit (page_size_in new) (last_size new) → ⊥
 
 -- the log refuses the write; nothing stands against it but the size of what it commits; or the file's own cause
 abbrev pub HasWriteCause : List ℕ → ℕ → ℕ → List ℕ → ℕ → ℕ → LogWriteFault → Type 0
-HasWriteCause text page_size at bytes before after (Log fault) = IsWriteFault text page_size at bytes fault
-HasWriteCause text page_size at bytes before after TooManyPages = IsSoundWrite text page_size at bytes × CommitsTooMany text (written at bytes text)
-HasWriteCause text page_size at bytes before after (File fault) = HasCause before after fault
+HasWriteCause contents page_size at bytes before after (Log fault) = IsWriteFault contents page_size at bytes fault
+HasWriteCause contents page_size at bytes before after TooManyPages = IsSoundWrite contents page_size at bytes × CommitsTooMany contents (written at bytes contents)
+HasWriteCause contents page_size at bytes before after (File fault) = HasCause before after fault
 
--- the same once the log has the new text, for what is left to fail
+-- the same once the log has the new contents, for what is left to fail
 abbrev pub HasCommitCause : List ℕ → ℕ → ℕ → LogWriteFault → Type 0
 HasCommitCause new before after (Log fault) = ⊥
 HasCommitCause new before after TooManyPages = IsWithinLimit (page_size_in new) (last_size new) → ⊥

@@ -8,11 +8,11 @@ use Rattle.wal_watch.specs.News.{last_size, changed_page}
 
 -- page n of some writes up to a count of pages, and of the log past it
 abbrev pub joined_page : List PageWrite → List ℕ → ℕ → ℕ → Option (List ℕ)
-joined_page writes text count n = if nat_le n count then written writes n else changed_page text 0 (committed_count text) n
+joined_page writes contents count n = if nat_le n count then written writes n else changed_page contents 0 (committed_count contents) n
 
 abbrev pub joined : List PageWrite → List ℕ → ℕ → PageChange
-joined writes text count = record {
-  page_size = page_size_in text;
-  commit = last_size text;
-  pages = writes_of (joined_page writes text count) (last_size text);
+joined writes contents count = record {
+  page_size = page_size_in contents;
+  commit = last_size contents;
+  pages = writes_of (joined_page writes contents count) (last_size contents);
 }

@@ -5,7 +5,7 @@ use Rattle.lf_sqlite_pages.specs.Apply.{apply}
 use Rattle.lf_sqlite_pages.specs.Blocks.{IsWithin}
 use Rattle.lf_sqlite_pages.specs.Image.{DatabaseImage}
 use Rattle.lf_sqlite_pages.specs.LockPage.{IsWithinLimit}
-use Rattle.wal_watch.specs.File.{Wal, text_of, after_write, with_room}
+use Rattle.wal_watch.specs.File.{Wal, contents_of, after_write, with_room}
 use Rattle.wal_watch.specs.Refusals.{KeepsCommitted}
 use Rattle.wal_watch.specs.Frames.{page_size_in, committed_count}
 use Rattle.wal_watch.specs.News.{first_new, change_between, last_size}
@@ -19,26 +19,26 @@ use Rattle.database_under_log.specs.declared.waiting.LogWrite.TheVariants.{Store
 
 -- what is ready over every store once a write of bytes waits: its change, the write itself, and the file, which can go on or
 -- back, over an image of a page size and a number of pages
-pub record IsReady (old new : DatabaseFile) (text : List ℕ) (page_size commit at : ℕ) (bytes : List ℕ) (c : LogCommit) : Type 0 where
-  pub more : first_new text (written at bytes text) < committed_count (written at bytes text)
-  pub change : c.change ≡ log_change old text (written at bytes text) commit
+pub record IsReady (old new : DatabaseFile) (contents : List ℕ) (page_size commit at : ℕ) (bytes : List ℕ) (c : LogCommit) : Type 0 where
+  pub more : first_new contents (written at bytes contents) < committed_count (written at bytes contents)
+  pub change : c.change ≡ log_change old contents (written at bytes contents) commit
   pub at_is : c.write.at ≡ at
   pub bytes_are : c.write.bytes ≡ bytes
   pub back : forgotten new c.write ≡ old
   pub fits : FitsShape new page_size commit
   pub later : FitsShape (finished new c.write) c.change.page_size c.change.commit
 
--- and over the image, where that is told: the change leads to the database under the new text; meanwhile the file reads as
+-- and over the image, where that is told: the change leads to the database under the new contents; meanwhile the file reads as
 -- before, and so it does over the new image once it is finished
-pub record Commits (old new : DatabaseFile) (image : DatabaseImage) (text : List ℕ) (c : LogCommit) : Type 0 where
-  pub leads : apply image c.change ≡ over (as_read old image) text
+pub record Commits (old new : DatabaseFile) (image : DatabaseImage) (contents : List ℕ) (c : LogCommit) : Type 0 where
+  pub leads : apply image c.change ≡ over (as_read old image) contents
   pub reads : as_read new image ≡ as_read old image
   pub stays : StaysAsRead old image (finished new c.write) (apply image c.change)
-  pub agrees : Agrees (finished new c.write) (apply image c.change) text
+  pub agrees : Agrees (finished new c.write) (apply image c.change) contents
 
 -- the log reads as before, and has room for the write
 pub record HasRoomFor (old new : Wal) (at : ℕ) (bytes : List ℕ) : Type 0 where
-  pub text : new.text ≡ old.text
+  pub contents : new.contents ≡ old.contents
   pub room : IsWithin new.room at (length bytes)
 
 -- a write may change the log's header only over a file that is the image
@@ -49,21 +49,21 @@ MayChangeHeader file old new = take 32 new ≢ take 32 old → is_clean file ≡
 pub record IsStored (old new : DatabaseFile) (log later : Wal) (at : ℕ) (bytes : List ℕ) : Type 0 where
   pub file : new ≡ old
   pub log_is : later ≡ after_write (with_room log at (length bytes)) at bytes
-  pub none : change_between (text_of log) (text_of later) ≡ None
-  pub kept : KeepsCommitted (text_of log) (text_of later)
+  pub none : change_between (contents_of log) (contents_of later) ≡ None
+  pub kept : KeepsCommitted (contents_of log) (contents_of later)
 
 -- what a write is, over every store
 abbrev pub IsPrepared : DatabaseFile → DatabaseFile → Wal → Wal → ℕ → ℕ → ℕ → List ℕ → LogWrite → Type 0
 IsPrepared old new log later page_size commit at bytes Stored = IsStored old new log later at bytes
 IsPrepared old new log later page_size commit at bytes (Waiting c) =
-    IsReady old new (text_of log) page_size commit at bytes c × HasRoomFor log later at bytes
+    IsReady old new (contents_of log) page_size commit at bytes c × HasRoomFor log later at bytes
 
 -- one that waits commits no more pages than a database may have
 abbrev pub IsLimited : List ℕ → LogWrite → Type 0
-IsLimited text Stored = Unit {0}
-IsLimited text (Waiting c) = IsWithinLimit (page_size_in text) (last_size text)
+IsLimited contents Stored = Unit {0}
+IsLimited contents (Waiting c) = IsWithinLimit (page_size_in contents) (last_size contents)
 
 -- and over the image, where that is told
 abbrev pub IsPreparedOver : DatabaseFile → DatabaseFile → DatabaseImage → List ℕ → LogWrite → Type 0
-IsPreparedOver old new image text Stored = Agrees old image text
-IsPreparedOver old new image text (Waiting c) = Commits old new image text c
+IsPreparedOver old new image contents Stored = Agrees old image contents
+IsPreparedOver old new image contents (Waiting c) = Commits old new image contents c

@@ -19,21 +19,21 @@ pub fn new_file_agrees()
 /// A file that is the image agrees with every log without committed frames; and with such a log only
 /// that file does, which is the one that keeps nothing.
 pub fn clean_file_keeps_the_database()
-    ensures agrees { (file : DatabaseFile) (image : DatabaseImage) (text : List ℕ) → committed_count text ≡ 0 → is_clean file ≡ true → Agrees file image text }
-    ensures exact { (file : DatabaseFile) (image : DatabaseImage) (text : List ℕ) → committed_count text ≡ 0 → FitsShape file image.page_size (length image.pages)
-        → KeepsDifferences file image → (IsTrue (is_clean file) ↔ Agrees file image text) }
+    ensures agrees { (file : DatabaseFile) (image : DatabaseImage) (contents : List ℕ) → committed_count contents ≡ 0 → is_clean file ≡ true → Agrees file image contents }
+    ensures exact { (file : DatabaseFile) (image : DatabaseImage) (contents : List ℕ) → committed_count contents ≡ 0 → FitsShape file image.page_size (length image.pages)
+        → KeepsDifferences file image → (IsTrue (is_clean file) ↔ Agrees file image contents) }
 {}
 
 /// A write of pages, each of which a committed frame of that page holds, keeps the database.
 pub fn frames_keep_the_database()
-    ensures { (text bytes : List ℕ) (first : ℕ) (file : DatabaseImage) → AreFrames text first bytes
-        → over (with_pages file (page_size_in text) first bytes) text ≡ over file text }
+    ensures { (contents bytes : List ℕ) (first : ℕ) (file : DatabaseImage) → AreFrames contents first bytes
+        → over (with_pages file (page_size_in contents) first bytes) contents ≡ over file contents }
 {}
 
 /// So does a resize of the file to the last commit's size.
 pub fn resize_keeps_the_database()
-    ensures { (text : List ℕ) (file : DatabaseImage) → 0 < committed_count text
-        → over (sized file (page_size_in text) (last_size text)) text ≡ over file text }
+    ensures { (contents : List ℕ) (file : DatabaseImage) → 0 < committed_count contents
+        → over (sized file (page_size_in contents) (last_size contents)) contents ≡ over file contents }
 {}
 
 /// So does a write to the log that commits nothing, where it changes the header only over a file that
@@ -46,8 +46,8 @@ pub fn stored_write_keeps_the_database()
 /// So does a cut of the log, to nothing only over a file that is the image. The removal of the log is
 /// a cut to nothing.
 pub fn cut_keeps_the_database()
-    ensures { (text : List ℕ) (len : ℕ) (file : DatabaseFile) (image : DatabaseImage) → IsSoundCut text len → (len ≡ 0 → 0 < committed_count text → is_clean file ≡ true)
-        → Agrees file image text → Agrees file image (resized len text) }
+    ensures { (contents : List ℕ) (len : ℕ) (file : DatabaseFile) (image : DatabaseImage) → IsSoundCut contents len → (len ≡ 0 → 0 < committed_count contents → is_clean file ≡ true)
+        → Agrees file image contents → Agrees file image (resized len contents) }
 {}
 
 /// The change of a commit in the log leads from the image to the file under the new log, over each

@@ -5,7 +5,7 @@ ghost use Rattle.lf_sqlite_pages.specs.Change.{last_number, written};
 ghost use Rattle.database_file.specs.CommitParts.{WritesTo, one_write};
 ghost use Rattle.std.specs.FinMap as pages;
 ghost use Rattle.database_file.specs.WalCommit.{change_over};
-ghost use Rattle.wal_watch.specs.File.{text_of};
+ghost use Rattle.wal_watch.specs.File.{contents_of};
 ghost use Rattle.wal_watch.specs.Frames.{page_size_in, committed_count};
 ghost use Rattle.wal_watch.specs.News.{change_of, changed_page, last_size};
 ghost use Rattle.lf_sqlite_pages.specs.declared.page_write.PageWrite.{PageWrite};
@@ -35,10 +35,10 @@ pub(crate) fn with_older(
     news: Change,
     commit: u32,
 ) -> Result<Change, NoMemory>
-    requires some { 0 < committed_count (text_of log.now) }
-    requires size { news.page_size ≡ page_size_in (text_of log.now) }
-    requires count { news.commit ≡ last_size (text_of log.now) }
-    ensures news { IfOk result (λ change. (first : ℕ) → news ≡ change_of (text_of log.now) first (committed_count (text_of log.now)) → change ≡ log_news (text_of log.now) first commit) }
+    requires some { 0 < committed_count (contents_of log.now) }
+    requires size { news.page_size ≡ page_size_in (contents_of log.now) }
+    requires count { news.commit ≡ last_size (contents_of log.now) }
+    ensures news { IfOk result (λ change. (first : ℕ) → news ≡ change_of (contents_of log.now) first (committed_count (contents_of log.now)) → change ≡ log_news (contents_of log.now) first commit) }
     ensures size { IfOk result (λ change. change.page_size ≡ news.page_size) }
 {
     let _valid = news.pages();
@@ -94,12 +94,12 @@ fn push_past(
     count: u32,
     page: &mut [u8],
 ) -> Result<(), NoMemory>
-    requires some { 0 < committed_count (text_of log.now) }
-    requires size { change.old.page_size ≡ page_size_in (text_of log.now) }
-    requires commit { change.old.commit ≡ last_size (text_of log.now) }
+    requires some { 0 < committed_count (contents_of log.now) }
+    requires size { change.old.page_size ≡ page_size_in (contents_of log.now) }
+    requires commit { change.old.commit ≡ last_size (contents_of log.now) }
     requires last { last_number change.old.pages ≤ count }
-    requires whole { length page.old ≡ page_size_in (text_of log.now) }
-    ensures { OnOk result ((writes : List PageWrite) → WritesTo (written writes) count change.old.pages → change.new ≡ joined writes (text_of log.now) count) }
+    requires whole { length page.old ≡ page_size_in (contents_of log.now) }
+    ensures { OnOk result ((writes : List PageWrite) → WritesTo (written writes) count change.old.pages → change.new ≡ joined writes (contents_of log.now) count) }
 {
     for before in count..change.commit() {
         push_latest(log, change, before + 1, page)?;
@@ -110,12 +110,12 @@ fn push_past(
 
 /// Adds the latest frame of page `n`, if it is a data page and there is one.
 fn push_latest(log: &WalFile, change: &mut Change, n: u32, page: &mut [u8]) -> Result<(), NoMemory>
-    requires some { 0 < committed_count (text_of log.now) }
-    requires size { change.old.page_size ≡ page_size_in (text_of log.now) }
+    requires some { 0 < committed_count (contents_of log.now) }
+    requires size { change.old.page_size ≡ page_size_in (contents_of log.now) }
     requires last { last_number change.old.pages < n }
     requires within { n ≤ change.old.commit }
-    requires whole { length page.old ≡ page_size_in (text_of log.now) }
-    ensures ok { OnOk result (change.new ≡ record change.old { pages = change.old.pages ++ one_write n (changed_page (text_of log.now) 0 (committed_count (text_of log.now)) n) }) }
+    requires whole { length page.old ≡ page_size_in (contents_of log.now) }
+    ensures ok { OnOk result (change.new ≡ record change.old { pages = change.old.pages ++ one_write n (changed_page (contents_of log.now) 0 (committed_count (contents_of log.now)) n) }) }
     ensures last { OnOk result (last_number change.new.pages ≤ n) }
     ensures whole { length page.new ≡ length page.old }
 {
@@ -134,11 +134,11 @@ pub(crate) fn log_change(
     news: Change,
     commit: u32,
 ) -> Result<Change, NoMemory>
-    requires some { 0 < committed_count (text_of log.now) }
-    requires size { news.page_size ≡ page_size_in (text_of log.now) }
-    requires count { news.commit ≡ last_size (text_of log.now) }
-    requires whole { (n : ℕ) → (page : List ℕ) → pages.get file.now.kept n ≡ Some page → length page ≡ page_size_in (text_of log.now) }
-    ensures { IfOk result (λ change. (first : ℕ) → news ≡ change_of (text_of log.now) first (committed_count (text_of log.now)) → change ≡ change_over file.now (log_news (text_of log.now) first commit) commit) }
+    requires some { 0 < committed_count (contents_of log.now) }
+    requires size { news.page_size ≡ page_size_in (contents_of log.now) }
+    requires count { news.commit ≡ last_size (contents_of log.now) }
+    requires whole { (n : ℕ) → (page : List ℕ) → pages.get file.now.kept n ≡ Some page → length page ≡ page_size_in (contents_of log.now) }
+    ensures { IfOk result (λ change. (first : ℕ) → news ≡ change_of (contents_of log.now) first (committed_count (contents_of log.now)) → change ≡ change_over file.now (log_news (contents_of log.now) first commit) commit) }
 {
     let newest = with_older(alloc, log, news, commit)?;
     file.change_over(alloc, newest, commit)

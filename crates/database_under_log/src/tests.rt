@@ -15,11 +15,11 @@ const HEADS: [u8; 56] = [
     0xee, 0x2b, 0x95, 0x64, 0xca, 0xae, 0xa5, 0x16,
 ];
 
-fn text(alloc: Global) -> Result<Vec<u8>, AllocError> {
-    let mut text = Vec::new(alloc);
-    text.extend_from_slice(&HEADS)?;
-    text.resize(56 + 4096, 0)?;
-    Ok(text)
+fn contents(alloc: Global) -> Result<Vec<u8>, AllocError> {
+    let mut contents = Vec::new(alloc);
+    contents.extend_from_slice(&HEADS)?;
+    contents.resize(56 + 4096, 0)?;
+    Ok(contents)
 }
 
 /// While the write waits the log has no committed frames; once it is finished it has one, and the file
@@ -32,8 +32,15 @@ fn a_commit_waits_and_is_finished(rt: HostRuntime) -> Result<(), Fail> {
     let mut log = WalFile::new(alloc);
     log.create();
     let mut base = Image::empty(alloc);
-    let text = text(alloc)?;
-    let written = prepare_log_write(alloc, &mut file, &mut log, &mut base, 0, text.as_slice());
+    let contents = contents(alloc)?;
+    let written = prepare_log_write(
+        alloc,
+        &mut file,
+        &mut log,
+        &mut base,
+        0,
+        contents.as_slice(),
+    );
     match written {
         Ok(LogWrite::Waiting(commit)) => {
             assert_eq!(rt;

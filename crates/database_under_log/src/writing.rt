@@ -3,7 +3,7 @@ ghost use Rattle.std.specs.Prelude.{◌≡◌, ◌≢◌, ℕ, ◌+◌, ◌≤�
 ghost use Rattle.lf_base.specs.FileBytes.{written};
 ghost use Rattle.lf_sqlite_pages.specs.Blocks.{IsWithin};
 ghost use Rattle.lf_sqlite_pages.specs.LockPage.{IsWithinLimit};
-ghost use Rattle.wal_watch.specs.File.{text_of, after_write, with_room};
+ghost use Rattle.wal_watch.specs.File.{contents_of, after_write, with_room};
 ghost use Rattle.wal_watch.specs.Frames.{page_size_in, committed_count};
 ghost use Rattle.wal_watch.specs.News.{change_of, change_between, last_size};
 ghost use Rattle.database_file.specs.DatabaseFile.{FitsShape, KeepsDifferences, count_over, size_over, is_clean, as_read};
@@ -30,7 +30,7 @@ use wal_watch::{WalFile, WalNews};
 /// Finishes a write that waited, once its commit is done: the file stays as it reads. It takes no
 /// memory.
 pub fn finish_log_write(file: &mut DatabaseFile, log: &mut WalFile, write: WaitingWrite)
-    requires there { IsSome log.old.text }
+    requires there { IsSome log.old.contents }
     requires room { IsWithin log.old.room write.at (length write.bytes) }
     ensures file { file.new ≡ finished file.old write }
     ensures log { log.new ≡ after_write log.old write.at write.bytes }
@@ -49,7 +49,7 @@ pub fn forget_log_write(file: &mut DatabaseFile, write: WaitingWrite)
 }
 
 /// What a commit in the log needs, and the file with the pages that it keeps for that: the log has the
-/// new text, and `news` the latest new frames. After a fault the file is as before.
+/// new contents, and `news` the latest new frames. After a fault the file is as before.
 fn hold_commit<S: PageStore>(
     alloc: Global,
     file: &mut DatabaseFile,
@@ -60,10 +60,10 @@ fn hold_commit<S: PageStore>(
     bytes: &[u8],
 ) -> Result<LogCommit, FileFault>
     requires fits { FitsShape file.old (S.page_size base.old) (S.commit base.old) }
-    requires some { 0 < committed_count (text_of log.now) }
-    requires news { (first : ℕ) × (news ≡ change_of (text_of log.now) first (committed_count (text_of log.now))) }
-    requires sized { 0 < count_over file.old (S.commit base.old) → size_over file.old (S.page_size base.old) (S.commit base.old) ≡ page_size_in (text_of log.now) }
-    ensures change { IfOk result (λ c. (first : ℕ) → news ≡ change_of (text_of log.now) first (committed_count (text_of log.now)) → c.change ≡ change_over file.old (log_news (text_of log.now) first (S.commit base.old)) (S.commit base.old)) }
+    requires some { 0 < committed_count (contents_of log.now) }
+    requires news { (first : ℕ) × (news ≡ change_of (contents_of log.now) first (committed_count (contents_of log.now))) }
+    requires sized { 0 < count_over file.old (S.commit base.old) → size_over file.old (S.page_size base.old) (S.commit base.old) ≡ page_size_in (contents_of log.now) }
+    ensures change { IfOk result (λ c. (first : ℕ) → news ≡ change_of (contents_of log.now) first (committed_count (contents_of log.now)) → c.change ≡ change_over file.old (log_news (contents_of log.now) first (S.commit base.old)) (S.commit base.old)) }
     ensures ready { IfOk result (IsHeld file.old file.new (S.page_size base.old) (S.commit base.old) at bytes.now) }
     ensures told { IfOk result (λ c. IfSome (S.image base.old) (λ i. KeepsDifferences file.old i → Stays file.old file.new i c)) }
     ensures err { OnErr result (file.new ≡ file.old) }
@@ -107,15 +107,15 @@ fn limited_commit<S: PageStore>(
     bytes: &[u8],
 ) -> Result<LogCommit, LogWriteFault>
     requires fits { FitsShape file.old (S.page_size base.old) (S.commit base.old) }
-    requires some { 0 < committed_count (text_of log.now) }
-    requires news { (first : ℕ) × (news ≡ change_of (text_of log.now) first (committed_count (text_of log.now))) }
-    requires sized { 0 < count_over file.old (S.commit base.old) → size_over file.old (S.page_size base.old) (S.commit base.old) ≡ page_size_in (text_of log.now) }
-    ensures change { IfOk result (λ c. (first : ℕ) → news ≡ change_of (text_of log.now) first (committed_count (text_of log.now)) → c.change ≡ change_over file.old (log_news (text_of log.now) first (S.commit base.old)) (S.commit base.old)) }
+    requires some { 0 < committed_count (contents_of log.now) }
+    requires news { (first : ℕ) × (news ≡ change_of (contents_of log.now) first (committed_count (contents_of log.now))) }
+    requires sized { 0 < count_over file.old (S.commit base.old) → size_over file.old (S.page_size base.old) (S.commit base.old) ≡ page_size_in (contents_of log.now) }
+    ensures change { IfOk result (λ c. (first : ℕ) → news ≡ change_of (contents_of log.now) first (committed_count (contents_of log.now)) → c.change ≡ change_over file.old (log_news (contents_of log.now) first (S.commit base.old)) (S.commit base.old)) }
     ensures ready { IfOk result (IsHeld file.old file.new (S.page_size base.old) (S.commit base.old) at bytes.now) }
     ensures told { IfOk result (λ c. IfSome (S.image base.old) (λ i. KeepsDifferences file.old i → Stays file.old file.new i c)) }
-    ensures limit { OnOk result (IsWithinLimit (page_size_in (text_of log.now)) (last_size (text_of log.now))) }
+    ensures limit { OnOk result (IsWithinLimit (page_size_in (contents_of log.now)) (last_size (contents_of log.now))) }
     ensures err { OnErr result (file.new ≡ file.old) }
-    ensures cause { IfErr result (HasCommitCause (text_of log.now) (S.faults base.old) (S.faults base.new)) }
+    ensures cause { IfErr result (HasCommitCause (contents_of log.now) (S.faults base.old) (S.faults base.new)) }
     ensures base { SameBase (S.image base.old) (S.image base.new) (S.page_size base.old) (S.page_size base.new) (S.commit base.old) (S.commit base.new) (S.wal_mode base.old) (S.wal_mode base.new) (S.is_broken base.old) (S.is_broken base.new) }
     ensures faults { OnOk result (S.faults base.new ≡ S.faults base.old) }
 {
@@ -149,16 +149,16 @@ pub fn prepare_log_write<S: PageStore>(
     at: u64,
     bytes: &[u8],
 ) -> Result<LogWrite, LogWriteFault>
-    requires there { IsSome log.old.text }
+    requires there { IsSome log.old.contents }
     requires fits { FitsShape file.old (S.page_size base.old) (S.commit base.old) }
-    requires follows { FollowsLog file.old (S.page_size base.old) (S.commit base.old) (text_of log.old) }
+    requires follows { FollowsLog file.old (S.page_size base.old) (S.commit base.old) (contents_of log.old) }
     ensures ok { IfOk result (IsPrepared file.old file.new log.old log.new (S.page_size base.old) (S.commit base.old) at bytes.now) }
-    ensures told { IfOk result (λ w. IfSome (S.image base.old) (λ i. MayChangeHeader file.old (text_of log.old) (written at bytes.now (text_of log.old)) → KeepsDifferences file.old i → Agrees file.old i (text_of log.old) → IsPreparedOver file.old file.new i (written at bytes.now (text_of log.old)) w)) }
-    ensures limit { IfOk result (IsLimited (written at bytes.now (text_of log.old))) }
+    ensures told { IfOk result (λ w. IfSome (S.image base.old) (λ i. MayChangeHeader file.old (contents_of log.old) (written at bytes.now (contents_of log.old)) → KeepsDifferences file.old i → Agrees file.old i (contents_of log.old) → IsPreparedOver file.old file.new i (written at bytes.now (contents_of log.old)) w)) }
+    ensures limit { IfOk result (IsLimited (written at bytes.now (contents_of log.old))) }
     ensures faults { OnOk result (S.faults base.new ≡ S.faults base.old) }
     ensures err_file { OnErr result (file.new ≡ file.old) }
-    ensures err_log { OnErr result (log.new.text ≡ log.old.text) }
-    ensures cause { IfErr result (HasWriteCause (text_of log.old) (wanted_size (S.page_size base.old) (S.commit base.old)) at bytes.now (S.faults base.old) (S.faults base.new)) }
+    ensures err_log { OnErr result (log.new.contents ≡ log.old.contents) }
+    ensures cause { IfErr result (HasWriteCause (contents_of log.old) (wanted_size (S.page_size base.old) (S.commit base.old)) at bytes.now (S.faults base.old) (S.faults base.new)) }
     ensures base { SameBase (S.image base.old) (S.image base.new) (S.page_size base.old) (S.page_size base.new) (S.commit base.old) (S.commit base.new) (S.wal_mode base.old) (S.wal_mode base.new) (S.is_broken base.old) (S.is_broken base.new) }
 {
     let page_size = wanted_size(base);

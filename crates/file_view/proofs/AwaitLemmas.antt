@@ -40,7 +40,7 @@ use Rattle.file_view.specs.NameRules.{unlinking_rows}
 use Rattle.file_view.specs.Overlay.{without_uncommitted, IsOverImage, StandsOver, AwaitsOver}
 use Rattle.file_view.specs.Refusal.{first_refusal, IsAllowed}
 use Rattle.file_view.specs.Requests.{write_rows, size_rows, rows_at, rows_of}
-use Rattle.file_view.specs.Served.{Served, log_text, has_committed_frames}
+use Rattle.file_view.specs.Served.{Served, log_contents, has_committed_frames}
 use Rattle.file_view.proofs.RequestLemmas.{size-allowed, write-allowed, unlink-allowed, finish-allowed, removal-allowed}
 use Rattle.file_view.proofs.RequestStands.{log-alone}
 use Rattle.file_view.proofs.RowLemmas.{none-holds, nothing-held}
@@ -48,7 +48,7 @@ use Rattle.file_view.proofs.StandLemmas.{clean-nothing, clean-clean}
 
 -- files whose database file keeps nothing, under a log without frames, stand over every image
 pub clean-stands : (told : Option DatabaseImage) (page_size commit : ℕ) (s : Served) (d : DatabaseFile) → (0 < commit → IsPageSize page_size) → s.database ≡ clean d → s.writer ≡ None →
-    committed_count (log_text s) ≡ 0 → StandsOver told page_size commit s
+    committed_count (log_contents s) ≡ 0 → StandsOver told page_size commit s
 clean-stands told page_size commit s d sized database alone none = record {
   shape = record {
     fits = rw database ((clean-nothing d).fits page_size commit sized);
@@ -60,7 +60,7 @@ clean-stands told page_size commit s d sized database alone none = record {
   over-told None = tt
   over-told (Some i) = record {
     differs = rw database ((clean-nothing d).differs i);
-    agrees = rw alone (rw database (clean-agrees (clean d) i (log_text s) none (clean-clean d)));
+    agrees = rw alone (rw database (clean-agrees (clean d) i (log_contents s) none (clean-clean d)));
   }
 
 -- a call on the journal that waits: the file isn't the image then, so the log has no frames
@@ -90,7 +90,7 @@ journal-awaits told other old scene given c change new fits none done =
     let is : IsChangeOf old.database scene.page_size scene.commit change = done.0.is facts.0 in
     let size : change.page_size ≡ size_over old.database scene.page_size scene.commit = ap (λ (p : PageChange). p.page_size) is.is in
     let free : old.held_write ≡ None = nothing-held old (none-holds (finishing_rows old scene given c) none).1.1.1.0 in
-    let bare : committed_count (log_text old) ≡ 0 = grind (arith, nat_tests, facts.1) in
+    let bare : committed_count (log_contents old) ≡ 0 = grind (arith, nat_tests, facts.1) in
     let waiting : Served = record old { journal = holding old.journal c } in
     let held : waiting.held_write ≡ None = free in
     subst (λ (s : Served). StandsOver other change.page_size change.commit (committed s)) (sym done.1)
@@ -103,24 +103,24 @@ log-awaits : (told : Option DatabaseImage) (old : Served) (scene : Scene) (given
 log-awaits told old scene given place bytes change new none done stands =
     let waits = done.1 in
     let alone : old.writer ≡ None = log-alone old scene given place bytes none in
-    let text : written waits.write.at waits.write.bytes (log_text old) ≡ log_after old place bytes =
-    ap (λ (n : ℕ). written n waits.write.bytes (log_text old)) waits.is.at_is ∙ ap (λ (b : List ℕ). written place b (log_text old)) waits.is.bytes_are in
+    let contents : written waits.write.at waits.write.bytes (log_contents old) ≡ log_after old place bytes =
+    ap (λ (n : ℕ). written n waits.write.bytes (log_contents old)) waits.is.at_is ∙ ap (λ (b : List ℕ). written place b (log_contents old)) waits.is.bytes_are in
     let is : change ≡ _ = done.0.is in
     subst (λ (s : Served). StandsOver (option_map (λ i. apply i change) told) change.page_size change.commit (committed s)) (sym waits.state)
     (record {
       shape = record {
         fits = waits.is.fits;
-        follows = rw text (record { page_size_is = λ some. sym (ap (λ (p : PageChange). p.page_size) is); commit_is = λ some. sym (ap (λ (p : PageChange). p.commit) is) });
+        follows = rw contents (record { page_size_is = λ some. sym (ap (λ (p : PageChange). p.page_size) is); commit_is = λ some. sym (ap (λ (p : PageChange). p.commit) is) });
       };
-      image = over-told told waits text alone waits.is.leads stands.image;
+      image = over-told told waits contents alone waits.is.leads stands.image;
     }) where
-      over-told : (told : Option DatabaseImage) (waits : LogWaits told old place bytes change new) → written waits.write.at waits.write.bytes (log_text old) ≡ log_after old place bytes →
-          old.writer ≡ None → IfSome told (λ i. KeepsDifferences old.database i → Agrees old.database i (log_text old) → LeadsUnderLog old.database i (log_after old place bytes) change waits.write.file) →
+      over-told : (told : Option DatabaseImage) (waits : LogWaits told old place bytes change new) → written waits.write.at waits.write.bytes (log_contents old) ≡ log_after old place bytes →
+          old.writer ≡ None → IfSome told (λ i. KeepsDifferences old.database i → Agrees old.database i (log_contents old) → LeadsUnderLog old.database i (log_after old place bytes) change waits.write.file) →
           IfSome told (IsOverImage old) → IfSome (option_map (λ i. apply i change) told) (IsOverImage (committed (record old { held_write = Some waits.write })))
-      over-told None waits text alone leads h = tt
-      over-told (Some i) waits text alone leads h =
+      over-told None waits contents alone leads h = tt
+      over-told (Some i) waits contents alone leads h =
           let led = leads h.differs (rw alone at h.agrees) in
-          record { differs = led.stays.differs; agrees = rw (alone, text) led.agrees }
+          record { differs = led.stays.differs; agrees = rw (alone, contents) led.agrees }
 
 -- what a request may commit
 committed-by : (told : Option DatabaseImage) (p : Plan) (r : Reply) (Does : Option PageChange → Type 0) (new : Served) → MayCommit p r Does →

@@ -26,7 +26,7 @@ use Rattle.file_view.specs.DatabaseRules.{first_page, page_count, are_pages, mos
 use Rattle.file_view.specs.DatabaseParts.{IsOwned}
 use Rattle.file_view.specs.Errno.{EINVAL, EFBIG}
 use Rattle.file_view.specs.Refusal.{first_refusal}
-use Rattle.file_view.specs.Served.{Served, log_text, has_committed_frames}
+use Rattle.file_view.specs.Served.{Served, log_contents, has_committed_frames}
 use Rattle.file_view.specs.Sound.{IsSound}
 use Rattle.file_view.proofs.RowLemmas.{none-holds, nothing-held}
 
@@ -85,25 +85,25 @@ uncommitted-owned s scene given size count other none =
     (writer-there s.locks scene.session given lock.Shared (opposite _ rows.1.0), torn-none s.torn rows.1.1.0, nothing-held s rows.1.1.1.1.1.0)
 
 -- a checkpoint
-framed-some : (text : List ℕ) (page : ℕ) (bytes : List ℕ) → holds_frame text page bytes ≡ true → nat_lt 0 (committed_count text) ≡ true
-framed-some text page bytes h = elim (cases_eq (committed_count text) 0) [
+framed-some : (contents : List ℕ) (page : ℕ) (bytes : List ℕ) → holds_frame contents page bytes ≡ true → nat_lt 0 (committed_count contents) ≡ true
+framed-some contents page bytes h = elim (cases_eq (committed_count contents) 0) [
   | inl absent ↦ absurd (let e = rw absent at h in cc)
   | inr some ↦ grind (arith, nat_tests, some)
 ]
 
-first-held : (text : List ℕ) (size first : ℕ) (bytes : List ℕ) (n : ℕ) → page_count size bytes ≡ suc n → hold_frames text size first bytes ≡ true → nat_lt 0 (committed_count text) ≡ true
-first-held text size first bytes n count h =
-    let e : list_all (λ k. holds_frame text (first + k) (page_of_bytes bytes size k)) (range_with_len 0 (suc n)) ≡ true = rw count at h in
-    framed-some text (first + 0) (page_of_bytes bytes size 0)
-    (and_parts (holds_frame text (first + 0) (page_of_bytes bytes size 0)) (list_all (λ k. holds_frame text (first + k) (page_of_bytes bytes size k)) (range_with_len 1 n)) e).0
+first-held : (contents : List ℕ) (size first : ℕ) (bytes : List ℕ) (n : ℕ) → page_count size bytes ≡ suc n → hold_frames contents size first bytes ≡ true → nat_lt 0 (committed_count contents) ≡ true
+first-held contents size first bytes n count h =
+    let e : list_all (λ k. holds_frame contents (first + k) (page_of_bytes bytes size k)) (range_with_len 0 (suc n)) ≡ true = rw count at h in
+    framed-some contents (first + 0) (page_of_bytes bytes size 0)
+    (and_parts (holds_frame contents (first + 0) (page_of_bytes bytes size 0)) (list_all (λ k. holds_frame contents (first + k) (page_of_bytes bytes size k)) (range_with_len 1 n)) e).0
 
 pub checkpoint-framed : (s : Served) (scene : Scene) (given : Option ℕ) (size place : ℕ) (bytes : List ℕ) → 1 ≤ page_count size bytes →
     first_refusal (checkpoint_rows s scene given size place bytes) ≡ None → has_committed_frames s ≡ true
 checkpoint-framed s scene given size place bytes some none =
-    let held : hold_frames (log_text s) size (first_page size place) bytes ≡ true = opposite _ (none-holds (checkpoint_rows s scene given size place bytes) none).1.0 in
+    let held : hold_frames (log_contents s) size (first_page size place) bytes ≡ true = opposite _ (none-holds (checkpoint_rows s scene given size place bytes) none).1.0 in
     let n : ℕ = page_count size bytes - 1 in
     let count : page_count size bytes ≡ suc n = omega (arith, some) in
-    first-held (log_text s) size (first_page size place) bytes n count held
+    first-held (log_contents s) size (first_page size place) bytes n count held
 
 -- two rows that don't hold
 pub two-fail : (a b : Bool) (m n : Errno) (rest : Option Errno) → (if a then Some m else (if b then Some n else rest)) ≡ None → (a ≡ false) × (b ≡ false) × (rest ≡ None)
@@ -207,9 +207,9 @@ three-fail a b m n rest h = (two-fail a b m n rest h).2
 
 pub resize-idle : (s : Served) (scene : Scene) (given : Option ℕ) (count : ℕ) → first_refusal (checkpoint_resize_rows s scene given count) ≡ None → has_committed_frames s ≡ true
 resize-idle s scene given count none =
-    let text : List ℕ = log_text s in
-    let stated : is_log_size text count ≡ true = opposite (is_log_size text count) (none-holds (checkpoint_resize_rows s scene given count) none).1.0 in
-    (and_parts (nat_lt 0 (committed_count text)) ((count == last_size text) || (not (count == 0) && states_size text count)) stated).0
+    let contents : List ℕ = log_contents s in
+    let stated : is_log_size contents count ≡ true = opposite (is_log_size contents count) (none-holds (checkpoint_resize_rows s scene given count) none).1.0 in
+    (and_parts (nat_lt 0 (committed_count contents)) ((count == last_size contents) || (not (count == 0) && states_size contents count)) stated).0
 
 resize-rows-owned : (s : Served) (scene : Scene) (given : Option ℕ) (size count : ℕ) → first_refusal (resize_rows s scene given size count) ≡ None →
     (count == count_over s.database scene.commit) ≡ false → IsOwned s
@@ -234,7 +234,7 @@ pub resize-owned : (s : Served) (scene : Scene) (given : Option ℕ) (len size :
     resizes s scene (len / size) ≡ true → IsOwned s
 resize-owned s scene given len size none changes =
     let rest = three-fail (not (len % size == 0)) (nat_lt (most_pages size) (len / size)) EINVAL EFBIG (first_refusal (resize_rows s scene given size (len / size))) none in
-    let h = and_parts (not (len / size == count_over s.database scene.commit)) (is_active s.journal.file || (len / size == last_size (log_text s))) changes in
+    let h = and_parts (not (len / size == count_over s.database scene.commit)) (is_active s.journal.file || (len / size == last_size (log_contents s))) changes in
     let other : (len / size == count_over s.database scene.commit) ≡ false = fails (len / size == count_over s.database scene.commit) h.0 in
     resize-rows-owned s scene given size (len / size) rest other where
       fails : (b : Bool) → not b ≡ true → b ≡ false

@@ -24,7 +24,7 @@ new-stands name told page_size commit sized = clean-stands told page_size commit
 
 emptied : (log : Option (List ℕ)) → committed_count (unwrap_or (option_map (λ _. []) log) []) ≡ 0
 emptied None = empty_none
-emptied (Some text) = empty_none
+emptied (Some contents) = empty_none
 
 pub applied-stands : (s : Served) (told : Option DatabaseImage) (page_size commit : ℕ) → (0 < commit → IsPageSize page_size) → StandsOver told page_size commit (applied s page_size commit)
 applied-stands s told page_size commit sized = clean-stands told page_size commit (applied s page_size commit) s.database sized refl refl (emptied s.log)

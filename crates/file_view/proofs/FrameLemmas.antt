@@ -33,27 +33,27 @@ same-test true b decides to from = sym (from (decides.0 refl))
 same-test false b decides to from =
     ⊎_elim (λ holds. absurd (let t : false ≡ true = decides.1 (to holds) in cc)) (λ fails. sym fails) (cases_Bool b)
 
-pub holds_frame_is : (text : List ℕ) (page : ℕ) (bytes : List ℕ) (r : Bool) → (IsTrue r ↔ HoldsFrame text page bytes) → r ≡ holds_frame text page bytes
-holds_frame_is text page bytes r decides =
-    same-test r (holds_frame text page bytes) decides
-    (λ holds. let found = found-among _ 0 (committed_count text) holds in
-    let both = and_parts (number_in text found.0 == page) (bytes_eq (page_in text found.0) bytes) found.2 in
+pub holds_frame_is : (contents : List ℕ) (page : ℕ) (bytes : List ℕ) (r : Bool) → (IsTrue r ↔ HoldsFrame contents page bytes) → r ≡ holds_frame contents page bytes
+holds_frame_is contents page bytes r decides =
+    same-test r (holds_frame contents page bytes) decides
+    (λ holds. let found = found-among _ 0 (committed_count contents) holds in
+    let both = and_parts (number_in contents found.0 == page) (bytes_eq (page_in contents found.0) bytes) found.2 in
     (found.0, record { among = omega (arith, found.1); number = grind (arith, nat_tests, both.0); same = (bytes_eq-Decides _ _).0 both.1 }))
-    (λ held. any-among _ (committed_count text) held.0 held.1.among
+    (λ held. any-among _ (committed_count contents) held.0 held.1.among
     (and_from _ _ (grind (arith, nat_tests, held.1.number)) ((bytes_eq-Decides _ _).1 held.1.same)))
 
 -- what such a test says
-pub holds-is : (text : List ℕ) (page : ℕ) (bytes : List ℕ) → holds_frame text page bytes ≡ true → HoldsFrame text page bytes
-holds-is text page bytes holds =
-    let found = found-among _ 0 (committed_count text) holds in
-    let both = and_parts (number_in text found.0 == page) (bytes_eq (page_in text found.0) bytes) found.2 in
+pub holds-is : (contents : List ℕ) (page : ℕ) (bytes : List ℕ) → holds_frame contents page bytes ≡ true → HoldsFrame contents page bytes
+holds-is contents page bytes holds =
+    let found = found-among _ 0 (committed_count contents) holds in
+    let both = and_parts (number_in contents found.0 == page) (bytes_eq (page_in contents found.0) bytes) found.2 in
     (found.0, record { among = omega (arith, found.1); number = grind (arith, nat_tests, both.0); same = (bytes_eq-Decides _ _).0 both.1 })
 
-pub states_size_is : (text : List ℕ) (count : ℕ) (r : Bool) → (IsTrue r ↔ HasSize text count) → r ≡ states_size text count
-states_size_is text count r decides =
-    same-test r (states_size text count) decides
-    (λ holds. let found = found-among _ 0 (committed_count text) holds in (found.0, omega (arith, found.1), grind (arith, nat_tests, found.2)))
-    (λ held. any-among _ (committed_count text) held.0 held.1 (grind (arith, nat_tests, held.2)))
+pub states_size_is : (contents : List ℕ) (count : ℕ) (r : Bool) → (IsTrue r ↔ HasSize contents count) → r ≡ states_size contents count
+states_size_is contents count r decides =
+    same-test r (states_size contents count) decides
+    (λ holds. let found = found-among _ 0 (committed_count contents) holds in (found.0, omega (arith, found.1), grind (arith, nat_tests, found.2)))
+    (λ held. any-among _ (committed_count contents) held.0 held.1 (grind (arith, nat_tests, held.2)))
 
 -- the frames of a loop over pages
 pub all-more : (p : ℕ → Bool) (a n j : ℕ) → list_all p (range_with_len a n) ≡ true → j ≡ a + n → p j ≡ true → list_all p (range_with_len a (n + 1)) ≡ true

@@ -18,7 +18,7 @@ use Rattle.file_view.specs.declared.scene.Scene.{Scene}
 use Rattle.file_view.specs.DatabaseState.{HeldWrite}
 use Rattle.file_view.specs.LogRules.{log_cut_rows, log_unlink_rows}
 use Rattle.file_view.specs.Refusal.{first_refusal}
-use Rattle.file_view.specs.Served.{Served, log_text, has_committed_frames}
+use Rattle.file_view.specs.Served.{Served, log_contents, has_committed_frames}
 use Rattle.file_view.specs.Sound.{IsSound}
 use Rattle.file_view.proofs.RowLemmas.{none-holds, nothing-held}
 
@@ -37,8 +37,8 @@ clean-is file all =
       no_count (Some n) h = absurd cc
 
 -- the end of no frames
-no-end : (text : List ℕ) → committed_count text ≡ 0 → committed_end text ≡ 0
-no-end text none = rw none refl
+no-end : (contents : List ℕ) → committed_count contents ≡ 0 → committed_end contents ≡ 0
+no-end contents none = rw none refl
 
 -- no cut below the committed end is left
 not-below : (count end len : ℕ) → (count ≡ 0 → end ≡ 0) → (nat_lt 0 count && not (len == 0) && nat_lt len end) ≡ false → len ≢ 0 → len < end → ⊥
@@ -68,54 +68,54 @@ not-grown count end after len none below grown empty more = elim (cases_lt len e
 ]
 
 -- a log cut to nothing has no frames
-pub nothing-left : (text : List ℕ) (len : ℕ) → committed_count [] ≡ 0 → len ≡ 0 → committed_count (resized len text) ≡ 0
-nothing-left text len none zero =
-    let e : resized 0 text ≡ [] = let z : 0 - length text ≡ 0 = omega arith in rw z refl in
+pub nothing-left : (contents : List ℕ) (len : ℕ) → committed_count [] ≡ 0 → len ≡ 0 → committed_count (resized len contents) ≡ 0
+nothing-left contents len none zero =
+    let e : resized 0 contents ≡ [] = let z : 0 - length contents ≡ 0 = omega arith in rw z refl in
     rw (zero, e) none
 
 -- nothing stands against a cut that no row refuses
-pub cut-sound : (s : Served) (scene : Scene) (len : ℕ) → committed_count [] ≡ 0 → first_refusal (log_cut_rows s scene len) ≡ None → IsSoundCut (log_text s) len
+pub cut-sound : (s : Served) (scene : Scene) (len : ℕ) → committed_count [] ≡ 0 → first_refusal (log_cut_rows s scene len) ≡ None → IsSoundCut (log_contents s) len
 cut-sound s scene len empty none =
-    let text : List ℕ = log_text s in
+    let contents : List ℕ = log_contents s in
     let rows = none-holds (log_cut_rows s scene len) none in
     let long : nat_lt 268435456 len ≡ false = rows.1.0 in
-    let grown : (nat_le (committed_end text) len && nat_lt (committed_count text) (committed_count (resized len text))) ≡ false = rows.1.1.0 in
-    let below : (nat_lt 0 (committed_count text) && not (len == 0) && nat_lt len (committed_end text)) ≡ false = rows.1.1.1.1.0 in
+    let grown : (nat_le (committed_end contents) len && nat_lt (committed_count contents) (committed_count (resized len contents))) ≡ false = rows.1.1.0 in
+    let below : (nat_lt 0 (committed_count contents) && not (len == 0) && nat_lt len (committed_end contents)) ≡ false = rows.1.1.1.1.0 in
     record {
       short = grind (arith, nat_tests, long);
-      part = λ (cuts : CutsCommitted text len). elim cuts [
-        | inl under ↦ not-below (committed_count text) (committed_end text) len (no-end text) below under.0 under.1
-        | inr more ↦ not-grown (committed_count text) (committed_end text) (committed_count (resized len text)) len (no-end text) below grown (nothing-left text len empty) more
+      part = λ (cuts : CutsCommitted contents len). elim cuts [
+        | inl under ↦ not-below (committed_count contents) (committed_end contents) len (no-end contents) below under.0 under.1
+        | inr more ↦ not-grown (committed_count contents) (committed_end contents) (committed_count (resized len contents)) len (no-end contents) below grown (nothing-left contents len empty) more
       ];
     }
 
 -- a cut behind the committed frames leaves them
-count-stays : (text : List ℕ) (len : ℕ) → 0 < committed_count text → committed_end text ≤ len → committed_count text ≤ committed_count (resized len text)
-count-stays text len some long =
-    let test : (committed_count text == 0) ≡ false = grind (arith, nat_tests, some) in
-    let place : committed_end text ≡ frame_place text (committed_count text) = cond-false _ _ _ test in
-    let there : committed_end text ≤ length text = omega (arith, place, (has_committed text (committed_count text) refl some).room) in
-    keeps_count text (resized len text) (take-resized text (committed_end text) len long there)
+count-stays : (contents : List ℕ) (len : ℕ) → 0 < committed_count contents → committed_end contents ≤ len → committed_count contents ≤ committed_count (resized len contents)
+count-stays contents len some long =
+    let test : (committed_count contents == 0) ≡ false = grind (arith, nat_tests, some) in
+    let place : committed_end contents ≡ frame_place contents (committed_count contents) = cond-false _ _ _ test in
+    let there : committed_end contents ≤ length contents = omega (arith, place, (has_committed contents (committed_count contents) refl some).room) in
+    keeps_count contents (resized len contents) (take-resized contents (committed_end contents) len long there)
 
 -- where such a cut leaves no frames, the file is the committed image
 pub cut-settled : (s : Served) (scene : Scene) (len : ℕ) → first_refusal (log_cut_rows s scene len) ≡ None →
-    (has_committed_frames s ≡ false → s.database ≡ clean s.database) → nat_lt 0 (committed_count (resized len (log_text s))) ≡ false → s.database ≡ clean s.database
+    (has_committed_frames s ≡ false → s.database ≡ clean s.database) → nat_lt 0 (committed_count (resized len (log_contents s))) ≡ false → s.database ≡ clean s.database
 cut-settled s scene len none before after =
-    let text : List ℕ = log_text s in
+    let contents : List ℕ = log_contents s in
     let rows = none-holds (log_cut_rows s scene len) none in
-    let below : (nat_lt 0 (committed_count text) && not (len == 0) && nat_lt len (committed_end text)) ≡ false = rows.1.1.1.1.0 in
-    let dirty : (nat_lt 0 (committed_count text) && (len == 0) && not (is_clean s.database)) ≡ false = rows.1.1.1.1.1.0 in
-    elim (cases_lt 0 (committed_count text)) [
+    let below : (nat_lt 0 (committed_count contents) && not (len == 0) && nat_lt len (committed_end contents)) ≡ false = rows.1.1.1.1.0 in
+    let dirty : (nat_lt 0 (committed_count contents) && (len == 0) && not (is_clean s.database)) ≡ false = rows.1.1.1.1.1.0 in
+    elim (cases_lt 0 (committed_count contents)) [
       | inl some ↦
-          let a : nat_lt 0 (committed_count text) ≡ true = grind (arith, nat_tests, some) in
+          let a : nat_lt 0 (committed_count contents) ≡ true = grind (arith, nat_tests, some) in
           elim (cases_eq len 0) [
             | inl zero ↦ elim (cases_Bool (is_clean s.database)) [
               | inl tidy ↦ clean-is s.database tidy
               | inr kept ↦ let b : (len == 0) ≡ true = grind (arith, nat_tests, zero) in let c = rw (a, b, kept) at dirty in absurd cc
             ]
-            | inr rest ↦ elim (cases_lt len (committed_end text)) [
-              | inl under ↦ absurd (not-below (committed_count text) (committed_end text) len (no-end text) below (λ z. rest z) under)
-              | inr long ↦ absurd (let stays = count-stays text len some long in grind (arith, nat_tests, stays, some, after))
+            | inr rest ↦ elim (cases_lt len (committed_end contents)) [
+              | inl under ↦ absurd (not-below (committed_count contents) (committed_end contents) len (no-end contents) below (λ z. rest z) under)
+              | inr long ↦ absurd (let stays = count-stays contents len some long in grind (arith, nat_tests, stays, some, after))
             ]
           ]
       | inr zero ↦ before (grind (arith, nat_tests, zero))
@@ -136,7 +136,7 @@ removed-settled s scene none before =
 
 -- the files stay sound
 pub cut-log-sound : (s : Served) (scene : Scene) (len : ℕ) → first_refusal (log_cut_rows s scene len) ≡ None → IsSound s →
-    IsSound (record s { log = Some (resized len (log_text s)) })
+    IsSound (record s { log = Some (resized len (log_contents s)) })
 cut-log-sound s scene len none sound = record {
   exclusive = sound.exclusive;
   torn = sound.torn;

@@ -15,7 +15,7 @@ use Rattle.file_view.specs.Errno.{EPERM}
 use Rattle.file_view.specs.LogParts.{log_owner_rows, log_own_rows, begins_anew}
 use Rattle.file_view.specs.LogRules.{breaks_header, changes_committed, changes_header, log_write_rows, log_commit_rows}
 use Rattle.file_view.specs.Refusal.{Row, first_refusal}
-use Rattle.file_view.specs.Served.{Served, log_text}
+use Rattle.file_view.specs.Served.{Served, log_contents}
 
 or-true : (a b : Bool) → (a || b) ≡ true → (a ≡ true) ⊎ (b ≡ true)
 or-true true b h = inl refl
@@ -61,15 +61,15 @@ changes old new on =
     (equal-bytes (take 32 new) (take 32 old) (fails (changes_header old new) parts.0), other-bytes (take (committed_end old) new) (take (committed_end old) old) parts.1)
 
 -- nothing of the log itself stands against a sound write
-pub sound-rows : (text : List ℕ) (page_size at : ℕ) (bytes : List ℕ) → IsSoundWrite text page_size at bytes → None ≡ first_refusal (log_own_rows text page_size at bytes)
-sound-rows text page_size at bytes sound =
+pub sound-rows : (contents : List ℕ) (page_size at : ℕ) (bytes : List ℕ) → IsSoundWrite contents page_size at bytes → None ≡ first_refusal (log_own_rows contents page_size at bytes)
+sound-rows contents page_size at bytes sound =
     let short : nat_lt 268435456 (at + length bytes) ≡ false = let low : at + length bytes ≤ 268435456 = sound.short in grind (arith, nat_tests, low) in
-    let header : breaks_header page_size at bytes (written at bytes text) ≡ false = elim (cases_Bool (breaks_header page_size at bytes (written at bytes text))) [
-      | inl on ↦ absurd (sound.header (breaks page_size at bytes (written at bytes text) on))
+    let header : breaks_header page_size at bytes (written at bytes contents) ≡ false = elim (cases_Bool (breaks_header page_size at bytes (written at bytes contents))) [
+      | inl on ↦ absurd (sound.header (breaks page_size at bytes (written at bytes contents) on))
       | inr off ↦ off
     ] in
-    let part : changes_committed text (written at bytes text) ≡ false = elim (cases_Bool (changes_committed text (written at bytes text))) [
-      | inl on ↦ absurd (sound.part (changes text (written at bytes text) on))
+    let part : changes_committed contents (written at bytes contents) ≡ false = elim (cases_Bool (changes_committed contents (written at bytes contents))) [
+      | inl on ↦ absurd (sound.part (changes contents (written at bytes contents) on))
       | inr off ↦ off
     ] in
     rw (short, header, part) refl
@@ -105,17 +105,17 @@ header_row s at bytes = (begins_anew s at bytes, EPERM)
 pub owner-refuses : (s : Served) (scene : Scene) (given : Option ℕ) (at : ℕ) (bytes : List ℕ) (number : Errno) → Some number ≡ first_refusal (log_owner_rows s scene given) →
     first_refusal (log_write_rows s scene given at bytes) ≡ Some number
 owner-refuses s scene given at bytes number is =
-    front-refuses (log_owner_rows s scene given) (log_own_rows (log_text s) (wanted_size scene.page_size scene.commit) at bytes ++ header_row s at bytes ∷ log_commit_rows s at bytes) number is
+    front-refuses (log_owner_rows s scene given) (log_own_rows (log_contents s) (wanted_size scene.page_size scene.commit) at bytes ++ header_row s at bytes ∷ log_commit_rows s at bytes) number is
 
 pub own-refuses : (s : Served) (scene : Scene) (given : Option ℕ) (at : ℕ) (bytes : List ℕ) (number : Errno) → None ≡ first_refusal (log_owner_rows s scene given) →
-    Some number ≡ first_refusal (log_own_rows (log_text s) (wanted_size scene.page_size scene.commit) at bytes) → first_refusal (log_write_rows s scene given at bytes) ≡ Some number
+    Some number ≡ first_refusal (log_own_rows (log_contents s) (wanted_size scene.page_size scene.commit) at bytes) → first_refusal (log_write_rows s scene given at bytes) ≡ Some number
 own-refuses s scene given at bytes number one is =
-    front-passes (log_owner_rows s scene given) (log_own_rows (log_text s) (wanted_size scene.page_size scene.commit) at bytes ++ header_row s at bytes ∷ log_commit_rows s at bytes) one
-    ∙ front-refuses (log_own_rows (log_text s) (wanted_size scene.page_size scene.commit) at bytes) (header_row s at bytes ∷ log_commit_rows s at bytes) number is
+    front-passes (log_owner_rows s scene given) (log_own_rows (log_contents s) (wanted_size scene.page_size scene.commit) at bytes ++ header_row s at bytes ∷ log_commit_rows s at bytes) one
+    ∙ front-refuses (log_own_rows (log_contents s) (wanted_size scene.page_size scene.commit) at bytes) (header_row s at bytes ∷ log_commit_rows s at bytes) number is
 
 pub own-passes : (s : Served) (scene : Scene) (given : Option ℕ) (at : ℕ) (bytes : List ℕ) → None ≡ first_refusal (log_owner_rows s scene given) →
-    None ≡ first_refusal (log_own_rows (log_text s) (wanted_size scene.page_size scene.commit) at bytes) →
+    None ≡ first_refusal (log_own_rows (log_contents s) (wanted_size scene.page_size scene.commit) at bytes) →
     first_refusal (log_write_rows s scene given at bytes) ≡ (if begins_anew s at bytes then Some EPERM else first_refusal (log_commit_rows s at bytes))
 own-passes s scene given at bytes one two =
-    front-passes (log_owner_rows s scene given) (log_own_rows (log_text s) (wanted_size scene.page_size scene.commit) at bytes ++ header_row s at bytes ∷ log_commit_rows s at bytes) one
-    ∙ front-passes (log_own_rows (log_text s) (wanted_size scene.page_size scene.commit) at bytes) (header_row s at bytes ∷ log_commit_rows s at bytes) two
+    front-passes (log_owner_rows s scene given) (log_own_rows (log_contents s) (wanted_size scene.page_size scene.commit) at bytes ++ header_row s at bytes ∷ log_commit_rows s at bytes) one
+    ∙ front-passes (log_own_rows (log_contents s) (wanted_size scene.page_size scene.commit) at bytes) (header_row s at bytes ∷ log_commit_rows s at bytes) two

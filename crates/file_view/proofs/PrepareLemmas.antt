@@ -12,7 +12,7 @@ use Rattle.lf_sqlite_pages.specs.Change.{PageChange}
 use Rattle.lf_sqlite_pages.specs.Image.{DatabaseImage, SameImage}
 use Rattle.lf_sqlite_pages.specs.PageSize.{IsPageSize}
 use Rattle.lf_sqlite_pages.proofs.LockPages.{page_size-positive}
-use Rattle.wal_watch.specs.File.{Wal, text_of}
+use Rattle.wal_watch.specs.File.{Wal, contents_of}
 use Rattle.wal_watch.specs.Frames.{page_size_in, size_in, is_header, committed_count}
 use Rattle.wal_watch.specs.News.{first_new, last_size, change_of, change_between, HasSameFrames}
 use Rattle.wal_watch.specs.Refusals.{IsSoundWrite, KeepsCommitted}
@@ -32,16 +32,16 @@ use Rattle.file_view.specs.LogRules.{FollowsImage, IsMade, commits_frames, Leads
 use Rattle.file_view.proofs.HeldLemmas.{free-file}
 
 -- where a write leaves committed frames, the log has the image's page size
-pub step-sized : (text bytes : List ℕ) (page_size commit at : ℕ) → IsSoundWrite text (wanted_size page_size commit) at bytes → (0 < commit → IsPageSize page_size) →
-    0 < committed_count (written at bytes text) → 0 < commit → page_size_in (written at bytes text) ≡ page_size
-step-sized text bytes page_size commit at sound valid some many =
-    let new : List ℕ = written at bytes text in
+pub step-sized : (contents bytes : List ℕ) (page_size commit at : ℕ) → IsSoundWrite contents (wanted_size page_size commit) at bytes → (0 < commit → IsPageSize page_size) →
+    0 < committed_count (written at bytes contents) → 0 < commit → page_size_in (written at bytes contents) ≡ page_size
+step-sized contents bytes page_size commit at sound valid some many =
+    let new : List ℕ = written at bytes contents in
     let test : (commit == 0) ≡ false = ne_eqb commit 0 (λ none. omega (arith, none, many)) in
     let wanted : wanted_size page_size commit ≡ page_size = cond-false (commit == 0) 0 page_size test in
-    let header : is_header (written at bytes text) ≡ true =
-    valid_header (written at bytes text) (committed_count (written at bytes text)) (has_committed (written at bytes text) (committed_count (written at bytes text)) refl some).valid in
+    let header : is_header (written at bytes contents) ≡ true =
+    valid_header (written at bytes contents) (committed_count (written at bytes contents)) (has_committed (written at bytes contents) (committed_count (written at bytes contents)) refl some).valid in
     let positive : 0 < page_size = page_size-positive page_size (valid many) in
-    elim (cases_eq (page_size_in (written at bytes text)) page_size) [
+    elim (cases_eq (page_size_in (written at bytes contents)) page_size) [
       | inl same ↦ same
       | inr apart ↦ absurd (sound.header (inr (λ zero_size. omega (arith, zero_size, wanted, positive), header, λ is. apart (is ∙ wanted))))
     ]
@@ -61,8 +61,8 @@ none-commits old new none = elim (cases_lt (first_new old new) (committed_count 
   | inr fewer ↦ fewer
 ]
 
-own-last : (text : List ℕ) → 0 < committed_count text → last_size text ≡ size_in text (committed_count text - 1)
-own-last text there = let test : (committed_count text == 0) ≡ false = grind (arith, nat_tests) in cond-false _ _ _ test
+own-last : (contents : List ℕ) → 0 < committed_count contents → last_size contents ≡ size_in contents (committed_count contents - 1)
+own-last contents there = let test : (committed_count contents == 0) ≡ false = grind (arith, nat_tests) in cond-false _ _ _ test
 
 pub stored-follows : (old new : List ℕ) (page_size commit : ℕ) → KeepsCommitted old new → change_between old new ≡ None → FollowsImage old page_size commit →
     FollowsImage new page_size commit
@@ -100,45 +100,45 @@ not-made : (told : Option DatabaseImage) (old new : List ℕ) (change : PageChan
 not-made told old new change none commits = absurd (let fewer = none-commits old new none in let off : nat_lt (first_new old new) (committed_count new) ≡ false = grind (arith, nat_tests, fewer) in cc (commits, off))
 
 pub stored : (told : Option DatabaseImage) (page_size commit at : ℕ) (bytes : List ℕ) (old new : DatabaseFile) (log later : Wal) → IsStored old new log later at bytes →
-    MayChangeHeader old (text_of log) (written at bytes (text_of log)) → FollowsLog old page_size commit (text_of log) →
-    IfSome told (λ i. MayChangeHeader old (text_of log) (written at bytes (text_of log)) → KeepsDifferences old i → Agrees old i (text_of log) → Agrees old i (written at bytes (text_of log))) →
+    MayChangeHeader old (contents_of log) (written at bytes (contents_of log)) → FollowsLog old page_size commit (contents_of log) →
+    IfSome told (λ i. MayChangeHeader old (contents_of log) (written at bytes (contents_of log)) → KeepsDifferences old i → Agrees old i (contents_of log) → Agrees old i (written at bytes (contents_of log))) →
     IsLogStored told page_size commit old log at bytes new later
 stored told page_size commit at bytes old new log later is may follows agrees =
-    let text : text_of later ≡ written at bytes (text_of log) = ap text_of is.log_is in
-    let none : change_between (text_of log) (written at bytes (text_of log)) ≡ None = subst (λ (t : List ℕ). change_between (text_of log) t ≡ None) text is.none in
-    let kept : KeepsCommitted (text_of log) (written at bytes (text_of log)) = subst (λ (t : List ℕ). KeepsCommitted (text_of log) t) text is.kept in
+    let contents : contents_of later ≡ written at bytes (contents_of log) = ap contents_of is.log_is in
+    let none : change_between (contents_of log) (written at bytes (contents_of log)) ≡ None = subst (λ (t : List ℕ). change_between (contents_of log) t ≡ None) contents is.none in
+    let kept : KeepsCommitted (contents_of log) (written at bytes (contents_of log)) = subst (λ (t : List ℕ). KeepsCommitted (contents_of log) t) contents is.kept in
     record {
       commits = record {
         nothing = λ off. refl;
-        made = not-made told (text_of log) (written at bytes (text_of log)) _ none;
+        made = not-made told (contents_of log) (written at bytes (contents_of log)) _ none;
         is = tt;
       };
       keeps = record {
-        follows = stored-follows (text_of log) (written at bytes (text_of log)) page_size commit kept none (record { page_size_is = follows.page_size_is; commit_is = follows.commit_is });
-        agrees = stored-agrees told old (text_of log) (written at bytes (text_of log)) may agrees;
+        follows = stored-follows (contents_of log) (written at bytes (contents_of log)) page_size commit kept none (record { page_size_is = follows.page_size_is; commit_is = follows.commit_is });
+        agrees = stored-agrees told old (contents_of log) (written at bytes (contents_of log)) may agrees;
       };
       file = is.file;
-      text = ap (λ (w : Wal). w.text) is.log_is;
+      contents = ap (λ (w : Wal). w.contents) is.log_is;
     }
 
 -- a commit that leaves the image as it is
 same-made : (told : Option DatabaseImage) (change is : PageChange) → change ≡ is → IfSome told (λ i. SameImage (apply i change) i) → IfSome told (λ i. IsMade i is None)
 same-made told change is e same = subst (λ (x : PageChange). IfSome told (λ i. IsMade i x None)) e same
 
-same-agrees : (told : Option DatabaseImage) (old mid : DatabaseFile) (log : List ℕ) (text : List ℕ) (c : LogCommit) → MayChangeHeader old log text →
-    IfSome told (λ i. MayChangeHeader old log text → KeepsDifferences old i → Agrees old i log → Commits old mid i text c) → IfSome told (λ i. SameImage (apply i c.change) i) →
-    IfSome told (λ i. KeepsDifferences old i → Agrees old i log → Agrees old i text)
-same-agrees None old mid log text c may commits same = tt
-same-agrees (Some i) old mid log text c may commits same = λ keeps agrees.
+same-agrees : (told : Option DatabaseImage) (old mid : DatabaseFile) (log : List ℕ) (contents : List ℕ) (c : LogCommit) → MayChangeHeader old log contents →
+    IfSome told (λ i. MayChangeHeader old log contents → KeepsDifferences old i → Agrees old i log → Commits old mid i contents c) → IfSome told (λ i. SameImage (apply i c.change) i) →
+    IfSome told (λ i. KeepsDifferences old i → Agrees old i log → Agrees old i contents)
+same-agrees None old mid log contents c may commits same = tt
+same-agrees (Some i) old mid log contents c may commits same = λ keeps agrees.
     subst (λ (x : DatabaseImage). SameImage x i) (commits may keeps agrees).leads same
 
 settled-none : (told : Option DatabaseImage) (page_size commit at : ℕ) (bytes : List ℕ) (old mid new : DatabaseFile) (log room later : Wal) (c : LogCommit) →
-    IsReady old mid (text_of log) page_size commit at bytes c → HasRoomFor log room at bytes → MayChangeHeader old (text_of log) (written at bytes (text_of log)) →
-    IsSoundWrite (text_of log) (wanted_size page_size commit) at bytes → (0 < commit → IsPageSize page_size) →
-    IfSome told (λ i. MayChangeHeader old (text_of log) (written at bytes (text_of log)) → KeepsDifferences old i → Agrees old i (text_of log) → Commits old mid i (written at bytes (text_of log)) c) →
+    IsReady old mid (contents_of log) page_size commit at bytes c → HasRoomFor log room at bytes → MayChangeHeader old (contents_of log) (written at bytes (contents_of log)) →
+    IsSoundWrite (contents_of log) (wanted_size page_size commit) at bytes → (0 < commit → IsPageSize page_size) →
+    IfSome told (λ i. MayChangeHeader old (contents_of log) (written at bytes (contents_of log)) → KeepsDifferences old i → Agrees old i (contents_of log) → Commits old mid i (written at bytes (contents_of log)) c) →
     IsSettled told commit c mid room at bytes None new later → IsLogStored told page_size commit old log at bytes new later
 settled-none told page_size commit at bytes old mid new log room later c ready has may sound valid commits is =
-    let count : last_size (written at bytes (text_of log)) ≡ commit = sym (ap (λ (x : PageChange). x.commit) ready.change) ∙ is.2 in
+    let count : last_size (written at bytes (contents_of log)) ≡ commit = sym (ap (λ (x : PageChange). x.commit) ready.change) ∙ is.2 in
     record {
       commits = record {
         nothing = λ off. refl;
@@ -147,33 +147,33 @@ settled-none told page_size commit at bytes old mid new log room later c ready h
       };
       keeps = record {
         follows = record {
-          page_size_is = λ some. step-sized (text_of log) bytes page_size commit at sound valid some (omega (arith, last_some (written at bytes (text_of log)) some, count));
+          page_size_is = λ some. step-sized (contents_of log) bytes page_size commit at sound valid some (omega (arith, last_some (written at bytes (contents_of log)) some, count));
           commit_is = λ some. count;
         };
-        agrees = same-agrees told old mid (text_of log) (written at bytes (text_of log)) c may commits is.3;
+        agrees = same-agrees told old mid (contents_of log) (written at bytes (contents_of log)) c may commits is.3;
       };
       file = is.0 ∙ ready.back;
-      text = ap (λ (w : Wal). w.text) is.1 ∙ ap (λ (t : Option (List ℕ)). Some (written at bytes (unwrap_or t []))) has.text;
+      contents = ap (λ (w : Wal). w.contents) is.1 ∙ ap (λ (t : Option (List ℕ)). Some (written at bytes (unwrap_or t []))) has.contents;
     }
 
 -- one that waits
 other-made : (told : Option DatabaseImage) (change is : PageChange) → change ≡ is → IfSome told (λ i. SameImage (apply i change) i → ⊥) → IfSome told (λ i. IsMade i is (Some change))
 other-made told change is e other = subst (λ (x : PageChange). IfSome told (λ i. IsMade i x (Some change))) e other
 
-leads-on : (told : Option DatabaseImage) (old mid : DatabaseFile) (log : List ℕ) (text : List ℕ) (c : LogCommit) → MayChangeHeader old log text →
-    IfSome told (λ i. MayChangeHeader old log text → KeepsDifferences old i → Agrees old i log → Commits old mid i text c) →
-    IfSome told (λ i. KeepsDifferences old i → Agrees old i log → LeadsUnderLog old i text c.change (held_for mid c.write).file)
-leads-on None old mid log text c may commits = tt
-leads-on (Some i) old mid log text c may commits = λ keeps agrees.
+leads-on : (told : Option DatabaseImage) (old mid : DatabaseFile) (log : List ℕ) (contents : List ℕ) (c : LogCommit) → MayChangeHeader old log contents →
+    IfSome told (λ i. MayChangeHeader old log contents → KeepsDifferences old i → Agrees old i log → Commits old mid i contents c) →
+    IfSome told (λ i. KeepsDifferences old i → Agrees old i log → LeadsUnderLog old i contents c.change (held_for mid c.write).file)
+leads-on None old mid log contents c may commits = tt
+leads-on (Some i) old mid log contents c may commits = λ keeps agrees.
     let all = commits may keeps agrees in record { leads = all.leads; stays = all.stays; agrees = all.agrees }
 
 settled-some : (told : Option DatabaseImage) (page_size commit at : ℕ) (bytes : List ℕ) (old mid : DatabaseFile) (log room : Wal) (c : LogCommit) →
-    IsReady old mid (text_of log) page_size commit at bytes c → HasRoomFor log room at bytes → MayChangeHeader old (text_of log) (written at bytes (text_of log)) →
-    IfSome told (λ i. MayChangeHeader old (text_of log) (written at bytes (text_of log)) → KeepsDifferences old i → Agrees old i (text_of log) → Commits old mid i (written at bytes (text_of log)) c) →
+    IsReady old mid (contents_of log) page_size commit at bytes c → HasRoomFor log room at bytes → MayChangeHeader old (contents_of log) (written at bytes (contents_of log)) →
+    IfSome told (λ i. MayChangeHeader old (contents_of log) (written at bytes (contents_of log)) → KeepsDifferences old i → Agrees old i (contents_of log) → Commits old mid i (written at bytes (contents_of log)) c) →
     IfSome told (λ i. SameImage (apply i c.change) i → ⊥) → IsLogHeld told commit old log at bytes c mid room
 settled-some told page_size commit at bytes old mid log room c ready has may commits other = record {
   commits = record {
-    nothing = λ off. absurd (let on : nat_lt (first_new (text_of log) (written at bytes (text_of log))) (committed_count (written at bytes (text_of log))) ≡ true =
+    nothing = λ off. absurd (let on : nat_lt (first_new (contents_of log) (written at bytes (contents_of log))) (committed_count (written at bytes (contents_of log))) ≡ true =
         grind (arith, nat_tests, ready.more) in cc (on, off));
     made = λ on. other-made told c.change _ ready.change other;
     is = ready.change;
@@ -182,16 +182,16 @@ settled-some told page_size commit at bytes old mid log room c ready has may com
     at_is = ready.at_is;
     bytes_are = ready.bytes_are;
     fits = ready.later;
-    leads = leads-on told old mid (text_of log) (written at bytes (text_of log)) c may commits;
+    leads = leads-on told old mid (contents_of log) (written at bytes (contents_of log)) c may commits;
   };
   back = ready.back;
   room = has;
 }
 
 pub settled : (told : Option DatabaseImage) (page_size commit at : ℕ) (bytes : List ℕ) (old mid new : DatabaseFile) (log room later : Wal) (c : LogCommit) (s : Option LogCommit) →
-    IsReady old mid (text_of log) page_size commit at bytes c → HasRoomFor log room at bytes → MayChangeHeader old (text_of log) (written at bytes (text_of log)) →
-    IsSoundWrite (text_of log) (wanted_size page_size commit) at bytes → (0 < commit → IsPageSize page_size) →
-    IfSome told (λ i. MayChangeHeader old (text_of log) (written at bytes (text_of log)) → KeepsDifferences old i → Agrees old i (text_of log) → Commits old mid i (written at bytes (text_of log)) c) →
+    IsReady old mid (contents_of log) page_size commit at bytes c → HasRoomFor log room at bytes → MayChangeHeader old (contents_of log) (written at bytes (contents_of log)) →
+    IsSoundWrite (contents_of log) (wanted_size page_size commit) at bytes → (0 < commit → IsPageSize page_size) →
+    IfSome told (λ i. MayChangeHeader old (contents_of log) (written at bytes (contents_of log)) → KeepsDifferences old i → Agrees old i (contents_of log) → Commits old mid i (written at bytes (contents_of log)) c) →
     IsSettled told commit c mid room at bytes s new later → LogWrites told page_size commit old log at bytes s new later
 settled told page_size commit at bytes old mid new log room later c None ready has may sound valid commits is =
     settled-none told page_size commit at bytes old mid new log room later c ready has may sound valid commits is

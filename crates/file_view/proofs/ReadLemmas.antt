@@ -35,8 +35,8 @@ read_all file len old items new place size n is room same reads =
     whole_read (unwrap_or file []) old new place size n (rw (same, ← whole) room) reads
 
 -- the salts of a log
-pub salts_read : (text old new : List ℕ) (n : ℕ) → length old ≡ 8 → 32 ≤ length text → Reads text 16 old new n → new ≡ take 8 (drop 16 text)
-salts_read text old new n eight long reads = whole_read text old new 16 8 n (omega (arith, eight, long)) reads
+pub salts_read : (contents old new : List ℕ) (n : ℕ) → length old ≡ 8 → 32 ≤ length contents → Reads contents 16 old new n → new ≡ take 8 (drop 16 contents)
+salts_read contents old new n eight long reads = whole_read contents old new 16 8 n (omega (arith, eight, long)) reads
 
 -- a buffer that was filled through a slice of all of it
 pub filled : (items out : List ℕ) (len : ℕ) → len ≡ length items → length out ≡ length items → take len (out ++ drop (length out) items) ≡ out

@@ -38,7 +38,7 @@ use Rattle.file_view.specs.NameRules.{with_file, unlinking_rows}
 use Rattle.file_view.specs.Overlay.{without_uncommitted, IsOverImage, StandsOver}
 use Rattle.file_view.specs.Refusal.{Row, first_refusal, IsAllowed}
 use Rattle.file_view.specs.Requests.{owner_of, write_rows, size_rows, rows_at, rows_of}
-use Rattle.file_view.specs.Served.{Served, log_text}
+use Rattle.file_view.specs.Served.{Served, log_contents}
 use Rattle.file_view.specs.Sound.{IsSound}
 use Rattle.file_view.proofs.LogStands.{cut-stands, removed-stands}
 use Rattle.file_view.proofs.RequestLemmas.{size-allowed, write-allowed, unlink-allowed}
@@ -73,14 +73,14 @@ journal-stands told page_size commit old scene c None new sized done stands = el
   | inl ends ↦
       let is = done.1 ∙ cond-true _ _ _ ends in
       let owner = some-owner old.writer (and_parts (finishes old c) (is_some old.writer) ends).1 in
-      stands-dropped told page_size commit old new owner.0 sized owner.1 (ap (λ (s : Served). s.database) is) (ap (λ (s : Served). log_text s) is) stands
+      stands-dropped told page_size commit old new owner.0 sized owner.1 (ap (λ (s : Served). s.database) is) (ap (λ (s : Served). log_contents s) is) stands
   | inr goes ↦
       let is = done.1 ∙ cond-false _ _ _ goes in
-      stands-still told page_size commit old new (ap (λ (s : Served). s.database) is) (ap (λ (s : Served). s.writer) is) (ap (λ (s : Served). log_text s) is) stands
+      stands-still told page_size commit old new (ap (λ (s : Served). s.database) is) (ap (λ (s : Served). s.writer) is) (ap (λ (s : Served). log_contents s) is) stands
 ]
 journal-stands told page_size commit old scene c (Some change) new sized done stands =
     let is = done.1 in
-    stands-still told page_size commit old new (ap (λ (s : Served). s.database) is) (ap (λ (s : Served). s.writer) is) (ap (λ (s : Served). log_text s) is) stands
+    stands-still told page_size commit old new (ap (λ (s : Served). s.database) is) (ap (λ (s : Served). s.writer) is) (ap (λ (s : Served). log_contents s) is) stands
 
 -- a write to the log comes where there is no writer
 pub log-alone : (s : Served) (scene : Scene) (given : Option ℕ) (place : ℕ) (bytes : List ℕ) → first_refusal (log_write_rows s scene given place bytes) ≡ None → s.writer ≡ None
@@ -91,11 +91,11 @@ log-alone s scene given place bytes none =
       second false b h = h
 
 stored-stands : (told : Option DatabaseImage) (old : Served) (scene : Scene) (place : ℕ) (bytes : List ℕ) (new : Served) → old.writer ≡ None →
-    LogKeeps told old.database (log_text old) (log_after old place bytes) scene.page_size scene.commit → new ≡ log_written old place bytes → StandsOver told scene.page_size scene.commit old → StandsOver told scene.page_size scene.commit new
+    LogKeeps told old.database (log_contents old) (log_after old place bytes) scene.page_size scene.commit → new ≡ log_written old place bytes → StandsOver told scene.page_size scene.commit old → StandsOver told scene.page_size scene.commit new
 stored-stands told old scene place bytes new alone keeps is stands =
     subst (λ (s : Served). StandsOver told scene.page_size scene.commit s) (sym is)
     (record { shape = record { fits = stands.shape.fits; follows = keeps.follows }; image = over-told told keeps.agrees stands.image }) where
-      over-told : (told : Option DatabaseImage) → IfSome told (λ i. KeepsDifferences old.database i → Agrees old.database i (log_text old) → Agrees old.database i (log_after old place bytes)) →
+      over-told : (told : Option DatabaseImage) → IfSome told (λ i. KeepsDifferences old.database i → Agrees old.database i (log_contents old) → Agrees old.database i (log_after old place bytes)) →
           IfSome told (IsOverImage old) → IfSome told (IsOverImage (log_written old place bytes))
       over-told None agrees h = tt
       over-told (Some i) agrees h = record { differs = h.differs; agrees = rw alone (agrees h.differs (rw alone at h.agrees)) }
@@ -106,7 +106,7 @@ pub log-stands : (told : Option DatabaseImage) (old : Served) (scene : Scene) (g
 log-stands told old scene given place bytes None new none done stands = stored-stands told old scene place bytes new (log-alone old scene given place bytes none) done.1.0 done.1.1 stands
 log-stands told old scene given place bytes (Some change) new none done stands =
     let is = done.1.state in
-    stands-still told scene.page_size scene.commit old new (ap (λ (s : Served). s.database) is) (ap (λ (s : Served). s.writer) is) (ap (λ (s : Served). log_text s) is) stands
+    stands-still told scene.page_size scene.commit old new (ap (λ (s : Served). s.database) is) (ap (λ (s : Served). s.writer) is) (ap (λ (s : Served). log_contents s) is) stands
 
 -- a request that may commit does what is said of its change
 pub does-of : (p : Plan) (r : Reply) (Does : Option PageChange → Type 0) → MayCommit p r Does → (change : Option PageChange) × Does change
@@ -116,9 +116,9 @@ does-of (plan.Commit given change) r Does may = (Some change, may.1)
 
 -- the files are others of which nothing counts here
 replied-stands : (told : Option DatabaseImage) (page_size commit : ℕ) (old files new : Served) → new ≡ files → files.database ≡ old.database → files.writer ≡ old.writer →
-    log_text files ≡ log_text old → StandsOver told page_size commit old → StandsOver told page_size commit new
-replied-stands told page_size commit old files new is database writer text stands =
-    subst (λ (s : Served). StandsOver told page_size commit s) (sym is) (stands-still told page_size commit old files database writer text stands)
+    log_contents files ≡ log_contents old → StandsOver told page_size commit old → StandsOver told page_size commit new
+replied-stands told page_size commit old files new is database writer contents stands =
+    subst (λ (s : Served). StandsOver told page_size commit s) (sym is) (stands-still told page_size commit old files database writer contents stands)
 
 module _ (told : Option DatabaseImage) (old : Served) (scene : Scene) (sized : 0 < scene.commit → IsPageSize scene.page_size) (sound : IsSound old)
     (stands : StandsOver told scene.page_size scene.commit old) where

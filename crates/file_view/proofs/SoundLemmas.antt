@@ -11,7 +11,7 @@ use Rattle.byte_locks.proofs.Locks.{same_owner-true}
 use Rattle.database_file.specs.DatabaseFile.{DatabaseFile, clean}
 use Rattle.lf_sqlite_pages.specs.Blocks.{ByteRoom, IsWithin}
 use Rattle.shm_index.specs.Shared.{Shared}
-use Rattle.wal_watch.specs.File.{Wal, text_of, after_write}
+use Rattle.wal_watch.specs.File.{Wal, contents_of, after_write}
 use Rattle.wal_watch.specs.Frames.{committed_count}
 use Rattle.file_view.specs.Acting.{is_writer, while_exclusive, settled_database}
 use Rattle.file_view.specs.DatabaseParts.{IsOwned}
@@ -104,16 +104,16 @@ overtaken-none file None is = refl
 overtaken-none file (Some old) is = absurd cc
 
 abbrev empty_of : List ℕ → List ℕ
-empty_of text = []
+empty_of contents = []
 
 emptied : (o : Option (List ℕ)) → IsSome o → is_some (option_map empty_of o) ≡ true
 emptied None some = some
-emptied (Some text) some = refl
+emptied (Some contents) some = refl
 
 room-stays : (room : ByteRoom) (at count : ℕ) → IsWithin room at count → IsWithin room at 0
 room-stays room at count within = record { from = within.from; to = omega (arith, within.to) }
 
-applied-parts : (v : Inside) (log : Wal) (shared : Shared) → log.text ≡ option_map (λ _. []) v.log.text → log.room ≡ v.log.room → IsKept v →
+applied-parts : (v : Inside) (log : Wal) (shared : Shared) → log.contents ≡ option_map (λ _. []) v.log.contents → log.room ≡ v.log.room → IsKept v →
     IsKept (record v {
       database = record { file = clean v.database.file; held = option_map (overtaken v.database.file) v.database.held };
       journal = record { file = option_map (λ _. []) v.journal.file; waiting = v.journal.waiting };
@@ -121,7 +121,7 @@ applied-parts : (v : Inside) (log : Wal) (shared : Shared) → log.text ≡ opti
       shared = shared;
       writer = None;
     })
-applied-parts v log shared text room kept = record {
+applied-parts v log shared contents room kept = record {
   sound = record {
     exclusive = λ owner is. absurd cc;
     torn = kept.sound.torn;
@@ -132,7 +132,7 @@ applied-parts v log shared text room kept = record {
     unwritten = λ owner is. absurd cc;
     logged = λ w is.
         let old = overtaken-some v.database.file v.database.held w is in
-        subst (λ (t : Option (List ℕ)). IsSome t) (sym text) (emptied v.log.text (kept.sound.logged old.0 old.1));
+        subst (λ (t : Option (List ℕ)). IsSome t) (sym contents) (emptied v.log.contents (kept.sound.logged old.0 old.1));
     left = λ w is none. overtaken-file v.database.file v.database.held w is;
   };
   room = λ w is.
@@ -143,27 +143,27 @@ applied-parts v log shared text room kept = record {
 
 pub applied-kept : (v : Inside) (d : DatabaseState) (journal : JournalState) (log : Wal) (shared : Shared) →
     d ≡ record { file = clean v.database.file; held = option_map (overtaken v.database.file) v.database.held } →
-    journal ≡ record { file = option_map (λ _. []) v.journal.file; waiting = v.journal.waiting } → log.text ≡ option_map (λ _. []) v.log.text → log.room ≡ v.log.room → IsKept v →
+    journal ≡ record { file = option_map (λ _. []) v.journal.file; waiting = v.journal.waiting } → log.contents ≡ option_map (λ _. []) v.log.contents → log.room ≡ v.log.room → IsKept v →
     IsKept (record v { database = d; journal = journal; log = log; shared = shared; writer = None })
-applied-kept v d journal log shared database calls text room kept =
+applied-kept v d journal log shared database calls contents room kept =
     subst (λ (x : DatabaseState). IsKept (record v { database = x; journal = journal; log = log; shared = shared; writer = None })) (sym database)
     (subst (λ (j : JournalState). IsKept (record v { database = record { file = clean v.database.file; held = option_map (overtaken v.database.file) v.database.held }; journal = j; log = log; shared = shared; writer = None }))
-    (sym calls) (applied-parts v log shared text room kept))
+    (sym calls) (applied-parts v log shared contents room kept))
 
 -- once a write to the log is done
 there : (o : Option HeldWrite) → is_some o ≡ true → (w : HeldWrite) × (o ≡ Some w)
 there None h = absurd cc
 there (Some w) h = (w, refl)
 
-done-parts : (v : Inside) (w : HeldWrite) (log : Wal) → v.database.held ≡ Some w → text_of log ≡ text_of (after_write v.log w.at w.bytes) → IsSome log.text → IsKept v →
+done-parts : (v : Inside) (w : HeldWrite) (log : Wal) → v.database.held ≡ Some w → contents_of log ≡ contents_of (after_write v.log w.at w.bytes) → IsSome log.contents → IsKept v →
     IsKept (record v { database = record { file = w.file; held = None }; log = log })
-done-parts v w log is text some kept = record {
+done-parts v w log is contents some kept = record {
   sound = record {
     exclusive = kept.sound.exclusive;
     torn = kept.sound.torn;
     apart = kept.sound.apart;
     journaled = kept.sound.journaled;
-    settled = λ none frames. kept.sound.left w is (subst (λ (t : List ℕ). nat_lt 0 (committed_count t) ≡ false) text frames);
+    settled = λ none frames. kept.sound.left w is (subst (λ (t : List ℕ). nat_lt 0 (committed_count t) ≡ false) contents frames);
     alone = λ call waits. refl;
     unwritten = λ owner writes. refl;
     logged = λ x waits. absurd cc;
@@ -173,10 +173,10 @@ done-parts v w log is text some kept = record {
 }
 
 pub done-kept : (v : Inside) (d : DatabaseState) (log : Wal) → is_some v.database.held ≡ true → ((w : HeldWrite) → v.database.held ≡ Some w → d ≡ record { file = w.file; held = None }) →
-    ((w : HeldWrite) → v.database.held ≡ Some w → text_of log ≡ text_of (after_write v.log w.at w.bytes)) → IsSome log.text → IsKept v → IsKept (record v { database = d; log = log })
-done-kept v d log waits database text some kept =
+    ((w : HeldWrite) → v.database.held ≡ Some w → contents_of log ≡ contents_of (after_write v.log w.at w.bytes)) → IsSome log.contents → IsKept v → IsKept (record v { database = d; log = log })
+done-kept v d log waits database contents some kept =
     let held = there v.database.held waits in
-    subst (λ (x : DatabaseState). IsKept (record v { database = x; log = log })) (sym (database held.0 held.1)) (done-parts v held.0 log held.1 (text held.0 held.1) some kept)
+    subst (λ (x : DatabaseState). IsKept (record v { database = x; log = log })) (sym (database held.0 held.1)) (done-parts v held.0 log held.1 (contents held.0 held.1) some kept)
 
 -- once the database file is another
 pub changed-kept : (v : Inside) (d : DatabaseState) (w : Option Owner) → w ≡ writer_after (served_of v) → IsOwned (served_of v) → d.held ≡ None → IsKept v →

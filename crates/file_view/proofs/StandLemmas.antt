@@ -19,7 +19,7 @@ use Rattle.lf_sqlite_pages.specs.PageSize.{IsPageSize}
 use Rattle.wal_watch.specs.Frames.{committed_count}
 use Rattle.file_view.specs.Acting.{is_writer, settled_database, while_exclusive, with_locks}
 use Rattle.file_view.specs.Overlay.{without_uncommitted, AgreesOver, IsOverImage, FitsImage, StandsOver}
-use Rattle.file_view.specs.Served.{Served, log_text, has_committed_frames}
+use Rattle.file_view.specs.Served.{Served, log_contents, has_committed_frames}
 use Rattle.file_view.specs.Sound.{IsSound}
 use Rattle.file_view.proofs.LogLemmas.{clean-is}
 
@@ -31,9 +31,9 @@ pub clean-clean : (file : DatabaseFile) → is_clean (clean file) ≡ true
 clean-clean file = rw (len-empty nat_cmp (List ℕ)) refl
 
 -- any two of them agree with the same logs
-pub clean-agrees-too : (one other : DatabaseFile) (image : DatabaseImage) (text : List ℕ) → Agrees (clean one) image text → Agrees (clean other) image text
-clean-agrees-too one other image text agrees =
-    over-pages (as_read (clean other) image) (as_read (clean one) image) text (clean-reads other image ∙ sym (clean-reads one image)) ∙ agrees
+pub clean-agrees-too : (one other : DatabaseFile) (image : DatabaseImage) (contents : List ℕ) → Agrees (clean one) image contents → Agrees (clean other) image contents
+clean-agrees-too one other image contents agrees =
+    over-pages (as_read (clean other) image) (as_read (clean one) image) contents (clean-reads other image ∙ sym (clean-reads one image)) ∙ agrees
 
 -- what holds of the image where it is told
 pub told-map : {A B : DatabaseImage → Type 0} (told : Option DatabaseImage) → ((i : DatabaseImage) → A i → B i) → IfSome told A → IfSome told B
@@ -43,30 +43,30 @@ told-map (Some i) f h = f i h
 -- the files stand where their database file, without what is uncommitted, and their log are the same
 pub stands-same : (told : Option DatabaseImage) (page_size commit : ℕ) (old new : Served) → FitsShape new.database page_size commit →
     IfSome told (λ i. KeepsDifferences old.database i → KeepsDifferences new.database i) →
-    without_uncommitted new ≡ without_uncommitted old → log_text new ≡ log_text old → StandsOver told page_size commit old → StandsOver told page_size commit new
-stands-same told page_size commit old new fits differs file text stands = record {
-  shape = record { fits = fits; follows = rw text stands.shape.follows };
+    without_uncommitted new ≡ without_uncommitted old → log_contents new ≡ log_contents old → StandsOver told page_size commit old → StandsOver told page_size commit new
+stands-same told page_size commit old new fits differs file contents stands = record {
+  shape = record { fits = fits; follows = rw contents stands.shape.follows };
   image = image told differs stands.image;
 } where
   image : (told : Option DatabaseImage) → IfSome told (λ i. KeepsDifferences old.database i → KeepsDifferences new.database i) → IfSome told (IsOverImage old) → IfSome told (IsOverImage new)
   image None d h = tt
-  image (Some i) d h = record { differs = d h.differs; agrees = rw (file, text) h.agrees }
+  image (Some i) d h = record { differs = d h.differs; agrees = rw (file, contents) h.agrees }
 
 -- so do files of which nothing is another that counts here
-pub stands-still : (told : Option DatabaseImage) (page_size commit : ℕ) (old new : Served) → new.database ≡ old.database → new.writer ≡ old.writer → log_text new ≡ log_text old →
+pub stands-still : (told : Option DatabaseImage) (page_size commit : ℕ) (old new : Served) → new.database ≡ old.database → new.writer ≡ old.writer → log_contents new ≡ log_contents old →
     StandsOver told page_size commit old → StandsOver told page_size commit new
-stands-still told page_size commit old new database writer text stands =
-    stands-same told page_size commit old new (rw database stands.shape.fits) (keeps told) (rw (writer, database) refl) text stands where
+stands-still told page_size commit old new database writer contents stands =
+    stands-same told page_size commit old new (rw database stands.shape.fits) (keeps told) (rw (writer, database) refl) contents stands where
       keeps : (told : Option DatabaseImage) → IfSome told (λ i. KeepsDifferences old.database i → KeepsDifferences new.database i)
       keeps None = tt
       keeps (Some i) = λ h. rw database h
 
 -- and files whose uncommitted pages went
 pub stands-dropped : (told : Option DatabaseImage) (page_size commit : ℕ) (old new : Served) (owner : Owner) → (0 < commit → IsPageSize page_size) → old.writer ≡ Some owner →
-    new.database ≡ clean old.database → log_text new ≡ log_text old → StandsOver told page_size commit old → StandsOver told page_size commit new
-stands-dropped told page_size commit old new owner sized writer database text stands =
+    new.database ≡ clean old.database → log_contents new ≡ log_contents old → StandsOver told page_size commit old → StandsOver told page_size commit new
+stands-dropped told page_size commit old new owner sized writer database contents stands =
     let nothing = clean-nothing old.database in
-    stands-same told page_size commit old new (rw database (nothing.fits page_size commit sized)) (keeps told nothing) (rw (writer, database) (again (is_some new.writer))) text stands where
+    stands-same told page_size commit old new (rw database (nothing.fits page_size commit sized)) (keeps told nothing) (rw (writer, database) (again (is_some new.writer))) contents stands where
       keeps : (told : Option DatabaseImage) → KeepsNothing (clean old.database) → IfSome told (λ i. KeepsDifferences old.database i → KeepsDifferences new.database i)
       keeps None nothing = tt
       keeps (Some i) nothing = λ h. rw database (nothing.differs i)

@@ -40,17 +40,17 @@ use Rattle.file_view.specs.NameRules.{with_file, unlinking_rows}
 use Rattle.file_view.specs.Refusal.{first_refusal}
 use Rattle.file_view.specs.Requests.{owner_of, write_rows, size_rows, rows_at}
 use Rattle.file_view.specs.Roles.{is_replica}
-use Rattle.file_view.specs.Served.{Served, log_text, has_committed_frames, waits}
+use Rattle.file_view.specs.Served.{Served, log_contents, has_committed_frames, waits}
 use Rattle.file_view.specs.Steady.{IsQuiet, SameDatabase, CommitsNothing}
 use Rattle.file_view.proofs.LogLemmas.{cut-sound}
 use Rattle.file_view.proofs.RequestLemmas.{size-allowed, write-allowed, unlink-allowed}
 use Rattle.file_view.proofs.RowLemmas.{none-holds, nothing-held}
 
 -- files of which nothing counts here
-quiet-same : (old new : Served) → IsQuiet old → new.database ≡ old.database → new.writer ≡ old.writer → waits new ≡ waits old → log_text new ≡ log_text old →
+quiet-same : (old new : Served) → IsQuiet old → new.database ≡ old.database → new.writer ≡ old.writer → waits new ≡ waits old → log_contents new ≡ log_contents old →
     SameDatabase old new × IsQuiet new
-quiet-same old new quiet database writer waiting text = (
-  record { file = database; frames = λ some. text; no_frames = λ none. rw text none },
+quiet-same old new quiet database writer waiting contents = (
+  record { file = database; frames = λ some. contents; no_frames = λ none. rw contents none },
   record { alone = writer ∙ quiet.alone; free = waiting ∙ quiet.free },
 )
 
@@ -75,11 +75,11 @@ quiet-created s file.LockFile handles quiet = quiet-same s (record (with_file s 
 quiet-created s file.Primary handles quiet = quiet-same s (record (with_file s file.Primary) { handles = handles }) quiet refl refl refl refl
 
 -- the log without frames is cut or removed
-no-frames-cut : (s : Served) (scene : Scene) (len : ℕ) → first_refusal (log_cut_rows s scene len) ≡ None → has_committed_frames s ≡ false → nat_lt 0 (committed_count (resized len (log_text s))) ≡ false
+no-frames-cut : (s : Served) (scene : Scene) (len : ℕ) → first_refusal (log_cut_rows s scene len) ≡ None → has_committed_frames s ≡ false → nat_lt 0 (committed_count (resized len (log_contents s))) ≡ false
 no-frames-cut s scene len none bare =
     let sound = cut-sound s scene len empty_none none in
-    let before : committed_count (log_text s) ≤ 0 = grind (arith, nat_tests, bare) in
-    elim (cases_lt (committed_count (log_text s)) (committed_count (resized len (log_text s)))) [
+    let before : committed_count (log_contents s) ≤ 0 = grind (arith, nat_tests, bare) in
+    elim (cases_lt (committed_count (log_contents s)) (committed_count (resized len (log_contents s)))) [
       | inl more ↦ absurd (sound.part (inr more))
       | inr fewer ↦ grind (arith, nat_tests, fewer, before)
     ]
@@ -120,7 +120,7 @@ module _ (told : Option DatabaseImage) (old : Served) (scene : Scene) (replica :
       let is = done.1.1 ∙ cond-false _ _ _ (no-ending c) in
       let held : old.held_write ≡ None = nothing-held old quiet.free in
       let both = quiet-same old new quiet (ap (λ (s : Served). s.database) is) (ap (λ (s : Served). s.writer) is) (ap (λ (s : Served). waits s) is ∙ rw held refl ∙ sym quiet.free)
-      (ap (λ (s : Served). log_text s) is) in
+      (ap (λ (s : Served). log_contents s) is) in
       (both.0, both.1, tt)
   called-quiet c plan.Silent r new done = absurd done
   called-quiet c (plan.Commit given change) r new done = absurd (let e : Some change ≡ None = done.1.0.nothing (no-ending c) in cc)

@@ -33,7 +33,7 @@ use Rattle.file_view.specs.NameRules.{with_file, unlinking_rows}
 use Rattle.file_view.specs.Overlay.{StandsOver}
 use Rattle.file_view.specs.Refusal.{first_refusal}
 use Rattle.file_view.specs.Requests.{owner_of, write_rows, size_rows, rows_at}
-use Rattle.file_view.specs.Served.{Served, log_text, waits}
+use Rattle.file_view.specs.Served.{Served, log_contents, waits}
 use Rattle.file_view.specs.Sound.{IsSound}
 use Rattle.file_view.specs.Steady.{GoesOn, CommitsNothing}
 use Rattle.file_view.proofs.EndingLemmas.{nothing-dropped}

@@ -27,7 +27,7 @@ use Rattle.file_view.specs.LogRules.{FollowsImage}
 use Rattle.file_view.specs.Overlay.{without_uncommitted, AgreesOver, IsOverImage, StandsOver}
 use Rattle.file_view.specs.Refusal.{first_refusal}
 use Rattle.file_view.specs.Roles.{is_replica}
-use Rattle.file_view.specs.Served.{Served, log_text, has_committed_frames}
+use Rattle.file_view.specs.Served.{Served, log_contents, has_committed_frames}
 use Rattle.file_view.specs.Sound.{IsSound}
 use Rattle.file_view.proofs.DatabaseLemmas.{opposite, two-fail, three-fail, write-parts, write-pages, writer-there, checkpoint-framed, resize-idle}
 use Rattle.file_view.proofs.FrameLemmas.{all-less, holds-is}
@@ -63,49 +63,49 @@ active-stands told old scene given size count other new sound active none change
     let exclusive : writes old.locks scene.session given lock.Shared ≡ true = opposite _ rows.1.0 in
     let there : is_some (writer_of old.locks lock.Shared) ≡ true = writer-there old.locks scene.session given lock.Shared exclusive in
     let writer : new.writer ≡ writer_of old.locks lock.Shared = ap (λ (s : Served). s.writer) changed.rest ∙ cond-true _ _ _ active in
-    let text : log_text new ≡ log_text old = ap (λ (s : Served). log_text s) changed.rest in
+    let contents : log_contents new ≡ log_contents old = ap (λ (s : Served). log_contents s) changed.rest in
     let after : without_uncommitted new ≡ clean new.database = rw (writer, there) refl in
     record {
       shape = record {
         fits = changed.fits;
-        follows = rw text stands.shape.follows;
+        follows = rw contents stands.shape.follows;
       };
-      image = over-told told changed.differs before after text stands.image;
+      image = over-told told changed.differs before after contents stands.image;
     } where
       over-told : (told : Option DatabaseImage) → IfSome told (λ i. KeepsDifferences old.database i → KeepsDifferences new.database i) →
-          without_uncommitted old ≡ clean old.database → without_uncommitted new ≡ clean new.database → log_text new ≡ log_text old →
+          without_uncommitted old ≡ clean old.database → without_uncommitted new ≡ clean new.database → log_contents new ≡ log_contents old →
           IfSome told (IsOverImage old) → IfSome told (IsOverImage new)
-      over-told None differs before after text h = tt
-      over-told (Some i) differs before after text h = record {
+      over-told None differs before after contents h = tt
+      over-told (Some i) differs before after contents h = record {
         differs = differs h.differs;
-        agrees = rw (after, text) (clean-agrees-too old.database new.database i (log_text old) (rw before at h.agrees));
+        agrees = rw (after, contents) (clean-agrees-too old.database new.database i (log_contents old) (rw before at h.agrees));
       }
 
 -- a checkpoint: the database under the log stays
 pub idle-stands : (told : Option DatabaseImage) (old : Served) (scene : Scene) (new : Served) → IsSound old → is_active old.journal.file ≡ false → has_committed_frames old ≡ true →
-    IsDatabaseChanged told old scene new → IfSome told (λ i. over (as_read new.database i) (log_text old) ≡ over (as_read old.database i) (log_text old)) →
+    IsDatabaseChanged told old scene new → IfSome told (λ i. over (as_read new.database i) (log_contents old) ≡ over (as_read old.database i) (log_contents old)) →
     StandsOver told scene.page_size scene.commit old → StandsOver told scene.page_size scene.commit new
 idle-stands told old scene new sound idle framed changed same stands =
     let alone : old.writer ≡ None = idle-alone old sound idle in
     let writer : new.writer ≡ None = ap (λ (s : Served). s.writer) changed.rest ∙ cond-false _ _ _ idle ∙ alone in
-    let text : log_text new ≡ log_text old = ap (λ (s : Served). log_text s) changed.rest in
+    let contents : log_contents new ≡ log_contents old = ap (λ (s : Served). log_contents s) changed.rest in
     let before : without_uncommitted old ≡ old.database = rw alone refl in
     let after : without_uncommitted new ≡ new.database = rw writer refl in
     record {
       shape = record {
         fits = changed.fits;
-        follows = rw text stands.shape.follows;
+        follows = rw contents stands.shape.follows;
       };
-      image = over-told told changed.differs same before after text stands.image;
+      image = over-told told changed.differs same before after contents stands.image;
     } where
       over-told : (told : Option DatabaseImage) → IfSome told (λ i. KeepsDifferences old.database i → KeepsDifferences new.database i) →
-          IfSome told (λ i. over (as_read new.database i) (log_text old) ≡ over (as_read old.database i) (log_text old)) →
-          without_uncommitted old ≡ old.database → without_uncommitted new ≡ new.database → log_text new ≡ log_text old →
+          IfSome told (λ i. over (as_read new.database i) (log_contents old) ≡ over (as_read old.database i) (log_contents old)) →
+          without_uncommitted old ≡ old.database → without_uncommitted new ≡ new.database → log_contents new ≡ log_contents old →
           IfSome told (IsOverImage old) → IfSome told (IsOverImage new)
-      over-told None differs same before after text h = tt
-      over-told (Some i) differs same before after text h = record {
+      over-told None differs same before after contents h = tt
+      over-told (Some i) differs same before after contents h = record {
         differs = differs h.differs;
-        agrees = rw (after, text) (ap (λ (d : DatabaseImage). d.pages) same ∙ (rw before at h.agrees));
+        agrees = rw (after, contents) (ap (λ (d : DatabaseImage). d.pages) same ∙ (rw before at h.agrees));
       }
 
 -- pages that committed frames hold
@@ -115,17 +115,17 @@ list-all-at p n k all within = elim (cases_Bool (p k)) [
   | inr fails ↦ absurd (let e : true ≡ false = sym all ∙ all-less p 0 n k k within (omega arith) fails in cc)
 ]
 
-frames-held : (text : List ℕ) (size first : ℕ) (bytes : List ℕ) → size ≡ page_size_in text → 1 ≤ page_count size bytes → hold_frames text size first bytes ≡ true → AreFrames text first bytes
-frames-held text size first bytes is some held =
-    subst (λ (n : ℕ). (1 ≤ length bytes / n) × ((k : ℕ) → k < length bytes / n → HoldsFrame text (first + k) (page_of_bytes bytes n k)) → AreFrames text first bytes) (sym is)
-    (λ facts. record { some = facts.0; frames = facts.1 }) (some, λ k within. holds-is text (first + k) (page_of_bytes bytes size k) (list-all-at (λ j. holds_frame text (first + j) (page_of_bytes bytes size j)) (page_count size bytes) k held within))
+frames-held : (contents : List ℕ) (size first : ℕ) (bytes : List ℕ) → size ≡ page_size_in contents → 1 ≤ page_count size bytes → hold_frames contents size first bytes ≡ true → AreFrames contents first bytes
+frames-held contents size first bytes is some held =
+    subst (λ (n : ℕ). (1 ≤ length bytes / n) × ((k : ℕ) → k < length bytes / n → HoldsFrame contents (first + k) (page_of_bytes bytes n k)) → AreFrames contents first bytes) (sym is)
+    (λ facts. record { some = facts.0; frames = facts.1 }) (some, λ k within. holds-is contents (first + k) (page_of_bytes bytes size k) (list-all-at (λ j. holds_frame contents (first + j) (page_of_bytes bytes size j)) (page_count size bytes) k held within))
 
 -- the page size of a write is that of a log with committed frames
-log-sized : (s : Served) (scene : Scene) (place : ℕ) (bytes : List ℕ) (size : ℕ) → has_committed_frames s ≡ true → FollowsImage (log_text s) scene.page_size scene.commit →
-    write_size s scene place bytes ≡ Some size → size ≡ page_size_in (log_text s)
+log-sized : (s : Served) (scene : Scene) (place : ℕ) (bytes : List ℕ) (size : ℕ) → has_committed_frames s ≡ true → FollowsImage (log_contents s) scene.page_size scene.commit →
+    write_size s scene place bytes ≡ Some size → size ≡ page_size_in (log_contents s)
 log-sized s scene place bytes size framed follows is =
-    let some : 0 < committed_count (log_text s) = grind (arith, nat_tests, framed) in
-    let commit : 0 < scene.commit = omega (arith, last_some (log_text s) some, follows.commit_is some) in
+    let some : 0 < committed_count (log_contents s) = grind (arith, nat_tests, framed) in
+    let commit : 0 < scene.commit = omega (arith, last_some (log_contents s) some, follows.commit_is some) in
     let test : (scene.commit == 0) ≡ false = grind (arith, nat_tests, commit) in
     let own : Some scene.page_size ≡ Some size = sym (rw test refl) ∙ is in
     let same : scene.page_size ≡ size = cc in
@@ -143,21 +143,21 @@ sized-write told old scene given place bytes size new sound is none written stan
           (rw active at parts.2) written.all stands
       | inr idle ↦
           let rows : first_refusal (checkpoint_rows old scene given size place bytes) ≡ None = rw idle at parts.2 in
-          let held : hold_frames (log_text old) size (first_page size place) bytes ≡ true = opposite _ (none-holds (checkpoint_rows old scene given size place bytes) rows).1.0 in
+          let held : hold_frames (log_contents old) size (first_page size place) bytes ≡ true = opposite _ (none-holds (checkpoint_rows old scene given size place bytes) rows).1.0 in
           let some : 1 ≤ page_count size bytes = (write-pages old scene given place bytes size none).some in
           let framed : has_committed_frames old ≡ true = checkpoint-framed old scene given size place bytes some rows in
-          let same : size ≡ page_size_in (log_text old) = log-sized old scene place bytes size framed stands.shape.follows is in
-          let frames = frames-held (log_text old) size (first_page size place) bytes same some held in
+          let same : size ≡ page_size_in (log_contents old) = log-sized old scene place bytes size framed stands.shape.follows is in
+          let frames = frames-held (log_contents old) size (first_page size place) bytes same some held in
           idle-stands told old scene new sound idle framed written.all (told-same told written.pages same frames) stands
     ] where
       told-same : (told : Option DatabaseImage) → IfSome told (λ i. as_read new.database i ≡ with_pages (as_read old.database i) size (first_page size place) bytes) →
-          size ≡ page_size_in (log_text old) → AreFrames (log_text old) (first_page size place) bytes →
-          IfSome told (λ i. over (as_read new.database i) (log_text old) ≡ over (as_read old.database i) (log_text old))
+          size ≡ page_size_in (log_contents old) → AreFrames (log_contents old) (first_page size place) bytes →
+          IfSome told (λ i. over (as_read new.database i) (log_contents old) ≡ over (as_read old.database i) (log_contents old))
       told-same None pages same frames = tt
       told-same (Some i) pages same frames =
-          ap (λ (d : DatabaseImage). over d (log_text old)) pages
-          ∙ ap (λ (n : ℕ). over (with_pages (as_read old.database i) n (first_page size place) bytes) (log_text old)) same
-          ∙ frames-keep (log_text old) bytes (first_page size place) (as_read old.database i) frames
+          ap (λ (d : DatabaseImage). over d (log_contents old)) pages
+          ∙ ap (λ (n : ℕ). over (with_pages (as_read old.database i) n (first_page size place) bytes) (log_contents old)) same
+          ∙ frames-keep (log_contents old) bytes (first_page size place) (as_read old.database i) frames
 
 pub write-stands : (told : Option DatabaseImage) (old : Served) (scene : Scene) (given : Option ℕ) (place : ℕ) (bytes : List ℕ) (new : Served) → IsSound old →
     first_refusal (database_write_rows old scene given place bytes) ≡ None → WritesDatabase told old scene place bytes new →
@@ -173,7 +173,7 @@ sized-resize : (told : Option DatabaseImage) (old : Served) (scene : Scene) (giv
     write_size old scene 0 [] ≡ Some size → resizes old scene count ≡ true → first_refusal (resize_rows old scene given size count) ≡ None → IsDatabaseSized told old scene size count new →
     StandsOver told scene.page_size scene.commit old → StandsOver told scene.page_size scene.commit new
 sized-resize told old scene given size count new sound is changes none done stands =
-    let h = and_parts (not (count == count_over old.database scene.commit)) (is_active old.journal.file || (count == last_size (log_text old))) changes in
+    let h = and_parts (not (count == count_over old.database scene.commit)) (is_active old.journal.file || (count == last_size (log_contents old))) changes in
     let other : (count == count_over old.database scene.commit) ≡ false = unequal _ h.0 in
     let rest = rw other at none in
     elim (cases_Bool (is_active old.journal.file)) [
@@ -182,9 +182,9 @@ sized-resize told old scene given size count new sound is changes none done stan
       | inr idle ↦
           let rows : first_refusal (checkpoint_resize_rows old scene given count) ≡ None = rw idle at rest in
           let framed : has_committed_frames old ≡ true = resize-idle old scene given count rows in
-          let last : (count == last_size (log_text old)) ≡ true = rw idle at h.1 in
-          let to : count ≡ last_size (log_text old) = grind (arith, nat_tests, last) in
-          let same : size ≡ page_size_in (log_text old) = log-sized old scene 0 [] size framed stands.shape.follows is in
+          let last : (count == last_size (log_contents old)) ≡ true = rw idle at h.1 in
+          let to : count ≡ last_size (log_contents old) = grind (arith, nat_tests, last) in
+          let same : size ≡ page_size_in (log_contents old) = log-sized old scene 0 [] size framed stands.shape.follows is in
           idle-stands told old scene new sound idle framed done.all (told-same told done.pages same to (grind (arith, nat_tests, framed))) stands
     ] where
       unequal : (b : Bool) → not b ≡ true → b ≡ false
@@ -192,14 +192,14 @@ sized-resize told old scene given size count new sound is changes none done stan
       unequal false e = refl
 
       told-same : (told : Option DatabaseImage) → IfSome told (λ i. as_read new.database i ≡ sized (as_read old.database i) size count) →
-          size ≡ page_size_in (log_text old) → count ≡ last_size (log_text old) → 0 < committed_count (log_text old) →
-          IfSome told (λ i. over (as_read new.database i) (log_text old) ≡ over (as_read old.database i) (log_text old))
+          size ≡ page_size_in (log_contents old) → count ≡ last_size (log_contents old) → 0 < committed_count (log_contents old) →
+          IfSome told (λ i. over (as_read new.database i) (log_contents old) ≡ over (as_read old.database i) (log_contents old))
       told-same None pages same to some = tt
       told-same (Some i) pages same to some =
-          ap (λ (d : DatabaseImage). over d (log_text old)) pages
-          ∙ ap (λ (n : ℕ). over (sized (as_read old.database i) n count) (log_text old)) same
-          ∙ ap (λ (n : ℕ). over (sized (as_read old.database i) (page_size_in (log_text old)) n) (log_text old)) to
-          ∙ resize-keeps (log_text old) (as_read old.database i) some
+          ap (λ (d : DatabaseImage). over d (log_contents old)) pages
+          ∙ ap (λ (n : ℕ). over (sized (as_read old.database i) n count) (log_contents old)) same
+          ∙ ap (λ (n : ℕ). over (sized (as_read old.database i) (page_size_in (log_contents old)) n) (log_contents old)) to
+          ∙ resize-keeps (log_contents old) (as_read old.database i) some
 
 pub resize-stands : (told : Option DatabaseImage) (old : Served) (scene : Scene) (given : Option ℕ) (len : ℕ) (new : Served) → IsSound old →
     first_refusal (database_size_rows old scene given len) ≡ None → SizesDatabase told old scene len new →

@@ -10,7 +10,7 @@ use Rattle.database_file.specs.DatabaseFile.{DatabaseFile, clean}
 use Rattle.shm_index.specs.Shared.{Shared, has_index}
 use Rattle.shm_index.specs.Index.{names_log, without_header}
 use Rattle.wal_watch.specs.Frames.{committed_count}
-use Rattle.file_view.specs.Served.{Served, log_text}
+use Rattle.file_view.specs.Served.{Served, log_contents}
 
 -- whether an owner is the session's, and of this number where one is given
 abbrev pub is_actor : ℕ → Option ℕ → Owner → Bool
@@ -41,12 +41,12 @@ has_left before locks = unwrap_or (option_map (λ owner. not (is_writer locks lo
 
 -- whether the index in shared memory is of the committed frames of the log, where there is an index and there are frames
 abbrev pub is_index_of : Shared → List ℕ → Bool
-is_index_of shared text = not (has_index shared) || nat_eq (committed_count text) 0 || names_log shared (committed_count text) (take 8 (drop 16 text))
+is_index_of shared contents = not (has_index shared) || nat_eq (committed_count contents) 0 || names_log shared (committed_count contents) (take 8 (drop 16 contents))
 
 -- once WRITE was left, the header of an index that doesn't name the committed frames becomes zeros, so that the next connection
 -- makes it anew from the log
 abbrev pub settled_index : Bool → List ℕ → Shared → Shared
-settled_index left text shared = if left && not (is_index_of shared text) then without_header shared else shared
+settled_index left contents shared = if left && not (is_index_of shared contents) then without_header shared else shared
 
 -- the files once the locks are others
 abbrev pub with_locks : Served → LockList → Served
@@ -55,5 +55,5 @@ with_locks s locks = record s {
   database = settled_database locks s.writer s.database;
   writer = while_exclusive locks s.writer;
   torn = while_exclusive locks s.torn;
-  shared = settled_index (has_left (writer_of s.locks lock.Write) locks) (log_text s) s.shared;
+  shared = settled_index (has_left (writer_of s.locks lock.Write) locks) (log_contents s) s.shared;
 }

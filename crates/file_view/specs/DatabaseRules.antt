@@ -22,7 +22,7 @@ use Rattle.file_view.specs.Errno.{EPERM, EIO, EAGAIN, EACCES, EINVAL, EFBIG, ENO
 use Rattle.file_view.specs.JournalState.{journal_page_size}
 use Rattle.file_view.specs.Refusal.{Row}
 use Rattle.file_view.specs.Roles.{is_replica}
-use Rattle.file_view.specs.Served.{Served, log_text, has_committed_frames, waits}
+use Rattle.file_view.specs.Served.{Served, log_contents, has_committed_frames, waits}
 
 -- the page size of a write: that of the committed image where it has pages, else of the file where it has pages, else that of an
 -- active journal, else the one that the bytes of a first page state
@@ -64,18 +64,18 @@ states_other size place bytes = (place == 0) && unwrap_or (option_map (λ stated
 
 -- whether a committed frame holds this page with these bytes; and each page of some bytes
 abbrev pub holds_frame : List ℕ → ℕ → List ℕ → Bool
-holds_frame text page bytes = list_any (λ k. (number_in text k == page) && bytes_eq (page_in text k) bytes) (range_with_len 0 (committed_count text))
+holds_frame contents page bytes = list_any (λ k. (number_in contents k == page) && bytes_eq (page_in contents k) bytes) (range_with_len 0 (committed_count contents))
 
 abbrev pub hold_frames : List ℕ → ℕ → ℕ → List ℕ → Bool
-hold_frames text size first bytes = list_all (λ k. holds_frame text (first + k) (page_of_bytes bytes size k)) (range_with_len 0 (page_count size bytes))
+hold_frames contents size first bytes = list_all (λ k. holds_frame contents (first + k) (page_of_bytes bytes size k)) (range_with_len 0 (page_count size bytes))
 
 -- whether a committed frame states this size of the database
 abbrev pub states_size : List ℕ → ℕ → Bool
-states_size text count = list_any (λ k. size_in text k == count) (range_with_len 0 (committed_count text))
+states_size contents count = list_any (λ k. size_in contents k == count) (range_with_len 0 (committed_count contents))
 
 -- whether the committed frames state this size: the last commit's, or that of an older one, which a commit has overtaken
 abbrev pub is_log_size : List ℕ → ℕ → Bool
-is_log_size text count = nat_lt 0 (committed_count text) && ((count == last_size text) || (not (count == 0) && states_size text count))
+is_log_size contents count = nat_lt 0 (committed_count contents) && ((count == last_size contents) || (not (count == 0) && states_size contents count))
 
 -- whether the acting owner may checkpoint: it holds CKPT or EXCLUSIVE
 abbrev pub may_checkpoint : Served → Scene → Option ℕ → Bool
@@ -96,7 +96,7 @@ uncommitted_rows s scene given size count other =
 abbrev pub checkpoint_rows : Served → Scene → Option ℕ → ℕ → ℕ → List ℕ → List Row
 checkpoint_rows s scene given size place bytes =
     (not (may_checkpoint s scene given), EACCES)
-    ∷ (not (hold_frames (log_text s) size (first_page size place) bytes), EPERM)
+    ∷ (not (hold_frames (log_contents s) size (first_page size place) bytes), EPERM)
     ∷ (waits s, EAGAIN)
     ∷ []
 
@@ -121,7 +121,7 @@ database_write_rows s scene given place bytes =
 abbrev pub checkpoint_resize_rows : Served → Scene → Option ℕ → ℕ → List Row
 checkpoint_resize_rows s scene given count =
     (not (may_checkpoint s scene given), EACCES)
-    ∷ (not (is_log_size (log_text s) count), EPERM)
+    ∷ (not (is_log_size (log_contents s) count), EPERM)
     ∷ (waits s, EAGAIN)
     ∷ []
 
@@ -171,7 +171,7 @@ pub record IsDatabaseSized (told : Option DatabaseImage) (old : Served) (scene :
 -- whether a resize changes anything: not to the size that the file has, nor by a checkpoint that a commit has overtaken
 abbrev pub resizes : Served → Scene → ℕ → Bool
 resizes s scene count =
-    not (count == count_over s.database scene.commit) && (is_active s.journal.file || (count == last_size (log_text s)))
+    not (count == count_over s.database scene.commit) && (is_active s.journal.file || (count == last_size (log_contents s)))
 
 pub record DatabaseSized (told : Option DatabaseImage) (old : Served) (scene : Scene) (size count : ℕ) (new : Served) : Type 0 where
   pub resized : resizes old scene count ≡ true → IsDatabaseSized told old scene size count new

@@ -14,7 +14,7 @@ use Rattle.lf_base.specs.FileBytes.{written}
 use Rattle.file_view.specs.Acting.{with_locks}
 use Rattle.file_view.specs.DatabaseState.{HeldWrite, overtaken}
 use Rattle.file_view.specs.JournalState.{after_waiting}
-use Rattle.file_view.specs.Served.{Served, log_text}
+use Rattle.file_view.specs.Served.{Served, log_contents}
 
 -- the uncommitted pages go, and their owner is torn; what frames of the log left in the database file stays
 abbrev pub dropped : Served → Served
@@ -32,7 +32,7 @@ ended s session = with_locks (record s { handles = without_session s.handles ses
 abbrev pub committed : Served → Served
 committed s = committed_by s.held_write where
   committed_by : Option HeldWrite → Served
-  committed_by (Some w) = record s { database = w.file; log = Some (written w.at w.bytes (log_text s)); held_write = None }
+  committed_by (Some w) = record s { database = w.file; log = Some (written w.at w.bytes (log_contents s)); held_write = None }
   committed_by None = record s {
     database = clean s.database;
     journal = record { file = after_waiting s.journal; waiting = None };

@@ -11,7 +11,7 @@ use Rattle.lf_base.specs.FileBytes.{written}
 use Rattle.lf_sqlite_pages.specs.Apply.{apply}
 use Rattle.lf_sqlite_pages.specs.Change.{PageChange}
 use Rattle.lf_sqlite_pages.specs.Image.{DatabaseImage, SameImage}
-use Rattle.wal_watch.specs.File.{Wal, text_of, after_write}
+use Rattle.wal_watch.specs.File.{Wal, contents_of, after_write}
 use Rattle.file_view.specs.DatabaseState.{HeldWrite, DatabaseState}
 use Rattle.file_view.specs.LogRules.{LogCommits, LogKeeps, IsHeldFor}
 use Rattle.file_view.specs.declared.database.Held.{Held}
@@ -70,15 +70,15 @@ IsSettled told commit c file log at bytes (Some d) new later =
 
 -- a write that is done, and the file stays
 pub record IsLogStored (told : Option DatabaseImage) (page_size commit : ℕ) (old : DatabaseFile) (log : Wal) (at : ℕ) (bytes : List ℕ) (new : DatabaseFile) (later : Wal) : Type 0 where
-  pub commits : LogCommits told old (text_of log) (written at bytes (text_of log)) commit None
-  pub keeps : LogKeeps told old (text_of log) (written at bytes (text_of log)) page_size commit
+  pub commits : LogCommits told old (contents_of log) (written at bytes (contents_of log)) commit None
+  pub keeps : LogKeeps told old (contents_of log) (written at bytes (contents_of log)) page_size commit
   pub file : new ≡ old
-  pub text : later.text ≡ Some (written at bytes (text_of log))
+  pub contents : later.contents ≡ Some (written at bytes (contents_of log))
 
 -- a write that waits: the file keeps pages for it, and was the old one before
 pub record IsLogHeld (told : Option DatabaseImage) (commit : ℕ) (old : DatabaseFile) (log : Wal) (at : ℕ) (bytes : List ℕ) (c : LogCommit) (new : DatabaseFile) (later : Wal) : Type 0 where
-  pub commits : LogCommits told old (text_of log) (written at bytes (text_of log)) commit (Some c.change)
-  pub held : IsHeldFor told old (text_of log) at bytes c.change (held_for new c.write)
+  pub commits : LogCommits told old (contents_of log) (written at bytes (contents_of log)) commit (Some c.change)
+  pub held : IsHeldFor told old (contents_of log) at bytes c.change (held_for new c.write)
   pub back : forgotten new c.write ≡ old
   pub room : HasRoomFor log later at bytes
 
@@ -91,6 +91,6 @@ LogWrites told page_size commit old log at bytes (Some c) new later = IsLogHeld 
 abbrev pub LogWrote : Option DatabaseImage → ℕ → ℕ → DatabaseState → Wal → ℕ → List ℕ → Option PageChange → DatabaseState → Wal → Type 0
 LogWrote told page_size commit old log at bytes None new later = (new ≡ old) × IsLogStored told page_size commit old.file log at bytes old.file later
 LogWrote told page_size commit old log at bytes (Some change) new later =
-    LogCommits told old.file (text_of log) (written at bytes (text_of log)) commit (Some change)
+    LogCommits told old.file (contents_of log) (written at bytes (contents_of log)) commit (Some change)
     × (HasRoomFor log later at bytes
-    × ((w : HeldWrite) × (IsHeldFor told old.file (text_of log) at bytes change w × (new ≡ record { file = old.file; held = Some w }))))
+    × ((w : HeldWrite) × (IsHeldFor told old.file (contents_of log) at bytes change w × (new ≡ record { file = old.file; held = Some w }))))

@@ -8,15 +8,15 @@ use Rattle.lf_sqlite_pages.specs.Image.{DatabaseImage, SameImage}
 use Rattle.file_view.specs.declared.scene.Scene.{Scene}
 use Rattle.file_view.specs.Endings.{committed}
 use Rattle.file_view.specs.LogRules.{FollowsImage, LogDone}
-use Rattle.file_view.specs.Served.{Served, log_text}
+use Rattle.file_view.specs.Served.{Served, log_contents}
 
 -- the files stand over a committed image: what the database file keeps differs from the image and fits it, and the file under the
 -- log is the image
 pub record StandsOver (s : Served) (image : DatabaseImage) : Type 0 where
   pub differs : KeepsDifferences s.database image
   pub fits : FitsShape s.database image.page_size (length image.pages)
-  pub follows : FollowsImage (log_text s) image.page_size (length image.pages)
-  pub agrees : Agrees s.database image (log_text s)
+  pub follows : FollowsImage (log_contents s) image.page_size (length image.pages)
+  pub agrees : Agrees s.database image (log_contents s)
 
 -- once the write that waits is done, the files stand over the image with its change, and the database file reads as it did
 pub record CommitsOver (old : Served) (image : DatabaseImage) (change : PageChange) (new : Served) : Type 0 where

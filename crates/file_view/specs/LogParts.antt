@@ -17,7 +17,7 @@ use Rattle.file_view.specs.FileFaults.{IsFault}
 use Rattle.file_view.specs.LogRules.{breaks_header, changes_committed, changes_header, log_after}
 use Rattle.file_view.specs.Refusal.{Row}
 use Rattle.file_view.specs.Roles.{is_replica}
-use Rattle.file_view.specs.Served.{Served, log_text}
+use Rattle.file_view.specs.Served.{Served, log_contents}
 
 -- what is refused whatever the log holds
 abbrev pub log_owner_rows : Served → Scene → Option ℕ → List Row
@@ -30,15 +30,15 @@ log_owner_rows s scene given =
 
 -- what the log itself refuses
 abbrev pub log_own_rows : List ℕ → ℕ → ℕ → List ℕ → List Row
-log_own_rows text page_size at bytes =
+log_own_rows contents page_size at bytes =
     (nat_lt 268435456 (at + length bytes), ENOSPC)
-    ∷ (breaks_header page_size at bytes (written at bytes text), EINVAL)
-    ∷ (changes_committed text (written at bytes text), EPERM)
+    ∷ (breaks_header page_size at bytes (written at bytes contents), EINVAL)
+    ∷ (changes_committed contents (written at bytes contents), EPERM)
     ∷ []
 
 -- whether a write leaves another header over a file that isn't the committed image
 abbrev pub begins_anew : Served → ℕ → List ℕ → Bool
-begins_anew s at bytes = changes_header (log_text s) (log_after s at bytes) && not (is_clean s.database)
+begins_anew s at bytes = changes_header (log_contents s) (log_after s at bytes) && not (is_clean s.database)
 
 -- whether a change makes a database past the limit
 abbrev pub makes_too_many : Option PageChange → Bool

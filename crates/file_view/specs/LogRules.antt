@@ -21,11 +21,11 @@ use Rattle.file_view.specs.DatabaseState.{HeldWrite}
 use Rattle.file_view.specs.Errno.{EPERM, EIO, EAGAIN, EACCES, EINVAL, EFBIG, ENOSPC, EROFS}
 use Rattle.file_view.specs.Refusal.{Row}
 use Rattle.file_view.specs.Roles.{is_replica}
-use Rattle.file_view.specs.Served.{Served, log_text, has_committed_frames, waits}
+use Rattle.file_view.specs.Served.{Served, log_contents, has_committed_frames, waits}
 
 -- the log's bytes after a write
 abbrev pub log_after : Served → ℕ → List ℕ → List ℕ
-log_after s at bytes = written at bytes (log_text s)
+log_after s at bytes = written at bytes (log_contents s)
 
 -- whether the first 32 bytes are others, the header
 abbrev pub changes_header : List ℕ → List ℕ → Bool
@@ -51,7 +51,7 @@ commits_too_many old new = commits_frames old new && nat_lt 2147483648 (last_siz
 
 -- what is left to refuse of a write that the log takes
 abbrev pub log_commit_rows : Served → ℕ → List ℕ → List Row
-log_commit_rows s at bytes = (commits_too_many (log_text s) (log_after s at bytes), EFBIG) ∷ (waits s, EAGAIN) ∷ []
+log_commit_rows s at bytes = (commits_too_many (log_contents s) (log_after s at bytes), EFBIG) ∷ (waits s, EAGAIN) ∷ []
 
 -- WRITE
 abbrev pub log_write_rows : Served → Scene → Option ℕ → ℕ → List ℕ → List Row
@@ -62,14 +62,14 @@ log_write_rows s scene given at bytes =
     ∷ (not (writes s.locks scene.session given lock.Write), EACCES)
     ∷ (nat_lt 268435456 (at + length bytes), ENOSPC)
     ∷ (breaks_header (wanted_size scene.page_size scene.commit) at bytes (log_after s at bytes), EINVAL)
-    ∷ (changes_committed (log_text s) (log_after s at bytes), EPERM)
-    ∷ (changes_header (log_text s) (log_after s at bytes) && not (is_clean s.database), EPERM)
+    ∷ (changes_committed (log_contents s) (log_after s at bytes), EPERM)
+    ∷ (changes_header (log_contents s) (log_after s at bytes) && not (is_clean s.database), EPERM)
     ∷ log_commit_rows s at bytes
 
 -- a log with committed frames has the committed image's page size, and its last commit that image's number of pages
-pub record FollowsImage (text : List ℕ) (page_size commit : ℕ) : Type 0 where
-  pub page_size_is : 0 < committed_count text → page_size_in text ≡ page_size
-  pub commit_is : 0 < committed_count text → last_size text ≡ commit
+pub record FollowsImage (contents : List ℕ) (page_size commit : ℕ) : Type 0 where
+  pub page_size_is : 0 < committed_count contents → page_size_in contents ≡ page_size
+  pub commit_is : 0 < committed_count contents → last_size contents ≡ commit
 
 -- whether a change is made of an image: where it alters that
 abbrev pub IsMade : DatabaseImage → PageChange → Option PageChange → Type 0
@@ -90,10 +90,10 @@ pub record LogKeeps (told : Option DatabaseImage) (file : DatabaseFile) (old new
 
 -- a change leads to the database under the log's new bytes; over that image a later file reads as the old one did over the old
 -- image, and agrees with the log
-pub record LeadsUnderLog (old : DatabaseFile) (image : DatabaseImage) (text : List ℕ) (change : PageChange) (later : DatabaseFile) : Type 0 where
-  pub leads : apply image change ≡ over (as_read old image) text
+pub record LeadsUnderLog (old : DatabaseFile) (image : DatabaseImage) (contents : List ℕ) (change : PageChange) (later : DatabaseFile) : Type 0 where
+  pub leads : apply image change ≡ over (as_read old image) contents
   pub stays : StaysAsRead old image later (apply image change)
-  pub agrees : Agrees later (apply image change) text
+  pub agrees : Agrees later (apply image change) contents
 
 -- a write of bytes waits for its change, and leaves a file that fits the image with it
 pub record IsHeldFor (told : Option DatabaseImage) (file : DatabaseFile) (old : List ℕ) (at : ℕ) (bytes : List ℕ) (change : PageChange) (w : HeldWrite) : Type 0 where
@@ -109,15 +109,15 @@ log_written s at bytes = record s { log = Some (log_after s at bytes) }
 pub record LogWaits (told : Option DatabaseImage) (old : Served) (at : ℕ) (bytes : List ℕ) (change : PageChange) (new : Served) : Type 0 where
   pub write : HeldWrite
   pub state : new ≡ record old { held_write = Some write }
-  pub is : IsHeldFor told old.database (log_text old) at bytes change write
+  pub is : IsHeldFor told old.database (log_contents old) at bytes change write
 
 -- what a write does: it is done where it commits nothing; else it waits for its commit
 abbrev pub LogDone : Option DatabaseImage → Served → Scene → ℕ → List ℕ → Option PageChange → Served → Type 0
 LogDone told old scene at bytes None new =
-    LogCommits told old.database (log_text old) (log_after old at bytes) scene.commit None
-    × (LogKeeps told old.database (log_text old) (log_after old at bytes) scene.page_size scene.commit × (new ≡ log_written old at bytes))
+    LogCommits told old.database (log_contents old) (log_after old at bytes) scene.commit None
+    × (LogKeeps told old.database (log_contents old) (log_after old at bytes) scene.page_size scene.commit × (new ≡ log_written old at bytes))
 LogDone told old scene at bytes (Some change) new =
-    LogCommits told old.database (log_text old) (log_after old at bytes) scene.commit (Some change) × LogWaits told old at bytes change new
+    LogCommits told old.database (log_contents old) (log_after old at bytes) scene.commit (Some change) × LogWaits told old at bytes change new
 
 -- an owner of the session may cut or remove the log by WRITE, CKPT or EXCLUSIVE
 abbrev pub may_cut_log : LockList → ℕ → Bool
@@ -125,17 +125,17 @@ may_cut_log locks session = writes locks session None lock.Write || writes locks
 
 -- whether zeros up to a length, or a cut behind the committed frames, would leave more committed frames
 abbrev pub commits_by_cut : List ℕ → ℕ → Bool
-commits_by_cut text len = nat_le (committed_end text) len && nat_lt (committed_count text) (committed_count (resized len text))
+commits_by_cut contents len = nat_le (committed_end contents) len && nat_lt (committed_count contents) (committed_count (resized len contents))
 
 -- SETATTR of a size
 abbrev pub log_cut_rows : Served → Scene → ℕ → List Row
 log_cut_rows s scene len =
     (scene.is_broken, EIO)
     ∷ (nat_lt 268435456 len, ENOSPC)
-    ∷ (commits_by_cut (log_text s) len, EPERM)
+    ∷ (commits_by_cut (log_contents s) len, EPERM)
     -- where there are committed frames: all of them stay, or all go once the database file is the committed image
     ∷ (has_committed_frames s && is_replica scene.role, EROFS)
-    ∷ (has_committed_frames s && not (len == 0) && nat_lt len (committed_end (log_text s)), EPERM)
+    ∷ (has_committed_frames s && not (len == 0) && nat_lt len (committed_end (log_contents s)), EPERM)
     ∷ (has_committed_frames s && (len == 0) && not (is_clean s.database), EPERM)
     ∷ (has_committed_frames s && not (may_cut_log s.locks scene.session), EACCES)
     ∷ (waits s, EAGAIN)
@@ -153,7 +153,7 @@ log_unlink_rows s scene =
 
 -- what they do
 abbrev pub log_cut : Served → ℕ → Served
-log_cut s len = record s { log = Some (resized len (log_text s)) }
+log_cut s len = record s { log = Some (resized len (log_contents s)) }
 
 abbrev pub log_removed : Served → Served
 log_removed s = record s { log = None }

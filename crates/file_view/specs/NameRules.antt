@@ -15,7 +15,7 @@ use Rattle.file_view.specs.JournalRules.{journal_unlink_rows}
 use Rattle.file_view.specs.LogRules.{log_unlink_rows}
 use Rattle.file_view.specs.Refusal.{Row}
 use Rattle.file_view.specs.Roles.{is_replica}
-use Rattle.file_view.specs.Served.{Served, exists, log_text, waits}
+use Rattle.file_view.specs.Served.{Served, exists, log_contents, waits}
 
 -- whether a name is that of a file that is there
 abbrev pub is_there : Served → Scene → List ℕ → Bool
@@ -48,7 +48,7 @@ create_rows s scene node name =
 abbrev pub with_file : Served → FileKind → Served
 with_file s file.Database = s
 with_file s file.Journal = record s { journal = record { file = Some (bytes_of s.journal.file); waiting = s.journal.waiting } }
-with_file s file.Wal = record s { log = Some (log_text s) }
+with_file s file.Wal = record s { log = Some (log_contents s) }
 with_file s file.Shm = record s { shared = with_bytes s.shared (shared_bytes s.shared) }
 with_file s file.PosFile = s
 with_file s file.LockFile = s

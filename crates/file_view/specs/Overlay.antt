@@ -10,7 +10,7 @@ use Rattle.file_view.specs.declared.plan.Plan.{Plan}
 use Rattle.file_view.specs.declared.plan.Plan.TheVariants as plan
 use Rattle.file_view.specs.Endings.{committed}
 use Rattle.file_view.specs.LogRules.{FollowsImage}
-use Rattle.file_view.specs.Served.{Served, log_text}
+use Rattle.file_view.specs.Served.{Served, log_contents}
 
 -- the database file without its uncommitted pages: while there is a writer, all that it keeps is uncommitted
 abbrev pub without_uncommitted : Served → DatabaseFile
@@ -19,7 +19,7 @@ without_uncommitted s = if is_some s.writer then clean s.database else s.databas
 -- without its uncommitted pages, as it reads over the committed image, and under the committed frames, the database file is that
 -- image
 abbrev pub AgreesOver : Served → DatabaseImage → Type 0
-AgreesOver s image = Agrees (without_uncommitted s) image (log_text s)
+AgreesOver s image = Agrees (without_uncommitted s) image (log_contents s)
 
 -- what is kept differs from the image, and the files agree with it
 pub record IsOverImage (s : Served) (image : DatabaseImage) : Type 0 where
@@ -29,7 +29,7 @@ pub record IsOverImage (s : Served) (image : DatabaseImage) : Type 0 where
 -- what is kept fits an image's page size and number of pages, and the committed frames state these
 pub record FitsImage (s : Served) (page_size commit : ℕ) : Type 0 where
   pub fits : FitsShape s.database page_size commit
-  pub follows : FollowsImage (log_text s) page_size commit
+  pub follows : FollowsImage (log_contents s) page_size commit
 
 -- the files stand over an image of a page size and a number of pages, and over its pages where these are told
 pub record StandsOver (told : Option DatabaseImage) (page_size commit : ℕ) (s : Served) : Type 0 where

@@ -35,7 +35,7 @@ scene_of session role page_size commit is_broken = record {
 abbrev pub owner_of : Scene → ℕ → Owner
 owner_of scene id = record { session = scene.session; id = id }
 
--- WRITE, file by file; the short texts aren't written
+-- WRITE, file by file; the short contents aren't written
 abbrev pub write_rows : Served → Scene → Option FileKind → Option ℕ → ℕ → List ℕ → List Row
 write_rows s scene None given place bytes = []
 write_rows s scene (Some file.Database) given place bytes = database_write_rows s scene given place bytes

@@ -35,12 +35,12 @@ pub record Served : Type 0 where
   pub host : Option (List ℕ)
 
 -- the bytes of the log, none where it is absent
-abbrev pub log_text : Served → List ℕ
-log_text s = unwrap_or s.log []
+abbrev pub log_contents : Served → List ℕ
+log_contents s = unwrap_or s.log []
 
 -- whether the log has committed frames
 abbrev pub has_committed_frames : Served → Bool
-has_committed_frames s = nat_lt 0 (committed_count (log_text s))
+has_committed_frames s = nat_lt 0 (committed_count (log_contents s))
 
 -- whether a request waits for its commit: a write to the log, or a call on the journal
 abbrev pub waits : Served → Bool

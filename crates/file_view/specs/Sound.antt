@@ -9,7 +9,7 @@ use Rattle.lf_base.specs.FileBytes.{written}
 use Rattle.wal_watch.specs.Frames.{committed_count}
 use Rattle.file_view.specs.declared.journal.JournalCall.{JournalCall}
 use Rattle.file_view.specs.DatabaseState.{HeldWrite}
-use Rattle.file_view.specs.Served.{Served, log_text, has_committed_frames}
+use Rattle.file_view.specs.Served.{Served, log_contents, has_committed_frames}
 
 pub record IsSound (s : Served) : Type 0 where
   -- the writer of uncommitted pages holds EXCLUSIVE, so no one else holds SHARED at all
@@ -27,4 +27,4 @@ pub record IsSound (s : Served) : Type 0 where
   pub unwritten : (owner : Owner) → s.writer ≡ Some owner → s.held_write ≡ None
   -- the log is there for it, and without committed frames afterwards the file is the committed image then
   pub logged : (w : HeldWrite) → s.held_write ≡ Some w → IsSome s.log
-  pub left : (w : HeldWrite) → s.held_write ≡ Some w → nat_lt 0 (committed_count (written w.at w.bytes (log_text s))) ≡ false → w.file ≡ clean w.file
+  pub left : (w : HeldWrite) → s.held_write ≡ Some w → nat_lt 0 (committed_count (written w.at w.bytes (log_contents s))) ≡ false → w.file ≡ clean w.file

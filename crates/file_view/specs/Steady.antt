@@ -4,7 +4,7 @@ use Rattle.lf_sqlite_pages.specs.Change.{PageChange}
 use Rattle.database_file.specs.DatabaseFile.{clean}
 use Rattle.file_view.specs.declared.plan.Plan.{Plan}
 use Rattle.file_view.specs.declared.plan.Plan.TheVariants as plan
-use Rattle.file_view.specs.Served.{Served, log_text, has_committed_frames, waits}
+use Rattle.file_view.specs.Served.{Served, log_contents, has_committed_frames, waits}
 
 -- nobody writes: there are no uncommitted pages, and no request waits
 pub record IsQuiet (s : Served) : Type 0 where
@@ -14,7 +14,7 @@ pub record IsQuiet (s : Served) : Type 0 where
 -- whoever reads finds the same database: the file is as before, and so are the committed frames of the log
 pub record SameDatabase (old new : Served) : Type 0 where
   pub file : new.database ≡ old.database
-  pub frames : has_committed_frames old ≡ true → log_text new ≡ log_text old
+  pub frames : has_committed_frames old ≡ true → log_contents new ≡ log_contents old
   pub no_frames : has_committed_frames old ≡ false → has_committed_frames new ≡ false
 
 -- a request commits nothing
@@ -27,6 +27,6 @@ CommitsNothing (plan.Commit r change) = ⊥
 pub record GoesOn (old new : Served) : Type 0 where
   pub call : new.journal.waiting ≡ old.journal.waiting
   pub write : new.held_write ≡ old.held_write
-  pub log : log_text new ≡ log_text old
+  pub log : log_contents new ≡ log_contents old
   pub file : clean new.database ≡ clean old.database
   pub alone : old.writer ≡ None → new.writer ≡ None

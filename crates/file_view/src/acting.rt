@@ -1,7 +1,7 @@
 //! Who holds the locks that a rule asks for, and what follows from a change of locks.
 ghost use Rattle.std.specs.Prelude.{◌≡◌, ◌<◌, None, Some, take, drop};
 ghost use Rattle.byte_locks.specs.declared.lock_id.LockId.TheVariants as lock;
-ghost use Rattle.wal_watch.specs.File.{text_of};
+ghost use Rattle.wal_watch.specs.File.{contents_of};
 ghost use Rattle.wal_watch.specs.Frames.{committed_count};
 ghost use Rattle.file_view.specs.Acting.{is_actor, writes, is_writer, while_exclusive, settled_database, has_left, is_index_of, settled_index};
 ghost use Rattle.byte_locks.specs.LockList.{writer_of};
@@ -88,8 +88,8 @@ fn has_left(before: Option<Owner>, locks: &LockTable) -> bool
 
 /// The salts of a log that has committed frames.
 fn salts_of(log: &WalFile) -> [u8; 8]
-    requires { 0 < committed_count (text_of log.now) }
-    ensures { result ≡ take 8 (drop 16 (text_of log.now)) }
+    requires { 0 < committed_count (contents_of log.now) }
+    ensures { result ≡ take 8 (drop 16 (contents_of log.now)) }
 {
     committed_frames_say();
     let mut salts = [0u8; 8];
@@ -99,7 +99,7 @@ fn salts_of(log: &WalFile) -> [u8; 8]
 
 /// Whether the index is of the committed frames of the log, where there is an index and there are frames.
 fn is_index_of(shared: &SharedMemory, log: &WalFile) -> bool
-    ensures { result ≡ is_index_of shared.now (text_of log.now) }
+    ensures { result ≡ is_index_of shared.now (contents_of log.now) }
 {
     let frames = log.committed_frames();
     if !shared.has_index() || frames == 0 {
@@ -116,7 +116,7 @@ pub fn settle_index(
     before: Option<Owner>,
     locks: &LockTable,
 )
-    ensures { shared.new ≡ settled_index (has_left before locks.now) (text_of log.now) shared.old }
+    ensures { shared.new ≡ settled_index (has_left before locks.now) (contents_of log.now) shared.old }
 {
     if has_left(before, locks) && !is_index_of(shared, log) {
         shared.clear_header();

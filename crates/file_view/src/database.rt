@@ -9,7 +9,7 @@ ghost use Rattle.database_file.specs.Commit.{IsChangeOf, LeadsTo, committed_imag
 ghost use Rattle.database_file.specs.DatabaseFile.{FitsShape, KeepsDifferences, KeepsNothing, as_read, bytes_from, clean, count_over, is_clean, new_file, size_over};
 ghost use Rattle.database_file.specs.Fault.{HasCause, SameBase};
 ghost use Rattle.database_file.specs.Writing.{AreDataPages, TakesPages, sized, with_pages};
-ghost use Rattle.wal_watch.specs.File.{text_of, after_write};
+ghost use Rattle.wal_watch.specs.File.{contents_of, after_write};
 ghost use Rattle.file_view.specs.DatabaseState.{HeldWrite, overtaken};
 
 use database_file::{DatabaseFile, FileFault};
@@ -237,11 +237,11 @@ impl Database {
     /// Does the write that waits: it is in the log, and the file is as it is to be then.
     pub(crate) fn finish(&mut self, log: &mut WalFile)
         requires some { IsSome self.old.held }
-        requires there { IsSome log.old.text }
+        requires there { IsSome log.old.contents }
         requires room { (w : HeldWrite) → self.old.held ≡ Some w → IsWithin log.old.room w.at (length w.bytes) }
         ensures file { (w : HeldWrite) → self.old.held ≡ Some w → self.new ≡ record { file = w.file; held = None } }
-        ensures text { (w : HeldWrite) → self.old.held ≡ Some w → text_of log.new ≡ text_of (after_write log.old w.at w.bytes) }
-        ensures there { IsSome log.new.text }
+        ensures contents { (w : HeldWrite) → self.old.held ≡ Some w → contents_of log.new ≡ contents_of (after_write log.old w.at w.bytes) }
+        ensures there { IsSome log.new.contents }
     {
         if let Some(held) = self.held.take() {
             match held.write {

@@ -6,7 +6,7 @@ ghost use Rattle.database_file.specs.Writing.{TakesPages, page_in};
 ghost use Rattle.file_view.specs.DatabaseRules.{write_size, are_pages, most_pages, kept_at_most, is_past_uncommitted, states_other, may_checkpoint, holds_frame, hold_frames, uncommitted_rows, checkpoint_rows, sized_write_rows, database_write_rows, writer_after, IsDatabaseWritten};
 ghost use Rattle.file_view.specs.DatabaseParts.{MayWrite};
 ghost use Rattle.file_view.specs.Refusal.{first_refusal, IsAllowed, HasCause, HasReadCause};
-ghost use Rattle.wal_watch.specs.File.{text_of};
+ghost use Rattle.wal_watch.specs.File.{contents_of};
 ghost use Rattle.wal_watch.specs.News.{HoldsFrame};
 ghost use Rattle.lf_sqlite_pages.specs.PageSize.{IsPageSize};
 
@@ -77,7 +77,7 @@ fn states_other(size: u32, at: u64, bytes: &[u8]) -> bool
 fn holds_page(log: &WalFile, size: usize, n: u32, bytes: &[u8], at: usize) -> bool
     requires some { 0 < size }
     requires within { at < length bytes.now / size }
-    ensures { IsTrue result ↔ HoldsFrame (text_of log.now) n (page_in bytes.now size at) }
+    ensures { IsTrue result ↔ HoldsFrame (contents_of log.now) n (page_in bytes.now size at) }
 {
     let (_, rest) = bytes.split_at(at * size);
     let (page, _) = rest.split_at(size);
@@ -88,7 +88,7 @@ fn holds_page(log: &WalFile, size: usize, n: u32, bytes: &[u8], at: usize) -> bo
 fn holds_frame(log: &WalFile, size: usize, n: u32, bytes: &[u8], at: usize) -> bool
     requires some { 0 < size }
     requires within { at < length bytes.now / size }
-    ensures { result ≡ holds_frame (text_of log.now) n (page_in bytes.now size at) }
+    ensures { result ≡ holds_frame (contents_of log.now) n (page_in bytes.now size at) }
 {
     holds_page(log, size, n, bytes, at)
 }
@@ -97,7 +97,7 @@ fn holds_frame(log: &WalFile, size: usize, n: u32, bytes: &[u8], at: usize) -> b
 fn hold_frames(log: &WalFile, size: u32, first: u32, bytes: &[u8]) -> bool
     requires some { 0 < size }
     requires numbered { first + length bytes.now / size < 2 ^ 32 }
-    ensures { result ≡ hold_frames (text_of log.now) size first bytes.now }
+    ensures { result ≡ hold_frames (contents_of log.now) size first bytes.now }
 {
     let size = size as usize;
     let count = bytes.len() / size;

@@ -6,7 +6,7 @@ ghost use Rattle.file_view.specs.DatabaseRules.{write_size, states_size, is_log_
 ghost use Rattle.file_view.specs.DatabaseParts.{MayResize};
 ghost use Rattle.file_view.specs.Refusal.{first_refusal, IsAllowed, HasCause, HasReadCause};
 ghost use Rattle.lf_sqlite_pages.specs.PageSize.{IsPageSize};
-ghost use Rattle.wal_watch.specs.File.{text_of};
+ghost use Rattle.wal_watch.specs.File.{contents_of};
 
 use crate::database_requests::most_pages;
 use crate::errno::{EACCES, EAGAIN, EFBIG, EINVAL, EIO, EPERM, EROFS};
@@ -22,14 +22,14 @@ use wal_watch::WalFile;
 /// Whether a committed frame states this size of the database.
 #[tactic(auto, using(crate::proofs::FrameLemmas::states_size_is))]
 fn states_size(log: &WalFile, count: u32) -> bool
-    ensures { result ≡ states_size (text_of log.now) count }
+    ensures { result ≡ states_size (contents_of log.now) count }
 {
     log.has_size(count)
 }
 
 /// Whether committed frames state this size of the database: the last commit, or an older one.
 fn is_log_size(log: &WalFile, count: u32) -> bool
-    ensures { result ≡ is_log_size (text_of log.now) count }
+    ensures { result ≡ is_log_size (contents_of log.now) count }
 {
     if log.committed_frames() == 0 {
         return false;

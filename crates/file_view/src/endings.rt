@@ -34,7 +34,7 @@ fn blocking_locks(wal: bool) -> &'static [LockId]
 
 /// Cuts the log to no bytes, if it is there.
 fn empty_log(log: &mut WalFile)
-    ensures text { log.new.text ≡ option_map (λ _. []) log.old.text }
+    ensures contents { log.new.contents ≡ option_map (λ _. []) log.old.contents }
     ensures room { log.new.room ≡ log.old.room }
 {
     if log.len().is_some() {

@@ -9,7 +9,7 @@ ghost use Rattle.database_under_log.specs.Fault.{HasWriteCause, wanted_size};
 ghost use Rattle.database_under_log.specs.Over.{FollowsLog};
 ghost use Rattle.database_under_log.specs.Staying.{forgotten};
 ghost use Rattle.database_under_log.specs.Waiting.{MayChangeHeader};
-ghost use Rattle.wal_watch.specs.File.{text_of};
+ghost use Rattle.wal_watch.specs.File.{contents_of};
 ghost use Rattle.wal_watch.specs.Refusals.{IsSoundWrite};
 ghost use Rattle.file_view.specs.HeldParts.{IsSettled, LogWrites, LogWrote};
 ghost use Rattle.file_view.specs.LogRules.{commits_too_many};
@@ -33,7 +33,7 @@ fn settle_commit<S: PageStore>(
     bytes: &[u8],
     commit: LogCommit,
 ) -> Result<Option<LogCommit>, FileFault>
-    requires there { IsSome log.old.text }
+    requires there { IsSome log.old.contents }
     requires room { IsWithin log.old.room at (length bytes.now) }
     requires sized { 0 < S.commit base.old → S.page_size base.old ≡ commit.change.page_size }
     ensures settled { IfOk result (λ c. IsSettled (S.image base.old) (S.commit base.old) commit file.old log.old at bytes.now c file.new log.new) }
@@ -66,16 +66,16 @@ fn write_or_prepare<S: PageStore>(
     at: u64,
     bytes: &[u8],
 ) -> Result<Option<LogCommit>, LogWriteFault>
-    requires there { IsSome log.old.text }
+    requires there { IsSome log.old.contents }
     requires fits { FitsShape file.old (S.page_size base.old) (S.commit base.old) }
-    requires follows { FollowsLog file.old (S.page_size base.old) (S.commit base.old) (text_of log.old) }
-    requires sound { IsSoundWrite (text_of log.old) (wanted_size (S.page_size base.old) (S.commit base.old)) at bytes.now }
-    requires header { MayChangeHeader file.old (text_of log.old) (written at bytes.now (text_of log.old)) }
+    requires follows { FollowsLog file.old (S.page_size base.old) (S.commit base.old) (contents_of log.old) }
+    requires sound { IsSoundWrite (contents_of log.old) (wanted_size (S.page_size base.old) (S.commit base.old)) at bytes.now }
+    requires header { MayChangeHeader file.old (contents_of log.old) (written at bytes.now (contents_of log.old)) }
     ensures done { IfOk result (λ c. LogWrites (S.image base.old) (S.page_size base.old) (S.commit base.old) file.old log.old at bytes.now c file.new log.new) }
-    ensures limit { OnOk result (commits_too_many (text_of log.old) (written at bytes.now (text_of log.old)) ≡ false) }
+    ensures limit { OnOk result (commits_too_many (contents_of log.old) (written at bytes.now (contents_of log.old)) ≡ false) }
     ensures err_file { OnErr result (file.new ≡ file.old) }
-    ensures err_log { OnErr result (log.new.text ≡ log.old.text) }
-    ensures cause { IfErr result (HasWriteCause (text_of log.old) (wanted_size (S.page_size base.old) (S.commit base.old)) at bytes.now (S.faults base.old) (S.faults base.new)) }
+    ensures err_log { OnErr result (log.new.contents ≡ log.old.contents) }
+    ensures cause { IfErr result (HasWriteCause (contents_of log.old) (wanted_size (S.page_size base.old) (S.commit base.old)) at bytes.now (S.faults base.old) (S.faults base.new)) }
     ensures base { SameBase (S.image base.old) (S.image base.new) (S.page_size base.old) (S.page_size base.new) (S.commit base.old) (S.commit base.new) (S.wal_mode base.old) (S.wal_mode base.new) (S.is_broken base.old) (S.is_broken base.new) }
 {
     let _commit = base.commit();
@@ -100,16 +100,16 @@ impl Database {
         bytes: &[u8],
     ) -> Result<Option<Change>, LogWriteFault>
         requires free { self.old.held ≡ None }
-        requires there { IsSome log.old.text }
+        requires there { IsSome log.old.contents }
         requires fits { FitsShape self.old.file (S.page_size base.old) (S.commit base.old) }
-        requires follows { FollowsLog self.old.file (S.page_size base.old) (S.commit base.old) (text_of log.old) }
-        requires sound { IsSoundWrite (text_of log.old) (wanted_size (S.page_size base.old) (S.commit base.old)) at bytes.now }
-        requires header { MayChangeHeader self.old.file (text_of log.old) (written at bytes.now (text_of log.old)) }
+        requires follows { FollowsLog self.old.file (S.page_size base.old) (S.commit base.old) (contents_of log.old) }
+        requires sound { IsSoundWrite (contents_of log.old) (wanted_size (S.page_size base.old) (S.commit base.old)) at bytes.now }
+        requires header { MayChangeHeader self.old.file (contents_of log.old) (written at bytes.now (contents_of log.old)) }
         ensures done { IfOk result (λ change. LogWrote (S.image base.old) (S.page_size base.old) (S.commit base.old) self.old log.old at bytes.now change self.new log.new) }
-        ensures limit { OnOk result (commits_too_many (text_of log.old) (written at bytes.now (text_of log.old)) ≡ false) }
+        ensures limit { OnOk result (commits_too_many (contents_of log.old) (written at bytes.now (contents_of log.old)) ≡ false) }
         ensures err { OnErr result (self.new ≡ self.old) }
-        ensures err_log { OnErr result (log.new.text ≡ log.old.text) }
-        ensures cause { IfErr result (HasWriteCause (text_of log.old) (wanted_size (S.page_size base.old) (S.commit base.old)) at bytes.now (S.faults base.old) (S.faults base.new)) }
+        ensures err_log { OnErr result (log.new.contents ≡ log.old.contents) }
+        ensures cause { IfErr result (HasWriteCause (contents_of log.old) (wanted_size (S.page_size base.old) (S.commit base.old)) at bytes.now (S.faults base.old) (S.faults base.new)) }
         ensures base { SameBase (S.image base.old) (S.image base.new) (S.page_size base.old) (S.page_size base.new) (S.commit base.old) (S.commit base.new) (S.wal_mode base.old) (S.wal_mode base.new) (S.is_broken base.old) (S.is_broken base.new) }
     {
         let kept = self.file.kept_pages();

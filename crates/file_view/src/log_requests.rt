@@ -1,9 +1,9 @@
 //! SETATTR of a size and UNLINK of the log.
 ghost use Rattle.std.specs.Prelude.{◌≡◌, ◌≤◌, IsSome, OnOk, OnErr, IfErr};
-ghost use Rattle.wal_watch.specs.File.{text_of};
+ghost use Rattle.wal_watch.specs.File.{contents_of};
 ghost use Rattle.file_view.specs.LogRules.{may_cut_log, commits_by_cut, log_cut_rows, log_unlink_rows, log_cut, log_removed};
 ghost use Rattle.file_view.specs.Refusal.{first_refusal, IsAllowed, HasCause};
-ghost use Rattle.file_view.specs.Served.{log_text};
+ghost use Rattle.file_view.specs.Served.{log_contents};
 ghost use Rattle.wal_watch.specs.Refusals.{IsSoundCut};
 
 use crate::acting::writes;
@@ -27,7 +27,7 @@ fn may_cut_log(locks: &LockTable, session: u64) -> bool
 /// Whether a cut would leave more committed frames.
 fn commits_by_cut(log: &WalFile, len: u64) -> bool
     requires { len ≤ 268435456 }
-    ensures { result ≡ commits_by_cut (text_of log.now) len }
+    ensures { result ≡ commits_by_cut (contents_of log.now) len }
 {
     len >= log.committed_end() && log.check_cut(len) == Err(WalFault::Part)
 }
@@ -90,7 +90,7 @@ impl View {
 
     /// Whether no rule refuses a change of the log's size: then nothing stands against it.
     fn log_cut_allowed(&self, scene: &Scene, len: u64) -> Result<(), ViewFault>
-        ensures sound { OnOk result (IsSoundCut (log_text self.now) len) }
+        ensures sound { OnOk result (IsSoundCut (log_contents self.now) len) }
         ensures allowed { OnOk result (IsAllowed (log_cut_rows self.now scene.now len)) }
         ensures cause { IfErr result (HasCause (log_cut_rows self.now scene.now len)) }
     {

@@ -2,7 +2,7 @@
 ghost use Rattle.std.specs.Prelude.{◌≡◌, ◌+◌, ◌≤◌, IsSome, IfSome, IfOk, OnOk, length};
 ghost use Rattle.lf_base.specs.FileBytes.{written};
 ghost use Rattle.lf_sqlite_pages.specs.Blocks.{IsWithin};
-ghost use Rattle.wal_watch.specs.File.{text_of};
+ghost use Rattle.wal_watch.specs.File.{contents_of};
 ghost use Rattle.wal_watch.specs.News.{news_change};
 ghost use Rattle.wal_watch.specs.Refusals.{wal_limit, IsSoundWrite};
 ghost use Rattle.file_view.specs.LogParts.{makes_too_many};
@@ -16,7 +16,7 @@ use wal_watch::{WalFile, WalNews};
 fn reserve_beside(log: &mut WalFile, held: (u64, u64), at: u64, count: u64) -> Result<(), NoMemory>
     requires held { IsWithin log.old.room held.0 held.1 }
     requires short { at + count ≤ wal_limit }
-    ensures text { log.new.text ≡ log.old.text }
+    ensures contents { log.new.contents ≡ log.old.contents }
     ensures held { IsWithin log.new.room held.0 held.1 }
     ensures room { OnOk result (IsWithin log.new.room at count) }
 {
@@ -41,10 +41,10 @@ fn makes_too_many(news: &WalNews) -> bool
 
 /// Writes to the log and takes that back: whether it commits a database past the limit.
 fn tried(log: &mut WalFile, page_size: u32, at: u64, bytes: &[u8]) -> Result<bool, NoMemory>
-    requires there { IsSome log.old.text }
-    requires sound { IsSoundWrite (text_of log.old) page_size at bytes.now }
-    ensures value { IfOk result (λ many. many ≡ commits_too_many (text_of log.old) (written at bytes.now (text_of log.old))) }
-    ensures text { log.new.text ≡ log.old.text }
+    requires there { IsSome log.old.contents }
+    requires sound { IsSoundWrite (contents_of log.old) page_size at bytes.now }
+    ensures value { IfOk result (λ many. many ≡ commits_too_many (contents_of log.old) (written at bytes.now (contents_of log.old))) }
+    ensures contents { log.new.contents ≡ log.old.contents }
     ensures room { IsWithin log.old.room at (length bytes.now) → log.new.room ≡ log.old.room }
 {
     match log.write(page_size, at, bytes) {
@@ -65,11 +65,11 @@ pub fn commits_too_many(
     at: u64,
     bytes: &[u8],
 ) -> Result<bool, NoMemory>
-    requires there { IsSome log.old.text }
-    requires sound { IsSoundWrite (text_of log.old) page_size at bytes.now }
+    requires there { IsSome log.old.contents }
+    requires sound { IsSoundWrite (contents_of log.old) page_size at bytes.now }
     requires held { IfSome held (λ range. IsWithin log.old.room range.0 range.1) }
-    ensures value { IfOk result (λ many. many ≡ commits_too_many (text_of log.old) (written at bytes.now (text_of log.old))) }
-    ensures text { log.new.text ≡ log.old.text }
+    ensures value { IfOk result (λ many. many ≡ commits_too_many (contents_of log.old) (written at bytes.now (contents_of log.old))) }
+    ensures contents { log.new.contents ≡ log.old.contents }
     ensures held { IfSome held (λ range. IsWithin log.new.room range.0 range.1) }
 {
     if let Some(range) = held {

@@ -4,12 +4,12 @@ ghost use Rattle.database_file.specs.DatabaseFile.{FitsShape};
 ghost use Rattle.database_file.specs.Fault.{SameBase};
 ghost use Rattle.database_under_log.specs.Fault.{wanted_size};
 ghost use Rattle.database_under_log.specs.Waiting.{MayChangeHeader};
-ghost use Rattle.wal_watch.specs.File.{text_of};
+ghost use Rattle.wal_watch.specs.File.{contents_of};
 ghost use Rattle.wal_watch.specs.Refusals.{wal_limit, IsSoundWrite};
 ghost use Rattle.file_view.specs.LogParts.{begins_anew, log_own_rows, log_owner_rows};
 ghost use Rattle.file_view.specs.LogRules.{log_after, log_commit_rows, log_write_rows, FollowsImage, LogDone};
 ghost use Rattle.file_view.specs.Refusal.{first_refusal, IsAllowed, HasReadCause};
-ghost use Rattle.file_view.specs.Served.{log_text, waits};
+ghost use Rattle.file_view.specs.Served.{log_contents, waits};
 
 use crate::acting::writes;
 use crate::errno::{EACCES, EAGAIN, EFBIG, EINVAL, EIO, ENOSPC, EPERM, EROFS};
@@ -37,8 +37,8 @@ fn wanted_size(scene: &Scene) -> u32
 
 /// The number by which the log itself refuses a write, if it does.
 fn own_refusal(log: &WalFile, page_size: u32, at: u64, bytes: &[u8]) -> Option<Errno>
-    ensures value { result ≡ first_refusal (log_own_rows (text_of log.now) page_size at bytes.now) }
-    ensures sound { IfNone result (IsSoundWrite (text_of log.now) page_size at bytes.now) }
+    ensures value { result ≡ first_refusal (log_own_rows (contents_of log.now) page_size at bytes.now) }
+    ensures sound { IfNone result (IsSoundWrite (contents_of log.now) page_size at bytes.now) }
 {
     match log.check(page_size, at, bytes) {
         Ok(()) => None,
@@ -74,7 +74,7 @@ impl View {
     fn begins_anew(&self, at: u64, bytes: &[u8]) -> bool
         requires { at + length bytes.now ≤ wal_limit }
         ensures value { result ≡ begins_anew self.now at bytes.now }
-        ensures header { result ≡ false → MayChangeHeader self.now.database (log_text self.now) (log_after self.now at bytes.now) }
+        ensures header { result ≡ false → MayChangeHeader self.now.database (log_contents self.now) (log_after self.now at bytes.now) }
     {
         self.log.changes_header(at, bytes) && !self.database.is_clean()
     }
@@ -89,8 +89,8 @@ impl View {
     ) -> Option<Errno>
         ensures refused { IfSome result (λ e. first_refusal (log_write_rows self.now scene.now given at bytes.now) ≡ Some e) }
         ensures passed { IfNone result (first_refusal (log_write_rows self.now scene.now given at bytes.now) ≡ first_refusal (log_commit_rows self.now at bytes.now)) }
-        ensures sound { IfNone result (IsSoundWrite (log_text self.now) (wanted_size scene.now.page_size scene.now.commit) at bytes.now) }
-        ensures header { IfNone result (MayChangeHeader self.now.database (log_text self.now) (log_after self.now at bytes.now)) }
+        ensures sound { IfNone result (IsSoundWrite (log_contents self.now) (wanted_size scene.now.page_size scene.now.commit) at bytes.now) }
+        ensures header { IfNone result (MayChangeHeader self.now.database (log_contents self.now) (log_after self.now at bytes.now)) }
         ensures writer { IfNone result (self.now.writer ≡ None) }
     {
         if let Some(errno) = self.log_owner_refusal(scene, given) {
@@ -108,7 +108,7 @@ impl View {
     /// The rule that refuses a write which the log takes, while a request waits.
     fn waiting_refusal(&mut self, scene: &Scene, at: u64, bytes: &[u8]) -> Result<Errno, NoMemory>
         requires there { IsSome self.old.log }
-        requires sound { IsSoundWrite (log_text self.old) (wanted_size scene.now.page_size scene.now.commit) at bytes.now }
+        requires sound { IsSoundWrite (log_contents self.old) (wanted_size scene.now.page_size scene.now.commit) at bytes.now }
         requires waits { waits self.old ≡ true }
         ensures value { IfOk result (λ e. first_refusal (log_commit_rows self.old at bytes.now) ≡ Some e) }
         ensures same { self.new ≡ self.old }
@@ -133,7 +133,7 @@ impl View {
     ) -> Result<Option<Change>, ViewFault>
         requires over { (scene.now.page_size ≡ S.page_size base.old) × (scene.now.commit ≡ S.commit base.old) }
         requires fits { FitsShape self.old.database (S.page_size base.old) (S.commit base.old) }
-        requires follows { FollowsImage (log_text self.old) (S.page_size base.old) (S.commit base.old) }
+        requires follows { FollowsImage (log_contents self.old) (S.page_size base.old) (S.commit base.old) }
         requires there { IsSome self.old.log }
         ensures done { IfOk result (λ change. LogDone (S.image base.old) self.old scene.now at bytes.now change self.new) }
         ensures allowed { OnOk result (IsAllowed (log_write_rows self.old scene.now given at bytes.now)) }

@@ -4,9 +4,9 @@ ghost use Rattle.std.specs.Option.{option_map};
 ghost use Rattle.database_file.specs.DatabaseFile.{FitsShape};
 ghost use Rattle.database_file.specs.Fault.{SameBase, HasCause as HasFileCause};
 ghost use Rattle.file_handles.specs.Texts.{part, line, position_line};
-ghost use Rattle.file_view.specs.Reading.{is_being_written, hides_journal, file_text, IsReading};
+ghost use Rattle.file_view.specs.Reading.{is_being_written, hides_journal, file_contents, IsReading};
 ghost use Rattle.journal_watch.specs.Journal.{bytes_of};
-ghost use Rattle.wal_watch.specs.File.{text_of};
+ghost use Rattle.wal_watch.specs.File.{contents_of};
 ghost use Rattle.shm_index.specs.Shared.{bytes_of as shared_bytes};
 
 use crate::journal::Journal;
@@ -39,7 +39,7 @@ fn read_journal(alloc: Global, file: &Journal, at: u64, size: u32) -> Result<Vec
 }
 
 fn read_log(alloc: Global, file: &WalFile, at: u64, size: u32) -> Result<Vec<u8>, NoMemory>
-    ensures { IfOk result (λ bytes. bytes.items ≡ part (text_of file.now) at size) }
+    ensures { IfOk result (λ bytes. bytes.items ≡ part (contents_of file.now) at size) }
 {
     let mut bytes = room_for(alloc, file.len().unwrap_or(0), at, size)?;
     let _all = file.read(at, bytes.as_mut_slice());
@@ -56,7 +56,7 @@ fn read_shared(alloc: Global, file: &SharedMemory, at: u64, size: u32) -> Result
 
 /// The primary's name and a newline, nothing where it isn't known.
 fn host_line(alloc: Global, host: &Option<Text>) -> Result<Vec<u8>, NoMemory>
-    ensures { IfOk result (λ text. text.items ≡ unwrap_or (option_map line host.now) []) }
+    ensures { IfOk result (λ contents. contents.items ≡ unwrap_or (option_map line host.now) []) }
 {
     match host {
         Some(host) => with_newline(alloc, host.bytes()),
@@ -82,7 +82,7 @@ impl View {
     }
 
     /// Bytes of a file other than the database.
-    fn read_text(
+    fn read_contents(
         &self,
         alloc: Global,
         scene: &Scene,
@@ -90,7 +90,7 @@ impl View {
         at: u64,
         size: u32,
     ) -> Result<Vec<u8>, NoMemory>
-        ensures { IfOk result (λ bytes. bytes.items ≡ part (file_text self.now scene.now file) at size) }
+        ensures { IfOk result (λ bytes. bytes.items ≡ part (file_contents self.now scene.now file) at size) }
     {
         match file {
             FileKind::Database | FileKind::LockFile => copied_from(alloc, &[], at, size),
@@ -99,12 +99,12 @@ impl View {
             FileKind::Wal => read_log(alloc, &self.log, at, size),
             FileKind::Shm => read_shared(alloc, &self.shared, at, size),
             FileKind::PosFile => {
-                let text = position_line(alloc, self.position)?;
-                copied_from(alloc, text.as_slice(), at, size)
+                let contents = position_line(alloc, self.position)?;
+                copied_from(alloc, contents.as_slice(), at, size)
             }
             FileKind::Primary => {
-                let text = host_line(alloc, &self.host)?;
-                copied_from(alloc, text.as_slice(), at, size)
+                let contents = host_line(alloc, &self.host)?;
+                copied_from(alloc, contents.as_slice(), at, size)
             }
         }
     }
@@ -130,7 +130,7 @@ impl View {
                 Ok(Bytes::of(bytes))
             }
             _ => {
-                let bytes = self.read_text(alloc, scene, file, at, size)?;
+                let bytes = self.read_contents(alloc, scene, file, at, size)?;
                 Ok(Bytes::of(bytes))
             }
         }

@@ -12,7 +12,7 @@ ghost use Rattle.file_view.specs.Endings.{dropped, ended, committed, abandoned, 
 ghost use Rattle.file_view.specs.Overlay.{StandsOver};
 ghost use Rattle.file_view.specs.Refusal.{IsAllowed};
 ghost use Rattle.file_view.specs.Requests.{rows_of};
-ghost use Rattle.file_view.specs.Served.{Served, log_text, waits};
+ghost use Rattle.file_view.specs.Served.{Served, log_contents, waits};
 ghost use Rattle.file_view.specs.Sound.{IsSound};
 ghost use Rattle.file_view.specs.Steady.{IsQuiet, SameDatabase, CommitsNothing, GoesOn};
 ghost use Rattle.file_view.specs.Views.{new_view};
@@ -35,7 +35,7 @@ pub fn endings_keep_the_image()
     ensures dropped { (s : Served) (told : Option DatabaseImage) (page_size commit : ℕ) → (0 < commit → IsPageSize page_size) → StandsOver told page_size commit s → StandsOver told page_size commit (dropped s) }
     ensures ended { (s : Served) (session : ℕ) (told : Option DatabaseImage) (page_size commit : ℕ) → (0 < commit → IsPageSize page_size) → StandsOver told page_size commit s → StandsOver told page_size commit (ended s session) }
     ensures abandoned { (s : Served) (told : Option DatabaseImage) (page_size commit : ℕ) → StandsOver told page_size commit s → StandsOver told page_size commit (abandoned s) }
-    ensures others { (old new : Served) (told : Option DatabaseImage) (page_size commit : ℕ) → new.database ≡ old.database → new.writer ≡ old.writer → log_text new ≡ log_text old
+    ensures others { (old new : Served) (told : Option DatabaseImage) (page_size commit : ℕ) → new.database ≡ old.database → new.writer ≡ old.writer → log_contents new ≡ log_contents old
         → StandsOver told page_size commit old → StandsOver told page_size commit new }
 {}
 

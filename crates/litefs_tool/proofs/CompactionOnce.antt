@@ -5,7 +5,7 @@ use Rattle.std.proofs.lemmas.Bool.{cases_lt}
 use Rattle.std.proofs.lemmas.Option.{slice_get_within}
 use Rattle.lf_sqlite_pages.specs.Change.{PageChange}
 use Rattle.ltx_codec.specs.Fields.{AreBytes}
-use Rattle.ltx_codec.specs.Format.{file_text, no_meaning}
+use Rattle.ltx_codec.specs.Format.{file_encoding, no_meaning}
 use Rattle.ltx_codec.specs.Sums.{sum_of_writes}
 use Rattle.ltx_codec.specs.Places.{IsBroken, IsEarliest, StandsInside}
 use Rattle.ltx_codec.specs.declared.file.Ltx.{Ltx}
@@ -236,7 +236,7 @@ module _ (reading : OneReading) (sound : BreaksNoRule) (one_fault : OneFault) wh
   one_compaction-of bytes (Err refusal.NoMemory) other small one two = absurd one
   one_compaction-of bytes answer (Err refusal.NoMemory) small one two = absurd two
   one_compaction-of bytes (Ok out) (Ok again) small one two =
-      ap (λ (t : List ℕ). Ok t) (one.encoding ∙ ap (λ (x : Ltx). file_text x no_meaning) (become_once bytes one.file two.file small one.become two.become) ∙ sym two.encoding)
+      ap (λ (t : List ℕ). Ok t) (one.encoding ∙ ap (λ (x : Ltx). file_encoding x no_meaning) (become_once bytes one.file two.file small one.become two.become) ∙ sym two.encoding)
   one_compaction-of bytes (Ok out) (Err (refusal.Ltx f)) small one two = absurd (breaks_or bytes f one.become.files small two one.become.encodings)
   one_compaction-of bytes (Ok out) (Err (refusal.List why)) small one two = absurd (become_or_why bytes one.file why small one.become two)
   one_compaction-of bytes (Ok out) (Err (refusal.SumDiffers want got)) small one two = absurd (becomes_or_sum bytes out want got small one two)

@@ -6,7 +6,7 @@ use Rattle.std.proofs.KnownBytes.{Appends-nil}
 use Rattle.lf_base.specs.declared.status.Status.TheVariants as status
 use Rattle.lf_sqlite_pages.specs.Image.{DatabaseImage, image_bytes}
 use Rattle.litefs_tool.specs.Command.{WritesFor, RefusesBy}
-use Rattle.ltx_codec.specs.Format.{IsFile, file_text, no_meaning}
+use Rattle.ltx_codec.specs.Format.{IsFile, file_encoding, no_meaning}
 use Rattle.ltx_codec.specs.declared.file.Ltx.{Ltx}
 use Rattle.litefs_tool.specs.Compaction.{MayRefuse, Become}
 use Rattle.litefs_tool.specs.Files.{MakesOf}
@@ -80,7 +80,7 @@ pub WritesFor-apply : (bytes : List ℕ) (image : DatabaseImage) → MakesOf byt
 WritesFor-apply bytes image makes = elim makes [ inl memory ↦ absurd (cc) | inr applies ↦ (image, applies, refl) ]
 
 -- the one file is written by its encoding
-pub WritesFor-compact : (bytes : List ℕ) (file : Ltx) → Become bytes file → IsFile file → WritesFor Compact bytes (file_text file no_meaning)
+pub WritesFor-compact : (bytes : List ℕ) (file : Ltx) → Become bytes file → IsFile file → WritesFor Compact bytes (file_encoding file no_meaning)
 WritesFor-compact bytes file become valid = record {
   file = file;
   become = become;

@@ -4,7 +4,7 @@ use Rattle.ltx_codec.specs.declared.fault.LtxFault.{LtxFault}
 use Rattle.ltx_codec.specs.declared.fault.LtxFault.TheVariants as ltx
 use Rattle.ltx_compact.specs.declared.fault.CompactFault.{CompactFault}
 use Rattle.ltx_compact.specs.declared.fault.CompactFault.TheVariants as list
-use Rattle.litefs_tool.specs.Refusal.{ltx_name}
+use Rattle.ltx_codec.specs.Faults.{name_of}
 use Rattle.litefs_tool.specs.declared.compact_refusal.CompactRefusal.{CompactRefusal}
 use Rattle.litefs_tool.specs.declared.compact_refusal.CompactRefusal.TheVariants as refusal
 
@@ -20,7 +20,7 @@ of_list why = refusal.List why
 
 -- the name of a refusal, without what was found
 abbrev pub compact_refusal_name : CompactRefusal → List ℕ
-compact_refusal_name (refusal.Ltx broken) = ltx_name broken
+compact_refusal_name (refusal.Ltx broken) = name_of broken
 compact_refusal_name (refusal.List list.Empty) = codes "Empty"
 compact_refusal_name (refusal.List (list.Gap at)) = codes "Gap"
 compact_refusal_name (refusal.List (list.SumGap at want got)) = codes "SumGap"

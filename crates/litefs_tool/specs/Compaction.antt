@@ -1,6 +1,6 @@
 -- What compacting the LTX files in some bytes comes to.
 use Rattle.std.specs.Prelude.{◌≡◌, ◌≢◌, ℕ, ◌<◌, ◌⊎◌, List, [], ◌∷◌, ◌++◌, length, Result, Ok, Err}
-use Rattle.ltx_codec.specs.Format.{IsLtx, file_text, no_meaning}
+use Rattle.ltx_codec.specs.Format.{IsLtx, file_encoding, no_meaning}
 use Rattle.ltx_codec.specs.Sums.{sum_of_writes}
 use Rattle.ltx_codec.specs.Places.{IsEarliest, StandsInside}
 use Rattle.ltx_codec.specs.declared.fault.LtxFault.{LtxFault}
@@ -59,7 +59,7 @@ MayRefuse bytes why = (why ≡ refusal.NoMemory) ⊎ RefusesToCompact bytes why
 pub record BecomesEncoding (bytes out : List ℕ) : Type 0 where
   pub file : Ltx
   pub become : Become bytes file
-  pub encoding : out ≡ file_text file no_meaning
+  pub encoding : out ≡ file_encoding file no_meaning
   pub is_file : IsLtx out file
 
 -- what compacting the files in the bytes comes to, where memory lasts

@@ -2,7 +2,6 @@ ghost use Rattle.std.specs.Prelude.{◌≡◌};
 ghost use Rattle.litefs_tool.specs.CompactRefusal.{of_ltx, of_list, compact_refusal_name};
 ghost use Rattle.litefs_tool.specs.declared.compact_refusal.CompactRefusal.TheVariants as refusal;
 
-use crate::refusal::name_of_ltx;
 use lf_base::NoMemory;
 use ltx_codec::LtxFault;
 use ltx_compact::CompactFault;
@@ -56,7 +55,7 @@ impl CompactRefusal {
         ensures { result.now ≡ compact_refusal_name self }
     {
         match self {
-            CompactRefusal::Ltx(fault) => name_of_ltx(fault),
+            CompactRefusal::Ltx(fault) => fault.name(),
             CompactRefusal::List(fault) => name_of_list(fault),
             CompactRefusal::SumDiffers { .. } => "SumDiffers",
             CompactRefusal::NoMemory => "NoMemory",

@@ -3,15 +3,15 @@ ghost use Rattle.std.specs.Prelude.{◌≡◌, ◌+◌, ◌≤◌, ◌++◌, [],
 ghost use Rattle.std.specs.Io.KnownBytes.{Appends};
 ghost use Rattle.page_checksum.specs.Crc.{after_bytes};
 ghost use Rattle.lf_base.specs.Faults.{CountsFaults};
-ghost use Rattle.ltx_codec.specs.Encoding.{trailer_text};
-ghost use Rattle.ltx_codec.specs.Format.{IsFile, file_text, no_meaning, pages_text, end_text};
+ghost use Rattle.ltx_codec.specs.Encoding.{trailer_encoding};
+ghost use Rattle.ltx_codec.specs.Format.{IsFile, file_encoding, no_meaning, pages_encoding, end_encoding};
 ghost use Rattle.litefs_tool.specs.Output.{AppendsPrefix};
 ghost use Rattle.litefs_tool.specs.steps.Buffer.{AppendsAllBut};
 
 use crate::output::{BUFFER, add_bytes, write_whole};
 use lf_base::{Failed, Sink};
 use lf_sqlite_pages::PageWrite;
-use ltx_codec::{Ltx, header_bytes, parts_are_the_text};
+use ltx_codec::{Ltx, header_bytes, parts_are_the_encoding};
 use page_checksum::{FIRST_REGISTER, crc_feed};
 
 /// Bit 63, which every sum carries.
@@ -23,11 +23,11 @@ pub fn write_file<S: Sink>(sink: &mut S, file: &Ltx, buffer: &mut Vec<u8>) -> Re
     requires valid { IsFile file.now }
     requires empty { buffer.old.items ≡ [] }
     requires room { BUFFER ≤ vec_capacity buffer.old }
-    ensures whole { OnOk result (Appends (S.taken sink.old) (S.taken sink.new) (file_text file.now no_meaning)) }
-    ensures prefix { OnErr result (AppendsPrefix (S.taken sink.old) (S.taken sink.new) (file_text file.now no_meaning)) }
+    ensures whole { OnOk result (Appends (S.taken sink.old) (S.taken sink.new) (file_encoding file.now no_meaning)) }
+    ensures prefix { OnErr result (AppendsPrefix (S.taken sink.old) (S.taken sink.new) (file_encoding file.now no_meaning)) }
     ensures cause { CountsFaults (S.faults sink.old) (S.faults sink.new) result }
 {
-    parts_are_the_text();
+    parts_are_the_encoding();
     let header = header_bytes(&file.header);
     add_bytes(sink, &header, buffer)?;
     let register = crc_feed(FIRST_REGISTER, &header);
@@ -44,9 +44,9 @@ fn add_pages<S: Sink>(
 ) -> Result<u64, Failed>
     requires fits { All (λ page. length page.bytes ≤ BUFFER) pages.now }
     requires room { BUFFER ≤ vec_capacity buffer.old }
-    ensures whole { OnOk result (AppendsAllBut (S.taken sink.old) (S.taken sink.new) (buffer.old.items ++ pages_text pages.now) buffer.new.items) }
-    ensures register { IfOk result (λ after. after ≡ after_bytes register (pages_text pages.now)) }
-    ensures prefix { OnErr result (AppendsPrefix (S.taken sink.old) (S.taken sink.new) (buffer.old.items ++ pages_text pages.now)) }
+    ensures whole { OnOk result (AppendsAllBut (S.taken sink.old) (S.taken sink.new) (buffer.old.items ++ pages_encoding pages.now) buffer.new.items) }
+    ensures register { IfOk result (λ after. after ≡ after_bytes register (pages_encoding pages.now)) }
+    ensures prefix { OnErr result (AppendsPrefix (S.taken sink.old) (S.taken sink.new) (buffer.old.items ++ pages_encoding pages.now)) }
     ensures cause { CountsFaults (S.faults sink.old) (S.faults sink.new) result }
     ensures room { BUFFER ≤ vec_capacity buffer.new }
 {
@@ -69,8 +69,8 @@ fn write_end<S: Sink>(
     register: u64,
 ) -> Result<(), Failed>
     requires { BUFFER ≤ vec_capacity buffer.old }
-    ensures whole { OnOk result (Appends (S.taken sink.old) (S.taken sink.new) (buffer.old.items ++ trailer_text register post)) }
-    ensures prefix { OnErr result (AppendsPrefix (S.taken sink.old) (S.taken sink.new) (buffer.old.items ++ trailer_text register post)) }
+    ensures whole { OnOk result (Appends (S.taken sink.old) (S.taken sink.new) (buffer.old.items ++ trailer_encoding register post)) }
+    ensures prefix { OnErr result (AppendsPrefix (S.taken sink.old) (S.taken sink.new) (buffer.old.items ++ trailer_encoding register post)) }
     ensures cause { CountsFaults (S.faults sink.old) (S.faults sink.new) result }
 {
     let end = end_bytes(post);
@@ -82,7 +82,7 @@ fn write_end<S: Sink>(
 
 /// The number 0 that ends the pages, and the sum of the database after the transactions.
 fn end_bytes(post: u64) -> [u8; 12]
-    ensures { result ≡ end_text post }
+    ensures { result ≡ end_encoding post }
 {
     let mut bytes = [0; 12];
     bytes[4..].copy_from_slice(&post.to_be_bytes());

@@ -8,7 +8,7 @@ ghost use Rattle.litefs_tool.specs.declared.compact_refusal.CompactRefusal.{Comp
 ghost use Rattle.litefs_tool.specs.declared.database.Database.{Database};
 ghost use Rattle.litefs_tool.specs.declared.refusal.Refusal.{Refusal};
 
-use ltx_codec::{one_earliest_fault, one_reading, text_breaks_no_rule};
+use ltx_codec::{encoding_breaks_no_rule, one_earliest_fault, one_reading};
 
 /// Applying the files in some bytes to a database comes to one image, or to one refusal.
 pub fn one_answer()
@@ -16,7 +16,7 @@ pub fn one_answer()
         → Applies database bytes answer → Applies database bytes other → answer ≡ other }
 {
     one_reading();
-    text_breaks_no_rule();
+    encoding_breaks_no_rule();
     one_earliest_fault();
 }
 
@@ -26,6 +26,6 @@ pub fn one_compaction()
         → CompactsTo bytes answer → CompactsTo bytes other → answer ≡ other }
 {
     one_reading();
-    text_breaks_no_rule();
+    encoding_breaks_no_rule();
     one_earliest_fault();
 }

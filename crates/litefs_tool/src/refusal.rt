@@ -1,5 +1,5 @@
 ghost use Rattle.std.specs.Prelude.{◌≡◌};
-ghost use Rattle.litefs_tool.specs.Refusal.{ltx_name, refusal_name, refusal_of};
+ghost use Rattle.litefs_tool.specs.Refusal.{refusal_name, refusal_of};
 ghost use Rattle.litefs_tool.specs.declared.refusal.Refusal.TheVariants as refusal;
 
 use lf_base::{NoMemory, Pos};
@@ -44,33 +44,11 @@ impl Refusal {
         ensures { result.now ≡ refusal_name self }
     {
         match self {
-            Refusal::Ltx(fault) => name_of_ltx(fault),
+            Refusal::Ltx(fault) => fault.name(),
             Refusal::NotNext { .. } => "NotNext",
             Refusal::PageSize => "PageSize",
             Refusal::SumDiffers { .. } => "SumDiffers",
             Refusal::NoMemory => "NoMemory",
         }
-    }
-}
-
-pub fn name_of_ltx(fault: LtxFault) -> &'static str
-    ensures { result.now ≡ ltx_name fault }
-{
-    match fault {
-        LtxFault::Short => "Short",
-        LtxFault::Magic => "Magic",
-        LtxFault::Compressed => "Compressed",
-        LtxFault::UnknownFlags => "UnknownFlags",
-        LtxFault::PageSize => "PageSize",
-        LtxFault::Txid => "Txid",
-        LtxFault::Commit => "Commit",
-        LtxFault::PreSum => "PreSum",
-        LtxFault::PageOrder => "PageOrder",
-        LtxFault::PageRange => "PageRange",
-        LtxFault::NotWhole => "NotWhole",
-        LtxFault::PostSum => "PostSum",
-        LtxFault::FileSum { .. } => "FileSum",
-        LtxFault::Tail => "Tail",
-        LtxFault::NoMemory => "NoMemory",
     }
 }

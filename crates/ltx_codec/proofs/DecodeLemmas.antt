@@ -1,4 +1,4 @@
--- What was read is a text of what it says.
+-- What was read is an encoding of what it says.
 use Rattle.std.proofs.Common.{◌≡◌, ℕ, ◌+◌, ◌<◌, ◌≤◌, ◌^◌, List, ◌++◌, length, take, drop, arith, refl, sym, ap, subst, inl, inr, ◌∙◌}
 use Rattle.std.specs.Int.{w32, w64, to_be_bytes}
 use Rattle.std.proofs.lemmas.Bool.{cases_lt, cases_eq}
@@ -7,7 +7,7 @@ use Rattle.std.proofs.Math.Seq.{take-add}
 use Rattle.lf_sqlite_pages.specs.LockPage.{IsDataPage, data_page_after}
 use Rattle.lf_sqlite_pages.specs.Change.{PageChange, IsChange, last_number}
 use Rattle.ltx_codec.specs.Fields.{AreBytes, stated_page_size, stated_commit, stated_min, stated_max, stated_pre, header_in}
-use Rattle.ltx_codec.specs.Format.{header_text, pages_text, summed_text, file_text, file_sum, IsHeader, IsBlock, IsPostSum, IsLtx}
+use Rattle.ltx_codec.specs.Format.{header_encoding, pages_encoding, summed_encoding, file_encoding, file_sum, IsHeader, IsBlock, IsPostSum, IsLtx}
 use Rattle.ltx_codec.specs.Places.{number_place, number_at, number_before, writes_in}
 use Rattle.ltx_codec.specs.Sums.{sum_of_writes}
 use Rattle.ltx_codec.specs.HeaderRules.{IsThere}
@@ -15,10 +15,10 @@ use Rattle.ltx_codec.specs.Block.{HasHeader, IsRead, IsNextNumber}
 use Rattle.ltx_codec.specs.steps.Trailer.{HasTrailer}
 use Rattle.ltx_codec.specs.declared.file.Ltx.{Ltx}
 use Rattle.ltx_codec.proofs.DataPages.{after-least, follows-end}
-use Rattle.ltx_codec.proofs.TextLemmas.{four_spelled, eight_spelled, four_below, eight_below}
+use Rattle.ltx_codec.proofs.EncodingLemmas.{four_spelled, eight_spelled, four_below, eight_below}
 use Rattle.lf_base.specs.Endian.{be32_at, be64_at}
 
--- the front of the bytes up to a field's end is the front before it and the field's text
+-- the front of the bytes up to a field's end is the front before it and the field's encoding
 four_more : (at : ℕ) (bytes front : List ℕ) (n : ℕ) → AreBytes bytes → at + 4 ≤ length bytes → n ≡ be32_at at bytes → take at bytes ≡ front
     → take (at + 4) bytes ≡ front ++ to_be_bytes w32 n
 four_more at bytes front n fits room n-is front-is =
@@ -35,8 +35,8 @@ eight_more at bytes front n fits room n-is front-is =
     ∙ ap (λ (d : List ℕ). front ++ d) (sym (eight_spelled at bytes fits room))
     ∙ ap (λ (m : ℕ). front ++ to_be_bytes w64 m) (sym n-is)
 
--- a sound header is the text of its fields
-header_spelled : (bytes : List ℕ) → HasHeader bytes → take 100 bytes ≡ header_text (header_in bytes) (take 20 (drop 80 bytes))
+-- a sound header is the encoding of its fields
+header_spelled : (bytes : List ℕ) → HasHeader bytes → take 100 bytes ≡ header_encoding (header_in bytes) (take 20 (drop 80 bytes))
 header_spelled bytes h =
     let fits = h.octets in
     let whole = h.whole in
@@ -93,29 +93,29 @@ reserved_in bytes = take 20 (drop 80 bytes)
 
 module _ (bytes : List ℕ) (change : PageChange) (sum : ℕ) (read : IsRead bytes change (length change.pages)) (number : IsNextNumber bytes (length change.pages))
     (ends : number_at bytes (length change.pages) ≡ 0) (trailer : HasTrailer bytes (length change.pages) sum) where
-  -- the text before the file sum
-  summed_spelled : take (number_place bytes (length change.pages) + 12) bytes ≡ summed_text (file_of bytes change sum) (reserved_in bytes)
+  -- the encoding before the file sum
+  summed_spelled : take (number_place bytes (length change.pages) + 12) bytes ≡ summed_encoding (file_of bytes change sum) (reserved_in bytes)
   summed_spelled =
       let place = number_place bytes (length change.pages) in
       let fits = read.header.octets in
       let head = header_spelled bytes read.header in
-      let block = read.holds.text ∙ ap (λ (d : List ℕ). d ++ pages_text change.pages) head in
+      let block = read.holds.encoding ∙ ap (λ (d : List ℕ). d ++ pages_encoding change.pages) head in
       let zero_spelled = four_more place bytes _ 0 fits number.there (sym ends) block in
       let room = trailer.there in
       let sum_spelled = eight_more (place + 4) bytes _ sum fits (omega (arith, room)) trailer.sum_is zero_spelled in
       let same : place + 12 ≡ (place + 4) + 8 = omega arith in
       ap (λ (n : ℕ). take n bytes) same ∙ sum_spelled
 
-  -- the whole text
-  text_spelled : take (number_place bytes (length change.pages) + 20) bytes ≡ file_text (file_of bytes change sum) (reserved_in bytes)
-  text_spelled =
+  -- the whole encoding
+  encoding_spelled : take (number_place bytes (length change.pages) + 20) bytes ≡ file_encoding (file_of bytes change sum) (reserved_in bytes)
+  encoding_spelled =
       let place = number_place bytes (length change.pages) in
       let room = trailer.there in
-      let seal : file_sum (summed_text (file_of bytes change sum) (reserved_in bytes)) ≡ be64_at (place + 12) bytes =
+      let seal : file_sum (summed_encoding (file_of bytes change sum) (reserved_in bytes)) ≡ be64_at (place + 12) bytes =
       ap file_sum (sym summed_spelled) ∙ sym trailer.file_sum_is in
       let same : place + 20 ≡ (place + 12) + 8 = omega arith in
       ap (λ (n : ℕ). take n bytes) same
-      ∙ eight_more (place + 12) bytes (summed_text (file_of bytes change sum) (reserved_in bytes)) (file_sum (summed_text (file_of bytes change sum) (reserved_in bytes))) read.header.octets (omega (arith, room)) seal summed_spelled
+      ∙ eight_more (place + 12) bytes (summed_encoding (file_of bytes change sum) (reserved_in bytes)) (file_sum (summed_encoding (file_of bytes change sum) (reserved_in bytes))) read.header.octets (omega (arith, room)) seal summed_spelled
 
   block_sound : IsChange change → IsBlock (header_in bytes) change
   block_sound valid = record {
@@ -146,7 +146,7 @@ module _ (bytes : List ℕ) (change : PageChange) (sum : ℕ) (read : IsRead byt
         ];
   }
 
-  -- the front of the bytes is a text of the file
+  -- the front of the bytes is an encoding of the file
   pub is_ltx : IsChange change → IsLtx (take (number_place bytes (length change.pages) + 20) bytes) (file_of bytes change sum)
   is_ltx valid = record {
     valid = record { header = header_sound bytes read.header; block = block_sound valid; post = sum_sound };
@@ -154,5 +154,5 @@ module _ (bytes : List ℕ) (change : PageChange) (sum : ℕ) (read : IsRead byt
     room =
         let whole = read.header.whole in
         omega (arith, length-take 20 (drop 80 bytes), length-drop 80 bytes);
-    text = text_spelled;
+    encoding = encoding_spelled;
   }

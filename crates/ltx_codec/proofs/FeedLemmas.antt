@@ -1,4 +1,4 @@
--- Steps of the decoder over the text so far.
+-- Steps of the decoder over the encoding so far.
 use Rattle.std.proofs.Common.{◌≡◌, ℕ, zero, suc, ◌+◌, ◌<◌, ◌≤◌, Bool, true, false, cond, List, [], ◌∷◌, ◌++◌, length, take, drop, arith, refl, sym, ap, subst, inl, inr, ◌∙◌, length-append, append_assoc}
 use Rattle.std.proofs.lemmas.List.{take_all, drop_all, take-append-drop, append-nil}
 use Rattle.page_checksum.specs.Crc.{after_bytes, all_ones}
@@ -20,7 +20,7 @@ use Rattle.ltx_codec.proofs.NumberLemmas.{found_inside, found_there}
 nothing_there : (n e : ℕ) → 1 ≤ e → IsThere [] n e → ⊥
 nothing_there n e some is = omega (arith, is.there)
 
--- no text breaks no rule
+-- no encoding breaks no rule
 pub nothing_sound : HasSoundFields [] 103
 nothing_sound = record {
   magic_is = λ is. absurd (nothing_there 103 4 (omega arith) is);
@@ -51,7 +51,7 @@ read_none bytes head = record {
     last = refl;
     writes = refl;
     each = λ _ n first last. absurd (omega (arith, first, last));
-    text = ap (λ (n : ℕ). take n bytes) (first_place bytes) ∙ sym (append-nil (take 100 bytes));
+    encoding = ap (λ (n : ℕ). take n bytes) (first_place bytes) ∙ sym (append-nil (take 100 bytes));
   };
   sound = subst (λ (n : ℕ). IsSoundBefore bytes (n + 1)) (sym (first_place bytes)) (sound_fields bytes 100 here (omega arith) head.whole);
 }
@@ -107,19 +107,19 @@ refused_longer limit bytes more f refused = (
   ],
 )
 
--- a text with some of a piece, and the rest of the piece
-pub piece_rest : (text piece : List ℕ) (used : ℕ) → (text ++ take used piece) ++ drop used piece ≡ text ++ piece
-piece_rest text piece used = append_assoc text (take used piece) (drop used piece) ∙ ap (λ (l : List ℕ). text ++ l) (take-append-drop used piece)
+-- an encoding with some of a piece, and the rest of the piece
+pub piece_rest : (encoding piece : List ℕ) (used : ℕ) → (encoding ++ take used piece) ++ drop used piece ≡ encoding ++ piece
+piece_rest encoding piece used = append_assoc encoding (take used piece) (drop used piece) ∙ ap (λ (l : List ℕ). encoding ++ l) (take-append-drop used piece)
 
-pub refused_piece : (limit : ℕ) (text piece : List ℕ) (used : ℕ) (f : LtxFault) → IsRefusedWithin limit (text ++ take used piece) f → IsRefusedWithin limit (text ++ piece) f
-refused_piece limit text piece used f refused =
-    subst (λ (l : List ℕ). IsRefusedWithin limit l f) (piece_rest text piece used) (refused_longer limit (text ++ take used piece) (drop used piece) f refused)
+pub refused_piece : (limit : ℕ) (encoding piece : List ℕ) (used : ℕ) (f : LtxFault) → IsRefusedWithin limit (encoding ++ take used piece) f → IsRefusedWithin limit (encoding ++ piece) f
+refused_piece limit encoding piece used f refused =
+    subst (λ (l : List ℕ). IsRefusedWithin limit l f) (piece_rest encoding piece used) (refused_longer limit (encoding ++ take used piece) (drop used piece) f refused)
 
 -- what is found with some bytes of a piece, before which no part ends, is found in the piece
-pub refused_first : (limit : ℕ) (text piece : List ℕ) (used : ℕ) (f : LtxFault) → used ≤ length piece → NoneEndsBefore text piece used → IsRefusedWithin limit (text ++ take used piece) f
-    → IsRefusedWithin limit (text ++ piece) f × StandsFirst limit text piece f
-refused_first limit text piece used f within none refused =
-    (refused_piece limit text piece used f refused, record { used = used; within = within; none = none; refused = refused })
+pub refused_first : (limit : ℕ) (encoding piece : List ℕ) (used : ℕ) (f : LtxFault) → used ≤ length piece → NoneEndsBefore encoding piece used → IsRefusedWithin limit (encoding ++ take used piece) f
+    → IsRefusedWithin limit (encoding ++ piece) f × StandsFirst limit encoding piece f
+refused_first limit encoding piece used f within none refused =
+    (refused_piece limit encoding piece used f refused, record { used = used; within = within; none = none; refused = refused })
 
 pub AreBytes-append : (front back : List ℕ) → AreBytes front → AreBytes back → AreBytes (front ++ back)
 AreBytes-append [] back h k i = k i
@@ -127,15 +127,15 @@ AreBytes-append (x ∷ front) back h k zero = h 0
 AreBytes-append (x ∷ front) back h k (suc i) = AreBytes-append front back (λ j. h (suc j)) k i
 
 -- what is held before the header is whole
-pub held_is : (d : Decoder) (limit : ℕ) (text : List ℕ) → HasFed d limit text → d.in_block ≡ false → d.told ≡ false → d.held.items ≡ text
-held_is d limit text fed stage untold = elim fed.stage [
-  | inl head ↦ subst (λ (b : Bool). cond b [] d.held.items ≡ text) untold head.held
+pub held_is : (d : Decoder) (limit : ℕ) (encoding : List ℕ) → HasFed d limit encoding → d.in_block ≡ false → d.told ≡ false → d.held.items ≡ encoding
+held_is d limit encoding fed stage untold = elim fed.stage [
+  | inl head ↦ subst (λ (b : Bool). cond b [] d.held.items ≡ encoding) untold head.held
   | inr block ↦ let other = block.1.stage in absurd cc
 ]
 
 -- where the part was told, nothing is held
-pub told_part : (d : Decoder) (text : List ℕ) (k : ℕ) → d.told ≡ true → IsPart d text k
-told_part d text k told =
+pub told_part : (d : Decoder) (encoding : List ℕ) (k : ℕ) → d.told ≡ true → IsPart d encoding k
+told_part d encoding k told =
     let none : length (held_part d) ≡ 0 = ap (λ (b : Bool). length (cond b [] d.held.items)) told in
     record { page = λ there more. omega (arith, none); end = λ there ends. omega (arith, none) }
 
@@ -144,23 +144,23 @@ pub record Stays (old new : Decoder) : Type 0 where
   pub fault : new.fault ≡ old.fault
   pub limit : new.limit ≡ old.limit
 
-module _ (old new : Decoder) (limit : ℕ) (text more : List ℕ) (fed : HasFed old limit text) (stays : Stays old new) (fits : AreBytes more) where
+module _ (old new : Decoder) (limit : ℕ) (encoding more : List ℕ) (fed : HasFed old limit encoding) (stays : Stays old new) (fits : AreBytes more) where
   -- the header goes on
   pub header_goes_on : old.in_block ≡ false → old.told ≡ false → new.in_block ≡ old.in_block → new.told ≡ old.told
       → new.held.items ≡ old.held.items ++ more → HasSoundFields new.held.items 103 → IsWithin old.limit new.held.items → length new.held.items < 100
-      → HasFed new limit (text ++ more)
+      → HasFed new limit (encoding ++ more)
   header_goes_on stage untold stage-same told-same held sound within short =
-      let text-is : new.held.items ≡ text ++ more = held ∙ ap (λ (l : List ℕ). l ++ more) (held_is old limit text fed stage untold) in
+      let encoding-is : new.held.items ≡ encoding ++ more = held ∙ ap (λ (l : List ℕ). l ++ more) (held_is old limit encoding fed stage untold) in
       record {
-        unfinished = rw (← text-is) (short_header new.held.items sound short);
-        octets = AreBytes-append text more fed.octets fits;
+        unfinished = rw (← encoding-is) (short_header new.held.items sound short);
+        octets = AreBytes-append encoding more fed.octets fits;
         sound = stays.fault ∙ fed.sound;
         limit_is = stays.limit ∙ fed.limit_is;
-        within = rw (← text-is, ← fed.limit_is) within;
+        within = rw (← encoding-is, ← fed.limit_is) within;
         stage = inl (record {
           stage = stage-same ∙ stage;
-          short = let len = ap length text-is in omega (arith, short, len);
-          held = subst (λ (b : Bool). cond b [] new.held.items ≡ text ++ more) (sym (told-same ∙ untold)) text-is;
+          short = let len = ap length encoding-is in omega (arith, short, len);
+          held = subst (λ (b : Bool). cond b [] new.held.items ≡ encoding ++ more) (sym (told-same ∙ untold)) encoding-is;
         });
       }
 
@@ -168,42 +168,42 @@ module _ (old new : Decoder) (limit : ℕ) (text more : List ℕ) (fed : HasFed 
   pub header_ends : old.in_block ≡ false → old.told ≡ false → new.held.items ≡ old.held.items ++ more
       → HasSoundFields new.held.items 103 → IsWithin old.limit new.held.items → length new.held.items ≡ 100
       → new.header ≡ header_in new.held.items → new.register ≡ after_bytes all_ones new.held.items → new.number ≡ 0 → new.sums ≡ 0 → new.in_block ≡ true → new.told ≡ true
-      → ShowsHeader new limit (text ++ more)
+      → ShowsHeader new limit (encoding ++ more)
   header_ends stage untold held sound within whole header register number sums block told =
-      let text-is : new.held.items ≡ text ++ more = held ∙ ap (λ (l : List ℕ). l ++ more) (held_is old limit text fed stage untold) in
-      let octets = AreBytes-append text more fed.octets fits in
-      let head : HasHeader (text ++ more) = record { fields = rw (← text-is) sound; whole = omega (arith, whole, ap length text-is); octets = octets } in
-      let long : length (text ++ more) ≡ 100 = sym (ap length text-is) ∙ whole in
-      let read = read_none (text ++ more) head in
+      let encoding-is : new.held.items ≡ encoding ++ more = held ∙ ap (λ (l : List ℕ). l ++ more) (held_is old limit encoding fed stage untold) in
+      let octets = AreBytes-append encoding more fed.octets fits in
+      let head : HasHeader (encoding ++ more) = record { fields = rw (← encoding-is) sound; whole = omega (arith, whole, ap length encoding-is); octets = octets } in
+      let long : length (encoding ++ more) ≡ 100 = sym (ap length encoding-is) ∙ whole in
+      let read = read_none (encoding ++ more) head in
       record {
         ends = long;
-        shown = header ∙ ap header_in text-is;
+        shown = header ∙ ap header_in encoding-is;
         fed = record {
-          unfinished = short_number (text ++ more) 0 read.pages read.sound (omega (arith, long)) (omega (arith, long));
+          unfinished = short_number (encoding ++ more) 0 read.pages read.sound (omega (arith, long)) (omega (arith, long));
           octets = octets;
           sound = stays.fault ∙ fed.sound;
           limit_is = stays.limit ∙ fed.limit_is;
-          within = rw (← text-is, ← fed.limit_is) within;
+          within = rw (← encoding-is, ← fed.limit_is) within;
           stage = inr (
-            empty_change (stated_page_size (text ++ more)) (stated_commit (text ++ more)),
+            empty_change (stated_page_size (encoding ++ more)) (stated_commit (encoding ++ more)),
             record {
               stage = block;
               valid = none_valid _ _ (head.fields.page_size (record { within = omega arith; there = omega (arith, long) }));
               read = read;
-              header = header ∙ ap header_in text-is;
+              header = header ∙ ap header_in encoding-is;
               number = number;
-              held = ap (λ (b : Bool). cond b [] new.held.items) told ∙ sym (drop_all (number_place (text ++ more) 0) (text ++ more) (omega (arith, long)));
-              register = register ∙ ap (after_bytes all_ones) (text-is ∙ sym (take_all (number_place (text ++ more) 0) (text ++ more) (omega (arith, long))));
+              held = ap (λ (b : Bool). cond b [] new.held.items) told ∙ sym (drop_all (number_place (encoding ++ more) 0) (encoding ++ more) (omega (arith, long)));
+              register = register ∙ ap (after_bytes all_ones) (encoding-is ∙ sym (take_all (number_place (encoding ++ more) 0) (encoding ++ more) (omega (arith, long))));
               sums = λ _. sums;
             },
-            told_part new (text ++ more) 0 told,
+            told_part new (encoding ++ more) 0 told,
           );
         };
       }
 
 -- before the header is whole, less than it was read
-pub header_short : (d : Decoder) (limit : ℕ) (text : List ℕ) → HasFed d limit text → d.in_block ≡ false → length text < 100
-header_short d limit text fed stage = elim fed.stage [
+pub header_short : (d : Decoder) (limit : ℕ) (encoding : List ℕ) → HasFed d limit encoding → d.in_block ≡ false → length encoding < 100
+header_short d limit encoding fed stage = elim fed.stage [
   | inl head ↦ head.short
   | inr block ↦ let other = block.1.stage in absurd cc
 ]

@@ -1,4 +1,4 @@
--- Laws of the texts of files.
+-- Laws of the encodings of files.
 use Rattle.std.proofs.Common.{◌≡◌, ℕ, ◌<◌, ◌≤◌, ◌^◌, List, [], ◌∷◌, ◌++◌, length, take, drop, arith, refl, sym, ap, subst, ◌∙◌, append_assoc}
 use Rattle.std.specs.Prelude.{All}
 use Rattle.std.specs.Int.{w32, w64, to_be_bytes, from_be_bytes}
@@ -8,7 +8,7 @@ use Rattle.std.proofs.lemmas.Nat.{from_be_bytes-to_be_bytes_4, from_be_bytes-to_
 use Rattle.lf_sqlite_pages.specs.Change.{PageChange, AscendsAbove}
 use Rattle.lf_sqlite_pages.specs.declared.page_write.PageWrite.{PageWrite}
 use Rattle.ltx_codec.specs.Fields.{header_in}
-use Rattle.ltx_codec.specs.Format.{header_text, pages_text, summed_text, file_text, file_sum, FitsWidths, IsFile, IsLtx}
+use Rattle.ltx_codec.specs.Format.{header_encoding, pages_encoding, summed_encoding, file_encoding, file_sum, FitsWidths, IsFile, IsLtx}
 use Rattle.ltx_codec.specs.declared.header.Header.{Header}
 use Rattle.ltx_codec.specs.declared.file.Ltx.{Ltx}
 use Rattle.lf_base.specs.Endian.{be32_at, be64_at}
@@ -19,8 +19,8 @@ splits_alike a b x y len same =
     let front : a ≡ b = sym (take_at a x (length a) refl) ∙ ap (λ (l : List ℕ). take (length a) l) same ∙ take_at b y (length a) (sym len) in
     (front, append_cancel_left a x y (same ∙ ap (λ (l : List ℕ). l ++ y) (sym front)))
 
--- the fields of a header's text are the header
-pub header_again : (h : Header) (reserved rest : List ℕ) → FitsWidths h → header_in (header_text h reserved ++ rest) ≡ h
+-- the fields of a header's encoding are the header
+pub header_again : (h : Header) (reserved rest : List ℕ) → FitsWidths h → header_in (header_encoding h reserved ++ rest) ≡ h
 unfolding be32_at be64_at
 header_again h reserved rest fits = rw (
   from_be_bytes-to_be_bytes_4 h.page_size fits.page_size,
@@ -36,7 +36,7 @@ header_again h reserved rest fits = rw (
   from_be_bytes-to_be_bytes_8 h.node fits.node,
 ) refl
 
--- a page's text is longer than nothing: its number isn't the 0 that ends a block
+-- a page's encoding is longer than nothing: its number isn't the 0 that ends a block
 number_again : (n : ℕ) (rest : List ℕ) → n < 2 ^ 32 → from_be_bytes w32 (take 4 (to_be_bytes w32 n ++ rest)) ≡ n
 number_again n rest small = from_be_bytes-to_be_bytes_4 n small
 
@@ -55,30 +55,30 @@ tail_whole size prev w ws h = record {
 
 -- two blocks that begin alike hold the same pages
 pub pages_alike : (size p q : ℕ) (vs ws : List PageWrite) (x y : List ℕ) → AreWhole size p vs → AreWhole size q ws
-    → pages_text vs ++ (to_be_bytes w32 0 ++ x) ≡ pages_text ws ++ (to_be_bytes w32 0 ++ y) → (vs ≡ ws) × (x ≡ y)
+    → pages_encoding vs ++ (to_be_bytes w32 0 ++ x) ≡ pages_encoding ws ++ (to_be_bytes w32 0 ++ y) → (vs ≡ ws) × (x ≡ y)
 pages_alike size p q [] [] x y hv hw same = (refl, append_cancel_left (to_be_bytes w32 0) x y same)
 pages_alike size p q [] (w ∷ ws) x y hv hw same =
-    let number : from_be_bytes w32 (take 4 (to_be_bytes w32 0 ++ x)) ≡ from_be_bytes w32 (take 4 (to_be_bytes w32 w.number ++ (w.bytes ++ pages_text ws ++ (to_be_bytes w32 0 ++ y)))) =
+    let number : from_be_bytes w32 (take 4 (to_be_bytes w32 0 ++ x)) ≡ from_be_bytes w32 (take 4 (to_be_bytes w32 w.number ++ (w.bytes ++ pages_encoding ws ++ (to_be_bytes w32 0 ++ y)))) =
     ap (λ (l : List ℕ). from_be_bytes w32 (take 4 l)) same in
-    let zero-is : 0 ≡ w.number = sym (number_again 0 x (omega arith)) ∙ number ∙ number_again w.number (w.bytes ++ pages_text ws ++ (to_be_bytes w32 0 ++ y)) (All-head (λ (v : PageWrite). v.number < 2 ^ 32) w ws hw.small) in
+    let zero-is : 0 ≡ w.number = sym (number_again 0 x (omega arith)) ∙ number ∙ number_again w.number (w.bytes ++ pages_encoding ws ++ (to_be_bytes w32 0 ++ y)) (All-head (λ (v : PageWrite). v.number < 2 ^ 32) w ws hw.small) in
     absurd (omega (arith, hw.ascends.0, zero-is))
 pages_alike size p q (v ∷ vs) [] x y hv hw same =
-    let number : from_be_bytes w32 (take 4 (to_be_bytes w32 v.number ++ (v.bytes ++ pages_text vs ++ (to_be_bytes w32 0 ++ x)))) ≡ from_be_bytes w32 (take 4 (to_be_bytes w32 0 ++ y)) =
+    let number : from_be_bytes w32 (take 4 (to_be_bytes w32 v.number ++ (v.bytes ++ pages_encoding vs ++ (to_be_bytes w32 0 ++ x)))) ≡ from_be_bytes w32 (take 4 (to_be_bytes w32 0 ++ y)) =
     ap (λ (l : List ℕ). from_be_bytes w32 (take 4 l)) same in
-    let zero-is : v.number ≡ 0 = sym (number_again v.number (v.bytes ++ pages_text vs ++ (to_be_bytes w32 0 ++ x)) (All-head (λ (u : PageWrite). u.number < 2 ^ 32) v vs hv.small)) ∙ number ∙ number_again 0 y (omega arith) in
+    let zero-is : v.number ≡ 0 = sym (number_again v.number (v.bytes ++ pages_encoding vs ++ (to_be_bytes w32 0 ++ x)) (All-head (λ (u : PageWrite). u.number < 2 ^ 32) v vs hv.small)) ∙ number ∙ number_again 0 y (omega arith) in
     absurd (omega (arith, hv.ascends.0, zero-is))
 pages_alike size p q (v ∷ vs) (w ∷ ws) x y hv hw same =
-    let left : List ℕ = v.bytes ++ pages_text vs ++ (to_be_bytes w32 0 ++ x) in
-    let right : List ℕ = w.bytes ++ pages_text ws ++ (to_be_bytes w32 0 ++ y) in
+    let left : List ℕ = v.bytes ++ pages_encoding vs ++ (to_be_bytes w32 0 ++ x) in
+    let right : List ℕ = w.bytes ++ pages_encoding ws ++ (to_be_bytes w32 0 ++ y) in
     let numbers : to_be_bytes w32 v.number ++ left ≡ to_be_bytes w32 w.number ++ right = same in
-    let number_text = splits_alike (to_be_bytes w32 v.number) (to_be_bytes w32 w.number) left right refl numbers in
+    let number_encoding = splits_alike (to_be_bytes w32 v.number) (to_be_bytes w32 w.number) left right refl numbers in
     let number : v.number ≡ w.number =
     sym (from_be_bytes-to_be_bytes_4 v.number (All-head (λ (u : PageWrite). u.number < 2 ^ 32) v vs hv.small))
-    ∙ ap (λ (l : List ℕ). from_be_bytes w32 l) number_text.0
+    ∙ ap (λ (l : List ℕ). from_be_bytes w32 l) number_encoding.0
     ∙ from_be_bytes-to_be_bytes_4 w.number (All-head (λ (u : PageWrite). u.number < 2 ^ 32) w ws hw.small) in
     let len : length v.bytes ≡ length w.bytes = All-head (λ (u : PageWrite). length u.bytes ≡ size) v vs hv.whole ∙ sym (All-head (λ (u : PageWrite). length u.bytes ≡ size) w ws hw.whole) in
-    let pages : v.bytes ++ (pages_text vs ++ (to_be_bytes w32 0 ++ x)) ≡ w.bytes ++ (pages_text ws ++ (to_be_bytes w32 0 ++ y)) =
-    sym (append_assoc v.bytes (pages_text vs) (to_be_bytes w32 0 ++ x)) ∙ number_text.1 ∙ append_assoc w.bytes (pages_text ws) (to_be_bytes w32 0 ++ y) in
+    let pages : v.bytes ++ (pages_encoding vs ++ (to_be_bytes w32 0 ++ x)) ≡ w.bytes ++ (pages_encoding ws ++ (to_be_bytes w32 0 ++ y)) =
+    sym (append_assoc v.bytes (pages_encoding vs) (to_be_bytes w32 0 ++ x)) ∙ number_encoding.1 ∙ append_assoc w.bytes (pages_encoding ws) (to_be_bytes w32 0 ++ y) in
     let page = splits_alike v.bytes w.bytes _ _ len pages in
     let more = pages_alike size v.number w.number vs ws x y (tail_whole size p v vs hv) (tail_whole size q w ws hw) page.1 in
     let one : v ≡ w = ap (λ (n : ℕ). record { number = n; bytes = v.bytes }) number ∙ ap (λ (b : List ℕ). record { number = w.number; bytes = b }) page.0 in
@@ -100,13 +100,13 @@ file_whole file valid =
 regroup : (a b c d e x : List ℕ) → ((((a ++ b) ++ c) ++ d) ++ e) ++ x ≡ a ++ (b ++ (c ++ (d ++ (e ++ x))))
 regroup a b c d e x = simp append_assoc
 
--- a text with what follows it, part by part
-pub parts : (file : Ltx) (reserved rest : List ℕ) → file_text file reserved ++ rest ≡ header_text file.header reserved ++ (pages_text file.change.pages
-    ++ (to_be_bytes w32 0 ++ (to_be_bytes w64 file.post ++ (to_be_bytes w64 (file_sum (summed_text file reserved)) ++ rest))))
-parts file reserved rest = regroup (header_text file.header reserved) (pages_text file.change.pages) (to_be_bytes w32 0) (to_be_bytes w64 file.post)
-    (to_be_bytes w64 (file_sum (summed_text file reserved))) rest
+-- an encoding with what follows it, part by part
+pub parts : (file : Ltx) (reserved rest : List ℕ) → file_encoding file reserved ++ rest ≡ header_encoding file.header reserved ++ (pages_encoding file.change.pages
+    ++ (to_be_bytes w32 0 ++ (to_be_bytes w64 file.post ++ (to_be_bytes w64 (file_sum (summed_encoding file reserved)) ++ rest))))
+parts file reserved rest = regroup (header_encoding file.header reserved) (pages_encoding file.change.pages) (to_be_bytes w32 0) (to_be_bytes w64 file.post)
+    (to_be_bytes w64 (file_sum (summed_encoding file reserved))) rest
 
-pub header_length : (h : Header) (reserved : List ℕ) → length reserved ≡ 20 → length (header_text h reserved) ≡ 100
+pub header_length : (h : Header) (reserved : List ℕ) → length reserved ≡ 20 → length (header_encoding h reserved) ≡ 100
 header_length h reserved room = rw room refl
 
 -- equal changes
@@ -123,11 +123,11 @@ file_alike a b header change post =
     ∙ ap (λ (c : PageChange). record { header = b.header; change = c; post = a.post }) change
     ∙ ap (λ (n : ℕ). record { header = b.header; change = b.change; post = n }) post
 
--- two files whose texts begin alike are one, and their reserved bytes are
+-- two files whose encodings begin alike are one, and their reserved bytes are
 read_alike : (a b : Ltx) (r s x y : List ℕ) → IsFile a → IsFile b → length r ≡ 20 → length s ≡ 20
-    → file_text a r ++ x ≡ file_text b s ++ y → (a ≡ b) × (r ≡ s)
+    → file_encoding a r ++ x ≡ file_encoding b s ++ y → (a ≡ b) × (r ≡ s)
 read_alike a b r s x y va vb ra sb same =
-    let heads = splits_alike (header_text a.header r) (header_text b.header s) _ _ (header_length a.header r ra ∙ sym (header_length b.header s sb))
+    let heads = splits_alike (header_encoding a.header r) (header_encoding b.header s) _ _ (header_length a.header r ra ∙ sym (header_length b.header s sb))
     (sym (parts a r x) ∙ same ∙ parts b s y) in
     let header : a.header ≡ b.header = sym (header_again a.header r [] va.header.widths)
     ∙ ap (λ (l : List ℕ). header_in (l ++ [])) heads.0 ∙ header_again b.header s [] vb.header.widths in
@@ -143,11 +143,11 @@ read_alike a b r s x y va vb ra sb same =
     (va.block.commit ∙ ap (λ (h : Header). h.commit) header ∙ sym vb.block.commit) blocks.0 in
     (file_alike a b header change post, reserved)
 
--- a text has one reading
-pub one_reading_lem : (text other rest more : List ℕ) (file second : Ltx) → IsLtx text file → IsLtx other second
-    → text ++ rest ≡ other ++ more → (text ≡ other) × (file ≡ second)
-one_reading_lem text other rest more file second is also same =
-    let joined : file_text file is.reserved ++ rest ≡ file_text second also.reserved ++ more =
-    ap (λ (l : List ℕ). l ++ rest) (sym is.text) ∙ same ∙ ap (λ (l : List ℕ). l ++ more) also.text in
+-- an encoding has one reading
+pub one_reading_lem : (encoding other rest more : List ℕ) (file second : Ltx) → IsLtx encoding file → IsLtx other second
+    → encoding ++ rest ≡ other ++ more → (encoding ≡ other) × (file ≡ second)
+one_reading_lem encoding other rest more file second is also same =
+    let joined : file_encoding file is.reserved ++ rest ≡ file_encoding second also.reserved ++ more =
+    ap (λ (l : List ℕ). l ++ rest) (sym is.encoding) ∙ same ∙ ap (λ (l : List ℕ). l ++ more) also.encoding in
     let both = read_alike file second is.reserved also.reserved rest more is.valid also.valid is.room also.room joined in
-    (is.text ∙ ap (λ (f : Ltx). file_text f is.reserved) both.0 ∙ ap (λ (r : List ℕ). file_text second r) both.1 ∙ sym also.text, both.0)
+    (is.encoding ∙ ap (λ (f : Ltx). file_encoding f is.reserved) both.0 ∙ ap (λ (r : List ℕ). file_encoding second r) both.1 ∙ sym also.encoding, both.0)

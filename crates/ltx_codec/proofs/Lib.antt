@@ -2,7 +2,7 @@ pub mod HeaderLemmas
 pub mod BlockLemmas
 pub mod DataPages
 pub mod NumberLemmas
-pub mod TextLemmas
+pub mod EncodingLemmas
 pub mod ReadLemmas
 pub mod DecodeLemmas
 pub mod LawLemmas

@@ -1,4 +1,4 @@
--- What was read of a block stays read when the text goes on.
+-- What was read of a block stays read when the encoding goes on.
 use Rattle.std.proofs.Common.{◌≡◌, ℕ, ◌+◌, ◌≤◌, Bool, true, false, cond, List, [], ◌++◌, length, take, drop, arith, refl, sym, ap, subst, inl, inr, ◌∙◌, length-append, append_assoc}
 use Rattle.std.proofs.lemmas.List.{drop-append-le, take-append-le, length-drop, drop-drop}
 use Rattle.std.proofs.Math.Seq.{take-add}
@@ -7,7 +7,7 @@ use Rattle.lf_sqlite_pages.specs.PageSize.{IsPageSize}
 use Rattle.lf_sqlite_pages.specs.LockPage.{IsWithinLimit}
 use Rattle.lf_sqlite_pages.specs.Change.{PageChange}
 use Rattle.ltx_codec.specs.Fields.{AreBytes, stated_page_size, stated_commit, stated_min, stated_max, stated_pre, header_in}
-use Rattle.ltx_codec.specs.Format.{pages_text}
+use Rattle.ltx_codec.specs.Format.{pages_encoding}
 use Rattle.ltx_codec.specs.Places.{IsEarliest, IsSoundBefore, number_place, number_at, number_before}
 use Rattle.ltx_codec.specs.Numbering.{MayFollow}
 use Rattle.ltx_codec.specs.HeaderRules.{IsThere}
@@ -98,10 +98,10 @@ read_longer bytes more change k read octets =
         last = read.holds.last ∙ before;
         writes = read.holds.writes ∙ writes_same bytes (bytes ++ more) (length bytes) g (omega arith) k 0 k (omega arith) read.there;
         each = λ snapshot. read.holds.each (min ∙ snapshot);
-        text = ap (λ (n : ℕ). take n (bytes ++ more)) (sym place)
+        encoding = ap (λ (n : ℕ). take n (bytes ++ more)) (sym place)
             ∙ sym (front_same (number_place bytes k) (length bytes) bytes (bytes ++ more) g read.there)
-            ∙ read.holds.text
-            ∙ ap (λ (d : List ℕ). d ++ pages_text change.pages) (front_same 100 (length bytes) bytes (bytes ++ more) g l);
+            ∙ read.holds.encoding
+            ∙ ap (λ (d : List ℕ). d ++ pages_encoding change.pages) (front_same 100 (length bytes) bytes (bytes ++ more) g l);
       };
       sound = subst (λ (n : ℕ). IsSoundBefore (bytes ++ more) (n + 1)) place
           (sound_longer bytes more (number_place bytes k + 1) (let r = read.there in omega arith) read.sound);
@@ -131,38 +131,38 @@ pub record Grows (old new : Decoder) (more : List ℕ) : Type 0 where
 pub held_untold : (d : Decoder) → d.told ≡ false → held_part d ≡ d.held.items
 held_untold d untold = ap (λ (b : Bool). cond b [] d.held.items) untold
 
-pub pages_longer : (old new : Decoder) (limit : ℕ) (text more : List ℕ) (change : PageChange) → HasPagesOf old limit text change → Grows old new more → AreBytes more
-    → HasPagesOf new limit (text ++ more) change
-pages_longer old new limit text more change has grows fits =
+pub pages_longer : (old new : Decoder) (limit : ℕ) (encoding more : List ℕ) (change : PageChange) → HasPagesOf old limit encoding change → Grows old new more → AreBytes more
+    → HasPagesOf new limit (encoding ++ more) change
+pages_longer old new limit encoding more change has grows fits =
     let block = has.block in
     let k = length change.pages in
     let read = block.read in
-    let octets = AreBytes-append text more has.octets fits in
-    let place = place_kept text more read.header k in
-    let l : 100 ≤ length text = read.header.whole in
+    let octets = AreBytes-append encoding more has.octets fits in
+    let place = place_kept encoding more read.header k in
+    let l : 100 ≤ length encoding = read.header.whole in
     record {
       octets = octets;
       sound = grows.stays.fault ∙ has.sound;
       limit_is = grows.stays.limit ∙ has.limit_is;
-      within = λ _. omega (arith, size_kept text more read.header, has.within (omega arith));
+      within = λ _. omega (arith, size_kept encoding more read.header, has.within (omega arith));
       block = record {
         stage = grows.stage ∙ block.stage;
         valid = block.valid;
-        read = read_longer text more change k read octets;
-        header = grows.header ∙ block.header ∙ header_in_longer text more read.header;
-        number = grows.number ∙ block.number ∙ before_kept text more read.header k read.there;
+        read = read_longer encoding more change k read octets;
+        header = grows.header ∙ block.header ∙ header_in_longer encoding more read.header;
+        number = grows.number ∙ block.number ∙ before_kept encoding more read.header k read.there;
         held = held_untold new (grows.told ∙ grows.untold) ∙ grows.held
             ∙ ap (λ (d : List ℕ). d ++ more) (sym (held_untold old grows.untold) ∙ block.held)
-            ∙ sym (drop-append-le (number_place text k) text more read.there)
-            ∙ ap (λ (n : ℕ). drop n (text ++ more)) place;
+            ∙ sym (drop-append-le (number_place encoding k) encoding more read.there)
+            ∙ ap (λ (n : ℕ). drop n (encoding ++ more)) place;
         register = grows.register ∙ block.register
-            ∙ ap (after_bytes all_ones) (sym (take-append-le (number_place text k) text more read.there) ∙ ap (λ (n : ℕ). take n (text ++ more)) place);
-        sums = λ snapshot. grows.sums ∙ block.sums (min_kept text more read.header ∙ snapshot);
+            ∙ ap (after_bytes all_ones) (sym (take-append-le (number_place encoding k) encoding more read.there) ∙ ap (λ (n : ℕ). take n (encoding ++ more)) place);
+        sums = λ snapshot. grows.sums ∙ block.sums (min_kept encoding more read.header ∙ snapshot);
       };
     }
 
-pub fed_of : (d : Decoder) (limit : ℕ) (text : List ℕ) (change : PageChange) → HasPagesOf d limit text change → IsPart d text (length change.pages) → IsEarliest text fault.Short → HasFed d limit text
-fed_of d limit text change has part short = record {
+pub fed_of : (d : Decoder) (limit : ℕ) (encoding : List ℕ) (change : PageChange) → HasPagesOf d limit encoding change → IsPart d encoding (length change.pages) → IsEarliest encoding fault.Short → HasFed d limit encoding
+fed_of d limit encoding change has part short = record {
   unfinished = short;
   octets = has.octets;
   sound = has.sound;
@@ -171,34 +171,34 @@ fed_of d limit text change has part short = record {
   stage = inr (change, has.block, part);
 }
 
-pub pages_of : (d : Decoder) (limit : ℕ) (text : List ℕ) → HasFed d limit text → d.in_block ≡ true → (change : PageChange) × HasPagesOf d limit text change × IsPart d text (length change.pages)
-pages_of d limit text fed stage = elim fed.stage [
+pub pages_of : (d : Decoder) (limit : ℕ) (encoding : List ℕ) → HasFed d limit encoding → d.in_block ≡ true → (change : PageChange) × HasPagesOf d limit encoding change × IsPart d encoding (length change.pages)
+pages_of d limit encoding fed stage = elim fed.stage [
   | inl head ↦ let other = head.stage in absurd cc
   | inr block ↦ (block.0, record { octets = fed.octets; sound = fed.sound; limit_is = fed.limit_is; within = fed.within; block = block.1 }, block.2)
 ]
 
--- what is held is as long as the text behind the pages
-pub held_length : (d : Decoder) (limit : ℕ) (text : List ℕ) (change : PageChange) → HasPagesOf d limit text change → d.told ≡ false
-    → length text ≡ number_place text (length change.pages) + length d.held.items
-held_length d limit text change has untold =
+-- what is held is as long as the encoding behind the pages
+pub held_length : (d : Decoder) (limit : ℕ) (encoding : List ℕ) (change : PageChange) → HasPagesOf d limit encoding change → d.told ≡ false
+    → length encoding ≡ number_place encoding (length change.pages) + length d.held.items
+held_length d limit encoding change has untold =
     let k = length change.pages in
     let there = has.block.read.there in
-    omega (arith, ap length (sym (held_untold d untold) ∙ has.block.held), length-drop (number_place text k) text, there)
+    omega (arith, ap length (sym (held_untold d untold) ∙ has.block.held), length-drop (number_place encoding k) encoding, there)
 
-pub held_is_rest : (d : Decoder) (limit : ℕ) (text : List ℕ) (change : PageChange) → HasPagesOf d limit text change → d.told ≡ false
-    → d.held.items ≡ drop (number_place text (length change.pages)) text
-held_is_rest d limit text change has untold = sym (held_untold d untold) ∙ has.block.held
+pub held_is_rest : (d : Decoder) (limit : ℕ) (encoding : List ℕ) (change : PageChange) → HasPagesOf d limit encoding change → d.told ≡ false
+    → d.held.items ≡ drop (number_place encoding (length change.pages)) encoding
+held_is_rest d limit encoding change has untold = sym (held_untold d untold) ∙ has.block.held
 
--- a text with two pieces taken one after the other
-pub two_taken : (text piece : List ℕ) (first more : ℕ) → text ++ take (first + more) piece ≡ (text ++ take first piece) ++ take more (drop first piece)
-two_taken text piece first more =
-    ap (λ (l : List ℕ). text ++ l) (take-add first more piece) ∙ sym (append_assoc text (take first piece) (take more (drop first piece)))
+-- an encoding with two pieces taken one after the other
+pub two_taken : (encoding piece : List ℕ) (first more : ℕ) → encoding ++ take (first + more) piece ≡ (encoding ++ take first piece) ++ take more (drop first piece)
+two_taken encoding piece first more =
+    ap (λ (l : List ℕ). encoding ++ l) (take-add first more piece) ∙ sym (append_assoc encoding (take first piece) (take more (drop first piece)))
 
--- numbers of a rest are numbers of the text
-pub four_rest : (at place : ℕ) (text : List ℕ) → be32_at place (drop at text) ≡ be32_at (at + place) text
+-- numbers of a rest are numbers of the encoding
+pub four_rest : (at place : ℕ) (encoding : List ℕ) → be32_at place (drop at encoding) ≡ be32_at (at + place) encoding
 unfolding be32_at
-four_rest at place text = rw drop-drop refl
+four_rest at place encoding = rw drop-drop refl
 
-pub eight_rest : (at place : ℕ) (text : List ℕ) → be64_at place (drop at text) ≡ be64_at (at + place) text
+pub eight_rest : (at place : ℕ) (encoding : List ℕ) → be64_at place (drop at encoding) ≡ be64_at (at + place) encoding
 unfolding be64_at
-eight_rest at place text = rw drop-drop refl
+eight_rest at place encoding = rw drop-drop refl

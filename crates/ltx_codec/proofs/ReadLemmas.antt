@@ -5,7 +5,7 @@ use Rattle.lf_sqlite_pages.specs.Change.{PageChange, with_page}
 use Rattle.ltx_codec.specs.Places.{number_place, number_at, page_in}
 use Rattle.ltx_codec.specs.Block.{IsNextNumber, IsRead}
 use Rattle.ltx_codec.proofs.BlockLemmas.{past_page}
-use Rattle.ltx_codec.proofs.TextLemmas.{holds_next}
+use Rattle.ltx_codec.proofs.EncodingLemmas.{holds_next}
 
 -- one more page was read
 pub read_next : (bytes : List ℕ) (change : PageChange) (k n : ℕ) (page : List ℕ) → IsRead bytes change k → IsNextNumber bytes k

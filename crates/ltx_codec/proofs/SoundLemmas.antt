@@ -1,4 +1,4 @@
--- The text of a file breaks no rule.
+-- The encoding of a file breaks no rule.
 use Rattle.std.proofs.Common.{◌≡◌, ◌≢◌, ℕ, ◌+◌, ◌<◌, ◌≤◌, ◌^◌, true, false, List, [], ◌∷◌, ◌++◌, length, take, drop, map, arith, refl, sym, ap, subst, inl, inr, ◌∙◌, append_assoc, length-append}
 use Rattle.std.specs.Prelude.{All, IsSome, Option}
 use Rattle.std.specs.List.{range_with_len}
@@ -14,7 +14,7 @@ use Rattle.lf_sqlite_pages.specs.LockPage.{IsDataPage, data_page_after}
 use Rattle.lf_sqlite_pages.specs.Change.{AscendsAbove, written}
 use Rattle.lf_sqlite_pages.specs.declared.page_write.PageWrite.{PageWrite}
 use Rattle.ltx_codec.specs.Fields.{AreBytes, stated_flags, stated_page_size, stated_commit, stated_min, header_in}
-use Rattle.ltx_codec.specs.Format.{header_text, pages_text, summed_text, file_text, file_sum, IsFile, IsLtx}
+use Rattle.ltx_codec.specs.Format.{header_encoding, pages_encoding, summed_encoding, file_encoding, file_sum, IsFile, IsLtx}
 use Rattle.ltx_codec.specs.Places.{IsBroken, IsSoundBefore, IsEarliest, HasBlock, number_place, number_at, number_before, page_in, write_in, writes_in, HasPages, IsWrongSum}
 use Rattle.ltx_codec.specs.Sums.{sum_of_writes}
 use Rattle.ltx_codec.specs.Numbering.{MayFollow}
@@ -27,7 +27,7 @@ use Rattle.ltx_codec.specs.declared.fault.LtxFault.TheVariants as fault
 use Rattle.ltx_codec.proofs.HeaderLemmas.{sound_fields}
 use Rattle.ltx_codec.proofs.BlockLemmas.{next_place, past_page, only_tail}
 use Rattle.ltx_codec.proofs.DataPages.{after-above, after-data, after-least, written-other, first-written}
-use Rattle.ltx_codec.proofs.TextLemmas.{before_more}
+use Rattle.ltx_codec.proofs.EncodingLemmas.{before_more}
 use Rattle.ltx_codec.proofs.LawLemmas.{AreWhole, tail_whole, file_whole, parts, header_again, header_length}
 use Rattle.lf_base.specs.Endian.{be32_at, be64_at}
 
@@ -49,9 +49,9 @@ abbrev pub Continues : List ℕ → ℕ → List PageWrite → Type 0
 Continues bytes prev ws =
     stated_min bytes ≡ 1 → (n : ℕ) → prev < n → n ≤ stated_commit bytes → IsDataPage (stated_page_size bytes) n → IsSome (written ws n)
 
--- how far a text is sound: up to its k-th number, behind which these pages follow
+-- how far an encoding is sound: up to its k-th number, behind which these pages follow
 pub record IsSoundTo (bytes : List ℕ) (prev k : ℕ) (ws : List PageWrite) (front more : List ℕ) : Type 0 where
-  pub split : bytes ≡ front ++ (pages_text ws ++ (to_be_bytes w32 0 ++ more))
+  pub split : bytes ≡ front ++ (pages_encoding ws ++ (to_be_bytes w32 0 ++ more))
   pub place : length front ≡ number_place bytes k
   pub before : number_before bytes k ≡ prev
   pub pages : HasPages bytes k
@@ -116,11 +116,11 @@ module _ (bytes : List ℕ) where
   page_here : (prev k : ℕ) (w : PageWrite) (ws : List PageWrite) (front more : List ℕ) → IsSoundTo bytes prev k (w ∷ ws) front more
       → (number_at bytes k ≡ w.number) × (page_in bytes k ≡ w.bytes) × IsSoundTo bytes w.number (k + 1) ws (front ++ to_be_bytes w32 w.number ++ w.bytes) more
   page_here prev k w ws front more h =
-      let behind : List ℕ = pages_text ws ++ (to_be_bytes w32 0 ++ more) in
+      let behind : List ℕ = pages_encoding ws ++ (to_be_bytes w32 0 ++ more) in
       let size : length w.bytes ≡ stated_page_size bytes = All-head (λ (v : PageWrite). length v.bytes ≡ stated_page_size bytes) w ws h.whole.whole in
       let small : w.number < 2 ^ 32 = All-head (λ (v : PageWrite). v.number < 2 ^ 32) w ws h.whole.small in
       let at_number : bytes ≡ front ++ (to_be_bytes w32 w.number ++ (w.bytes ++ behind)) =
-      h.split ∙ ap (λ (l : List ℕ). front ++ (to_be_bytes w32 w.number ++ l)) (append_assoc w.bytes (pages_text ws) (to_be_bytes w32 0 ++ more)) in
+      h.split ∙ ap (λ (l : List ℕ). front ++ (to_be_bytes w32 w.number ++ l)) (append_assoc w.bytes (pages_encoding ws) (to_be_bytes w32 0 ++ more)) in
       let at_page : bytes ≡ (front ++ to_be_bytes w32 w.number) ++ (w.bytes ++ behind) =
       at_number ∙ sym (append_assoc front (to_be_bytes w32 w.number) (w.bytes ++ behind)) in
       let after : bytes ≡ (front ++ to_be_bytes w32 w.number ++ w.bytes) ++ behind =
@@ -191,15 +191,15 @@ AreBytes-front front rest fits i =
 file_sum_fits : (bytes : List ℕ) → AreBytes bytes → file_sum bytes < 2 ^ 64
 file_sum_fits bytes fits = flagged_fits (crc bytes) (crc_fits bytes fits)
 
--- a text and what follows it, as bytes
+-- an encoding and what follows it, as bytes
 module _ (file : Ltx) (reserved rest bytes : List ℕ) (valid : IsFile file) (reserved_room : length reserved ≡ 20)
-    (whole : bytes ≡ file_text file reserved ++ rest) (fits : AreBytes bytes) where
-  pub split : bytes ≡ header_text file.header reserved ++ (pages_text file.change.pages ++ (to_be_bytes w32 0 ++ (to_be_bytes w64 file.post ++ (to_be_bytes w64 (file_sum (summed_text file reserved)) ++ rest))))
+    (whole : bytes ≡ file_encoding file reserved ++ rest) (fits : AreBytes bytes) where
+  pub split : bytes ≡ header_encoding file.header reserved ++ (pages_encoding file.change.pages ++ (to_be_bytes w32 0 ++ (to_be_bytes w64 file.post ++ (to_be_bytes w64 (file_sum (summed_encoding file reserved)) ++ rest))))
   split = whole ∙ parts file reserved rest
 
   pub header_is : header_in bytes ≡ file.header
   header_is = ap header_in split ∙ header_again file.header reserved
-      (pages_text file.change.pages ++ (to_be_bytes w32 0 ++ (to_be_bytes w64 file.post ++ (to_be_bytes w64 (file_sum (summed_text file reserved)) ++ rest)))) valid.header.widths
+      (pages_encoding file.change.pages ++ (to_be_bytes w32 0 ++ (to_be_bytes w64 file.post ++ (to_be_bytes w64 (file_sum (summed_encoding file reserved)) ++ rest)))) valid.header.widths
 
   page_size_is : stated_page_size bytes ≡ file.header.page_size
   page_size_is = ap (λ (h : Header). h.page_size) header_is
@@ -210,7 +210,7 @@ module _ (file : Ltx) (reserved rest bytes : List ℕ) (valid : IsFile file) (re
   min_is : stated_min bytes ≡ file.header.min
   min_is = ap (λ (h : Header). h.min) header_is
 
-  flags_are : (rest' : List ℕ) → stated_flags (header_text file.header reserved ++ rest') ≡ 0
+  flags_are : (rest' : List ℕ) → stated_flags (header_encoding file.header reserved ++ rest') ≡ 0
   unfolding be32_at
   flags_are rest' = refl
 
@@ -226,13 +226,13 @@ module _ (file : Ltx) (reserved rest bytes : List ℕ) (valid : IsFile file) (re
     delta_pre = λ _ delta. rw (ap (λ (h : Header). h.pre) header_is) (valid.header.delta_pre (λ one. delta (min_is ∙ one)));
   }
 
-  -- the text is sound up to the block
-  pub to_block : IsSoundTo bytes 0 0 file.change.pages (header_text file.header reserved) (to_be_bytes w64 file.post ++ (to_be_bytes w64 (file_sum (summed_text file reserved)) ++ rest))
+  -- the encoding is sound up to the block
+  pub to_block : IsSoundTo bytes 0 0 file.change.pages (header_encoding file.header reserved) (to_be_bytes w64 file.post ++ (to_be_bytes w64 (file_sum (summed_encoding file reserved)) ++ rest))
   to_block =
-      let head : length (header_text file.header reserved) ≡ 100 = header_length file.header reserved reserved_room in
+      let head : length (header_encoding file.header reserved) ≡ 100 = header_length file.header reserved reserved_room in
       let first : number_place bytes 0 ≡ 100 = omega arith in
-      let len : length bytes ≡ length (header_text file.header reserved) + length (pages_text file.change.pages ++ (to_be_bytes w32 0 ++ (to_be_bytes w64 file.post ++ (to_be_bytes w64 (file_sum (summed_text file reserved)) ++ rest)))) =
-      ap length split ∙ length-append (header_text file.header reserved) _ in
+      let len : length bytes ≡ length (header_encoding file.header reserved) + length (pages_encoding file.change.pages ++ (to_be_bytes w32 0 ++ (to_be_bytes w64 file.post ++ (to_be_bytes w64 (file_sum (summed_encoding file reserved)) ++ rest)))) =
+      ap length split ∙ length-append (header_encoding file.header reserved) _ in
       let room : 100 ≤ length bytes = omega (arith, len, head) in
       let before : IsSoundBefore bytes 101 = sound_fields bytes 100 fields_sound (omega arith) room in
       let start : 101 ≡ number_place bytes 0 + 1 = omega arith in
@@ -250,64 +250,64 @@ module _ (file : Ltx) (reserved rest bytes : List ℕ) (valid : IsFile file) (re
             (subst (λ (size : ℕ). IsDataPage size n) (page_size_is ∙ sym valid.block.page_size) data_page);
       }
 
-  -- where the block of the text ends, and the pages in it
-  pub ends_at : (k : ℕ) × (k ≡ length file.change.pages) × HasBlock bytes k × (length (file_text file reserved) ≡ number_place bytes k + 20) × (writes_in bytes k ≡ file.change.pages)
+  -- where the block of the encoding ends, and the pages in it
+  pub ends_at : (k : ℕ) × (k ≡ length file.change.pages) × HasBlock bytes k × (length (file_encoding file reserved) ≡ number_place bytes k + 20) × (writes_in bytes k ≡ file.change.pages)
       × (be64_at (number_place bytes k + 4) bytes ≡ file.post)
   ends_at =
-      let post_text : List ℕ = to_be_bytes w64 file.post in
-      let seal : List ℕ = to_be_bytes w64 (file_sum (summed_text file reserved)) in
-      let front : List ℕ = header_text file.header reserved ++ pages_text file.change.pages in
-      let walked = walk bytes file.change.pages 0 0 (header_text file.header reserved) (post_text ++ (seal ++ rest)) to_block in
+      let post_encoding : List ℕ = to_be_bytes w64 file.post in
+      let seal : List ℕ = to_be_bytes w64 (file_sum (summed_encoding file reserved)) in
+      let front : List ℕ = header_encoding file.header reserved ++ pages_encoding file.change.pages in
+      let walked = walk bytes file.change.pages 0 0 (header_encoding file.header reserved) (post_encoding ++ (seal ++ rest)) to_block in
       let k = walked.0 in
       let e = walked.3.1 in
       let end_is : k ≡ length file.change.pages = omega (arith, walked.1) in
-      let front_split : bytes ≡ front ++ (to_be_bytes w32 0 ++ (post_text ++ (seal ++ rest))) =
-      split ∙ sym (append_assoc (header_text file.header reserved) (pages_text file.change.pages) (to_be_bytes w32 0 ++ (post_text ++ (seal ++ rest)))) in
-      let same_front : walked.3.0 ≡ front = append_cancel_right walked.3.0 front (to_be_bytes w32 0 ++ (post_text ++ (seal ++ rest))) (sym e.split ∙ front_split) in
+      let front_split : bytes ≡ front ++ (to_be_bytes w32 0 ++ (post_encoding ++ (seal ++ rest))) =
+      split ∙ sym (append_assoc (header_encoding file.header reserved) (pages_encoding file.change.pages) (to_be_bytes w32 0 ++ (post_encoding ++ (seal ++ rest)))) in
+      let same_front : walked.3.0 ≡ front = append_cancel_right walked.3.0 front (to_be_bytes w32 0 ++ (post_encoding ++ (seal ++ rest))) (sym e.split ∙ front_split) in
       let front_place : length front ≡ number_place bytes k = ap length (sym same_front) ∙ e.place in
-      let text_length : length (file_text file reserved) ≡ number_place bytes k + 20 =
+      let encoding_length : length (file_encoding file reserved) ≡ number_place bytes k + 20 =
       omega (
         arith,
         front_place,
         length-append front (to_be_bytes w32 0),
-        length-append (front ++ to_be_bytes w32 0) post_text,
-        length-append (summed_text file reserved) seal,
+        length-append (front ++ to_be_bytes w32 0) post_encoding,
+        length-append (summed_encoding file reserved) seal,
       ) in
       let post_place : length (front ++ to_be_bytes w32 0) ≡ number_place bytes k + 4 = length-append front (to_be_bytes w32 0) ∙ ap (λ (n : ℕ). n + 4) front_place in
-      let post_split : bytes ≡ (front ++ to_be_bytes w32 0) ++ (post_text ++ (seal ++ rest)) =
-      front_split ∙ sym (append_assoc front (to_be_bytes w32 0) (post_text ++ (seal ++ rest))) in
+      let post_split : bytes ≡ (front ++ to_be_bytes w32 0) ++ (post_encoding ++ (seal ++ rest)) =
+      front_split ∙ sym (append_assoc front (to_be_bytes w32 0) (post_encoding ++ (seal ++ rest))) in
       let post_is : be64_at (number_place bytes k + 4) bytes ≡ file.post =
       eight_here (number_place bytes k + 4) bytes (front ++ to_be_bytes w32 0) (seal ++ rest) file.post post_split post_place valid.post.width in
-      (k, end_is, record { pages = e.pages; ends = e.ends; there = e.number.there }, text_length, ap (λ (n : ℕ). writes_in bytes n) end_is ∙ walked.2, post_is)
+      (k, end_is, record { pages = e.pages; ends = e.ends; there = e.number.there }, encoding_length, ap (λ (n : ℕ). writes_in bytes n) end_is ∙ walked.2, post_is)
 
-  -- what breaks a rule stands behind the text
-  breaks_behind : (f : LtxFault) (q : ℕ) → IsBroken bytes f q → (f ≡ fault.Tail) × (length (file_text file reserved) < q)
+  -- what breaks a rule stands behind the encoding
+  breaks_behind : (f : LtxFault) (q : ℕ) → IsBroken bytes f q → (f ≡ fault.Tail) × (length (file_encoding file reserved) < q)
   breaks_behind f q broken =
-      let post_text : List ℕ = to_be_bytes w64 file.post in
-      let seal : List ℕ = to_be_bytes w64 (file_sum (summed_text file reserved)) in
-      let front : List ℕ = header_text file.header reserved ++ pages_text file.change.pages in
-      let walked = walk bytes file.change.pages 0 0 (header_text file.header reserved) (to_be_bytes w64 file.post ++ (to_be_bytes w64 (file_sum (summed_text file reserved)) ++ rest)) to_block in
+      let post_encoding : List ℕ = to_be_bytes w64 file.post in
+      let seal : List ℕ = to_be_bytes w64 (file_sum (summed_encoding file reserved)) in
+      let front : List ℕ = header_encoding file.header reserved ++ pages_encoding file.change.pages in
+      let walked = walk bytes file.change.pages 0 0 (header_encoding file.header reserved) (to_be_bytes w64 file.post ++ (to_be_bytes w64 (file_sum (summed_encoding file reserved)) ++ rest)) to_block in
       let k = walked.0 in
       let e = walked.3.1 in
       let place = number_place bytes k in
-      let front_split : bytes ≡ front ++ (to_be_bytes w32 0 ++ (post_text ++ (seal ++ rest))) =
-      split ∙ sym (append_assoc (header_text file.header reserved) (pages_text file.change.pages) (to_be_bytes w32 0 ++ (post_text ++ (seal ++ rest)))) in
-      let same_front : walked.3.0 ≡ front = append_cancel_right walked.3.0 front (to_be_bytes w32 0 ++ (post_text ++ (seal ++ rest))) (sym e.split ∙ front_split) in
+      let front_split : bytes ≡ front ++ (to_be_bytes w32 0 ++ (post_encoding ++ (seal ++ rest))) =
+      split ∙ sym (append_assoc (header_encoding file.header reserved) (pages_encoding file.change.pages) (to_be_bytes w32 0 ++ (post_encoding ++ (seal ++ rest)))) in
+      let same_front : walked.3.0 ≡ front = append_cancel_right walked.3.0 front (to_be_bytes w32 0 ++ (post_encoding ++ (seal ++ rest))) (sym e.split ∙ front_split) in
       let front_place : length front ≡ place = ap length (sym same_front) ∙ e.place in
       let post_place : length (front ++ to_be_bytes w32 0) ≡ place + 4 = length-append front (to_be_bytes w32 0) ∙ ap (λ (n : ℕ). n + 4) front_place in
-      let post_split : bytes ≡ (front ++ to_be_bytes w32 0) ++ (post_text ++ (seal ++ rest)) =
-      front_split ∙ sym (append_assoc front (to_be_bytes w32 0) (post_text ++ (seal ++ rest))) in
+      let post_split : bytes ≡ (front ++ to_be_bytes w32 0) ++ (post_encoding ++ (seal ++ rest)) =
+      front_split ∙ sym (append_assoc front (to_be_bytes w32 0) (post_encoding ++ (seal ++ rest))) in
       let post_is : be64_at (place + 4) bytes ≡ file.post = eight_here (place + 4) bytes (front ++ to_be_bytes w32 0) (seal ++ rest) file.post post_split post_place valid.post.width in
-      let seal_place : length (summed_text file reserved) ≡ place + 12 =
-      let both = length-append (front ++ to_be_bytes w32 0) post_text in
+      let seal_place : length (summed_encoding file reserved) ≡ place + 12 =
+      let both = length-append (front ++ to_be_bytes w32 0) post_encoding in
       omega (arith, both, post_place) in
-      let seal_split : bytes ≡ summed_text file reserved ++ (seal ++ rest) =
-      post_split ∙ sym (append_assoc (front ++ to_be_bytes w32 0) post_text (seal ++ rest)) in
-      let summed_fits : AreBytes (summed_text file reserved) = AreBytes-front (summed_text file reserved) (seal ++ rest) (subst AreBytes seal_split fits) in
-      let seal_is : be64_at (place + 12) bytes ≡ file_sum (summed_text file reserved) =
-      eight_here (place + 12) bytes (summed_text file reserved) rest (file_sum (summed_text file reserved)) seal_split seal_place (file_sum_fits (summed_text file reserved) summed_fits) in
-      let summed : take (place + 12) bytes ≡ summed_text file reserved =
-      ap (λ (l : List ℕ). take (place + 12) l) seal_split ∙ take_at (summed_text file reserved) (seal ++ rest) (place + 12) seal_place in
+      let seal_split : bytes ≡ summed_encoding file reserved ++ (seal ++ rest) =
+      post_split ∙ sym (append_assoc (front ++ to_be_bytes w32 0) post_encoding (seal ++ rest)) in
+      let summed_fits : AreBytes (summed_encoding file reserved) = AreBytes-front (summed_encoding file reserved) (seal ++ rest) (subst AreBytes seal_split fits) in
+      let seal_is : be64_at (place + 12) bytes ≡ file_sum (summed_encoding file reserved) =
+      eight_here (place + 12) bytes (summed_encoding file reserved) rest (file_sum (summed_encoding file reserved)) seal_split seal_place (file_sum_fits (summed_encoding file reserved) summed_fits) in
+      let summed : take (place + 12) bytes ≡ summed_encoding file reserved =
+      ap (λ (l : List ℕ). take (place + 12) l) seal_split ∙ take_at (summed_encoding file reserved) (seal ++ rest) (place + 12) seal_place in
       let end_is : k ≡ length file.change.pages = omega (arith, walked.1) in
       let writes : writes_in bytes k ≡ file.change.pages = ap (λ (n : ℕ). writes_in bytes n) end_is ∙ walked.2 in
       let right : IsWrongSum bytes k (be64_at (place + 4) bytes) → ⊥ = λ (wrong : IsWrongSum bytes k (be64_at (place + 4) bytes)). elim wrong [
@@ -317,26 +317,26 @@ module _ (file : Ltx) (reserved rest bytes : List ℕ) (valid : IsFile file) (re
           | inr snapshot ↦ snapshot.1 (post_is ∙ valid.post.snapshot (sym min_is ∙ snapshot.0) ∙ ap sum_of_writes (sym writes))
         ]
       ] in
-      let len : length bytes ≡ length (summed_text file reserved) + length (seal ++ rest) = ap length seal_split ∙ length-append (summed_text file reserved) (seal ++ rest) in
+      let len : length bytes ≡ length (summed_encoding file reserved) + length (seal ++ rest) = ap length seal_split ∙ length-append (summed_encoding file reserved) (seal ++ rest) in
       let room : place + 20 ≤ length bytes = omega (arith, len, seal_place) in
       let found = only_tail bytes k e.pages e.sound e.number e.ends right room (seal_is ∙ ap file_sum (sym summed)) f q broken in
-      let text_length : length (file_text file reserved) ≡ place + 20 = length-append (summed_text file reserved) seal ∙ ap (λ (n : ℕ). n + 8) seal_place ∙ omega arith in
-      (found.0, omega (arith, found.1, text_length))
+      let encoding_length : length (file_encoding file reserved) ≡ place + 20 = length-append (summed_encoding file reserved) seal ∙ ap (λ (n : ℕ). n + 8) seal_place ∙ omega arith in
+      (found.0, omega (arith, found.1, encoding_length))
 
--- the text of a file breaks no rule
-pub text_sound : (text rest : List ℕ) (file : Ltx) (f : LtxFault) (place : ℕ) → AreBytes (text ++ rest) → IsLtx text file
-    → IsBroken (text ++ rest) f place → (f ≡ fault.Tail) × (length text < place)
-text_sound text rest file f place fits is broken =
-    let found = breaks_behind file is.reserved rest (text ++ rest) is.valid is.room (ap (λ (l : List ℕ). l ++ rest) is.text) fits f place broken in
-    (found.0, omega (arith, found.1, ap length is.text))
+-- the encoding of a file breaks no rule
+pub encoding_sound : (encoding rest : List ℕ) (file : Ltx) (f : LtxFault) (place : ℕ) → AreBytes (encoding ++ rest) → IsLtx encoding file
+    → IsBroken (encoding ++ rest) f place → (f ≡ fault.Tail) × (length encoding < place)
+encoding_sound encoding rest file f place fits is broken =
+    let found = breaks_behind file is.reserved rest (encoding ++ rest) is.valid is.room (ap (λ (l : List ℕ). l ++ rest) is.encoding) fits f place broken in
+    (found.0, omega (arith, found.1, ap length is.encoding))
 
--- bytes behind the text of a file are its tail
-pub behind_file : (text rest : List ℕ) (file : Ltx) → AreBytes (text ++ rest) → IsLtx text file → 0 < length rest → IsEarliest (text ++ rest) fault.Tail
-behind_file text rest file fits is some =
-    let end = ends_at file is.reserved rest (text ++ rest) is.valid is.room (ap (λ (l : List ℕ). l ++ rest) is.text) fits in
-    let long : length text ≡ number_place (text ++ rest) end.0 + 20 = ap length is.text ∙ end.3 in
+-- bytes behind the encoding of a file are its tail
+pub behind_file : (encoding rest : List ℕ) (file : Ltx) → AreBytes (encoding ++ rest) → IsLtx encoding file → 0 < length rest → IsEarliest (encoding ++ rest) fault.Tail
+behind_file encoding rest file fits is some =
+    let end = ends_at file is.reserved rest (encoding ++ rest) is.valid is.room (ap (λ (l : List ℕ). l ++ rest) is.encoding) fits in
+    let long : length encoding ≡ number_place (encoding ++ rest) end.0 + 20 = ap length is.encoding ∙ end.3 in
     record {
-      place = length text + 1;
-      broken = record { breaks = (end.0, end.2, omega (arith, long)); there = omega (arith, some, length-append text rest) };
-      earliest = λ f q broken. omega (arith, (text_sound text rest file f q fits is broken).1);
+      place = length encoding + 1;
+      broken = record { breaks = (end.0, end.2, omega (arith, long)); there = omega (arith, some, length-append encoding rest) };
+      earliest = λ f q broken. omega (arith, (encoding_sound encoding rest file f q fits is broken).1);
     }

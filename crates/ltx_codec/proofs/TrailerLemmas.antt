@@ -21,7 +21,7 @@ use Rattle.ltx_codec.specs.declared.fault.LtxFault.TheVariants as fault
 use Rattle.ltx_codec.proofs.BlockLemmas.{wrong_sum, past_sum, short_trailer, wrong_file_sum}
 use Rattle.ltx_codec.proofs.DecodeLemmas.{is_ltx}
 use Rattle.ltx_codec.proofs.FeedLemmas.{Stays, nothing_read, piece_rest}
-use Rattle.ltx_codec.proofs.TextLemmas.{AreBytes-drop}
+use Rattle.ltx_codec.proofs.EncodingLemmas.{AreBytes-drop}
 use Rattle.ltx_codec.proofs.PageLemmas.{number_longer}
 use Rattle.ltx_codec.proofs.PieceLemmas.{Grows, fed_of, held_untold, held_length, held_is_rest, eight_rest}
 use Rattle.ltx_codec.proofs.HeaderLemmas.{within_not_past}
@@ -31,23 +31,23 @@ sealed_is : (bytes : List ℕ) (register : ℕ) → register ≡ after_bytes all
 unfolding crc
 sealed_is bytes register is = ap (λ (r : ℕ). flagged (bit_xor r all_ones)) is
 
-module _ (d : Decoder) (limit : ℕ) (text : List ℕ) (change : PageChange) (has : HasNumber d limit text change 0) (untold : d.told ≡ false) where
-  post_at : be64_at 4 d.held.items ≡ be64_at (number_place text (length change.pages) + 4) text
-  post_at = ap (be64_at 4) (held_is_rest d limit text change has.feeding untold) ∙ eight_rest (number_place text (length change.pages)) 4 text
+module _ (d : Decoder) (limit : ℕ) (encoding : List ℕ) (change : PageChange) (has : HasNumber d limit encoding change 0) (untold : d.told ≡ false) where
+  post_at : be64_at 4 d.held.items ≡ be64_at (number_place encoding (length change.pages) + 4) encoding
+  post_at = ap (be64_at 4) (held_is_rest d limit encoding change has.feeding untold) ∙ eight_rest (number_place encoding (length change.pages)) 4 encoding
 
-  sum_at : be64_at 12 d.held.items ≡ be64_at (number_place text (length change.pages) + 12) text
-  sum_at = ap (be64_at 12) (held_is_rest d limit text change has.feeding untold) ∙ eight_rest (number_place text (length change.pages)) 12 text
+  sum_at : be64_at 12 d.held.items ≡ be64_at (number_place encoding (length change.pages) + 12) encoding
+  sum_at = ap (be64_at 12) (held_is_rest d limit encoding change has.feeding untold) ∙ eight_rest (number_place encoding (length change.pages)) 12 encoding
 
-  commit_is : d.header.commit ≡ stated_commit text
+  commit_is : d.header.commit ≡ stated_commit encoding
   commit_is = ap (λ (h : Header). h.commit) has.feeding.block.header
 
-  min_is : d.header.min ≡ stated_min text
+  min_is : d.header.min ≡ stated_min encoding
   min_is = ap (λ (h : Header). h.min) has.feeding.block.header
 
-  sums_are : stated_min text ≡ 1 → flagged d.sums ≡ sum_of_writes (writes_in text (length change.pages))
+  sums_are : stated_min encoding ≡ 1 → flagged d.sums ≡ sum_of_writes (writes_in encoding (length change.pages))
   sums_are snapshot = ap flagged (has.feeding.block.sums snapshot) ∙ ap sum_of_writes has.feeding.block.read.holds.writes
 
-  wrong_is : (s : ℕ) → IsWrongPost d.header (flagged d.sums) s → IsWrongSum text (length change.pages) s
+  wrong_is : (s : ℕ) → IsWrongPost d.header (flagged d.sums) s → IsWrongSum encoding (length change.pages) s
   wrong_is s wrong = elim wrong [
     | inl low ↦ inl low
     | inr other ↦ elim other [
@@ -56,7 +56,7 @@ module _ (d : Decoder) (limit : ℕ) (text : List ℕ) (change : PageChange) (ha
     ]
   ]
 
-  right_is : (s : ℕ) → (IsWrongPost d.header (flagged d.sums) s → ⊥) → IsWrongSum text (length change.pages) s → ⊥
+  right_is : (s : ℕ) → (IsWrongPost d.header (flagged d.sums) s → ⊥) → IsWrongSum encoding (length change.pages) s → ⊥
   right_is s right wrong = elim wrong [
     | inl low ↦ right (inl low)
     | inr other ↦ elim other [
@@ -65,36 +65,36 @@ module _ (d : Decoder) (limit : ℕ) (text : List ℕ) (change : PageChange) (ha
     ]
   ]
 
-  right_at : (IsWrongPost d.header (flagged d.sums) (be64_at 4 d.held.items) → ⊥) → IsWrongSum text (length change.pages) (be64_at (number_place text (length change.pages) + 4) text) → ⊥
-  right_at right = subst (λ (s : ℕ). IsWrongSum text (length change.pages) s → ⊥) post_at (right_is (be64_at 4 d.held.items) right)
+  right_at : (IsWrongPost d.header (flagged d.sums) (be64_at 4 d.held.items) → ⊥) → IsWrongSum encoding (length change.pages) (be64_at (number_place encoding (length change.pages) + 4) encoding) → ⊥
+  right_at right = subst (λ (s : ℕ). IsWrongSum encoding (length change.pages) s → ⊥) post_at (right_is (be64_at 4 d.held.items) right)
 
-  register_is : after_bytes d.register (take 12 d.held.items) ≡ after_bytes all_ones (take (number_place text (length change.pages) + 12) text)
+  register_is : after_bytes d.register (take 12 d.held.items) ≡ after_bytes all_ones (take (number_place encoding (length change.pages) + 12) encoding)
   register_is =
-      let at = number_place text (length change.pages) in
+      let at = number_place encoding (length change.pages) in
       ap (λ (r : ℕ). after_bytes r (take 12 d.held.items)) has.feeding.block.register
-      ∙ sym (after_bytes-append all_ones (take at text) (take 12 d.held.items))
-      ∙ ap (λ (l : List ℕ). after_bytes all_ones (take at text ++ take 12 l)) (held_is_rest d limit text change has.feeding untold)
-      ∙ ap (after_bytes all_ones) (sym (take-add at 12 text))
+      ∙ sym (after_bytes-append all_ones (take at encoding) (take 12 d.held.items))
+      ∙ ap (λ (l : List ℕ). after_bytes all_ones (take at encoding ++ take 12 l)) (held_is_rest d limit encoding change has.feeding untold)
+      ∙ ap (after_bytes all_ones) (sym (take-add at 12 encoding))
 
-  seal_is : sealed (after_bytes d.register (take 12 d.held.items)) ≡ file_sum (take (number_place text (length change.pages) + 12) text)
-  seal_is = sealed_is (take (number_place text (length change.pages) + 12) text) (after_bytes d.register (take 12 d.held.items)) register_is
+  seal_is : sealed (after_bytes d.register (take 12 d.held.items)) ≡ file_sum (take (number_place encoding (length change.pages) + 12) encoding)
+  seal_is = sealed_is (take (number_place encoding (length change.pages) + 12) encoding) (after_bytes d.register (take 12 d.held.items)) register_is
 
-  long : length text ≡ number_place text (length change.pages) + length d.held.items
-  long = held_length d limit text change has.feeding untold
+  long : length encoding ≡ number_place encoding (length change.pages) + length d.held.items
+  long = held_length d limit encoding change has.feeding untold
 
-  ends : number_at text (length change.pages) ≡ 0
+  ends : number_at encoding (length change.pages) ≡ 0
   ends = sym has.number_is
 
   -- a wrong sum is refused
-  pub trailer_refused : (f : LtxFault) → BreaksSums d.header d.sums d.register d.held.items f → IsRefusedWithin limit text f
+  pub trailer_refused : (f : LtxFault) → BreaksSums d.header d.sums d.register d.held.items f → IsRefusedWithin limit encoding f
   trailer_refused fault.PostSum rule =
       let read = has.feeding.block.read in
       let at = long in (
         tt,
         inl (
-          wrong_sum text (length change.pages) read.pages read.sound has.sound ends (omega (arith, at, rule.0))
-              (subst (λ (s : ℕ). IsWrongSum text (length change.pages) s) post_at (wrong_is (be64_at 4 d.held.items) rule.1)),
-          within_not_past limit text has.feeding.within,
+          wrong_sum encoding (length change.pages) read.pages read.sound has.sound ends (omega (arith, at, rule.0))
+              (subst (λ (s : ℕ). IsWrongSum encoding (length change.pages) s) post_at (wrong_is (be64_at 4 d.held.items) rule.1)),
+          within_not_past limit encoding has.feeding.within,
         ),
       )
   trailer_refused (fault.FileSum want got) rule =
@@ -102,9 +102,9 @@ module _ (d : Decoder) (limit : ℕ) (text : List ℕ) (change : PageChange) (ha
       let at = long in (
         tt,
         inl (
-          wrong_file_sum text (length change.pages) read.pages read.sound has.sound ends (right_at rule.1) want got (omega (arith, at, rule.0))
+          wrong_file_sum encoding (length change.pages) read.pages read.sound has.sound ends (right_at rule.1) want got (omega (arith, at, rule.0))
               (rule.2 ∙ seal_is) (rule.3 ∙ sum_at) rule.4,
-          within_not_past limit text has.feeding.within,
+          within_not_past limit encoding has.feeding.within,
         ),
       )
   trailer_refused fault.Short rule = absurd rule
@@ -123,33 +123,33 @@ module _ (d : Decoder) (limit : ℕ) (text : List ℕ) (change : PageChange) (ha
 
   module _ (right : HasRightSums d.header d.sums d.register d.held.items) where
     -- the trailer is not whole
-    pub trailer_goes_on : length d.held.items < 20 → HasFed d limit text
+    pub trailer_goes_on : length d.held.items < 20 → HasFed d limit encoding
     trailer_goes_on few =
         let read = has.feeding.block.read in
         let at = long in
         let held : length (held_part d) ≡ length d.held.items = ap length (held_untold d untold) in
-        fed_of d limit text change has.feeding
+        fed_of d limit encoding change has.feeding
         (record { page = λ there more. absurd (more ends); end = λ there end. omega (arith, held, few) })
-        (short_trailer text (length change.pages) read.pages read.sound has.sound ends (omega (arith, at, few))
-        (λ room. past_sum text (length change.pages) read.pages read.sound has.sound ends (right_at (right.post (omega (arith, at, room)))) room))
+        (short_trailer encoding (length change.pages) read.pages read.sound has.sound ends (omega (arith, at, few))
+        (λ room. past_sum encoding (length change.pages) read.pages read.sound has.sound ends (right_at (right.post (omega (arith, at, room)))) room))
 
     -- the file is whole
     pub trailer_ends : (new : Decoder) → length d.held.items ≡ 20 → Stays d new → new.post ≡ be64_at 4 d.held.items → new.header ≡ d.header → new.told ≡ true → new.in_block ≡ false
-        → ShowsFile new limit text
+        → ShowsFile new limit encoding
     trailer_ends new whole stays post header told stage =
         let read = has.feeding.block.read in
         let at = long in
         let k = length change.pages in
-        let trailer : HasTrailer text k new.post = record {
+        let trailer : HasTrailer encoding k new.post = record {
           there = omega (arith, at, whole);
           sum_is = post ∙ post_at;
-          right = subst (λ (s : ℕ). IsWrongSum text k s → ⊥) (sym post) (right_is (be64_at 4 d.held.items) (right.post (omega (arith, whole))));
+          right = subst (λ (s : ℕ). IsWrongSum encoding k s → ⊥) (sym post) (right_is (be64_at 4 d.held.items) (right.post (omega (arith, whole))));
           file_sum_is = sym sum_at ∙ right.file_sum (omega (arith, whole)) ∙ seal_is;
         } in
         record {
-          file = record { header = header_in text; change = change; post = new.post };
-          is = subst (λ (t : List ℕ). IsLtx t (record { header = header_in text; change = change; post = new.post })) (take_all (number_place text k + 20) text (omega (arith, at, whole)))
-              (is_ltx text change new.post read has.sound ends trailer has.feeding.block.valid);
+          file = record { header = header_in encoding; change = change; post = new.post };
+          is = subst (λ (t : List ℕ). IsLtx t (record { header = header_in encoding; change = change; post = new.post })) (take_all (number_place encoding k + 20) encoding (omega (arith, at, whole)))
+              (is_ltx encoding change new.post read has.sound ends trailer has.feeding.block.valid);
           header = header ∙ has.feeding.block.header;
           post = refl;
           fed = record {
@@ -167,9 +167,9 @@ module _ (d : Decoder) (limit : ℕ) (text : List ℕ) (change : PageChange) (ha
         }
 
 -- the piece ends in the trailer
-pub trailer_more : (old new : Decoder) (limit : ℕ) (text piece : List ℕ) (first : ℕ) (change : PageChange) → HasNumber old limit (text ++ take first piece) change 0
-    → Grows old new (drop first piece) → AreBytes piece → HasRightSums new.header new.sums new.register new.held.items → length new.held.items < 20 → HasFed new limit (text ++ piece)
-trailer_more old new limit text piece first change has grows fits right few =
-    let longer = number_longer old new limit (text ++ take first piece) (drop first piece) change 0 has grows (AreBytes-drop first piece fits) in
-    subst (λ (t : List ℕ). HasFed new limit t) (piece_rest text piece first)
-    (trailer_goes_on new limit ((text ++ take first piece) ++ drop first piece) change longer (grows.told ∙ grows.untold) right few)
+pub trailer_more : (old new : Decoder) (limit : ℕ) (encoding piece : List ℕ) (first : ℕ) (change : PageChange) → HasNumber old limit (encoding ++ take first piece) change 0
+    → Grows old new (drop first piece) → AreBytes piece → HasRightSums new.header new.sums new.register new.held.items → length new.held.items < 20 → HasFed new limit (encoding ++ piece)
+trailer_more old new limit encoding piece first change has grows fits right few =
+    let longer = number_longer old new limit (encoding ++ take first piece) (drop first piece) change 0 has grows (AreBytes-drop first piece fits) in
+    subst (λ (t : List ℕ). HasFed new limit t) (piece_rest encoding piece first)
+    (trailer_goes_on new limit ((encoding ++ take first piece) ++ drop first piece) change longer (grows.told ∙ grows.untold) right few)

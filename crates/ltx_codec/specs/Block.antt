@@ -3,7 +3,7 @@ use Rattle.std.specs.Prelude.{◌≡◌, ℕ, ◌+◌, ◌≤◌, List, ◌++◌
 use Rattle.lf_sqlite_pages.specs.LockPage.{IsDataPage}
 use Rattle.lf_sqlite_pages.specs.Change.{PageChange, last_number, written}
 use Rattle.ltx_codec.specs.Fields.{AreBytes, stated_page_size, stated_commit, stated_min, header_in}
-use Rattle.ltx_codec.specs.Format.{pages_text}
+use Rattle.ltx_codec.specs.Format.{pages_encoding}
 use Rattle.ltx_codec.specs.HeaderRules.{HasSoundFields}
 use Rattle.ltx_codec.specs.Numbering.{MayFollow}
 use Rattle.ltx_codec.specs.Places.{number_place, number_at, number_before, writes_in, HasPages, IsSoundBefore}
@@ -26,7 +26,7 @@ pub record HoldsPages (bytes : List ℕ) (change : PageChange) (k : ℕ) : Type 
   pub last : last_number change.pages ≡ number_before bytes k
   pub writes : change.pages ≡ writes_in bytes k
   pub each : stated_min bytes ≡ 1 → HoldsEachSoFar change
-  pub text : take (number_place bytes k) bytes ≡ take 100 bytes ++ pages_text change.pages
+  pub encoding : take (number_place bytes k) bytes ≡ take 100 bytes ++ pages_encoding change.pages
 
 -- the block was read up to its k-th number, and no rule is broken before that
 pub record IsRead (bytes : List ℕ) (change : PageChange) (k : ℕ) : Type 0 where

@@ -1,4 +1,4 @@
--- The LTX file (LTX1, uncompressed): a value, its rules, and its text. The text is a header of 100 bytes, the
+-- The LTX file (LTX1, uncompressed): a value, its rules, and its encoding. The encoding is a header of 100 bytes, the
 -- page block and a trailer of 16 bytes; all numbers are big-endian.
 use Rattle.std.specs.Prelude.{◌≡◌, ◌≢◌, ℕ, ◌^◌, ◌<◌, ◌≤◌, List, [], ◌∷◌, ◌++◌, length, replicate, bit_xor, codes}
 use Rattle.std.specs.Int.{w32, w64, to_be_bytes}
@@ -64,49 +64,49 @@ pub record IsFile (file : Ltx) : Type 0 where
   pub block : IsBlock file.header file.change
   pub post : IsPostSum file.header file.change file.post
 
--- the text of a header: magic, flags of 0, the fields and 20 reserved bytes
-abbrev pub header_text : Header → List ℕ → List ℕ
-header_text header reserved =
+-- the encoding of a header: magic, flags of 0, the fields and 20 reserved bytes
+abbrev pub header_encoding : Header → List ℕ → List ℕ
+header_encoding header reserved =
     magic ++ to_be_bytes w32 0 ++ to_be_bytes w32 header.page_size ++ to_be_bytes w32 header.commit
     ++ to_be_bytes w64 header.min ++ to_be_bytes w64 header.max ++ to_be_bytes w64 header.stamp ++ to_be_bytes w64 header.pre
     ++ to_be_bytes w64 header.wal_offset ++ to_be_bytes w64 header.wal_size ++ to_be_bytes w32 header.wal_salt1 ++ to_be_bytes w32 header.wal_salt2
     ++ to_be_bytes w64 header.node ++ reserved
 
--- the text of pages: each its number of four bytes and its bytes
-abbrev pub pages_text : List PageWrite → List ℕ
-pages_text [] = []
-pages_text (w ∷ ws) = to_be_bytes w32 w.number ++ (w.bytes ++ pages_text ws)
+-- the encoding of pages: each its number of four bytes and its bytes
+abbrev pub pages_encoding : List PageWrite → List ℕ
+pages_encoding [] = []
+pages_encoding (w ∷ ws) = to_be_bytes w32 w.number ++ (w.bytes ++ pages_encoding ws)
 
 -- what the file sum is taken of: all bytes before it. Four zero bytes end the page block
-abbrev pub summed_text : Ltx → List ℕ → List ℕ
-summed_text file reserved = header_text file.header reserved ++ pages_text file.change.pages ++ to_be_bytes w32 0 ++ to_be_bytes w64 file.post
+abbrev pub summed_encoding : Ltx → List ℕ → List ℕ
+summed_encoding file reserved = header_encoding file.header reserved ++ pages_encoding file.change.pages ++ to_be_bytes w32 0 ++ to_be_bytes w64 file.post
 
 -- the file sum: the checksum of the bytes before it, with bit 63 set
 abbrev pub file_sum : List ℕ → ℕ
 file_sum bytes = flagged (crc bytes)
 
--- the text of a file
-abbrev pub file_text : Ltx → List ℕ → List ℕ
-file_text file reserved = summed_text file reserved ++ to_be_bytes w64 (file_sum (summed_text file reserved))
+-- the encoding of a file
+abbrev pub file_encoding : Ltx → List ℕ → List ℕ
+file_encoding file reserved = summed_encoding file reserved ++ to_be_bytes w64 (file_sum (summed_encoding file reserved))
 
--- The bytes are a text of the file. The reserved bytes have no meaning: any 20 may stand there.
+-- The bytes are an encoding of the file. The reserved bytes have no meaning: any 20 may stand there.
 pub record IsLtx (bytes : List ℕ) (file : Ltx) : Type 0 where
   pub valid : IsFile file
   pub reserved : List ℕ
   pub room : length reserved ≡ 20
-  pub text : bytes ≡ file_text file reserved
+  pub encoding : bytes ≡ file_encoding file reserved
 
 -- 20 reserved bytes as they are written
 abbrev pub no_meaning : List ℕ
 no_meaning = replicate 20 0
 
--- the text of a page: its number and its bytes
-abbrev pub page_text : ℕ → List ℕ → List ℕ
-page_text number page = to_be_bytes w32 number ++ page
+-- the encoding of a page: its number and its bytes
+abbrev pub page_encoding : ℕ → List ℕ → List ℕ
+page_encoding number page = to_be_bytes w32 number ++ page
 
 -- what ends the page block, and the sum of the pages
-abbrev pub end_text : ℕ → List ℕ
-end_text post = to_be_bytes w32 0 ++ to_be_bytes w64 post
+abbrev pub end_encoding : ℕ → List ℕ
+end_encoding post = to_be_bytes w32 0 ++ to_be_bytes w64 post
 
 -- the file sum where the register is this after the bytes before it
 abbrev pub sealed : ℕ → ℕ

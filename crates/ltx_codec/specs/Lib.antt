@@ -4,7 +4,7 @@ pub mod steps
 pub mod Format
 pub mod Positions
 pub mod FileIn
-pub mod FaultNumber
+pub mod Faults
 pub mod Numbering
 pub mod Places
 pub mod HeaderRules

@@ -25,13 +25,13 @@ const NO_HEADER: Header = Header {
     node: 0,
 };
 
-/// A reader of files whose text comes in pieces. A piece may end anywhere: a fault that is found
+/// A reader of files whose encoding comes in pieces. A piece may end anywhere: a fault that is found
 /// is the earliest of the file however it goes on (`fault_stays`), and the file that is whole is
 /// the one that `decode` reads (`one_reading`).
 #[derive(Drop)]
 pub struct Decoder {
     pub(crate) limit: u32,
-    /// The part of the text that comes: the header, a page with its number, or the trailer.
+    /// The part of the encoding that comes: the header, a page with its number, or the trailer.
     pub(crate) held: Vec<u8>,
     /// The part is whole and was told.
     pub(crate) told: bool,
@@ -108,10 +108,10 @@ impl Decoder {
         self.post
     }
 
-    /// Takes a piece of the text, up to the end of a part. A fault is answered with the piece in
+    /// Takes a piece of the encoding, up to the end of a part. A fault is answered with the piece in
     /// which it stands, behind the parts that end before it, and again at each later call.
     pub fn feed(&mut self, piece: &[u8]) -> Result<Seen, LtxFault>
-        ensures gives { (limit : ℕ) (text : List ℕ) → HasFed self.old limit text → FeedGives self.new limit text piece.now result }
+        ensures gives { (limit : ℕ) (encoding : List ℕ) → HasFed self.old limit encoding → FeedGives self.new limit encoding piece.now result }
         ensures shows { KeepsShown self.old self.new result }
         ensures fails { IfErr result (HasFailed self.new) }
         ensures again { (f : LtxFault) → HasFailed self.old f → result ≡ Err f }
@@ -132,7 +132,7 @@ impl Decoder {
 
     /// Drops a part that was told.
     fn begin_part(&mut self)
-        ensures fed { (limit : ℕ) (text : List ℕ) → HasFed self.old limit text → HasFed self.new limit text }
+        ensures fed { (limit : ℕ) (encoding : List ℕ) → HasFed self.old limit encoding → HasFed self.new limit encoding }
         ensures untold { self.new.told ≡ false }
         ensures same { (self.new.header ≡ self.old.header) × (self.new.post ≡ self.old.post) × (self.new.limit ≡ self.old.limit) }
     {
@@ -145,7 +145,7 @@ impl Decoder {
 
     fn feed_part(&mut self, piece: &[u8]) -> Result<Seen, LtxFault>
         requires { self.old.told ≡ false }
-        ensures gives { (limit : ℕ) (text : List ℕ) → HasFed self.old limit text → FeedGives self.new limit text piece.now result }
+        ensures gives { (limit : ℕ) (encoding : List ℕ) → HasFed self.old limit encoding → FeedGives self.new limit encoding piece.now result }
         ensures shows { KeepsShown self.old self.new result }
         ensures same_limit { self.new.limit ≡ self.old.limit }
     {
@@ -156,10 +156,10 @@ impl Decoder {
         }
     }
 
-    /// Says whether the text may end here: `Short` where a file is begun and not whole.
+    /// Says whether the encoding may end here: `Short` where a file is begun and not whole.
     pub fn finish(&self) -> Result<(), LtxFault>
         ensures whole { (limit : ℕ) → HasFed self.now limit [] → IsOk result }
-        ensures short { (limit : ℕ) (text : List ℕ) → HasFed self.now limit text → text ≢ [] → result ≡ Err LtxFault.Short }
+        ensures short { (limit : ℕ) (encoding : List ℕ) → HasFed self.now limit encoding → encoding ≢ [] → result ≡ Err LtxFault.Short }
         ensures again { (f : LtxFault) → HasFailed self.now f → result ≡ Err f }
     {
         if let Some(fault) = self.fault {

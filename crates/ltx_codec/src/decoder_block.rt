@@ -23,7 +23,7 @@ impl Decoder {
     pub(crate) fn feed_block(&mut self, piece: &[u8]) -> Result<Seen, LtxFault>
         requires stage { self.old.in_block ≡ true }
         requires untold { self.old.told ≡ false }
-        ensures gives { (limit : ℕ) (text : List ℕ) → HasFed self.old limit text → FeedGives self.new limit text piece.now result }
+        ensures gives { (limit : ℕ) (encoding : List ℕ) → HasFed self.old limit encoding → FeedGives self.new limit encoding piece.now result }
         ensures shows { KeepsShown self.old self.new result }
         ensures same { (self.new.fault ≡ self.old.fault) × (self.new.limit ≡ self.old.limit) }
     {
@@ -46,7 +46,7 @@ impl Decoder {
         requires untold { self.old.told ≡ false }
         requires more { number ≢ 0 }
         requires within { first ≤ length piece.now }
-        ensures gives { (limit : ℕ) (text : List ℕ) (change : PageChange) → HasNumber self.old limit (text ++ take first piece.now) change number → IsRead text change (length change.pages) → length self.old.held.items ≤ 4 + self.old.header.page_size → length self.old.held.items < first + (4 + self.old.header.page_size) → FeedGives self.new limit text piece.now (Ok result) }
+        ensures gives { (limit : ℕ) (encoding : List ℕ) (change : PageChange) → HasNumber self.old limit (encoding ++ take first piece.now) change number → IsRead encoding change (length change.pages) → length self.old.held.items ≤ 4 + self.old.header.page_size → length self.old.held.items < first + (4 + self.old.header.page_size) → FeedGives self.new limit encoding piece.now (Ok result) }
         ensures shows { (self.new.header ≡ self.old.header) × (self.new.post ≡ self.old.post) }
         ensures same { (self.new.fault ≡ self.old.fault) × (self.new.limit ≡ self.old.limit) }
     {

@@ -31,7 +31,7 @@ impl Decoder {
     pub(crate) fn feed_header(&mut self, piece: &[u8]) -> Result<Seen, LtxFault>
         requires stage { self.old.in_block ≡ false }
         requires untold { self.old.told ≡ false }
-        ensures gives { (limit : ℕ) (text : List ℕ) → HasFed self.old limit text → FeedGives self.new limit text piece.now result }
+        ensures gives { (limit : ℕ) (encoding : List ℕ) → HasFed self.old limit encoding → FeedGives self.new limit encoding piece.now result }
         ensures shows { KeepsShown self.old self.new result }
         ensures same { (self.new.fault ≡ self.old.fault) × (self.new.limit ≡ self.old.limit) }
     {

@@ -2,8 +2,8 @@ ghost use Rattle.std.specs.Prelude.{◌≡◌, ◌++◌, OnOk, OnErr, IfOk, IfEr
 ghost use Rattle.std.specs.Io.{StartsWith};
 ghost use Rattle.std.specs.Int.{w64, to_be_bytes};
 ghost use Rattle.page_checksum.specs.Crc.{after_bytes, all_ones};
-ghost use Rattle.ltx_codec.specs.Format.{header_text, no_meaning, page_text};
-ghost use Rattle.ltx_codec.specs.Encoding.{trailer_text};
+ghost use Rattle.ltx_codec.specs.Format.{header_encoding, no_meaning, page_encoding};
+ghost use Rattle.ltx_codec.specs.Encoding.{trailer_encoding};
 
 use crate::appending::{append_end, append_page};
 use crate::header::Header;
@@ -15,8 +15,8 @@ use std::marker::Model;
 /// Bit 63, which every sum carries.
 const FLAG: u64 = 1 << 63;
 
-/// A file's text written part by part. It is seen as the register of the checksum after the parts
-/// so far. What is appended, one part after another, is the text of a file (`parts_are_the_text`)
+/// A file's encoding written part by part. It is seen as the register of the checksum after the parts
+/// so far. What is appended, one part after another, is the encoding of a file (`parts_are_the_encoding`)
 /// where the header, the numbers of the pages and the sum meet the format's rules and each page is
 /// one page long.
 #[derive(Drop)]
@@ -35,8 +35,8 @@ impl Model for Encoder {
 impl Encoder {
     /// Appends the header. After want of memory `out` is as before.
     pub fn start(header: &Header, out: &mut Vec<u8>) -> Result<Encoder, NoMemory>
-        ensures ok { OnOk result (out.new.items ≡ out.old.items ++ header_text header.now no_meaning) }
-        ensures register { IfOk result (λ encoder. encoder ≡ after_bytes all_ones (header_text header.now no_meaning)) }
+        ensures ok { OnOk result (out.new.items ≡ out.old.items ++ header_encoding header.now no_meaning) }
+        ensures register { IfOk result (λ encoder. encoder ≡ after_bytes all_ones (header_encoding header.now no_meaning)) }
         ensures err { OnErr result (out.new.items ≡ out.old.items) }
     {
         let bytes = header_bytes(header);
@@ -48,8 +48,8 @@ impl Encoder {
 
     /// Appends a page. After want of memory the encoder and `out` are as before.
     pub fn page(&mut self, number: u32, bytes: &[u8], out: &mut Vec<u8>) -> Result<(), NoMemory>
-        ensures ok { OnOk result (out.new.items ≡ out.old.items ++ page_text number bytes.now) }
-        ensures register { OnOk result (self.new ≡ after_bytes self.old (page_text number bytes.now)) }
+        ensures ok { OnOk result (out.new.items ≡ out.old.items ++ page_encoding number bytes.now) }
+        ensures register { OnOk result (self.new ≡ after_bytes self.old (page_encoding number bytes.now)) }
         ensures err { OnErr result ((out.new.items ≡ out.old.items) × (self.new ≡ self.old)) }
     {
         let start = out.len();
@@ -65,7 +65,7 @@ impl Encoder {
     /// Appends the end of the pages, the sum of the database after the transactions, and the file
     /// sum. After want of memory the encoder comes back and `out` is as before.
     pub fn finish(self, post: u64, out: &mut Vec<u8>) -> Result<(), (NoMemory, Encoder)>
-        ensures ok { OnOk result (out.new.items ≡ out.old.items ++ trailer_text self post) }
+        ensures ok { OnOk result (out.new.items ≡ out.old.items ++ trailer_encoding self post) }
         ensures err { OnErr result (out.new.items ≡ out.old.items) }
         ensures back { IfErr result (λ error. error.1 ≡ self) }
     {
@@ -78,7 +78,7 @@ impl Encoder {
     }
 
     fn append_trailer(&self, post: u64, out: &mut Vec<u8>) -> Result<(), NoMemory>
-        ensures ok { OnOk result (out.new.items ≡ out.old.items ++ trailer_text self.now post) }
+        ensures ok { OnOk result (out.new.items ≡ out.old.items ++ trailer_encoding self.now post) }
         ensures grows { StartsWith out.new.items out.old.items }
     {
         let start = out.len();

@@ -1,5 +1,5 @@
 ghost use Rattle.std.specs.Prelude.{◌≡◌};
-ghost use Rattle.ltx_codec.specs.FaultNumber.{number_of};
+ghost use Rattle.ltx_codec.specs.Faults.{name_of, number_of};
 ghost use Rattle.ltx_codec.specs.declared.fault.LtxFault.TheVariants as variant;
 
 use lf_base::NoMemory;
@@ -72,6 +72,29 @@ impl LtxFault {
             LtxFault::FileSum { .. } => 13,
             LtxFault::Tail => 14,
             LtxFault::NoMemory => 15,
+        }
+    }
+
+    /// The fault's name, without what it found.
+    pub fn name(&self) -> &'static str
+        ensures { result.now ≡ name_of self.now }
+    {
+        match self {
+            LtxFault::Short => "Short",
+            LtxFault::Magic => "Magic",
+            LtxFault::Compressed => "Compressed",
+            LtxFault::UnknownFlags => "UnknownFlags",
+            LtxFault::PageSize => "PageSize",
+            LtxFault::Txid => "Txid",
+            LtxFault::Commit => "Commit",
+            LtxFault::PreSum => "PreSum",
+            LtxFault::PageOrder => "PageOrder",
+            LtxFault::PageRange => "PageRange",
+            LtxFault::NotWhole => "NotWhole",
+            LtxFault::PostSum => "PostSum",
+            LtxFault::FileSum { .. } => "FileSum",
+            LtxFault::Tail => "Tail",
+            LtxFault::NoMemory => "NoMemory",
         }
     }
 }

@@ -1,4 +1,4 @@
-//! Files whose texts come in pieces, one after another.
+//! Files whose encodings come in pieces, one after another.
 ghost use Rattle.std.specs.Prelude.{◌≡◌, ◌↔◌, false, List, ℕ, [], None, Err, IsTrue, IfOk, IfErr, OnOk};
 ghost use Rattle.ltx_codec.specs.Places.{IsEarliest};
 ghost use Rattle.ltx_codec.specs.WholePages.{HasTaken, IsBetween, IsTaking};
@@ -16,8 +16,8 @@ use std::mem;
 /// The size of SQLite's largest page, in bytes.
 const LARGEST_PAGE: u32 = 65_536;
 
-/// A reader of files that stand one after another in a text that comes in pieces. It holds the
-/// pages so far of the file that is begun, and of the text only the part that is not whole yet.
+/// A reader of files that stand one after another in an encoding that comes in pieces. It holds the
+/// pages so far of the file that is begun, and of the encoding only the part that is not whole yet.
 #[derive(Drop)]
 pub struct FileReader {
     alloc: Global,
@@ -47,7 +47,7 @@ impl FileReader {
     /// Takes a piece, up to the end of a file: the file, and how many bytes of the piece were
     /// taken. A fault is answered with the piece in which it stands, and again at each later call.
     pub fn feed(&mut self, piece: &[u8]) -> Result<Option<(Ltx, usize)>, LtxFault>
-        ensures gives { (text : List ℕ) → HasBegun self.old text → Reads self.new text piece.now result }
+        ensures gives { (encoding : List ℕ) → HasBegun self.old encoding → Reads self.new encoding piece.now result }
         ensures fails { IfErr result (HasStopped self.new) }
         ensures again { (f : LtxFault) → HasStopped self.old f → result ≡ Err f }
     {
@@ -68,7 +68,7 @@ impl FileReader {
     /// Takes a piece up to the end of a part. A fault is stored.
     fn take_part(&mut self, piece: &[u8]) -> Result<Seen, LtxFault>
         requires { self.old.fault ≡ None }
-        ensures gives { (text : List ℕ) → HasTaken self.old.decoder self.old.change text → ReadsPart self.new.decoder self.new.change text piece.now result }
+        ensures gives { (encoding : List ℕ) → HasTaken self.old.decoder self.old.change encoding → ReadsPart self.new.decoder self.new.change encoding piece.now result }
         ensures some { IfOk result (CountsSome piece.now) }
         ensures sound { OnOk result (self.new.fault ≡ None) }
         ensures fails { IfErr result (HasStopped self.new) }
@@ -94,10 +94,10 @@ impl FileReader {
         }
     }
 
-    /// Whether no file is begun. Where one is, a text that ends here is short.
+    /// Whether no file is begun. Where one is, an encoding that ends here is short.
     pub fn is_between(&self) -> bool
-        ensures between { (text : List ℕ) → HasBegun self.now text → IsTrue result ↔ (text ≡ []) }
-        ensures short { (text : List ℕ) → HasBegun self.now text → IsEarliest text LtxFault.Short }
+        ensures between { (encoding : List ℕ) → HasBegun self.now encoding → IsTrue result ↔ (encoding ≡ []) }
+        ensures short { (encoding : List ℕ) → HasBegun self.now encoding → IsEarliest encoding LtxFault.Short }
         ensures stopped { (f : LtxFault) → HasStopped self.now f → result ≡ false }
     {
         self.fault.is_none() && self.decoder.finish().is_ok()

@@ -7,22 +7,22 @@ ghost use Rattle.ltx_codec.specs.Places.{IsBroken, IsEarliest, StandsInside};
 ghost use Rattle.ltx_codec.specs.declared.file.Ltx.{Ltx};
 ghost use Rattle.ltx_codec.specs.declared.fault.LtxFault.{LtxFault};
 
-/// A text has one reading, whatever follows it: so no text is the front of another, and a list of
+/// An encoding has one reading, whatever follows it: so no encoding is the front of another, and a list of
 /// files splits in one way.
 pub fn one_reading()
-    ensures { (text other rest more : List ℕ) (file second : Ltx) → IsLtx text file → IsLtx other second
-        → text ++ rest ≡ other ++ more → (text ≡ other) × (file ≡ second) }
+    ensures { (encoding other rest more : List ℕ) (file second : Ltx) → IsLtx encoding file → IsLtx other second
+        → encoding ++ rest ≡ other ++ more → (encoding ≡ other) × (file ≡ second) }
 {}
 
-/// The file of a text is what `file_in` reads in it.
+/// The file of an encoding is what `file_in` reads in it.
 pub fn file_is_read()
     ensures { (bytes : List ℕ) (file : Ltx) → AreBytes bytes → IsLtx bytes file → file_in bytes ≡ file }
 {}
 
-/// The text of a file breaks no rule: what is broken stands behind it, and is that bytes follow.
-pub fn text_breaks_no_rule()
-    ensures { (text rest : List ℕ) (file : Ltx) (fault : LtxFault) (place : ℕ) → AreBytes (text ++ rest)
-        → IsLtx text file → IsBroken (text ++ rest) fault place → (fault ≡ LtxFault.Tail) × (length text < place) }
+/// The encoding of a file breaks no rule: what is broken stands behind it, and is that bytes follow.
+pub fn encoding_breaks_no_rule()
+    ensures { (encoding rest : List ℕ) (file : Ltx) (fault : LtxFault) (place : ℕ) → AreBytes (encoding ++ rest)
+        → IsLtx encoding file → IsBroken (encoding ++ rest) fault place → (fault ≡ LtxFault.Tail) × (length encoding < place) }
 {}
 
 /// The fault that stands earliest is one.

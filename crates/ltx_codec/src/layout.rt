@@ -1,7 +1,7 @@
 //! The bytes of a header and of a trailer. No call takes memory.
 ghost use Rattle.std.specs.Prelude.{◌≡◌, ◌++◌};
 ghost use Rattle.std.specs.Int.{w64, to_be_bytes};
-ghost use Rattle.ltx_codec.specs.Format.{header_text, no_meaning};
+ghost use Rattle.ltx_codec.specs.Format.{header_encoding, no_meaning};
 
 use crate::header::Header;
 
@@ -10,7 +10,7 @@ const MAGIC_AND_FLAGS: [u8; 8] = *b"LTX1\0\0\0\0";
 
 /// The bytes of a header, with flags and reserved bytes of 0.
 pub fn header_bytes(header: &Header) -> [u8; 100]
-    ensures { result ≡ header_text header.now no_meaning }
+    ensures { result ≡ header_encoding header.now no_meaning }
 {
     let mut bytes = [0; 100];
     bytes[..8].copy_from_slice(&MAGIC_AND_FLAGS);

@@ -1,6 +1,6 @@
-//! LTX files: their text read and written.
+//! LTX files: their encoding read and written.
 //!
-//! `Format` in the specifications says what a file is, its rules and its one text; `Places` says
+//! `Format` in the specifications says what a file is, its rules and its one encoding; `Places` says
 //! where bytes break a rule. Reading and writing both stand on these two and not on each other.
 #![tactic(auto)]
 
@@ -35,8 +35,10 @@ pub use file::Ltx;
 pub use file_reader::FileReader;
 pub use header::Header;
 pub use image_sum::{changed_sum, sum_after, sum_of_writes};
-pub use laws::{fault_stays, file_is_read, one_earliest_fault, one_reading, text_breaks_no_rule};
-pub use laws_of_parts::{pages_as_shown, parts_are_the_text};
+pub use laws::{
+    encoding_breaks_no_rule, fault_stays, file_is_read, one_earliest_fault, one_reading,
+};
+pub use laws_of_parts::{pages_as_shown, parts_are_the_encoding};
 pub use laws_of_sums::{sum_of_a_whole_change, sums_page_by_page};
 pub use layout::{header_bytes, trailer_bytes};
 pub use reading::{decode, decode_first};

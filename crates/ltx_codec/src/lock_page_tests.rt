@@ -3,7 +3,7 @@ ghost use Rattle.std.specs.Prelude.{IfOk};
 ghost use Rattle.ltx_codec.specs.Format.{IsFile};
 
 use super::*;
-use crate::sample::{DELTA, Fields, SNAPSHOT, SUM_1, SUM_2, header_of, text};
+use crate::sample::{DELTA, Fields, SNAPSHOT, SUM_1, SUM_2, encoding, header_of};
 use lf_base::Pos;
 use lf_sqlite_pages::Image;
 use std::alloc::{AllocError, Global};
@@ -52,7 +52,7 @@ fn pages_behind_the_lock_page(rt: HostRuntime) -> Result<(), Fail> {
 fn file_of(alloc: Global, fields: &Fields) -> Result<Ltx, Fail>
     ensures { IfOk result IsFile }
 {
-    let bytes = text(alloc, fields)?;
+    let bytes = encoding(alloc, fields)?;
     Ok(decode(alloc, bytes.as_slice())?)
 }
 
@@ -76,7 +76,7 @@ fn sums_of_images(rt: HostRuntime) -> Result<(), Fail> {
 /// The two ends of a file, and the number of a fault.
 #[test]
 fn ends_of_a_file(rt: HostRuntime) -> Result<(), Fail> {
-    let bytes = text(rt.alloc(), &SNAPSHOT)?;
+    let bytes = encoding(rt.alloc(), &SNAPSHOT)?;
     let header = header_bytes(&header_of(&SNAPSHOT));
     assert_eq!(rt; Some(header.as_slice()), bytes.get(..100));
     let trailer = trailer_bytes(SNAPSHOT.post, SNAPSHOT.sum);
@@ -88,7 +88,7 @@ fn ends_of_a_file(rt: HostRuntime) -> Result<(), Fail> {
 /// A decoder that met a fault begins again.
 #[test]
 fn a_decoder_begins_again(rt: HostRuntime) -> Result<(), Fail> {
-    let bytes = text(rt.alloc(), &SNAPSHOT)?;
+    let bytes = encoding(rt.alloc(), &SNAPSHOT)?;
     let mut decoder = Decoder::new(rt.alloc(), 512).ok().ok_or("memory")?;
     assert_eq!(rt; decoder.feed(b"LTX2"), Err(LtxFault::Magic));
     decoder.restart();

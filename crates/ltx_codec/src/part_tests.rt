@@ -1,6 +1,6 @@
 //! Files that come and go part by part.
 use super::*;
-use crate::sample::{DELTA, EMPTY, PAGE, SNAPSHOT, SUM_1, header_of, text};
+use crate::sample::{DELTA, EMPTY, PAGE, SNAPSHOT, SUM_1, encoding, header_of};
 use std::alloc::Global;
 use std::test::Fail;
 
@@ -13,7 +13,7 @@ fn a_file_is_written_part_by_part(rt: HostRuntime) -> Result<(), Fail> {
             encoder.page(number, &PAGE, &mut out)?;
         }
         encoder.finish(fields.post, &mut out).ok().ok_or("memory")?;
-        let bytes = text(rt.alloc(), &fields)?;
+        let bytes = encoding(rt.alloc(), &fields)?;
         assert_eq!(rt; out.as_slice(), bytes.as_slice());
     }
     Ok(())
@@ -22,7 +22,7 @@ fn a_file_is_written_part_by_part(rt: HostRuntime) -> Result<(), Fail> {
 /// Each byte is a piece: the header, the page and the file end with the bytes that they end with.
 #[test]
 fn a_file_comes_byte_by_byte(rt: HostRuntime) -> Result<(), Fail> {
-    let bytes = text(rt.alloc(), &SNAPSHOT)?;
+    let bytes = encoding(rt.alloc(), &SNAPSHOT)?;
     let mut decoder = Decoder::new(rt.alloc(), 512).ok().ok_or("memory")?;
     for (index, byte) in bytes.iter().enumerate() {
         let expected = match index {
@@ -45,7 +45,7 @@ fn a_file_comes_byte_by_byte(rt: HostRuntime) -> Result<(), Fail> {
 /// A page size past the limit is refused, and so is each piece after it.
 #[test]
 fn a_fault_is_answered_again(rt: HostRuntime) -> Result<(), Fail> {
-    let bytes = text(rt.alloc(), &SNAPSHOT)?;
+    let bytes = encoding(rt.alloc(), &SNAPSHOT)?;
     let mut decoder = Decoder::new(rt.alloc(), 511).ok().ok_or("memory")?;
     for _time in 0..2u8 {
         assert_eq!(rt; decoder.feed(&bytes), Err(LtxFault::PageSize));
@@ -77,8 +77,8 @@ fn read_pieces(alloc: Global, bytes: &[u8], size: usize) -> Result<Vec<Ltx>, Fai
 /// Two files one after another, in pieces of each size.
 #[test]
 fn files_come_in_pieces(rt: HostRuntime) -> Result<(), Fail> {
-    let mut bytes = text(rt.alloc(), &SNAPSHOT)?;
-    bytes.extend_from_slice(&text(rt.alloc(), &DELTA)?)?;
+    let mut bytes = encoding(rt.alloc(), &SNAPSHOT)?;
+    bytes.extend_from_slice(&encoding(rt.alloc(), &DELTA)?)?;
     for size in [1usize, 7, 100, bytes.len()] {
         let files = read_pieces(rt.alloc(), &bytes, size)?;
         assert_eq!(rt; files.len(), 2, "{size}");

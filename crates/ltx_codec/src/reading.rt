@@ -7,7 +7,7 @@ use crate::file::Ltx;
 use crate::file_reader::FileReader;
 use std::alloc::Global;
 
-/// The file whose text stands at the front of the bytes, and how many bytes it takes.
+/// The file whose encoding stands at the front of the bytes, and how many bytes it takes.
 pub fn decode_first(alloc: Global, bytes: &[u8]) -> Result<(Ltx, usize), LtxFault>
     ensures ok { IfOk result (λ first. IsLtx (take first.1 bytes.now) first.0) }
     ensures within { IfOk result (λ first. first.1 ≤ length bytes.now) }

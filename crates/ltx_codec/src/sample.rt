@@ -50,7 +50,7 @@ pub const EMPTY: Fields = Fields {
     sum: 0x8106_fa82_9c65_6655,
 };
 
-pub fn text(alloc: Global, fields: &Fields) -> Result<Vec<u8>, AllocError> {
+pub fn encoding(alloc: Global, fields: &Fields) -> Result<Vec<u8>, AllocError> {
     let mut bytes = Vec::new(alloc);
     bytes.extend_from_slice(b"LTX1\0\0\0\0\0\0\x02\0")?;
     bytes.extend_from_slice(&fields.commit.to_be_bytes())?;
@@ -71,7 +71,7 @@ pub fn text(alloc: Global, fields: &Fields) -> Result<Vec<u8>, AllocError> {
 
 /// The snapshot with bytes replaced from a place on.
 pub fn changed(alloc: Global, place: usize, with: &[u8]) -> Result<Vec<u8>, AllocError> {
-    let mut bytes = text(alloc, &SNAPSHOT)?;
+    let mut bytes = encoding(alloc, &SNAPSHOT)?;
     for (index, byte) in with.iter().enumerate() {
         if let Some(old) = bytes.get_mut(place.saturating_add(index)) {
             *old = *byte;

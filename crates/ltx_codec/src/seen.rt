@@ -1,4 +1,4 @@
-/// What a piece of a file's text ended. `used` counts the bytes of the piece that were taken.
+/// What a piece of a file's encoding ended. `used` counts the bytes of the piece that were taken.
 #[derive(Clone, Copy, Debug, PartialEq, Eq)]
 pub enum Seen {
     /// The whole piece was taken, and none of the others ended in it.

@@ -1,6 +1,8 @@
 //! Files that are read, written and refused, against the files of `sample`.
 use super::*;
-use crate::sample::{DELTA, EMPTY, FILE_SUM_1, PAGE, SNAPSHOT, SUM_1, changed, header_of, text};
+use crate::sample::{
+    DELTA, EMPTY, FILE_SUM_1, PAGE, SNAPSHOT, SUM_1, changed, encoding, header_of,
+};
 use std::alloc::Global;
 use std::test::Fail;
 
@@ -19,7 +21,7 @@ fn refusal(alloc: Global, bytes: &[u8]) -> Option<LtxFault> {
 #[test]
 fn files_are_read_and_written_again(rt: HostRuntime) -> Result<(), Fail> {
     for fields in [SNAPSHOT, DELTA, EMPTY] {
-        let bytes = text(rt.alloc(), &fields)?;
+        let bytes = encoding(rt.alloc(), &fields)?;
         let file = decode(rt.alloc(), &bytes).ok().ok_or("a file")?;
         assert_eq!(rt; file.header.commit, fields.commit);
         assert_eq!(rt; file.header.max, fields.txid);
@@ -34,7 +36,7 @@ fn files_are_read_and_written_again(rt: HostRuntime) -> Result<(), Fail> {
 #[test]
 fn every_front_of_a_file_is_short(rt: HostRuntime) -> Result<(), Fail> {
     for fields in [SNAPSHOT, DELTA] {
-        let bytes = text(rt.alloc(), &fields)?;
+        let bytes = encoding(rt.alloc(), &fields)?;
         for len in 0..bytes.len() {
             assert_eq!(rt;
                 refusal(rt.alloc(), &bytes[..len]),
@@ -103,7 +105,7 @@ fn changes_are_refused(rt: HostRuntime) -> Result<(), Fail> {
 
 #[test]
 fn a_byte_behind_the_file_is_its_tail(rt: HostRuntime) -> Result<(), Fail> {
-    let mut bytes = text(rt.alloc(), &SNAPSHOT)?;
+    let mut bytes = encoding(rt.alloc(), &SNAPSHOT)?;
     bytes.push(0)?;
     assert_eq!(rt; refusal(rt.alloc(), &bytes), Some(LtxFault::Tail));
     Ok(())

@@ -1,4 +1,4 @@
-//! The pages of a file whose text comes in pieces, kept as they end.
+//! The pages of a file whose encoding comes in pieces, kept as they end.
 ghost use Rattle.std.specs.Prelude.{◌≡◌, List, ℕ, IfOk, OnOk};
 ghost use Rattle.lf_sqlite_pages.specs.Change.{empty_change};
 ghost use Rattle.ltx_codec.specs.WholePages.{HasTaken, IsTaking};
@@ -26,7 +26,7 @@ pub fn read_part(
     piece: &[u8],
 ) -> Result<Seen, LtxFault>
     requires { IsTaking decoder.old change.old }
-    ensures gives { (text : List ℕ) → HasTaken decoder.old change.old text → ReadsPart decoder.new change.new text piece.now result }
+    ensures gives { (encoding : List ℕ) → HasTaken decoder.old change.old encoding → ReadsPart decoder.new change.new encoding piece.now result }
     ensures some { IfOk result (CountsSome piece.now) }
 {
     match decoder.feed(piece)? {

@@ -1,19 +1,19 @@
 ghost use Rattle.std.specs.Prelude.{◌≡◌, ◌++◌, OnOk, OnErr};
 ghost use Rattle.std.specs.Io.{StartsWith};
 ghost use Rattle.page_checksum.specs.Crc.{after_bytes};
-ghost use Rattle.ltx_codec.specs.Format.{IsFile, IsLtx, file_text, no_meaning, pages_text};
+ghost use Rattle.ltx_codec.specs.Format.{IsFile, IsLtx, file_encoding, no_meaning, pages_encoding};
 
 use crate::encoder::Encoder;
 use crate::file::Ltx;
 use lf_base::NoMemory;
 use lf_sqlite_pages::PageWrite;
 
-/// Appends the text of a file, with flags and reserved bytes of 0. After want of memory `out` is
+/// Appends the encoding of a file, with flags and reserved bytes of 0. After want of memory `out` is
 /// as before.
 pub fn encode(ltx: &Ltx, out: &mut Vec<u8>) -> Result<(), NoMemory>
     requires { IsFile ltx.now }
-    ensures ok { OnOk result (out.new.items ≡ out.old.items ++ file_text ltx.now no_meaning) }
-    ensures reads_back { IsLtx (file_text ltx.now no_meaning) ltx.now }
+    ensures ok { OnOk result (out.new.items ≡ out.old.items ++ file_encoding ltx.now no_meaning) }
+    ensures reads_back { IsLtx (file_encoding ltx.now no_meaning) ltx.now }
     ensures err { OnErr result (out.new.items ≡ out.old.items) }
 {
     let start = out.len();
@@ -25,7 +25,7 @@ pub fn encode(ltx: &Ltx, out: &mut Vec<u8>) -> Result<(), NoMemory>
 }
 
 fn append_file(ltx: &Ltx, out: &mut Vec<u8>) -> Result<(), NoMemory>
-    ensures ok { OnOk result (out.new.items ≡ out.old.items ++ file_text ltx.now no_meaning) }
+    ensures ok { OnOk result (out.new.items ≡ out.old.items ++ file_encoding ltx.now no_meaning) }
     ensures grows { StartsWith out.new.items out.old.items }
 {
     let mut encoder = Encoder::start(&ltx.header, out)?;
@@ -41,8 +41,8 @@ fn append_pages(
     pages: &[PageWrite],
     out: &mut Vec<u8>,
 ) -> Result<(), NoMemory>
-    ensures ok { OnOk result (out.new.items ≡ out.old.items ++ pages_text pages.now) }
-    ensures register { OnOk result (encoder.new ≡ after_bytes encoder.old (pages_text pages.now)) }
+    ensures ok { OnOk result (out.new.items ≡ out.old.items ++ pages_encoding pages.now) }
+    ensures register { OnOk result (encoder.new ≡ after_bytes encoder.old (pages_encoding pages.now)) }
     ensures grows { StartsWith out.new.items out.old.items }
 {
     for page in pages {

@@ -88,7 +88,7 @@ fn header_of(sample: &Sample) -> Header {
     }
 }
 
-fn text_of(alloc: Global, sample: &Sample) -> Result<Vec<u8>, NoMemory> {
+fn encoding_of(alloc: Global, sample: &Sample) -> Result<Vec<u8>, NoMemory> {
     let mut out = Vec::new(alloc);
     let mut encoder = Encoder::start(&header_of(sample), &mut out)?;
     for (number, byte) in sample.pages {
@@ -106,8 +106,8 @@ fn text_of(alloc: Global, sample: &Sample) -> Result<Vec<u8>, NoMemory> {
 fn file_of(alloc: Global, sample: &Sample) -> Result<Ltx, Fail>
     ensures { IfOk result IsFile }
 {
-    let text = text_of(alloc, sample)?;
-    Ok(decode(alloc, text.as_slice())?)
+    let encoding = encoding_of(alloc, sample)?;
+    Ok(decode(alloc, encoding.as_slice())?)
 }
 
 fn files_of(alloc: Global, samples: &[Sample]) -> Result<Vec<Ltx>, Fail>
@@ -172,7 +172,7 @@ fn expect_file(
     Ok(())
 }
 
-/// The length of a file's text, and its last sum.
+/// The length of a file's encoding, and its last sum.
 fn written(alloc: Global, file: &Ltx) -> Result<(usize, Option<[u8; 8]>), Fail> {
     let mut out = Vec::new(alloc);
     let mut encoder = Encoder::start(&file.header, &mut out)?;

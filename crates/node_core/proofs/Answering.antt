@@ -19,7 +19,7 @@ use Rattle.file_view.specs.Done.{IsDone}
 use Rattle.file_view.specs.Overlay.{FitsImage, IsOverImage, StandsOver}
 use Rattle.file_view.specs.Refusal.{IsAllowed}
 use Rattle.file_view.specs.Requests.{rows_of}
-use Rattle.file_view.specs.Served.{Served, has_committed_frames, log_text, waits}
+use Rattle.file_view.specs.Served.{Served, has_committed_frames, log_contents, waits}
 use Rattle.file_view.specs.Steady.{CommitsNothing, IsQuiet, SameDatabase}
 use Rattle.txn_log.specs.Calls.{RestsAs}
 use Rattle.wal_watch.specs.Frames.{committed_count}
@@ -51,22 +51,22 @@ told-after h s change P honest holds = go s.honest honest holds where
   go true honest holds = holds
   go false honest holds = absurd (let no : false ≡ true = honest in cc)
 
-no-frames : (text : List ℕ) → nat_lt 0 (committed_count text) ≡ false → frames_of text ≡ None
-no-frames text none =
-    let zero : committed_count text ≡ 0 = grind (arith, nat_tests, none) in
+no-frames : (contents : List ℕ) → nat_lt 0 (committed_count contents) ≡ false → frames_of contents ≡ None
+no-frames contents none =
+    let zero : committed_count contents ≡ 0 = grind (arith, nat_tests, none) in
     rw zero refl
 
 -- the committed frames of a log that stays
-pub frames-same : (old new : Served) → SameDatabase old new → frames_of (log_text new) ≡ frames_of (log_text old)
+pub frames-same : (old new : Served) → SameDatabase old new → frames_of (log_contents new) ≡ frames_of (log_contents old)
 frames-same old new same = elim (cases_Bool (has_committed_frames old)) [
   | inl some ↦ ap frames_of (same.frames some)
-  | inr none ↦ no-frames (log_text new) (same.no_frames none) ∙ sym (no-frames (log_text old) none)
+  | inr none ↦ no-frames (log_contents new) (same.no_frames none) ∙ sym (no-frames (log_contents old) none)
 ]
 
 -- a request that commits nothing, or is refused: pages were read at most, and at a replica a reader sees what it saw
 pub reads-safely : (start mid : History) (old : NodeParts) (store : StoreFields) (files : Served) (answer : laws.Answer) → IsTrue old.store.honest → IsRead start old.store mid store
     → RestsAs (MayBeFound (state mid store) (failed mid store)) mid → IsOverImage files (state mid store).image → ShareForReading files.locks → (old.config.candidate ≡ false → files.writer ≡ None)
-    → (old.config.candidate ≡ false → (files.database ≡ old.files.database) × (frames_of (log_text files) ≡ frames_of (log_text old.files)))
+    → (old.config.candidate ≡ false → (files.database ≡ old.files.database) × (frames_of (log_contents files) ≡ frames_of (log_contents old.files)))
     → Answers (seen start old) (seen start old).role laws.File [] None answer (seen mid (record old { store = store; files = files })) → LeavesUndone answer []
     → StepsSafely (seen start old) laws.File answer (seen mid (record old { store = store; files = files })) start mid
 reads-safely start mid old store files answer honest read rests over shares replica same answers undone =

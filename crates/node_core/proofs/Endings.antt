@@ -19,7 +19,7 @@ use Rattle.wal_watch.specs.Frames.{committed_count}
 use Rattle.file_view.specs.Acting.{is_writer, settled_database, while_exclusive}
 use Rattle.file_view.specs.Endings.{applied, ended}
 use Rattle.file_view.specs.Overlay.{FitsImage, IsOverImage}
-use Rattle.file_view.specs.Served.{Served, log_text, waits}
+use Rattle.file_view.specs.Served.{Served, log_contents, waits}
 
 nothing : (file : DatabaseFile) → KeepsNothing (clean file)
 nothing file = cleared_keeps_nothing (clean file) 0 refl refl
@@ -60,7 +60,7 @@ module _ (s : Served) (session : ℕ) where
   pub ended-over : (image : DatabaseImage) → IsOverImage s image → IsOverImage (ended s session) image
   ended-over image over = record {
     differs = settled-differs left s.database image s.writer over.differs;
-    agrees = subst (λ (f : DatabaseFile). Agrees f image (log_text s)) (sym (settled-same left s.database s.writer)) over.agrees;
+    agrees = subst (λ (f : DatabaseFile). Agrees f image (log_contents s)) (sym (settled-same left s.database s.writer)) over.agrees;
   }
 
   -- without a writer the database file stays, and there is none afterwards
@@ -97,17 +97,17 @@ either true b none = absurd (true_false none)
     true_false same = cc
 
 abbrev no_bytes : List ℕ → List ℕ
-no_bytes text = []
+no_bytes contents = []
 
 module _ (s : Served) (page_size commit : ℕ) where
   -- the log has no bytes
-  applied-log : log_text (applied s page_size commit) ≡ []
+  applied-log : log_contents (applied s page_size commit) ≡ []
   applied-log = go s.log where
     go : (o : Option (List ℕ)) → unwrap_or {T = List ℕ} (option_map no_bytes o) [] ≡ []
     go None = refl
-    go (Some text) = refl
+    go (Some contents) = refl
 
-  applied-none : committed_count (log_text (applied s page_size commit)) ≡ 0
+  applied-none : committed_count (log_contents (applied s page_size commit)) ≡ 0
   applied-none = ap committed_count applied-log ∙ empty_none
 
   pub applied-fits : (0 < commit → IsPageSize page_size) → FitsImage (applied s page_size commit) page_size commit
@@ -122,7 +122,7 @@ module _ (s : Served) (page_size commit : ℕ) where
   pub applied-over : (image : DatabaseImage) → IsOverImage (applied s page_size commit) image
   applied-over image = record {
     differs = (nothing s.database).differs image;
-    agrees = clean-agrees (clean s.database) image (log_text (applied s page_size commit)) applied-none (clean-clean s.database);
+    agrees = clean-agrees (clean s.database) image (log_contents (applied s page_size commit)) applied-none (clean-clean s.database);
   }
 
   -- where nothing waited nothing waits

@@ -47,7 +47,7 @@ use Rattle.file_view.specs.NameRules.{with_file}
 use Rattle.file_view.specs.Refusal.{Row, first_refusal}
 use Rattle.file_view.specs.Requests.{owner_of, rows_at, write_rows}
 use Rattle.file_view.specs.Roles.{is_replica}
-use Rattle.file_view.specs.Served.{Served, log_text, waits}
+use Rattle.file_view.specs.Served.{Served, log_contents, waits}
 use Rattle.file_view.proofs.RowLemmas.{none-holds}
 use Rattle.file_view.proofs.RequestLemmas.{rest-allowed, write-allowed}
 use Rattle.node_core.proofs.Endings.{either, none-in}
@@ -126,28 +126,28 @@ module _ (told : Option DatabaseImage) (old : Served) (scene : Scene) (sized : 0
   ]
 
   -- so is that of a write to the log, whose header is of that page size
-  logged-fits : (given : Option ℕ) (place : ℕ) (bytes : List ℕ) (change : PageChange) → first_refusal (log_write_rows old scene given place bytes) ≡ None → LogCommits told old.database (log_text old) (log_after old place bytes) scene.commit (Some change) →
+  logged-fits : (given : Option ℕ) (place : ℕ) (bytes : List ℕ) (change : PageChange) → first_refusal (log_write_rows old scene given place bytes) ≡ None → LogCommits told old.database (log_contents old) (log_after old place bytes) scene.commit (Some change) →
       FitsOver scene.page_size scene.commit change
   logged-fits given place bytes change none commits =
-      let text : List ℕ = log_after old place bytes in
-      let size : change.page_size ≡ page_size_in text = ap (λ (x : PageChange). x.page_size) commits.is in
-      let kept : breaks_header (wanted_size scene.page_size scene.commit) place bytes text ≡ false = (none-holds (log_write_rows old scene given place bytes) none).1.1.1.1.1.0 in
-      elim (cases_Bool (commits_frames (log_text old) text)) [
+      let contents : List ℕ = log_after old place bytes in
+      let size : change.page_size ≡ page_size_in contents = ap (λ (x : PageChange). x.page_size) commits.is in
+      let kept : breaks_header (wanted_size scene.page_size scene.commit) place bytes contents ≡ false = (none-holds (log_write_rows old scene given place bytes) none).1.1.1.1.1.0 in
+      elim (cases_Bool (commits_frames (log_contents old) contents)) [
         | inr not ↦ absurd (some_none change (commits.nothing not))
         | inl more ↦ elim (cases_eq scene.commit 0) [
           | inl zero ↦ inr (inl zero)
           | inr some ↦
               let wanted : wanted_size scene.page_size scene.commit ≡ scene.page_size = cond-false (scene.commit == 0) 0 scene.page_size (ne_eqb scene.commit 0 some) in
               let positive : 0 < scene.page_size = page_size-positive scene.page_size (sized (omega (arith, some))) in
-              let header : is_header text ≡ true = elim (cases_Bool (is_header text)) [
+              let header : is_header contents ≡ true = elim (cases_Bool (is_header contents)) [
                 | inl valid ↦ valid
-                | inr invalid ↦ absurd (nothing-below (first_new (log_text old) text) (committed_count text) more (none_committed text invalid))
+                | inr invalid ↦ absurd (nothing-below (first_new (log_contents old) contents) (committed_count contents) more (none_committed contents invalid))
               ] in
-              let other : (not (scene.page_size == 0) && (is_header text && not (page_size_in text == scene.page_size))) ≡ false =
-              (either _ _ (subst (λ (k : ℕ). breaks_header k place bytes text ≡ false) wanted kept)).1 in
-              elim (cases_eq (page_size_in text) scene.page_size) [
+              let other : (not (scene.page_size == 0) && (is_header contents && not (page_size_in contents == scene.page_size))) ≡ false =
+              (either _ _ (subst (λ (k : ℕ). breaks_header k place bytes contents ≡ false) wanted kept)).1 in
+              elim (cases_eq (page_size_in contents) scene.page_size) [
                 | inl same ↦ inl (sym (size ∙ same))
-                | inr apart ↦ absurd (true_false (sym (all-true (ne_eqb scene.page_size 0 (λ zero. omega (arith, zero, positive))) header (ne_eqb (page_size_in text) scene.page_size apart)) ∙ other))
+                | inr apart ↦ absurd (true_false (sym (all-true (ne_eqb scene.page_size 0 (λ zero. omega (arith, zero, positive))) header (ne_eqb (page_size_in contents) scene.page_size apart)) ∙ other))
               ]
         ]
       ]

@@ -23,4 +23,4 @@ pub mod Framed
 pub mod Refusing
 pub mod Following
 pub mod Looked
-pub mod Texts
+pub mod Encodings

@@ -25,33 +25,33 @@ use Rattle.database_under_log.specs.Over as log
 use Rattle.world_laws.specs.Served as laws
 use Rattle.node_core.specs.Nodes.{file_over, frames_of, written_by}
 
-module _ (text : List ℕ) where
+module _ (contents : List ℕ) where
   abbrev count : ℕ
-  count = committed_count text
+  count = committed_count contents
 
   abbrev last : ℕ
-  last = size_in text (count - 1)
+  last = size_in contents (count - 1)
 
   abbrev frames : PageChange
-  frames = change_of text 0 count
+  frames = change_of contents 0 count
 
   -- the frames hold of each data page what its latest frame does
-  frame-at : (n : ℕ) → 1 ≤ n → n ≤ last → written (latest_pages text 0 count last) n ≡ changed_page text 0 count n
+  frame-at : (n : ℕ) → 1 ≤ n → n ≤ last → written (latest_pages contents 0 count last) n ≡ changed_page contents 0 count n
   frame-at n first within =
-      ap (λ ws. written ws n) (latest-writes text 0 count last)
-      ∙ written-writes_of (changed_page text 0 count) last n first within
+      ap (λ ws. written ws n) (latest-writes contents 0 count last)
+      ∙ written-writes_of (changed_page contents 0 count) last n first within
 
-  page-same : (file : DatabaseImage) (n : ℕ) → 1 ≤ n → n ≤ last → page_after file frames n ≡ log.page_over file text n
-  page-same file n first within = elim (cases_Bool (n == lock_page_of (page_size_in text))) [
+  page-same : (file : DatabaseImage) (n : ℕ) → 1 ≤ n → n ≤ last → page_after file frames n ≡ log.page_over file contents n
+  page-same file n first within = elim (cases_Bool (n == lock_page_of (page_size_in contents))) [
     | inl lock ↦ rw lock refl
     | inr other ↦ rw (frame-at n first within, other) refl
   ]
 
   -- a file under these frames is the file under the log
-  over-same : (file : DatabaseImage) → SameImage (laws.over file (frames_of text)) (log.over file text)
+  over-same : (file : DatabaseImage) → SameImage (laws.over file (frames_of contents)) (log.over file contents)
   over-same file = elim (cases_Bool (count == 0)) [
     | inl none ↦ rw none refl
-    | inr some ↦ rw some (same-pages (page_after file frames) (log.page_over file text) last (page-same file))
+    | inr some ↦ rw some (same-pages (page_after file frames) (log.page_over file contents) last (page-same file))
   ]
 
 -- files of the same pages are the same under frames
@@ -59,16 +59,16 @@ over-pages : (one other : DatabaseImage) (frames : Option PageChange) → SameIm
 over-pages one other None same = same
 over-pages one other (Some change) same = ap (λ (i : DatabaseImage). i.pages) (apply-same one other change same)
 
-module _ (file : DatabaseFile) (image : DatabaseImage) (text : List ℕ) where
+module _ (file : DatabaseFile) (image : DatabaseImage) (contents : List ℕ) where
   -- what agrees without a writer
-  pub agrees-whole : log.Agrees file image text → SameImage (laws.over (file_over file image) (frames_of text)) image
-  agrees-whole agrees = over-pages (file_over file image) (as_read file image) (frames_of text) refl ∙ over-same text (as_read file image) ∙ agrees
+  pub agrees-whole : log.Agrees file image contents → SameImage (laws.over (file_over file image) (frames_of contents)) image
+  agrees-whole agrees = over-pages (file_over file image) (as_read file image) (frames_of contents) refl ∙ over-same contents (as_read file image) ∙ agrees
 
   -- what agrees without the uncommitted pages
-  pub agrees-clean : log.Agrees (clean file) image text → SameImage (laws.over image (frames_of text)) image
+  pub agrees-clean : log.Agrees (clean file) image contents → SameImage (laws.over image (frames_of contents)) image
   agrees-clean agrees =
-      over-pages image (as_read (clean file) image) (frames_of text) (sym (clean-reads file image))
-      ∙ over-same text (as_read (clean file) image) ∙ agrees
+      over-pages image (as_read (clean file) image) (frames_of contents) (sym (clean-reads file image))
+      ∙ over-same contents (as_read (clean file) image) ∙ agrees
 
 some-none : {X : Type 0} (o : Option X) → IsSome o → o ≡ None → ⊥
 some-none o some none = let no : false ≡ true = ap is_some (sym none) ∙ some in cc

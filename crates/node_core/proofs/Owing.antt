@@ -10,14 +10,14 @@ use Rattle.lf_sqlite_pages.specs.Change.{AscendsAbove}
 use Rattle.lf_sqlite_pages.specs.declared.page_write.PageWrite.{PageWrite}
 use Rattle.ltx_codec.specs.Fields.{AreBytes}
 use Rattle.ltx_codec.specs.FileIn.{file_in}
-use Rattle.ltx_codec.specs.Format.{IsFile, IsLtx, file_text, no_meaning}
+use Rattle.ltx_codec.specs.Format.{IsFile, IsLtx, file_encoding, no_meaning}
 use Rattle.ltx_codec.specs.Positions.{before, nowhere}
 use Rattle.ltx_codec.specs.declared.file.Ltx.{Ltx}
 use Rattle.txn_log.specs.declared.answer.Answer.TheVariants as owed
 use Rattle.txn_log.specs.declared.entry.Entry.{Entry}
 use Rattle.txn_log.specs.Answering.{Answers, IsFirstBehind}
 use Rattle.txn_log.specs.Durable.{log_of}
-use Rattle.txn_log.specs.Giving.{IsTextAt}
+use Rattle.txn_log.specs.Giving.{IsEncodingAt}
 use Rattle.txn_log.specs.Kept.{LogFile, file_of}
 use Rattle.txn_log.specs.Store.{IsShaped, IsStore, end_of_entries, entry_of, files_in, meant}
 use Rattle.txn_log.proofs.Entries.{end-empty, end-log}
@@ -48,7 +48,7 @@ cases_nowhere p = elim (cases_eq p.txid 0) [
 ]
 
 abbrev no_file : LogFile
-no_file = record { min = 0; max = 0; text = [] }
+no_file = record { min = 0; max = 0; encoding = [] }
 
 module _ (h : History) (s : StoreFields) (is : IsStore h s.page_size s.commit s.entries s.dropped s.sums s.broken s.whole s.tried) where
   abbrev files : List LogFile
@@ -65,13 +65,13 @@ module _ (h : History) (s : StoreFields) (is : IsStore h s.page_size s.commit s.
   entry-at : (k : ℕ) (d : Ltx) (e : Entry) → k < length s.entries → entry_of (get_or (state h s).log k d) ≡ get_or s.entries k e
   entry-at k d e within =
       let there : k < length files = omega (arith, count, within) in
-      let in_log : get_or (log_of files) k d ≡ file_of (get_or files k no_file).text = get_or-map (λ (f : LogFile). file_of f.text) files k no_file d there in
-      let in_entries : get_or (map (λ (f : LogFile). entry_of (file_of f.text)) files) k e ≡ entry_of (file_of (get_or files k no_file).text) =
-      get_or-map (λ (f : LogFile). entry_of (file_of f.text)) files k no_file e there in
+      let in_log : get_or (log_of files) k d ≡ file_of (get_or files k no_file).encoding = get_or-map (λ (f : LogFile). file_of f.encoding) files k no_file d there in
+      let in_entries : get_or (map (λ (f : LogFile). entry_of (file_of f.encoding)) files) k e ≡ entry_of (file_of (get_or files k no_file).encoding) =
+      get_or-map (λ (f : LogFile). entry_of (file_of f.encoding)) files k no_file e there in
       ap entry_of in_log ∙ sym in_entries ∙ ap (λ (es : List Entry). get_or es k e) is.log.same
 
   length-log : length (state h s).log ≡ length s.entries
-  length-log = length-map files (λ (f : LogFile). file_of f.text) ∙ count
+  length-log = length-map files (λ (f : LogFile). file_of f.encoding) ∙ count
 
   empty-log : s.entries ≡ [] → (state h s).log ≡ []
   empty-log none = ap (λ (es : List Entry). log_of (files_in es (h.seen (meant h s.broken s.whole)))) none
@@ -109,12 +109,12 @@ module _ (h : History) (s : StoreFields) (is : IsStore h s.page_size s.commit s.
 
     -- the file of the log
     pub tells-file : (octets-law : (bytes : List ℕ) (file : Ltx) → AreBytes bytes → IsLtx bytes file → file_in bytes ≡ file) (first : ℕ) (ltx : List ℕ) → AreBytes ltx
-        → Answers s.entries s.dropped from (owed.Files first) → IsTextAt (state h s).log first ltx → Owes (state h s) from (file_in ltx) × IsFile (file_in ltx)
-    tells-file law first ltx octets answers text =
+        → Answers s.entries s.dropped from (owed.Files first) → IsEncodingAt (state h s).log first ltx → Owes (state h s) from (file_in ltx) × IsFile (file_in ltx)
+    tells-file law first ltx octets answers encoding =
         let file : Ltx = file_in ltx in
         let behind : IsFirstBehind s.entries from first = answers.2 in
-        let same : get_or (state h s).log first file ≡ file = ∥∥₁_elim (text file) (hlevel props) (λ (it : IsLtx ltx (get_or (state h s).log first file)). sym (law ltx (get_or (state h s).log first file) octets it)) in
-        let valid : IsFile file = ∥∥₁_elim (text file) (IsFile-prop file) (λ (it : IsLtx ltx (get_or (state h s).log first file)). subst IsFile same it.valid) in
+        let same : get_or (state h s).log first file ≡ file = ∥∥₁_elim (encoding file) (hlevel props) (λ (it : IsLtx ltx (get_or (state h s).log first file)). sym (law ltx (get_or (state h s).log first file) octets it)) in
+        let valid : IsFile file = ∥∥₁_elim (encoding file) (IsFile-prop file) (λ (it : IsLtx ltx (get_or (state h s).log first file)). subst IsFile same it.valid) in
         let within : first < length (state h s).log = omega (arith, length-log, behind.there) in
         let leads : before file ≡ from =
         ap before (sym same) ∙ ap (λ (e : Entry). e.pre) (entry-at first file no_entry behind.there) ∙ behind.follows no_entry in
@@ -132,10 +132,10 @@ module _ (h : History) (s : StoreFields) (is : IsStore h s.page_size s.commit s.
         absurd (omega (arith, none, written))
 
     pub tells-snapshot : (octets-law : (bytes : List ℕ) (file : Ltx) → AreBytes bytes → IsLtx bytes file → file_in bytes ≡ file) (ltx : List ℕ) → AreBytes ltx → 1 ≤ (position s).txid
-        → Answers s.entries s.dropped from owed.Snapshot → IsFile (snapshot_of (state h s)) → ltx ≡ file_text (snapshot_of (state h s)) no_meaning
+        → Answers s.entries s.dropped from owed.Snapshot → IsFile (snapshot_of (state h s)) → ltx ≡ file_encoding (snapshot_of (state h s)) no_meaning
         → Owes (state h s) from (file_in ltx) × IsFile (file_in ltx)
-    tells-snapshot law ltx octets written answers valid text =
-        let is_text : IsLtx ltx (snapshot_of (state h s)) = record { valid = valid; reserved = no_meaning; room = refl; text = text } in
-        let same : file_in ltx ≡ snapshot_of (state h s) = law ltx (snapshot_of (state h s)) octets is_text in
+    tells-snapshot law ltx octets written answers valid encoding =
+        let is_encoding : IsLtx ltx (snapshot_of (state h s)) = record { valid = valid; reserved = no_meaning; room = refl; encoding = encoding } in
+        let same : file_in ltx ≡ snapshot_of (state h s) = law ltx (snapshot_of (state h s)) octets is_encoding in
         let some : 1 ≤ (at (state h s)).txid = subst (λ (p : Pos). 1 ≤ p.txid) (sym at-position) written in
         (subst (λ (f : Ltx). Owes (state h s) from f) (sym same) (by_snapshot some (unknown written answers)), subst IsFile (sym same) valid)

@@ -8,7 +8,7 @@ use Rattle.lf_sqlite_pages.specs.Image.{DatabaseImage}
 use Rattle.database_file.specs.DatabaseFile.{clean}
 use Rattle.database_under_log.specs.Over.{Agrees}
 use Rattle.file_view.specs.Overlay.{IsOverImage}
-use Rattle.file_view.specs.Served.{Served, log_text}
+use Rattle.file_view.specs.Served.{Served, log_contents}
 use Rattle.world_laws.specs.Node as laws
 use Rattle.world_laws.specs.Node.{IsPlain, IsSoundNode}
 use Rattle.world_laws.specs.Served.{IsUnder, MeetsOverlay, ShareForReading}
@@ -21,12 +21,12 @@ use Rattle.node_core.proofs.Overlay.{agrees-but, agrees-clean, agrees-whole}
 under : (s : Served) (image : DatabaseImage) (writer : Option Owner) → s.writer ≡ writer → IsOverImage s image
     → IsUnder (served_over s image) (option_map (writer_in s.database image) writer) image
 under s image None none over =
-    agrees-whole s.database image (log_text s)
-    (subst (λ (w : Option Owner). Agrees (if is_some w then clean s.database else s.database) image (log_text s)) none over.agrees)
+    agrees-whole s.database image (log_contents s)
+    (subst (λ (w : Option Owner). Agrees (if is_some w then clean s.database else s.database) image (log_contents s)) none over.agrees)
 under s image (Some owner) some over = (
   agrees-but s.database image,
-  agrees-clean s.database image (log_text s)
-      (subst (λ (w : Option Owner). Agrees (if is_some w then clean s.database else s.database) image (log_text s)) some over.agrees),
+  agrees-clean s.database image (log_contents s)
+      (subst (λ (w : Option Owner). Agrees (if is_some w then clean s.database else s.database) image (log_contents s)) some over.agrees),
 )
 
 -- files that stand over an image meet the overlay equation

@@ -3,7 +3,7 @@ use Rattle.std.proofs.Common.{◌≡◌, [], None, Option, ap, subst}
 use Rattle.lf_disk.specs.History.{History}
 use Rattle.txn_log.specs.Calls.{Moved, RestsAs}
 use Rattle.txn_log.proofs.Moves.{moved-none}
-use Rattle.file_view.specs.Served.{Served, log_text}
+use Rattle.file_view.specs.Served.{Served, log_contents}
 use Rattle.world_laws.specs.Node.{Answer, Ask, NodeState}
 use Rattle.world_laws.specs.Step.{Steady}
 use Rattle.world_laws.specs.Store.{Failure, MayBeFound, StoreState, at}
@@ -22,7 +22,7 @@ steps-still old new ask answer start end read store failed rests says =
     says
 
 -- nothing that a reader sees is touched
-pub steady-files : (start end : History) (old : NodeParts) (store : StoreFields) (files : Served) → state end store ≡ state start old.store → files.database ≡ old.files.database → frames_of (log_text files) ≡ frames_of (log_text old.files)
+pub steady-files : (start end : History) (old : NodeParts) (store : StoreFields) (files : Served) → state end store ≡ state start old.store → files.database ≡ old.files.database → frames_of (log_contents files) ≡ frames_of (log_contents old.files)
     → Steady (seen start old) (seen end (record old { files = files; store = store }))
 steady-files start end old store files same database frames = record {
   position = ap (λ s. at s) same;

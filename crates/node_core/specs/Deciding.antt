@@ -1,4 +1,4 @@
--- Whether bytes are the text of an LTX file. Each decision is what its type says; it is made rule by rule.
+-- Whether bytes are the encoding of an LTX file. Each decision is what its type says; it is made rule by rule.
 use Rattle.std.proofs.Common.{◌≡◌, ◌≢◌, ◌⊎◌, ◌∙◌, ℕ, zero, suc, ◌+◌, ◌*◌, ◌^◌, ◌<◌, ◌≤◌, Bool, true, false, IsTrue, IsSome, List, [], ◌∷◌, ◌++◌, length, take, drop, append_assoc, inl, inr, refl, sym, ap, subst, arith}
 use Rattle.std.specs.Prelude.{All, is_some}
 use Rattle.std.specs.Int.{w32, w64, to_be_bytes}
@@ -10,7 +10,7 @@ use Rattle.lf_sqlite_pages.specs.LockPage.{IsDataPage, lock_page_of}
 use Rattle.lf_sqlite_pages.specs.PageSize.{is_page_size}
 use Rattle.lf_sqlite_pages.specs.declared.page_write.PageWrite.{PageWrite}
 use Rattle.ltx_codec.specs.FileIn.{file_in}
-use Rattle.ltx_codec.specs.Format.{FitsWidths, IsBlock, IsFile, IsHeader, IsLtx, IsPostSum, file_sum, file_text, header_text, pages_text, summed_text}
+use Rattle.ltx_codec.specs.Format.{FitsWidths, IsBlock, IsFile, IsHeader, IsLtx, IsPostSum, file_sum, file_encoding, header_encoding, pages_encoding, summed_encoding}
 use Rattle.ltx_codec.specs.Sums.{sum_of_writes}
 use Rattle.ltx_codec.specs.declared.file.Ltx.{Ltx}
 use Rattle.ltx_codec.specs.declared.header.Header.{Header}
@@ -154,32 +154,32 @@ file_decided file =
     (λ f. (f.header, (f.block, f.post)))
     (both (header_decided file.header) (both (block_decided file.header file.change) (sum_decided file.header file.change file.post)))
 
--- the reserved bytes of a text stand behind its first 80
+-- the reserved bytes of an encoding stand behind its first 80
 abbrev reserved_in : List ℕ → List ℕ
 reserved_in bytes = drop 80 (take 100 bytes)
 
 reserved_is : (bytes : List ℕ) (file : Ltx) (is : IsLtx bytes file) → is.reserved ≡ reserved_in bytes
 reserved_is bytes file is =
-    let head : List ℕ = header_text file.header is.reserved in
-    let pages : List ℕ = pages_text file.change.pages in
-    let zero_text : List ℕ = to_be_bytes w32 0 in
+    let head : List ℕ = header_encoding file.header is.reserved in
+    let pages : List ℕ = pages_encoding file.change.pages in
+    let zero_encoding : List ℕ = to_be_bytes w32 0 in
     let post : List ℕ = to_be_bytes w64 file.post in
-    let seal : List ℕ = to_be_bytes w64 (file_sum (summed_text file is.reserved)) in
-    let tail : List ℕ = pages ++ (zero_text ++ (post ++ seal)) in
+    let seal : List ℕ = to_be_bytes w64 (file_sum (summed_encoding file is.reserved)) in
+    let tail : List ℕ = pages ++ (zero_encoding ++ (post ++ seal)) in
     let hundred : length head ≡ 100 = header_length file.header is.reserved is.room in
-    let joined : file_text file is.reserved ≡ head ++ tail =
-    append_assoc (head ++ pages ++ zero_text) post seal ∙ append_assoc (head ++ pages) zero_text (post ++ seal) ∙ append_assoc head pages (zero_text ++ (post ++ seal)) in
-    let whole : bytes ≡ head ++ tail = is.text ∙ joined in
+    let joined : file_encoding file is.reserved ≡ head ++ tail =
+    append_assoc (head ++ pages ++ zero_encoding) post seal ∙ append_assoc (head ++ pages) zero_encoding (post ++ seal) ∙ append_assoc head pages (zero_encoding ++ (post ++ seal)) in
+    let whole : bytes ≡ head ++ tail = is.encoding ∙ joined in
     let front : head ≡ take 100 bytes = sym (ap (λ (l : List ℕ). take 100 l) whole ∙ ap (λ (n : ℕ). take n (head ++ tail)) (sym hundred) ∙ take-append_seam head tail) in
     ap (λ (l : List ℕ). drop 80 l) front
 
-pub text_decided : (bytes : List ℕ) (file : Ltx) → Decided (IsLtx bytes file)
-text_decided bytes file =
+pub encoding_decided : (bytes : List ℕ) (file : Ltx) → Decided (IsLtx bytes file)
+encoding_decided bytes file =
     again
-    (λ p. record { valid = p.0; reserved = reserved_in bytes; room = p.1.0; text = p.1.1 })
-    (λ is. (is.valid, (ap length (sym (reserved_is bytes file is)) ∙ is.room, is.text ∙ ap (file_text file) (reserved_is bytes file is))))
-    (both (file_decided file) (both (equal (length (reserved_in bytes)) 20) (same_bytes bytes (file_text file (reserved_in bytes)))))
+    (λ p. record { valid = p.0; reserved = reserved_in bytes; room = p.1.0; encoding = p.1.1 })
+    (λ is. (is.valid, (ap length (sym (reserved_is bytes file is)) ∙ is.room, is.encoding ∙ ap (file_encoding file) (reserved_is bytes file is))))
+    (both (file_decided file) (both (equal (length (reserved_in bytes)) 20) (same_bytes bytes (file_encoding file (reserved_in bytes)))))
 
--- whether the bytes are a text of the file that is read in them, which is the only one that they can be a text of
-unfoldable pub is_text : (bytes : List ℕ) → Decided (IsLtx bytes (file_in bytes))
-is_text bytes = text_decided bytes (file_in bytes)
+-- whether the bytes are an encoding of the file that is read in them, which is the only one that they can be an encoding of
+unfoldable pub is_encoding : (bytes : List ℕ) → Decided (IsLtx bytes (file_in bytes))
+is_encoding bytes = encoding_decided bytes (file_in bytes)

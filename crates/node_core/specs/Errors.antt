@@ -1,10 +1,10 @@
--- The error number of each fault (errno(3)), and the refusal of a fault of the store or of a text.
+-- The error number of each fault (errno(3)), and the refusal of a fault of the store or of an encoding.
 use Rattle.lf_base.specs.declared.errno.Errno.{Errno}
 use Rattle.file_view.specs.declared.fault.ViewFault.{ViewFault}
 use Rattle.file_view.specs.declared.fault.ViewFault.TheVariants as view
 use Rattle.file_view.specs.Errno.{EFBIG, EIO}
 use Rattle.ltx_codec.specs.declared.fault.LtxFault.{LtxFault}
-use Rattle.ltx_codec.specs.declared.fault.LtxFault.TheVariants as text
+use Rattle.ltx_codec.specs.declared.fault.LtxFault.TheVariants as encoding
 use Rattle.txn_log.specs.declared.fault.StoreFault.{StoreFault}
 use Rattle.txn_log.specs.declared.fault.StoreFault.TheVariants as store
 use Rattle.node_core.specs.declared.refusal.Refusal.{Refusal}
@@ -25,9 +25,9 @@ refusal_of (store.SumDiffers want got) = refusals.Store (store.SumDiffers want g
 refusal_of (store.PageSize have want) = refusals.Store (store.PageSize have want)
 
 -- the refusal of bytes that are no file, by their fault
-abbrev pub refusal_of_text : LtxFault → Refusal
-refusal_of_text text.NoMemory = refusals.NoMemory
-refusal_of_text why = refusals.Ltx why
+abbrev pub refusal_of_encoding : LtxFault → Refusal
+refusal_of_encoding encoding.NoMemory = refusals.NoMemory
+refusal_of_encoding why = refusals.Ltx why
 
 -- of a fault of the store: where the database grows past its limit, the file is too large; the last three don't come
 abbrev pub errno_of_store : StoreFault → Errno

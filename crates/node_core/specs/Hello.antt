@@ -3,12 +3,12 @@ use Rattle.std.specs.Prelude.{◌≡◌, ◌⊎◌, ℕ, ◌≤◌, true, false,
 use Rattle.lf_base.specs.Faults.{Rose}
 use Rattle.lf_base.specs.declared.pos.Pos.{Pos}
 use Rattle.lf_disk.specs.History.{History}
-use Rattle.ltx_codec.specs.Format.{file_text, no_meaning}
+use Rattle.ltx_codec.specs.Format.{file_encoding, no_meaning}
 use Rattle.txn_log.specs.declared.answer.Answer.TheVariants as owed
 use Rattle.txn_log.specs.declared.entry.Entry.{Entry}
 use Rattle.txn_log.specs.declared.fault.StoreFault.TheVariants as fault
 use Rattle.txn_log.specs.Answering.{Answers, IsGone, IsLevel}
-use Rattle.txn_log.specs.Giving.{IsTextAt}
+use Rattle.txn_log.specs.Giving.{IsEncodingAt}
 use Rattle.world_laws.specs.Answers.{snapshot_of}
 use Rattle.node_core.specs.declared.answer.Answer.{Answer}
 use Rattle.node_core.specs.declared.answer.Answer.TheVariants as answers
@@ -29,14 +29,14 @@ pub record IsFirstFile (start : History) (store : StoreFields) (from : Pos) (ltx
   pub first : ℕ
   pub owed : Answers store.entries store.dropped from (owed.Files first)
   pub leads : (d : Entry) → to ≡ (get_or store.entries first d).post
-  pub text : IsTrue store.honest → IsTextAt (state start store).log first ltx
+  pub encoding : IsTrue store.honest → IsEncodingAt (state start store).log first ltx
 
 -- the snapshot of a database that was written, where the log does not know the position
 pub record IsWholeDatabase (start : History) (store : StoreFields) (from : Pos) (ltx : List ℕ) (to : Pos) : Type 0 where
   pub owed : Answers store.entries store.dropped from owed.Snapshot
   pub written : 1 ≤ (position store).txid
   pub leads : to ≡ position store
-  pub text : IsTrue store.honest → ltx ≡ file_text (snapshot_of (state start store)) no_meaning
+  pub encoding : IsTrue store.honest → ltx ≡ file_encoding (snapshot_of (state start store)) no_meaning
 
 -- a file is owed: the database was not dropped, and the follower is not level
 abbrev pub OwesFile : StoreFields → Pos → Type 0

@@ -11,7 +11,7 @@ use Rattle.lf_sqlite_pages.specs.Image.{DatabaseImage}
 use Rattle.database_file.specs.DatabaseFile.{DatabaseFile, as_read, count_over, size_of}
 use Rattle.wal_watch.specs.Frames.{committed_count}
 use Rattle.wal_watch.specs.News.{change_of}
-use Rattle.file_view.specs.Served.{Served, log_text}
+use Rattle.file_view.specs.Served.{Served, log_contents}
 use Rattle.txn_log.specs.declared.store.Store.{Store}
 use Rattle.world_laws.specs.Node.{NodeState}
 use Rattle.world_laws.specs.Served as laws
@@ -41,7 +41,7 @@ module _ {D : Type 0} {G : Ghosts D} where
 
 -- the newest committed frame of each page of a log, and the size of its last commit; none where nothing is committed
 abbrev pub frames_of : List ℕ → Option PageChange
-frames_of text = if committed_count text == 0 then None else Some (change_of text 0 (committed_count text))
+frames_of contents = if committed_count contents == 0 then None else Some (change_of contents 0 (committed_count contents))
 
 -- the database file as it reads over the committed image. Without pages its page size is the image's
 abbrev pub file_over : DatabaseFile → DatabaseImage → DatabaseImage
@@ -62,7 +62,7 @@ writer_in file image owner = record { owner = owner; pages = written_by file ima
 abbrev pub served_over : Served → DatabaseImage → laws.Served
 served_over s image = record {
   file = file_over s.database image;
-  frames = frames_of (log_text s);
+  frames = frames_of (log_contents s);
   locks = s.locks;
   writer = option_map (writer_in s.database image) s.writer;
 }

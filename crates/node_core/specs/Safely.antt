@@ -15,18 +15,18 @@ use Rattle.node_core.specs.declared.answer.Answer.{Answer}
 use Rattle.node_core.specs.declared.answer.Answer.TheVariants as answers
 use Rattle.node_core.specs.declared.ask.Ask.{Ask}
 use Rattle.node_core.specs.declared.ask.Ask.TheVariants as asks
-use Rattle.node_core.specs.Deciding.{Decided, is_text}
+use Rattle.node_core.specs.Deciding.{Decided, is_encoding}
 use Rattle.node_core.specs.Pruning.{kept_of}
 use Rattle.node_core.specs.declared.refusal.Refusal.{Refusal}
 use Rattle.node_core.specs.declared.refusal.Refusal.TheVariants as refusals
 
--- a frame is the file whose text its bytes are, or none
+-- a frame is the file whose encoding its bytes are, or none
 abbrev pub law_frame_by : (bytes : List ℕ) → Decided (IsLtx bytes (file_in bytes)) → laws.Ask
 law_frame_by bytes (inl is) = laws.Frame (file_in bytes)
 law_frame_by bytes (inr none) = laws.NoFile
 
 abbrev pub law_frame : List ℕ → laws.Ask
-law_frame bytes = law_frame_by bytes (is_text bytes)
+law_frame bytes = law_frame_by bytes (is_encoding bytes)
 
 abbrev pub law_ask : Ask → laws.Ask
 law_ask (asks.File now request) = laws.File

@@ -16,10 +16,10 @@ use crate::answer::Answer;
 use crate::ask::Ask;
 use crate::node::Node;
 use crate::octets::are_bytes;
-use crate::refusal::{Refusal, refusal_of, refusal_of_text};
+use crate::refusal::{Refusal, refusal_of, refusal_of_contents};
 use lf_base::{Bytes, Pos};
 use lf_disk::Disk;
-use ltx_codec::{Ltx, decode, file_is_read, text_breaks_no_rule};
+use ltx_codec::{Ltx, decode, encoding_breaks_no_rule, file_is_read};
 use snapshot::install;
 use txn_log::{Store, StoreFault};
 
@@ -88,11 +88,11 @@ impl<D: Disk> Node<D> {
             return Answer::Refused(Refusal::NotReplica);
         }
         file_is_read();
-        text_breaks_no_rule();
+        encoding_breaks_no_rule();
         are_bytes(bytes.as_slice());
         match decode(self.alloc, bytes.as_slice()) {
             Ok(file) => self.answer_ltx(&file),
-            Err(fault) => Answer::Refused(refusal_of_text(fault)),
+            Err(fault) => Answer::Refused(refusal_of_contents(fault)),
         }
     }
 

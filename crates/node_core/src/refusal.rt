@@ -1,5 +1,5 @@
 ghost use Rattle.std.specs.Prelude.{◌≡◌};
-ghost use Rattle.node_core.specs.Errors.{refusal_of, refusal_of_text};
+ghost use Rattle.node_core.specs.Errors.{refusal_of, refusal_of_contents};
 
 use ltx_codec::LtxFault;
 use txn_log::StoreFault;
@@ -31,8 +31,8 @@ pub(crate) fn refusal_of(fault: StoreFault) -> Refusal
 }
 
 /// The refusal of bytes that are no file.
-pub(crate) fn refusal_of_text(fault: LtxFault) -> Refusal
-    ensures { result ≡ refusal_of_text fault }
+pub(crate) fn refusal_of_contents(fault: LtxFault) -> Refusal
+    ensures { result ≡ refusal_of_contents fault }
 {
     match fault {
         LtxFault::NoMemory => Refusal::NoMemory,

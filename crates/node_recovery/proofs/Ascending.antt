@@ -9,10 +9,10 @@ use Rattle.lf_disk.specs.Folder.{Folder}
 use Rattle.ltx_codec.specs.Format.{IsLtx}
 use Rattle.world_laws.specs.Store.{StoreState}
 use Rattle.txn_log.specs.declared.entry.Entry.{Entry}
-use Rattle.txn_log.specs.Kept.{LogFile, file_of, text_of, Ascends}
-use Rattle.txn_log.specs.Durable.{IsText, IsLog, StandsByLog}
+use Rattle.txn_log.specs.Kept.{LogFile, file_of, encoding_of, Ascends}
+use Rattle.txn_log.specs.Durable.{IsEncoding, IsLog, StandsByLog}
 use Rattle.txn_log.specs.Store.{files_in}
-use Rattle.txn_log.proofs.Stores.{text_from}
+use Rattle.txn_log.proofs.Stores.{encoding_from}
 use Rattle.node_recovery.specs.Listing.{Has, place_of, same_numbers, AreInOrder, AreOnce, AreListed}
 use Rattle.node_recovery.proofs.Listings.{Found, found}
 
@@ -21,15 +21,15 @@ abbrev IsIn : List LogFile → ℕ → ℕ → Type 0
 IsIn [] a b = ⊥
 IsIn (g ∷ gs) a b = ((g.min ≡ a) × (g.max ≡ b)) ⊎ IsIn gs a b
 
-is_in : (known : Option (List ℕ)) (files : List LogFile) (a b : ℕ) → IsSome (text_from known files a b) → IsSome known ⊎ IsIn files a b
+is_in : (known : Option (List ℕ)) (files : List LogFile) (a b : ℕ) → IsSome (encoding_from known files a b) → IsSome known ⊎ IsIn files a b
 is_in known [] a b some = inl some
-is_in known (g ∷ gs) a b some = elim (is_in (cond (a == g.min && b == g.max) (Some g.text) known) gs a b some) [
+is_in known (g ∷ gs) a b some = elim (is_in (cond (a == g.min && b == g.max) (Some g.encoding) known) gs a b some) [
   | inr later ↦ inr (inr later)
   | inl here ↦ elim (cases_Bool (a == g.min && b == g.max)) [
     | inl is ↦
         let both = and_parts (a == g.min) (b == g.max) is in
         inr (inl (sym (eqb-true a g.min both.0), sym (eqb-true b g.max both.1)))
-    | inr isnt ↦ inl (subst (λ (x : Bool). IsSome (cond x (Some g.text) known)) isnt here)
+    | inr isnt ↦ inl (subst (λ (x : Bool). IsSome (cond x (Some g.encoding) known)) isnt here)
   ]
 ]
 
@@ -53,8 +53,8 @@ narrow [] a b all is = absurd is
 narrow (g ∷ gs) a b all (inl is) = let here : g.max < 2 ^ 64 = all 0 g (omega arith) in omega (arith, is.1, here)
 narrow (g ∷ gs) a b all (inr later) = narrow gs a b (λ k x within. all (suc k) x (omega (arith, within))) later
 
-width : (text : List ℕ) → IsText text → (file_of text).header.max < 2 ^ 64
-width text is = ∥∥₁_elim is (hlevel props) (λ (it : IsLtx text (file_of text)). it.valid.header.widths.max)
+width : (encoding : List ℕ) → IsEncoding encoding → (file_of encoding).header.max < 2 ^ 64
+width encoding is = ∥∥₁_elim is (hlevel props) (λ (it : IsLtx encoding (file_of encoding)). it.valid.header.widths.max)
 
 module _ (files : List LogFile) (sound : IsLog files) (f : Folder) where
   -- what is listed behind an entry stands after it
@@ -72,7 +72,7 @@ module _ (files : List LogFile) (sound : IsLog files) (f : Folder) where
         | inr other ↦ elim other [
           | inl after ↦ after
           | inr before ↦
-              let short : b < 2 ^ 64 = narrow files a b (λ n y within. subst (λ (m : ℕ). m < 2 ^ 64) (sound.max n y within) (width (get_or files n y).text (sound.texts n y within))) two in
+              let short : b < 2 ^ 64 = narrow files a b (λ n y within. subst (λ (m : ℕ). m < 2 ^ 64) (sound.max n y within) (width (get_or files n y).encoding (sound.encodings n y within))) two in
               let order_of : a ≤ b = (bounds 0 files a b sound.ascends two).1 in
               absurd (omega (arith, placed, at.min_is, at.max_is, before, order_of, short))
         ]
@@ -93,7 +93,7 @@ pub ascends_listed : (names : List Entry) (f : Folder) (store : StoreState) → 
 ascends_listed names f store listed by =
     ascends_in by.files by.sound f 0 names
     (λ a b has.
-    let some : IsSome (text_of by.files a b) = subst (λ (o : Option (List ℕ)). IsSome o) (by.kept.log a b) (listed.there a b has) in
+    let some : IsSome (encoding_of by.files a b) = subst (λ (o : Option (List ℕ)). IsSome o) (by.kept.log a b) (listed.there a b has) in
     elim (is_in None by.files a b some) [
       | inl none ↦ absurd (false≢true none)
       | inr there ↦ (there, (bounds 0 by.files a b by.sound.ascends there).0)

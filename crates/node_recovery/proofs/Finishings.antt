@@ -17,7 +17,7 @@ use Rattle.world_laws.specs.Store.{StoreState}
 use Rattle.txn_log.specs.declared.entry.Entry.{Entry}
 use Rattle.txn_log.specs.Pages.{page_in, in_place, patched}
 use Rattle.txn_log.specs.Rewriting.{IsWorn, IsRewritten}
-use Rattle.txn_log.specs.Kept.{LogFile, file_of, change_of, last_of, text_of, Decides, IsDecided, Kept, Shows, IsAtRest, IsBySnapshot, IsByMark, Ascends}
+use Rattle.txn_log.specs.Kept.{LogFile, file_of, change_of, last_of, encoding_of, Decides, IsDecided, Kept, Shows, IsAtRest, IsBySnapshot, IsByMark, Ascends}
 use Rattle.txn_log.specs.Durable.{Durable, StandsByLog, StandsBySnapshot, StandsByMark}
 use Rattle.txn_log.specs.Settling.{IsUnsettled, IsInstalled}
 use Rattle.txn_log.specs.Store.{files_in}
@@ -28,7 +28,7 @@ use Rattle.node_recovery.specs.declared.outline.Outline.{Outline}
 use Rattle.node_recovery.specs.declared.tally.Tally.{Tally}
 use Rattle.node_recovery.specs.Finding.{FindsSnapshot, FindsMark, FindsLog, FindsNothing}
 use Rattle.node_recovery.specs.Listing.{AreListed}
-use Rattle.node_recovery.specs.Outline.{text_under}
+use Rattle.node_recovery.specs.Outline.{encoding_under}
 use Rattle.node_recovery.specs.Rewriting.{HoldsFile}
 use Rattle.node_recovery.specs.Summing.{restored, restored_image, padded}
 use Rattle.node_recovery.proofs.Lasts.{LastIs, last_named}
@@ -50,7 +50,7 @@ bytes_are (Some x) some = refl
 -- where neither a snapshot nor a mark stands, the log decides
 pub by_log : (f : Folder) (store : StoreState) → f Snapshot ≡ None → f Dropped ≡ None → Durable f store → StandsByLog f store
 by_log f store no_snapshot no_mark (inl by) = by
-by_log f store no_snapshot no_mark (inr (inl by)) = clash (f Snapshot) no_snapshot (some_of (f Snapshot) by.text by.by.stands)
+by_log f store no_snapshot no_mark (inr (inl by)) = clash (f Snapshot) no_snapshot (some_of (f Snapshot) by.encoding by.by.stands)
 by_log f store no_snapshot no_mark (inr (inr by)) = clash (f Dropped) no_mark by.by.stands
 
 pub by_snapshot : (f : Folder) (store : StoreState) → IsSome (f Snapshot) → Durable f store → StandsBySnapshot f store
@@ -64,7 +64,7 @@ by_mark f store no_snapshot there (inl by) = absurd (false≢true (sym by.kept.m
     marked : (o : Option (List ℕ)) → IsSome o → is_some o ≡ true
     marked None some = some
     marked (Some x) some = refl
-by_mark f store no_snapshot there (inr (inl by)) = clash (f Snapshot) no_snapshot (some_of (f Snapshot) by.text by.by.stands)
+by_mark f store no_snapshot there (inr (inl by)) = clash (f Snapshot) no_snapshot (some_of (f Snapshot) by.encoding by.by.stands)
 by_mark f store no_snapshot there (inr (inr by)) = by
 
 -- the log of the store is that of the names
@@ -77,13 +77,13 @@ module _ (names : List Entry) (f : Folder) (listed : AreListed names f) (ascends
   same_store c kept = inl (record { files = by.files; kept = kept; log = by.log; sound = by.sound; sum = by.sum; unmarked = by.unmarked })
 
 -- the change of the last file is written again
-module _ (image : DatabaseImage) (files : List LogFile) (named : LogFile) (change : PageChange) (last : last_of files ≡ Some named) (tells : change_of named.text ≡ change) where
+module _ (image : DatabaseImage) (files : List LogFile) (named : LogFile) (change : PageChange) (last : last_of files ≡ Some named) (tells : change_of named.encoding ≡ change) where
   decided_by : (made : DatabaseImage) (bytes : List ℕ) → Decides change made bytes → IsDecided (last_of files) made bytes
   decided_by made bytes is = record {
     none = λ none. let no : None ≡ Some named = sym none ∙ last in absurd (cc);
     some = λ other some.
         let same : named ≡ other = same_Some named other (sym last ∙ some) in
-        subst (λ (x : PageChange). Decides x made bytes) (sym tells ∙ ap (λ (g : LogFile). change_of g.text) same) is;
+        subst (λ (x : PageChange). Decides x made bytes) (sym tells ∙ ap (λ (g : LogFile). change_of g.encoding) same) is;
   }
 
   pub still : (f c : Folder) → Kept image files false f → IsWorn change f c → Kept image files false c
@@ -157,33 +157,33 @@ decides_whole change bytes valid whole = record {
 
 -- a snapshot decides
 module _ (names : List Entry) (f : Folder) (outline : Outline) (entries : List Entry) (tally : Tally) (listed : AreListed names f) (finds : FindsSnapshot f outline entries tally) where
-  abbrev pub text : List ℕ
-  text = bytes_of (f Snapshot)
+  abbrev pub encoding : List ℕ
+  encoding = bytes_of (f Snapshot)
 
   abbrev file : LtxFile
   file = file_of (bytes_of (f Snapshot))
 
   abbrev pub log_file : LogFile
-  log_file = record { min = outline.header.min; max = outline.header.max; text = bytes_of (f Snapshot) }
+  log_file = record { min = outline.header.min; max = outline.header.max; encoding = bytes_of (f Snapshot) }
 
   pub snapshot_held : HoldsFile Snapshot outline.header file f
   snapshot_held = record { octets = finds.read.octets; is = finds.read.is; header_is = ap (λ (o : Outline). o.header) finds.read.tells }
 
-  unsettled : (image : DatabaseImage) → IsBySnapshot image text f → IsUnsettled image text names file.change f
+  unsettled : (image : DatabaseImage) → IsBySnapshot image encoding f → IsUnsettled image encoding names file.change f
   unsettled image by = record { by = by; tells = refl; others = no_others_listed names f listed }
 
-  pub text_is : (store : StoreState) (by : StandsBySnapshot f store) → by.text ≡ text
-  text_is store by = same_Some by.text text (sym by.by.stands ∙ bytes_are (f Snapshot) finds.there)
+  pub encoding_is : (store : StoreState) (by : StandsBySnapshot f store) → by.encoding ≡ encoding
+  encoding_is store by = same_Some by.encoding encoding (sym by.by.stands ∙ bytes_are (f Snapshot) finds.there)
 
-  pub unsettled_store : (store : StoreState) → Durable f store → IsUnsettled store.image text names file.change f
+  pub unsettled_store : (store : StoreState) → Durable f store → IsUnsettled store.image encoding names file.change f
   unsettled_store store durable =
       let by = by_snapshot f store finds.there durable in
-      unsettled store.image (subst (λ (t : List ℕ). IsBySnapshot store.image t f) (text_is store by) by.by)
+      unsettled store.image (subst (λ (t : List ℕ). IsBySnapshot store.image t f) (encoding_is store by) by.by)
 
   pub installed_store : (store : StoreState) → Durable f store → (c : Folder) → IsInstalled store.image log_file c → Durable c store
   installed_store store durable c installed =
       let by = by_snapshot f store finds.there durable in
-      let same = text_is store by in
+      let same = encoding_is store by in
       durable_installed f c store by log_file (sym same)
       (ap (λ (t : List ℕ). (file_of t).header.min) same ∙ sym (ap (λ (o : Outline). o.header.min) finds.read.tells))
       (ap (λ (t : List ℕ). (file_of t).header.max) same ∙ sym (ap (λ (o : Outline). o.header.max) finds.read.tells)) installed
@@ -191,7 +191,7 @@ module _ (names : List Entry) (f : Folder) (outline : Outline) (entries : List E
   first : file.header.min ≡ 1
   first = sym (ap (λ (o : Outline). o.header.min) finds.read.tells) ∙ finds.first
 
-  pub unsettled_left : IsUnsettled (restored_image file.change (bytes_of (f Database))) text names file.change f
+  pub unsettled_left : IsUnsettled (restored_image file.change (bytes_of (f Database))) encoding names file.change f
   unsettled_left =
       unsettled (restored_image file.change (bytes_of (f Database)))
       record {
@@ -209,19 +209,19 @@ module _ (f : Folder) (entries : List Entry) (tally : Tally) (finds : FindsMark 
 
 -- the last file of the log decides
 module _ (names : List Entry) (f : Folder) (outline : Outline) (entries : List Entry) (tally : Tally) (listed : AreListed names f) (finds : FindsLog f outline names entries tally) where
-  abbrev last_text : List ℕ
-  last_text = text_under outline f
+  abbrev last_encoding : List ℕ
+  last_encoding = encoding_under outline f
 
   abbrev its : PageChange
-  its = change_of (text_under outline f)
+  its = change_of (encoding_under outline f)
 
-  pub last_held : HoldsFile (Ltx outline.header.min outline.header.max) outline.header (file_of (text_under outline f)) f
+  pub last_held : HoldsFile (Ltx outline.header.min outline.header.max) outline.header (file_of (encoding_under outline f)) f
   last_held = record { octets = finds.read.octets; is = finds.read.is; header_is = ap (λ (o : Outline). o.header) finds.read.tells }
 
-  pub last : LastIs (files_in names f) (file_of (text_under outline f))
-  last = last_named (files_in names f) (file_of (text_under outline f)) finds.last_is
+  pub last : LastIs (files_in names f) (file_of (encoding_under outline f))
+  last = last_named (files_in names f) (file_of (encoding_under outline f)) finds.last_is
 
-  pub tells_last : change_of last.named.text ≡ change_of (text_under outline f)
+  pub tells_last : change_of last.named.encoding ≡ change_of (encoding_under outline f)
   tells_last = ap (λ (g : LtxFile). g.change) last.tells
 
   pub worn_store : (store : StoreState) → Durable f store → (c : Folder) → IsWorn its f c → Durable c store
@@ -273,7 +273,7 @@ module _ (names : List Entry) (f : Folder) (entries : List Entry) (tally : Tally
   pub rest_nothing : (change : PageChange) (new : History) → change.commit ≡ 0 → IsRewritten change f new → IsAtRest empty_image [] false new
   rest_nothing change new none done = record {
     kept = record {
-      log = λ a b. done.others (Ltx a b) refl ∙ log_listed names f listed a b ∙ ap (λ (fs : List LogFile). text_of fs a b) no_files;
+      log = λ a b. done.others (Ltx a b) refl ∙ log_listed names f listed a b ∙ ap (λ (fs : List LogFile). encoding_of fs a b) no_files;
       no_snapshot = done.others Snapshot refl ∙ finds.no_snapshot;
       mark = ap is_some (done.others Dropped refl ∙ finds.no_mark);
       decided = record { none = λ _. refl; some = λ g some. let no : None ≡ Some g = some in absurd (cc) };

@@ -14,7 +14,7 @@ use Rattle.ltx_codec.specs.declared.file.Ltx.{Ltx}
 use Rattle.world_laws.specs.Store.{end_of}
 use Rattle.txn_log.specs.declared.entry.Entry.{Entry}
 use Rattle.txn_log.specs.Kept.{LogFile, file_of, change_of}
-use Rattle.txn_log.specs.Durable.{IsText, log_of}
+use Rattle.txn_log.specs.Durable.{IsEncoding, log_of}
 use Rattle.txn_log.specs.Store.{files_in, AreEntries}
 use Rattle.txn_log.proofs.Commits.{Follows, entries-more}
 use Rattle.txn_log.proofs.Entries.{end-push}
@@ -27,7 +27,7 @@ use Rattle.node_recovery.specs.declared.outline.Outline.{Outline}
 use Rattle.node_recovery.specs.Damage.{IsNext, last_file, position_behind, IsRefusedBehind}
 use Rattle.node_recovery.specs.Finding.{AreEnded}
 use Rattle.node_recovery.specs.Outcome.{Blames, TellsLast, JudgesLog}
-use Rattle.node_recovery.specs.Outline.{position_after, entry_of, text_under, IsOutlineIn}
+use Rattle.node_recovery.specs.Outline.{position_after, entry_of, encoding_under, IsOutlineIn}
 use Rattle.node_recovery.specs.Summing.{IsTallied}
 
 -- calls that change nothing, one after another
@@ -46,9 +46,9 @@ behind_read last = option_map (λ read. position_after read.outline) last
 
 -- of the first files this was read last
 pub record IsReadAt (names : List Entry) (f : Folder) (i : ℕ) (last : FileSummary) : Type 0 where
-  pub read : IsOutlineIn (text_under last.outline f) last.outline
-  pub last_is : Some (file_of (text_under last.outline f)) ≡ last_file (take i (files_in names f))
-  pub tallied : i ≡ length names → IsTallied (change_of (text_under last.outline f)) last.tally
+  pub read : IsOutlineIn (encoding_under last.outline f) last.outline
+  pub last_is : Some (file_of (encoding_under last.outline f)) ≡ last_file (take i (files_in names f))
+  pub tallied : i ≡ length names → IsTallied (change_of (encoding_under last.outline f)) last.tally
 
 abbrev pub ReadAt : List Entry → Folder → ℕ → Option FileSummary → Type 0
 ReadAt names f i None = last_file (take i (files_in names f)) ≡ None
@@ -64,7 +64,7 @@ begins names f entries none = record {
   are = record {
     log = record {
       ascends = tt;
-      texts = λ k d within. absurd (omega (arith, within));
+      encodings = λ k d within. absurd (omega (arith, within));
       min = λ k d within. absurd (omega (arith, within));
       max = λ k d within. absurd (omega (arith, within));
       follow = λ k d within. absurd (omega (arith, within));
@@ -74,20 +74,20 @@ begins names f entries none = record {
   read = refl;
 }
 
-no_last : (found : Ltx) (files : List LogFile) → fold (λ (_ : Option Ltx) (g : LogFile). Some (file_of g.text)) (Some found) files ≡ None → ⊥
+no_last : (found : Ltx) (files : List LogFile) → fold (λ (_ : Option Ltx) (g : LogFile). Some (file_of g.encoding)) (Some found) files ≡ None → ⊥
 no_last found [] none = absurd (cc)
-no_last found (f ∷ fs) none = no_last (file_of f.text) fs none
+no_last found (f ∷ fs) none = no_last (file_of f.encoding) fs none
 
 -- without a last file there is none
 pub empty_log : (files : List LogFile) → last_file files ≡ None → files ≡ []
 empty_log [] none = refl
-empty_log (f ∷ fs) none = absurd (no_last (file_of f.text) fs none)
+empty_log (f ∷ fs) none = absurd (no_last (file_of f.encoding) fs none)
 
-ends_from : (position : Pos) (found : Option Ltx) (files : List LogFile) (last : Ltx) → ((g : Ltx) → found ≡ Some g → position ≡ after g) → fold (λ (_ : Option Ltx) (g : LogFile). Some (file_of g.text)) found files ≡ Some last
+ends_from : (position : Pos) (found : Option Ltx) (files : List LogFile) (last : Ltx) → ((g : Ltx) → found ≡ Some g → position ≡ after g) → fold (λ (_ : Option Ltx) (g : LogFile). Some (file_of g.encoding)) found files ≡ Some last
     → fold (λ (_ : Pos) (g : Ltx). after g) position (log_of files) ≡ after last
 ends_from position found [] last at some = at last some
 ends_from position found (f ∷ fs) last at some =
-    ends_from (after (file_of f.text)) (Some (file_of f.text)) fs last (λ g same. ap after (Rattle.std.proofs.lemmas.Option.same_Some (file_of f.text) g same)) some
+    ends_from (after (file_of f.encoding)) (Some (file_of f.encoding)) fs last (λ g same. ap after (Rattle.std.proofs.lemmas.Option.same_Some (file_of f.encoding) g same)) some
 
 -- the log ends behind its last file
 pub ends_at : (files : List LogFile) (last : Ltx) → last_file files ≡ Some last → end_of (log_of files) ≡ after last
@@ -107,8 +107,8 @@ module _ (names : List Entry) (f : Folder) (i : ℕ) (d : Entry) (entries : List
   abbrev name : Entry
   name = get_or names i d
 
-  abbrev text : List ℕ
-  text = bytes_of (f (LtxName name.min name.max))
+  abbrev encoding : List ℕ
+  encoding = bytes_of (f (LtxName name.min name.max))
 
   abbrev files : List LogFile
   files = take i (files_in names f)
@@ -123,24 +123,24 @@ module _ (names : List Entry) (f : Folder) (i : ℕ) (d : Entry) (entries : List
   position None none = sym (ap (λ (g : Option Ltx). option_map after g) none)
   position (Some read) is = ap (λ (o : Outline). Some (position_after o)) is.read.tells ∙ ap (λ (g : Option Ltx). option_map after g) is.last_is
 
-  module _ (read : FileSummary) (is : IsOutlineIn text read.outline) (next : IsNext name (behind_read last) (file_of text)) where
-    is_text : IsText text
-    is_text = ∣ is.is ∣₁
+  module _ (read : FileSummary) (is : IsOutlineIn encoding read.outline) (next : IsNext name (behind_read last) (file_of encoding)) where
+    is_encoding : IsEncoding encoding
+    is_encoding = ∣ is.is ∣₁
 
-    are_more : AreEntries (entries ++ Rattle.txn_log.specs.Store.entry_of (file_of text) ∷ []) (files ++ file_at f name ∷ [])
+    are_more : AreEntries (entries ++ Rattle.txn_log.specs.Store.entry_of (file_of encoding) ∷ []) (files ++ file_at f name ∷ [])
     are_more = elim (cases (last_file files)) [
       | inl none ↦
           let no_files : files ≡ [] = empty_log files none in
-          let no_entries : entries ≡ [] = sym so_far.are.same ∙ ap (λ (fs : List LogFile). map (λ (g : LogFile). Rattle.txn_log.specs.Store.entry_of (file_of g.text)) fs) no_files in
-          let one : AreEntries (Rattle.txn_log.specs.Store.entry_of (file_of text) ∷ []) (file_at f name ∷ []) = record { log = alone (file_at f name) is_text next.min next.max; same = refl } in
-          subst (λ (fs : List LogFile). AreEntries (entries ++ Rattle.txn_log.specs.Store.entry_of (file_of text) ∷ []) (fs ++ file_at f name ∷ [])) (sym no_files)
-          (subst (λ (es : List Entry). AreEntries (es ++ Rattle.txn_log.specs.Store.entry_of (file_of text) ∷ []) (file_at f name ∷ [])) (sym no_entries) one)
+          let no_entries : entries ≡ [] = sym so_far.are.same ∙ ap (λ (fs : List LogFile). map (λ (g : LogFile). Rattle.txn_log.specs.Store.entry_of (file_of g.encoding)) fs) no_files in
+          let one : AreEntries (Rattle.txn_log.specs.Store.entry_of (file_of encoding) ∷ []) (file_at f name ∷ []) = record { log = alone (file_at f name) is_encoding next.min next.max; same = refl } in
+          subst (λ (fs : List LogFile). AreEntries (entries ++ Rattle.txn_log.specs.Store.entry_of (file_of encoding) ∷ []) (fs ++ file_at f name ∷ [])) (sym no_files)
+          (subst (λ (es : List Entry). AreEntries (es ++ Rattle.txn_log.specs.Store.entry_of (file_of encoding) ∷ []) (file_at f name ∷ [])) (sym no_entries) one)
       | inr some ↦
           let behind : behind_read last ≡ Some (after some.0) = position last so_far.read ∙ ap (λ (g : Option Ltx). option_map after g) some.1 in
-          let joins : before (file_of text) ≡ after some.0 = next.follows (after some.0) behind in
+          let joins : before (file_of encoding) ≡ after some.0 = next.follows (after some.0) behind in
           let end : end_of (log_of files) ≡ after some.0 = ends_at files some.0 some.1 in
           let follows : Follows files (file_at f name) = record {
-            is = is_text;
+            is = is_encoding;
             min = next.min;
             max = next.max;
             order = omega (arith, next.min, next.max, is.is.valid.header.max);
@@ -155,29 +155,29 @@ module _ (names : List Entry) (f : Folder) (i : ℕ) (d : Entry) (entries : List
         cases (Some x) = inr (x, refl)
 
     -- it stands under the numbers of its outline
-    under : text_under read.outline f ≡ text
+    under : encoding_under read.outline f ≡ encoding
     under =
         let low : read.outline.header.min ≡ name.min = ap (λ (o : Outline). o.header.min) is.tells ∙ next.min in
         let high : read.outline.header.max ≡ name.max = ap (λ (o : Outline). o.header.max) is.tells ∙ next.max in
         λ j. bytes_of (f (LtxName (low j) (high j)))
 
-    pub judged : (i + 1 ≡ length names → IsTallied (change_of text) read.tally) → Judged names f (i + 1) (entries ++ entry_of read.outline ∷ []) (Some read)
+    pub judged : (i + 1 ≡ length names → IsTallied (change_of encoding) read.tally) → Judged names f (i + 1) (entries ++ entry_of read.outline ∷ []) (Some read)
     judged tallied = record {
       are =
           subst (λ (e : Entry). AreEntries (entries ++ e ∷ []) (take (i + 1) (files_in names f))) (sym (ap entry_of is.tells))
-          (subst (λ (fs : List LogFile). AreEntries (entries ++ Rattle.txn_log.specs.Store.entry_of (file_of text) ∷ []) fs) (sym splits) are_more);
+          (subst (λ (fs : List LogFile). AreEntries (entries ++ Rattle.txn_log.specs.Store.entry_of (file_of encoding) ∷ []) fs) (sym splits) are_more);
       read = record {
         read = subst (λ (t : List ℕ). IsOutlineIn t read.outline) (sym under) is;
         last_is =
             ap (λ (t : List ℕ). Some (file_of t)) under
-            ∙ sym (fold-append (λ (_ : Option Ltx) (g : LogFile). Some (file_of g.text)) None files (file_at f name ∷ []))
+            ∙ sym (fold-append (λ (_ : Option Ltx) (g : LogFile). Some (file_of g.encoding)) None files (file_at f name ∷ []))
             ∙ ap (λ (fs : List LogFile). last_file fs) (sym splits);
         tallied = λ all. subst (λ (t : List ℕ). IsTallied (change_of t) read.tally) (sym under) (tallied all);
       };
     }
 
   -- or it is the first that is refused
-  pub refused : (why : RecoverFault) → Blames (LtxName name.min name.max) (IsRefusedBehind name (behind_read last) text) why → JudgesLog names f (Err why)
+  pub refused : (why : RecoverFault) → Blames (LtxName name.min name.max) (IsRefusedBehind name (behind_read last) encoding) why → JudgesLog names f (Err why)
   refused fault.Disk blames = tt
   refused fault.NoMemory blames = tt
   refused (fault.Damaged blamed want got) blames = record {
@@ -186,7 +186,7 @@ module _ (names : List Entry) (f : Folder) (i : ℕ) (d : Entry) (entries : List
     before = so_far.are.log;
     name = λ e. blames.0 ∙ ap (λ (x : Entry). LtxName x.min x.max) (get_or_any names i d e within);
     why = λ e.
-        let all : IsRefusedBehind name (position_behind files) text want got = subst (λ (p : Option Pos). IsRefusedBehind name p text want got) (position last so_far.read) blames.1 in
+        let all : IsRefusedBehind name (position_behind files) encoding want got = subst (λ (p : Option Pos). IsRefusedBehind name p encoding want got) (position last so_far.read) blames.1 in
         subst (λ (x : Entry). IsRefusedBehind x (position_behind files) (bytes_of (f (LtxName x.min x.max))) want got) (get_or_any names i d e within) all;
   }
     where

@@ -28,9 +28,9 @@ use Rattle.node_recovery.specs.Agreeing.{IsTotal}
 use Rattle.node_recovery.specs.Finding.{FindsBy, AreEnded, IsShapedAs}
 use Rattle.node_recovery.specs.Finishing.{image_left, files_left, size_left, commit_left, is_marked}
 use Rattle.node_recovery.specs.Listing.{AreListed}
-use Rattle.node_recovery.specs.Outline.{text_under, IsOutlineIn}
+use Rattle.node_recovery.specs.Outline.{encoding_under, IsOutlineIn}
 use Rattle.node_recovery.specs.Summing.{restored, restored_image}
-use Rattle.node_recovery.proofs.Finishings.{by_log, by_snapshot, by_mark, one, last, tells_last, text_is, log_file}
+use Rattle.node_recovery.proofs.Finishings.{by_log, by_snapshot, by_mark, one, last, tells_last, encoding_is, log_file}
 use Rattle.node_recovery.proofs.Restored.{count}
 
 -- the fields fit together, over any disk
@@ -80,7 +80,7 @@ sized_left decider.Nothing entries sums is = sized_none
 -- entries that are those of files have their numbers
 module _ (entries : List Entry) (files : List LogFile) (are : AreEntries entries files) where
   abbrev made : LogFile → Entry
-  made g = entry_of (file_of g.text)
+  made g = entry_of (file_of g.encoding)
 
   pub long_entries : length entries ≡ length files
   long_entries = sym (ap length are.same) ∙ length-map files made
@@ -110,11 +110,11 @@ abbrev pub state_left : Decider → List Entry → Folder → StoreState
 state_left d names f = record { image = image_left d f; log = log_of (files_left d names f); dropped = is_marked d }
 
 -- a file's change has the size and the pages that its outline says
-module _ (text : List ℕ) (outline : Outline) (read : IsOutlineIn text outline) where
-  size_said : outline.header.page_size ≡ (change_of text).page_size
+module _ (encoding : List ℕ) (outline : Outline) (read : IsOutlineIn encoding outline) where
+  size_said : outline.header.page_size ≡ (change_of encoding).page_size
   size_said = ap (λ (o : Outline). o.header.page_size) read.tells ∙ sym read.is.valid.block.page_size
 
-  commit_said : outline.header.commit ≡ (change_of text).commit
+  commit_said : outline.header.commit ≡ (change_of encoding).commit
   commit_said = ap (λ (o : Outline). o.header.commit) read.tells ∙ sym read.is.valid.block.commit
 
 module _ (names : List Entry) (f : Folder) (entries : List Entry) (tally : Tally) (listed : AreListed names f) where
@@ -123,7 +123,7 @@ module _ (names : List Entry) (f : Folder) (entries : List Entry) (tally : Tally
       let are : AreEntries entries [] = record {
         log = record {
           ascends = tt;
-          texts = λ k d within. absurd (omega (arith, within));
+          encodings = λ k d within. absurd (omega (arith, within));
           min = λ k d within. absurd (omega (arith, within));
           max = λ k d within. absurd (omega (arith, within));
           follow = λ k d within. absurd (omega (arith, within));
@@ -135,25 +135,25 @@ module _ (names : List Entry) (f : Folder) (entries : List Entry) (tally : Tally
   -- the fields tell what is left
   tells_by : (d : Decider) → FindsBy f d names entries tally → Tells (image_left d f) (files_left d names f) (size_left d) (commit_left d) entries tally.sums.sums
   tells_by (decider.Snapshot outline) finds =
-      let text = bytes_of (f Snapshot) in
+      let encoding = bytes_of (f Snapshot) in
       let g : LogFile = log_file names f outline entries tally listed finds in
       let are : AreEntries entries (g ∷ []) = record {
         log = alone g ∣ finds.read.is ∣₁ (sym (ap (λ (o : Outline). o.header.min) finds.read.tells)) (sym (ap (λ (o : Outline). o.header.max) finds.read.tells));
         same = ap (λ (o : Outline). Rattle.node_recovery.specs.Outline.entry_of o ∷ []) (sym finds.read.tells) ∙ sym finds.entries_are;
       } in
       record {
-        size_is = size_said text outline finds.read;
-        commit_is = commit_said text outline finds.read ∙ sym (count (change_of text) (bytes_of (f Database)) finds.read.is.valid.block.pages);
+        size_is = size_said encoding outline finds.read;
+        commit_is = commit_said encoding outline finds.read ∙ sym (count (change_of encoding) (bytes_of (f Database)) finds.read.is.valid.block.pages);
         log = are;
         named = are_named entries (g ∷ []) are;
         count = long_entries entries (g ∷ []) are;
         table = finds.summed.table;
       }
   tells_by (decider.Last outline) finds =
-      let text = text_under outline f in
+      let encoding = encoding_under outline f in
       record {
-        size_is = size_said text outline finds.read;
-        commit_is = commit_said text outline finds.read ∙ sym (count (change_of text) (bytes_of (f Database)) finds.read.is.valid.block.pages);
+        size_is = size_said encoding outline finds.read;
+        commit_is = commit_said encoding outline finds.read ∙ sym (count (change_of encoding) (bytes_of (f Database)) finds.read.is.valid.block.pages);
         log = finds.entries_are;
         named = are_named entries (files_in names f) finds.entries_are;
         count = long_entries entries (files_in names f) finds.entries_are;
@@ -174,18 +174,18 @@ module _ (names : List Entry) (f : Folder) (entries : List Entry) (tally : Tally
   store_by (decider.Snapshot outline) finds store durable =
       let by = by_snapshot f store finds.there durable in
       let change = change_of (bytes_of (f Snapshot)) in
-      let same = text_is names f outline entries tally listed finds store by in
+      let same = encoding_is names f outline entries tally listed finds store by in
       let image : restored_image change (bytes_of (f Database)) ≡ store.image =
       decided_image change store.image (bytes_of (f Database)) finds.read.is.valid.block.pages (subst (λ (t : List ℕ). Decides (change_of t) store.image (bytes_of (f Database))) same by.by.decides) in
       let log : file_of (bytes_of (f Snapshot)) ∷ [] ≡ store.log = ap (λ (t : List ℕ). file_of t ∷ []) (sym same) ∙ sym by.log in
       λ i. record { image = image i; log = log i; dropped = sym by.unmarked i }
   store_by (decider.Last outline) finds store durable =
       let by = by_log f store finds.no_snapshot finds.no_mark durable in
-      let change = change_of (text_under outline f) in
+      let change = change_of (encoding_under outline f) in
       let same : files_in names f ≡ by.files = one names f listed finds.entries_are.log.ascends store by in
       let its = last names f outline entries tally listed finds in
       let named : last_of by.files ≡ Some its.named = ap last_of (sym same) ∙ its.last_is in
-      let tells : change_of its.named.text ≡ change = tells_last names f outline entries tally listed finds in
+      let tells : change_of its.named.encoding ≡ change = tells_last names f outline entries tally listed finds in
       let image : restored_image change (bytes_of (f Database)) ≡ store.image =
       decided_image change store.image (bytes_of (f Database)) finds.read.is.valid.block.pages
       (subst (λ (x : PageChange). Decides x store.image (bytes_of (f Database))) tells (by.kept.decided.some its.named named)) in

@@ -17,7 +17,7 @@ use Rattle.txn_log.proofs.Settlings.{by_same}
 pub same_durable : (f c : Folder) (store : StoreState) → SameBut Staged f c → Durable f store → Durable c store
 same_durable f c store same (inl by) = inl (record { files = by.files; kept = kept_same store.image by.files false f c by.kept same; log = by.log; sound = by.sound; sum = by.sum; unmarked = by.unmarked })
 same_durable f c store same (inr (inl by)) =
-    inr (inl (record { text = by.text; by = by_same store.image by.text f c (same Snapshot refl) (same Database refl) by.by; log = by.log; is = by.is; first = by.first; sum = by.sum; unmarked = by.unmarked }))
+    inr (inl (record { encoding = by.encoding; by = by_same store.image by.encoding f c (same Snapshot refl) (same Database refl) by.by; log = by.log; is = by.is; first = by.first; sum = by.sum; unmarked = by.unmarked }))
 same_durable f c store same (inr (inr by)) =
     inr (inr (record {
       by = record { no_snapshot = same Snapshot refl ∙ by.by.no_snapshot; stands = subst (λ (o : Option (List ℕ)). Rattle.std.specs.Prelude.IsSome o) (sym (same Dropped refl)) by.by.stands };

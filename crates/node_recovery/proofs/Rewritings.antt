@@ -26,7 +26,7 @@ use Rattle.ltx_codec.specs.declared.header.Header.{Header}
 use Rattle.ltx_codec.proofs.AgreeLemmas.{Agree, longer, size_same, pages_same, writes_same}
 use Rattle.ltx_codec.proofs.FileLemmas.{file_is}
 use Rattle.ltx_codec.proofs.LawLemmas.{one_reading_lem}
-use Rattle.ltx_codec.proofs.SoundLemmas.{text_sound}
+use Rattle.ltx_codec.proofs.SoundLemmas.{encoding_sound}
 use Rattle.txn_log.proofs.Fittings.{crops_none, then_moved}
 use Rattle.txn_log.proofs.Rewritings.{Runs, fits}
 use Rattle.txn_log.specs.Pages.{Wears, Patches}
@@ -38,7 +38,7 @@ use Rattle.node_recovery.specs.declared.tally.Tally.{Tally}
 use Rattle.node_recovery.specs.Reading.{left_over, change_after, IsIn, IsFilled, Stands, HasCome, Comes, IsSound}
 use Rattle.node_recovery.specs.Rewriting.{HoldsFile}
 use Rattle.node_recovery.proofs.Judgings.{rests_none, same_now}
-use Rattle.node_recovery.proofs.Readings.{Reads, reads_on, reads_part, in_after, whole_text}
+use Rattle.node_recovery.proofs.Readings.{Reads, reads_on, reads_part, in_after, whole_encoding}
 use Rattle.node_recovery.proofs.Tallies.{last_within}
 
 -- calls that only read go on with a stretch
@@ -54,23 +54,23 @@ stretch_rests old mid new step path so_far rests =
     }
 
 -- the pages that came of a file are its first
-module _ (text rest bytes : List ℕ) (change : PageChange) (file : Ltx) (holds : HoldsWholePages text change) (splits : text ++ rest ≡ bytes) (octets : AreBytes bytes) (is : IsLtx bytes file) where
+module _ (encoding rest bytes : List ℕ) (change : PageChange) (file : Ltx) (holds : HoldsWholePages encoding change) (splits : encoding ++ rest ≡ bytes) (octets : AreBytes bytes) (is : IsLtx bytes file) where
   abbrev k : ℕ
   k = length change.pages
 
-  agree : Agree text bytes (length text)
-  agree = subst (λ (b : List ℕ). Agree text b (length text)) splits (longer text rest)
+  agree : Agree encoding bytes (length encoding)
+  agree = subst (λ (b : List ℕ). Agree encoding b (length encoding)) splits (longer encoding rest)
 
-  long : 12 ≤ length text
+  long : 12 ≤ length encoding
   long = omega (arith, holds.read.header.whole)
 
   same_writes : change.pages ≡ writes_in bytes k
-  same_writes = holds.read.holds.writes ∙ writes_same text bytes (length text) agree long k 0 k (omega arith) holds.read.there
+  same_writes = holds.read.holds.writes ∙ writes_same encoding bytes (length encoding) agree long k 0 k (omega arith) holds.read.there
 
   few : k ≤ length file.change.pages
   few = elim (cases_lt (length file.change.pages) k) [
     | inl more ↦
-        let pages : HasPages bytes k = pages_same text bytes (length text) agree long k holds.read.there holds.read.pages in
+        let pages : HasPages bytes k = pages_same encoding bytes (length encoding) agree long k holds.read.there holds.read.pages in
         absurd (pages (length file.change.pages) more (file_is bytes file is octets).block.ends)
     | inr fewer ↦ fewer
   ]
@@ -85,7 +85,7 @@ module _ (text rest bytes : List ℕ) (change : PageChange) (file : Ltx) (holds 
 
   pub one_size : change.page_size ≡ file.change.page_size
   one_size =
-      holds.read.holds.page_size ∙ size_same text bytes (length text) agree long ∙ ap (λ (h : Header). h.page_size) (file_is bytes file is octets).header ∙ sym is.valid.block.page_size
+      holds.read.holds.page_size ∙ size_same encoding bytes (length encoding) agree long ∙ ap (λ (h : Header). h.page_size) (file_is bytes file is octets).header ∙ sym is.valid.block.page_size
 
 -- of one page more the first pages are known too, and it is the next
 pub next_page : (pages all : List PageWrite) (w : PageWrite) → length (pages ++ w ∷ []) ≤ length all → pages ++ w ∷ [] ≡ take (length (pages ++ w ∷ [])) all
@@ -97,14 +97,14 @@ next_page pages all w room same =
       sym (get_or-append_seam pages w [] w) ∙ ap (λ (ws : List PageWrite). get_or ws (length pages) w) same ∙ get_or-take (length (pages ++ w ∷ [])) all (length pages) w (omega (arith, count)),
     )
 
--- where the text of a file came whole, its pages are the file's
+-- where the encoding of a file came whole, its pages are the file's
 whole_change : (r : PieceReader) (bytes : List ℕ) (change : PageChange) (file : Ltx) → AreBytes bytes → IsLtx bytes file → HasCome r bytes change → change ≡ file.change
 whole_change r bytes change file octets is come = by r.fault r.whole come.stands
   where
     no_fault : (f : LtxFault) → IsEarliest bytes f → change ≡ file.change
     no_fault f earliest =
         let same : bytes ++ [] ≡ bytes = append-nil bytes in
-        let broken = text_sound bytes [] file f earliest.place (subst (λ (t : List ℕ). AreBytes t) (sym same) octets) is (subst (λ (t : List ℕ). IsBroken t f earliest.place) (sym same) earliest.broken) in
+        let broken = encoding_sound bytes [] file f earliest.place (subst (λ (t : List ℕ). AreBytes t) (sym same) octets) is (subst (λ (t : List ℕ). IsBroken t f earliest.place) (sym same) earliest.broken) in
         let there : earliest.place ≤ last_place bytes fault.Tail = subst (λ (x : LtxFault). earliest.place ≤ last_place bytes x) broken.0 earliest.broken.there in
         absurd (omega (arith, there, broken.1))
 
@@ -134,7 +134,7 @@ module _ (honest : Bool) (name : FileName) (header : Header) (h : History) (apar
   pub opened : (one : History) (r : PieceReader) → Rests h one → ((change : PageChange) → HasCome r [] change) → (IsTrue honest → IsIn r [] bytes) → Passed honest name header h one r
   opened one r rests begun here = record {
     reads = record {
-      text = [];
+      encoding = [];
       change = empty_change 512 0;
       come = begun (empty_change 512 0);
       none = λ _. refl;
@@ -149,31 +149,31 @@ module _ (honest : Bool) (name : FileName) (header : Header) (h : History) (apar
 
   -- some bytes were read
   pub passes_on : (mid new : History) (r n : PieceReader) → Rests mid new → n.decoder ≡ r.decoder → n.whole ≡ r.whole → n.fault ≡ r.fault
-      → (IsTrue honest → (text : List ℕ) → IsIn r text (bytes_of (now mid name)) → IsIn n text (bytes_of (now mid name))) → Passed honest name header h mid r → Passed honest name header h new n
+      → (IsTrue honest → (encoding : List ℕ) → IsIn r encoding (bytes_of (now mid name)) → IsIn n encoding (bytes_of (now mid name))) → Passed honest name header h mid r → Passed honest name header h new n
   passes_on mid new r n rests decoder whole found here so_far =
       let same : now new ≡ now mid = same_now mid new rests in
       record {
         reads = reads_on honest false bytes r n no_tally decoder whole found
-            (λ is text. subst (λ (o : Option (List ℕ)). IsIn r text (bytes_of o) → IsIn n text (bytes_of o)) (so_far.others is name apart) (here is text)) so_far.reads;
+            (λ is encoding. subst (λ (o : Option (List ℕ)). IsIn r encoding (bytes_of o) → IsIn n encoding (bytes_of o)) (so_far.others is name apart) (here is encoding)) so_far.reads;
         others = λ is n other. ap (λ (f : Folder). f n) same ∙ so_far.others is n other;
         seen = λ is file holds. subst (λ (f : Folder). OnFile Database (Patches header.page_size so_far.reads.change.pages) (now h) f) (sym same) (so_far.seen is file holds);
         moments = λ is file holds. stretch_rests h mid new (OnFile Database (Wears file.change)) (wears_path file.change) (so_far.moments is file holds) rests;
       }
 
   -- a part came that is no page
-  module _ (mid : History) (r n : PieceReader) (came : Part) (size : n.size ≡ r.size) (read : n.read ≡ r.read) (comes : (text : List ℕ) (change : PageChange) → HasCome r text change → Comes r n text change came)
+  module _ (mid : History) (r n : PieceReader) (came : Part) (size : n.size ≡ r.size) (read : n.read ≡ r.read) (comes : (encoding : List ℕ) (change : PageChange) → HasCome r encoding change → Comes r n encoding change came)
       (so_far : Passed honest name header h mid r) where
     abbrev part_reads : Reads honest false bytes n no_tally
     part_reads = reads_part honest false bytes r n no_tally no_tally came size read comes so_far.reads (λ no. absurd (false≢true no))
 
-    abbrev came_is : Comes r n so_far.reads.text so_far.reads.change came
-    came_is = comes so_far.reads.text so_far.reads.change so_far.reads.come
+    abbrev came_is : Comes r n so_far.reads.encoding so_far.reads.change came
+    came_is = comes so_far.reads.encoding so_far.reads.change so_far.reads.come
 
     no_page : (p : Part) → p ≡ came → ((number : ℕ) → p ≡ part.Page number → ⊥) → (change_after came n so_far.reads.change).pages ≡ so_far.reads.change.pages
     no_page part.More is other = ap (λ (q : Part). (change_after q n so_far.reads.change).pages) (sym is)
     no_page part.Header is other =
-        let sound : IsSound part.Header so_far.reads.text (so_far.reads.text ++ came_is.piece) (change_after came n so_far.reads.change) =
-        subst (λ (q : Part). IsSound q so_far.reads.text (so_far.reads.text ++ came_is.piece) (change_after came n so_far.reads.change)) (sym is) came_is.sound in
+        let sound : IsSound part.Header so_far.reads.encoding (so_far.reads.encoding ++ came_is.piece) (change_after came n so_far.reads.change) =
+        subst (λ (q : Part). IsSound q so_far.reads.encoding (so_far.reads.encoding ++ came_is.piece) (change_after came n so_far.reads.change)) (sym is) came_is.sound in
         ap (λ (q : Part). (change_after q n so_far.reads.change).pages) (sym is) ∙ sym (so_far.reads.none sound.0)
     no_page (part.Page number) is other = absurd (other number refl)
 
@@ -188,15 +188,15 @@ module _ (honest : Bool) (name : FileName) (header : Header) (h : History) (apar
 
   -- a page came
   module _ (mid : History) (r n : PieceReader) (number : ℕ) (size : n.size ≡ r.size) (read : n.read ≡ r.read)
-      (comes : (text : List ℕ) (change : PageChange) → HasCome r text change → Comes r n text change (part.Page number)) (so_far : Passed honest name header h mid r) where
+      (comes : (encoding : List ℕ) (change : PageChange) → HasCome r encoding change → Comes r n encoding change (part.Page number)) (so_far : Passed honest name header h mid r) where
     abbrev change : PageChange
     change = so_far.reads.change
 
     abbrev w : PageWrite
     w = record { number = number; bytes = page_shown n.decoder }
 
-    its : Comes r n so_far.reads.text so_far.reads.change (part.Page number)
-    its = comes so_far.reads.text so_far.reads.change so_far.reads.come
+    its : Comes r n so_far.reads.encoding so_far.reads.change (part.Page number)
+    its = comes so_far.reads.encoding so_far.reads.change so_far.reads.come
 
     -- it has a number from 1 on
     pub first_is : 1 ≤ number
@@ -206,18 +206,18 @@ module _ (honest : Bool) (name : FileName) (header : Header) (h : History) (apar
     page_reads = reads_part honest false bytes r n no_tally no_tally (part.Page number) size read comes so_far.reads (λ no. absurd (false≢true no))
 
     module _ (is : IsTrue honest) (file : Ltx) (holds : HoldsFile name header file (now h)) where
-      splits : (so_far.reads.text ++ its.piece) ++ (left_over n ++ drop n.read bytes) ≡ bytes
+      splits : (so_far.reads.encoding ++ its.piece) ++ (left_over n ++ drop n.read bytes) ≡ bytes
       splits =
-          let here = in_after r n so_far.reads.text bytes change (part.Page number) size read its (so_far.reads.here is) in
-          sym (append_assoc (so_far.reads.text ++ its.piece) (left_over n) (drop n.read bytes)) ∙ ap (λ (l : List ℕ). l ++ drop n.read bytes) here.front ∙ take-append-drop n.read bytes
+          let here = in_after r n so_far.reads.encoding bytes change (part.Page number) size read its (so_far.reads.here is) in
+          sym (append_assoc (so_far.reads.encoding ++ its.piece) (left_over n) (drop n.read bytes)) ∙ ap (λ (l : List ℕ). l ++ drop n.read bytes) here.front ∙ take-append-drop n.read bytes
 
       known : (length change.pages < length file.change.pages) × (change.pages ≡ take (length change.pages) file.change.pages) × (w ≡ get_or file.change.pages (length change.pages) w)
       known =
-          let text = so_far.reads.text ++ its.piece in
+          let encoding = so_far.reads.encoding ++ its.piece in
           let rest = left_over n ++ drop n.read bytes in
           next_page change.pages file.change.pages w
-          (no_more text rest bytes (with_page change number (page_shown n.decoder)) file its.sound.1 splits holds.octets holds.is)
-          (first_pages text rest bytes (with_page change number (page_shown n.decoder)) file its.sound.1 splits holds.octets holds.is)
+          (no_more encoding rest bytes (with_page change number (page_shown n.decoder)) file its.sound.1 splits holds.octets holds.is)
+          (first_pages encoding rest bytes (with_page change number (page_shown n.decoder)) file its.sound.1 splits holds.octets holds.is)
 
       page_size_is : header.page_size ≡ file.change.page_size
       page_size_is = ap (λ (x : Header). x.page_size) holds.header_is ∙ sym holds.is.valid.block.page_size
@@ -256,12 +256,12 @@ module _ (honest : Bool) (name : FileName) (header : Header) (h : History) (apar
 
   -- at the end all pages were written
   pub all_passed : (mid new : History) (r n : PieceReader) → Rests mid new → n.decoder ≡ r.decoder → n.whole ≡ r.whole → n.fault ≡ r.fault
-      → (IsTrue honest → (text : List ℕ) → IsIn r text (bytes_of (now mid name)) → IsIn n text (bytes_of (now mid name))) → IsFilled n false → Passed honest name header h mid r
+      → (IsTrue honest → (encoding : List ℕ) → IsIn r encoding (bytes_of (now mid name)) → IsIn n encoding (bytes_of (now mid name))) → IsFilled n false → Passed honest name header h mid r
       → IsTrue honest → (file : Ltx) → HoldsFile name header file (now h) → OnFile Database (Patches file.change.page_size file.change.pages) (now h) (now new)
   all_passed mid new r n rests decoder whole found here filled so_far is file holds =
       let end = passes_on mid new r n rests decoder whole found here so_far in
-      let text : end.reads.text ≡ bytes = whole_text n end.reads.text bytes filled (end.reads.here is) in
-      let change : end.reads.change ≡ file.change = whole_change n bytes end.reads.change file holds.octets holds.is (subst (λ (t : List ℕ). HasCome n t end.reads.change) text end.reads.come) in
+      let encoding : end.reads.encoding ≡ bytes = whole_encoding n end.reads.encoding bytes filled (end.reads.here is) in
+      let change : end.reads.change ≡ file.change = whole_change n bytes end.reads.change file holds.octets holds.is (subst (λ (t : List ℕ). HasCome n t end.reads.change) encoding end.reads.come) in
       let size : header.page_size ≡ file.change.page_size = ap (λ (x : Header). x.page_size) holds.header_is ∙ sym holds.is.valid.block.page_size in
       subst (λ (s : ℕ). OnFile Database (Patches s file.change.pages) (now h) (now new)) size
       (subst (λ (x : PageChange). OnFile Database (Patches header.page_size x.pages) (now h) (now new)) change (end.seen is file holds))

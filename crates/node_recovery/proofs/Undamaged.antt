@@ -19,11 +19,11 @@ use Rattle.ltx_codec.specs.Sums.{image_sum}
 use Rattle.ltx_codec.specs.declared.fault.LtxFault.{LtxFault}
 use Rattle.ltx_codec.specs.declared.fault.LtxFault.TheVariants.{Tail}
 use Rattle.ltx_codec.specs.declared.file.Ltx.{Ltx}
-use Rattle.ltx_codec.proofs.SoundLemmas.{text_sound}
+use Rattle.ltx_codec.proofs.SoundLemmas.{encoding_sound}
 use Rattle.world_laws.specs.Store.{StoreState, end_of}
 use Rattle.txn_log.specs.declared.entry.Entry.{Entry}
 use Rattle.txn_log.specs.Kept.{LogFile, file_of, change_of, last_of, Decides}
-use Rattle.txn_log.specs.Durable.{Durable, IsText, IsLog, IsSummed, Follow, log_of, StandsByLog}
+use Rattle.txn_log.specs.Durable.{Durable, IsEncoding, IsLog, IsSummed, Follow, log_of, StandsByLog}
 use Rattle.txn_log.specs.Store.{files_in}
 use Rattle.txn_log.proofs.Stores.{file_at, no_entry}
 use Rattle.node_recovery.specs.declared.fault.RecoverFault.{RecoverFault}
@@ -40,15 +40,15 @@ use Rattle.node_recovery.proofs.Judgings.{ends_at}
 use Rattle.node_recovery.proofs.Lasts.{LastIs, last_named}
 use Rattle.node_recovery.proofs.Openings.{decided_image}
 
--- the text of a file is read
-not_unread : (text : List ℕ) (want got : ℕ) → IsText text → IsUnread text want got → ⊥
-not_unread text want got is unread = ∥∥₁_elim is (λ x y. absurd x) (λ (it : IsLtx text (file_of text)).
+-- the encoding of a file is read
+not_unread : (encoding : List ℕ) (want got : ℕ) → IsEncoding encoding → IsUnread encoding want got → ⊥
+not_unread encoding want got is unread = ∥∥₁_elim is (λ x y. absurd x) (λ (it : IsLtx encoding (file_of encoding)).
     let place = unread.earliest.place in
-    let whole : text ++ [] ≡ text = append-nil text in
-    let octets : AreBytes (text ++ []) = subst (λ (t : List ℕ). AreBytes t) (sym whole) unread.octets in
-    let broken : IsBroken (text ++ []) unread.fault place = subst (λ (t : List ℕ). IsBroken t unread.fault place) (sym whole) unread.earliest.broken in
-    let behind = text_sound text [] (file_of text) unread.fault place octets it broken in
-    let there : place ≤ last_place text Tail = subst (λ (x : LtxFault). place ≤ last_place text x) behind.0 unread.earliest.broken.there in
+    let whole : encoding ++ [] ≡ encoding = append-nil encoding in
+    let octets : AreBytes (encoding ++ []) = subst (λ (t : List ℕ). AreBytes t) (sym whole) unread.octets in
+    let broken : IsBroken (encoding ++ []) unread.fault place = subst (λ (t : List ℕ). IsBroken t unread.fault place) (sym whole) unread.earliest.broken in
+    let behind = encoding_sound encoding [] (file_of encoding) unread.fault place octets it broken in
+    let there : place ≤ last_place encoding Tail = subst (λ (x : LtxFault). place ≤ last_place encoding x) behind.0 unread.earliest.broken.there in
     absurd (omega (arith, there, behind.1)))
 
 -- the sum that the last file of a log says is that of the image
@@ -62,40 +62,40 @@ sum_said files last store is log summed =
     some (g ∷ gs) same none = absurd (cc)
 
 -- and the pages that it leaves have it
-not_otherwise : (text bytes : List ℕ) (image : DatabaseImage) (want got : ℕ) → IsText text → Decides (change_of text) image bytes → (file_of text).post ≡ image_sum image → IsSummedOtherwise (file_of text) bytes want got → ⊥
-not_otherwise text bytes image want got is decides said other = ∥∥₁_elim is (λ x y. absurd x) (λ (it : IsLtx text (file_of text)).
-    let left = decided_image (change_of text) image bytes it.valid.block.pages decides in
+not_otherwise : (encoding bytes : List ℕ) (image : DatabaseImage) (want got : ℕ) → IsEncoding encoding → Decides (change_of encoding) image bytes → (file_of encoding).post ≡ image_sum image → IsSummedOtherwise (file_of encoding) bytes want got → ⊥
+not_otherwise encoding bytes image want got is decides said other = ∥∥₁_elim is (λ x y. absurd x) (λ (it : IsLtx encoding (file_of encoding)).
+    let left = decided_image (change_of encoding) image bytes it.valid.block.pages decides in
     other.differ (other.want_is ∙ said ∙ sym (ap image_sum left) ∙ sym other.got_is))
 
 -- a snapshot
 not_snapshot : (f : Folder) (store : StoreState) (want got : ℕ) → IsSome (f Snapshot) → Durable f store → IsSnapshotRefused (bytes_of (f Snapshot)) (bytes_of (f Database)) want got → ⊥
 not_snapshot f store want got there durable refused =
     let by = by_snapshot f store there durable in
-    let same : by.text ≡ bytes_of (f Snapshot) = ap bytes_of (sym by.by.stands) in
-    let is : IsText (bytes_of (f Snapshot)) = subst (λ (t : List ℕ). IsText t) same by.is in
+    let same : by.encoding ≡ bytes_of (f Snapshot) = ap bytes_of (sym by.by.stands) in
+    let is : IsEncoding (bytes_of (f Snapshot)) = subst (λ (t : List ℕ). IsEncoding t) same by.is in
     elim refused [
       | inl unread ↦ not_unread (bytes_of (f Snapshot)) want got is unread
       | inr other ↦ elim other.1 [
         | inl later ↦ later.2 (later.0 ∙ sym (ap (λ (t : List ℕ). (file_of t).header.min) (sym same) ∙ by.first) ∙ sym later.1)
         | inr sum ↦
-            let alone : LogFile = record { min = 0; max = 0; text = by.text } in
-            let said : (file_of by.text).post ≡ image_sum store.image = sum_said (alone ∷ []) (file_of by.text) store refl by.log by.sum in
-            not_otherwise by.text (bytes_of (f Database)) store.image want got by.is by.by.decides said
+            let alone : LogFile = record { min = 0; max = 0; encoding = by.encoding } in
+            let said : (file_of by.encoding).post ≡ image_sum store.image = sum_said (alone ∷ []) (file_of by.encoding) store refl by.log by.sum in
+            not_otherwise by.encoding (bytes_of (f Database)) store.image want got by.is by.by.decides said
             (subst (λ (t : List ℕ). IsSummedOtherwise (file_of t) (bytes_of (f Database)) want got) (sym same) sum.1)
       ]
     ]
 
 -- a file of a log follows the one before it
-follows_behind : (files : List LogFile) → Follow (log_of files) → (index : ℕ) (d : LogFile) (p : Pos) → index < length files → position_behind (take index files) ≡ Some p → before (file_of (get_or files index d).text) ≡ p
+follows_behind : (files : List LogFile) → Follow (log_of files) → (index : ℕ) (d : LogFile) (p : Pos) → index < length files → position_behind (take index files) ≡ Some p → before (file_of (get_or files index d).encoding) ≡ p
 follows_behind files follow zero d p within some = let no : None ≡ Some p = some in absurd (cc)
 follows_behind files follow (suc k) d p within some =
-    let file : LogFile → Ltx = λ g. file_of g.text in
+    let file : LogFile → Ltx = λ g. file_of g.encoding in
     let more : k + 1 ≡ suc k = omega arith in
     let inside : k < length files = omega (arith, within) in
     let next : k + 1 < length files = omega (arith, within) in
     let last : take (k + 1) files ≡ take k files ++ get_or files k d ∷ [] = take_more files k d inside in
     let is : last_file (take (k + 1) files) ≡ Some (file (get_or files k d)) =
-    ap (λ (fs : List LogFile). last_file fs) last ∙ fold-append (λ (_ : Option Ltx) (g : LogFile). Some (file_of g.text)) None (take k files) (get_or files k d ∷ []) in
+    ap (λ (fs : List LogFile). last_file fs) last ∙ fold-append (λ (_ : Option Ltx) (g : LogFile). Some (file_of g.encoding)) None (take k files) (get_or files k d ∷ []) in
     let ends : position_behind (take (k + 1) files) ≡ Some (after (file (get_or files k d))) = ap (λ (o : Option Ltx). option_map after o) is in
     let stands : position_behind (take (k + 1) files) ≡ Some p = ap (λ (n : ℕ). position_behind (take n files)) more ∙ some in
     let position : after (file (get_or files k d)) ≡ p = same_Some (after (file (get_or files k d))) p (sym ends ∙ stands) in
@@ -125,21 +125,21 @@ module _ (names : List Entry) (f : Folder) (listed : AreListed names f) (store :
       let index = refused.index in
       let name : Entry = get_or names index no_entry in
       let d : LogFile = file_at f no_entry in
-      let text = bytes_of (f (LtxName name.min name.max)) in
+      let encoding = bytes_of (f (LtxName name.min name.max)) in
       let long : index < length files = omega (arith, refused.within, length-map names (file_at f)) in
       let is : get_or files index d ≡ file_at f name = get_or-map (file_at f) names index no_entry d refused.within in
-      let is_text : IsText text = subst (λ (g : LogFile). IsText g.text) is (sound.texts index d long) in
-      let low : (file_of text).header.min ≡ name.min = subst (λ (g : LogFile). (file_of g.text).header.min ≡ g.min) is (sound.min index d long) in
-      let high : (file_of text).header.max ≡ name.max = subst (λ (g : LogFile). (file_of g.text).header.max ≡ g.max) is (sound.max index d long) in
+      let is_encoding : IsEncoding encoding = subst (λ (g : LogFile). IsEncoding g.encoding) is (sound.encodings index d long) in
+      let low : (file_of encoding).header.min ≡ name.min = subst (λ (g : LogFile). (file_of g.encoding).header.min ≡ g.min) is (sound.min index d long) in
+      let high : (file_of encoding).header.max ≡ name.max = subst (λ (g : LogFile). (file_of g.encoding).header.max ≡ g.max) is (sound.max index d long) in
       elim (refused.why no_entry) [
-        | inl unread ↦ not_unread text want got is_text unread
+        | inl unread ↦ not_unread encoding want got is_encoding unread
         | inr other ↦ elim other.1 [
           | inl misnamed ↦ elim misnamed [
             | inl min ↦ min.2 (min.0 ∙ sym low ∙ sym min.1)
             | inr max ↦ max.3 (max.1 ∙ sym high ∙ sym max.2)
           ]
           | inr apart ↦
-              let follows : before (file_of text) ≡ apart.2 = subst (λ (g : LogFile). before (file_of g.text) ≡ apart.2) is (follows_behind files sound.follow index d apart.2 long apart.3) in
+              let follows : before (file_of encoding) ≡ apart.2 = subst (λ (g : LogFile). before (file_of g.encoding) ≡ apart.2) is (follows_behind files sound.follow index d apart.2 long apart.3) in
               elim apart.4 [
                 | inl numbers ↦ numbers.0 (ap (λ (p : Pos). p.txid) follows)
                 | inr sums ↦ sums.3 (sums.1 ∙ sym (ap (λ (p : Pos). p.sum) follows) ∙ sym sums.2)
@@ -152,10 +152,10 @@ module _ (names : List Entry) (f : Folder) (listed : AreListed names f) (store :
       let files = files_in names f in
       let its : LastIs files other.last = last_named files other.last other.last_is in
       let named = its.named in
-      let is : IsText named.text = last_has (λ (g : LogFile). IsText g.text) None files (λ g none. absurd (cc)) sound.texts named its.last_is in
-      let decides : Decides (change_of named.text) store.image (bytes_of (f Database)) = by.kept.decided.some named (ap last_of (sym same) ∙ its.last_is) in
+      let is : IsEncoding named.encoding = last_has (λ (g : LogFile). IsEncoding g.encoding) None files (λ g none. absurd (cc)) sound.encodings named its.last_is in
+      let decides : Decides (change_of named.encoding) store.image (bytes_of (f Database)) = by.kept.decided.some named (ap last_of (sym same) ∙ its.last_is) in
       let said : other.last.post ≡ image_sum store.image = sum_said files other.last store (sym other.last_is) (by.log ∙ ap log_of (sym same)) by.sum in
-      not_otherwise named.text (bytes_of (f Database)) store.image want got is decides (ap (λ (g : Ltx). g.post) its.tells ∙ said)
+      not_otherwise named.encoding (bytes_of (f Database)) store.image want got is decides (ap (λ (g : Ltx). g.post) its.tells ∙ said)
       (subst (λ (g : Ltx). IsSummedOtherwise g (bytes_of (f Database)) want got) (sym its.tells) other.sum)
 
 undamaged : (f : Folder) (store : StoreState) (file : FileName) (want got : ℕ) → Durable f store → IsDamaged f file want got → ⊥

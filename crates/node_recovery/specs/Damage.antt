@@ -5,7 +5,7 @@ use Rattle.lf_base.specs.declared.pos.Pos.{Pos}
 use Rattle.lf_disk.specs.declared.name.FileName.{FileName}
 use Rattle.lf_disk.specs.declared.name.FileName.TheVariants.{Ltx as LtxName}
 use Rattle.lf_disk.specs.Folder.{Folder, bytes_of}
-use Rattle.ltx_codec.specs.FaultNumber.{number_of}
+use Rattle.ltx_codec.specs.Faults.{number_of}
 use Rattle.ltx_codec.specs.Fields.{AreBytes}
 use Rattle.ltx_codec.specs.Places.{IsEarliest}
 use Rattle.ltx_codec.specs.Positions.{before, after}
@@ -14,16 +14,16 @@ use Rattle.ltx_codec.specs.declared.header.Header.{Header}
 use Rattle.ltx_codec.specs.declared.file.Ltx.{Ltx}
 use Rattle.txn_log.specs.declared.entry.Entry.{Entry}
 use Rattle.txn_log.specs.Kept.{LogFile, file_of}
-use Rattle.txn_log.specs.Durable.{IsText, IsLog}
+use Rattle.txn_log.specs.Durable.{IsEncoding, IsLog}
 use Rattle.txn_log.specs.Store.{files_in}
 use Rattle.node_recovery.specs.declared.outline.Outline.{Outline}
 use Rattle.node_recovery.specs.Outline.{outline_of, position_before}
 
--- The text, of bytes, is that of no file: 0, and the number of the fault that stands earliest in it.
-pub record IsUnread (text : List ℕ) (want got : ℕ) : Type 0 where
-  pub octets : AreBytes text
+-- The encoding, of bytes, is that of no file: 0, and the number of the fault that stands earliest in it.
+pub record IsUnread (encoding : List ℕ) (want got : ℕ) : Type 0 where
+  pub octets : AreBytes encoding
   pub fault : LtxFault
-  pub earliest : IsEarliest text fault
+  pub earliest : IsEarliest encoding fault
   pub want_is : want ≡ 0
   pub got_is : got ≡ number_of fault
 
@@ -51,17 +51,17 @@ pub record IsNext (name : Entry) (position : Option Pos) (file : Ltx) : Type 0 w
 
 -- the last of some files, and the position behind it
 abbrev pub last_file : List LogFile → Option Ltx
-last_file files = fold (λ _ file. Some (file_of file.text)) None files
+last_file files = fold (λ _ file. Some (file_of file.encoding)) None files
 
 abbrev pub position_behind : List LogFile → Option Pos
 position_behind files = option_map after (last_file files)
 
 -- why the file under a name is refused behind a position
 abbrev pub IsRefusedBehind : Entry → Option Pos → List ℕ → ℕ → ℕ → Type 0
-IsRefusedBehind name position text want got =
-    IsUnread text want got
-    ⊎ IsText text × (IsMisnamed name (file_of text).header want got
-    ⊎ (name.min ≡ (file_of text).header.min) × (name.max ≡ (file_of text).header.max) × (p : Pos) × (position ≡ Some p) × IsApart p (outline_of (file_of text)) want got)
+IsRefusedBehind name position encoding want got =
+    IsUnread encoding want got
+    ⊎ IsEncoding encoding × (IsMisnamed name (file_of encoding).header want got
+    ⊎ (name.min ≡ (file_of encoding).header.min) × (name.max ≡ (file_of encoding).header.max) × (p : Pos) × (position ≡ Some p) × IsApart p (outline_of (file_of encoding)) want got)
 
 -- the first file that is refused: those before it are a log
 pub record IsFirstRefused (names : List Entry) (f : Folder) (file : FileName) (want got : ℕ) : Type 0 where

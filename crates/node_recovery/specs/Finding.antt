@@ -7,7 +7,7 @@ use Rattle.ltx_codec.specs.Format.{IsHeader}
 use Rattle.ltx_codec.specs.declared.file.Ltx.{Ltx}
 use Rattle.txn_log.specs.declared.entry.Entry.{Entry}
 use Rattle.txn_log.specs.Kept.{file_of}
-use Rattle.txn_log.specs.Durable.{IsText, IsLog}
+use Rattle.txn_log.specs.Durable.{IsEncoding, IsLog}
 use Rattle.txn_log.specs.Store.{files_in, end_of_entries, AreEntries}
 use Rattle.node_recovery.specs.declared.fault.RecoverFault.{RecoverFault}
 use Rattle.node_recovery.specs.declared.fault.RecoverFault.TheVariants as fault
@@ -21,7 +21,7 @@ use Rattle.node_recovery.specs.Agreeing.{IsTotal, IsSummed, IsSummedOtherwise}
 use Rattle.node_recovery.specs.Damage.{IsUnread, IsFirstRefused, last_file}
 use Rattle.node_recovery.specs.Listing.{AreListed}
 use Rattle.node_recovery.specs.Outcome.{Blames}
-use Rattle.node_recovery.specs.Outline.{entry_of, position_after, text_under, IsOutlineIn}
+use Rattle.node_recovery.specs.Outline.{entry_of, position_after, encoding_under, IsOutlineIn}
 
 -- nothing is known of any page
 pub record HasNoPages (tally : Tally) : Type 0 where
@@ -48,9 +48,9 @@ pub record FindsLog (f : Folder) (outline : Outline) (names entries : List Entry
   pub no_snapshot : f SnapshotName ≡ None
   pub no_mark : f Dropped ≡ None
   pub entries_are : AreEntries entries (files_in names f)
-  pub read : IsOutlineIn (text_under outline f) outline
-  pub last_is : Some (file_of (text_under outline f)) ≡ last_file (files_in names f)
-  pub summed : IsSummed (file_of (text_under outline f)) (bytes_of (f Database)) tally
+  pub read : IsOutlineIn (encoding_under outline f) outline
+  pub last_is : Some (file_of (encoding_under outline f)) ≡ last_file (files_in names f)
+  pub summed : IsSummed (file_of (encoding_under outline f)) (bytes_of (f Database)) tally
 
 -- no file decides
 pub record FindsNothing (f : Folder) (names entries : List Entry) (tally : Tally) : Type 0 where
@@ -71,17 +71,17 @@ pub record Finds (f : Folder) (found : Found) : Type 0 where
   pub names : AreListed found.names.items f
   pub by : FindsBy f found.decider found.names.items found.entries.items found.tally
 
--- why a snapshot is refused: its text is that of no file, its minimum is not 1, or its pages have another sum
+-- why a snapshot is refused: its encoding is that of no file, its minimum is not 1, or its pages have another sum
 abbrev pub IsSnapshotRefused : List ℕ → List ℕ → ℕ → ℕ → Type 0
-IsSnapshotRefused text bytes want got =
-    IsUnread text want got
-    ⊎ IsText text × ((want ≡ 1) × (got ≡ (file_of text).header.min) × (want ≢ got)
-    ⊎ ((file_of text).header.min ≡ 1) × IsSummedOtherwise (file_of text) bytes want got)
+IsSnapshotRefused encoding bytes want got =
+    IsUnread encoding want got
+    ⊎ IsEncoding encoding × ((want ≡ 1) × (got ≡ (file_of encoding).header.min) × (want ≢ got)
+    ⊎ ((file_of encoding).header.min ≡ 1) × IsSummedOtherwise (file_of encoding) bytes want got)
 
 -- what judging a snapshot gives: its outline, and the tally of the pages that it leaves
 abbrev pub JudgesSnapshot : List ℕ → List ℕ → Result FileSummary RecoverFault → Type 0
-JudgesSnapshot text bytes (Ok read) = IsOutlineIn text read.outline × (read.outline.header.min ≡ 1) × IsSummed (file_of text) bytes read.tally
-JudgesSnapshot text bytes (Err why) = Blames SnapshotName (IsSnapshotRefused text bytes) why
+JudgesSnapshot encoding bytes (Ok read) = IsOutlineIn encoding read.outline × (read.outline.header.min ≡ 1) × IsSummed (file_of encoding) bytes read.tally
+JudgesSnapshot encoding bytes (Err why) = Blames SnapshotName (IsSnapshotRefused encoding bytes) why
 
 -- the files of a log are sound, and the pages that the last of them leaves have another sum than it says
 pub record IsLogSummedOtherwise (names : List Entry) (f : Folder) (file : FileName) (want got : ℕ) : Type 0 where
@@ -115,8 +115,8 @@ IsShapedBy found = IsShapedAs found.decider found.entries.items found.tally.sums
 -- what examining the log of these names gives: its last file and the pages' sums, or nothing, or the first damage
 abbrev pub FindsIn : List Entry → Folder → Decider → List Entry → Tally → Type 0
 FindsIn names f (decider.Last outline) entries tally =
-    AreEntries entries (files_in names f) × IsOutlineIn (text_under outline f) outline
-    × (Some (file_of (text_under outline f)) ≡ last_file (files_in names f)) × IsSummed (file_of (text_under outline f)) (bytes_of (f Database)) tally
+    AreEntries entries (files_in names f) × IsOutlineIn (encoding_under outline f) outline
+    × (Some (file_of (encoding_under outline f)) ≡ last_file (files_in names f)) × IsSummed (file_of (encoding_under outline f)) (bytes_of (f Database)) tally
 FindsIn names f decider.Nothing entries tally = (names ≡ []) × (entries ≡ []) × HasNoPages tally
 FindsIn names f _ entries tally = ⊥
 

@@ -9,18 +9,18 @@ use Rattle.txn_log.specs.Kept.{LogFile, change_of, IsAtRest}
 use Rattle.txn_log.specs.Store.{files_in}
 use Rattle.node_recovery.specs.declared.found.Decider.{Decider}
 use Rattle.node_recovery.specs.declared.found.Decider.TheVariants as decider
-use Rattle.node_recovery.specs.Outline.{text_under}
+use Rattle.node_recovery.specs.Outline.{encoding_under}
 use Rattle.node_recovery.specs.Summing.{restored_image}
 
 -- the image that is decided
 abbrev pub image_left : Decider → Folder → DatabaseImage
 image_left (decider.Snapshot outline) f = restored_image (change_of (bytes_of (f SnapshotName))) (bytes_of (f Database))
-image_left (decider.Last outline) f = restored_image (change_of (text_under outline f)) (bytes_of (f Database))
+image_left (decider.Last outline) f = restored_image (change_of (encoding_under outline f)) (bytes_of (f Database))
 image_left _ f = empty_image
 
 -- the log that is decided: a snapshot has its numbers in its name then
 abbrev pub files_left : Decider → List Entry → Folder → List LogFile
-files_left (decider.Snapshot outline) names f = record { min = outline.header.min; max = outline.header.max; text = bytes_of (f SnapshotName) } ∷ []
+files_left (decider.Snapshot outline) names f = record { min = outline.header.min; max = outline.header.max; encoding = bytes_of (f SnapshotName) } ∷ []
 files_left (decider.Last outline) names f = files_in names f
 files_left _ names f = []
 

@@ -15,7 +15,7 @@ use Rattle.node_recovery.specs.declared.fault.RecoverFault.TheVariants as fault
 use Rattle.node_recovery.specs.declared.file_summary.FileSummary.{FileSummary}
 use Rattle.node_recovery.specs.declared.outline.Outline.{Outline}
 use Rattle.node_recovery.specs.Damage.{IsUnread, IsMisnamed, IsApart, IsNext, IsRefusedBehind, last_file, IsFirstRefused}
-use Rattle.node_recovery.specs.Outline.{position_before, text_under, IsOutlineIn}
+use Rattle.node_recovery.specs.Outline.{position_before, encoding_under, IsOutlineIn}
 use Rattle.node_recovery.specs.Summing.{IsTallied}
 
 -- only a disk that failed raises its count
@@ -35,10 +35,10 @@ IsBlameless (fault.Damaged file want got) = ⊥
 IsBlameless fault.Disk = Unit {0}
 IsBlameless fault.NoMemory = Unit {0}
 
--- what reading a file gives: the outline of the file that its text is, with its pages' sums where they were asked for, or that it is none
+-- what reading a file gives: the outline of the file that its encoding is, with its pages' sums where they were asked for, or that it is none
 abbrev pub ReadsFile : FileName → List ℕ → Bool → Result FileSummary RecoverFault → Type 0
-ReadsFile name text pages (Ok read) = IsOutlineIn text read.outline × (pages ≡ true → IsTallied (change_of text) read.tally)
-ReadsFile name text pages (Err why) = Blames name (IsUnread text) why
+ReadsFile name encoding pages (Ok read) = IsOutlineIn encoding read.outline × (pages ≡ true → IsTallied (change_of encoding) read.tally)
+ReadsFile name encoding pages (Err why) = Blames name (IsUnread encoding) why
 
 -- whether the header has other numbers than the name, and which
 abbrev pub TellsMisnamed : Entry → Header → Option (ℕ × ℕ) → Type 0
@@ -52,14 +52,14 @@ TellsApart position file (Some differ) = IsApart position file differ.0 differ.1
 
 -- what judging the file under a name behind a position gives
 abbrev pub Judges : Entry → Option Pos → List ℕ → Bool → Result FileSummary RecoverFault → Type 0
-Judges name position text pages (Ok read) = ReadsFile (LtxName name.min name.max) text pages (Ok read) × IsNext name position (file_of text)
-Judges name position text pages (Err why) = Blames (LtxName name.min name.max) (IsRefusedBehind name position text) why
+Judges name position encoding pages (Ok read) = ReadsFile (LtxName name.min name.max) encoding pages (Ok read) × IsNext name position (file_of encoding)
+Judges name position encoding pages (Err why) = Blames (LtxName name.min name.max) (IsRefusedBehind name position encoding) why
 
 -- the last of the files is the one under the numbers of this outline, and the sums are those of its pages
 pub record IsLastRead (names : List Entry) (f : Folder) (last : FileSummary) : Type 0 where
-  pub read : IsOutlineIn (text_under last.outline f) last.outline
-  pub last_is : Some (file_of (text_under last.outline f)) ≡ last_file (files_in names f)
-  pub tallied : IsTallied (change_of (text_under last.outline f)) last.tally
+  pub read : IsOutlineIn (encoding_under last.outline f) last.outline
+  pub last_is : Some (file_of (encoding_under last.outline f)) ≡ last_file (files_in names f)
+  pub tallied : IsTallied (change_of (encoding_under last.outline f)) last.tally
 
 -- which file is the last of those under these names
 abbrev pub TellsLast : List Entry → Folder → Option FileSummary → Type 0

@@ -25,12 +25,12 @@ position_after outline = record { txid = outline.header.max; sum = outline.post 
 abbrev pub entry_of : Outline → Entry
 entry_of outline = record { min = outline.header.min; max = outline.header.max; pre = position_before outline; post = position_after outline }
 
--- the text that stands under the numbers of an outline
-abbrev pub text_under : Outline → Folder → List ℕ
-text_under outline f = bytes_of (f (LtxName outline.header.min outline.header.max))
+-- the encoding that stands under the numbers of an outline
+abbrev pub encoding_under : Outline → Folder → List ℕ
+encoding_under outline f = bytes_of (f (LtxName outline.header.min outline.header.max))
 
--- the text, of bytes, is that of a file, and this is the file's outline
-pub record IsOutlineIn (text : List ℕ) (outline : Outline) : Type 0 where
-  pub octets : AreBytes text
-  pub is : IsLtx text (file_of text)
-  pub tells : outline ≡ outline_of (file_of text)
+-- the encoding, of bytes, is that of a file, and this is the file's outline
+pub record IsOutlineIn (encoding : List ℕ) (outline : Outline) : Type 0 where
+  pub octets : AreBytes encoding
+  pub is : IsLtx encoding (file_of encoding)
+  pub tells : outline ≡ outline_of (file_of encoding)

@@ -21,9 +21,9 @@ left_over r = drop r.taken r.buffer.items
 abbrev pub to_come : PieceReader → ℕ
 to_come r = (r.size - r.read) + (length r.buffer.items - r.taken)
 
--- this text was taken of a file of these bytes: with what is left over it is all that was read
-pub record IsIn (r : PieceReader) (text bytes : List ℕ) : Type 0 where
-  pub front : text ++ left_over r ≡ take r.read bytes
+-- this encoding was taken of a file of these bytes: with what is left over it is all that was read
+pub record IsIn (r : PieceReader) (encoding bytes : List ℕ) : Type 0 where
+  pub front : encoding ++ left_over r ≡ take r.read bytes
   pub size : r.size ≡ length bytes
 
 -- there are bytes left over, or the file came to its end
@@ -31,24 +31,24 @@ abbrev pub IsFilled : PieceReader → Bool → Type 0
 IsFilled r true = r.taken < length r.buffer.items
 IsFilled r false = (r.taken ≡ length r.buffer.items) × (r.read ≡ r.size)
 
--- the fault stands earliest in the text, whatever bytes follow
+-- the fault stands earliest in the encoding, whatever bytes follow
 abbrev pub StaysEarliest : List ℕ → LtxFault → Type 0
-StaysEarliest text f = (more : List ℕ) → AreBytes (text ++ more) → IsEarliest (text ++ more) f
+StaysEarliest encoding f = (more : List ℕ) → AreBytes (encoding ++ more) → IsEarliest (encoding ++ more) f
 
--- how the text stands: a fault was found in it, it is that of a file, or that of a file begun; the change holds its pages
+-- how the encoding stands: a fault was found in it, it is that of a file, or that of a file begun; the change holds its pages
 abbrev pub Stands : Option LtxFault → Bool → Decoder → List ℕ → PageChange → Type 0
-Stands (Some f) whole decoder text change = StaysEarliest text f
-Stands None true decoder text change = IsLtx text (record { header = header_shown decoder; change = change; post = post_shown decoder })
-Stands None false decoder text change = HasTaken decoder change text
+Stands (Some f) whole decoder encoding change = StaysEarliest encoding f
+Stands None true decoder encoding change = IsLtx encoding (record { header = header_shown decoder; change = change; post = post_shown decoder })
+Stands None false decoder encoding change = HasTaken decoder change encoding
 
--- exactly this text of the file was taken
-pub record HasCome (r : PieceReader) (text : List ℕ) (change : PageChange) : Type 0 where
-  pub octets : AreBytes text
-  pub stands : Stands r.fault r.whole r.decoder text change
+-- exactly this encoding of the file was taken
+pub record HasCome (r : PieceReader) (encoding : List ℕ) (change : PageChange) : Type 0 where
+  pub octets : AreBytes encoding
+  pub stands : Stands r.fault r.whole r.decoder encoding change
 
--- some text was taken
+-- some encoding was taken
 abbrev pub IsOpen : PieceReader → Type 0
-IsOpen r = (text : List ℕ) × (change : PageChange) × HasCome r text change
+IsOpen r = (encoding : List ℕ) × (change : PageChange) × HasCome r encoding change
 
 -- the change after a part: a header begins it, a page goes to its end
 abbrev pub change_after : Part → PieceReader → PageChange → PageChange
@@ -63,13 +63,13 @@ IsSound part.Header old new change = (length old < 100) × HoldsWholePages new c
 IsSound (part.Page number) old new change = (100 ≤ length old) × HoldsWholePages new change
 
 -- a part came: some of what was left over was taken
-pub record Comes (old new : PieceReader) (text : List ℕ) (change : PageChange) (came : Part) : Type 0 where
+pub record Comes (old new : PieceReader) (encoding : List ℕ) (change : PageChange) (came : Part) : Type 0 where
   pub piece : List ℕ
   pub splits : left_over old ≡ piece ++ left_over new
-  pub come : HasCome new (text ++ piece) (change_after came new change)
-  pub sound : IsSound came text (text ++ piece) (change_after came new change)
+  pub come : HasCome new (encoding ++ piece) (change_after came new change)
+  pub sound : IsSound came encoding (encoding ++ piece) (change_after came new change)
 
--- what a text that has come to its end is: that of a file with these pages, or the fault that stands earliest
+-- what an encoding that has come to its end is: that of a file with these pages, or the fault that stands earliest
 abbrev pub Ends : List ℕ → PageChange → Result Outline LtxFault → Type 0
-Ends text change (Ok outline) = IsLtx text (record { header = outline.header; change = change; post = outline.post })
-Ends text change (Err f) = IsEarliest text f
+Ends encoding change (Ok outline) = IsLtx encoding (record { header = outline.header; change = change; post = outline.post })
+Ends encoding change (Err f) = IsEarliest encoding f

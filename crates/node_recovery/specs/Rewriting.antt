@@ -7,7 +7,7 @@ use Rattle.ltx_codec.specs.Format.{IsLtx}
 use Rattle.ltx_codec.specs.declared.file.Ltx.{Ltx}
 use Rattle.ltx_codec.specs.declared.header.Header.{Header}
 
--- the text under a name, of bytes, is that of this file, and this is its header
+-- the encoding under a name, of bytes, is that of this file, and this is its header
 pub record HoldsFile (name : FileName) (header : Header) (file : Ltx) (f : Folder) : Type 0 where
   pub octets : AreBytes (bytes_of (f name))
   pub is : IsLtx (bytes_of (f name)) file

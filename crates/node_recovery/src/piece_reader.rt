@@ -82,8 +82,8 @@ impl PieceReader {
     /// What a read lacks reads as zeros.
     pub fn refill<D: Disk>(&mut self, disk: &mut D, name: FileName) -> Result<bool, Failed>
         ensures filled { IfOk result (IsFilled self.new) }
-        ensures here { IsTrue (D.honest disk.old) → OnOk result ((text : List ℕ) → IsIn self.old text (bytes_of (now (D.history disk.old) name))
-            → IsIn self.new text (bytes_of (now (D.history disk.old) name))) }
+        ensures here { IsTrue (D.honest disk.old) → OnOk result ((encoding : List ℕ) → IsIn self.old encoding (bytes_of (now (D.history disk.old) name))
+            → IsIn self.new encoding (bytes_of (now (D.history disk.old) name))) }
         ensures as_many { OnOk result (to_come self.new ≡ to_come self.old) }
         ensures same { (self.new.decoder ≡ self.old.decoder) × (self.new.whole ≡ self.old.whole) × (self.new.fault ≡ self.old.fault) }
         ensures rests { Rests (D.history disk.old) (D.history disk.new) }
@@ -109,7 +109,7 @@ impl PieceReader {
     pub fn step(&mut self) -> Part
         requires open_ { IsOpen self.old }
         requires more { self.old.taken < length self.old.buffer.items }
-        ensures comes { (text : List ℕ) (change : PageChange) → HasCome self.old text change → Comes self.old self.new text change result }
+        ensures comes { (encoding : List ℕ) (change : PageChange) → HasCome self.old encoding change → Comes self.old self.new encoding change result }
         ensures fewer { to_come self.new < to_come self.old }
         ensures same { (self.new.size ≡ self.old.size) × (self.new.read ≡ self.old.read) }
     {
@@ -124,7 +124,7 @@ impl PieceReader {
     fn pass_over(&mut self)
         requires ended { (self.old.whole ≡ true) ⊎ IsSome self.old.fault }
         requires more { self.old.taken < length self.old.buffer.items }
-        ensures comes { (text : List ℕ) (change : PageChange) → HasCome self.old text change → Comes self.old self.new text change Part.More }
+        ensures comes { (encoding : List ℕ) (change : PageChange) → HasCome self.old encoding change → Comes self.old self.new encoding change Part.More }
         ensures fewer { to_come self.new < to_come self.old }
         ensures same { (self.new.size ≡ self.old.size) × (self.new.read ≡ self.old.read) }
     {
@@ -140,7 +140,7 @@ impl PieceReader {
         requires open_ { IsOpen self.old }
         requires begun { (self.old.whole ≡ false) × (self.old.fault ≡ None) }
         requires more { self.old.taken < length self.old.buffer.items }
-        ensures comes { (text : List ℕ) (change : PageChange) → HasCome self.old text change → Comes self.old self.new text change result }
+        ensures comes { (encoding : List ℕ) (change : PageChange) → HasCome self.old encoding change → Comes self.old self.new encoding change result }
         ensures fewer { to_come self.new < to_come self.old }
         ensures same { (self.new.size ≡ self.old.size) × (self.new.read ≡ self.old.read) }
     {
@@ -176,7 +176,7 @@ impl PieceReader {
 
     /// What the file is, once all its bytes were taken.
     pub fn finish(&self) -> Result<Outline, LtxFault>
-        ensures { (text : List ℕ) (change : PageChange) → HasCome self.now text change → Ends text change result }
+        ensures { (encoding : List ℕ) (change : PageChange) → HasCome self.now encoding change → Ends encoding change result }
     {
         if let Some(fault) = self.fault {
             return Err(fault);

@@ -19,13 +19,13 @@ use std::alloc::Global;
 
 /// So many zeros.
 pub fn zeros(alloc: Global, len: usize) -> Result<Vec<u8>, RecoverFault>
-    ensures len { IfOk result (λ text. length text.items ≡ len) }
+    ensures len { IfOk result (λ encoding. length encoding.items ≡ len) }
     ensures memory { OnErr result (result ≡ Err RecoverFault.NoMemory) }
     ensures blameless { IfErr result IsBlameless }
 {
-    let mut text = Vec::new(alloc);
-    match text.resize(len, 0u8) {
-        Ok(()) => Ok(text),
+    let mut encoding = Vec::new(alloc);
+    match encoding.resize(len, 0u8) {
+        Ok(()) => Ok(encoding),
         Err(_) => Err(RecoverFault::NoMemory),
     }
 }
@@ -33,7 +33,7 @@ pub fn zeros(alloc: Global, len: usize) -> Result<Vec<u8>, RecoverFault>
 /// Takes note of what came: of a header that there are so many pages, and of a page.
 fn note(alloc: Global, reader: &PieceReader, came: Part, tally: &mut Tally) -> Result<(), NoMemory>
     requires { FitsIn came tally.old }
-    ensures { OnOk result ((text next : List ℕ) (change : PageChange) → IsSound came text next (change_after came reader.now change)
+    ensures { OnOk result ((encoding next : List ℕ) (change : PageChange) → IsSound came encoding next (change_after came reader.now change)
         → IsTallied change tally.old → IsTallied (change_after came reader.now change) tally.new) }
 {
     match came {

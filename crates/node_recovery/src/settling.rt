@@ -46,11 +46,11 @@ pub fn settle_from<D: Disk>(
     requires settled { IsTrue (D.honest disk.old) → IsSettledBut Name.Staged (D.history disk.old) }
     requires there { IsTrue (D.honest disk.old) → IsSome (now (D.history disk.old) Name.Snapshot) }
     ensures moments { IsTrue (D.honest disk.old) → (file : Ltx) → HoldsFile Name.Snapshot header.now file (now (D.history disk.old))
-        → (image : DatabaseImage) (text : List ℕ) → IsUnsettled image text entries.now file.change (now (D.history disk.old))
-        → EachMoment (D.history disk.old) (D.history disk.new) (IsInstalled image (record { min = header.now.min; max = header.now.max; text = text })) }
+        → (image : DatabaseImage) (encoding : List ℕ) → IsUnsettled image encoding entries.now file.change (now (D.history disk.old))
+        → EachMoment (D.history disk.old) (D.history disk.new) (IsInstalled image (record { min = header.now.min; max = header.now.max; encoding = encoding })) }
     ensures done { IsTrue (D.honest disk.old) → OnOk result ((file : Ltx) → HoldsFile Name.Snapshot header.now file (now (D.history disk.old))
-        → (image : DatabaseImage) (text : List ℕ) → IsUnsettled image text entries.now file.change (now (D.history disk.old))
-        → IsAtRest image (record { min = header.now.min; max = header.now.max; text = text } ∷ []) false (D.history disk.new)) }
+        → (image : DatabaseImage) (encoding : List ℕ) → IsUnsettled image encoding entries.now file.change (now (D.history disk.old))
+        → IsAtRest image (record { min = header.now.min; max = header.now.max; encoding = encoding } ∷ []) false (D.history disk.new)) }
     ensures honest { D.honest disk.new ≡ D.honest disk.old }
     ensures cause { CountsFaults (D.faults disk.old) (D.faults disk.new) result }
 {

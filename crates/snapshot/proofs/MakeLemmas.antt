@@ -1,29 +1,29 @@
--- The text of a store's snapshot is its parts.
+-- The encoding of a store's snapshot is its parts.
 use Rattle.std.proofs.Common.{◌≡◌, ℕ, List, ◌++◌, length, refl, sym, ◌∙◌, ap, append_assoc}
 use Rattle.page_checksum.specs.Crc.{after_bytes, all_ones}
 use Rattle.page_checksum.proofs.CrcLemmas.{after_bytes-append}
 use Rattle.lf_base.specs.declared.pos.Pos.{Pos}
 use Rattle.lf_sqlite_pages.specs.Image.{DatabaseImage}
 use Rattle.lf_sqlite_pages.specs.Writes.{data_writes}
-use Rattle.ltx_codec.specs.Encoding.{HasWritten, trailer_text}
-use Rattle.ltx_codec.specs.Format.{header_text, no_meaning, pages_text, file_text}
+use Rattle.ltx_codec.specs.Encoding.{HasWritten, trailer_encoding}
+use Rattle.ltx_codec.specs.Format.{header_encoding, no_meaning, pages_encoding, file_encoding}
 use Rattle.ltx_codec.specs.declared.file.Ltx.{Ltx}
 use Rattle.ltx_codec.specs.declared.header.Header.{Header}
 use Rattle.world_laws.specs.Answers.{snapshot_of}
 use Rattle.world_laws.specs.Store.{StoreState, at}
-use Rattle.snapshot.specs.Parts.{parts_text}
+use Rattle.snapshot.specs.Parts.{parts_encoding}
 
 abbrev pub Finishes : Type 0
-Finishes = (register : ℕ) (f : Ltx) (text : List ℕ) → HasWritten register f.header f.change.pages text → text ++ trailer_text register f.post ≡ file_text f no_meaning
+Finishes = (register : ℕ) (f : Ltx) (encoding : List ℕ) → HasWritten register f.header f.change.pages encoding → encoding ++ trailer_encoding register f.post ≡ file_encoding f no_meaning
 
--- the parts of a file are its text
-pub file_parts : (file : Ltx) → Finishes → parts_text file.header (pages_text file.change.pages) file.post ≡ file_text file no_meaning
+-- the parts of a file are its encoding
+pub file_parts : (file : Ltx) → Finishes → parts_encoding file.header (pages_encoding file.change.pages) file.post ≡ file_encoding file no_meaning
 file_parts file finish =
-    let header : List ℕ = header_text file.header no_meaning in
-    let pages : List ℕ = pages_text file.change.pages in
+    let header : List ℕ = header_encoding file.header no_meaning in
+    let pages : List ℕ = pages_encoding file.change.pages in
     let register : ℕ = after_bytes (after_bytes all_ones header) pages in
-    sym (append_assoc header pages (trailer_text register file.post))
-    ∙ finish register file (header ++ pages) (record { register_is = sym (after_bytes-append all_ones header pages); text_is = refl })
+    sym (append_assoc header pages (trailer_encoding register file.post))
+    ∙ finish register file (header ++ pages) (record { register_is = sym (after_bytes-append all_ones header pages); encoding_is = refl })
 
 -- the header of a snapshot
 abbrev pub header_for : ℕ → ℕ → ℕ → Header
@@ -42,15 +42,15 @@ header_for size commit txid = record {
 }
 
 pub snapshot_parts : (store : StoreState) → Finishes →
-    parts_text (header_for store.image.page_size (length store.image.pages) (at store).txid) (pages_text (data_writes store.image)) (at store).sum ≡ file_text (snapshot_of store) no_meaning
+    parts_encoding (header_for store.image.page_size (length store.image.pages) (at store).txid) (pages_encoding (data_writes store.image)) (at store).sum ≡ file_encoding (snapshot_of store) no_meaning
 unfolding snapshot_of
 snapshot_parts store finish = file_parts (snapshot_of store) finish
 
-pub snapshot_text : (store : StoreState) (image : DatabaseImage) (header : Header) (commit : ℕ) (position : Pos) → Finishes → store.image ≡ image →
+pub snapshot_encoding : (store : StoreState) (image : DatabaseImage) (header : Header) (commit : ℕ) (position : Pos) → Finishes → store.image ≡ image →
     header ≡ header_for image.page_size commit position.txid → length image.pages ≡ commit → position ≡ at store →
-    parts_text header (pages_text (data_writes image)) position.sum ≡ file_text (snapshot_of store) no_meaning
-snapshot_text store image header commit position finish image_is header_is count position_is =
-    ap (λ (h : Header). parts_text h (pages_text (data_writes image)) position.sum) (header_is ∙ ap (λ (n : ℕ). header_for image.page_size n position.txid) (sym count))
-    ∙ ap (λ (p : Pos). parts_text (header_for image.page_size (length image.pages) p.txid) (pages_text (data_writes image)) p.sum) position_is
-    ∙ ap (λ (i : DatabaseImage). parts_text (header_for i.page_size (length i.pages) (at store).txid) (pages_text (data_writes i)) (at store).sum) (sym image_is)
+    parts_encoding header (pages_encoding (data_writes image)) position.sum ≡ file_encoding (snapshot_of store) no_meaning
+snapshot_encoding store image header commit position finish image_is header_is count position_is =
+    ap (λ (h : Header). parts_encoding h (pages_encoding (data_writes image)) position.sum) (header_is ∙ ap (λ (n : ℕ). header_for image.page_size n position.txid) (sym count))
+    ∙ ap (λ (p : Pos). parts_encoding (header_for image.page_size (length image.pages) p.txid) (pages_encoding (data_writes image)) p.sum) position_is
+    ∙ ap (λ (i : DatabaseImage). parts_encoding (header_for i.page_size (length i.pages) (at store).txid) (pages_encoding (data_writes i)) (at store).sum) (sym image_is)
     ∙ snapshot_parts store finish

@@ -19,7 +19,7 @@ use Rattle.world_laws.specs.SnapshotLaw.{IsFullStore}
 use Rattle.world_laws.specs.Store.{StoreState, at, end_of}
 use Rattle.world_laws.proofs.Snapshots.{whole-same}
 use Rattle.txn_log.specs.declared.entry.Entry.{Entry}
-use Rattle.txn_log.specs.Durable.{log_of, IsText}
+use Rattle.txn_log.specs.Durable.{log_of, IsEncoding}
 use Rattle.txn_log.specs.Kept.{LogFile, file_of, last_of, Decides, change_of}
 use Rattle.txn_log.specs.Store.{image_in, files_in, state_of, meant, end_of_entries, IsStore, IsSized}
 use Rattle.txn_log.proofs.Commits.{end_of-push}
@@ -29,14 +29,14 @@ use Rattle.snapshot.proofs.StoreLemmas.{page_size-most}
 -- the last file of some files
 pub record IsLast (files : List LogFile) (file : LogFile) : Type 0 where
   pub last : last_of files ≡ Some file
-  pub ends : end_of (log_of files) ≡ after (file_of file.text)
+  pub ends : end_of (log_of files) ≡ after (file_of file.encoding)
   pub place : ℕ
   pub within : place < length files
   pub found : (d : LogFile) → get_or files place d ≡ file
 
 record Runs (x : LogFile) (xs : List LogFile) (o : Option LogFile) (p : Pos) (file : LogFile) : Type 0 where
   last : fold (λ _ (f : LogFile). Some f) o (x ∷ xs) ≡ Some file
-  ends : fold (λ _ (l : Ltx). after l) p (log_of (x ∷ xs)) ≡ after (file_of file.text)
+  ends : fold (λ _ (l : Ltx). after l) p (log_of (x ∷ xs)) ≡ after (file_of file.encoding)
   place : ℕ
   within : place < length (x ∷ xs)
   found : (d : LogFile) → get_or (x ∷ xs) place d ≡ file
@@ -44,7 +44,7 @@ record Runs (x : LogFile) (xs : List LogFile) (o : Option LogFile) (p : Pos) (fi
 runs : (x : LogFile) (xs : List LogFile) (o : Option LogFile) (p : Pos) → (file : LogFile) × Runs x xs o p file
 runs x [] o p = (x, record { last = refl; ends = refl; place = 0; within = omega arith; found = λ d. refl })
 runs x (y ∷ ys) o p =
-    let rest = runs y ys (Some x) (after (file_of x.text)) in
+    let rest = runs y ys (Some x) (after (file_of x.encoding)) in
     (rest.0, record { last = rest.1.last; ends = rest.1.ends; place = suc rest.1.place; within = omega (arith, rest.1.within); found = rest.1.found })
 
 pub last_is : (files : List LogFile) → 1 ≤ (end_of (log_of files)).txid → (file : LogFile) × IsLast files file
@@ -59,25 +59,25 @@ unfolding end_of_entries
 some_entries [] some same = absurd (omega (arith, some))
 some_entries (e ∷ es) some same = cc
 
--- what the last file's text says
-sized_by : (text : List ℕ) → IsText text → IsPageSize (change_of text).page_size
-sized_by text is = ∥∥₁_elim is (hlevel props) (λ (it : IsLtx text (file_of text)). it.valid.block.pages.of_a_page_size)
+-- what the last file's encoding says
+sized_by : (encoding : List ℕ) → IsEncoding encoding → IsPageSize (change_of encoding).page_size
+sized_by encoding is = ∥∥₁_elim is (hlevel props) (λ (it : IsLtx encoding (file_of encoding)). it.valid.block.pages.of_a_page_size)
 
-limited_by : (text : List ℕ) → IsText text → IsWithinLimit (change_of text).page_size (change_of text).commit
-limited_by text is = ∥∥₁_elim is (hlevel props) (λ (it : IsLtx text (file_of text)). within it) where
-  within : IsLtx text (file_of text) → IsWithinLimit (change_of text).page_size (change_of text).commit
+limited_by : (encoding : List ℕ) → IsEncoding encoding → IsWithinLimit (change_of encoding).page_size (change_of encoding).commit
+limited_by encoding is = ∥∥₁_elim is (hlevel props) (λ (it : IsLtx encoding (file_of encoding)). within it) where
+  within : IsLtx encoding (file_of encoding) → IsWithinLimit (change_of encoding).page_size (change_of encoding).commit
   within it =
-      subst (λ (s : ℕ). IsWithinLimit s (change_of text).commit) (sym it.valid.block.page_size)
-      (subst (λ (n : ℕ). IsWithinLimit (file_of text).header.page_size n) (sym it.valid.block.commit) it.valid.header.commit)
+      subst (λ (s : ℕ). IsWithinLimit s (change_of encoding).commit) (sym it.valid.block.page_size)
+      (subst (λ (n : ℕ). IsWithinLimit (file_of encoding).header.page_size n) (sym it.valid.block.commit) it.valid.header.commit)
 
-flagged_by : (text : List ℕ) → IsText text → IsFlagged (after (file_of text)).sum
-flagged_by text is = ∥∥₁_elim is (hlevel props) (λ (it : IsLtx text (file_of text)). it.valid.post.flagged)
+flagged_by : (encoding : List ℕ) → IsEncoding encoding → IsFlagged (after (file_of encoding)).sum
+flagged_by encoding is = ∥∥₁_elim is (hlevel props) (λ (it : IsLtx encoding (file_of encoding)). it.valid.post.flagged)
 
-narrow_by : (text : List ℕ) → IsText text → (after (file_of text)).sum < 2 ^ 64
-narrow_by text is = ∥∥₁_elim is (hlevel props) (λ (it : IsLtx text (file_of text)). it.valid.post.width)
+narrow_by : (encoding : List ℕ) → IsEncoding encoding → (after (file_of encoding)).sum < 2 ^ 64
+narrow_by encoding is = ∥∥₁_elim is (hlevel props) (λ (it : IsLtx encoding (file_of encoding)). it.valid.post.width)
 
-numbered_by : (text : List ℕ) → IsText text → (after (file_of text)).txid < 2 ^ 64
-numbered_by text is = ∥∥₁_elim is (hlevel props) (λ (it : IsLtx text (file_of text)). it.valid.header.widths.max)
+numbered_by : (encoding : List ℕ) → IsEncoding encoding → (after (file_of encoding)).txid < 2 ^ 64
+numbered_by encoding is = ∥∥₁_elim is (hlevel props) (λ (it : IsLtx encoding (file_of encoding)). it.valid.header.widths.max)
 
 module _ (h : History) (size commit : ℕ) (entries : List Entry) (dropped broken : Bool) (sums : List ℕ) (whole tried : ℕ)
     (is : IsStore h size commit entries dropped sums broken whole tried) where
@@ -89,19 +89,19 @@ module _ (h : History) (size commit : ℕ) (entries : List Entry) (dropped broke
       let files : List LogFile = files_in entries f in
       let image : DatabaseImage = image_in size commit f in
       let last = last_is files some in
-      let decides : Decides (change_of last.0.text) image _ = is.rest.kept.decided.some last.0 last.1.last in
-      let text : IsText last.0.text = subst (λ (l : LogFile). IsText l.text) (last.1.found last.0) (is.log.log.texts last.1.place last.0 last.1.within) in
+      let decides : Decides (change_of last.0.encoding) image _ = is.rest.kept.decided.some last.0 last.1.last in
+      let encoding : IsEncoding last.0.encoding = subst (λ (l : LogFile). IsEncoding l.encoding) (last.1.found last.0) (is.log.log.encodings last.1.place last.0 last.1.within) in
       record {
         some = some;
-        txid = subst (λ (p : Pos). p.txid < 2 ^ 64) (sym last.1.ends) (numbered_by last.0.text text);
+        txid = subst (λ (p : Pos). p.txid < 2 ^ 64) (sym last.1.ends) (numbered_by last.0.encoding encoding);
         image = is_image size commit f is.rest.shows.long sized few;
-        page_size = subst IsPageSize (sym decides.page_size) (sized_by last.0.text text);
+        page_size = subst IsPageSize (sym decides.page_size) (sized_by last.0.encoding encoding);
         size_small = small;
         limit = subst (λ (s : ℕ). IsWithinLimit s (length image.pages)) (sym decides.page_size)
-            (subst (λ (n : ℕ). IsWithinLimit (change_of last.0.text).page_size n) (sym decides.commit) (limited_by last.0.text text));
+            (subst (λ (n : ℕ). IsWithinLimit (change_of last.0.encoding).page_size n) (sym decides.commit) (limited_by last.0.encoding encoding));
         sum = sum_is ∙ ap (λ (l : List ℕ). flagged (joined l)) is.table ∙ sym (law image);
-        width = subst (λ (p : Pos). p.sum < 2 ^ 64) (sym last.1.ends) (narrow_by last.0.text text);
-        flagged = subst (λ (p : Pos). IsFlagged p.sum) (sym last.1.ends) (flagged_by last.0.text text);
+        width = subst (λ (p : Pos). p.sum < 2 ^ 64) (sym last.1.ends) (narrow_by last.0.encoding encoding);
+        flagged = subst (λ (p : Pos). IsFlagged p.sum) (sym last.1.ends) (flagged_by last.0.encoding encoding);
       }
 
 pub made : (store : StoreState) → IsImage store.image → SameImage (apply empty_image (snapshot_of store).change) store.image

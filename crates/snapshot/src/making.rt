@@ -3,20 +3,20 @@ ghost use Rattle.std.specs.Prelude.{◌≡◌, ◌≢◌, ◌<◌, ◌≤◌, �
 ghost use Rattle.std.specs.Io.KnownBytes.{Appends};
 ghost use Rattle.lf_disk.specs.History.{now, Rests};
 ghost use Rattle.lf_sqlite_pages.specs.Writes.{data_writes};
-ghost use Rattle.ltx_codec.specs.Format.{IsFile, file_text, no_meaning, pages_text};
+ghost use Rattle.ltx_codec.specs.Format.{IsFile, file_encoding, no_meaning, pages_encoding};
 ghost use Rattle.world_laws.specs.Answers.{snapshot_of};
 ghost use Rattle.txn_log.specs.Calls.{Moved};
 ghost use Rattle.txn_log.specs.Store.{end_of_entries, image_in, state_of, failed_of};
 ghost use Rattle.snapshot.specs.Causes.{WritesWith};
 ghost use Rattle.snapshot.specs.Output.{AppendsPrefix, AppendsSome};
 ghost use Rattle.snapshot.specs.Pages.{HasPages};
-ghost use Rattle.snapshot.specs.Parts.{parts_text};
+ghost use Rattle.snapshot.specs.Parts.{parts_encoding};
 
 use crate::fault::IntoFault;
 use crate::writing::{write_end, write_pages, write_part};
 use lf_base::{Pos, Sink};
 use lf_disk::Disk;
-use ltx_codec::{Header, header_bytes, parts_are_the_text};
+use ltx_codec::{Header, header_bytes, parts_are_the_encoding};
 use page_checksum::FIRST_REGISTER;
 use txn_log::{Store, StoreFault};
 
@@ -30,9 +30,9 @@ pub fn make_into<D: Disk, K: Sink>(
 ) -> Result<(), IntoFault>
     requires room { length page.old ≡ 65536 }
     requires written { 1 ≤ (end_of_entries store.old.entries.items).txid }
-    ensures whole { IsTrue (D.honest store.old.disk) → OnOk result (Appends (K.taken sink.old) (K.taken sink.new) (file_text (snapshot_of (state_of (D.history store.old.disk)
+    ensures whole { IsTrue (D.honest store.old.disk) → OnOk result (Appends (K.taken sink.old) (K.taken sink.new) (file_encoding (snapshot_of (state_of (D.history store.old.disk)
         store.old.page_size store.old.commit store.old.entries.items store.old.dropped store.old.broken store.old.whole)) no_meaning)) }
-    ensures prefix { IsTrue (D.honest store.old.disk) → OnErr result (AppendsPrefix (K.taken sink.old) (K.taken sink.new) (file_text (snapshot_of (state_of (D.history store.old.disk)
+    ensures prefix { IsTrue (D.honest store.old.disk) → OnErr result (AppendsPrefix (K.taken sink.old) (K.taken sink.new) (file_encoding (snapshot_of (state_of (D.history store.old.disk)
         store.old.page_size store.old.commit store.old.entries.items store.old.dropped store.old.broken store.old.whole)) no_meaning)) }
     ensures grows { AppendsSome (K.taken sink.old) (K.taken sink.new) }
     ensures cause { WritesWith store.old.broken (D.faults store.old.disk) (D.faults store.new.disk) (K.faults sink.old) (K.faults sink.new) result }
@@ -52,7 +52,7 @@ pub fn make_into<D: Disk, K: Sink>(
     if store.broken {
         return Err(IntoFault::Store(StoreFault::Broken));
     }
-    parts_are_the_text();
+    parts_are_the_encoding();
     let position = store.pos();
     let header = header_of(store.page_size, store.commit, position);
     let (page, _) = page.split_at_mut(store.page_size as usize);
@@ -102,10 +102,10 @@ fn write_parts<D: Disk, K: Sink>(
     requires size { length page.old < 2 ^ 32 }
     ensures whole { IsTrue (D.honest disk.old) → HasPages (length page.old) header.now.commit (now (D.history disk.old))
         → OnOk result (Appends (K.taken sink.old) (K.taken sink.new)
-        (parts_text header.now (pages_text (data_writes (image_in (length page.old) header.now.commit (now (D.history disk.old))))) post)) }
+        (parts_encoding header.now (pages_encoding (data_writes (image_in (length page.old) header.now.commit (now (D.history disk.old))))) post)) }
     ensures prefix { IsTrue (D.honest disk.old) → HasPages (length page.old) header.now.commit (now (D.history disk.old))
         → OnErr result (AppendsPrefix (K.taken sink.old) (K.taken sink.new)
-        (parts_text header.now (pages_text (data_writes (image_in (length page.old) header.now.commit (now (D.history disk.old))))) post)) }
+        (parts_encoding header.now (pages_encoding (data_writes (image_in (length page.old) header.now.commit (now (D.history disk.old))))) post)) }
     ensures grows { AppendsSome (K.taken sink.old) (K.taken sink.new) }
     ensures rests { Rests (D.history disk.old) (D.history disk.new) }
     ensures honest { D.honest disk.new ≡ D.honest disk.old }

@@ -1,6 +1,6 @@
 //! The snapshot of a store in memory.
 ghost use Rattle.std.specs.Prelude.{◌≡◌, ◌≤◌, ◌++◌, [], length, None, IfOk, IsTrue, OnOk, OnErr};
-ghost use Rattle.ltx_codec.specs.Format.{file_text, no_meaning};
+ghost use Rattle.ltx_codec.specs.Format.{file_encoding, no_meaning};
 ghost use Rattle.world_laws.specs.Answers.{snapshot_of};
 ghost use Rattle.txn_log.specs.Calls.{Moved};
 ghost use Rattle.txn_log.specs.Store.{end_of_entries, state_of, failed_of};
@@ -29,7 +29,7 @@ fn page_room(alloc: Global) -> Result<Vec<u8>, NoMemory>
 /// before.
 pub fn make<D: Disk>(store: &mut Store<D>, out: &mut Vec<u8>) -> Result<(), StoreFault>
     requires written { 1 ≤ (end_of_entries store.old.entries.items).txid }
-    ensures bytes { IsTrue (D.honest store.old.disk) → OnOk result (out.new.items ≡ out.old.items ++ file_text (snapshot_of (state_of (D.history store.old.disk)
+    ensures bytes { IsTrue (D.honest store.old.disk) → OnOk result (out.new.items ≡ out.old.items ++ file_encoding (snapshot_of (state_of (D.history store.old.disk)
         store.old.page_size store.old.commit store.old.entries.items store.old.dropped store.old.broken store.old.whole)) no_meaning) }
     ensures err { OnErr result (out.new.items ≡ out.old.items) }
     ensures cause { ReadsWith store.old.broken (D.faults store.old.disk) (D.faults store.new.disk) result }

@@ -5,8 +5,8 @@ ghost use Rattle.lf_base.specs.Faults.{CountsFaults};
 ghost use Rattle.page_checksum.specs.Crc.{after_bytes};
 ghost use Rattle.lf_disk.specs.History.{now, Rests};
 ghost use Rattle.lf_sqlite_pages.specs.Writes.{data_writes};
-ghost use Rattle.ltx_codec.specs.Encoding.{trailer_text};
-ghost use Rattle.ltx_codec.specs.Format.{end_text, page_text, pages_text};
+ghost use Rattle.ltx_codec.specs.Encoding.{trailer_encoding};
+ghost use Rattle.ltx_codec.specs.Format.{end_encoding, page_encoding, pages_encoding};
 ghost use Rattle.txn_log.specs.Store.{image_in};
 ghost use Rattle.snapshot.specs.Causes.{WritesWith};
 ghost use Rattle.snapshot.specs.Output.{AppendsPrefix, AppendsSome};
@@ -37,9 +37,9 @@ pub fn write_part<K: Sink>(sink: &mut K, bytes: &[u8], register: u64) -> Result<
 
 /// Writes a page behind its number, and answers the register after it.
 fn write_page<K: Sink>(sink: &mut K, number: u32, page: &[u8], register: u64) -> Result<u64, Failed>
-    ensures whole { OnOk result (Appends (K.taken sink.old) (K.taken sink.new) (page_text number page.now)) }
-    ensures register { IfOk result (λ after. after ≡ after_bytes register (page_text number page.now)) }
-    ensures prefix { OnErr result (AppendsPrefix (K.taken sink.old) (K.taken sink.new) (page_text number page.now)) }
+    ensures whole { OnOk result (Appends (K.taken sink.old) (K.taken sink.new) (page_encoding number page.now)) }
+    ensures register { IfOk result (λ after. after ≡ after_bytes register (page_encoding number page.now)) }
+    ensures prefix { OnErr result (AppendsPrefix (K.taken sink.old) (K.taken sink.new) (page_encoding number page.now)) }
     ensures cause { CountsFaults (K.faults sink.old) (K.faults sink.new) result }
 {
     let register = write_part(sink, &number.to_be_bytes(), register)?;
@@ -86,11 +86,11 @@ pub fn write_pages<D: Disk, K: Sink>(
     requires some { 0 < commit → 0 < length page.old }
     requires size { length page.old < 2 ^ 32 }
     ensures whole { IsTrue (D.honest disk.old) → HasPages (length page.old) commit (now (D.history disk.old))
-        → OnOk result (Appends (K.taken sink.old) (K.taken sink.new) (pages_text (data_writes (image_in (length page.old) commit (now (D.history disk.old)))))) }
+        → OnOk result (Appends (K.taken sink.old) (K.taken sink.new) (pages_encoding (data_writes (image_in (length page.old) commit (now (D.history disk.old)))))) }
     ensures register { IsTrue (D.honest disk.old) → HasPages (length page.old) commit (now (D.history disk.old))
-        → IfOk result (λ after. after ≡ after_bytes register (pages_text (data_writes (image_in (length page.old) commit (now (D.history disk.old)))))) }
+        → IfOk result (λ after. after ≡ after_bytes register (pages_encoding (data_writes (image_in (length page.old) commit (now (D.history disk.old)))))) }
     ensures prefix { IsTrue (D.honest disk.old) → HasPages (length page.old) commit (now (D.history disk.old))
-        → OnErr result (AppendsPrefix (K.taken sink.old) (K.taken sink.new) (pages_text (data_writes (image_in (length page.old) commit (now (D.history disk.old)))))) }
+        → OnErr result (AppendsPrefix (K.taken sink.old) (K.taken sink.new) (pages_encoding (data_writes (image_in (length page.old) commit (now (D.history disk.old)))))) }
     ensures grows { AppendsSome (K.taken sink.old) (K.taken sink.new) }
     ensures rests { Rests (D.history disk.old) (D.history disk.new) }
     ensures honest { D.honest disk.new ≡ D.honest disk.old }
@@ -112,8 +112,8 @@ pub fn write_pages<D: Disk, K: Sink>(
 
 /// Writes the end of the pages, the sum of the database, and the file sum.
 pub fn write_end<K: Sink>(sink: &mut K, post: u64, register: u64) -> Result<(), Failed>
-    ensures whole { OnOk result (Appends (K.taken sink.old) (K.taken sink.new) (trailer_text register post)) }
-    ensures prefix { OnErr result (AppendsPrefix (K.taken sink.old) (K.taken sink.new) (trailer_text register post)) }
+    ensures whole { OnOk result (Appends (K.taken sink.old) (K.taken sink.new) (trailer_encoding register post)) }
+    ensures prefix { OnErr result (AppendsPrefix (K.taken sink.old) (K.taken sink.new) (trailer_encoding register post)) }
     ensures cause { CountsFaults (K.faults sink.old) (K.faults sink.new) result }
 {
     let register = write_part(sink, &end_bytes(post), register)?;
@@ -123,7 +123,7 @@ pub fn write_end<K: Sink>(sink: &mut K, post: u64, register: u64) -> Result<(), 
 
 /// The number 0 that ends the pages, and the sum of the database.
 fn end_bytes(post: u64) -> [u8; 12]
-    ensures { result ≡ end_text post }
+    ensures { result ≡ end_encoding post }
 {
     let mut bytes = [0; 12];
     bytes[4..].copy_from_slice(&post.to_be_bytes());

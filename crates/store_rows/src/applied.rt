@@ -1,5 +1,5 @@
 //! A file that a source gives is applied to a store for which room was reserved.
-use crate::samples::{A, text_of};
+use crate::samples::{A, encoding_of};
 use crate::sources::{room, source_of};
 use crate::stores::{MemStore, anew};
 use lf_base::Pos;
@@ -43,11 +43,11 @@ fn print_one(
 /// A snapshot of one page on an empty store: without room, from a source that fails, cut off, with
 /// room, and once more.
 pub fn print_applied(rt: HostRuntime) -> io::Result<()> {
-    let (Some(mut store), Some(text)) = (anew(rt.alloc()), text_of(rt.alloc(), &A)) else {
+    let (Some(mut store), Some(encoding)) = (anew(rt.alloc()), encoding_of(rt.alloc(), &A)) else {
         return println!(rt; "no store");
     };
     println!(rt; "a source applied to an empty store")?;
-    let whole = text.as_slice();
+    let whole = encoding.as_slice();
     print_one(rt, &mut store, 0, whole, false)?;
     print_one(rt, &mut store, 1, whole, true)?;
     print_one(rt, &mut store, 1, whole.get(..635).unwrap_or(&[]), false)?;

@@ -1,5 +1,5 @@
 //! A store in a folder of the system.
-use crate::samples::{A, B, Sample, text_of};
+use crate::samples::{A, B, Sample, encoding_of};
 use crate::script::{around, script};
 use crate::stages::{Stage, is_just};
 use crate::steps::{Step, Went, does};
@@ -49,10 +49,10 @@ pub fn print_script(rt: HostRuntime) -> io::Result<()> {
     fs::remove_dir_all(&rt, TOP)
 }
 
-/// Whether a file of the folder has the text of a sample.
-fn has_text(rt: HostRuntime, path: &str, sample: &Sample) -> bool {
-    match (fs::read(&rt, path), text_of(rt.alloc(), sample)) {
-        (Ok(found), Some(text)) => found.as_slice() == text.as_slice(),
+/// Whether a file of the folder has the encoding of a sample.
+fn has_encoding(rt: HostRuntime, path: &str, sample: &Sample) -> bool {
+    match (fs::read(&rt, path), encoding_of(rt.alloc(), sample)) {
+        (Ok(found), Some(encoding)) => found.as_slice() == encoding.as_slice(),
         _ => false,
     }
 }
@@ -65,7 +65,7 @@ pub fn print_two_files(rt: HostRuntime) -> io::Result<()> {
     let first = does(rt.alloc(), &mut store, Step::Commit(A)) == Went::Done;
     let second = does(rt.alloc(), &mut store, Step::Apply(B)) == Went::Done;
     println!(rt; "folder: two files: {first} {second}")?;
-    let (first, second) = (has_text(rt, FIRST, &A), has_text(rt, SECOND, &B));
-    println!(rt; "folder: their texts: {first} {second}")?;
+    let (first, second) = (has_encoding(rt, FIRST, &A), has_encoding(rt, SECOND, &B));
+    println!(rt; "folder: their encodings: {first} {second}")?;
     fs::remove_dir_all(&rt, TOP)
 }

@@ -11,11 +11,11 @@ use snapshot::{install, make};
 use std::alloc::Global;
 use std::io;
 
-/// The file that a text is.
-fn read(alloc: Global, text: &[u8]) -> Option<Ltx>
+/// The file that an encoding is.
+fn read(alloc: Global, encoding: &[u8]) -> Option<Ltx>
     ensures { IfSome result IsFile }
 {
-    match decode(alloc, text) {
+    match decode(alloc, encoding) {
         Ok(file) => Some(file),
         Err(_) => None,
     }
@@ -28,9 +28,9 @@ fn snapshot_of(alloc: Global, store: &mut MemStore) -> Option<Ltx>
     if store.pos().txid == 0 {
         return None;
     }
-    let mut text = Vec::new(alloc);
-    match make(store, &mut text) {
-        Ok(()) => read(alloc, text.as_slice()),
+    let mut encoding = Vec::new(alloc);
+    match make(store, &mut encoding) {
+        Ok(()) => read(alloc, encoding.as_slice()),
         Err(_) => None,
     }
 }
@@ -42,9 +42,9 @@ fn file_at(alloc: Global, store: &mut MemStore, at: usize) -> Option<Ltx>
     if at >= store.entries.len() {
         return None;
     }
-    let mut text = Vec::new(alloc);
-    match store.file(at, &mut text) {
-        Ok(()) => read(alloc, text.as_slice()),
+    let mut encoding = Vec::new(alloc);
+    match store.file(at, &mut encoding) {
+        Ok(()) => read(alloc, encoding.as_slice()),
         Err(_) => None,
     }
 }

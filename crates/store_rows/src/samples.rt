@@ -116,8 +116,8 @@ fn add_page(encoder: &mut Encoder, filled: Filled, out: &mut Vec<u8>) -> Result<
     encoder.page(number, &[byte; 512], out)
 }
 
-/// The text of a file.
-pub fn text_of(alloc: Global, sample: &Sample) -> Option<Vec<u8>> {
+/// The encoding of a file.
+pub fn encoding_of(alloc: Global, sample: &Sample) -> Option<Vec<u8>> {
     let mut out = Vec::new(alloc);
     let Ok(mut encoder) = Encoder::start(&header_of(sample), &mut out) else {
         return None;
@@ -137,10 +137,10 @@ pub fn text_of(alloc: Global, sample: &Sample) -> Option<Vec<u8>> {
 pub fn file_of(alloc: Global, sample: &Sample) -> Option<Ltx>
     ensures { IfSome result IsFile }
 {
-    let Some(text) = text_of(alloc, sample) else {
+    let Some(encoding) = encoding_of(alloc, sample) else {
         return None;
     };
-    match decode(alloc, text.as_slice()) {
+    match decode(alloc, encoding.as_slice()) {
         Ok(file) => Some(file),
         Err(_) => None,
     }

@@ -1,11 +1,11 @@
 //! Sources that are read as a file.
 ghost use Rattle.std.specs.Prelude.{◌≡◌, length, IfSome};
 
-use crate::samples::{A, text_of};
+use crate::samples::{A, encoding_of};
 use lf_base::SliceSource;
 use std::alloc::Global;
 use std::io;
-use txn_log::{Coming, FileDecoder, Outline, TextFault, read_source};
+use txn_log::{Coming, FileDecoder, Outline, SourceFault, read_source};
 
 /// Room for a piece.
 pub fn room(alloc: Global) -> Option<Vec<u8>>
@@ -24,7 +24,7 @@ pub fn source_of(alloc: Global, bytes: &[u8], fails: bool) -> Option<SliceSource
 }
 
 /// What a source is.
-fn read(alloc: Global, bytes: &[u8], fails: bool) -> Option<Result<Outline, TextFault>> {
+fn read(alloc: Global, bytes: &[u8], fails: bool) -> Option<Result<Outline, SourceFault>> {
     let mut source = source_of(alloc, bytes, fails)?;
     let mut coming = Coming::new(FileDecoder::new(alloc).ok()?);
     let mut page = room(alloc)?;
@@ -46,28 +46,28 @@ fn print_read(rt: HostRuntime, title: &str, bytes: &[u8], fails: bool) -> io::Re
     }
 }
 
-/// The text of a file, whole, cut off, with a byte behind it and with another byte in it.
+/// The encoding of a file, whole, cut off, with a byte behind it and with another byte in it.
 pub fn print_sources(rt: HostRuntime) -> io::Result<()> {
-    let Some(mut text) = text_of(rt.alloc(), &A) else {
-        return println!(rt; "no text");
+    let Some(mut encoding) = encoding_of(rt.alloc(), &A) else {
+        return println!(rt; "no encoding");
     };
-    println!(rt; "a source of {} bytes", text.len())?;
-    print_read(rt, "whole", text.as_slice(), false)?;
-    print_read(rt, "failing", text.as_slice(), true)?;
+    println!(rt; "a source of {} bytes", encoding.len())?;
+    print_read(rt, "whole", encoding.as_slice(), false)?;
+    print_read(rt, "failing", encoding.as_slice(), true)?;
     print_read(
         rt,
         "cut off",
-        text.as_slice().get(..635).unwrap_or(&[]),
+        encoding.as_slice().get(..635).unwrap_or(&[]),
         false,
     )?;
-    if text.push(0).is_err() {
+    if encoding.push(0).is_err() {
         return println!(rt; "no memory");
     }
-    print_read(rt, "one byte more", text.as_slice(), false)?;
+    print_read(rt, "one byte more", encoding.as_slice(), false)?;
     print_read(
         rt,
         "its end",
-        text.as_slice().get(1..).unwrap_or(&[]),
+        encoding.as_slice().get(1..).unwrap_or(&[]),
         false,
     )
 }

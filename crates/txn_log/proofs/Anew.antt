@@ -13,30 +13,30 @@ use Rattle.txn_log.specs.Installing.{IsReadyAnew, IsAsBeforeOrInstalled}
 use Rattle.txn_log.specs.Settling.{IsUnsettled, IsInstalled}
 use Rattle.txn_log.proofs.Settlings.{without-alike}
 
-module _ (h : History) (before : Folder) (image : DatabaseImage) (entries : List Entry) (change : PageChange) (file : LogFile) (ready : IsReadyAnew before image file.text entries change h) where
-  by_snapshot : (c : Folder) → SameBut Staged (with_bytes Snapshot file.text before) c → IsBySnapshot image file.text c
+module _ (h : History) (before : Folder) (image : DatabaseImage) (entries : List Entry) (change : PageChange) (file : LogFile) (ready : IsReadyAnew before image file.encoding entries change h) where
+  by_snapshot : (c : Folder) → SameBut Staged (with_bytes Snapshot file.encoding before) c → IsBySnapshot image file.encoding c
   by_snapshot c same = record {
     stands = same Snapshot refl;
     decides =
-        subst (λ (o : Option (List ℕ)). Decides (change_of file.text) image (bytes_of o)) (sym (same Database refl))
+        subst (λ (o : Option (List ℕ)). Decides (change_of file.encoding) image (bytes_of o)) (sym (same Database refl))
         (subst (λ (x : PageChange). Decides x image (bytes_of (before Database))) (sym ready.would.tells) ready.would.decides);
   }
 
-  pub first : (c : Folder) → IsOldOrPublished before Snapshot file.text c → IsAsBeforeOrInstalled before image file c
+  pub first : (c : Folder) → IsOldOrPublished before Snapshot file.encoding c → IsAsBeforeOrInstalled before image file c
   first c is = elim is [
     | inl old ↦ inl old
     | inr new ↦ inr (inl (by_snapshot c new))
   ]
 
-  pub unsettled : (mid : History) → IsPublished before Snapshot file.text mid → IsUnsettled image file.text entries change (now mid)
+  pub unsettled : (mid : History) → IsPublished before Snapshot file.encoding mid → IsUnsettled image file.encoding entries change (now mid)
   unsettled mid published = record {
     by = by_snapshot (now mid) published.seen;
     tells = ready.would.tells;
     others = λ a b. without-alike entries before (now mid) (λ x y. published.seen (Ltx x y) refl) a b ∙ ready.would.others a b;
   }
 
-  pub moments : (mid new : History) → EachMoment h mid (IsOldOrPublished before Snapshot file.text) → EachMoment mid new (IsInstalled image file) → EachMoment h new (IsAsBeforeOrInstalled before image file)
+  pub moments : (mid new : History) → EachMoment h mid (IsOldOrPublished before Snapshot file.encoding) → EachMoment mid new (IsInstalled image file) → EachMoment h new (IsAsBeforeOrInstalled before image file)
   moments mid new run after =
       joined h mid new (IsAsBeforeOrInstalled before image file)
-      (weakened h mid (IsOldOrPublished before Snapshot file.text) (IsAsBeforeOrInstalled before image file) run first)
+      (weakened h mid (IsOldOrPublished before Snapshot file.encoding) (IsAsBeforeOrInstalled before image file) run first)
       (weakened mid new (IsInstalled image file) (IsAsBeforeOrInstalled before image file) after (λ c is. inr is))

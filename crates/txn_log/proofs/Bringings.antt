@@ -7,7 +7,7 @@ use Rattle.lf_disk.proofs.Moments.{joined as joined_moments, weakened}
 use Rattle.lf_sqlite_pages.specs.Apply.{apply}
 use Rattle.lf_sqlite_pages.specs.Complete.{completed}
 use Rattle.lf_sqlite_pages.specs.Image.{DatabaseImage}
-use Rattle.ltx_codec.specs.Format.{file_text, no_meaning}
+use Rattle.ltx_codec.specs.Format.{file_encoding, no_meaning}
 use Rattle.txn_log.specs.Apply.{whole_file}
 use Rattle.txn_log.specs.Bringing.{JudgesTaken, IsBrought, IsOverGround, PlacesWhole, ReadsBack, TellsAfter}
 use Rattle.txn_log.specs.Intake.{HoldsUpTo}
@@ -33,22 +33,22 @@ use Rattle.txn_log.specs.Apply.{sum_behind}
 use Rattle.txn_log.specs.Taking.{TakenIn}
 use Rattle.txn_log.specs.declared.taking_in.Intake.{Intake}
 
-module _ (table sums : List ℕ) (count : ℕ) (wal : Bool) (room : ℕ) (text : List ℕ) (file : Ltx) (octets : AreBytes text) (is : IsLtx text file) where
+module _ (table sums : List ℕ) (count : ℕ) (wal : Bool) (room : ℕ) (encoding : List ℕ) (file : Ltx) (octets : AreBytes encoding) (is : IsLtx encoding file) where
   -- nothing was taken in of a file that is past the room
-  pub none_room : TakenIn None table sums count wal room text file.change → room < file.header.commit
+  pub none_room : TakenIn None table sums count wal room encoding file.change → room < file.header.commit
   none_room none =
-      let of = file_is text file is octets in
+      let of = file_is encoding file is octets in
       subst (λ (h : Header). room < h.commit) of.header (none (omega (arith, of.long)))
 
   -- and all of one that isn't
-  pub some_room : (intake : Intake) → TakenIn (Some intake) table sums count wal room text file.change → file.header.commit ≤ room
-  some_room intake it = subst (λ (h : Header). h.commit ≤ room) (file_is text file is octets).header it.2
+  pub some_room : (intake : Intake) → TakenIn (Some intake) table sums count wal room encoding file.change → file.header.commit ≤ room
+  some_room intake it = subst (λ (h : Header). h.commit ≤ room) (file_is encoding file is octets).header it.2
 
-  pub some_header : (intake : Intake) → TakenIn (Some intake) table sums count wal room text file.change → intake.receiving.header ≡ file.header
-  some_header intake it = it.1 ∙ (file_is text file is octets).header
+  pub some_header : (intake : Intake) → TakenIn (Some intake) table sums count wal room encoding file.change → intake.receiving.header ≡ file.header
+  some_header intake it = it.1 ∙ (file_is encoding file is octets).header
 
   -- the table has its sums
-  pub some_sum : (intake : Intake) → TakenIn (Some intake) table sums count wal room text file.change → flagged (joined table) ≡ sum_behind count sums file
+  pub some_sum : (intake : Intake) → TakenIn (Some intake) table sums count wal room encoding file.change → flagged (joined table) ≡ sum_behind count sums file
   some_sum intake it = ap (λ (t : List ℕ). flagged (joined t)) it.3.table_is
 
 -- what is placed behind what was staged
@@ -77,24 +77,24 @@ module _ (honest : Bool) (left left_now : Option (List ℕ)) (start mid : Histor
   abbrev pub file : Ltx
   file = record { header = outline.header; change = gave.change; post = outline.post }
 
-  pub it : TakenIn (Some intake) table sums ground.commit ground.wal ground.room gave.text gave.change
-  it = subst (λ (o : Option Intake). TakenIn o table sums ground.commit ground.wal ground.room gave.text gave.change) judged.0 gave.taken_in
+  pub it : TakenIn (Some intake) table sums ground.commit ground.wal ground.room gave.encoding gave.change
+  it = subst (λ (o : Option Intake). TakenIn o table sums ground.commit ground.wal ground.room gave.encoding gave.change) judged.0 gave.taken_in
 
   pub staged : IsTrue honest → HoldsUpTo (now start) intake.receiving gave.change ground.commit mid
   staged is = subst (λ (o : Option Intake). StagedIn o (now start) gave.change ground.commit mid) judged.0 (gave.staged is)
 
   pub header : intake.receiving.header ≡ outline.header
-  header = some_header table sums ground.commit ground.wal ground.room gave.text file gave.octets gave.is intake it
+  header = some_header table sums ground.commit ground.wal ground.room gave.encoding file gave.octets gave.is intake it
 
   pub brought : IsBrought left left_now ground sums file
   brought = record {
-    gave = record { text = gave.text; read = gave.read; end = gave.end; is = gave.is };
+    gave = record { encoding = gave.encoding; read = gave.read; end = gave.end; is = gave.is };
     room = judged.1;
     taken = judged.2;
   }
 
   pub back : ReadsBack ground.commit file
-  back = reads_back ground.commit gave.text file gave.octets gave.is
+  back = reads_back ground.commit gave.encoding file gave.octets gave.is
 
   pub tells : TellsAfter intake.wal ground sums table file
   tells = record { table_is = it.3.table_is; wal_is = it.3.wal_is }
@@ -116,13 +116,13 @@ module _ (honest : Bool) (left left_now : Option (List ℕ)) (start mid : Histor
   pub placed_whole : (end : History) (how : Placed) → (IsTrue honest → EachMoment start mid (SameBut Staged (now start)))
       → (IsTrue honest → (before : Folder) (image : DatabaseImage) (files : List LogFile) (change : PageChange) (whole : Ltx)
       → IsOverFrom before image files ground.dropped intake.receiving sums ground.commit outline.post change whole → HoldsUpTo before intake.receiving change ground.commit mid
-      → Places image files ground.dropped (apply image whole.change) (record { min = intake.receiving.header.min; max = intake.receiving.header.max; text = file_text whole no_meaning }) mid how end)
+      → Places image files ground.dropped (apply image whole.change) (record { min = intake.receiving.header.min; max = intake.receiving.header.max; encoding = file_encoding whole no_meaning }) mid how end)
       → PlacesWhole honest start ground sums file how end
   placed_whole end how moments places is image files over =
       let whole : Ltx = whole_file ground.commit file in
-      placed_on image files ground.dropped (apply image whole.change) (record { min = file.header.min; max = file.header.max; text = file_text whole no_meaning }) start mid end how
+      placed_on image files ground.dropped (apply image whole.change) (record { min = file.header.min; max = file.header.max; encoding = file_encoding whole no_meaning }) start mid end how
       (kept_moments image files start mid ground sums over (moments is))
-      (subst (λ (h : Header). Places image files ground.dropped (apply image whole.change) (record { min = h.min; max = h.max; text = file_text whole no_meaning }) mid how end) header
+      (subst (λ (h : Header). Places image files ground.dropped (apply image whole.change) (record { min = h.min; max = h.max; encoding = file_encoding whole no_meaning }) mid how end) header
       (places is (now start) image files gave.change whole (over_from image files over) (staged is)))
 
   pub unpublished : (end : History) → PlacesWhole honest start ground sums file placed.Unpublished end → IsTrue honest → (image : DatabaseImage) (files : List LogFile) → IsOverGround image files start ground sums

@@ -13,7 +13,7 @@ use Rattle.ltx_codec.specs.declared.file.Ltx.{Ltx}
 use Rattle.world_laws.specs.Store.{StoreState, PruneTo, FailedIn, MayBeFound, IsCandidate, end_of, done, without_front}
 use Rattle.txn_log.specs.declared.entry.Entry.{Entry}
 use Rattle.txn_log.specs.Calls.{StandsForOne, RestsAs, Moved}
-use Rattle.txn_log.specs.Durable.{Durable, IsText, log_of, Follow, IsLog}
+use Rattle.txn_log.specs.Durable.{Durable, IsEncoding, log_of, Follow, IsLog}
 use Rattle.txn_log.specs.Entries.{AreNamed}
 use Rattle.txn_log.specs.Kept.{LogFile, file_of, Kept, IsAtRest, Ascends}
 use Rattle.txn_log.specs.Pruning.{IsPruned}
@@ -28,7 +28,7 @@ lower low number [] under ascends = tt
 lower low number (f ∷ fs) under ascends = (omega (arith, ascends.0), ascends.1, ascends.2)
 
 log-drop : (n : ℕ) (files : List LogFile) → drop n (log_of files) ≡ log_of (drop n files)
-log-drop n files = drop-map (λ (f : LogFile). file_of f.text) n files
+log-drop n files = drop-map (λ (f : LogFile). file_of f.encoding) n files
 
 -- what holds of each file of a log holds of each that is left
 each-drop : (P : LogFile → Type 0) (n : ℕ) (files : List LogFile) → ((k : ℕ) (d : LogFile) → k < length files → P (get_or files k d)) → (k : ℕ) (d : LogFile) → k < length (drop n files) → P (get_or (drop n files) k d)
@@ -44,9 +44,9 @@ follow-drop n log follow k d within =
 is_log-drop : (n : ℕ) (files : List LogFile) → IsLog files → IsLog (drop n files)
 is_log-drop n files log = record {
   ascends = let after = ascends_drop 0 files n log.ascends in lower 0 after.0 (drop n files) (omega arith) after.1;
-  texts = each-drop (λ (f : LogFile). IsText f.text) n files log.texts;
-  min = each-drop (λ (f : LogFile). (file_of f.text).header.min ≡ f.min) n files log.min;
-  max = each-drop (λ (f : LogFile). (file_of f.text).header.max ≡ f.max) n files log.max;
+  encodings = each-drop (λ (f : LogFile). IsEncoding f.encoding) n files log.encodings;
+  min = each-drop (λ (f : LogFile). (file_of f.encoding).header.min ≡ f.min) n files log.min;
+  max = each-drop (λ (f : LogFile). (file_of f.encoding).header.max ≡ f.max) n files log.max;
   follow = subst (λ (l : List Ltx). Follow l) (log-drop n files) (follow-drop n (log_of files) log.follow);
 }
 
@@ -125,7 +125,7 @@ module _ (h : History) (size commit : ℕ) (entries : List Entry) (sums : List �
       }
 
   log_long : length (log_of old_files) ≡ length entries
-  log_long = length-map old_files (λ (f : LogFile). file_of f.text) ∙ length-files_in entries (now h)
+  log_long = length-map old_files (λ (f : LogFile). file_of f.encoding) ∙ length-files_in entries (now h)
 
   -- a folder with some of the first files gone
   durable : (n : ℕ) (c : Folder) → n ≤ gone → Kept old_image (drop n old_files) false c → Durable c (without_front old n)
@@ -173,7 +173,7 @@ module _ (h : History) (size commit : ℕ) (entries : List Entry) (sums : List �
             commit_is = all.commit_is;
             log = record {
               log = is_log-drop gone old_files kept.log.log;
-              same = sym (drop-map (λ (f : LogFile). entry_of (file_of f.text)) gone old_files) ∙ ap (λ (es : List Entry). drop gone es) kept.log.same;
+              same = sym (drop-map (λ (f : LogFile). entry_of (file_of f.encoding)) gone old_files) ∙ ap (λ (es : List Entry). drop gone es) kept.log.same;
             };
             named = subst (λ (fs : List LogFile). AreNamed (drop gone entries) fs) (sym same_files) (named_in (drop gone entries) (now h));
             count = sym (ap length same_files ∙ length-files_in (drop gone entries) (now h));
@@ -216,7 +216,7 @@ module _ (h : History) (size commit : ℕ) (entries : List Entry) (sums : List �
         (weakened h new (IsPruned old_image old_files (length front)) (StandsForOne (IsCandidate old (PruneTo keep ∷ []))) run candidate) left_in
 
 pub log_count : (entries : List Entry) (f : Folder) → length (log_of (files_in entries f)) ≡ length entries
-log_count entries f = length-map (files_in entries f) (λ (x : LogFile). file_of x.text) ∙ length-files_in entries f
+log_count entries f = length-map (files_in entries f) (λ (x : LogFile). file_of x.encoding) ∙ length-files_in entries f
 
 -- nothing to remove
 pub went_idle : (store : StoreState) (keep : ℕ) (h : History) → 1 ≤ keep → length store.log - keep ≡ 0 → RestsAs (λ left. left ≡ store) h → Moved store None h (PruneTo keep ∷ []) None store None h

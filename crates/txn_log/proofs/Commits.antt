@@ -28,7 +28,7 @@ use Rattle.world_laws.specs.Store.{end_of}
 use Rattle.txn_log.specs.declared.entry.Entry.{Entry}
 use Rattle.txn_log.specs.Kept.{LogFile, file_of, IsComplete}
 use Rattle.txn_log.specs.Draft.{sum_after, sums_after}
-use Rattle.txn_log.specs.Durable.{IsText, log_of, Follow, IsLog}
+use Rattle.txn_log.specs.Durable.{IsEncoding, log_of, Follow, IsLog}
 use Rattle.txn_log.specs.Store.{entry_of, AreEntries}
 use Rattle.txn_log.proofs.Puttings.{cases_option}
 use Rattle.txn_log.proofs.Stores.{ascends_more, Tells, named_more}
@@ -70,10 +70,10 @@ follow-more log g follow next k d within =
     ]
 
 -- the number of the last file
-max-end : (number : ℕ) (position : Pos) (files : List LogFile) → ((k : ℕ) (d : LogFile) → k < length files → (file_of (get_or files k d).text).header.max ≡ (get_or files k d).max) → number ≡ position.txid
+max-end : (number : ℕ) (position : Pos) (files : List LogFile) → ((k : ℕ) (d : LogFile) → k < length files → (file_of (get_or files k d).encoding).header.max ≡ (get_or files k d).max) → number ≡ position.txid
     → fold (λ _ (f : LogFile). f.max) number files ≡ (fold (λ _ (g : Ltx). after g) position (log_of files)).txid
 max-end number position [] max same = same
-max-end number position (f ∷ fs) max same = max-end f.max (after (file_of f.text)) fs (λ k d within. max (suc k) d (omega (arith, within))) (sym (max 0 f (omega arith)))
+max-end number position (f ∷ fs) max same = max-end f.max (after (file_of f.encoding)) fs (λ k d within. max (suc k) d (omega (arith, within))) (sym (max 0 f (omega arith)))
 
 pub last-number : (files : List LogFile) → IsLog files → fold (λ _ (f : LogFile). f.max) 0 files ≡ (end_of (log_of files)).txid
 unfolding end_of
@@ -81,15 +81,15 @@ last-number files log = max-end 0 nowhere files log.max refl
 
 -- a file that follows the log
 pub record Follows (files : List LogFile) (file : LogFile) : Type 0 where
-  pub is : IsText file.text
-  pub min : (file_of file.text).header.min ≡ file.min
-  pub max : (file_of file.text).header.max ≡ file.max
+  pub is : IsEncoding file.encoding
+  pub min : (file_of file.encoding).header.min ≡ file.min
+  pub max : (file_of file.encoding).header.max ≡ file.max
   pub order : file.min ≤ file.max
   pub above : (end_of (log_of files)).txid < file.min
-  pub next : before (file_of file.text) ≡ end_of (log_of files)
+  pub next : before (file_of file.encoding) ≡ end_of (log_of files)
 
-pub log-more : (files : List LogFile) (file : LogFile) → log_of (files ++ file ∷ []) ≡ log_of files ++ file_of file.text ∷ []
-log-more files file = map-more (λ (f : LogFile). file_of f.text) files file
+pub log-more : (files : List LogFile) (file : LogFile) → log_of (files ++ file ∷ []) ≡ log_of files ++ file_of file.encoding ∷ []
+log-more files file = map-more (λ (f : LogFile). file_of f.encoding) files file
 
 -- what holds of each file of a log, and of one more
 each-more : (P : LogFile → Type 0) (files : List LogFile) (file : LogFile) → ((k : ℕ) (d : LogFile) → k < length files → P (get_or files k d)) → P file
@@ -104,16 +104,16 @@ each-more P files file each here k d within = elim (cases_lt k (length files)) [
 pub is_log-more : (files : List LogFile) (file : LogFile) → IsLog files → Follows files file → IsLog (files ++ file ∷ [])
 is_log-more files file log new = record {
   ascends = ascends_more 0 files file log.ascends (omega (arith, last-number files log, new.above)) new.order;
-  texts = each-more (λ (f : LogFile). IsText f.text) files file log.texts new.is;
-  min = each-more (λ (f : LogFile). (file_of f.text).header.min ≡ f.min) files file log.min new.min;
-  max = each-more (λ (f : LogFile). (file_of f.text).header.max ≡ f.max) files file log.max new.max;
-  follow = subst (λ (l : List Ltx). Follow l) (sym (log-more files file)) (follow-more (log_of files) (file_of file.text) log.follow new.next);
+  encodings = each-more (λ (f : LogFile). IsEncoding f.encoding) files file log.encodings new.is;
+  min = each-more (λ (f : LogFile). (file_of f.encoding).header.min ≡ f.min) files file log.min new.min;
+  max = each-more (λ (f : LogFile). (file_of f.encoding).header.max ≡ f.max) files file log.max new.max;
+  follow = subst (λ (l : List Ltx). Follow l) (sym (log-more files file)) (follow-more (log_of files) (file_of file.encoding) log.follow new.next);
 }
 
-pub entries-more : (entries : List Entry) (files : List LogFile) (file : LogFile) → AreEntries entries files → Follows files file → AreEntries (entries ++ entry_of (file_of file.text) ∷ []) (files ++ file ∷ [])
+pub entries-more : (entries : List Entry) (files : List LogFile) (file : LogFile) → AreEntries entries files → Follows files file → AreEntries (entries ++ entry_of (file_of file.encoding) ∷ []) (files ++ file ∷ [])
 entries-more entries files file are new = record {
   log = is_log-more files file are.log new;
-  same = map-more (λ (f : LogFile). entry_of (file_of f.text)) files file ∙ ap (λ (es : List Entry). es ++ entry_of (file_of file.text) ∷ []) are.same;
+  same = map-more (λ (f : LogFile). entry_of (file_of f.encoding)) files file ∙ ap (λ (es : List Entry). es ++ entry_of (file_of file.encoding) ∷ []) are.same;
 }
 
 -- the sums of an image after a complete change
@@ -173,12 +173,12 @@ module _ (image : DatabaseImage) (change : PageChange) (complete : IsComplete im
 
   -- the fields after the file
   pub tells-more : (size commit : ℕ) (entries : List Entry) (sums : List ℕ) (files : List LogFile) (file : LogFile) → Tells image files size commit entries sums → Follows files file
-      → Tells (apply image change) (files ++ file ∷ []) change.page_size change.commit (entries ++ entry_of (file_of file.text) ∷ []) (sums_after sums change)
+      → Tells (apply image change) (files ++ file ∷ []) change.page_size change.commit (entries ++ entry_of (file_of file.encoding) ∷ []) (sums_after sums change)
   tells-more size commit entries sums files file tells new = record {
     size_is = refl;
     commit_is = sym (length-apply image change);
     log = entries-more entries files file tells.log new;
-    named = named_more entries files (entry_of (file_of file.text)) file tells.named tells.count (sym new.min) (sym new.max);
-    count = omega (arith, tells.count, length-append entries (entry_of (file_of file.text) ∷ []), length-append files (file ∷ []));
+    named = named_more entries files (entry_of (file_of file.encoding)) file tells.named tells.count (sym new.min) (sym new.max);
+    count = omega (arith, tells.count, length-append entries (entry_of (file_of file.encoding) ∷ []), length-append files (file ∷ []));
     table = ap (λ (s : List ℕ). sums_after s change) tells.table ∙ sym sum_table-apply;
   }

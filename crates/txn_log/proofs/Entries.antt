@@ -45,9 +45,9 @@ unfolding end_of_entries
 end-push es e = fold-append (λ (_ : Pos) (x : Entry). x.post) nowhere es (e ∷ [])
 
 -- the end of the log is that of its entries
-ends : (position : Pos) (files : List LogFile) → fold (λ _ (x : Entry). x.post) position (map (λ (f : LogFile). entry_of (file_of f.text)) files) ≡ fold (λ _ (g : Ltx). after g) position (log_of files)
+ends : (position : Pos) (files : List LogFile) → fold (λ _ (x : Entry). x.post) position (map (λ (f : LogFile). entry_of (file_of f.encoding)) files) ≡ fold (λ _ (g : Ltx). after g) position (log_of files)
 ends position [] = refl
-ends position (f ∷ fs) = ends (after (file_of f.text)) fs
+ends position (f ∷ fs) = ends (after (file_of f.encoding)) fs
 
 pub end-log : (entries : List Entry) (files : List LogFile) → AreEntries entries files → end_of_entries entries ≡ end_of (log_of files)
 unfolding end_of_entries end_of

@@ -6,7 +6,7 @@ use Rattle.lf_disk.specs.Folder.{bytes_of, SameBut}
 use Rattle.lf_disk.specs.History.{History, now, EachMoment}
 use Rattle.lf_disk.proofs.Moments.{weakened}
 use Rattle.lf_sqlite_pages.specs.Header.{image_is_wal}
-use Rattle.ltx_codec.specs.Format.{IsFile, IsLtx, no_meaning, file_text}
+use Rattle.ltx_codec.specs.Format.{IsFile, IsLtx, no_meaning, file_encoding}
 use Rattle.ltx_codec.specs.Sums.{sum_table}
 use Rattle.ltx_codec.specs.declared.file.Ltx.{Ltx}
 use Rattle.world_laws.specs.Store.{StoreState, Failure}
@@ -37,7 +37,7 @@ module _ (h new : History) (size commit : ℕ) (entries : List Entry) (dropped :
 
   same_files : (es : List Entry) → files_in es (now new) ≡ files_in es (now h)
   same_files [] = refl
-  same_files (e ∷ es) = λ i. record { min = e.min; max = e.max; text = bytes_of (quiet.seen (Rattle.lf_disk.specs.declared.name.FileName.TheVariants.Ltx e.min e.max) refl i) } ∷ same_files es i
+  same_files (e ∷ es) = λ i. record { min = e.min; max = e.max; encoding = bytes_of (quiet.seen (Rattle.lf_disk.specs.declared.name.FileName.TheVariants.Ltx e.min e.max) refl i) } ∷ same_files es i
 
   pub same_store : state_in size commit entries dropped (now new) ≡ state_in size commit entries dropped (now h)
   same_store = λ i. record { image = same_image i; log = Rattle.txn_log.specs.Durable.log_of (same_files entries i); dropped = dropped }
@@ -102,16 +102,16 @@ module _ (h : History) (size commit : ℕ) (entries : List Entry) (dropped : Boo
     abbrev pub made : Ltx
     made = whole_file commit file
 
-    abbrev pub text : List ℕ
-    text = file_text made no_meaning
+    abbrev pub encoding : List ℕ
+    encoding = file_encoding made no_meaning
 
     pub valid : IsFile made
     valid = is_whole size commit entries dropped sums file shaped brought.gave.is.valid brought.taken
 
-    pub is : IsLtx text made
-    is = record { valid = valid; reserved = no_meaning; room = refl; text = refl }
+    pub is : IsLtx encoding made
+    is = record { valid = valid; reserved = no_meaning; room = refl; encoding = refl }
 
-    pub read : file_of text ≡ made
+    pub read : file_of encoding ≡ made
     read = back valid
 
     pub can : (kept : IsStore h size commit entries dropped sums false whole tried) → CanTake (state_in size commit entries dropped (now h)) made

@@ -22,7 +22,7 @@ use Rattle.txn_log.specs.declared.entry.Entry.{Entry}
 use Rattle.txn_log.specs.declared.attempt.Attempt.TheVariants as attempt
 use Rattle.txn_log.specs.Calls.{StandsForOne, RestsAs, Moved}
 use Rattle.txn_log.specs.Draft.{sums_after}
-use Rattle.txn_log.specs.Durable.{Durable, IsText, IsLog, IsSummed}
+use Rattle.txn_log.specs.Durable.{Durable, IsEncoding, IsLog, IsSummed}
 use Rattle.txn_log.specs.Installing.{IsKeptOrInstalled, IsOverAnew}
 use Rattle.txn_log.specs.Kept.{LogFile, file_of, Decides, Kept, IsAtRest, IsComplete}
 use Rattle.txn_log.specs.Pages.{page_in}
@@ -119,26 +119,26 @@ module _ (file : Ltx) (valid : IsFile file) (first : file.header.min ≡ 1) wher
       false_true : false ≡ true → ⊥
       false_true same = cc
 
-  module _ (text : List ℕ) (is : IsLtx text file) (read : file_of text ≡ file) where
+  module _ (encoding : List ℕ) (is : IsLtx encoding file) (read : file_of encoding ≡ file) where
     abbrev pub log_file : LogFile
-    log_file = record { min = file.header.min; max = file.header.max; text = text }
+    log_file = record { min = file.header.min; max = file.header.max; encoding = encoding }
 
-    is_text : IsText text
-    is_text = subst (λ (f : Ltx). ∥ IsLtx text f ∥₁) (sym read) ∣ is ∣₁
+    is_encoding : IsEncoding encoding
+    is_encoding = subst (λ (f : Ltx). ∥ IsLtx encoding f ∥₁) (sym read) ∣ is ∣₁
 
-    low : (file_of text).header.min ≡ file.header.min
+    low : (file_of encoding).header.min ≡ file.header.min
     low = ap (λ (f : Ltx). f.header.min) read
 
-    high : (file_of text).header.max ≡ file.header.max
+    high : (file_of encoding).header.max ≡ file.header.max
     high = ap (λ (f : Ltx). f.header.max) read
 
     pub durable_installed : (c : Folder) → IsInstalled made log_file c → Durable c (installed file)
     durable_installed c either = elim either [
       | inl by ↦ inr (inl (record {
-        text = text;
+        encoding = encoding;
         by = by;
         log = ap (λ (f : Ltx). f ∷ []) (sym read);
-        is = is_text;
+        is = is_encoding;
         first = low ∙ first;
         sum = summed;
         unmarked = refl;
@@ -147,7 +147,7 @@ module _ (file : Ltx) (valid : IsFile file) (first : file.header.min ≡ 1) wher
         files = log_file ∷ [];
         kept = kept;
         log = ap (λ (f : Ltx). f ∷ []) (sym read);
-        sound = alone log_file is_text low high;
+        sound = alone log_file is_encoding low high;
         sum = summed;
         unmarked = refl;
       })
@@ -155,7 +155,7 @@ module _ (file : Ltx) (valid : IsFile file) (first : file.header.min ≡ 1) wher
 
     follows : Follows [] log_file
     follows = record {
-      is = is_text;
+      is = is_encoding;
       min = low;
       max = high;
       order = valid.header.max;
@@ -176,7 +176,7 @@ module _ (file : Ltx) (valid : IsFile file) (first : file.header.min ≡ 1) wher
         none : IsLog []
         none = record {
           ascends = tt;
-          texts = λ k d within. absurd (omega (arith, within));
+          encodings = λ k d within. absurd (omega (arith, within));
           min = λ k d within. absurd (omega (arith, within));
           max = λ k d within. absurd (omega (arith, within));
           follow = λ k d within. absurd (omega (arith, within));
@@ -203,7 +203,7 @@ module _ (file : Ltx) (valid : IsFile file) (first : file.header.min ≡ 1) wher
       abbrev pub old_files : List LogFile
       old_files = files h size commit entries dropped sums whole tried shaped kept
 
-      pub over : IsOverAnew old_image old_files dropped made text entries file.change h
+      pub over : IsOverAnew old_image old_files dropped made encoding entries file.change h
       over = record {
         rest = kept.rest;
         would = record {
@@ -252,7 +252,7 @@ module _ (file : Ltx) (valid : IsFile file) (first : file.header.min ≡ 1) wher
           stands w t = settles made (log_file ∷ []) false file.header.page_size file.header.commit (entry_of file ∷ []) (sums_after [] file.change) new rest tells_after w t
 
         -- a call failed from the rename on
-        module _ (at : ℕ) (run : EachMoment h new (IsKeptOrInstalled old_image old_files dropped made log_file)) (staged : IsTried text at new) where
+        module _ (at : ℕ) (run : EachMoment h new (IsKeptOrInstalled old_image old_files dropped made log_file)) (staged : IsTried encoding at new) where
           abbrev pub failure : Failure
           failure = failure_of new at attempt.Install
 

@@ -11,7 +11,7 @@ use Rattle.lf_sqlite_pages.proofs.Writes.{writes_of-same}
 use Rattle.txn_log.specs.declared.receiving.Receiving.{Receiving}
 use Rattle.txn_log.specs.Receiving.{ComesNext, HasPassed, Lacks, lacking_page}
 use Rattle.ltx_codec.specs.declared.header.Header.{Header}
-use Rattle.txn_log.specs.Staging.{HoldsSoFar, front_text}
+use Rattle.txn_log.specs.Staging.{HoldsSoFar, front_encoding}
 use Rattle.txn_log.specs.Intake.{HasUpTo, HoldsUpTo}
 use Rattle.txn_log.proofs.Growths.{grown-other, comes-next, lacks-past}
 
@@ -32,7 +32,7 @@ module _ (r : Receiving) (sums : List ℕ) (count : ℕ) (change : PageChange) (
   same_front before h holds =
       let old : ℕ → Option (List ℕ) = completed_page change count in
       let new : ℕ → Option (List ℕ) = completed_page (with_page change number page) count in
-      subst (λ (ws : List PageWrite). HoldsSoFar before (front_text r.header ws) h)
+      subst (λ (ws : List PageWrite). HoldsSoFar before (front_encoding r.header ws) h)
       (writes_of-same old new r.passed (λ n first low. sym (grown-other change count valid number page above_last data_page n (λ is. omega (arith, is, low, above))))) holds
 
 -- behind its last page the file lacks all

@@ -191,19 +191,19 @@ module _ (h : History) (size commit : ℕ) (entries : List Entry) (dropped : Boo
   rests c may = itself c (kept_same image files dropped (now h) c kept.rest.kept (kept.rest.settled c may))
 
   -- and a file that it can take
-  module _ (tries : Attempt) (file : Ltx) (text : List ℕ) (publishes : Publishes tries file) (can : CanTake store file) (is : IsLtx text file) (read : file_of text ≡ file) where
+  module _ (tries : Attempt) (file : Ltx) (encoding : List ℕ) (publishes : Publishes tries file) (can : CanTake store file) (is : IsLtx encoding file) (read : file_of encoding ≡ file) where
     abbrev pub call : StoreCall
     call = call_of tries file
 
     abbrev pub log_file : LogFile
-    log_file = record { min = file.header.min; max = file.header.max; text = text }
+    log_file = record { min = file.header.min; max = file.header.max; encoding = encoding }
 
     abbrev pub made : DatabaseImage
     made = apply image file.change
 
     pub follows : Follows files log_file
     follows = record {
-      is = subst (λ (f : Ltx). ∥ IsLtx text f ∥₁) (sym read) ∣ is ∣₁;
+      is = subst (λ (f : Ltx). ∥ IsLtx encoding f ∥₁) (sym read) ∣ is ∣₁;
       min = ap (λ (f : Ltx). f.header.min) read;
       max = ap (λ (f : Ltx). f.header.max) read;
       order = is.valid.header.max;
@@ -211,7 +211,7 @@ module _ (h : History) (size commit : ℕ) (entries : List Entry) (dropped : Boo
       next = ap Rattle.ltx_codec.specs.Positions.before read ∙ can.joins.next;
     }
 
-    pub over : IsOver image files dropped text file.change h
+    pub over : IsOver image files dropped encoding file.change h
     over = record {
       rest = kept.rest;
       empty = λ marked. ap (λ (es : List Entry). files_in es (now h)) (shaped.marked marked);
@@ -242,10 +242,10 @@ module _ (h : History) (size commit : ℕ) (entries : List Entry) (dropped : Boo
         let start : (end_of (log_of files)).txid ≡ 0 = ap (λ (l : List Ltx). (end_of l).txid) (no_log marked) ∙ end_of-none in
         omega (arith, ap (λ p. p.txid) can.joins.next, is.valid.header.min, start)
 
-    durable_snapshot : dropped ≡ true → (c : Folder) → IsBySnapshot made text c → Durable c (with_file store file)
+    durable_snapshot : dropped ≡ true → (c : Folder) → IsBySnapshot made encoding c → Durable c (with_file store file)
     durable_snapshot marked c by =
         inr (inl (record {
-          text = text;
+          encoding = encoding;
           by = by;
           log = ap (λ (l : List Ltx). l ++ file ∷ []) (no_log marked) ∙ ap (λ (f : Ltx). f ∷ []) (sym read);
           is = follows.is;
@@ -299,7 +299,7 @@ module _ (h : History) (size commit : ℕ) (entries : List Entry) (dropped : Boo
         stands w t = settles made (files ++ log_file ∷ []) false file.header.page_size file.header.commit (entries ++ entry_of file ∷ []) (sums_after sums file.change) new rest tells_after w t
 
       -- a call failed from the rename on
-      module _ (at : ℕ) (run : EachMoment h new (IsBetween image files dropped made log_file)) (staged : IsTried text at new) where
+      module _ (at : ℕ) (run : EachMoment h new (IsBetween image files dropped made log_file)) (staged : IsTried encoding at new) where
         abbrev pub failure : Failure
         failure = failure_of new at tries
 

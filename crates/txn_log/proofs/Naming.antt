@@ -7,10 +7,10 @@ use Rattle.lf_disk.specs.Folder.{Folder, with_file}
 use Rattle.lf_sqlite_pages.specs.Image.{DatabaseImage}
 use Rattle.txn_log.specs.declared.entry.Entry.{Entry}
 use Rattle.txn_log.specs.Entries.{AreNamed}
-use Rattle.txn_log.specs.Kept.{LogFile, text_of, Kept}
+use Rattle.txn_log.specs.Kept.{LogFile, encoding_of, Kept}
 use Rattle.txn_log.specs.Settling.{without, HasNoOthers}
 use Rattle.txn_log.specs.Store.{files_in}
-use Rattle.txn_log.proofs.Stores.{text_from, named_in, length-files_in}
+use Rattle.txn_log.proofs.Stores.{encoding_from, named_in, length-files_in}
 
 -- a file that is absent stays so
 pub without-none : (entries : List Entry) (f : Folder) (a b : ℕ) → f (Ltx a b) ≡ None → without entries f (Ltx a b) ≡ None
@@ -21,7 +21,7 @@ without-none (e ∷ es) f a b none = without-none es (with_file (Ltx e.min e.max
     here true none = refl
     here false none = none
 
-none_left : (entries : List Entry) (files : List LogFile) (f : Folder) (a b : ℕ) → AreNamed entries files → length entries ≡ length files → f (Ltx a b) ≡ text_from None files a b → without entries f (Ltx a b) ≡ None
+none_left : (entries : List Entry) (files : List LogFile) (f : Folder) (a b : ℕ) → AreNamed entries files → length entries ≡ length files → f (Ltx a b) ≡ encoding_from None files a b → without entries f (Ltx a b) ≡ None
 none_left [] [] f a b named same there = there
 none_left [] (g ∷ fs) f a b named same there = absurd (omega (arith, same))
 none_left (e ∷ es) [] f a b named same there = absurd (omega (arith, same))
@@ -34,10 +34,10 @@ none_left (e ∷ es) (g ∷ fs) f a b named same there =
       | inl is ↦ without-none es (with_file (Ltx e.min e.max) None f) a b (ap (λ (x : Bool). cond x None (f (Ltx a b))) is)
       | inr isnt ↦
           none_left es fs (with_file (Ltx e.min e.max) None f) a b rest (omega (arith, same))
-          (ap (λ (x : Bool). cond x None (f (Ltx a b))) isnt ∙ there ∙ ap (λ (x : Bool). text_from (cond x (Some g.text) None) fs a b) (test ∙ isnt))
+          (ap (λ (x : Bool). cond x None (f (Ltx a b))) isnt ∙ there ∙ ap (λ (x : Bool). encoding_from (cond x (Some g.encoding) None) fs a b) (test ∙ isnt))
     ]
 
-pub no_others : (entries : List Entry) (files : List LogFile) (f : Folder) → AreNamed entries files → length entries ≡ length files → ((a b : ℕ) → f (Ltx a b) ≡ text_of files a b) → HasNoOthers entries f
+pub no_others : (entries : List Entry) (files : List LogFile) (f : Folder) → AreNamed entries files → length entries ≡ length files → ((a b : ℕ) → f (Ltx a b) ≡ encoding_of files a b) → HasNoOthers entries f
 no_others entries files f named same log a b = none_left entries files f a b named same (log a b)
 
 -- so it is of a store

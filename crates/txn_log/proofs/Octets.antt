@@ -1,4 +1,4 @@
--- The numbers in the text of a file that was taken in are bytes, so that it reads back.
+-- The numbers in the encoding of a file that was taken in are bytes, so that it reads back.
 use Rattle.std.proofs.Common.{◌≡◌, inl, inr, ℕ, zero, suc, ◌+◌, ◌<◌, eqb, Option, Some, None, List, [], ◌∷◌, ◌++◌, length, get_or, replicate, refl, sym, ◌∙◌, ap, subst, arith, unwrap_or}
 use Rattle.std.specs.Prelude.{◌/◌, ◌%◌}
 use Rattle.std.specs.Int.{w32, w64, to_be_bytes}
@@ -14,14 +14,14 @@ use Rattle.lf_sqlite_pages.specs.declared.page_write.PageWrite.{PageWrite}
 use Rattle.lf_sqlite_pages.proofs.Completing.{completed-lock_page, completed-within, completed-past}
 use Rattle.lf_sqlite_pages.proofs.Writes.{All-writes_of, option_cases}
 use Rattle.ltx_codec.specs.Fields.{AreBytes, stated_page_size}
-use Rattle.ltx_codec.specs.Format.{IsLtx, magic, no_meaning, header_text, pages_text, file_text, file_sum, summed_text}
+use Rattle.ltx_codec.specs.Format.{IsLtx, magic, no_meaning, header_encoding, pages_encoding, file_encoding, file_sum, summed_encoding}
 use Rattle.ltx_codec.specs.Places.{write_in, number_place}
 use Rattle.ltx_codec.specs.declared.header.Header.{Header}
 use Rattle.ltx_codec.specs.declared.file.Ltx.{Ltx}
 use Rattle.ltx_codec.proofs.FeedLemmas.{AreBytes-append}
 use Rattle.ltx_codec.proofs.FileLemmas.{file_is}
 use Rattle.ltx_codec.proofs.PartLaws.{file_read}
-use Rattle.ltx_codec.proofs.TextLemmas.{AreBytes-drop, AreBytes-take}
+use Rattle.ltx_codec.proofs.EncodingLemmas.{AreBytes-drop, AreBytes-take}
 use Rattle.txn_log.specs.Apply.{whole_file}
 use Rattle.txn_log.specs.Bringing.{ReadsBack}
 use Rattle.txn_log.specs.Kept.{file_of}
@@ -79,26 +79,26 @@ pieces a b c d e f g h i j k l m n ab bb cb db eb fb gb hb ib jb kb lb mb nb =
     (AreBytes-append (a ++ b) c
     (AreBytes-append a b ab bb) cb) db) eb) fb) gb) hb) ib) jb) kb) lb) mb) nb
 
-header_bytes : (h : Header) → AreBytes (header_text h no_meaning)
+header_bytes : (h : Header) → AreBytes (header_encoding h no_meaning)
 header_bytes h =
     pieces magic (to_be_bytes w32 0) (to_be_bytes w32 h.page_size) (to_be_bytes w32 h.commit) (to_be_bytes w64 h.min) (to_be_bytes w64 h.max) (to_be_bytes w64 h.stamp) (to_be_bytes w64 h.pre)
     (to_be_bytes w64 h.wal_offset) (to_be_bytes w64 h.wal_size) (to_be_bytes w32 h.wal_salt1) (to_be_bytes w32 h.wal_salt2) (to_be_bytes w64 h.node) no_meaning
     magic_bytes (four_bytes 0) (four_bytes h.page_size) (four_bytes h.commit) (eight_bytes h.min) (eight_bytes h.max) (eight_bytes h.stamp) (eight_bytes h.pre)
     (eight_bytes h.wal_offset) (eight_bytes h.wal_size) (four_bytes h.wal_salt1) (four_bytes h.wal_salt2) (eight_bytes h.node) (zero_bytes 20)
 
-pages_bytes : (ws : List PageWrite) → All (λ (w : PageWrite). AreBytes w.bytes) ws → AreBytes (pages_text ws)
+pages_bytes : (ws : List PageWrite) → All (λ (w : PageWrite). AreBytes w.bytes) ws → AreBytes (pages_encoding ws)
 pages_bytes [] all = no_bytes
 pages_bytes (w ∷ ws) all =
-    AreBytes-append (to_be_bytes w32 w.number) (w.bytes ++ pages_text ws) (four_bytes w.number)
-    (AreBytes-append w.bytes (pages_text ws) (all 0 w (omega arith)) (pages_bytes ws (All-tail (λ (v : PageWrite). AreBytes v.bytes) w ws all)))
+    AreBytes-append (to_be_bytes w32 w.number) (w.bytes ++ pages_encoding ws) (four_bytes w.number)
+    (AreBytes-append w.bytes (pages_encoding ws) (all 0 w (omega arith)) (pages_bytes ws (All-tail (λ (v : PageWrite). AreBytes v.bytes) w ws all)))
 
-file_bytes : (file : Ltx) → All (λ (w : PageWrite). AreBytes w.bytes) file.change.pages → AreBytes (file_text file no_meaning)
+file_bytes : (file : Ltx) → All (λ (w : PageWrite). AreBytes w.bytes) file.change.pages → AreBytes (file_encoding file no_meaning)
 file_bytes file all =
-    AreBytes-append (summed_text file no_meaning) (to_be_bytes w64 (file_sum (summed_text file no_meaning)))
-    (AreBytes-append (header_text file.header no_meaning ++ pages_text file.change.pages ++ to_be_bytes w32 0) (to_be_bytes w64 file.post)
-    (AreBytes-append (header_text file.header no_meaning ++ pages_text file.change.pages) (to_be_bytes w32 0)
-    (AreBytes-append (header_text file.header no_meaning) (pages_text file.change.pages) (header_bytes file.header) (pages_bytes file.change.pages all))
-    (four_bytes 0)) (eight_bytes file.post)) (eight_bytes (file_sum (summed_text file no_meaning)))
+    AreBytes-append (summed_encoding file no_meaning) (to_be_bytes w64 (file_sum (summed_encoding file no_meaning)))
+    (AreBytes-append (header_encoding file.header no_meaning ++ pages_encoding file.change.pages ++ to_be_bytes w32 0) (to_be_bytes w64 file.post)
+    (AreBytes-append (header_encoding file.header no_meaning ++ pages_encoding file.change.pages) (to_be_bytes w32 0)
+    (AreBytes-append (header_encoding file.header no_meaning) (pages_encoding file.change.pages) (header_bytes file.header) (pages_bytes file.change.pages all))
+    (four_bytes 0)) (eight_bytes file.post)) (eight_bytes (file_sum (summed_encoding file no_meaning)))
 
 -- a page that is written is one of the pages
 written_bytes : (ws : List PageWrite) (n : ℕ) (bytes : List ℕ) → All (λ (w : PageWrite). AreBytes w.bytes) ws → written ws n ≡ Some bytes → AreBytes bytes
@@ -132,19 +132,19 @@ whole_bytes change count n bytes all some =
           ]
     ]
 
--- the pages of a text of bytes are bytes
-text_pages : (text : List ℕ) (file : Ltx) → AreBytes text → IsLtx text file → All (λ (w : PageWrite). AreBytes w.bytes) file.change.pages
-text_pages text file octets is k d within =
-    let of = file_is text file is octets in
-    let page : get_or file.change.pages k d ≡ write_in text k =
-    ap (λ (ws : List PageWrite). get_or ws k d) (sym of.writes) ∙ get_or-map-range_with_len (write_in text) 0 (length file.change.pages) k k d within (omega arith) in
-    subst (λ (w : PageWrite). AreBytes w.bytes) (sym page) (AreBytes-take (stated_page_size text) _ (AreBytes-drop (number_place text k + 4) text octets))
+-- the pages of an encoding of bytes are bytes
+encoding_pages : (encoding : List ℕ) (file : Ltx) → AreBytes encoding → IsLtx encoding file → All (λ (w : PageWrite). AreBytes w.bytes) file.change.pages
+encoding_pages encoding file octets is k d within =
+    let of = file_is encoding file is octets in
+    let page : get_or file.change.pages k d ≡ write_in encoding k =
+    ap (λ (ws : List PageWrite). get_or ws k d) (sym of.writes) ∙ get_or-map-range_with_len (write_in encoding) 0 (length file.change.pages) k k d within (omega arith) in
+    subst (λ (w : PageWrite). AreBytes w.bytes) (sym page) (AreBytes-take (stated_page_size encoding) _ (AreBytes-drop (number_place encoding k + 4) encoding octets))
 
-pub reads_back : (count : ℕ) (text : List ℕ) (file : Ltx) → AreBytes text → IsLtx text file → ReadsBack count file
+pub reads_back : (count : ℕ) (encoding : List ℕ) (file : Ltx) → AreBytes encoding → IsLtx encoding file → ReadsBack count file
 unfolding file_of
-reads_back count text file octets is whole =
+reads_back count encoding file octets is whole =
     let made : Ltx = whole_file count file in
     let all : All (λ (w : PageWrite). AreBytes w.bytes) made.change.pages =
     All-writes_of (λ (w : PageWrite). AreBytes w.bytes) (completed_page file.change count) file.change.commit
-    (λ n bytes first last some. whole_bytes file.change count n bytes (text_pages text file octets is) some) in
-    file_read (file_text made no_meaning) made (file_bytes made all) (record { valid = whole; reserved = no_meaning; room = refl; text = refl })
+    (λ n bytes first last some. whole_bytes file.change count n bytes (encoding_pages encoding file octets is) some) in
+    file_read (file_encoding made no_meaning) made (file_bytes made all) (record { valid = whole; reserved = no_meaning; room = refl; encoding = refl })

@@ -10,7 +10,7 @@ use Rattle.lf_disk.proofs.Moments.{joined, weakened}
 use Rattle.lf_sqlite_pages.specs.Image.{DatabaseImage}
 use Rattle.lf_sqlite_pages.specs.Change.{PageChange}
 use Rattle.lf_sqlite_pages.specs.Apply.{apply}
-use Rattle.txn_log.specs.Kept.{LogFile, text_of, Kept, IsAtRest, IsDecided, last_of}
+use Rattle.txn_log.specs.Kept.{LogFile, encoding_of, Kept, IsAtRest, IsDecided, last_of}
 use Rattle.txn_log.specs.Putting.{IsSettled, IsReady, IsBeforeOrAfter}
 use Rattle.txn_log.specs.Installing.{IsReadyAnew, IsAsBeforeOrInstalled}
 use Rattle.txn_log.specs.Placing.{IsOver, IsTried, IsBetween}
@@ -34,14 +34,14 @@ between image files dropped made file unmarked c either = elim either [
 ]
 
 -- a store with the mark has no files
-module _ (image : DatabaseImage) (files : List LogFile) (dropped : Bool) (text : List ℕ) (change : PageChange) (h : History) (marked : dropped ≡ true) (none : files ≡ []) (ready : IsReady image files dropped text change h) where
-  pub anew_ready : IsReadyAnew ready.before (apply image change) text [] change h
+module _ (image : DatabaseImage) (files : List LogFile) (dropped : Bool) (encoding : List ℕ) (change : PageChange) (h : History) (marked : dropped ≡ true) (none : files ≡ []) (ready : IsReady image files dropped encoding change h) where
+  pub anew_ready : IsReadyAnew ready.before (apply image change) encoding [] change h
   anew_ready = record {
     staged = ready.staged;
     would = record {
       decides = decides image change (bytes_of (ready.before Database)) ready.valid ready.shows ready.complete;
       tells = ready.tells;
-      others = λ a b. ready.kept.log a b ∙ ap (λ (fs : List LogFile). text_of fs a b) none;
+      others = λ a b. ready.kept.log a b ∙ ap (λ (fs : List LogFile). encoding_of fs a b) none;
     };
   }
 
@@ -66,11 +66,11 @@ settled before bytes h staged c may n = elim (cases_Bool (same_name n Staged)) [
 pub there : (before : Folder) (bytes : List ℕ) (h : History) → IsStaged before bytes h → IsSome (now h Staged)
 there before bytes h staged = subst (λ (o : Option (List ℕ)). IsSome o) (sym staged.here) refl
 
-module _ (image : DatabaseImage) (files : List LogFile) (dropped : _) (text : List ℕ) (change : PageChange) (h mid : History) (over : IsOver image files dropped text change h) where
+module _ (image : DatabaseImage) (files : List LogFile) (dropped : _) (encoding : List ℕ) (change : PageChange) (h mid : History) (over : IsOver image files dropped encoding change h) where
   pub stays : EachMoment h mid (SameBut Staged (now h)) → EachMoment h mid (Kept image files dropped)
   stays runs = weakened h mid (SameBut Staged (now h)) (Kept image files dropped) runs (λ c same. kept_same image files dropped (now h) c over.rest.kept same)
 
-  pub ready : IsStaged (now h) text mid → IsReady image files dropped text change mid
+  pub ready : IsStaged (now h) encoding mid → IsReady image files dropped encoding change mid
   ready staged = record {
     before = now h;
     staged = staged;
@@ -87,7 +87,7 @@ module _ (image : DatabaseImage) (files : List LogFile) (dropped : _) (text : Li
       joined h mid new (IsBetween image files dropped (apply image change) file)
       (weakened h mid (Kept image files dropped) (IsBetween image files dropped (apply image change) file) (stays first) (λ c kept. inl kept)) second
 
-  pub tried : (new : History) (P : Folder → Type 0) → IsStaged (now h) text mid → EachMoment mid new P → IsTried text mid.moment new
+  pub tried : (new : History) (P : Folder → Type 0) → IsStaged (now h) encoding mid → EachMoment mid new P → IsTried encoding mid.moment new
   tried new P staged run = record {
     past = run.later;
     read = ap bytes_of (run.past.seen mid.moment Staged (omega arith) ∙ staged.here);

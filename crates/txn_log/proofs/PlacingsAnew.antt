@@ -13,11 +13,11 @@ use Rattle.txn_log.specs.Kept.{LogFile, Kept}
 use Rattle.txn_log.specs.Placing.{IsTried}
 use Rattle.txn_log.proofs.Placings.{kept_same}
 
-module _ (image made : DatabaseImage) (files : List LogFile) (dropped : Bool) (text : List ℕ) (entries : List Entry) (change : PageChange) (h : History) (over : IsOverAnew image files dropped made text entries change h) where
+module _ (image made : DatabaseImage) (files : List LogFile) (dropped : Bool) (encoding : List ℕ) (entries : List Entry) (change : PageChange) (h : History) (over : IsOverAnew image files dropped made encoding entries change h) where
   pub stays : (mid : History) → EachMoment h mid (SameBut Staged (now h)) → EachMoment h mid (Kept image files dropped)
   stays mid run = weakened h mid (SameBut Staged (now h)) (Kept image files dropped) run (λ c same. kept_same image files dropped (now h) c over.rest.kept same)
 
-  pub ready : (mid : History) → IsStaged (now h) text mid → IsReadyAnew (now h) made text entries change mid
+  pub ready : (mid : History) → IsStaged (now h) encoding mid → IsReadyAnew (now h) made encoding entries change mid
   ready mid staged = record { staged = staged; would = over.would }
 
   pub moments : (mid new : History) (file : LogFile) → EachMoment h mid (SameBut Staged (now h)) → EachMoment mid new (IsAsBeforeOrInstalled (now h) made file)
@@ -31,7 +31,7 @@ module _ (image made : DatabaseImage) (files : List LogFile) (dropped : Bool) (t
         | inr there ↦ inr there
       ]))
 
-  pub tried : (mid new : History) (P : Folder → Type 0) → IsStaged (now h) text mid → EachMoment mid new P → IsTried text mid.moment new
+  pub tried : (mid new : History) (P : Folder → Type 0) → IsStaged (now h) encoding mid → EachMoment mid new P → IsTried encoding mid.moment new
   tried mid new P staged run = record {
     past = run.later;
     read = ap bytes_of (run.past.seen mid.moment Staged (omega arith) ∙ staged.here);

@@ -9,7 +9,7 @@ use Rattle.lf_disk.specs.Names.{same_name-one}
 use Rattle.txn_log.specs.declared.entry.Entry.{Entry}
 use Rattle.txn_log.proofs.Placings.{kept_same}
 use Rattle.txn_log.specs.Entries.{AreNamed}
-use Rattle.txn_log.proofs.Stores.{text_from, unnamed}
+use Rattle.txn_log.proofs.Stores.{encoding_from, unnamed}
 use Rattle.lf_disk.specs.Change.{Step, Perhaps, SetsFile}
 use Rattle.lf_disk.specs.History.{History, now, may_leave, Ticks, Moves, EachMoment}
 use Rattle.lf_disk.proofs.Moments.{started, goes_on}
@@ -32,7 +32,7 @@ module _ (image : DatabaseImage) (file : LogFile) (rest : List LogFile) (some : 
           let at : c (Ltx a b) ≡ c (Ltx file.min file.max) = λ i. c (Ltx (low i) (high i)) in
           at ∙ sets.here ∙ sym (unnamed None file.max rest a b ascends (omega (arith, low)))
       | inr isnt ↦
-          sets.elsewhere (Ltx a b) isnt ∙ kept.log a b ∙ ap (λ (x : Bool). text_from (cond x (Some file.text) None) rest a b) isnt
+          sets.elsewhere (Ltx a b) isnt ∙ kept.log a b ∙ ap (λ (x : Bool). encoding_from (cond x (Some file.encoding) None) rest a b) isnt
     ];
     no_snapshot = sets.elsewhere Snapshot refl ∙ kept.no_snapshot;
     mark = ap is_some (sets.elsewhere Dropped refl) ∙ kept.mark;
@@ -96,7 +96,7 @@ pub record Next (files : List LogFile) (i a b : ℕ) : Type 0 where
 pub next : (entries : List Entry) (e : Entry) (files : List LogFile) (i : ℕ) → Ascends 0 files → AreNamed entries files → length entries < length files → i < length entries
     → Next files i (get_or entries i e).min (get_or entries i e).max
 next entries e files i ascends named fits more =
-    let d : LogFile = record { min = 0; max = 0; text = [] } in
+    let d : LogFile = record { min = 0; max = 0; encoding = [] } in
     let splits : drop i files ≡ get_or files i d ∷ drop (i + 1) files = drop_more files i d (omega arith) in
     let after = ascends_drop 0 files i ascends in
     let here : Ascends after.0 (get_or files i d ∷ drop (i + 1) files) = subst (λ (fs : List LogFile). Ascends after.0 fs) splits after.1 in

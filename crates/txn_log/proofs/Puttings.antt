@@ -28,7 +28,7 @@ use Rattle.lf_sqlite_pages.proofs.Applying.{written-lock_page}
 use Rattle.lf_sqlite_pages.proofs.Applying.{written-above}
 use Rattle.txn_log.specs.Pages.{in_place, page_in, SamePage, KeepsPages, IsLeft, patched}
 use Rattle.txn_log.specs.Rewriting.{IsWorn, IsRewritten}
-use Rattle.txn_log.specs.Kept.{LogFile, change_of, text_of, last_of, Decides, IsDecided, Kept, Shows, IsAtRest, IsComplete}
+use Rattle.txn_log.specs.Kept.{LogFile, change_of, encoding_of, last_of, Decides, IsDecided, Kept, Shows, IsAtRest, IsComplete}
 use Rattle.txn_log.specs.Putting.{IsSettled, IsReady, IsBeforeOrAfter}
 use Rattle.txn_log.proofs.Places.{torn_page, cropped_page, page_end}
 
@@ -119,19 +119,19 @@ still_decides change image old new before keeps = record {
 
 -- a log with one file more
 module _ (files : List LogFile) (file : LogFile) where
-  pub text_more : (x y : ℕ) → text_of (files ++ file ∷ []) x y ≡ cond (x == file.min && y == file.max) (Some file.text) (text_of files x y)
-  text_more x y = fold-append (λ (found : Option (List ℕ)) (f : LogFile). cond (x == f.min && y == f.max) (Some f.text) found) None files (file ∷ [])
+  pub encoding_more : (x y : ℕ) → encoding_of (files ++ file ∷ []) x y ≡ cond (x == file.min && y == file.max) (Some file.encoding) (encoding_of files x y)
+  encoding_more x y = fold-append (λ (found : Option (List ℕ)) (f : LogFile). cond (x == f.min && y == f.max) (Some f.encoding) found) None files (file ∷ [])
 
   pub last_more : last_of (files ++ file ∷ []) ≡ Some file
   last_more = fold-append (λ (_ : Option LogFile) (f : LogFile). Some f) None files (file ∷ [])
 
-module _ (image : DatabaseImage) (files : List LogFile) (change : PageChange) (file : LogFile) (tells : change_of file.text ≡ change) where
+module _ (image : DatabaseImage) (files : List LogFile) (change : PageChange) (file : LogFile) (tells : change_of file.encoding ≡ change) where
   pub is_decided : (made : DatabaseImage) (bytes : List ℕ) → Decides change made bytes → IsDecided (last_of (files ++ file ∷ [])) made bytes
   is_decided made bytes is = record {
     none = λ none. let here : None ≡ Some file = sym none ∙ last_more files file in absurd (cc);
     some = λ other some.
         let same : file ≡ other = same_Some file other (sym (last_more files file) ∙ some) in
-        subst (λ (c : PageChange). Decides c made bytes) (sym tells ∙ ap (λ (f : LogFile). change_of f.text) same) is;
+        subst (λ (c : PageChange). Decides c made bytes) (sym tells ∙ ap (λ (f : LogFile). change_of f.encoding) same) is;
   }
 
   pub undecided : (made : DatabaseImage) (bytes : List ℕ) → IsDecided (last_of (files ++ file ∷ [])) made bytes → Decides change made bytes
@@ -147,11 +147,11 @@ module _ (image : DatabaseImage) (files : List LogFile) (change : PageChange) (f
   }
 
   -- once it is published
-  pub kept_after : (f c : Folder) → IsChange change → Kept image files false f → Shows image (bytes_of (f Database)) → IsComplete image change → SameBut Staged (with_bytes (Ltx file.min file.max) file.text f) c
+  pub kept_after : (f c : Folder) → IsChange change → Kept image files false f → Shows image (bytes_of (f Database)) → IsComplete image change → SameBut Staged (with_bytes (Ltx file.min file.max) file.encoding f) c
       → Kept (apply image change) (files ++ file ∷ []) false c
   kept_after f c valid kept shows complete same = record {
     log = λ a b.
-        same (Ltx a b) refl ∙ ap (λ (o : Option (List ℕ)). cond (a == file.min && b == file.max) (Some file.text) o) (kept.log a b) ∙ sym (text_more files file a b);
+        same (Ltx a b) refl ∙ ap (λ (o : Option (List ℕ)). cond (a == file.min && b == file.max) (Some file.encoding) o) (kept.log a b) ∙ sym (encoding_more files file a b);
     no_snapshot = same Snapshot refl ∙ kept.no_snapshot;
     mark = ap is_some (same Dropped refl) ∙ kept.mark;
     decided =
@@ -159,7 +159,7 @@ module _ (image : DatabaseImage) (files : List LogFile) (change : PageChange) (f
         (is_decided (apply image change) (bytes_of (f Database)) (decides image change (bytes_of (f Database)) valid shows complete));
   }
 
-  pub either : (f c : Folder) → IsChange change → Kept image files false f → Shows image (bytes_of (f Database)) → IsComplete image change → IsOldOrPublished f (Ltx file.min file.max) file.text c
+  pub either : (f c : Folder) → IsChange change → Kept image files false f → Shows image (bytes_of (f Database)) → IsComplete image change → IsOldOrPublished f (Ltx file.min file.max) file.encoding c
       → IsBeforeOrAfter image files (apply image change) (files ++ file ∷ []) c
   either f c valid kept shows complete is = elim is [
     | inl old ↦ inl (kept_before false f c kept old)
@@ -276,11 +276,11 @@ settled_staged h settled some =
 
 -- a change that is staged over a store at rest is published, and written over the database file
 module _ (h mid new : History) (image : DatabaseImage) (files : List LogFile) (change : PageChange) (file : LogFile)
-    (ready : IsReady image files false file.text change h) (published : IsPublished ready.before (Ltx file.min file.max) file.text mid) where
+    (ready : IsReady image files false file.encoding change h) (published : IsPublished ready.before (Ltx file.min file.max) file.encoding mid) where
   kept_published : Kept (apply image change) (files ++ file ∷ []) false (now mid)
   kept_published = kept_after image files change file ready.tells ready.before (now mid) ready.valid ready.kept ready.shows ready.complete published.seen
 
-  pub moments : EachMoment h mid (IsOldOrPublished ready.before (Ltx file.min file.max) file.text) → EachMoment mid new (IsWorn change (now mid))
+  pub moments : EachMoment h mid (IsOldOrPublished ready.before (Ltx file.min file.max) file.encoding) → EachMoment mid new (IsWorn change (now mid))
       → EachMoment h new (IsBeforeOrAfter image files (apply image change) (files ++ file ∷ []))
   moments first second =
       joined h mid new (IsBeforeOrAfter image files (apply image change) (files ++ file ∷ []))

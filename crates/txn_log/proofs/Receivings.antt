@@ -25,7 +25,7 @@ use Rattle.lf_disk.specs.Folder.{Folder, SameBut}
 use Rattle.lf_disk.specs.History.{History, EachMoment}
 use Rattle.lf_disk.proofs.Moments.{started, joined}
 use Rattle.txn_log.specs.Receiving.{lacking_page, sum_with, HasPassed, Lacks}
-use Rattle.txn_log.specs.Staging.{HoldsSoFar, front_text, IsStaging}
+use Rattle.txn_log.specs.Staging.{HoldsSoFar, front_encoding, IsStaging}
 
 -- the sum of the next page is taken in
 more-sum : (sum : ℕ → ℕ) (passed total : ℕ) → total ≡ joined_over sum 1 passed → bit_xor total (sum (passed + 1)) ≡ joined_over sum 1 (passed + 1)
@@ -80,9 +80,9 @@ pub record IsPassing (old new : Receiving) (sums : List ℕ) (count last : ℕ) 
   pub passed : (held : ℕ → Option (List ℕ)) → HasPassed old sums held → Lacks old count held last → HasPassed new sums held
   pub lacks : (held : ℕ → Option (List ℕ)) → Lacks old count held last → Lacks new count held last
   pub moments : honest → (before : Folder) (held : ℕ → Option (List ℕ)) → HasPassed old sums held → Lacks old count held last
-      → HoldsSoFar before (front_text old.header (writes_of held old.passed)) start → EachMoment start end (SameBut Staged before)
+      → HoldsSoFar before (front_encoding old.header (writes_of held old.passed)) start → EachMoment start end (SameBut Staged before)
   pub staged : honest → (before : Folder) (held : ℕ → Option (List ℕ)) → HasPassed old sums held → Lacks old count held last
-      → HoldsSoFar before (front_text old.header (writes_of held old.passed)) start → HoldsSoFar before (front_text new.header (writes_of held new.passed)) end
+      → HoldsSoFar before (front_encoding old.header (writes_of held old.passed)) start → HoldsSoFar before (front_encoding new.header (writes_of held new.passed)) end
 
 pub passing-none : (old : Receiving) (sums : List ℕ) (count last : ℕ) (honest : Type 0) (h : History) → old.passed ≤ last → IsPassing old old sums count last honest h h
 passing-none old sums count last honest h within = record {
@@ -102,9 +102,9 @@ lacks-next old mid new sums count last honest start end so_far next more held la
 pub passing-more : (old mid new : Receiving) (sums : List ℕ) (count last : ℕ) (honest : Type 0) (start at end : History) → IsPassing old mid sums count last honest start at
     → mid.passed < last → new.passed ≡ mid.passed + 1 → new.header ≡ mid.header
     → ((held : ℕ → Option (List ℕ)) → HasPassed mid sums held → held new.passed ≡ lacking_page mid.header.page_size count new.passed → HasPassed new sums held)
-    → (honest → (before : Folder) (held : ℕ → Option (List ℕ)) → HasPassed mid sums held → HoldsSoFar before (front_text mid.header (writes_of held mid.passed)) at → EachMoment at end (SameBut Staged before))
+    → (honest → (before : Folder) (held : ℕ → Option (List ℕ)) → HasPassed mid sums held → HoldsSoFar before (front_encoding mid.header (writes_of held mid.passed)) at → EachMoment at end (SameBut Staged before))
     → (honest → (before : Folder) (held : ℕ → Option (List ℕ)) → HasPassed mid sums held → held new.passed ≡ lacking_page mid.header.page_size count new.passed
-    → HoldsSoFar before (front_text mid.header (writes_of held mid.passed)) at → HoldsSoFar before (front_text new.header (writes_of held new.passed)) end)
+    → HoldsSoFar before (front_encoding mid.header (writes_of held mid.passed)) at → HoldsSoFar before (front_encoding new.header (writes_of held new.passed)) end)
     → IsPassing old new sums count last honest start end
 passing-more old mid new sums count last honest start at end so_far more next header passed moments staged = record {
   within = omega (arith, next, more);

@@ -17,7 +17,7 @@ use Rattle.lf_disk.specs.declared.name.FileName.TheVariants.{Database, Staged, S
 use Rattle.lf_disk.proofs.Stretches.{IsPath, begins, joined}
 use Rattle.lf_sqlite_pages.specs.declared.page_write.PageWrite.{PageWrite}
 use Rattle.lf_sqlite_pages.proofs.Applying.{WritesWhole, WritesWhole-at}
-use Rattle.ltx_codec.specs.Format.{header_text, no_meaning, pages_text, page_text, file_text, file_sum, summed_text}
+use Rattle.ltx_codec.specs.Format.{header_encoding, no_meaning, pages_encoding, page_encoding, file_encoding, file_sum, summed_encoding}
 use Rattle.ltx_codec.specs.declared.file.Ltx.{Ltx}
 use Rattle.ltx_codec.specs.declared.header.Header.{Header}
 use Rattle.ltx_codec.proofs.LawLemmas.{parts, header_length}
@@ -52,38 +52,38 @@ reads_piece bytes at old new n piece rest reads there same =
 -- the page behind its number
 pub behind_number : (bytes : List ℕ) (at number : ℕ) (page : List ℕ) (stands : StandsAt bytes at number page) → drop (at + 4) bytes ≡ page ++ stands.rest
 behind_number bytes at number page stands =
-    sym (drop-drop 4 at bytes) ∙ ap (drop 4) (stands.text ∙ append_assoc (to_be_bytes w32 number) page stands.rest)
+    sym (drop-drop 4 at bytes) ∙ ap (drop 4) (stands.encoding ∙ append_assoc (to_be_bytes w32 number) page stands.rest)
     ∙ drop_at (to_be_bytes w32 number) (page ++ stands.rest) 4 refl
 
--- where the k-th page stands in the text of pages
+-- where the k-th page stands in the encoding of pages
 pub page_stands : (size : ℕ) (ws : List PageWrite) → ((k : ℕ) (d : PageWrite) → k < length ws → length (get_or ws k d).bytes ≡ size) → (k : ℕ) (d : PageWrite) → k < length ws → (rest : List ℕ)
-    → (more : List ℕ) × (drop (k * (4 + size)) (pages_text ws ++ rest) ≡ page_text (get_or ws k d).number (get_or ws k d).bytes ++ more)
+    → (more : List ℕ) × (drop (k * (4 + size)) (pages_encoding ws ++ rest) ≡ page_encoding (get_or ws k d).number (get_or ws k d).bytes ++ more)
 page_stands size [] whole k d within rest = absurd (omega (arith, within))
 page_stands size (w ∷ ws) whole zero d within rest = (
-  pages_text ws ++ rest,
-  ap (λ (n : ℕ). drop n (pages_text (w ∷ ws) ++ rest)) (no_times (4 + size)) ∙ ap (λ (l : List ℕ). l ++ rest) (sym (append_assoc (to_be_bytes w32 w.number) w.bytes (pages_text ws))) ∙ append_assoc (page_text w.number w.bytes) (pages_text ws) rest,
+  pages_encoding ws ++ rest,
+  ap (λ (n : ℕ). drop n (pages_encoding (w ∷ ws) ++ rest)) (no_times (4 + size)) ∙ ap (λ (l : List ℕ). l ++ rest) (sym (append_assoc (to_be_bytes w32 w.number) w.bytes (pages_encoding ws))) ∙ append_assoc (page_encoding w.number w.bytes) (pages_encoding ws) rest,
 )
 page_stands size (w ∷ ws) whole (suc k) d within rest =
     let later = page_stands size ws (λ i e inside. whole (suc i) e (omega (arith, inside))) k d (omega (arith, within)) rest in
-    let long : length (page_text w.number w.bytes) ≡ 4 + size = length-append (to_be_bytes w32 w.number) w.bytes ∙ ap (λ (n : ℕ). 4 + n) (whole 0 d (omega arith)) in
-    let split : pages_text (w ∷ ws) ++ rest ≡ page_text w.number w.bytes ++ (pages_text ws ++ rest) =
-    ap (λ (l : List ℕ). l ++ rest) (sym (append_assoc (to_be_bytes w32 w.number) w.bytes (pages_text ws))) ∙ append_assoc (page_text w.number w.bytes) (pages_text ws) rest in
+    let long : length (page_encoding w.number w.bytes) ≡ 4 + size = length-append (to_be_bytes w32 w.number) w.bytes ∙ ap (λ (n : ℕ). 4 + n) (whole 0 d (omega arith)) in
+    let split : pages_encoding (w ∷ ws) ++ rest ≡ page_encoding w.number w.bytes ++ (pages_encoding ws ++ rest) =
+    ap (λ (l : List ℕ). l ++ rest) (sym (append_assoc (to_be_bytes w32 w.number) w.bytes (pages_encoding ws))) ∙ append_assoc (page_encoding w.number w.bytes) (pages_encoding ws) rest in
     let place : suc k * (4 + size) ≡ 4 + size + k * (4 + size) = omega (arith, suc-mul k (4 + size)) in (
       later.0,
-      ap (λ (n : ℕ). drop n (pages_text (w ∷ ws) ++ rest)) place
-          ∙ sym (drop-drop (k * (4 + size)) (4 + size) (pages_text (w ∷ ws) ++ rest))
+      ap (λ (n : ℕ). drop n (pages_encoding (w ∷ ws) ++ rest)) place
+          ∙ sym (drop-drop (k * (4 + size)) (4 + size) (pages_encoding (w ∷ ws) ++ rest))
           ∙ ap (λ (l : List ℕ). drop (k * (4 + size)) (drop (4 + size) l)) split
-          ∙ ap (drop (k * (4 + size))) (drop_at (page_text w.number w.bytes) (pages_text ws ++ rest) (4 + size) long)
+          ∙ ap (drop (k * (4 + size))) (drop_at (page_encoding w.number w.bytes) (pages_encoding ws ++ rest) (4 + size) long)
           ∙ later.1,
     )
 
-length-pages : (size : ℕ) (ws : List PageWrite) → ((k : ℕ) (d : PageWrite) → k < length ws → length (get_or ws k d).bytes ≡ size) → length (pages_text ws) ≡ length ws * (4 + size)
+length-pages : (size : ℕ) (ws : List PageWrite) → ((k : ℕ) (d : PageWrite) → k < length ws → length (get_or ws k d).bytes ≡ size) → length (pages_encoding ws) ≡ length ws * (4 + size)
 length-pages size [] whole = sym (no_times (4 + size))
 length-pages size (w ∷ ws) whole =
     let later = length-pages size ws (λ i e inside. whole (suc i) e (omega (arith, inside))) in
     let here : length w.bytes ≡ size = whole 0 w (omega arith) in
-    let first : length (pages_text (w ∷ ws)) ≡ 4 + (length w.bytes + length (pages_text ws)) =
-    length-append (to_be_bytes w32 w.number) (w.bytes ++ pages_text ws) ∙ ap (λ (n : ℕ). 4 + n) (length-append w.bytes (pages_text ws)) in
+    let first : length (pages_encoding (w ∷ ws)) ≡ 4 + (length w.bytes + length (pages_encoding ws)) =
+    length-append (to_be_bytes w32 w.number) (w.bytes ++ pages_encoding ws) ∙ ap (λ (n : ℕ). 4 + n) (length-append w.bytes (pages_encoding ws)) in
     let all : length (w ∷ ws) * (4 + size) ≡ length ws * (4 + size) + (4 + size) = suc-mul (length ws) (4 + size) in
     omega (arith, later, here, first, all)
 
@@ -96,8 +96,8 @@ module _ (name : FileName) (header : Header) (len : ℕ) (file : Ltx) (f : Folde
 
   pub len_by_pages : len ≡ 100 + length file.change.pages * (4 + header.page_size)
   len_by_pages =
-      holds.len_is ∙ length-append (header_text file.header no_meaning) (pages_text file.change.pages)
-      ∙ ap (λ (n : ℕ). n + length (pages_text file.change.pages)) (header_length file.header no_meaning refl)
+      holds.len_is ∙ length-append (header_encoding file.header no_meaning) (pages_encoding file.change.pages)
+      ∙ ap (λ (n : ℕ). n + length (pages_encoding file.change.pages)) (header_length file.header no_meaning refl)
       ∙ ap (λ (n : ℕ). 100 + n) (length-pages header.page_size file.change.pages whole)
 
   -- before the end of the pages there is one more
@@ -120,18 +120,18 @@ module _ (name : FileName) (header : Header) (len : ℕ) (file : Ltx) (f : Folde
   -- and there it stands
   pub stands : (k at : ℕ) (d : PageWrite) → at ≡ 100 + k * (4 + header.page_size) → k < length file.change.pages → StandsAt (bytes_of (f name)) at (get_or file.change.pages k d).number (get_or file.change.pages k d).bytes
   stands k at d place within =
-      let behind : List ℕ = to_be_bytes w32 0 ++ (to_be_bytes w64 file.post ++ (to_be_bytes w64 (file_sum (summed_text file no_meaning)) ++ [])) in
+      let behind : List ℕ = to_be_bytes w32 0 ++ (to_be_bytes w64 file.post ++ (to_be_bytes w64 (file_sum (summed_encoding file no_meaning)) ++ [])) in
       let here = page_stands header.page_size file.change.pages whole k d within behind in
-      let text : bytes_of (f name) ≡ header_text file.header no_meaning ++ (pages_text file.change.pages ++ behind) =
-      holds.text ∙ sym (append-nil (file_text file no_meaning)) ∙ parts file no_meaning [] in
+      let encoding : bytes_of (f name) ≡ header_encoding file.header no_meaning ++ (pages_encoding file.change.pages ++ behind) =
+      holds.encoding ∙ sym (append-nil (file_encoding file no_meaning)) ∙ parts file no_meaning [] in
       record {
         low = omega (arith, holds.valid.block.pages.within k d within, holds.valid.block.commit, holds.valid.header.widths.commit);
         rest = here.0;
-        text =
+        encoding =
             ap (λ (n : ℕ). drop n (bytes_of (f name))) place
             ∙ sym (drop-drop (k * (4 + header.page_size)) 100 (bytes_of (f name)))
-            ∙ ap (λ (l : List ℕ). drop (k * (4 + header.page_size)) (drop 100 l)) text
-            ∙ ap (drop (k * (4 + header.page_size))) (drop_at (header_text file.header no_meaning) (pages_text file.change.pages ++ behind) 100 (header_length file.header no_meaning refl))
+            ∙ ap (λ (l : List ℕ). drop (k * (4 + header.page_size)) (drop 100 l)) encoding
+            ∙ ap (drop (k * (4 + header.page_size))) (drop_at (header_encoding file.header no_meaning) (pages_encoding file.change.pages ++ behind) 100 (header_length file.header no_meaning refl))
             ∙ here.1;
       }
 
@@ -143,7 +143,7 @@ stretch_rests old mid new step path so_far rests = joined old mid new step path 
 pub held_on : (name : FileName) (header : Header) (len : ℕ) (file : Ltx) (f c : Folder) → same_name name Database ≡ Rattle.std.proofs.Common.false → SameBut Database f c → HoldsFile name header len file f → HoldsFile name header len file c
 held_on name header len file f c apart same holds = record {
   valid = holds.valid;
-  text = ap bytes_of (same name apart) ∙ holds.text;
+  encoding = ap bytes_of (same name apart) ∙ holds.encoding;
   header_is = holds.header_is;
   len_is = holds.len_is;
 }
@@ -250,11 +250,11 @@ size_said name header len file f holds =
     ∙ ap (λ (n : ℕ). n * file.header.page_size) (sym holds.valid.block.commit)
     ∙ ap (λ (n : ℕ). file.change.commit * n) (sym holds.valid.block.page_size)
 
--- the text is under another name now
+-- the encoding is under another name now
 pub held_as : (name other : FileName) (header : Header) (len : ℕ) (file : Ltx) (f c : Folder) → bytes_of (c other) ≡ bytes_of (f name) → HoldsFile name header len file f → HoldsFile other header len file c
 held_as name other header len file f c same holds = record {
   valid = holds.valid;
-  text = same ∙ holds.text;
+  encoding = same ∙ holds.encoding;
   header_is = holds.header_is;
   len_is = holds.len_is;
 }
@@ -265,15 +265,15 @@ named_here a b file f =
     let test : (a == a && b == b) ≡ true = grind (arith, nat_tests) in
     rw test refl
 
-module _ (header : Header) (len : ℕ) (file : Ltx) (before : Folder) (text : List ℕ) (h mid : History) (staged : IsStaged before text h) (holds : HoldsFile Staged header len file (now h)) where
+module _ (header : Header) (len : ℕ) (file : Ltx) (before : Folder) (encoding : List ℕ) (h mid : History) (staged : IsStaged before encoding h) (holds : HoldsFile Staged header len file (now h)) where
   -- the staged file was published in the log
-  pub held_in_log : (a b : ℕ) → IsPublished before (LtxName a b) text mid → HoldsFile (LtxName a b) header len file (now mid)
+  pub held_in_log : (a b : ℕ) → IsPublished before (LtxName a b) encoding mid → HoldsFile (LtxName a b) header len file (now mid)
   held_in_log a b published =
       held_as Staged (LtxName a b) header len file (now h) (now mid)
-      (ap bytes_of (published.seen (LtxName a b) refl ∙ named_here a b (Some text) before ∙ sym staged.here)) holds
+      (ap bytes_of (published.seen (LtxName a b) refl ∙ named_here a b (Some encoding) before ∙ sym staged.here)) holds
 
   -- or as a snapshot
-  pub held_as_snapshot : IsPublished before Snapshot text mid → HoldsFile Snapshot header len file (now mid)
+  pub held_as_snapshot : IsPublished before Snapshot encoding mid → HoldsFile Snapshot header len file (now mid)
   held_as_snapshot published = held_as Staged Snapshot header len file (now h) (now mid) (ap bytes_of (published.seen Snapshot refl ∙ sym staged.here)) holds
 
 -- a snapshot stays while what it does away with goes

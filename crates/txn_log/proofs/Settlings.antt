@@ -55,14 +55,14 @@ pub cleared-other : (entries : List Entry) (f : Folder) (h : History) → IsClea
 cleared-other entries f h is n other = is.seen n ∙ without-other entries f n other
 
 -- the snapshot decides as long as it and the database file stay
-pub by_same : (image : DatabaseImage) (text : List ℕ) (f c : Folder) → c Snapshot ≡ f Snapshot → c Database ≡ f Database → IsBySnapshot image text f → IsBySnapshot image text c
-by_same image text f c snapshot database by = record {
+pub by_same : (image : DatabaseImage) (encoding : List ℕ) (f c : Folder) → c Snapshot ≡ f Snapshot → c Database ≡ f Database → IsBySnapshot image encoding f → IsBySnapshot image encoding c
+by_same image encoding f c snapshot database by = record {
   stands = snapshot ∙ by.stands;
-  decides = subst (λ (o : Option (List ℕ)). Decides (change_of text) image (bytes_of o)) (sym database) by.decides;
+  decides = subst (λ (o : Option (List ℕ)). Decides (change_of encoding) image (bytes_of o)) (sym database) by.decides;
 }
 
-pub by_worn : (image : DatabaseImage) (text : List ℕ) (change : PageChange) (f c : Folder) → change_of text ≡ change → IsWorn change f c → IsBySnapshot image text f → IsBySnapshot image text c
-by_worn image text change f c tells worn by = record {
+pub by_worn : (image : DatabaseImage) (encoding : List ℕ) (change : PageChange) (f c : Folder) → change_of encoding ≡ change → IsWorn change f c → IsBySnapshot image encoding f → IsBySnapshot image encoding c
+by_worn image encoding change f c tells worn by = record {
   stands = worn.others Snapshot refl refl ∙ by.stands;
   decides =
       subst (λ (x : PageChange). Decides x image (bytes_of (c Database))) (sym tells)
@@ -70,8 +70,8 @@ by_worn image text change f c tells worn by = record {
 }
 
 -- all is written, and the snapshot still has its old name
-pub record IsWritten (image : DatabaseImage) (text : List ℕ) (h : History) : Type 0 where
-  pub by : IsBySnapshot image text (now h)
+pub record IsWritten (image : DatabaseImage) (encoding : List ℕ) (h : History) : Type 0 where
+  pub by : IsBySnapshot image encoding (now h)
   pub shows : Shows image (bytes_of (now h Database))
   pub unmarked : now h Dropped ≡ None
   pub none : (a b : ℕ) → now h (Ltx a b) ≡ None
@@ -82,21 +82,21 @@ renamed_alike a b f g same n other =
     ap (λ (o : Option (List ℕ)). cond (same_name n (Ltx a b)) o (cond (same_name n Snapshot) None (g n))) (same Snapshot refl)
     ∙ ap (λ (o : Option (List ℕ)). cond (same_name n (Ltx a b)) (f Snapshot) (cond (same_name n Snapshot) None o)) (same n other)
 
-module _ (image : DatabaseImage) (file : LogFile) (h new : History) (written : IsWritten image file.text h) where
+module _ (image : DatabaseImage) (file : LogFile) (h new : History) (written : IsWritten image file.encoding h) where
   pub named : (c : Folder) → SameBut Staged (renamed Snapshot (Ltx file.min file.max) (now h)) c → Kept image (file ∷ []) false c
   named c same = record {
     log = λ a b.
         same (Ltx a b) refl
         ∙ ap (λ (o : Option (List ℕ)). cond (a == file.min && b == file.max) o (now h (Ltx a b))) written.by.stands
-        ∙ ap (λ (o : Option (List ℕ)). cond (a == file.min && b == file.max) (Some file.text) o) (written.none a b);
+        ∙ ap (λ (o : Option (List ℕ)). cond (a == file.min && b == file.max) (Some file.encoding) o) (written.none a b);
     no_snapshot = same Snapshot refl;
     mark = ap is_some (same Dropped refl ∙ written.unmarked);
     decided = record {
       none = λ none. let no : None ≡ Some file = sym none in absurd (cc);
       some = λ other some.
           let is : file ≡ other = same_Some file other some in
-          subst (λ (x : LogFile). Decides (change_of x.text) image (bytes_of (c Database))) is
-          (subst (λ (o : Option (List ℕ)). Decides (change_of file.text) image (bytes_of o)) (sym (same Database refl)) written.by.decides);
+          subst (λ (x : LogFile). Decides (change_of x.encoding) image (bytes_of (c Database))) is
+          (subst (λ (o : Option (List ℕ)). Decides (change_of file.encoding) image (bytes_of o)) (sym (same Database refl)) written.by.decides);
     };
   }
 
@@ -109,7 +109,7 @@ module _ (image : DatabaseImage) (file : LogFile) (h new : History) (written : I
       elim from.2 [
         | inl same ↦
             let still = written.settled from.0 from.1 in
-            inl (by_same image file.text (now h) c (same Snapshot ∙ still Snapshot refl) (same Database ∙ still Database refl) written.by)
+            inl (by_same image file.encoding (now h) c (same Snapshot ∙ still Snapshot refl) (same Database ∙ still Database refl) written.by)
         | inr renames ↦ inr (named c (here from.0 c from.1 renames))
       ]
 
@@ -124,12 +124,12 @@ module _ (image : DatabaseImage) (file : LogFile) (h new : History) (written : I
 
 -- From a folder in which a snapshot decides. The stages are: the mark is removed, the other files, then the pages are written.
 module _ (image : DatabaseImage) (file : LogFile) (entries : List Entry) (change : PageChange) (h : History)
-    (settled : IsSettledBut Staged h) (is : IsUnsettled image file.text entries change (now h)) where
+    (settled : IsSettledBut Staged h) (is : IsUnsettled image file.encoding entries change (now h)) where
   abbrev P : Folder → Type 0
   P = IsInstalled image file
 
   pub begin : EachMoment h h P
-  begin = started h P (λ c may. inl (by_same image file.text (now h) c (settled c may Snapshot refl) (settled c may Database refl) is.by))
+  begin = started h P (λ c may. inl (by_same image file.encoding (now h) c (settled c may Snapshot refl) (settled c may Database refl) is.by))
 
   pub unmarks : {T E : Type 0} (result : Result T E) (mid : History) (sees : Step) → Ticks result h mid → Moves sees (Perhaps (SetsFile Dropped None)) h mid → EachMoment h mid P
   unmarks result mid sees ticks moves =
@@ -138,11 +138,11 @@ module _ (image : DatabaseImage) (file : LogFile) (entries : List Entry) (change
       let from = moves.left c may in
       let step : SameBut Dropped from.0 c = unmarking from.0 c from.2 in
       let still = settled from.0 from.1 in
-      inl (by_same image file.text (now h) c (step Snapshot refl ∙ still Snapshot refl) (step Database refl ∙ still Database refl) is.by))
+      inl (by_same image file.encoding (now h) c (step Snapshot refl ∙ still Snapshot refl) (step Database refl ∙ still Database refl) is.by))
 
   module _ (one : History) (sees : Step) (moves : Moves (SetsFile Dropped None) sees h one) where
-    by_one : IsBySnapshot image file.text (now one)
-    by_one = by_same image file.text (now h) (now one) (moves.seen.elsewhere Snapshot refl) (moves.seen.elsewhere Database refl) is.by
+    by_one : IsBySnapshot image file.encoding (now one)
+    by_one = by_same image file.encoding (now h) (now one) (moves.seen.elsewhere Snapshot refl) (moves.seen.elsewhere Database refl) is.by
 
     others_one : HasNoOthers entries (now one)
     others_one a b = without-alike entries (now h) (now one) (λ x y. moves.seen.elsewhere (Ltx x y) refl) a b ∙ is.others a b
@@ -151,21 +151,21 @@ module _ (image : DatabaseImage) (file : LogFile) (entries : List Entry) (change
     clears two first second =
         joined h one two P first
         (weakened one two (IsThinned entries (now one)) P second
-        (λ c thin. inl (by_same image file.text (now one) c (thinned-other entries (now one) c thin Snapshot (λ a b. refl) refl) (thinned-other entries (now one) c thin Database (λ a b. refl) refl) by_one)))
+        (λ c thin. inl (by_same image file.encoding (now one) c (thinned-other entries (now one) c thin Snapshot (λ a b. refl) refl) (thinned-other entries (now one) c thin Database (λ a b. refl) refl) by_one)))
 
     module _ (two : History) (cleared : IsCleared entries (now one) two) where
-      by_two : IsBySnapshot image file.text (now two)
+      by_two : IsBySnapshot image file.encoding (now two)
       by_two =
-          by_same image file.text (now one) (now two) (cleared-other entries (now one) two cleared Snapshot (λ a b. refl)) (cleared-other entries (now one) two cleared Database (λ a b. refl)) by_one
+          by_same image file.encoding (now one) (now two) (cleared-other entries (now one) two cleared Snapshot (λ a b. refl)) (cleared-other entries (now one) two cleared Database (λ a b. refl)) by_one
 
       pub writes : (three : History) → EachMoment h two P → EachMoment two three (IsWorn change (now two)) → EachMoment h three P
       writes three first second =
           joined h two three P first
-          (weakened two three (IsWorn change (now two)) P second (λ c worn. inl (by_worn image file.text change (now two) c is.tells worn by_two)))
+          (weakened two three (IsWorn change (now two)) P second (λ c worn. inl (by_worn image file.encoding change (now two) c is.tells worn by_two)))
 
-      pub written : (three : History) → IsChange change → EachMoment two three (IsWorn change (now two)) → may_leave three (now three) → IsRewritten change (now two) three → IsWritten image file.text three
+      pub written : (three : History) → IsChange change → EachMoment two three (IsWorn change (now two)) → may_leave three (now three) → IsRewritten change (now two) three → IsWritten image file.encoding three
       written three valid runs real done = record {
-        by = by_worn image file.text change (now two) (now three) is.tells (runs.each three.moment (now three) runs.later (omega arith) real) by_two;
+        by = by_worn image file.encoding change (now two) (now three) is.tells (runs.each three.moment (now three) runs.later (omega arith) real) by_two;
         shows =
             subst (λ (o : Option (List ℕ)). Shows image (bytes_of o)) (sym done.database)
             (shows_after change image (bytes_of (now two Database)) valid (subst (λ (x : PageChange). Decides x image (bytes_of (now two Database))) is.tells by_two.decides));

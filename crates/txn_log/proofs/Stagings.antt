@@ -14,36 +14,36 @@ use Rattle.std.specs.Int.{w32, w64, to_be_bytes}
 use Rattle.page_checksum.specs.Crc.{after_bytes, all_ones}
 use Rattle.page_checksum.proofs.CrcLemmas.{after_bytes-append}
 use Rattle.lf_sqlite_pages.specs.declared.page_write.PageWrite.{PageWrite}
-use Rattle.ltx_codec.specs.Format.{header_text, no_meaning, page_text, end_text, sealed, file_text}
+use Rattle.ltx_codec.specs.Format.{header_encoding, no_meaning, page_encoding, end_encoding, sealed, file_encoding}
 use Rattle.ltx_codec.specs.declared.file.Ltx.{Ltx}
 use Rattle.ltx_codec.specs.Encoding.{HasWritten}
 use Rattle.ltx_codec.specs.declared.header.Header.{Header}
 use Rattle.ltx_codec.proofs.PartLaws.{page_added, finished}
 use Rattle.txn_log.specs.declared.staging.Staging.{Staging}
-use Rattle.txn_log.specs.Staging.{HoldsSoFar, front_text, IsStaging}
+use Rattle.txn_log.specs.Staging.{HoldsSoFar, front_encoding, IsStaging}
 
 -- a write at the end
-pub overwritten-end : (piece text : List ℕ) → overwritten (length text) piece text ≡ text ++ piece
-overwritten-end piece text =
-    overwritten-there (length text) piece text (omega arith)
-    ∙ ap (λ (l : List ℕ). l ++ piece ++ drop (length text + length piece) text) (take_all (length text) text (omega arith))
-    ∙ ap (λ (l : List ℕ). text ++ piece ++ l) (drop_all (length text + length piece) text (omega arith))
-    ∙ append-nil (text ++ piece)
+pub overwritten-end : (piece encoding : List ℕ) → overwritten (length encoding) piece encoding ≡ encoding ++ piece
+overwritten-end piece encoding =
+    overwritten-there (length encoding) piece encoding (omega arith)
+    ∙ ap (λ (l : List ℕ). l ++ piece ++ drop (length encoding + length piece) encoding) (take_all (length encoding) encoding (omega arith))
+    ∙ ap (λ (l : List ℕ). encoding ++ piece ++ l) (drop_all (length encoding + length piece) encoding (omega arith))
+    ∙ append-nil (encoding ++ piece)
 
 -- a file with some bytes is there
-pub some_bytes : (file : Option (List ℕ)) (text : List ℕ) → bytes_of file ≡ text → 0 < length text → file ≡ Some text
-some_bytes None text is some = absurd (omega (arith, some, ap length is))
-some_bytes (Some bytes) text is some = ap (λ (b : List ℕ). Some b) is
+pub some_bytes : (file : Option (List ℕ)) (encoding : List ℕ) → bytes_of file ≡ encoding → 0 < length encoding → file ≡ Some encoding
+some_bytes None encoding is some = absurd (omega (arith, some, ap length is))
+some_bytes (Some bytes) encoding is some = ap (λ (b : List ℕ). Some b) is
 
-module _ (before : Folder) (text : List ℕ) (old : History) (so_far : HoldsSoFar before text old) where
+module _ (before : Folder) (encoding : List ℕ) (old : History) (so_far : HoldsSoFar before encoding old) where
   -- a call on the staged file
   pub edits : {T E : Type 0} (result : Result T E) (new : History) (sees : Step) (edit : Edit) → Ticks result old new → Moves sees (OnFile Staged edit) old new → EachMoment old new (SameBut Staged before)
   edits result new sees edit ticks moves = goes_on result old old new (SameBut Staged before) (started old (SameBut Staged before) so_far.left) ticks (edited Staged before sees edit old new so_far.left moves)
 
-  pub holds_more : (new : History) (len : ℕ) (piece : List ℕ) (edit : Edit) → len ≡ length text → Moves (OnFile Staged (Writes len piece)) (OnFile Staged edit) old new → HoldsSoFar before (text ++ piece) new
+  pub holds_more : (new : History) (len : ℕ) (piece : List ℕ) (edit : Edit) → len ≡ length encoding → Moves (OnFile Staged (Writes len piece)) (OnFile Staged edit) old new → HoldsSoFar before (encoding ++ piece) new
   holds_more new len piece edit is moves = record {
     seen = λ n other. moves.seen.elsewhere n other ∙ so_far.seen n other;
-    here = ap bytes_of moves.seen.here ∙ ap (overwritten len piece) so_far.here ∙ ap (λ (k : ℕ). overwritten k piece text) is ∙ overwritten-end piece text;
+    here = ap bytes_of moves.seen.here ∙ ap (overwritten len piece) so_far.here ∙ ap (λ (k : ℕ). overwritten k piece encoding) is ∙ overwritten-end piece encoding;
     left = edited Staged before (OnFile Staged (Writes len piece)) edit old new so_far.left moves;
   }
 
@@ -56,14 +56,14 @@ module _ (staging : Staging) (header : Header) (pages : List PageWrite) (number 
   abbrev pub pages_after : List PageWrite
   pages_after = pages ++ record { number = number; bytes = page } ∷ []
 
-  added : HasWritten (after_bytes staging.register (page_text number page)) header pages_after (front_text header pages ++ page_text number page)
-  added = page_added staging.register number header pages (front_text header pages) page so_far.written
+  added : HasWritten (after_bytes staging.register (page_encoding number page)) header pages_after (front_encoding header pages ++ page_encoding number page)
+  added = page_added staging.register number header pages (front_encoding header pages) page so_far.written
 
-  pub page_text-is : front_text header pages ++ prefix ++ page ≡ front_text header pages_after
-  page_text-is = append_assoc (front_text header pages) prefix page ∙ ap (λ (p : List ℕ). front_text header pages ++ (p ++ page)) is ∙ added.text_is
+  pub page_encoding-is : front_encoding header pages ++ prefix ++ page ≡ front_encoding header pages_after
+  page_encoding-is = append_assoc (front_encoding header pages) prefix page ∙ ap (λ (p : List ℕ). front_encoding header pages ++ (p ++ page)) is ∙ added.encoding_is
 
-  pub mid_long : (mid : Staging) → mid.len ≡ staging.len + length prefix → mid.len ≡ length (front_text header pages ++ prefix)
-  mid_long mid len = len ∙ ap (λ (k : ℕ). k + length prefix) so_far.len ∙ sym (length-append (front_text header pages) prefix)
+  pub mid_long : (mid : Staging) → mid.len ≡ staging.len + length prefix → mid.len ≡ length (front_encoding header pages ++ prefix)
+  mid_long mid len = len ∙ ap (λ (k : ℕ). k + length prefix) so_far.len ∙ sym (length-append (front_encoding header pages) prefix)
 
   pub page-staging : (mid new : Staging) → mid.len ≡ staging.len + length prefix → new.len ≡ mid.len + length page → mid.register ≡ after_bytes staging.register prefix → new.register ≡ after_bytes mid.register page
       → IsStaging new header pages_after
@@ -71,50 +71,50 @@ module _ (staging : Staging) (header : Header) (pages : List PageWrite) (number 
     written = record {
       register_is =
           last ∙ ap (λ (r : ℕ). after_bytes r page) register ∙ sym (after_bytes-append staging.register prefix page)
-          ∙ ap (λ (p : List ℕ). after_bytes staging.register (p ++ page)) is ∙ added.register_is ∙ ap (after_bytes all_ones) added.text_is;
-      text_is = refl;
+          ∙ ap (λ (p : List ℕ). after_bytes staging.register (p ++ page)) is ∙ added.register_is ∙ ap (after_bytes all_ones) added.encoding_is;
+      encoding_is = refl;
     };
     len =
-        second ∙ ap (λ (k : ℕ). k + length page) (mid_long mid first) ∙ sym (length-append (front_text header pages ++ prefix) page) ∙ ap length page_text-is;
+        second ∙ ap (λ (k : ℕ). k + length page) (mid_long mid first) ∙ sym (length-append (front_encoding header pages ++ prefix) page) ∙ ap length page_encoding-is;
   }
 
 -- the header
-pub first-text : (header : Header) (bytes : List ℕ) → bytes ≡ header_text header no_meaning → bytes ≡ front_text header []
-first-text header bytes is = is ∙ sym (append-nil (header_text header no_meaning))
+pub first-encoding : (header : Header) (bytes : List ℕ) → bytes ≡ header_encoding header no_meaning → bytes ≡ front_encoding header []
+first-encoding header bytes is = is ∙ sym (append-nil (header_encoding header no_meaning))
 
-pub first-staging : (header : Header) (bytes : List ℕ) (staging : Staging) → bytes ≡ header_text header no_meaning → staging.len ≡ length bytes → staging.register ≡ after_bytes all_ones bytes → IsStaging staging header []
+pub first-staging : (header : Header) (bytes : List ℕ) (staging : Staging) → bytes ≡ header_encoding header no_meaning → staging.len ≡ length bytes → staging.register ≡ after_bytes all_ones bytes → IsStaging staging header []
 first-staging header bytes staging is len register = record {
   written = record {
-    register_is = register ∙ ap (after_bytes all_ones) (first-text header bytes is);
-    text_is = refl;
+    register_is = register ∙ ap (after_bytes all_ones) (first-encoding header bytes is);
+    encoding_is = refl;
   };
-  len = len ∙ ap length (first-text header bytes is);
+  len = len ∙ ap length (first-encoding header bytes is);
 }
 
 -- the trailer
 module _ (staging : Staging) (file : Ltx) (so_far : IsStaging staging file.header file.change.pages) (post : ℕ) (same : post ≡ file.post) where
   abbrev pub front : List ℕ
-  front = front_text file.header file.change.pages
+  front = front_encoding file.header file.change.pages
 
-  sum_is : (sum : ℕ) → sum ≡ sealed (after_bytes (after_bytes staging.register (to_be_bytes w32 0)) (to_be_bytes w64 post)) → sum ≡ sealed (after_bytes staging.register (end_text file.post))
+  sum_is : (sum : ℕ) → sum ≡ sealed (after_bytes (after_bytes staging.register (to_be_bytes w32 0)) (to_be_bytes w64 post)) → sum ≡ sealed (after_bytes staging.register (end_encoding file.post))
   sum_is sum is =
       is ∙ ap sealed (sym (after_bytes-append staging.register (to_be_bytes w32 0) (to_be_bytes w64 post)))
-      ∙ ap (λ (p : ℕ). sealed (after_bytes staging.register (end_text p))) same
+      ∙ ap (λ (p : ℕ). sealed (after_bytes staging.register (end_encoding p))) same
 
-  pub sealed-text : (trailer : List ℕ) (sum : ℕ) → trailer ≡ to_be_bytes w64 post ++ to_be_bytes w64 sum
-      → sum ≡ sealed (after_bytes (after_bytes staging.register (to_be_bytes w32 0)) (to_be_bytes w64 post)) → front ++ to_be_bytes w32 0 ++ trailer ≡ file_text file no_meaning
-  sealed-text trailer sum is sealing =
+  pub sealed-encoding : (trailer : List ℕ) (sum : ℕ) → trailer ≡ to_be_bytes w64 post ++ to_be_bytes w64 sum
+      → sum ≡ sealed (after_bytes (after_bytes staging.register (to_be_bytes w32 0)) (to_be_bytes w64 post)) → front ++ to_be_bytes w32 0 ++ trailer ≡ file_encoding file no_meaning
+  sealed-encoding trailer sum is sealing =
       ap (λ (t : List ℕ). front ++ to_be_bytes w32 0 ++ t) is
       ∙ append_assoc front (to_be_bytes w32 0) (to_be_bytes w64 post ++ to_be_bytes w64 sum)
       ∙ ap (λ (t : List ℕ). front ++ t) (sym (append_assoc (to_be_bytes w32 0) (to_be_bytes w64 post) (to_be_bytes w64 sum)))
-      ∙ ap (λ (p : ℕ). front ++ (end_text p ++ to_be_bytes w64 sum)) same
-      ∙ ap (λ (s : ℕ). front ++ (end_text file.post ++ to_be_bytes w64 s)) (sum_is sum sealing)
+      ∙ ap (λ (p : ℕ). front ++ (end_encoding p ++ to_be_bytes w64 sum)) same
+      ∙ ap (λ (s : ℕ). front ++ (end_encoding file.post ++ to_be_bytes w64 s)) (sum_is sum sealing)
       ∙ finished staging.register file front so_far.written
 
 -- the staged file is synced
-pub syncs : (before : Folder) (text : List ℕ) (old new : History) → HoldsSoFar before text old → 0 < length text → Moves Same (SetsFile Staged (now old Staged)) old new → IsStaged before text new
-syncs before text old new held some moves =
-    let there : now old Staged ≡ Some text = some_bytes (now old Staged) text held.here some in
+pub syncs : (before : Folder) (encoding : List ℕ) (old new : History) → HoldsSoFar before encoding old → 0 < length encoding → Moves Same (SetsFile Staged (now old Staged)) old new → IsStaged before encoding new
+syncs before encoding old new held some moves =
+    let there : now old Staged ≡ Some encoding = some_bytes (now old Staged) encoding held.here some in
     record {
       seen = λ n other. moves.seen n ∙ held.seen n other;
       here = moves.seen Staged ∙ there;
@@ -122,9 +122,9 @@ syncs before text old new held some moves =
       whole = λ c may. (moves.left c may).2.here ∙ there;
     }
 
-pub perhaps_syncs : {T E : Type 0} (result : Result T E) (before : Folder) (text : List ℕ) (old new : History) → HoldsSoFar before text old → Ticks result old new
+pub perhaps_syncs : {T E : Type 0} (result : Result T E) (before : Folder) (encoding : List ℕ) (old new : History) → HoldsSoFar before encoding old → Ticks result old new
     → Moves Same (Perhaps (SetsFile Staged (now old Staged))) old new → EachMoment old new (SameBut Staged before)
-perhaps_syncs result before text old new held ticks moves =
+perhaps_syncs result before encoding old new held ticks moves =
     goes_on result old old new (SameBut Staged before) (started old (SameBut Staged before) held.left) ticks
     (perhaps_edited Staged before Same (Becomes (now old Staged)) old new held.left moves)
 
@@ -132,5 +132,5 @@ perhaps_syncs result before text old new held ticks moves =
 pub long-enough : (front trailer : List ℕ) → length trailer ≡ 16 → 0 < length (front ++ trailer)
 long-enough front trailer is = omega (arith, is, length-append front trailer)
 
-pub behind_long : (text piece : List ℕ) (old new : ℕ) → old ≡ length text → new ≡ old + length piece → new ≡ length (text ++ piece)
-behind_long text piece old new is more = more ∙ ap (λ (k : ℕ). k + length piece) is ∙ sym (length-append text piece)
+pub behind_long : (encoding piece : List ℕ) (old new : ℕ) → old ≡ length encoding → new ≡ old + length piece → new ≡ length (encoding ++ piece)
+behind_long encoding piece old new is more = more ∙ ap (λ (k : ℕ). k + length piece) is ∙ sym (length-append encoding piece)

@@ -15,44 +15,44 @@ use Rattle.lf_sqlite_pages.specs.Header.{image_is_wal}
 use Rattle.ltx_codec.specs.Sums.{sum_table}
 use Rattle.txn_log.specs.declared.entry.Entry.{Entry}
 use Rattle.txn_log.specs.Pages.{page_in}
-use Rattle.txn_log.specs.Kept.{LogFile, text_of, Kept, Shows, IsAtRestAt, IsAtRest, Ascends}
+use Rattle.txn_log.specs.Kept.{LogFile, encoding_of, Kept, Shows, IsAtRestAt, IsAtRest, Ascends}
 use Rattle.txn_log.specs.Durable.{log_of}
 use Rattle.txn_log.specs.Entries.{AreNamed}
 use Rattle.txn_log.specs.Store.{image_in, files_in, state_in, state_of, AreEntries, IsStore}
 
--- the text under a name, where one was found before
-abbrev pub text_from : Option (List ℕ) → List LogFile → ℕ → ℕ → Option (List ℕ)
-text_from found files a b = fold (λ (found : Option (List ℕ)) (f : LogFile). cond (a == f.min && b == f.max) (Some f.text) found) found files
+-- the encoding under a name, where one was found before
+abbrev pub encoding_from : Option (List ℕ) → List LogFile → ℕ → ℕ → Option (List ℕ)
+encoding_from found files a b = fold (λ (found : Option (List ℕ)) (f : LogFile). cond (a == f.min && b == f.max) (Some f.encoding) found) found files
 
 -- a number below all of these names none of them
-pub unnamed : (found : Option (List ℕ)) (number : ℕ) (files : List LogFile) (a b : ℕ) → Ascends number files → a ≤ number → text_from found files a b ≡ found
+pub unnamed : (found : Option (List ℕ)) (number : ℕ) (files : List LogFile) (a b : ℕ) → Ascends number files → a ≤ number → encoding_from found files a b ≡ found
 unnamed found number [] a b ascends low = refl
 unnamed found number (f ∷ fs) a b ascends low =
     let below : a < f.min = omega (arith, ascends.0) in
     let isnt : (a == f.min) ≡ false = grind (arith, nat_tests) in
-    ap (λ (x : Bool). text_from (cond (x && b == f.max) (Some f.text) found) fs a b) isnt
+    ap (λ (x : Bool). encoding_from (cond (x && b == f.max) (Some f.encoding) found) fs a b) isnt
     ∙ unnamed found f.max fs a b ascends.2 (omega (arith, ascends.1))
 
 -- each file of the log stands under its own name
 lookup : (found : Option (List ℕ)) (number : ℕ) (files : List LogFile) (k : ℕ) (d : LogFile) → Ascends number files → k < length files →
-    text_from found files (get_or files k d).min (get_or files k d).max ≡ Some (get_or files k d).text
+    encoding_from found files (get_or files k d).min (get_or files k d).max ≡ Some (get_or files k d).encoding
 lookup found number [] k d ascends within = absurd (omega arith)
 lookup found number (f ∷ fs) zero d ascends within =
     let here : (f.min == f.min && f.max == f.max) ≡ true = and_from (f.min == f.min) (f.max == f.max) (eq-eqb f.min f.min refl) (eq-eqb f.max f.max refl) in
-    ap (λ (x : Bool). text_from (cond x (Some f.text) found) fs f.min f.max) here ∙ unnamed (Some f.text) f.max fs f.min f.max ascends.2 ascends.1
+    ap (λ (x : Bool). encoding_from (cond x (Some f.encoding) found) fs f.min f.max) here ∙ unnamed (Some f.encoding) f.max fs f.min f.max ascends.2 ascends.1
 lookup found number (f ∷ fs) (suc k) d ascends within =
-    lookup (cond ((get_or fs k d).min == f.min && (get_or fs k d).max == f.max) (Some f.text) found) f.max fs k d ascends.2 (omega arith)
+    lookup (cond ((get_or fs k d).min == f.min && (get_or fs k d).max == f.max) (Some f.encoding) found) f.max fs k d ascends.2 (omega arith)
 
 -- the file of an entry in a folder
 abbrev pub file_at : Folder → Entry → LogFile
-file_at f e = record { min = e.min; max = e.max; text = bytes_of (f (LtxName e.min e.max)) }
+file_at f e = record { min = e.min; max = e.max; encoding = bytes_of (f (LtxName e.min e.max)) }
 
 -- an entry of no account
 abbrev pub no_entry : Entry
 no_entry = record { min = 0; max = 0; pre = record { txid = 0; sum = 0 }; post = record { txid = 0; sum = 0 } }
 
 -- so the files of these entries are the log's
-pub files_are : (entries : List Entry) (files : List LogFile) (f : Folder) → Ascends 0 files → AreNamed entries files → length entries ≡ length files → ((a b : ℕ) → f (LtxName a b) ≡ text_of files a b) → files_in entries f ≡ files
+pub files_are : (entries : List Entry) (files : List LogFile) (f : Folder) → Ascends 0 files → AreNamed entries files → length entries ≡ length files → ((a b : ℕ) → f (LtxName a b) ≡ encoding_of files a b) → files_in entries f ≡ files
 files_are entries files f ascends named same log =
     same_lists (files_in entries f) files (length-map entries (file_at f) ∙ same)
     (λ k d within.
@@ -60,13 +60,13 @@ files_are entries files f ascends named same log =
     let e = get_or entries k no_entry in
     let low : (get_or files k d).min ≡ e.min = named.min k no_entry d more in
     let high : (get_or files k d).max ≡ e.max = named.max k no_entry d more in
-    let found : f (LtxName e.min e.max) ≡ Some (get_or files k d).text =
+    let found : f (LtxName e.min e.max) ≡ Some (get_or files k d).encoding =
     log e.min e.max
-    ∙ ap (λ (a : ℕ). text_of files a e.max) (sym low) ∙ ap (λ (b : ℕ). text_of files (get_or files k d).min b) (sym high)
+    ∙ ap (λ (a : ℕ). encoding_of files a e.max) (sym low) ∙ ap (λ (b : ℕ). encoding_of files (get_or files k d).min b) (sym high)
     ∙ lookup None 0 files k d ascends (omega arith)
     in
     get_or-map (file_at f) entries k no_entry d more
-    ∙ (λ i. record { min = sym low i; max = sym high i; text = bytes_of (found i) }))
+    ∙ (λ i. record { min = sym low i; max = sym high i; encoding = bytes_of (found i) }))
 
 pub named_in : (entries : List Entry) (f : Folder) → AreNamed entries (files_in entries f)
 named_in entries f = record {

@@ -23,60 +23,60 @@ use Rattle.txn_log.specs.declared.coming.Part.{Part}
 use Rattle.txn_log.specs.declared.coming.Part.TheVariants as parts
 use Rattle.txn_log.specs.declared.taking_in.Intake.{Intake}
 
--- the header that is shown is that of the text
-pub shown_is : (coming : Coming) (text : List ℕ) (change : PageChange) → HasCome coming text change → 100 ≤ length text → header_shown coming.reader.decoder ≡ header_in text
-shown_is coming text change come long = by coming.whole come.stands
+-- the header that is shown is that of the encoding
+pub shown_is : (coming : Coming) (encoding : List ℕ) (change : PageChange) → HasCome coming encoding change → 100 ≤ length encoding → header_shown coming.reader.decoder ≡ header_in encoding
+shown_is coming encoding change come long = by coming.whole come.stands
   where
-    by : (b : Bool) → Stands b coming.reader.decoder text change → header_shown coming.reader.decoder ≡ header_in text
-    by true it = sym (file_is text _ it come.octets).header
+    by : (b : Bool) → Stands b coming.reader.decoder encoding change → header_shown coming.reader.decoder ≡ header_in encoding
+    by true it = sym (file_is encoding _ it come.octets).header
     by false taken = elim taken.fed.stage [
       | inl head ↦ absurd (omega (arith, head.short, long))
       | inr (other, block, part) ↦ block.header
     ]
 
--- a longer text has the same header
-pub header_longer : (old text more : List ℕ) → text ≡ old ++ more → 100 ≤ length old → header_in text ≡ header_in old
-header_longer old text more front long =
+-- a longer encoding has the same header
+pub header_longer : (old encoding more : List ℕ) → encoding ≡ old ++ more → 100 ≤ length old → header_in encoding ≡ header_in old
+header_longer old encoding more front long =
     ap header_in front ∙ sym (header_same old (old ++ more) (length old) (longer old more) (omega (arith, long)) long)
 
--- a text of which no header came is short
-change_size : (coming : Coming) (text : List ℕ) (change : PageChange) → HasCome coming text change → 100 ≤ length text → change.page_size ≡ stated_page_size text
-change_size coming text change come long = by coming.whole come.stands
+-- an encoding of which no header came is short
+change_size : (coming : Coming) (encoding : List ℕ) (change : PageChange) → HasCome coming encoding change → 100 ≤ length encoding → change.page_size ≡ stated_page_size encoding
+change_size coming encoding change come long = by coming.whole come.stands
   where
-    by : (b : Bool) → Stands b coming.reader.decoder text change → change.page_size ≡ stated_page_size text
-    by true it = it.valid.block.page_size ∙ sym (ap (λ (h : Header). h.page_size) (file_is text _ it come.octets).header)
+    by : (b : Bool) → Stands b coming.reader.decoder encoding change → change.page_size ≡ stated_page_size encoding
+    by true it = it.valid.block.page_size ∙ sym (ap (λ (h : Header). h.page_size) (file_is encoding _ it come.octets).header)
     by false taken = (taken.pages long).read.holds.page_size
 
-any_change : (coming : Coming) (text : List ℕ) (change other : PageChange) → HasCome coming text change → length text < 100 → HasCome coming text other
-any_change coming text change other come short = record { octets = come.octets; count = come.count; stands = by coming.whole come.stands }
+any_change : (coming : Coming) (encoding : List ℕ) (change other : PageChange) → HasCome coming encoding change → length encoding < 100 → HasCome coming encoding other
+any_change coming encoding change other come short = record { octets = come.octets; count = come.count; stands = by coming.whole come.stands }
   where
-    by : (b : Bool) → Stands b coming.reader.decoder text change → Stands b coming.reader.decoder text other
-    by true it = absurd (omega (arith, short, (file_is text _ it come.octets).long))
+    by : (b : Bool) → Stands b coming.reader.decoder encoding change → Stands b coming.reader.decoder encoding other
+    by true it = absurd (omega (arith, short, (file_is encoding _ it come.octets).long))
     by false taken = record { fed = taken.fed; pages = λ long. absurd (omega (arith, long, short)) }
 
-pub still_short : (old new : Coming) (text piece : List ℕ) (change : PageChange) (used : ℕ) → HasCome old text change
-    → ((text : List ℕ) (change : PageChange) → HasCome old text change → Comes new text change piece (Ok (parts.More, used))) → length text < 100 → length (text ++ take used piece) < 100
-still_short old new text piece change used come comes short = elim (cases_lt (length (text ++ take used piece)) 100) [
+pub still_short : (old new : Coming) (encoding piece : List ℕ) (change : PageChange) (used : ℕ) → HasCome old encoding change
+    → ((encoding : List ℕ) (change : PageChange) → HasCome old encoding change → Comes new encoding change piece (Ok (parts.More, used))) → length encoding < 100 → length (encoding ++ take used piece) < 100
+still_short old new encoding piece change used come comes short = elim (cases_lt (length (encoding ++ take used piece)) 100) [
   | inl still ↦ still
   | inr long ↦
       let one : PageChange = empty_change 1 0 in
       let two : PageChange = empty_change 2 0 in
-      let first : 1 ≡ stated_page_size (text ++ take used piece) = change_size new (text ++ take used piece) one (comes text one (any_change old text change one come short)).0 long in
-      let second : 2 ≡ stated_page_size (text ++ take used piece) = change_size new (text ++ take used piece) two (comes text two (any_change old text change two come short)).0 long in
+      let first : 1 ≡ stated_page_size (encoding ++ take used piece) = change_size new (encoding ++ take used piece) one (comes encoding one (any_change old encoding change one come short)).0 long in
+      let second : 2 ≡ stated_page_size (encoding ++ take used piece) = change_size new (encoding ++ take used piece) two (comes encoding two (any_change old encoding change two come short)).0 long in
       absurd (omega (arith, first, second))
 ]
 
 -- what came of a step
-pub came_of : (old new : Coming) (text piece : List ℕ) (change : PageChange) (part : Part) (used : ℕ) → HasCome old text change
-    → ((text : List ℕ) (change : PageChange) → HasCome old text change → Comes new text change piece (Ok (part, used))) → Came new part text (text ++ take used piece) change
-came_of old new text piece change part used come comes =
-    let here = comes text change come in
+pub came_of : (old new : Coming) (encoding piece : List ℕ) (change : PageChange) (part : Part) (used : ℕ) → HasCome old encoding change
+    → ((encoding : List ℕ) (change : PageChange) → HasCome old encoding change → Comes new encoding change piece (Ok (part, used))) → Came new part encoding (encoding ++ take used piece) change
+came_of old new encoding piece change part used come comes =
+    let here = comes encoding change come in
     record {
       come = here.0;
       sound = here.1;
       more = take used piece;
       front = refl;
-      short = λ is. still_short old new text piece change used come (λ t c h. subst (λ (p : Part). Comes new t c piece (Ok (p, used))) is (comes t c h));
+      short = λ is. still_short old new encoding piece change used come (λ t c h. subst (λ (p : Part). Comes new t c piece (Ok (p, used))) is (comes t c h));
     }
 
 -- what is staged is quiet
@@ -96,33 +96,33 @@ first_quiet h settled = record { seen = λ n other. refl; left = settled }
 pub quiet_moments : (before : Folder) (h end : History) → IsQuiet before h → EachMoment h end (SameBut Staged (now h)) → EachMoment h end (SameBut Staged before)
 quiet_moments before h end quiet run = weakened h end (SameBut Staged (now h)) (SameBut Staged before) run (λ c same. quiet_same before h c quiet same)
 
-pub quiet_holds : (before : Folder) (text : List ℕ) (h end : History) → IsQuiet before h → HoldsSoFar (now h) text end → HoldsSoFar before text end
-quiet_holds before text h end quiet holds = record {
+pub quiet_holds : (before : Folder) (encoding : List ℕ) (h end : History) → IsQuiet before h → HoldsSoFar (now h) encoding end → HoldsSoFar before encoding end
+quiet_holds before encoding h end quiet holds = record {
   seen = quiet_same before h (now end) quiet holds.seen;
   here = holds.here;
   left = λ c may. quiet_same before h c quiet (holds.left c may);
 }
 
-module _ (coming : Coming) (taken : Option Intake) (table sums : List ℕ) (count : ℕ) (wal : Bool) (room : ℕ) (text long : List ℕ) (change : PageChange) where
+module _ (coming : Coming) (taken : Option Intake) (table sums : List ℕ) (count : ℕ) (wal : Bool) (room : ℕ) (encoding long : List ℕ) (change : PageChange) where
   -- bytes that end no part
-  pub more_taken : Came coming parts.More text long change → TakenIn taken table sums count wal room text change → TakenIn taken table sums count wal room long change
+  pub more_taken : Came coming parts.More encoding long change → TakenIn taken table sums count wal room encoding change → TakenIn taken table sums count wal room long change
   more_taken came is = by taken is
     where
-      by : (o : Option Intake) → TakenIn o table sums count wal room text change → TakenIn o table sums count wal room long change
-      by None none = λ whole. elim (cases_lt (length text) 100) [
+      by : (o : Option Intake) → TakenIn o table sums count wal room encoding change → TakenIn o table sums count wal room long change
+      by None none = λ whole. elim (cases_lt (length encoding) 100) [
         | inl short ↦ absurd (omega (arith, whole, came.short refl short))
-        | inr past ↦ subst (λ (h : Header). room < h.commit) (sym (header_longer text long came.more came.front past)) (none past)
+        | inr past ↦ subst (λ (h : Header). room < h.commit) (sym (header_longer encoding long came.more came.front past)) (none past)
       ]
       by (Some intake) it =
-          let same = header_longer text long came.more came.front it.0 in (
-            omega (arith, it.0, ap length came.front, length-append text came.more),
+          let same = header_longer encoding long came.more came.front it.0 in (
+            omega (arith, it.0, ap length came.front, length-append encoding came.more),
             it.1 ∙ sym same,
             subst (λ (h : Header). h.commit ≤ room) (sym same) it.2,
             it.3,
           )
 
 -- a header
-module _ (coming : Coming) (text long : List ℕ) (change : PageChange) (came : Came coming parts.Header text long change) (header : Header) (is : header ≡ header_shown coming.reader.decoder) where
+module _ (coming : Coming) (encoding long : List ℕ) (change : PageChange) (came : Came coming parts.Header encoding long change) (header : Header) (is : header ≡ header_shown coming.reader.decoder) where
   pub header_long : 100 ≤ length long
   header_long = came.sound.1.read.header.whole
 
@@ -153,22 +153,22 @@ module _ (coming : Coming) (text long : List ℕ) (change : PageChange) (came : 
       subst (λ (x : PageChange). HoldsUpTo before intake.receiving x count end) header_change (quiet_holds before _ h end quiet holds)
 
 -- a page
-module _ (coming : Coming) (text long : List ℕ) (change : PageChange) (number : ℕ) (came : Came coming (parts.Page number) text long change) (page : List ℕ) (is : page ≡ page_shown coming.reader.decoder) where
+module _ (coming : Coming) (encoding long : List ℕ) (change : PageChange) (number : ℕ) (came : Came coming (parts.Page number) encoding long change) (page : List ℕ) (is : page ≡ page_shown coming.reader.decoder) where
   pub page_valid : IsChange (with_page change number page)
   page_valid = subst (λ (p : List ℕ). IsChange (with_page change number p)) (sym is) came.sound.1.valid
 
   pub page_change : with_page change number page ≡ change_after (parts.Page number) coming change
   page_change = ap (with_page change number) is
 
-  pub page_refused : (table new sums : List ℕ) (count : ℕ) (wal : Bool) (room : ℕ) → TakenIn None table sums count wal room text change → TakenIn None new sums count wal room long (change_after (parts.Page number) coming change)
+  pub page_refused : (table new sums : List ℕ) (count : ℕ) (wal : Bool) (room : ℕ) → TakenIn None table sums count wal room encoding change → TakenIn None new sums count wal room long (change_after (parts.Page number) coming change)
   page_refused table new sums count wal room none whole =
-      subst (λ (h : Header). room < h.commit) (sym (header_longer text long came.more came.front came.sound.0)) (none came.sound.0)
+      subst (λ (h : Header). room < h.commit) (sym (header_longer encoding long came.more came.front came.sound.0)) (none came.sound.0)
 
-  pub page_taken : (intake next : Intake) (table new sums : List ℕ) (count : ℕ) (wal : Bool) (room : ℕ) → TakenIn (Some intake) table sums count wal room text change → next.receiving.header ≡ intake.receiving.header
+  pub page_taken : (intake next : Intake) (table new sums : List ℕ) (count : ℕ) (wal : Bool) (room : ℕ) → TakenIn (Some intake) table sums count wal room encoding change → next.receiving.header ≡ intake.receiving.header
       → TakenUpTo next new sums count wal (with_page change number page) → TakenIn (Some next) new sums count wal room long (change_after (parts.Page number) coming change)
   page_taken intake next table new sums count wal room it header taken =
-      let same = header_longer text long came.more came.front it.0 in (
-        omega (arith, it.0, ap length came.front, length-append text came.more),
+      let same = header_longer encoding long came.more came.front it.0 in (
+        omega (arith, it.0, ap length came.front, length-append encoding came.more),
         header ∙ it.1 ∙ sym same,
         subst (λ (h : Header). h.commit ≤ room) (sym same) it.2,
         subst (λ (x : PageChange). TakenUpTo next new sums count wal x) page_change taken,
@@ -180,18 +180,18 @@ module _ (coming : Coming) (text long : List ℕ) (change : PageChange) (number 
 
 -- a source is being read, and its file taken in
 pub record Going (honest : Bool) (left left_now : Option (List ℕ)) (coming : Coming) (taken : Option Intake) (table sums : List ℕ) (count : ℕ) (wal : Bool) (room : ℕ) (rest : List ℕ) (h mid : History) : Type 0 where
-  pub text : List ℕ
+  pub encoding : List ℕ
   pub change : PageChange
-  pub read : Consumes left left_now (text ++ rest)
-  pub come : HasCome coming text change
-  pub taken_in : TakenIn taken table sums count wal room text change
+  pub read : Consumes left left_now (encoding ++ rest)
+  pub come : HasCome coming encoding change
+  pub taken_in : TakenIn taken table sums count wal room encoding change
   pub moments : IsTrue honest → EachMoment h mid (SameBut Staged (now h))
   pub staged : IsTrue honest → StagedIn taken (now h) change count mid
 
 pub going_none : (honest : Bool) (left : Option (List ℕ)) (coming : Coming) (change : PageChange) (table sums : List ℕ) (count : ℕ) (wal : Bool) (room : ℕ) (page : List ℕ) (h : History) → HasCome coming [] change
     → (IsTrue honest → IsSettledBut Staged h) → Going honest left left coming None table sums count wal room (drop 0 (take 0 page)) h h
 going_none honest left coming change table sums count wal room page h come settled = record {
-  text = [];
+  encoding = [];
   change = change;
   read = Rattle.std.proofs.KnownBytes.Consumes-nil left;
   come = come;
@@ -203,11 +203,11 @@ going_none honest left coming change table sums count wal room page h come settl
 module _ (honest : Bool) (left mid_left : Option (List ℕ)) (coming : Coming) (taken : Option Intake) (table sums : List ℕ) (count : ℕ) (wal : Bool) (room : ℕ) (rest : List ℕ) (h mid : History)
     (so_far : Going honest left mid_left coming taken table sums count wal room rest h mid) where
   -- some bytes more were read
-  pub going_read : (left_now : Option (List ℕ)) (next : List ℕ) → ((text : List ℕ) → Consumes left mid_left (text ++ rest) → Consumes left left_now (text ++ next)) → Going honest left left_now coming taken table sums count wal room next h mid
+  pub going_read : (left_now : Option (List ℕ)) (next : List ℕ) → ((encoding : List ℕ) → Consumes left mid_left (encoding ++ rest) → Consumes left left_now (encoding ++ next)) → Going honest left left_now coming taken table sums count wal room next h mid
   going_read left_now next more = record {
-    text = so_far.text;
+    encoding = so_far.encoding;
     change = so_far.change;
-    read = more so_far.text so_far.read;
+    read = more so_far.encoding so_far.read;
     come = so_far.come;
     taken_in = so_far.taken_in;
     moments = so_far.moments;
@@ -218,37 +218,37 @@ module _ (honest : Bool) (left mid_left : Option (List ℕ)) (coming : Coming) (
   quiet is = quiet_of taken (now h) so_far.change count mid (so_far.staged is)
 
   -- a step more
-  module _ (new : Coming) (part : Part) (used : ℕ) (comes : (text : List ℕ) (change : PageChange) → HasCome coming text change → Comes new text change rest (Ok (part, used))) where
-    pub came : Came new part so_far.text (so_far.text ++ take used rest) so_far.change
-    came = came_of coming new so_far.text rest so_far.change part used so_far.come comes
+  module _ (new : Coming) (part : Part) (used : ℕ) (comes : (encoding : List ℕ) (change : PageChange) → HasCome coming encoding change → Comes new encoding change rest (Ok (part, used))) where
+    pub came : Came new part so_far.encoding (so_far.encoding ++ take used rest) so_far.change
+    came = came_of coming new so_far.encoding rest so_far.change part used so_far.come comes
 
     pub going_step : (next : Option Intake) (table_new : List ℕ) (end : History) (others : List ℕ) → rest ≡ take used rest ++ others
-        → ((text longer : List ℕ) (change : PageChange) → Came new part text longer change → TakenIn taken table sums count wal room text change → TakenIn next table_new sums count wal room longer (change_after part new change))
-        → (IsTrue honest → (before : Folder) (text longer : List ℕ) (change : PageChange) → Came new part text longer change → TakenIn taken table sums count wal room text change → StagedIn taken before change count mid
+        → ((encoding longer : List ℕ) (change : PageChange) → Came new part encoding longer change → TakenIn taken table sums count wal room encoding change → TakenIn next table_new sums count wal room longer (change_after part new change))
+        → (IsTrue honest → (before : Folder) (encoding longer : List ℕ) (change : PageChange) → Came new part encoding longer change → TakenIn taken table sums count wal room encoding change → StagedIn taken before change count mid
         → StagedIn next before (change_after part new change) count end)
-        → (IsTrue honest → (before : Folder) (text longer : List ℕ) (change : PageChange) → Came new part text longer change → TakenIn taken table sums count wal room text change → StagedIn taken before change count mid
+        → (IsTrue honest → (before : Folder) (encoding longer : List ℕ) (change : PageChange) → Came new part encoding longer change → TakenIn taken table sums count wal room encoding change → StagedIn taken before change count mid
         → EachMoment mid end (SameBut Staged before))
         → Going honest left mid_left new next table_new sums count wal room others h end
     going_step next table_new end others splits takes stages runs = record {
-      text = so_far.text ++ take used rest;
+      encoding = so_far.encoding ++ take used rest;
       change = change_after part new so_far.change;
-      read = subst (λ (l : List ℕ). Consumes left mid_left l) (ap (λ (l : List ℕ). so_far.text ++ l) splits ∙ sym (append_assoc so_far.text (take used rest) others)) so_far.read;
+      read = subst (λ (l : List ℕ). Consumes left mid_left l) (ap (λ (l : List ℕ). so_far.encoding ++ l) splits ∙ sym (append_assoc so_far.encoding (take used rest) others)) so_far.read;
       come = came.come;
-      taken_in = takes so_far.text (so_far.text ++ take used rest) so_far.change came so_far.taken_in;
-      moments = λ is. joined h mid end (SameBut Staged (now h)) (so_far.moments is) (runs is (now h) so_far.text (so_far.text ++ take used rest) so_far.change came so_far.taken_in (so_far.staged is));
-      staged = λ is. stages is (now h) so_far.text (so_far.text ++ take used rest) so_far.change came so_far.taken_in (so_far.staged is);
+      taken_in = takes so_far.encoding (so_far.encoding ++ take used rest) so_far.change came so_far.taken_in;
+      moments = λ is. joined h mid end (SameBut Staged (now h)) (so_far.moments is) (runs is (now h) so_far.encoding (so_far.encoding ++ take used rest) so_far.change came so_far.taken_in (so_far.staged is));
+      staged = λ is. stages is (now h) so_far.encoding (so_far.encoding ++ take used rest) so_far.change came so_far.taken_in (so_far.staged is);
     }
 
-  pub going_failed : (new : Coming) (part : Part) (used : ℕ) (end : History) → ((text : List ℕ) (change : PageChange) → HasCome coming text change → Comes new text change rest (Ok (part, used)))
-      → (IsTrue honest → (before : Folder) (text longer : List ℕ) (change : PageChange) → Came new part text longer change → TakenIn taken table sums count wal room text change → StagedIn taken before change count mid
+  pub going_failed : (new : Coming) (part : Part) (used : ℕ) (end : History) → ((encoding : List ℕ) (change : PageChange) → HasCome coming encoding change → Comes new encoding change rest (Ok (part, used)))
+      → (IsTrue honest → (before : Folder) (encoding longer : List ℕ) (change : PageChange) → Came new part encoding longer change → TakenIn taken table sums count wal room encoding change → StagedIn taken before change count mid
       → EachMoment mid end (SameBut Staged before)) → IsTrue honest → EachMoment h end (SameBut Staged (now h))
   going_failed new part used end comes runs is =
-      let it = came_of coming new so_far.text rest so_far.change part used so_far.come comes in
-      joined h mid end (SameBut Staged (now h)) (so_far.moments is) (runs is (now h) so_far.text (so_far.text ++ take used rest) so_far.change it so_far.taken_in (so_far.staged is))
+      let it = came_of coming new so_far.encoding rest so_far.change part used so_far.come comes in
+      joined h mid end (SameBut Staged (now h)) (so_far.moments is) (runs is (now h) so_far.encoding (so_far.encoding ++ take used rest) so_far.change it so_far.taken_in (so_far.staged is))
 
 -- no bytes are left over
 pub none_left : (from to : ℕ) (page : List ℕ) → from ≡ to → drop from (take to page) ≡ []
 none_left from to page same = drop_all from (take to page) (omega (arith, same, Rattle.std.proofs.Common.length-take to page))
 
-pub read_all : (left left_now : Option (List ℕ)) (text rest : List ℕ) → rest ≡ [] → Consumes left left_now (text ++ rest) → Consumes left left_now text
-read_all left left_now text rest none read = subst (λ (l : List ℕ). Consumes left left_now l) (ap (λ (l : List ℕ). text ++ l) none ∙ append-nil text) read
+pub read_all : (left left_now : Option (List ℕ)) (encoding rest : List ℕ) → rest ≡ [] → Consumes left left_now (encoding ++ rest) → Consumes left left_now encoding
+read_all left left_now encoding rest none read = subst (λ (l : List ℕ). Consumes left left_now l) (ap (λ (l : List ℕ). encoding ++ l) none ∙ append-nil encoding) read

@@ -8,7 +8,7 @@ use Rattle.lf_disk.specs.History.{History, now, EachMoment}
 use Rattle.lf_sqlite_pages.specs.Apply.{apply}
 use Rattle.lf_sqlite_pages.specs.Change.{PageChange}
 use Rattle.lf_sqlite_pages.specs.Image.{DatabaseImage}
-use Rattle.ltx_codec.specs.Format.{IsFile, file_text, no_meaning}
+use Rattle.ltx_codec.specs.Format.{IsFile, file_encoding, no_meaning}
 use Rattle.ltx_codec.specs.declared.file.Ltx.{Ltx}
 use Rattle.txn_log.specs.Apply.{whole_file, IsTaken}
 use Rattle.txn_log.specs.Draft.{sums_after}
@@ -51,11 +51,11 @@ abbrev pub PlacesWhole : Bool → History → Ground → List ℕ → Ltx → Pl
 PlacesWhole honest start ground sums file how end =
     IsTrue honest → (image : DatabaseImage) (files : List LogFile) → IsOverGround image files start ground sums
     → Places image files ground.dropped (apply image (whole_file ground.commit file).change)
-    (record { min = file.header.min; max = file.header.max; text = file_text (whole_file ground.commit file) no_meaning }) start how end
+    (record { min = file.header.min; max = file.header.max; encoding = file_encoding (whole_file ground.commit file) no_meaning }) start how end
 
 -- what is published reads as the file
 abbrev pub ReadsBack : ℕ → Ltx → Type 0
-ReadsBack commit file = IsFile (whole_file commit file) → file_of (file_text (whole_file commit file) no_meaning) ≡ whole_file commit file
+ReadsBack commit file = IsFile (whole_file commit file) → file_of (file_encoding (whole_file commit file) no_meaning) ≡ whole_file commit file
 
 -- the file with this outline and this change
 abbrev pub as_file : Outline → PageChange → Ltx

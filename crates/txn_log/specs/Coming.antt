@@ -1,4 +1,4 @@
--- A transaction file whose text comes in pieces, up to its end.
+-- A transaction file whose encoding comes in pieces, up to its end.
 use Rattle.std.specs.Prelude.{◌≡◌, ◌⊎◌, ℕ, ◌<◌, ◌≤◌, Bool, true, false, Option, Result, Ok, Err, List, ◌++◌, length, take}
 use Rattle.std.specs.Io.KnownBytes.{Consumes, IsAtEnd}
 use Rattle.lf_base.specs.Faults.{Rose}
@@ -16,8 +16,8 @@ use Rattle.txn_log.specs.declared.coming.Coming.{Coming}
 use Rattle.txn_log.specs.declared.coming.Part.{Part}
 use Rattle.txn_log.specs.declared.coming.Part.TheVariants as part
 use Rattle.txn_log.specs.declared.outline.Outline.{Outline}
-use Rattle.txn_log.specs.declared.text_fault.TextFault.{TextFault}
-use Rattle.txn_log.specs.declared.text_fault.TextFault.TheVariants as fault
+use Rattle.txn_log.specs.declared.source_fault.SourceFault.{SourceFault}
+use Rattle.txn_log.specs.declared.source_fault.SourceFault.TheVariants as fault
 
 -- how many bytes of a piece of this length the decoder took
 abbrev pub used_in : Seen → ℕ → ℕ
@@ -40,24 +40,24 @@ part_of (seen.Page used number) = part.Page number
 part_of seen.More = part.More
 part_of (seen.Whole used) = part.More
 
--- the fault stands earliest in the text, whatever bytes follow
+-- the fault stands earliest in the encoding, whatever bytes follow
 abbrev pub StaysEarliest : List ℕ → LtxFault → Type 0
-StaysEarliest text f = (more : List ℕ) → AreBytes (text ++ more) → IsEarliest (text ++ more) f
+StaysEarliest encoding f = (more : List ℕ) → AreBytes (encoding ++ more) → IsEarliest (encoding ++ more) f
 
--- how the text stands: it is that of a file, or that of a file begun; the change holds its pages
+-- how the encoding stands: it is that of a file, or that of a file begun; the change holds its pages
 abbrev pub Stands : Bool → Decoder → List ℕ → PageChange → Type 0
-Stands true decoder text change = IsLtx text (record { header = header_shown decoder; change = change; post = post_shown decoder })
-Stands false decoder text change = HasTaken decoder change text
+Stands true decoder encoding change = IsLtx encoding (record { header = header_shown decoder; change = change; post = post_shown decoder })
+Stands false decoder encoding change = HasTaken decoder change encoding
 
--- exactly this text was taken
-pub record HasCome (coming : Coming) (text : List ℕ) (change : PageChange) : Type 0 where
-  pub octets : AreBytes text
-  pub count : coming.taken ≡ length text
-  pub stands : Stands coming.whole coming.reader.decoder text change
+-- exactly this encoding was taken
+pub record HasCome (coming : Coming) (encoding : List ℕ) (change : PageChange) : Type 0 where
+  pub octets : AreBytes encoding
+  pub count : coming.taken ≡ length encoding
+  pub stands : Stands coming.whole coming.reader.decoder encoding change
 
--- some text was taken
+-- some encoding was taken
 abbrev pub IsOpen : Coming → Type 0
-IsOpen coming = (text : List ℕ) × (change : PageChange) × HasCome coming text change
+IsOpen coming = (encoding : List ℕ) × (change : PageChange) × HasCome coming encoding change
 
 -- the change after a part: a header begins it, a page goes to its end
 abbrev pub change_after : Part → Coming → PageChange → PageChange
@@ -73,42 +73,42 @@ IsSound (part.Page number) old new change = (100 ≤ length old) × HoldsWholePa
 
 -- what comes with a piece: a part with some of its bytes, or a fault that stays the earliest
 abbrev pub Comes : Coming → List ℕ → PageChange → List ℕ → Result (Part × ℕ) LtxFault → Type 0
-Comes new text change piece (Ok (came, used)) =
-    HasCome new (text ++ take used piece) (change_after came new change)
-    × IsSound came text (text ++ take used piece) (change_after came new change)
-Comes new text change piece (Err f) = StaysEarliest (text ++ piece) f
+Comes new encoding change piece (Ok (came, used)) =
+    HasCome new (encoding ++ take used piece) (change_after came new change)
+    × IsSound came encoding (encoding ++ take used piece) (change_after came new change)
+Comes new encoding change piece (Err f) = StaysEarliest (encoding ++ piece) f
 
--- what a text that has come to its end is: that of a file with these pages, or the fault that stands earliest
+-- what an encoding that has come to its end is: that of a file with these pages, or the fault that stands earliest
 abbrev pub Ends : List ℕ → PageChange → Result Outline LtxFault → Type 0
-Ends text change (Ok outline) = IsLtx text (record { header = outline.header; change = change; post = outline.post })
-Ends text change (Err f) = IsEarliest text f
+Ends encoding change (Ok outline) = IsLtx encoding (record { header = outline.header; change = change; post = outline.post })
+Ends encoding change (Err f) = IsEarliest encoding f
 
 -- what a whole piece gives
 abbrev pub TakesAll : {T : Type 0} → Coming → List ℕ → List ℕ → Result T LtxFault → Type 0
-TakesAll new text piece (Ok _) = (change : PageChange) × HasCome new (text ++ piece) change
-TakesAll new text piece (Err f) = StaysEarliest (text ++ piece) f
+TakesAll new encoding piece (Ok _) = (change : PageChange) × HasCome new (encoding ++ piece) change
+TakesAll new encoding piece (Err f) = StaysEarliest (encoding ++ piece) f
 
--- the source gave these bytes, and came to its end with them: they are the text of a file
+-- the source gave these bytes, and came to its end with them: they are the encoding of a file
 pub record ReadsFile (left left_now : Option (List ℕ)) (outline : Outline) : Type 0 where
-  pub text : List ℕ
+  pub encoding : List ℕ
   pub change : PageChange
-  pub read : Consumes left left_now text
+  pub read : Consumes left left_now encoding
   pub end : IsAtEnd left_now
-  pub is : IsLtx text (record { header = outline.header; change = change; post = outline.post })
+  pub is : IsLtx encoding (record { header = outline.header; change = change; post = outline.post })
 
 -- the source gave these bytes: the fault stands earliest in them whatever follows, or they came to their end
 pub record ReadsFault (left left_now : Option (List ℕ)) (f : LtxFault) : Type 0 where
-  pub text : List ℕ
-  pub read : Consumes left left_now text
-  pub stands : StaysEarliest text f ⊎ IsAtEnd left_now × IsEarliest text f
+  pub encoding : List ℕ
+  pub read : Consumes left left_now encoding
+  pub stands : StaysEarliest encoding f ⊎ IsAtEnd left_now × IsEarliest encoding f
 
 -- what a source gives that is read as a file
-abbrev pub ReadsText : Option (List ℕ) → Option (List ℕ) → Result Outline TextFault → Type 0
-ReadsText left left_now (Ok outline) = ReadsFile left left_now outline
-ReadsText left left_now (Err (fault.Ltx f)) = ReadsFault left left_now f
-ReadsText left left_now (Err fault.Source) = Unit {0}
+abbrev pub ReadsEncoding : Option (List ℕ) → Option (List ℕ) → Result Outline SourceFault → Type 0
+ReadsEncoding left left_now (Ok outline) = ReadsFile left left_now outline
+ReadsEncoding left left_now (Err (fault.Ltx f)) = ReadsFault left left_now f
+ReadsEncoding left left_now (Err fault.Source) = Unit {0}
 
 -- only a source that failed raises its count
-abbrev pub CountsSource : ℕ → ℕ → Result Outline TextFault → Type 0
+abbrev pub CountsSource : ℕ → ℕ → Result Outline SourceFault → Type 0
 CountsSource before now (Err fault.Source) = Rose before now
 CountsSource before now _ = now ≡ before

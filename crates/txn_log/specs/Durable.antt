@@ -12,24 +12,24 @@ use Rattle.ltx_codec.specs.declared.file.Ltx.{Ltx}
 use Rattle.world_laws.specs.Store.{StoreState, at, dropped_store}
 use Rattle.txn_log.specs.Kept.{LogFile, file_of, Kept, IsBySnapshot, IsByMark, Ascends}
 
--- the text is one of its file
-abbrev pub IsText : List ℕ → Type 0
-IsText text = ∥ IsLtx text (file_of text) ∥₁
+-- the encoding is one of its file
+abbrev pub IsEncoding : List ℕ → Type 0
+IsEncoding encoding = ∥ IsLtx encoding (file_of encoding) ∥₁
 
--- the files that these texts are
+-- the files that these encodings are
 abbrev pub log_of : List LogFile → List Ltx
-log_of files = map (λ file. file_of file.text) files
+log_of files = map (λ file. file_of file.encoding) files
 
 -- each file follows the position of the one before it
 abbrev pub Follow : List Ltx → Type 0
 Follow log = (k : ℕ) (d : Ltx) → k + 1 < length log → before (get_or log (k + 1) d) ≡ after (get_or log k d)
 
--- the texts are those of files, each with the numbers of its name, and each follows the one before it
+-- the encodings are those of files, each with the numbers of its name, and each follows the one before it
 pub record IsLog (files : List LogFile) : Type 0 where
   pub ascends : Ascends 0 files
-  pub texts : (k : ℕ) (d : LogFile) → k < length files → IsText (get_or files k d).text
-  pub min : (k : ℕ) (d : LogFile) → k < length files → (file_of (get_or files k d).text).header.min ≡ (get_or files k d).min
-  pub max : (k : ℕ) (d : LogFile) → k < length files → (file_of (get_or files k d).text).header.max ≡ (get_or files k d).max
+  pub encodings : (k : ℕ) (d : LogFile) → k < length files → IsEncoding (get_or files k d).encoding
+  pub min : (k : ℕ) (d : LogFile) → k < length files → (file_of (get_or files k d).encoding).header.min ≡ (get_or files k d).min
+  pub max : (k : ℕ) (d : LogFile) → k < length files → (file_of (get_or files k d).encoding).header.max ≡ (get_or files k d).max
   pub follow : Follow (log_of files)
 
 -- where there is a file, the sum that the last one leads to is that of the image
@@ -47,11 +47,11 @@ pub record StandsByLog (folder : Folder) (store : StoreState) : Type 0 where
 
 -- a snapshot decides: it is the log alone
 pub record StandsBySnapshot (folder : Folder) (store : StoreState) : Type 0 where
-  pub text : List ℕ
-  pub by : IsBySnapshot store.image text folder
-  pub log : store.log ≡ file_of text ∷ []
-  pub is : IsText text
-  pub first : (file_of text).header.min ≡ 1
+  pub encoding : List ℕ
+  pub by : IsBySnapshot store.image encoding folder
+  pub log : store.log ≡ file_of encoding ∷ []
+  pub is : IsEncoding encoding
+  pub first : (file_of encoding).header.min ≡ 1
   pub sum : IsSummed store
   pub unmarked : store.dropped ≡ false
 

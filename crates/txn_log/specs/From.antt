@@ -16,12 +16,12 @@ use Rattle.txn_log.specs.declared.fault.StoreFault.TheVariants as fault
 use Rattle.txn_log.specs.declared.from_fault.FromFault.{FromFault}
 use Rattle.txn_log.specs.declared.from_fault.FromFault.TheVariants as from
 
--- the source gave the text of this file, and came to its end with it
+-- the source gave the encoding of this file, and came to its end with it
 pub record Gave (left left_now : Option (List ℕ)) (file : Ltx) : Type 0 where
-  pub text : List ℕ
-  pub read : Consumes left left_now text
+  pub encoding : List ℕ
+  pub read : Consumes left left_now encoding
   pub end : IsAtEnd left_now
-  pub is : IsLtx text file
+  pub is : IsLtx encoding file
 
 -- of a store's refusals those that neither memory nor the disk decides
 abbrev pub IsJudged : StoreFault → Type 0

@@ -6,9 +6,9 @@ use Rattle.ltx_codec.specs.declared.file.Ltx.{Ltx}
 use Rattle.txn_log.specs.declared.fault.StoreFault.{StoreFault}
 use Rattle.txn_log.specs.declared.fault.StoreFault.TheVariants as fault
 
--- the text is one of the file at a place of a log
-abbrev pub IsTextAt : List Ltx → ℕ → List ℕ → Type 0
-IsTextAt log at text = (d : Ltx) → ∥ IsLtx text (get_or log at d) ∥₁
+-- the encoding is one of the file at a place of a log
+abbrev pub IsEncodingAt : List Ltx → ℕ → List ℕ → Type 0
+IsEncodingAt log at encoding = (d : Ltx) → ∥ IsLtx encoding (get_or log at d) ∥₁
 
 -- a file is read, or the disk fails, whose count then rose, or memory is wanting
 abbrev pub ReadsFile : {T : Type 0} → ℕ → Result T StoreFault → ℕ → Type 0

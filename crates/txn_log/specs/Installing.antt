@@ -13,16 +13,16 @@ use Rattle.txn_log.specs.Kept.{LogFile, change_of, Decides, Kept, IsAtRest}
 use Rattle.txn_log.specs.Placing.{IsTried}
 use Rattle.txn_log.specs.Settling.{HasNoOthers, IsInstalled}
 
--- in a folder, whose transaction files are those of these entries, the text would decide this image
-pub record WouldDecide (image : DatabaseImage) (text : List ℕ) (entries : List Entry) (change : PageChange) (f : Folder) : Type 0 where
+-- in a folder, whose transaction files are those of these entries, the encoding would decide this image
+pub record WouldDecide (image : DatabaseImage) (encoding : List ℕ) (entries : List Entry) (change : PageChange) (f : Folder) : Type 0 where
   pub decides : Decides change image (bytes_of (f Database))
-  pub tells : change_of text ≡ change
+  pub tells : change_of encoding ≡ change
   pub others : HasNoOthers entries f
 
--- the text is staged over such a folder
-pub record IsReadyAnew (before : Folder) (image : DatabaseImage) (text : List ℕ) (entries : List Entry) (change : PageChange) (h : History) : Type 0 where
-  pub staged : IsStaged before text h
-  pub would : WouldDecide image text entries change before
+-- the encoding is staged over such a folder
+pub record IsReadyAnew (before : Folder) (image : DatabaseImage) (encoding : List ℕ) (entries : List Entry) (change : PageChange) (h : History) : Type 0 where
+  pub staged : IsStaged before encoding h
+  pub would : WouldDecide image encoding entries change before
 
 -- the folder is as before, or the file decides as a snapshot or is the log
 abbrev pub IsAsBeforeOrInstalled : Folder → DatabaseImage → LogFile → Folder → Type 0
@@ -32,13 +32,13 @@ IsAsBeforeOrInstalled before image file c = SameBut Staged before c ⊎ IsInstal
 abbrev pub IsKeptOrInstalled : DatabaseImage → List LogFile → Bool → DatabaseImage → LogFile → Folder → Type 0
 IsKeptOrInstalled image files dropped made file c = Kept image files dropped c ⊎ IsInstalled made file c
 
--- over a store at rest the text of a change would decide the image that the change makes of nothing
-pub record IsOverAnew (image : DatabaseImage) (files : List LogFile) (dropped : Bool) (made : DatabaseImage) (text : List ℕ) (entries : List Entry) (change : PageChange) (h : History) : Type 0 where
+-- over a store at rest the encoding of a change would decide the image that the change makes of nothing
+pub record IsOverAnew (image : DatabaseImage) (files : List LogFile) (dropped : Bool) (made : DatabaseImage) (encoding : List ℕ) (entries : List Entry) (change : PageChange) (h : History) : Type 0 where
   pub rest : IsAtRest image files dropped h
-  pub would : WouldDecide made text entries change (now h)
+  pub would : WouldDecide made encoding entries change (now h)
 
 -- what a crash leaves, by the outcome: before the rename the store from before, and from there on also the file alone
 abbrev pub PlacesAnew : DatabaseImage → List LogFile → Bool → DatabaseImage → LogFile → History → Placed → History → Type 0
 PlacesAnew image files dropped made file start placed.Unpublished end = EachMoment start end (Kept image files dropped)
-PlacesAnew image files dropped made file start (placed.From tried) end = EachMoment start end (IsKeptOrInstalled image files dropped made file) × IsTried file.text tried end
+PlacesAnew image files dropped made file start (placed.From tried) end = EachMoment start end (IsKeptOrInstalled image files dropped made file) × IsTried file.encoding tried end
 PlacesAnew image files dropped made file start placed.Whole end = EachMoment start end (IsKeptOrInstalled image files dropped made file) × IsAtRest made (file ∷ []) false end

@@ -12,23 +12,23 @@ use Rattle.ltx_codec.specs.FileIn.{file_in}
 use Rattle.ltx_codec.specs.declared.file.Ltx.{Ltx as LtxFile}
 use Rattle.txn_log.specs.Pages.{page_in}
 
--- a file of the log: the first and last number in its name, and its text
+-- a file of the log: the first and last number in its name, and its encoding
 pub record LogFile : Type 0 where
   pub min : ℕ
   pub max : ℕ
-  pub text : List ℕ
+  pub encoding : List ℕ
 
--- the file that a text is
+-- the file that an encoding is
 unfoldable pub file_of : List ℕ → LtxFile
-file_of text = file_in text
+file_of encoding = file_in encoding
 
 -- and its change
 abbrev pub change_of : List ℕ → PageChange
-change_of text = (file_of text).change
+change_of encoding = (file_of encoding).change
 
--- the text under a name
-abbrev pub text_of : List LogFile → ℕ → ℕ → Option (List ℕ)
-text_of files a b = fold (λ found file. if a == file.min && b == file.max then Some file.text else found) None files
+-- the encoding under a name
+abbrev pub encoding_of : List LogFile → ℕ → ℕ → Option (List ℕ)
+encoding_of files a b = fold (λ found file. if a == file.min && b == file.max then Some file.encoding else found) None files
 
 -- the file that decides
 abbrev pub last_of : List LogFile → Option LogFile
@@ -44,19 +44,19 @@ pub record Decides (change : PageChange) (image : DatabaseImage) (bytes : List �
 -- the last file decides the image, and without one it is empty
 pub record IsDecided (last : Option LogFile) (image : DatabaseImage) (bytes : List ℕ) : Type 0 where
   pub none : last ≡ None → image ≡ empty_image
-  pub some : (file : LogFile) → last ≡ Some file → Decides (change_of file.text) image bytes
+  pub some : (file : LogFile) → last ≡ Some file → Decides (change_of file.encoding) image bytes
 
 -- the folder holds this image, this log and this mark, whatever a crash made of the database file
 pub record Kept (image : DatabaseImage) (files : List LogFile) (dropped : Bool) (f : Folder) : Type 0 where
-  pub log : (a b : ℕ) → f (Ltx a b) ≡ text_of files a b
+  pub log : (a b : ℕ) → f (Ltx a b) ≡ encoding_of files a b
   pub no_snapshot : f Snapshot ≡ None
   pub mark : is_some (f Dropped) ≡ dropped
   pub decided : IsDecided (last_of files) image (bytes_of (f Database))
 
 -- a snapshot stands in the folder, and decides whatever else stands there
-pub record IsBySnapshot (image : DatabaseImage) (text : List ℕ) (f : Folder) : Type 0 where
-  pub stands : f Snapshot ≡ Some text
-  pub decides : Decides (change_of text) image (bytes_of (f Database))
+pub record IsBySnapshot (image : DatabaseImage) (encoding : List ℕ) (f : Folder) : Type 0 where
+  pub stands : f Snapshot ≡ Some encoding
+  pub decides : Decides (change_of encoding) image (bytes_of (f Database))
 
 -- the mark of a dropped database decides
 pub record IsByMark (f : Folder) : Type 0 where

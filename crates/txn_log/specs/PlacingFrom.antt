@@ -5,7 +5,7 @@ use Rattle.lf_disk.specs.Folder.{Folder, bytes_of}
 use Rattle.lf_sqlite_pages.specs.Change.{PageChange, IsChange}
 use Rattle.lf_sqlite_pages.specs.Complete.{completed}
 use Rattle.lf_sqlite_pages.specs.Image.{DatabaseImage}
-use Rattle.ltx_codec.specs.Format.{IsFile, file_text, no_meaning}
+use Rattle.ltx_codec.specs.Format.{IsFile, file_encoding, no_meaning}
 use Rattle.ltx_codec.specs.declared.file.Ltx.{Ltx}
 use Rattle.txn_log.specs.Intake.{HasUpTo}
 use Rattle.txn_log.specs.Kept.{LogFile, file_of, Kept, Shows, IsComplete}
@@ -20,5 +20,5 @@ pub record IsOverFrom (before : Folder) (image : DatabaseImage) (files : List Lo
   pub up : HasUpTo received sums count change
   pub is : file ≡ record { header = received.header; change = completed change count; post = post }
   pub whole : IsFile file
-  pub read : file_of (file_text file no_meaning) ≡ file
+  pub read : file_of (file_encoding file no_meaning) ≡ file
   pub complete : IsComplete image file.change

@@ -12,13 +12,13 @@ use Rattle.txn_log.specs.Kept.{LogFile, change_of, Kept, Shows, IsComplete, IsBy
 abbrev pub IsSettled : History → Type 0
 IsSettled h = (c : Folder) → may_leave h c → Same (now h) c
 
--- over a store at rest the text of a complete change is staged
-pub record IsReady (image : DatabaseImage) (files : List LogFile) (dropped : Bool) (text : List ℕ) (change : PageChange) (h : History) : Type 0 where
+-- over a store at rest the encoding of a complete change is staged
+pub record IsReady (image : DatabaseImage) (files : List LogFile) (dropped : Bool) (encoding : List ℕ) (change : PageChange) (h : History) : Type 0 where
   pub before : Folder
-  pub staged : IsStaged before text h
+  pub staged : IsStaged before encoding h
   pub kept : Kept image files dropped before
   pub shows : Shows image (bytes_of (before Database))
-  pub tells : change_of text ≡ change
+  pub tells : change_of encoding ≡ change
   pub valid : IsChange change
   pub complete : IsComplete image change
 
@@ -28,4 +28,4 @@ IsBeforeOrAfter image files image' files' c = Kept image files false c ⊎ Kept 
 
 -- the folder holds a dropped database, or this file, as a snapshot or as the log
 abbrev pub IsDroppedOrAnew : DatabaseImage → LogFile → Folder → Type 0
-IsDroppedOrAnew image file c = Kept record { page_size = 0; pages = [] } [] true c ⊎ (IsBySnapshot image file.text c ⊎ Kept image (file ∷ []) false c)
+IsDroppedOrAnew image file c = Kept record { page_size = 0; pages = [] } [] true c ⊎ (IsBySnapshot image file.encoding c ⊎ Kept image (file ∷ []) false c)

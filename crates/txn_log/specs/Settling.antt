@@ -28,11 +28,11 @@ pub record IsCleared (entries : List Entry) (before : Folder) (h : History) : Ty
   pub settled : IsSettledBut Staged h
 
 -- a snapshot with this change decides the image, and the transaction files are those of these entries
-pub record IsUnsettled (image : DatabaseImage) (text : List ℕ) (entries : List Entry) (change : PageChange) (f : Folder) : Type 0 where
-  pub by : IsBySnapshot image text f
-  pub tells : change_of text ≡ change
+pub record IsUnsettled (image : DatabaseImage) (encoding : List ℕ) (entries : List Entry) (change : PageChange) (f : Folder) : Type 0 where
+  pub by : IsBySnapshot image encoding f
+  pub tells : change_of encoding ≡ change
   pub others : HasNoOthers entries f
 
 -- the file decides as a snapshot, or is the log
 abbrev pub IsInstalled : DatabaseImage → LogFile → Folder → Type 0
-IsInstalled image file c = IsBySnapshot image file.text c ⊎ Kept image (file ∷ []) false c
+IsInstalled image file c = IsBySnapshot image file.encoding c ⊎ Kept image (file ∷ []) false c

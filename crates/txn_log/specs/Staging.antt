@@ -4,22 +4,22 @@ use Rattle.lf_disk.specs.declared.name.FileName.TheVariants.{Staged}
 use Rattle.lf_disk.specs.Folder.{Folder, bytes_of, SameBut}
 use Rattle.lf_disk.specs.History.{History, now, may_leave}
 use Rattle.lf_sqlite_pages.specs.declared.page_write.PageWrite.{PageWrite}
-use Rattle.ltx_codec.specs.Format.{header_text, no_meaning, pages_text}
+use Rattle.ltx_codec.specs.Format.{header_encoding, no_meaning, pages_encoding}
 use Rattle.ltx_codec.specs.Encoding.{HasWritten}
 use Rattle.ltx_codec.specs.declared.header.Header.{Header}
 use Rattle.txn_log.specs.declared.staging.Staging.{Staging}
 
 -- the staged file has these bytes, and all others are as before, also in what a crash leaves
-pub record HoldsSoFar (before : Folder) (text : List ℕ) (h : History) : Type 0 where
+pub record HoldsSoFar (before : Folder) (encoding : List ℕ) (h : History) : Type 0 where
   pub seen : SameBut Staged before (now h)
-  pub here : bytes_of (now h Staged) ≡ text
+  pub here : bytes_of (now h Staged) ≡ encoding
   pub left : (c : Folder) → may_leave h c → SameBut Staged before c
 
--- the text of a header and of the pages behind it
-abbrev pub front_text : Header → List PageWrite → List ℕ
-front_text header pages = header_text header no_meaning ++ pages_text pages
+-- the encoding of a header and of the pages behind it
+abbrev pub front_encoding : Header → List PageWrite → List ℕ
+front_encoding header pages = header_encoding header no_meaning ++ pages_encoding pages
 
 -- the header and these pages were staged
 pub record IsStaging (staging : Staging) (header : Header) (pages : List PageWrite) : Type 0 where
-  pub written : HasWritten staging.register header pages (front_text header pages)
-  pub len : staging.len ≡ length (front_text header pages)
+  pub written : HasWritten staging.register header pages (front_encoding header pages)
+  pub len : staging.len ≡ length (front_encoding header pages)

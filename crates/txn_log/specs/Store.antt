@@ -25,7 +25,7 @@ image_in size commit f = record { page_size = size; pages = map (page_in size (b
 
 -- the files of these entries in a folder
 abbrev pub files_in : List Entry → Folder → List LogFile
-files_in entries f = map (λ e. record { min = e.min; max = e.max; text = bytes_of (f (LtxName e.min e.max)) }) entries
+files_in entries f = map (λ e. record { min = e.min; max = e.max; encoding = bytes_of (f (LtxName e.min e.max)) }) entries
 
 -- the store in a folder
 abbrev pub state_in : ℕ → ℕ → List Entry → Bool → Folder → StoreState
@@ -59,7 +59,7 @@ failed_of h broken attempt tried = if broken then Some (failure_of h tried attem
 -- the entries are those of these files
 pub record AreEntries (entries : List Entry) (files : List LogFile) : Type 0 where
   pub log : IsLog files
-  pub same : map (λ file. entry_of (file_of file.text)) files ≡ entries
+  pub same : map (λ file. entry_of (file_of file.encoding)) files ≡ entries
 
 -- over an honest disk the moment that is meant was one at rest, and entries and sums are those of the files and pages then
 pub record IsStore (h : History) (size commit : ℕ) (entries : List Entry) (dropped : Bool) (sums : List ℕ) (broken : Bool) (whole tried : ℕ) : Type 0 where

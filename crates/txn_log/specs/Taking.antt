@@ -33,11 +33,11 @@ pub record IsQuiet (before : Folder) (h : History) : Type 0 where
   pub seen : SameBut Staged before (now h)
   pub left : (c : Folder) → may_leave h c → SameBut Staged before c
 
--- of this text nothing is taken in yet, or its database is past the room; or its pages are taken in
+-- of this encoding nothing is taken in yet, or its database is past the room; or its pages are taken in
 abbrev pub TakenIn : Option Intake → List ℕ → List ℕ → ℕ → Bool → ℕ → List ℕ → PageChange → Type 0
-TakenIn None table sums count wal room text change = 100 ≤ length text → room < stated_commit text
-TakenIn (Some intake) table sums count wal room text change =
-    (100 ≤ length text) × (intake.receiving.header ≡ header_in text) × (stated_commit text ≤ room) × TakenUpTo intake table sums count wal change
+TakenIn None table sums count wal room encoding change = 100 ≤ length encoding → room < stated_commit encoding
+TakenIn (Some intake) table sums count wal room encoding change =
+    (100 ≤ length encoding) × (intake.receiving.header ≡ header_in encoding) × (stated_commit encoding ≤ room) × TakenUpTo intake table sums count wal change
 
 -- and what was staged of it
 abbrev pub StagedIn : Option Intake → Folder → PageChange → ℕ → History → Type 0

@@ -17,24 +17,24 @@ use Rattle.txn_log.specs.declared.taking_in.Intake.{Intake}
 use Rattle.txn_log.specs.declared.taking_source.TakeFault.{TakeFault}
 use Rattle.txn_log.specs.declared.taking_source.TakeFault.TheVariants as fault
 
--- a part came behind a text
-pub record Came (coming : Coming) (part : Part) (old text : List ℕ) (change : PageChange) : Type 0 where
-  pub come : HasCome coming text (change_after part coming change)
-  pub sound : IsSound part old text (change_after part coming change)
+-- a part came behind an encoding
+pub record Came (coming : Coming) (part : Part) (old encoding : List ℕ) (change : PageChange) : Type 0 where
+  pub come : HasCome coming encoding (change_after part coming change)
+  pub sound : IsSound part old encoding (change_after part coming change)
   pub more : List ℕ
-  pub front : text ≡ old ++ more
-  pub short : part ≡ parts.More → length old < 100 → length text < 100
+  pub front : encoding ≡ old ++ more
+  pub short : part ≡ parts.More → length old < 100 → length encoding < 100
 
--- a source gave these bytes, and came to its end with them: they are the text of this file, which is taken in, and staged where
+-- a source gave these bytes, and came to its end with them: they are the encoding of this file, which is taken in, and staged where
 -- the disk is honest
 pub record GaveTaken (honest : Bool) (before : Folder) (left left_now : Option (List ℕ)) (taken : Option Intake) (table sums : List ℕ) (count : ℕ) (wal : Bool) (room : ℕ) (outline : Outline) (h : History) : Type 0 where
-  pub text : List ℕ
+  pub encoding : List ℕ
   pub change : PageChange
-  pub read : Consumes left left_now text
+  pub read : Consumes left left_now encoding
   pub end : IsAtEnd left_now
-  pub octets : AreBytes text
-  pub is : IsLtx text (record { header = outline.header; change = change; post = outline.post })
-  pub taken_in : TakenIn taken table sums count wal room text change
+  pub octets : AreBytes encoding
+  pub is : IsLtx encoding (record { header = outline.header; change = change; post = outline.post })
+  pub taken_in : TakenIn taken table sums count wal room encoding change
   pub staged : IsTrue honest → StagedIn taken before change count h
 
 -- what a source gives that is read as a file and taken in

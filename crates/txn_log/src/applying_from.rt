@@ -14,9 +14,9 @@ use crate::entry::Entry;
 use crate::fault::StoreFault;
 use crate::from_fault::FromFault;
 use crate::reserved::Reserved;
+use crate::source_fault::SourceFault;
 use crate::source_reading::read_source;
 use crate::store::Store;
-use crate::text_fault::TextFault;
 use lf_base::{Pos, Source};
 use lf_disk::Disk;
 use page_checksum::Sums;
@@ -35,8 +35,8 @@ fn refuse<S: Source>(source: &mut S, reserved: Reserved, page: &mut [u8]) -> (Fr
     let mut coming = Coming::new(reader);
     let why = match read_source(source, &mut coming, page) {
         Ok(outline) => broken_or_room(outline.header.commit, pages),
-        Err(TextFault::Source) => FromFault::Source,
-        Err(TextFault::Ltx(fault)) => FromFault::Ltx(fault),
+        Err(SourceFault::Source) => FromFault::Source,
+        Err(SourceFault::Ltx(fault)) => FromFault::Ltx(fault),
     };
     let left = Reserved {
         reader: coming.reader,

@@ -106,11 +106,11 @@ fn judge_taken(
     table: &Sums,
     ground: &Ground,
 ) -> Result<Intake, FromFault>
-    requires is { (text : List ℕ) × (change : PageChange) × (sums : List ℕ) × AreBytes text × IsLtx text (record { header = outline.now.header; change = change; post = outline.now.post })
-        × TakenIn taken table.now.sums sums ground.now.commit ground.now.wal ground.now.room text change }
-    ensures judges { (text : List ℕ) (change : PageChange) (sums : List ℕ) → AreBytes text
-        → IsLtx text (record { header = outline.now.header; change = change; post = outline.now.post })
-        → TakenIn taken table.now.sums sums ground.now.commit ground.now.wal ground.now.room text change
+    requires is { (encoding : List ℕ) × (change : PageChange) × (sums : List ℕ) × AreBytes encoding × IsLtx encoding (record { header = outline.now.header; change = change; post = outline.now.post })
+        × TakenIn taken table.now.sums sums ground.now.commit ground.now.wal ground.now.room encoding change }
+    ensures judges { (encoding : List ℕ) (change : PageChange) (sums : List ℕ) → AreBytes encoding
+        → IsLtx encoding (record { header = outline.now.header; change = change; post = outline.now.post })
+        → TakenIn taken table.now.sums sums ground.now.commit ground.now.wal ground.now.room encoding change
         → JudgesTaken taken ground.now.room ground.now.position ground.now.page_size ground.now.commit sums
         (record { header = outline.now.header; change = change; post = outline.now.post }) result }
 {

@@ -1,4 +1,4 @@
-//! A transaction file whose text comes in pieces, up to its end.
+//! A transaction file whose encoding comes in pieces, up to its end.
 ghost use Rattle.std.specs.Prelude.{◌≡◌, ◌<◌, ◌≤◌, ◌+◌, ℕ, List, [], length, OnOk, IfOk};
 ghost use Rattle.lf_sqlite_pages.specs.Change.{PageChange};
 ghost use Rattle.ltx_codec.specs.Decoding.{header_shown, page_shown};
@@ -83,7 +83,7 @@ impl Coming {
         requires open_ { IsOpen self.old }
         requires some { 0 < length piece.now }
         requires short { length piece.now ≤ 65536 }
-        ensures comes { (text : List ℕ) (change : PageChange) → HasCome self.old text change → Comes self.new text change piece.now result }
+        ensures comes { (encoding : List ℕ) (change : PageChange) → HasCome self.old encoding change → Comes self.new encoding change piece.now result }
         ensures more { IfOk result (λ came. (1 ≤ came.1) × (came.1 ≤ length piece.now) × (self.new.taken ≡ self.old.taken + came.1)) }
         ensures within { OnOk result (self.old.taken < 4294967296) }
     {
@@ -118,7 +118,7 @@ impl Coming {
 
     /// What the file is, once all its bytes were taken.
     pub fn finish(&self) -> Result<Outline, LtxFault>
-        ensures { (text : List ℕ) (change : PageChange) → HasCome self.now text change → Ends text change result }
+        ensures { (encoding : List ℕ) (change : PageChange) → HasCome self.now encoding change → Ends encoding change result }
     {
         if !self.whole {
             return Err(LtxFault::Short);

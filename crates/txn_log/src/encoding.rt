@@ -6,22 +6,22 @@ use lf_base::NoMemory;
 use ltx_codec::{Ltx, encode, file_is_read};
 use std::alloc::Global;
 
-/// The text of a file.
-pub fn text_of(alloc: Global, file: &Ltx) -> Result<Vec<u8>, NoMemory>
+/// The encoding of a file.
+pub fn encoding_of(alloc: Global, file: &Ltx) -> Result<Vec<u8>, NoMemory>
     requires { IsFile file.now }
-    ensures text { IfOk result (λ text. IsLtx text.items file.now) }
-    ensures read { IfOk result (λ text. file_of text.items ≡ file.now) }
+    ensures encoding { IfOk result (λ encoding. IsLtx encoding.items file.now) }
+    ensures read { IfOk result (λ encoding. file_of encoding.items ≡ file.now) }
 {
-    let mut text = Vec::new(alloc);
-    encode(file, &mut text)?;
-    reads_back(text.as_slice(), file);
-    Ok(text)
+    let mut encoding = Vec::new(alloc);
+    encode(file, &mut encoding)?;
+    reads_back(encoding.as_slice(), file);
+    Ok(encoding)
 }
 
-/// A text of a file reads as that file.
-fn reads_back(text: &[u8], file: &Ltx)
-    requires { IsLtx text.now file.now }
-    ensures { file_of text.now ≡ file.now }
+/// An encoding of a file reads as that file.
+fn reads_back(encoding: &[u8], file: &Ltx)
+    requires { IsLtx encoding.now file.now }
+    ensures { file_of encoding.now ≡ file.now }
 {
     file_is_read();
 }

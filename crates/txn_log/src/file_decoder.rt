@@ -32,9 +32,9 @@ impl FileDecoder {
         self.decoder.restart();
     }
 
-    /// Takes a piece of the text, up to the end of a part.
+    /// Takes a piece of the encoding, up to the end of a part.
     pub fn feed(&mut self, piece: &[u8]) -> Result<Seen, LtxFault>
-        ensures { (text : List ℕ) → HasFed self.old.decoder largest_page text → FeedGives self.new.decoder largest_page text piece.now result }
+        ensures { (encoding : List ℕ) → HasFed self.old.decoder largest_page encoding → FeedGives self.new.decoder largest_page encoding piece.now result }
     {
         self.decoder.feed(piece)
     }

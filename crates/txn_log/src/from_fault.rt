@@ -8,7 +8,7 @@ use ltx_codec::LtxFault;
 pub enum FromFault {
     /// The source failed.
     Source,
-    /// Its bytes are the text of no file.
+    /// Its bytes are the encoding of no file.
     Ltx(LtxFault),
     /// The file is no snapshot: its first transaction is not 1.
     NotSnapshot,

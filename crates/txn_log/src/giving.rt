@@ -1,7 +1,7 @@
 //! The files of the log, one after another.
 ghost use Rattle.std.specs.Prelude.{◌≡◌, ◌<◌, length, IsTrue, OnOk};
 ghost use Rattle.lf_disk.specs.History.{Rests};
-ghost use Rattle.txn_log.specs.Giving.{IsTextAt, Gives};
+ghost use Rattle.txn_log.specs.Giving.{IsEncodingAt, Gives};
 ghost use Rattle.txn_log.specs.Store.{state_of, failed_of};
 
 use crate::fault::StoreFault;
@@ -14,7 +14,7 @@ impl<D: Disk> Store<D> {
     /// `out` holds. The store stays as it is.
     pub fn file(&mut self, at: usize, out: &mut Vec<u8>) -> Result<(), StoreFault>
         requires { at < length self.old.entries.items }
-        ensures text { IsTrue (D.honest self.old.disk) → OnOk result (IsTextAt (state_of (D.history self.old.disk)
+        ensures encoding { IsTrue (D.honest self.old.disk) → OnOk result (IsEncodingAt (state_of (D.history self.old.disk)
             self.old.page_size self.old.commit self.old.entries.items self.old.dropped self.old.broken self.old.whole).log at out.new.items) }
         ensures cause { Gives self.old.broken (D.faults self.old.disk) result (D.faults self.new.disk) }
         ensures store { IsTrue (D.honest self.old.disk) → (state_of (D.history self.new.disk)

@@ -13,8 +13,8 @@ ghost use Rattle.txn_log.specs.Store.{files_in};
 /// While a snapshot is settled under its own numbers, each folder that a crash leaves stands for
 /// the store of the snapshot.
 pub fn settled_stands()
-    ensures { (folder c : Folder) (store : StoreState) (by : StandsBySnapshot folder store) (file : LogFile) → file.text ≡ by.text
-        → (file_of by.text).header.min ≡ file.min → (file_of by.text).header.max ≡ file.max → IsInstalled store.image file c → Durable c store }
+    ensures { (folder c : Folder) (store : StoreState) (by : StandsBySnapshot folder store) (file : LogFile) → file.encoding ≡ by.encoding
+        → (file_of by.encoding).header.min ≡ file.min → (file_of by.encoding).header.max ≡ file.max → IsInstalled store.image file c → Durable c store }
 {}
 
 /// The entries of a store name all transaction files of its folder.

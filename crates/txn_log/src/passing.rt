@@ -11,7 +11,7 @@ ghost use Rattle.lf_sqlite_pages.specs.Writes.{writes_of};
 ghost use Rattle.ltx_codec.specs.declared.file.Ltx.{Ltx as File};
 ghost use Rattle.txn_log.specs.Apply.{sum_behind};
 ghost use Rattle.txn_log.specs.Receiving.{lacking_page, HasPassed, Lacks};
-ghost use Rattle.txn_log.specs.Staging.{HoldsSoFar, front_text};
+ghost use Rattle.txn_log.specs.Staging.{HoldsSoFar, front_encoding};
 
 use crate::receiving::Receiving;
 use crate::staging::stage_page;
@@ -33,12 +33,12 @@ impl Receiving {
         requires holds_data { IsDataPage self.old.header.page_size number }
         requires whole { length page.now ≡ self.old.header.page_size }
         ensures moments { IsTrue (D.honest disk.old) → (before : Folder) (sums : List ℕ) (held : ℕ → Option (List ℕ))
-            → HasPassed self.old sums held → HoldsSoFar before (front_text self.old.header (writes_of held self.old.passed)) (D.history disk.old)
+            → HasPassed self.old sums held → HoldsSoFar before (front_encoding self.old.header (writes_of held self.old.passed)) (D.history disk.old)
             → EachMoment (D.history disk.old) (D.history disk.new) (SameBut Name.Staged before) }
         ensures staged { IsTrue (D.honest disk.old) → OnOk result ((before : Folder) (sums : List ℕ) (held : ℕ → Option (List ℕ))
             → HasPassed self.old sums held → held number ≡ Some page.now
-            → HoldsSoFar before (front_text self.old.header (writes_of held self.old.passed)) (D.history disk.old)
-            → HoldsSoFar before (front_text self.new.header (writes_of held self.new.passed)) (D.history disk.new)) }
+            → HoldsSoFar before (front_encoding self.old.header (writes_of held self.old.passed)) (D.history disk.old)
+            → HoldsSoFar before (front_encoding self.new.header (writes_of held self.new.passed)) (D.history disk.new)) }
         ensures passed { OnOk result ((sums : List ℕ) (held : ℕ → Option (List ℕ)) → HasPassed self.old sums held → held number ≡ Some page.now
             → HasPassed self.new sums held) }
         ensures counts { OnOk result ((self.new.passed ≡ number) × (self.new.header ≡ self.old.header)) }
@@ -55,12 +55,12 @@ impl Receiving {
     fn pass<D: Disk>(&mut self, disk: &mut D, sums: &Sums, count: u32) -> Result<(), Failed>
         requires { self.old.passed + 1 < 2 ^ 32 }
         ensures moments { IsTrue (D.honest disk.old) → (before : Folder) (held : ℕ → Option (List ℕ))
-            → HasPassed self.old sums.now.sums held → HoldsSoFar before (front_text self.old.header (writes_of held self.old.passed)) (D.history disk.old)
+            → HasPassed self.old sums.now.sums held → HoldsSoFar before (front_encoding self.old.header (writes_of held self.old.passed)) (D.history disk.old)
             → EachMoment (D.history disk.old) (D.history disk.new) (SameBut Name.Staged before) }
         ensures staged { IsTrue (D.honest disk.old) → OnOk result ((before : Folder) (held : ℕ → Option (List ℕ))
             → HasPassed self.old sums.now.sums held → held self.new.passed ≡ lacking_page self.old.header.page_size count self.new.passed
-            → HoldsSoFar before (front_text self.old.header (writes_of held self.old.passed)) (D.history disk.old)
-            → HoldsSoFar before (front_text self.new.header (writes_of held self.new.passed)) (D.history disk.new)) }
+            → HoldsSoFar before (front_encoding self.old.header (writes_of held self.old.passed)) (D.history disk.old)
+            → HoldsSoFar before (front_encoding self.new.header (writes_of held self.new.passed)) (D.history disk.new)) }
         ensures passed { OnOk result ((held : ℕ → Option (List ℕ)) → HasPassed self.old sums.now.sums held
             → held self.new.passed ≡ lacking_page self.old.header.page_size count self.new.passed
             → HasPassed self.new sums.now.sums held) }
@@ -96,12 +96,12 @@ impl Receiving {
         requires { self.old.passed ≤ last }
         ensures moments { IsTrue (D.honest disk.old) → (before : Folder) (held : ℕ → Option (List ℕ))
             → HasPassed self.old sums.now.sums held → Lacks self.old count held last
-            → HoldsSoFar before (front_text self.old.header (writes_of held self.old.passed)) (D.history disk.old)
+            → HoldsSoFar before (front_encoding self.old.header (writes_of held self.old.passed)) (D.history disk.old)
             → EachMoment (D.history disk.old) (D.history disk.new) (SameBut Name.Staged before) }
         ensures staged { IsTrue (D.honest disk.old) → OnOk result ((before : Folder) (held : ℕ → Option (List ℕ))
             → HasPassed self.old sums.now.sums held → Lacks self.old count held last
-            → HoldsSoFar before (front_text self.old.header (writes_of held self.old.passed)) (D.history disk.old)
-            → HoldsSoFar before (front_text self.new.header (writes_of held self.new.passed)) (D.history disk.new)) }
+            → HoldsSoFar before (front_encoding self.old.header (writes_of held self.old.passed)) (D.history disk.old)
+            → HoldsSoFar before (front_encoding self.new.header (writes_of held self.new.passed)) (D.history disk.new)) }
         ensures passed { OnOk result ((held : ℕ → Option (List ℕ)) → HasPassed self.old sums.now.sums held
             → Lacks self.old count held last → HasPassed self.new sums.now.sums held) }
         ensures counts { OnOk result ((self.new.passed ≡ last) × (self.new.header ≡ self.old.header)) }
@@ -128,12 +128,12 @@ impl Receiving {
         requires whole { length page.now ≡ self.old.header.page_size }
         ensures moments { IsTrue (D.honest disk.old) → (before : Folder) (held : ℕ → Option (List ℕ))
             → HasPassed self.old sums.now.sums held → Lacks self.old count held (number - 1)
-            → HoldsSoFar before (front_text self.old.header (writes_of held self.old.passed)) (D.history disk.old)
+            → HoldsSoFar before (front_encoding self.old.header (writes_of held self.old.passed)) (D.history disk.old)
             → EachMoment (D.history disk.old) (D.history disk.new) (SameBut Name.Staged before) }
         ensures staged { IsTrue (D.honest disk.old) → OnOk result ((before : Folder) (held : ℕ → Option (List ℕ))
             → HasPassed self.old sums.now.sums held → Lacks self.old count held (number - 1) → held number ≡ Some page.now
-            → HoldsSoFar before (front_text self.old.header (writes_of held self.old.passed)) (D.history disk.old)
-            → HoldsSoFar before (front_text self.new.header (writes_of held self.new.passed)) (D.history disk.new)) }
+            → HoldsSoFar before (front_encoding self.old.header (writes_of held self.old.passed)) (D.history disk.old)
+            → HoldsSoFar before (front_encoding self.new.header (writes_of held self.new.passed)) (D.history disk.new)) }
         ensures passed { OnOk result ((held : ℕ → Option (List ℕ)) → HasPassed self.old sums.now.sums held
             → Lacks self.old count held (number - 1) → held number ≡ Some page.now → HasPassed self.new sums.now.sums held) }
         ensures counts { OnOk result ((self.new.passed ≡ number) × (self.new.header ≡ self.old.header)) }

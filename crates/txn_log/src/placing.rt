@@ -26,13 +26,13 @@ fn put_staged<D: Disk>(
 ) -> Result<(), Failed>
     requires settled { IsTrue (D.honest disk.old) → IsSettled (D.history disk.old) }
     requires there { IsTrue (D.honest disk.old) → IsSome (now (D.history disk.old) Name.Staged) }
-    ensures moments { IsTrue (D.honest disk.old) → (image : DatabaseImage) (files : List LogFile) (text : List ℕ)
-        → IsReady image files dropped text change.now (D.history disk.old) → (dropped ≡ true → files ≡ [])
+    ensures moments { IsTrue (D.honest disk.old) → (image : DatabaseImage) (files : List LogFile) (encoding : List ℕ)
+        → IsReady image files dropped encoding change.now (D.history disk.old) → (dropped ≡ true → files ≡ [])
         → EachMoment (D.history disk.old) (D.history disk.new)
-        (IsBetween image files dropped (apply image change.now) (record { min = min; max = max; text = text })) }
-    ensures done { IsTrue (D.honest disk.old) → OnOk result ((image : DatabaseImage) (files : List LogFile) (text : List ℕ)
-        → IsReady image files dropped text change.now (D.history disk.old) → (dropped ≡ true → files ≡ [])
-        → IsAtRest (apply image change.now) (files ++ record { min = min; max = max; text = text } ∷ []) false (D.history disk.new)) }
+        (IsBetween image files dropped (apply image change.now) (record { min = min; max = max; encoding = encoding })) }
+    ensures done { IsTrue (D.honest disk.old) → OnOk result ((image : DatabaseImage) (files : List LogFile) (encoding : List ℕ)
+        → IsReady image files dropped encoding change.now (D.history disk.old) → (dropped ≡ true → files ≡ [])
+        → IsAtRest (apply image change.now) (files ++ record { min = min; max = max; encoding = encoding } ∷ []) false (D.history disk.new)) }
     ensures honest { D.honest disk.new ≡ D.honest disk.old }
     ensures cause { CountsFaults (D.faults disk.old) (D.faults disk.new) result }
 {
@@ -44,24 +44,24 @@ fn put_staged<D: Disk>(
     Ok(())
 }
 
-/// Stages the text of a transaction file, publishes it, and writes its change over the database file.
+/// Stages the encoding of a transaction file, publishes it, and writes its change over the database file.
 pub fn place<D: Disk>(
     disk: &mut D,
     dropped: bool,
-    text: &[u8],
+    encoding: &[u8],
     min: u64,
     max: u64,
     change: &Change,
 ) -> Placed
     requires { IsTrue (D.honest disk.old) → IsSettledBut Name.Staged (D.history disk.old) }
     ensures places { IsTrue (D.honest disk.old) → (image : DatabaseImage) (files : List LogFile)
-        → IsOver image files dropped text.now change.now (D.history disk.old)
-        → Places image files dropped (apply image change.now) (record { min = min; max = max; text = text.now })
+        → IsOver image files dropped encoding.now change.now (D.history disk.old)
+        → Places image files dropped (apply image change.now) (record { min = min; max = max; encoding = encoding.now })
         (D.history disk.old) result (D.history disk.new) }
     ensures honest { D.honest disk.new ≡ D.honest disk.old }
     ensures cause { CountsPlaced (D.faults disk.old) (D.faults disk.new) result }
 {
-    match stage(disk, text) {
+    match stage(disk, encoding) {
         Ok(()) => {}
         Err(_) => return Placed::Unpublished,
     }

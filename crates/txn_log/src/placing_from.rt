@@ -4,7 +4,7 @@ ghost use Rattle.lf_disk.specs.declared.name.FileName.{FileName as Name};
 ghost use Rattle.lf_sqlite_pages.specs.Apply.{apply};
 ghost use Rattle.lf_sqlite_pages.specs.Change.{PageChange, IsChange};
 ghost use Rattle.lf_sqlite_pages.specs.Image.{DatabaseImage};
-ghost use Rattle.ltx_codec.specs.Format.{file_text, no_meaning};
+ghost use Rattle.ltx_codec.specs.Format.{file_encoding, no_meaning};
 ghost use Rattle.ltx_codec.specs.declared.file.Ltx.{Ltx};
 ghost use Rattle.txn_log.specs.Intake.{HasUpTo, HoldsUpTo};
 ghost use Rattle.txn_log.specs.Kept.{LogFile};
@@ -34,7 +34,7 @@ pub fn place_from<D: Disk>(
     requires room { length page.old ≡ 65536 }
     ensures places { IsTrue (D.honest disk.old) → (before : Folder) (image : DatabaseImage) (files : List LogFile) (change : PageChange) (file : Ltx)
         → IsOverFrom before image files dropped received sums.now.sums count post change file → HoldsUpTo before received change count (D.history disk.old)
-        → Places image files dropped (apply image file.change) (record { min = received.header.min; max = received.header.max; text = file_text file no_meaning })
+        → Places image files dropped (apply image file.change) (record { min = received.header.min; max = received.header.max; encoding = file_encoding file no_meaning })
         (D.history disk.old) result (D.history disk.new) }
     ensures honest { D.honest disk.new ≡ D.honest disk.old }
     ensures cause { CountsPlaced (D.faults disk.old) (D.faults disk.new) result }

@@ -8,7 +8,7 @@ ghost use Rattle.txn_log.specs.Publishing.{Publishes, call_of, CanTake, IsSummed
 ghost use Rattle.txn_log.specs.Store.{end_of_entries, state_of, failed_of, entry_of as entry};
 
 use crate::attempt::Attempt;
-use crate::encoding::text_of;
+use crate::encoding::encoding_of;
 use crate::entry::Entry;
 use crate::fault::StoreFault;
 use crate::mode::wal_after;
@@ -61,7 +61,7 @@ pub fn publish<D: Disk>(
     ensures cause { Breaks store.old.broken (D.faults store.old.disk) result store.new.broken (D.faults store.new.disk) }
     ensures honest { D.honest store.new.disk ≡ D.honest store.old.disk }
 {
-    let Ok(text) = text_of(*store.entries.allocator(), file) else {
+    let Ok(encoding) = encoding_of(*store.entries.allocator(), file) else {
         return Err(StoreFault::NoMemory);
     };
     if store.entries.reserve(1).is_err() {
@@ -76,7 +76,7 @@ pub fn publish<D: Disk>(
     match place(
         &mut store.disk,
         store.dropped,
-        text.as_slice(),
+        encoding.as_slice(),
         file.header.min,
         file.header.max,
         &file.change,

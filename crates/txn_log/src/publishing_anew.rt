@@ -8,7 +8,7 @@ ghost use Rattle.txn_log.specs.Causes.{Breaks, IsDiskOrMemory};
 ghost use Rattle.txn_log.specs.Store.{end_of_entries, state_of, failed_of};
 
 use crate::attempt::Attempt;
-use crate::encoding::text_of;
+use crate::encoding::encoding_of;
 use crate::fault::StoreFault;
 use crate::mode::wal_after;
 use crate::placed::Placed;
@@ -41,7 +41,7 @@ pub fn publish_anew<D: Disk>(store: &mut Store<D>, file: &Ltx) -> Result<Pos, St
     ensures cause { Breaks store.old.broken (D.faults store.old.disk) result store.new.broken (D.faults store.new.disk) }
     ensures honest { D.honest store.new.disk ≡ D.honest store.old.disk }
 {
-    let Ok(text) = text_of(*store.entries.allocator(), file) else {
+    let Ok(encoding) = encoding_of(*store.entries.allocator(), file) else {
         return Err(StoreFault::NoMemory);
     };
     if store.entries.reserve(1).is_err() {
@@ -56,7 +56,7 @@ pub fn publish_anew<D: Disk>(store: &mut Store<D>, file: &Ltx) -> Result<Pos, St
     match place_anew(
         &mut store.disk,
         store.entries.as_slice(),
-        text.as_slice(),
+        encoding.as_slice(),
         file.header.min,
         file.header.max,
         &file.change,

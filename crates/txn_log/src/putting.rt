@@ -16,13 +16,13 @@ use lf_sqlite_pages::Change;
 pub fn put<D: Disk>(disk: &mut D, min: u64, max: u64, change: &Change) -> Result<(), Failed>
     requires settled { IsTrue (D.honest disk.old) → IsSettled (D.history disk.old) }
     requires there { IsTrue (D.honest disk.old) → IsSome (now (D.history disk.old) FileName.Staged) }
-    ensures moments { IsTrue (D.honest disk.old) → (image : DatabaseImage) (files : List LogFile) (text : List ℕ)
-        → IsReady image files false text change.now (D.history disk.old)
+    ensures moments { IsTrue (D.honest disk.old) → (image : DatabaseImage) (files : List LogFile) (encoding : List ℕ)
+        → IsReady image files false encoding change.now (D.history disk.old)
         → EachMoment (D.history disk.old) (D.history disk.new)
-        (IsBeforeOrAfter image files (apply image change.now) (files ++ record { min = min; max = max; text = text } ∷ [])) }
-    ensures done { IsTrue (D.honest disk.old) → OnOk result ((image : DatabaseImage) (files : List LogFile) (text : List ℕ)
-        → IsReady image files false text change.now (D.history disk.old)
-        → IsAtRest (apply image change.now) (files ++ record { min = min; max = max; text = text } ∷ []) false (D.history disk.new)) }
+        (IsBeforeOrAfter image files (apply image change.now) (files ++ record { min = min; max = max; encoding = encoding } ∷ [])) }
+    ensures done { IsTrue (D.honest disk.old) → OnOk result ((image : DatabaseImage) (files : List LogFile) (encoding : List ℕ)
+        → IsReady image files false encoding change.now (D.history disk.old)
+        → IsAtRest (apply image change.now) (files ++ record { min = min; max = max; encoding = encoding } ∷ []) false (D.history disk.new)) }
     ensures honest { D.honest disk.new ≡ D.honest disk.old }
     ensures cause { CountsFaults (D.faults disk.old) (D.faults disk.new) result }
 {

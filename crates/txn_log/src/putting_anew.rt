@@ -25,13 +25,13 @@ pub fn put_anew<D: Disk>(
 ) -> Result<(), Failed>
     requires settled { IsTrue (D.honest disk.old) → IsSettled (D.history disk.old) }
     requires there { IsTrue (D.honest disk.old) → IsSome (now (D.history disk.old) Name.Staged) }
-    ensures moments { IsTrue (D.honest disk.old) → (before : Folder) (image : DatabaseImage) (text : List ℕ)
-        → IsReadyAnew before image text entries.now change.now (D.history disk.old)
+    ensures moments { IsTrue (D.honest disk.old) → (before : Folder) (image : DatabaseImage) (encoding : List ℕ)
+        → IsReadyAnew before image encoding entries.now change.now (D.history disk.old)
         → EachMoment (D.history disk.old) (D.history disk.new)
-        (IsAsBeforeOrInstalled before image (record { min = min; max = max; text = text })) }
-    ensures done { IsTrue (D.honest disk.old) → OnOk result ((before : Folder) (image : DatabaseImage) (text : List ℕ)
-        → IsReadyAnew before image text entries.now change.now (D.history disk.old)
-        → IsAtRest image (record { min = min; max = max; text = text } ∷ []) false (D.history disk.new)) }
+        (IsAsBeforeOrInstalled before image (record { min = min; max = max; encoding = encoding })) }
+    ensures done { IsTrue (D.honest disk.old) → OnOk result ((before : Folder) (image : DatabaseImage) (encoding : List ℕ)
+        → IsReadyAnew before image encoding entries.now change.now (D.history disk.old)
+        → IsAtRest image (record { min = min; max = max; encoding = encoding } ∷ []) false (D.history disk.new)) }
     ensures honest { D.honest disk.new ≡ D.honest disk.old }
     ensures cause { CountsFaults (D.faults disk.old) (D.faults disk.new) result }
 {

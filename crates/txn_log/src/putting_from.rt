@@ -34,13 +34,13 @@ pub fn put_from<D: Disk>(
     requires sized { IsPageSize header.now.page_size }
     requires short { len < 2 ^ 63 }
     requires room { length page.old ≡ 65536 }
-    ensures moments { IsTrue (D.honest disk.old) → (image : DatabaseImage) (files : List LogFile) (text : List ℕ) (file : Ltx)
-        → IsReady image files false text file.change (D.history disk.old) → HoldsFile Name.Staged header.now len file (now (D.history disk.old))
+    ensures moments { IsTrue (D.honest disk.old) → (image : DatabaseImage) (files : List LogFile) (encoding : List ℕ) (file : Ltx)
+        → IsReady image files false encoding file.change (D.history disk.old) → HoldsFile Name.Staged header.now len file (now (D.history disk.old))
         → EachMoment (D.history disk.old) (D.history disk.new)
-        (IsBeforeOrAfter image files (apply image file.change) (files ++ record { min = header.now.min; max = header.now.max; text = text } ∷ [])) }
-    ensures done { IsTrue (D.honest disk.old) → OnOk result ((image : DatabaseImage) (files : List LogFile) (text : List ℕ) (file : Ltx)
-        → IsReady image files false text file.change (D.history disk.old) → HoldsFile Name.Staged header.now len file (now (D.history disk.old))
-        → IsAtRest (apply image file.change) (files ++ record { min = header.now.min; max = header.now.max; text = text } ∷ []) false (D.history disk.new)) }
+        (IsBeforeOrAfter image files (apply image file.change) (files ++ record { min = header.now.min; max = header.now.max; encoding = encoding } ∷ [])) }
+    ensures done { IsTrue (D.honest disk.old) → OnOk result ((image : DatabaseImage) (files : List LogFile) (encoding : List ℕ) (file : Ltx)
+        → IsReady image files false encoding file.change (D.history disk.old) → HoldsFile Name.Staged header.now len file (now (D.history disk.old))
+        → IsAtRest (apply image file.change) (files ++ record { min = header.now.min; max = header.now.max; encoding = encoding } ∷ []) false (D.history disk.new)) }
     ensures honest { D.honest disk.new ≡ D.honest disk.old }
     ensures cause { CountsFaults (D.faults disk.old) (D.faults disk.new) result }
 {
@@ -69,11 +69,11 @@ pub fn settle_from<D: Disk>(
     requires short { len < 2 ^ 63 }
     requires room { length page.old ≡ 65536 }
     ensures moments { IsTrue (D.honest disk.old) → (file : Ltx) → HoldsFile Name.Snapshot header.now len file (now (D.history disk.old))
-        → (image : DatabaseImage) (text : List ℕ) → IsUnsettled image text entries.now file.change (now (D.history disk.old))
-        → EachMoment (D.history disk.old) (D.history disk.new) (IsInstalled image (record { min = header.now.min; max = header.now.max; text = text })) }
+        → (image : DatabaseImage) (encoding : List ℕ) → IsUnsettled image encoding entries.now file.change (now (D.history disk.old))
+        → EachMoment (D.history disk.old) (D.history disk.new) (IsInstalled image (record { min = header.now.min; max = header.now.max; encoding = encoding })) }
     ensures done { IsTrue (D.honest disk.old) → OnOk result ((file : Ltx) → HoldsFile Name.Snapshot header.now len file (now (D.history disk.old))
-        → (image : DatabaseImage) (text : List ℕ) → IsUnsettled image text entries.now file.change (now (D.history disk.old))
-        → IsAtRest image (record { min = header.now.min; max = header.now.max; text = text } ∷ []) false (D.history disk.new)) }
+        → (image : DatabaseImage) (encoding : List ℕ) → IsUnsettled image encoding entries.now file.change (now (D.history disk.old))
+        → IsAtRest image (record { min = header.now.min; max = header.now.max; encoding = encoding } ∷ []) false (D.history disk.new)) }
     ensures honest { D.honest disk.new ≡ D.honest disk.old }
     ensures cause { CountsFaults (D.faults disk.old) (D.faults disk.new) result }
 {
@@ -104,13 +104,13 @@ pub fn put_anew_from<D: Disk>(
     requires sized { IsPageSize header.now.page_size }
     requires short { len < 2 ^ 63 }
     requires room { length page.old ≡ 65536 }
-    ensures moments { IsTrue (D.honest disk.old) → (before : Folder) (image : DatabaseImage) (text : List ℕ) (file : Ltx)
-        → IsReadyAnew before image text entries.now file.change (D.history disk.old) → HoldsFile Name.Staged header.now len file (now (D.history disk.old))
+    ensures moments { IsTrue (D.honest disk.old) → (before : Folder) (image : DatabaseImage) (encoding : List ℕ) (file : Ltx)
+        → IsReadyAnew before image encoding entries.now file.change (D.history disk.old) → HoldsFile Name.Staged header.now len file (now (D.history disk.old))
         → EachMoment (D.history disk.old) (D.history disk.new)
-        (IsAsBeforeOrInstalled before image (record { min = header.now.min; max = header.now.max; text = text })) }
-    ensures done { IsTrue (D.honest disk.old) → OnOk result ((before : Folder) (image : DatabaseImage) (text : List ℕ) (file : Ltx)
-        → IsReadyAnew before image text entries.now file.change (D.history disk.old) → HoldsFile Name.Staged header.now len file (now (D.history disk.old))
-        → IsAtRest image (record { min = header.now.min; max = header.now.max; text = text } ∷ []) false (D.history disk.new)) }
+        (IsAsBeforeOrInstalled before image (record { min = header.now.min; max = header.now.max; encoding = encoding })) }
+    ensures done { IsTrue (D.honest disk.old) → OnOk result ((before : Folder) (image : DatabaseImage) (encoding : List ℕ) (file : Ltx)
+        → IsReadyAnew before image encoding entries.now file.change (D.history disk.old) → HoldsFile Name.Staged header.now len file (now (D.history disk.old))
+        → IsAtRest image (record { min = header.now.min; max = header.now.max; encoding = encoding } ∷ []) false (D.history disk.new)) }
     ensures honest { D.honest disk.new ≡ D.honest disk.old }
     ensures cause { CountsFaults (D.faults disk.old) (D.faults disk.new) result }
 {
@@ -133,15 +133,15 @@ pub fn put_staged_from<D: Disk>(
     requires sized { IsPageSize header.now.page_size }
     requires short { len < 2 ^ 63 }
     requires room { length page.old ≡ 65536 }
-    ensures moments { IsTrue (D.honest disk.old) → (image : DatabaseImage) (files : List LogFile) (text : List ℕ) (file : Ltx)
-        → IsReady image files dropped text file.change (D.history disk.old) → (dropped ≡ true → files ≡ [])
+    ensures moments { IsTrue (D.honest disk.old) → (image : DatabaseImage) (files : List LogFile) (encoding : List ℕ) (file : Ltx)
+        → IsReady image files dropped encoding file.change (D.history disk.old) → (dropped ≡ true → files ≡ [])
         → HoldsFile Name.Staged header.now len file (now (D.history disk.old))
         → EachMoment (D.history disk.old) (D.history disk.new)
-        (IsBetween image files dropped (apply image file.change) (record { min = header.now.min; max = header.now.max; text = text })) }
-    ensures done { IsTrue (D.honest disk.old) → OnOk result ((image : DatabaseImage) (files : List LogFile) (text : List ℕ) (file : Ltx)
-        → IsReady image files dropped text file.change (D.history disk.old) → (dropped ≡ true → files ≡ [])
+        (IsBetween image files dropped (apply image file.change) (record { min = header.now.min; max = header.now.max; encoding = encoding })) }
+    ensures done { IsTrue (D.honest disk.old) → OnOk result ((image : DatabaseImage) (files : List LogFile) (encoding : List ℕ) (file : Ltx)
+        → IsReady image files dropped encoding file.change (D.history disk.old) → (dropped ≡ true → files ≡ [])
         → HoldsFile Name.Staged header.now len file (now (D.history disk.old))
-        → IsAtRest (apply image file.change) (files ++ record { min = header.now.min; max = header.now.max; text = text } ∷ []) false (D.history disk.new)) }
+        → IsAtRest (apply image file.change) (files ++ record { min = header.now.min; max = header.now.max; encoding = encoding } ∷ []) false (D.history disk.new)) }
     ensures honest { D.honest disk.new ≡ D.honest disk.old }
     ensures cause { CountsFaults (D.faults disk.old) (D.faults disk.new) result }
 {

@@ -35,12 +35,12 @@ pub fn settle<D: Disk>(
 ) -> Result<(), Failed>
     requires settled { IsTrue (D.honest disk.old) → IsSettledBut Name.Staged (D.history disk.old) }
     requires there { IsTrue (D.honest disk.old) → IsSome (now (D.history disk.old) Name.Snapshot) }
-    ensures moments { IsTrue (D.honest disk.old) → (image : DatabaseImage) (text : List ℕ)
-        → IsUnsettled image text entries.now change.now (now (D.history disk.old))
-        → EachMoment (D.history disk.old) (D.history disk.new) (IsInstalled image (record { min = min; max = max; text = text })) }
-    ensures done { IsTrue (D.honest disk.old) → OnOk result ((image : DatabaseImage) (text : List ℕ)
-        → IsUnsettled image text entries.now change.now (now (D.history disk.old))
-        → IsAtRest image (record { min = min; max = max; text = text } ∷ []) false (D.history disk.new)) }
+    ensures moments { IsTrue (D.honest disk.old) → (image : DatabaseImage) (encoding : List ℕ)
+        → IsUnsettled image encoding entries.now change.now (now (D.history disk.old))
+        → EachMoment (D.history disk.old) (D.history disk.new) (IsInstalled image (record { min = min; max = max; encoding = encoding })) }
+    ensures done { IsTrue (D.honest disk.old) → OnOk result ((image : DatabaseImage) (encoding : List ℕ)
+        → IsUnsettled image encoding entries.now change.now (now (D.history disk.old))
+        → IsAtRest image (record { min = min; max = max; encoding = encoding } ∷ []) false (D.history disk.new)) }
     ensures honest { D.honest disk.new ≡ D.honest disk.old }
     ensures cause { CountsFaults (D.faults disk.old) (D.faults disk.new) result }
 {

@@ -1,11 +1,11 @@
-//! A source is read to its end as the text of one file. No page is kept.
+//! A source is read to its end as the encoding of one file. No page is kept.
 ghost use Rattle.std.specs.Prelude.{◌≡◌, ◌<◌, ◌≤◌, ◌+◌, ℕ, List, [], length, OnOk};
 ghost use Rattle.lf_sqlite_pages.specs.Change.{PageChange};
-ghost use Rattle.txn_log.specs.Coming.{HasCome, IsOpen, TakesAll, ReadsText, CountsSource};
+ghost use Rattle.txn_log.specs.Coming.{HasCome, IsOpen, TakesAll, ReadsEncoding, CountsSource};
 
 use crate::coming::Coming;
 use crate::outline::Outline;
-use crate::text_fault::TextFault;
+use crate::source_fault::SourceFault;
 use lf_base::Source;
 use ltx_codec::LtxFault;
 
@@ -14,7 +14,7 @@ impl Coming {
     fn take_all(&mut self, piece: &[u8]) -> Result<(), LtxFault>
         requires open_ { IsOpen self.old }
         requires short { length piece.now ≤ 65536 }
-        ensures takes { (text : List ℕ) (change : PageChange) → HasCome self.old text change → TakesAll self.new text piece.now result }
+        ensures takes { (encoding : List ℕ) (change : PageChange) → HasCome self.old encoding change → TakesAll self.new encoding piece.now result }
         ensures count { OnOk result (self.new.taken ≡ self.old.taken + length piece.now) }
         ensures within { OnOk result (0 < length piece.now → self.old.taken < 4294967296) }
     {
@@ -38,16 +38,16 @@ pub fn read_source<S: Source>(
     source: &mut S,
     coming: &mut Coming,
     page: &mut [u8],
-) -> Result<Outline, TextFault>
+) -> Result<Outline, SourceFault>
     requires begun { (change : PageChange) × HasCome coming.old [] change }
     requires room { length page.old ≡ 65536 }
-    ensures reads { ReadsText (S.left source.old) (S.left source.new) result }
+    ensures reads { ReadsEncoding (S.left source.old) (S.left source.new) result }
     ensures cause { CountsSource (S.faults source.old) (S.faults source.new) result }
 {
     'pieces: loop {
         let count = match source.read(page) {
             Ok(count) => count,
-            Err(_) => return Err(TextFault::Source),
+            Err(_) => return Err(SourceFault::Source),
         };
         if count == 0 {
             break;
@@ -55,11 +55,11 @@ pub fn read_source<S: Source>(
         let (piece, _) = page.split_at(count);
         match coming.take_all(piece) {
             Ok(()) => {}
-            Err(fault) => return Err(TextFault::Ltx(fault)),
+            Err(fault) => return Err(SourceFault::Ltx(fault)),
         }
     }
     match coming.finish() {
         Ok(outline) => Ok(outline),
-        Err(fault) => Err(TextFault::Ltx(fault)),
+        Err(fault) => Err(SourceFault::Ltx(fault)),
     }
 }

@@ -7,10 +7,10 @@ ghost use Rattle.lf_disk.specs.Publish.{IsStaged};
 ghost use Rattle.lf_disk.specs.declared.name.FileName.{FileName as Name};
 ghost use Rattle.lf_sqlite_pages.specs.declared.page_write.PageWrite.{PageWrite};
 ghost use Rattle.page_checksum.specs.Crc.{after_bytes};
-ghost use Rattle.ltx_codec.specs.Format.{no_meaning, file_text};
+ghost use Rattle.ltx_codec.specs.Format.{no_meaning, file_encoding};
 ghost use Rattle.ltx_codec.specs.declared.file.Ltx.{Ltx as File};
 ghost use Rattle.ltx_codec.specs.declared.header.Header.{Header as HeaderOf};
-ghost use Rattle.txn_log.specs.Staging.{HoldsSoFar, front_text, IsStaging};
+ghost use Rattle.txn_log.specs.Staging.{HoldsSoFar, front_encoding, IsStaging};
 
 use lf_base::Failed;
 use lf_disk::{Disk, FileName};
@@ -46,12 +46,12 @@ fn clear<D: Disk>(disk: &mut D) -> Result<(), Failed>
 /// Stages some bytes behind those before.
 fn append<D: Disk>(disk: &mut D, staging: &mut Staging, bytes: &[u8]) -> Result<(), Failed>
     requires { staging.old.len + length bytes.now < 2 ^ 64 }
-    ensures moments { IsTrue (D.honest disk.old) → (before : Folder) (text : List ℕ)
-        → staging.old.len ≡ length text → HoldsSoFar before text (D.history disk.old)
+    ensures moments { IsTrue (D.honest disk.old) → (before : Folder) (encoding : List ℕ)
+        → staging.old.len ≡ length encoding → HoldsSoFar before encoding (D.history disk.old)
         → EachMoment (D.history disk.old) (D.history disk.new) (SameBut Name.Staged before) }
-    ensures staged { IsTrue (D.honest disk.old) → OnOk result ((before : Folder) (text : List ℕ)
-        → staging.old.len ≡ length text → HoldsSoFar before text (D.history disk.old)
-        → HoldsSoFar before (text ++ bytes.now) (D.history disk.new)) }
+    ensures staged { IsTrue (D.honest disk.old) → OnOk result ((before : Folder) (encoding : List ℕ)
+        → staging.old.len ≡ length encoding → HoldsSoFar before encoding (D.history disk.old)
+        → HoldsSoFar before (encoding ++ bytes.now) (D.history disk.new)) }
     ensures counts { OnOk result ((staging.new.len ≡ staging.old.len + length bytes.now)
         × (staging.new.register ≡ after_bytes staging.old.register bytes.now)) }
     ensures honest { D.honest disk.new ≡ D.honest disk.old }
@@ -69,7 +69,7 @@ pub fn stage_header<D: Disk>(disk: &mut D, header: &Header) -> Result<Staging, F
     ensures moments { IsTrue (D.honest disk.old)
         → EachMoment (D.history disk.old) (D.history disk.new) (SameBut Name.Staged (now (D.history disk.old))) }
     ensures staged { IsTrue (D.honest disk.old) → OnOk result
-        (HoldsSoFar (now (D.history disk.old)) (front_text header.now []) (D.history disk.new)) }
+        (HoldsSoFar (now (D.history disk.old)) (front_encoding header.now []) (D.history disk.new)) }
     ensures counts { IfOk result (λ staging. IsStaging staging header.now []) }
     ensures honest { D.honest disk.new ≡ D.honest disk.old }
     ensures cause { CountsFaults (D.faults disk.old) (D.faults disk.new) result }
@@ -92,11 +92,11 @@ pub fn stage_page<D: Disk>(
 ) -> Result<(), Failed>
     requires { staging.old.len + (4 + length page.now) < 2 ^ 64 }
     ensures moments { IsTrue (D.honest disk.old) → (before : Folder) (header : HeaderOf) (pages : List PageWrite)
-        → IsStaging staging.old header pages → HoldsSoFar before (front_text header pages) (D.history disk.old)
+        → IsStaging staging.old header pages → HoldsSoFar before (front_encoding header pages) (D.history disk.old)
         → EachMoment (D.history disk.old) (D.history disk.new) (SameBut Name.Staged before) }
     ensures staged { IsTrue (D.honest disk.old) → OnOk result ((before : Folder) (header : HeaderOf) (pages : List PageWrite)
-        → IsStaging staging.old header pages → HoldsSoFar before (front_text header pages) (D.history disk.old)
-        → HoldsSoFar before (front_text header (pages ++ record { number = number; bytes = page.now } ∷ [])) (D.history disk.new)) }
+        → IsStaging staging.old header pages → HoldsSoFar before (front_encoding header pages) (D.history disk.old)
+        → HoldsSoFar before (front_encoding header (pages ++ record { number = number; bytes = page.now } ∷ [])) (D.history disk.new)) }
     ensures counts { OnOk result ((header : HeaderOf) (pages : List PageWrite) → IsStaging staging.old header pages
         → IsStaging staging.new header (pages ++ record { number = number; bytes = page.now } ∷ [])) }
     ensures len { OnOk result (staging.new.len ≡ staging.old.len + (4 + length page.now)) }
@@ -115,12 +115,12 @@ pub fn stage_page<D: Disk>(
 pub fn seal<D: Disk>(disk: &mut D, staging: &mut Staging, post: u64) -> Result<(), Failed>
     requires { staging.old.len + 20 < 2 ^ 64 }
     ensures moments { IsTrue (D.honest disk.old) → (before : Folder) (header : HeaderOf) (pages : List PageWrite)
-        → IsStaging staging.old header pages → HoldsSoFar before (front_text header pages) (D.history disk.old)
+        → IsStaging staging.old header pages → HoldsSoFar before (front_encoding header pages) (D.history disk.old)
         → EachMoment (D.history disk.old) (D.history disk.new) (SameBut Name.Staged before) }
     ensures staged { IsTrue (D.honest disk.old) → OnOk result ((before : Folder) (file : File)
         → IsStaging staging.old file.header file.change.pages → post ≡ file.post
-        → HoldsSoFar before (front_text file.header file.change.pages) (D.history disk.old)
-        → IsStaged before (file_text file no_meaning) (D.history disk.new)) }
+        → HoldsSoFar before (front_encoding file.header file.change.pages) (D.history disk.old)
+        → IsStaged before (file_encoding file no_meaning) (D.history disk.new)) }
     ensures honest { D.honest disk.new ≡ D.honest disk.old }
     ensures cause { CountsFaults (D.faults disk.old) (D.faults disk.new) result }
 {

@@ -24,7 +24,7 @@ use page_checksum::Sums;
 pub enum TakeFault {
     /// The source failed.
     Source,
-    /// Its bytes are the text of no file.
+    /// Its bytes are the encoding of no file.
     Ltx(LtxFault),
     /// The disk failed.
     Disk,
@@ -42,18 +42,18 @@ fn take_part<D: Disk>(
     wal: bool,
     room: u32,
 ) -> Result<Option<Intake>, Failed>
-    requires came { (before : Folder) × (text : List ℕ) × (longer : List ℕ) × (change : PageChange) × Came coming.now part text longer change
-        × TakenIn taken table.old.sums old.now.sums count wal room text change
+    requires came { (before : Folder) × (encoding : List ℕ) × (longer : List ℕ) × (change : PageChange) × Came coming.now part encoding longer change
+        × TakenIn taken table.old.sums old.now.sums count wal room encoding change
         × (IsTrue (D.honest disk.old) → StagedIn taken before change count (D.history disk.old)) }
     requires room { room ≤ spare_of table.old }
-    ensures moments { IsTrue (D.honest disk.old) → (before : Folder) (text longer : List ℕ) (change : PageChange) → Came coming.now part text longer change
-        → TakenIn taken table.old.sums old.now.sums count wal room text change → StagedIn taken before change count (D.history disk.old)
+    ensures moments { IsTrue (D.honest disk.old) → (before : Folder) (encoding longer : List ℕ) (change : PageChange) → Came coming.now part encoding longer change
+        → TakenIn taken table.old.sums old.now.sums count wal room encoding change → StagedIn taken before change count (D.history disk.old)
         → EachMoment (D.history disk.old) (D.history disk.new) (SameBut Name.Staged before) }
-    ensures staged { IsTrue (D.honest disk.old) → IfOk result (λ next. (before : Folder) (text longer : List ℕ) (change : PageChange) → Came coming.now part text longer change
-        → TakenIn taken table.old.sums old.now.sums count wal room text change → StagedIn taken before change count (D.history disk.old)
+    ensures staged { IsTrue (D.honest disk.old) → IfOk result (λ next. (before : Folder) (encoding longer : List ℕ) (change : PageChange) → Came coming.now part encoding longer change
+        → TakenIn taken table.old.sums old.now.sums count wal room encoding change → StagedIn taken before change count (D.history disk.old)
         → StagedIn next before (change_after part coming.now change) count (D.history disk.new)) }
-    ensures taken { IfOk result (λ next. (text longer : List ℕ) (change : PageChange) → Came coming.now part text longer change
-        → TakenIn taken table.old.sums old.now.sums count wal room text change
+    ensures taken { IfOk result (λ next. (encoding longer : List ℕ) (change : PageChange) → Came coming.now part encoding longer change
+        → TakenIn taken table.old.sums old.now.sums count wal room encoding change
         → TakenIn next table.new.sums old.now.sums count wal room longer (change_after part coming.now change)) }
     ensures spare { spare_of table.new ≡ spare_of table.old }
     ensures honest { D.honest disk.new ≡ D.honest disk.old }
@@ -94,8 +94,8 @@ fn refill<S: Source>(
     requires order { (at ≤ end) × (end ≤ length page.old) }
     requires room { 0 < length page.old }
     ensures order { IfOk result (λ it. (it.0 ≤ it.1) × (it.1 ≤ length page.new)) }
-    ensures more { IfOk result (λ it. (left : Option (List ℕ)) (text : List ℕ) → Consumes left (S.left source.old) (text ++ drop at (take end page.old))
-        → Consumes left (S.left source.new) (text ++ drop it.0 (take it.1 page.new))) }
+    ensures more { IfOk result (λ it. (left : Option (List ℕ)) (encoding : List ℕ) → Consumes left (S.left source.old) (encoding ++ drop at (take end page.old))
+        → Consumes left (S.left source.new) (encoding ++ drop it.0 (take it.1 page.new))) }
     ensures ended { IfOk result (λ it. it.0 ≡ it.1 → IsAtEnd (S.left source.new)) }
     ensures long { length page.new ≡ length page.old }
     ensures cause { CountsFaults (S.faults source.old) (S.faults source.new) result }

@@ -129,7 +129,7 @@ module _ (a b : List ℕ) (p : ℕ) (same : take p a ≡ take p b) where
           let fits : frame_place a (k + 1) ≤ p = subst (λ (m : ℕ). frame_place a m ≤ p) (sym (add-one k)) le in
           rw (same_commit k fits, same_commits k (omega (arith, fits, next_place a k))) refl
 
--- a text that another begins with has no more committed frames
+-- the contents of a log that another begins with has no more committed frames
 pub front_counts : (a b : List ℕ) (p : ℕ) → take p a ≡ take p b → length a ≡ p → p ≤ length b → committed_count a ≤ committed_count b
 front_counts a b p same all room = elim (cases_eq (committed_count a) 0) [
   | inl none ↦ omega arith

@@ -61,7 +61,7 @@ pub keeps_size : (old new : List ℕ) → take (committed_end old) new ≡ take 
 keeps_size old new same some = sym (same_size old new (committed_end old) (sym same) (head old new same some))
 
 -- what a log with committed frames has
-pub last_some : (text : List ℕ) → 0 < committed_count text → 0 < last_size text
-last_some text some =
-    let own : last_size text ≡ size_in text (committed_count text - 1) = cond-false _ _ _ (ne_eqb (committed_count text) 0 (λ none. omega (arith, none, some))) in
-    omega (arith, own, (has_committed text (committed_count text) refl some).size)
+pub last_some : (contents : List ℕ) → 0 < committed_count contents → 0 < last_size contents
+last_some contents some =
+    let own : last_size contents ≡ size_in contents (committed_count contents - 1) = cond-false _ _ _ (ne_eqb (committed_count contents) 0 (λ none. omega (arith, none, some))) in
+    omega (arith, own, (has_committed contents (committed_count contents) refl some).size)

@@ -12,38 +12,38 @@ use Rattle.wal_watch.proofs.CommitLemmas.{valid_room}
 use Rattle.wal_watch.proofs.AgreeLemmas.{same_valid, same_sums_after, same_commits, same_place}
 
 -- a scan over the next n frames
-scan-steps : (text : List ℕ) (n k : ℕ) → are_valid text k ≡ true
-    → committed_from text (commits_among text k) k (frame_place text k) (sums_after text k) n ≡ commits_among text (k + n)
+scan-steps : (contents : List ℕ) (n k : ℕ) → are_valid contents k ≡ true
+    → committed_from contents (commits_among contents k) k (frame_place contents k) (sums_after contents k) n ≡ commits_among contents (k + n)
 unfolding committed_from
-scan-steps text zero k valid = ap (λ (m : ℕ). commits_among text m) (omega arith)
-scan-steps text (suc n) k valid = elim (cases_Bool (is_frame text k)) [
+scan-steps contents zero k valid = ap (λ (m : ℕ). commits_among contents m) (omega arith)
+scan-steps contents (suc n) k valid = elim (cases_Bool (is_frame contents k)) [
   | inl on ↦
-      let more : are_valid text (k + 1) ≡ true = valid_more text k ∙ and_from _ _ valid on in
-      let count : commits_among text (k + 1) ≡ (if size_in text k == 0 then commits_among text k else k + 1) = commits_next text k (size_in text k) more refl in
+      let more : are_valid contents (k + 1) ≡ true = valid_more contents k ∙ and_from _ _ valid on in
+      let count : commits_among contents (k + 1) ≡ (if size_in contents k == 0 then commits_among contents k else k + 1) = commits_next contents k (size_in contents k) more refl in
       cond-true _ _ _ on
-      ∙ ap (λ (c : ℕ). committed_from text c (k + 1) (frame_place text k + (24 + page_size_in text)) (frame_sums text (frame_place text k) (sums_after text k)) n) (sym count)
-      ∙ ap (λ (p : ℕ). committed_from text (commits_among text (k + 1)) (k + 1) p (frame_sums text (frame_place text k) (sums_after text k)) n) (sym (next_place text k))
-      ∙ ap (λ (s : Sums). committed_from text (commits_among text (k + 1)) (k + 1) (frame_place text (k + 1)) s n) (sym (sums_more text k))
-      ∙ scan-steps text n (k + 1) more
-      ∙ ap (λ (m : ℕ). commits_among text m) (omega (arith, add-one n))
+      ∙ ap (λ (c : ℕ). committed_from contents c (k + 1) (frame_place contents k + (24 + page_size_in contents)) (frame_sums contents (frame_place contents k) (sums_after contents k)) n) (sym count)
+      ∙ ap (λ (p : ℕ). committed_from contents (commits_among contents (k + 1)) (k + 1) p (frame_sums contents (frame_place contents k) (sums_after contents k)) n) (sym (next_place contents k))
+      ∙ ap (λ (s : Sums). committed_from contents (commits_among contents (k + 1)) (k + 1) (frame_place contents (k + 1)) s n) (sym (sums_more contents k))
+      ∙ scan-steps contents n (k + 1) more
+      ∙ ap (λ (m : ℕ). commits_among contents m) (omega (arith, add-one n))
   | inr off ↦
-      let ends : are_valid text (k + 1) ≡ false = valid_more text k ∙ and_right _ _ off in
-      cond-false _ _ _ off ∙ sym (commits_stay text k (k + suc n) ends (omega arith))
+      let ends : are_valid contents (k + 1) ≡ false = valid_more contents k ∙ and_right _ _ off in
+      cond-false _ _ _ off ∙ sym (commits_stay contents k (k + suc n) ends (omega arith))
 ]
 
 -- no frame is committed past as many as there are bytes
-commits-all : (text : List ℕ) (n : ℕ) → length text ≤ n → commits_among text n ≡ committed_count text
+commits-all : (contents : List ℕ) (n : ℕ) → length contents ≤ n → commits_among contents n ≡ committed_count contents
 unfolding committed_count
-commits-all text n le = elim (cases_Bool (are_valid text (length text + 1))) [
-  | inl on ↦ absurd (let fits = frames_fit text (length text + 1) (valid_room text (length text + 1) on) in omega (arith, fits))
-  | inr off ↦ commits_stay text (length text) n off le
+commits-all contents n le = elim (cases_Bool (are_valid contents (length contents + 1))) [
+  | inl on ↦ absurd (let fits = frames_fit contents (length contents + 1) (valid_room contents (length contents + 1) on) in omega (arith, fits))
+  | inr off ↦ commits_stay contents (length contents) n off le
 ]
 
-pub scan-begins : (text : List ℕ) (k : ℕ) → are_valid text k ≡ true
-    → committed_count text ≡ committed_from text (commits_among text k) k (frame_place text k) (sums_after text k) (length text)
-scan-begins text k valid = sym (scan-steps text (length text) k valid ∙ commits-all text (k + length text) (omega arith))
+pub scan-begins : (contents : List ℕ) (k : ℕ) → are_valid contents k ≡ true
+    → committed_count contents ≡ committed_from contents (commits_among contents k) k (frame_place contents k) (sums_after contents k) (length contents)
+scan-begins contents k valid = sym (scan-steps contents (length contents) k valid ∙ commits-all contents (k + length contents) (omega arith))
 
--- the same with what was kept of another text
+-- the same with what was kept of other contents
 pub scan-goes-on : (old new : List ℕ) (k : ℕ) → are_valid old k ≡ true → take (frame_place old k) new ≡ take (frame_place old k) old
     → committed_count new ≡ committed_from new (commits_among old k) k (frame_place old k) (sums_after old k) (length new)
 scan-goes-on old new k valid same =

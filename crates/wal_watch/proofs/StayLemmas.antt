@@ -1,4 +1,4 @@
--- The marks of a text are those of another that begins alike, and a scan goes on from them.
+-- The marks of the contents of a log are those of another that begins alike, and a scan goes on from them.
 use Rattle.std.proofs.Common.{◌≡◌, ℕ, zero, suc, ◌+◌, ◌-◌, ◌≤◌, false, Option, Some, None, List, length, take, replicate, subst, refl, sym, ap, ◌∙◌, inl, inr, add-one, arith}
 use Rattle.std.proofs.lemmas.Bool.{cases_Bool, cond-true, cond-false}
 use Rattle.std.proofs.lemmas.List.{take-take, take-append-le, length-take}
@@ -14,44 +14,44 @@ use Rattle.wal_watch.proofs.WriteLemmas.{written-longer, resized-whole}
 use Rattle.wal_watch.proofs.AgreeLemmas.{same_four, same_little, same_header, same_size, same_place, same_valid, same_sums_after, same_commits}
 
 -- the commits among the first commits are all of these
-pub commits_again : (text : List ℕ) (n : ℕ) → commits_among text (commits_among text n) ≡ commits_among text n
+pub commits_again : (contents : List ℕ) (n : ℕ) → commits_among contents (commits_among contents n) ≡ commits_among contents n
 unfolding commits_among
-commits_again text zero = refl
-commits_again text (suc k) = elim (cases_Bool (is_commit text k)) [
+commits_again contents zero = refl
+commits_again contents (suc k) = elim (cases_Bool (is_commit contents k)) [
   | inl on ↦
-      let own : commits_among text (suc k) ≡ k + 1 = cond-true _ _ _ on in
-      ap (λ (n : ℕ). commits_among text n) (own ∙ add-one k)
+      let own : commits_among contents (suc k) ≡ k + 1 = cond-true _ _ _ on in
+      ap (λ (n : ℕ). commits_among contents n) (own ∙ add-one k)
   | inr off ↦
-      let own : commits_among text (suc k) ≡ commits_among text k = cond-false _ _ _ off in
-      ap (λ (n : ℕ). commits_among text n) own ∙ commits_again text k ∙ sym own
+      let own : commits_among contents (suc k) ≡ commits_among contents k = cond-false _ _ _ off in
+      ap (λ (n : ℕ). commits_among contents n) own ∙ commits_again contents k ∙ sym own
 ]
 
-commits_le : (text : List ℕ) (n : ℕ) → commits_among text n ≤ n
+commits_le : (contents : List ℕ) (n : ℕ) → commits_among contents n ≤ n
 unfolding commits_among
-commits_le text zero = omega arith
-commits_le text (suc k) = elim (cases_Bool (is_commit text k)) [
-  | inl on ↦ let own : commits_among text (suc k) ≡ k + 1 = cond-true _ _ _ on in omega (arith, own, add-one k)
-  | inr off ↦ let own : commits_among text (suc k) ≡ commits_among text k = cond-false _ _ _ off in omega (arith, own, commits_le text k)
+commits_le contents zero = omega arith
+commits_le contents (suc k) = elim (cases_Bool (is_commit contents k)) [
+  | inl on ↦ let own : commits_among contents (suc k) ≡ k + 1 = cond-true _ _ _ on in omega (arith, own, add-one k)
+  | inr off ↦ let own : commits_among contents (suc k) ≡ commits_among contents k = cond-false _ _ _ off in omega (arith, own, commits_le contents k)
 ]
 
 -- the marks as if the scan had ended behind the committed frames
-pub marks-back : (text : List ℕ) (marks : Marks) → AreMarks text marks → AreMarks text (record { header = marks.header; committed = marks.committed; last = marks.committed })
-marks-back text marks h = record {
+pub marks-back : (contents : List ℕ) (marks : Marks) → AreMarks contents marks → AreMarks contents (record { header = marks.header; committed = marks.committed; last = marks.committed })
+marks-back contents marks h = record {
   header = h.header;
   last = h.committed;
   committed = h.committed;
-  count = h.count ∙ sym (commits_again text marks.last.frames) ∙ ap (λ (n : ℕ). commits_among text n) (sym h.count);
+  count = h.count ∙ sym (commits_again contents marks.last.frames) ∙ ap (λ (n : ℕ). commits_among contents n) (sym h.count);
 }
 
 -- the committed frames end before the last
-pub marks-order : (text : List ℕ) (marks : Marks) → AreMarks text marks → marks.committed.place ≤ marks.last.place
-marks-order text marks h =
-    omega (arith, h.committed.place, h.last.place, place_up text marks.committed.frames marks.last.frames (omega (arith, h.count, commits_le text marks.last.frames)))
+pub marks-order : (contents : List ℕ) (marks : Marks) → AreMarks contents marks → marks.committed.place ≤ marks.last.place
+marks-order contents marks h =
+    omega (arith, h.committed.place, h.last.place, place_up contents marks.committed.frames marks.last.frames (omega (arith, h.count, commits_le contents marks.last.frames)))
 
 -- no more frames are committed than there are bytes
-pub count-fits : (text : List ℕ) → committed_count text ≤ length text
+pub count-fits : (contents : List ℕ) → committed_count contents ≤ length contents
 unfolding committed_count
-count-fits text = commits_le text (length text)
+count-fits contents = commits_le contents (length contents)
 
 module _ (old new : List ℕ) (p : ℕ) (same : take p new ≡ take p old) (room_old : p ≤ length old) (room_new : p ≤ length new) where
   pub mark-stays : (mark : Mark) → IsMark old mark → mark.place ≤ p → IsMark new mark
@@ -85,28 +85,28 @@ module _ (old new : List ℕ) (p : ℕ) (same : take p new ≡ take p old) (room
         count = h.count ∙ same_commits old new p (sym same) head room_old room_new marks.last.frames (omega (arith, h.last.place, le));
       }
 
--- what marks say of their text
-pub marked-none : (text : List ℕ) (marks : Option Marks) → marks ≡ None → IsMarked text marks → is_header text ≡ false
-marked-none text marks is h = let P : Option Marks → Type 0 = λ o. IsMarked text o in subst P is h
+-- what marks say of their contents
+pub marked-none : (contents : List ℕ) (marks : Option Marks) → marks ≡ None → IsMarked contents marks → is_header contents ≡ false
+marked-none contents marks is h = let P : Option Marks → Type 0 = λ o. IsMarked contents o in subst P is h
 
-pub marked-some : (text : List ℕ) (marks : Option Marks) (m : Marks) → marks ≡ Some m → IsMarked text marks → AreFinal text m
-marked-some text marks m is h = let P : Option Marks → Type 0 = λ o. IsMarked text o in subst P is h
+pub marked-some : (contents : List ℕ) (marks : Option Marks) (m : Marks) → marks ≡ Some m → IsMarked contents marks → AreFinal contents m
+marked-some contents marks m is h = let P : Option Marks → Type 0 = λ o. IsMarked contents o in subst P is h
 
 -- marks of all bytes
-pub marked-whole : (text : List ℕ) (len : ℕ) (marks : Option Marks) → len ≡ length text → IsMarked (resized len text) marks → IsMarked text marks
-marked-whole text len marks is h = let P : List ℕ → Type 0 = λ t. IsMarked t marks in subst P (ap (λ (n : ℕ). resized n text) is ∙ resized-whole text) h
+pub marked-whole : (contents : List ℕ) (len : ℕ) (marks : Option Marks) → len ≡ length contents → IsMarked (resized len contents) marks → IsMarked contents marks
+marked-whole contents len marks is h = let P : List ℕ → Type 0 = λ t. IsMarked t marks in subst P (ap (λ (n : ℕ). resized n contents) is ∙ resized-whole contents) h
 
--- the first bytes of a text that was cut behind them, or filled up
-pub take-resized : (text : List ℕ) (place len : ℕ) → place ≤ len → place ≤ length text → take place (resized len text) ≡ take place text
-take-resized text place len below within =
-    take-append-le place (take len text) (replicate (len - length text) 0) (omega (arith, below, within, length-take len text)) ∙ take-take place len text below
+-- the first bytes of the contents of a log that was cut behind them, or filled up
+pub take-resized : (contents : List ℕ) (place len : ℕ) → place ≤ len → place ≤ length contents → take place (resized len contents) ≡ take place contents
+take-resized contents place len below within =
+    take-append-le place (take len contents) (replicate (len - length contents) 0) (omega (arith, below, within, length-take len contents)) ∙ take-take place len contents below
 
 -- the marks that a write leaves, and those that a cut leaves
-pub marks-written : (text : List ℕ) (at : ℕ) (piece : List ℕ) (marks : Marks) → AreMarks text marks → take marks.last.place (written at piece text) ≡ take marks.last.place text
-    → AreMarks (written at piece text) marks
-marks-written text at piece marks h same =
-    marks-stay text (written at piece text) marks.last.place same h.last.there (omega (arith, h.last.there, written-longer at piece text)) marks h (omega arith)
+pub marks-written : (contents : List ℕ) (at : ℕ) (piece : List ℕ) (marks : Marks) → AreMarks contents marks → take marks.last.place (written at piece contents) ≡ take marks.last.place contents
+    → AreMarks (written at piece contents) marks
+marks-written contents at piece marks h same =
+    marks-stay contents (written at piece contents) marks.last.place same h.last.there (omega (arith, h.last.there, written-longer at piece contents)) marks h (omega arith)
 
-pub marks-cut : (text : List ℕ) (len : ℕ) (marks : Marks) → AreMarks text marks → marks.last.place ≤ len → AreMarks (resized len text) marks
-marks-cut text len marks h le =
-    marks-stay text (resized len text) marks.last.place (take-resized text marks.last.place len le h.last.there) h.last.there (omega (arith, length-resized len text, le)) marks h (omega arith)
+pub marks-cut : (contents : List ℕ) (len : ℕ) (marks : Marks) → AreMarks contents marks → marks.last.place ≤ len → AreMarks (resized len contents) marks
+marks-cut contents len marks h le =
+    marks-stay contents (resized len contents) marks.last.place (take-resized contents marks.last.place len le h.last.there) h.last.there (omega (arith, length-resized len contents, le)) marks h (omega arith)

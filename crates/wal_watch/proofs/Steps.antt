@@ -7,31 +7,31 @@ use Rattle.wal_watch.specs.Frames.{is_header, frame_place, frame_sums, header_su
 use Rattle.wal_watch.specs.Scanning.{HasHeader}
 use Rattle.wal_watch.specs.declared.sums.Sums.{Sums}
 
-pub with_pairs_none : (little : Bool) (s : Sums) (place : ℕ) (text : List ℕ) → with_pairs little s place text 0 ≡ s
+pub with_pairs_none : (little : Bool) (s : Sums) (place : ℕ) (contents : List ℕ) → with_pairs little s place contents 0 ≡ s
 unfolding with_pairs
-with_pairs_none little s place text = refl
+with_pairs_none little s place contents = refl
 
-pub with_pairs_more : (little : Bool) (s : Sums) (place : ℕ) (text : List ℕ) (n : ℕ) → with_pairs little s place text (n + 1)
-    ≡ with_pair (with_pairs little s place text n) (word_at little (place + 8 * n) text) (word_at little (place + 8 * n + 4) text)
+pub with_pairs_more : (little : Bool) (s : Sums) (place : ℕ) (contents : List ℕ) (n : ℕ) → with_pairs little s place contents (n + 1)
+    ≡ with_pair (with_pairs little s place contents n) (word_at little (place + 8 * n) contents) (word_at little (place + 8 * n + 4) contents)
 unfolding with_pairs
-with_pairs_more little s place text n = rw add-one refl
+with_pairs_more little s place contents n = rw add-one refl
 
-pub sums_more : (text : List ℕ) (k : ℕ) → sums_after text (k + 1) ≡ frame_sums text (frame_place text k) (sums_after text k)
+pub sums_more : (contents : List ℕ) (k : ℕ) → sums_after contents (k + 1) ≡ frame_sums contents (frame_place contents k) (sums_after contents k)
 unfolding sums_after
-sums_more text k = rw add-one refl
+sums_more contents k = rw add-one refl
 
-pub valid_more : (text : List ℕ) (k : ℕ) → are_valid text (k + 1) ≡ (are_valid text k && is_frame text k)
+pub valid_more : (contents : List ℕ) (k : ℕ) → are_valid contents (k + 1) ≡ (are_valid contents k && is_frame contents k)
 unfolding are_valid
-valid_more text k = rw add-one refl
+valid_more contents k = rw add-one refl
 
-pub commits_more : (text : List ℕ) (k : ℕ) → commits_among text (k + 1) ≡ (if is_commit text k then k + 1 else commits_among text k)
+pub commits_more : (contents : List ℕ) (k : ℕ) → commits_among contents (k + 1) ≡ (if is_commit contents k then k + 1 else commits_among contents k)
 unfolding commits_among
-commits_more text k = ap (λ (m : ℕ). commits_among text m) (add-one k)
+commits_more contents k = ap (λ (m : ℕ). commits_among contents m) (add-one k)
 
 -- what a valid header has
-pub header_facts : (text : List ℕ) → is_header text ≡ true → HasHeader text
+pub header_facts : (contents : List ℕ) → is_header contents ≡ true → HasHeader contents
 unfolding is_header
-header_facts text h =
+header_facts contents h =
     let a = and_parts _ _ h in
     let b = and_parts _ _ a.1 in
     let c = and_parts _ _ b.1 in
@@ -39,14 +39,14 @@ header_facts text h =
     record { room = leb-true _ _ a.0; page_size = d.0 }
 
 -- before the first frame
-pub sums_none : (text : List ℕ) → sums_after text 0 ≡ header_sums text
+pub sums_none : (contents : List ℕ) → sums_after contents 0 ≡ header_sums contents
 unfolding sums_after
-sums_none text = refl
+sums_none contents = refl
 
-pub valid_none : (text : List ℕ) → are_valid text 0 ≡ is_header text
+pub valid_none : (contents : List ℕ) → are_valid contents 0 ≡ is_header contents
 unfolding are_valid
-valid_none text = refl
+valid_none contents = refl
 
-pub commits_none : (text : List ℕ) → commits_among text 0 ≡ 0
+pub commits_none : (contents : List ℕ) → commits_among contents 0 ≡ 0
 unfolding commits_among
-commits_none text = refl
+commits_none contents = refl

@@ -6,39 +6,39 @@ use Rattle.lf_sqlite_pages.specs.Blocks.{ByteRoom, no_room, room_with}
 -- the bytes if the file is there, the bytes before the last write while nothing came between, and the bytes that may be
 -- written without memory
 pub record Wal : Type 0 where
-  pub text : Option (List ℕ)
+  pub contents : Option (List ℕ)
   pub before : Option (List ℕ)
   pub room : ByteRoom
 
 -- no file, and no room
 abbrev pub no_wal : Wal
-no_wal = record { text = None; before = None; room = no_room }
+no_wal = record { contents = None; before = None; room = no_room }
 
 -- the bytes, none where there is no file
-abbrev pub text_of : Wal → List ℕ
-text_of wal = unwrap_or wal.text []
+abbrev pub contents_of : Wal → List ℕ
+contents_of wal = unwrap_or wal.contents []
 
 -- the file with room for a write of so many bytes at a place
 abbrev pub with_room : Wal → ℕ → ℕ → Wal
-with_room wal at count = record { text = wal.text; before = wal.before; room = room_with wal.room at count }
+with_room wal at count = record { contents = wal.contents; before = wal.before; room = room_with wal.room at count }
 
 -- the file after a write, which can be undone
 abbrev pub after_write : Wal → ℕ → List ℕ → Wal
-after_write wal at bytes = record { text = Some (written at bytes (text_of wal)); before = Some (text_of wal); room = wal.room }
+after_write wal at bytes = record { contents = Some (written at bytes (contents_of wal)); before = Some (contents_of wal); room = wal.room }
 
 -- the file after the last write was taken back
 abbrev pub undone : Wal → Wal
-undone wal = record { text = wal.before; before = None; room = wal.room }
+undone wal = record { contents = wal.before; before = None; room = wal.room }
 
 -- the file with these bytes, and nothing to undo
-abbrev pub with_text : Wal → List ℕ → Wal
-with_text wal text = record { text = Some text; before = None; room = wal.room }
+abbrev pub with_contents : Wal → List ℕ → Wal
+with_contents wal contents = record { contents = Some contents; before = None; room = wal.room }
 
 -- the file after its length was changed
 abbrev pub after_cut : Wal → ℕ → Wal
-after_cut wal len = with_text wal (resized len (text_of wal))
+after_cut wal len = with_contents wal (resized len (contents_of wal))
 
 -- the bytes are as before, and so is the room unless it was seen to for the write
 pub record IsUnchanged (old : Wal) (at count : ℕ) (new : Wal) : Type 0 where
-  pub text : new.text ≡ old.text
+  pub contents : new.contents ≡ old.contents
   pub room : (new.room ≡ old.room) ⊎ (new.room ≡ room_with old.room at count)

@@ -9,18 +9,18 @@ use Rattle.wal_watch.specs.declared.file.WalFile.TheInside.{Inside}
 -- the file that the parts stand for
 abbrev pub wal_of : Inside → Wal
 wal_of f = record {
-  text = if f.present then Some f.text.bytes else None;
-  before = f.text.before;
-  room = f.text.room;
+  contents = if f.present then Some f.contents.bytes else None;
+  before = f.contents.before;
+  room = f.contents.room;
 }
 
--- an absent file has no bytes and nothing to undo; the marks are those of the text, and the kept ones those of the text before;
--- the index is that of the text, of no more than its committed frames, and some of these are shared with the text before
+-- an absent file has no bytes and nothing to undo; the marks are those of the contents, and the kept ones those of the contents before;
+-- the index is that of the contents, of no more than its committed frames, and some of these are shared with the contents before
 pub record IsKept (f : Inside) : Type 0 where
-  pub absent : f.present ≡ false → f.text.bytes ≡ []
-  pub gone : f.present ≡ false → f.text.before ≡ None
-  pub marks : IsMarked f.text.bytes f.marks
-  pub saved : (old : List ℕ) → f.text.before ≡ Some old → IsMarked old f.saved
-  pub index : IsIndex f.text.bytes f.index
-  pub few : indexed f.index ≤ committed_count f.text.bytes
-  pub shared : (old : List ℕ) → f.text.before ≡ Some old → AreShared old f.text.bytes f.shared
+  pub absent : f.present ≡ false → f.contents.bytes ≡ []
+  pub gone : f.present ≡ false → f.contents.before ≡ None
+  pub marks : IsMarked f.contents.bytes f.marks
+  pub saved : (old : List ℕ) → f.contents.before ≡ Some old → IsMarked old f.saved
+  pub index : IsIndex f.contents.bytes f.index
+  pub few : indexed f.index ≤ committed_count f.contents.bytes
+  pub shared : (old : List ℕ) → f.contents.before ≡ Some old → AreShared old f.contents.bytes f.shared

@@ -29,26 +29,26 @@ fn is_before(frame: usize, other: Option<usize>) -> bool
 /// frame of it. A frame that the index knows a later one of is passed over.
 fn pages_held(
     alloc: Global,
-    text: &Blocks,
+    contents: &Blocks,
     index: &FrameIndex,
     first: usize,
     count: usize,
     page_size: u32,
     commit: u32,
 ) -> Result<BTreeMap<u32, usize>, NoMemory>
-    requires size { page_size ≡ page_size_in text.now.bytes }
+    requires size { page_size ≡ page_size_in contents.now.bytes }
     requires some { 0 < page_size }
-    requires room { frame_place text.now.bytes count ≤ length text.now.bytes }
-    requires short { length text.now.bytes < 2 ^ 62 }
+    requires room { frame_place contents.now.bytes count ≤ length contents.now.bytes }
+    requires short { length contents.now.bytes < 2 ^ 62 }
     requires order { first ≤ count }
-    requires index { IsIndex text.now.bytes index.now }
+    requires index { IsIndex contents.now.bytes index.now }
     requires few { indexed index.now ≤ count }
-    ensures { IfOk result (HoldsPages text.now.bytes commit first count) }
+    ensures { IfOk result (HoldsPages contents.now.bytes commit first count) }
 {
     let lock = lock_page(page_size);
     let mut pages = BTreeMap::new(alloc);
     for frame in first..count {
-        let page = number_in(text, page_size, frame);
+        let page = number_in(contents, page_size, frame);
         let latest = index.latest(page);
         if page <= commit && page != lock && !is_before(frame, latest) {
             pages.insert(page, frame)?;
@@ -60,27 +60,27 @@ fn pages_held(
 /// The change that the frames from `first` to `count` make. `page` is a buffer of one page.
 fn change_by(
     alloc: Global,
-    text: &Blocks,
+    contents: &Blocks,
     index: &FrameIndex,
     first: usize,
     count: usize,
     mut change: Change,
     page: &mut [u8],
 ) -> Result<Change, NoMemory>
-    requires committed { HasCommitted text.now.bytes count }
-    requires short { length text.now.bytes < 2 ^ 62 }
+    requires committed { HasCommitted contents.now.bytes count }
+    requires short { length contents.now.bytes < 2 ^ 62 }
     requires order { first ≤ count }
-    requires empty { change ≡ empty_change (page_size_in text.now.bytes) (size_in text.now.bytes (count - 1)) }
-    requires buffer { length page.old ≡ page_size_in text.now.bytes }
-    requires index { IsIndex text.now.bytes index.now }
+    requires empty { change ≡ empty_change (page_size_in contents.now.bytes) (size_in contents.now.bytes (count - 1)) }
+    requires buffer { length page.old ≡ page_size_in contents.now.bytes }
+    requires index { IsIndex contents.now.bytes index.now }
     requires few { indexed index.now ≤ count }
-    ensures { IfOk result (λ change. change ≡ change_of text.now.bytes first count) }
+    ensures { IfOk result (λ change. change ≡ change_of contents.now.bytes first count) }
 {
     let page_size = change.page_size();
     let commit = change.commit();
-    let mut pages = pages_held(alloc, text, index, first, count, page_size, commit)?;
+    let mut pages = pages_held(alloc, contents, index, first, count, page_size, commit)?;
     while let Some((number, frame)) = pages.pop_first() {
-        fill_page(text, page_size, frame, page);
+        fill_page(contents, page_size, frame, page);
         change.push(number, page)?;
     }
     Ok(change)
@@ -89,28 +89,28 @@ fn change_by(
 /// What the frames from `first` on commit, where `count` are committed.
 pub fn news_from(
     alloc: Global,
-    text: &Blocks,
+    contents: &Blocks,
     index: &FrameIndex,
     page_size: u32,
     first: usize,
     count: usize,
 ) -> Result<WalNews, NoMemory>
-    requires count { count ≡ committed_count text.now.bytes }
-    requires size { 0 < count → page_size ≡ page_size_in text.now.bytes }
-    requires short { length text.now.bytes < 2 ^ 62 }
-    requires index { IsIndex text.now.bytes index.now }
+    requires count { count ≡ committed_count contents.now.bytes }
+    requires size { 0 < count → page_size ≡ page_size_in contents.now.bytes }
+    requires short { length contents.now.bytes < 2 ^ 62 }
+    requires index { IsIndex contents.now.bytes index.now }
     requires few { indexed index.now ≤ count }
-    ensures { IfOk result (λ news. news_change news ≡ change_from first text.now.bytes) }
+    ensures { IfOk result (λ news. news_change news ≡ change_from first contents.now.bytes) }
 {
     if first >= count {
         return Ok(WalNews::Stored);
     }
-    let commit = size_in(text, page_size, count - 1);
+    let commit = size_in(contents, page_size, count - 1);
     let mut page = buffer(alloc, page_size as usize)?;
     let change = Change::new(alloc, page_size, commit);
     let change = change_by(
         alloc,
-        text,
+        contents,
         index,
         first,
         count,

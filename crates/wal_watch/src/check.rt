@@ -24,12 +24,12 @@ fn replace(front: &mut [u8], at: usize, piece: &[u8])
 }
 
 /// Puts the first 32 bytes after a write into `header`.
-fn fill_header(text: &Blocks, at: usize, bytes: &[u8], header: &mut [u8])
+fn fill_header(contents: &Blocks, at: usize, bytes: &[u8], header: &mut [u8])
     requires size { length header.old ≡ 32 }
-    requires there { 32 ≤ length (written at bytes.now text.now.bytes) }
-    ensures { header.new ≡ take 32 (written at bytes.now text.now.bytes) }
+    requires there { 32 ≤ length (written at bytes.now contents.now.bytes) }
+    ensures { header.new ≡ take 32 (written at bytes.now contents.now.bytes) }
 {
-    fill(text, 0, header);
+    fill(contents, 0, header);
     if at < HEADER_LENGTH {
         let (piece, _) = bytes.split_at(bytes.len().min(HEADER_LENGTH - at));
         replace(header, at, piece);
@@ -37,11 +37,11 @@ fn fill_header(text: &Blocks, at: usize, bytes: &[u8], header: &mut [u8])
 }
 
 /// How many bytes there are after a write.
-fn length_after(text: &Blocks, at: usize, bytes: &[u8]) -> usize
+fn length_after(contents: &Blocks, at: usize, bytes: &[u8]) -> usize
     requires { at + length bytes.now ≤ wal_limit }
-    ensures { result ≡ length (written at bytes.now text.now.bytes) }
+    ensures { result ≡ length (written at bytes.now contents.now.bytes) }
 {
-    let len = text.len() as usize;
+    let len = contents.len() as usize;
     if bytes.is_empty() {
         len
     } else {
@@ -50,17 +50,17 @@ fn length_after(text: &Blocks, at: usize, bytes: &[u8]) -> usize
 }
 
 /// The page size that the header states after a write, if it is a valid one.
-fn page_size_after(text: &Blocks, at: usize, bytes: &[u8]) -> Option<u32>
+fn page_size_after(contents: &Blocks, at: usize, bytes: &[u8]) -> Option<u32>
     requires { at + length bytes.now ≤ wal_limit }
-    ensures none { IfNone result (is_header (written at bytes.now text.now.bytes) ≡ false) }
-    ensures valid { OnSome result (is_header (written at bytes.now text.now.bytes) ≡ true) }
-    ensures size { IfSome result (λ size. size ≡ page_size_in (written at bytes.now text.now.bytes)) }
+    ensures none { IfNone result (is_header (written at bytes.now contents.now.bytes) ≡ false) }
+    ensures valid { OnSome result (is_header (written at bytes.now contents.now.bytes) ≡ true) }
+    ensures size { IfSome result (λ size. size ≡ page_size_in (written at bytes.now contents.now.bytes)) }
 {
-    if length_after(text, at, bytes) < HEADER_LENGTH {
+    if length_after(contents, at, bytes) < HEADER_LENGTH {
         return None;
     }
     let mut header = [0; HEADER_LENGTH];
-    fill_header(text, at, bytes, &mut header);
+    fill_header(contents, at, bytes, &mut header);
     if !is_header(&header) {
         return None;
     }
@@ -68,71 +68,71 @@ fn page_size_after(text: &Blocks, at: usize, bytes: &[u8]) -> Option<u32>
 }
 
 /// Whether a write touches the header and leaves no valid one, or leaves one of another page size.
-fn breaks_header(page_size: u32, text: &Blocks, at: usize, bytes: &[u8]) -> bool
+fn breaks_header(page_size: u32, contents: &Blocks, at: usize, bytes: &[u8]) -> bool
     requires { at + length bytes.now ≤ wal_limit }
-    ensures { IsTrue result ↔ (BreaksHeader page_size at bytes.now (written at bytes.now text.now.bytes)) }
+    ensures { IsTrue result ↔ (BreaksHeader page_size at bytes.now (written at bytes.now contents.now.bytes)) }
 {
-    match page_size_after(text, at, bytes) {
+    match page_size_after(contents, at, bytes) {
         None => at < HEADER_LENGTH && !bytes.is_empty(),
         Some(size) => page_size != 0 && size != page_size,
     }
 }
 
 /// Whether a write leaves the bytes before `end` as they are.
-pub fn keeps(text: &Blocks, at: usize, bytes: &[u8], end: usize) -> bool
-    requires { end ≤ length text.now.bytes }
-    ensures { IsTrue result ↔ (take end (written at bytes.now text.now.bytes) ≡ take end text.now.bytes) }
+pub fn keeps(contents: &Blocks, at: usize, bytes: &[u8], end: usize) -> bool
+    requires { end ≤ length contents.now.bytes }
+    ensures { IsTrue result ↔ (take end (written at bytes.now contents.now.bytes) ≡ take end contents.now.bytes) }
 {
     if end <= at {
         return true;
     }
     let (piece, _) = bytes.split_at(bytes.len().min(end - at));
-    text.holds(at as u64, piece)
+    contents.holds(at as u64, piece)
 }
 
 /// Whether a write leaves the first 32 bytes as they are.
-pub fn keeps_header(text: &Blocks, at: usize, bytes: &[u8]) -> bool
+pub fn keeps_header(contents: &Blocks, at: usize, bytes: &[u8]) -> bool
     requires { at + length bytes.now ≤ wal_limit }
-    ensures { IsTrue result ↔ (take 32 (written at bytes.now text.now.bytes) ≡ take 32 text.now.bytes) }
+    ensures { IsTrue result ↔ (take 32 (written at bytes.now contents.now.bytes) ≡ take 32 contents.now.bytes) }
 {
-    let len = text.len() as usize;
+    let len = contents.len() as usize;
     if len >= HEADER_LENGTH {
-        return keeps(text, at, bytes, HEADER_LENGTH);
+        return keeps(contents, at, bytes, HEADER_LENGTH);
     }
-    if length_after(text, at, bytes) != len {
+    if length_after(contents, at, bytes) != len {
         return false;
     }
-    keeps(text, at, bytes, len)
+    keeps(contents, at, bytes, len)
 }
 
-/// The first frame that only the text after a write may commit, or what stands against the write.
+/// The first frame that only the contents after a write may commit, or what stands against the write.
 /// `committed` frames are committed, and they end at `end`.
 pub fn check_write(
-    text: &Blocks,
+    contents: &Blocks,
     committed: usize,
     end: usize,
     page_size: u32,
     at: u64,
     bytes: &[u8],
 ) -> Result<usize, WalFault>
-    requires count { committed ≡ committed_count text.now.bytes }
-    requires end { end ≡ committed_end text.now.bytes }
-    ensures first { IfOk result (λ first. first ≡ first_new text.now.bytes (written at bytes.now text.now.bytes)) }
-    ensures sound { OnOk result (IsSoundWrite text.now.bytes page_size at bytes.now) }
-    ensures fault { IfErr result (IsWriteFault text.now.bytes page_size at bytes.now) }
+    requires count { committed ≡ committed_count contents.now.bytes }
+    requires end { end ≡ committed_end contents.now.bytes }
+    ensures first { IfOk result (λ first. first ≡ first_new contents.now.bytes (written at bytes.now contents.now.bytes)) }
+    ensures sound { OnOk result (IsSoundWrite contents.now.bytes page_size at bytes.now) }
+    ensures fault { IfErr result (IsWriteFault contents.now.bytes page_size at bytes.now) }
     ensures memory { result ≢ Err WalFault.NoMemory }
 {
     if at > WAL_LIMIT || bytes.len() as u64 > WAL_LIMIT - at {
         return Err(WalFault::TooLong);
     }
     let at = at as usize;
-    if breaks_header(page_size, text, at, bytes) {
+    if breaks_header(page_size, contents, at, bytes) {
         return Err(WalFault::Header);
     }
-    if !keeps_header(text, at, bytes) {
+    if !keeps_header(contents, at, bytes) {
         return Ok(0);
     }
-    if !keeps(text, at, bytes, end) {
+    if !keeps(contents, at, bytes, end) {
         return Err(WalFault::Part);
     }
     Ok(committed)

@@ -1,7 +1,7 @@
 //! A file cut, or made longer with zeros.
 ghost use Rattle.std.specs.Prelude.{◌≡◌, ◌≢◌, ◌≤◌, ◌<◌, ◌↔◌, Some, length, IsSome, IsTrue, IfOk, OnOk, OnErr, IfErr, IfSome};
 ghost use Rattle.lf_base.specs.FileBytes.{resized};
-ghost use Rattle.wal_watch.specs.File.{text_of, after_cut};
+ghost use Rattle.wal_watch.specs.File.{contents_of, after_cut};
 ghost use Rattle.wal_watch.specs.Frames.{committed_count, committed_end};
 ghost use Rattle.wal_watch.specs.Indexing.{AreShared};
 ghost use Rattle.wal_watch.specs.Refusals.{wal_limit, IsSoundCut, IsCutFault};
@@ -15,11 +15,11 @@ use lf_sqlite_pages::Blocks;
 
 /// The marks that a cut to a length leaves: those behind the last valid frame or behind the committed
 /// ones, if they aren't behind it.
-fn marks_within(text: &Blocks, marks: Option<Marks>, len: usize) -> Option<Marks>
-    requires { IsMarked text.now.bytes marks }
-    ensures { IfSome result (AreMarks (resized len text.now.bytes)) }
+fn marks_within(contents: &Blocks, marks: Option<Marks>, len: usize) -> Option<Marks>
+    requires { IsMarked contents.now.bytes marks }
+    ensures { IfSome result (AreMarks (resized len contents.now.bytes)) }
 {
-    let _text = text;
+    let _contents = contents;
     let Some(marks) = marks else {
         return None;
     };
@@ -35,7 +35,7 @@ fn marks_within(text: &Blocks, marks: Option<Marks>, len: usize) -> Option<Marks
 impl WalFile {
     /// Whether a length is below the committed end, and not 0.
     fn ends_below(&self, len: u64) -> bool
-        ensures { IsTrue result ↔ ((len ≢ 0) × (len < committed_end (text_of self.now))) }
+        ensures { IsTrue result ↔ ((len ≢ 0) × (len < committed_end (contents_of self.now))) }
     {
         len != 0 && len < self.committed_end()
     }
@@ -43,17 +43,17 @@ impl WalFile {
     /// The marks after a cut to a length.
     fn marks_after(&self, len: u64) -> Option<Marks>
         requires { len ≤ wal_limit }
-        ensures { IsMarked (resized len (text_of self.now)) result }
+        ensures { IsMarked (resized len (contents_of self.now)) result }
     {
-        let from = marks_within(&self.text, self.marks, len as usize);
-        marks_of(&self.text, len as usize, from)
+        let from = marks_within(&self.contents, self.marks, len as usize);
+        marks_of(&self.contents, len as usize, from)
     }
 
     /// The marks after a cut to a length, or what stands against it.
     fn cut_marks(&self, len: u64) -> Result<Option<Marks>, WalFault>
-        ensures marks { IfOk result (IsMarked (resized len (text_of self.now))) }
-        ensures sound { OnOk result (IsSoundCut (text_of self.now) len) }
-        ensures cause { IfErr result (IsCutFault (text_of self.now) len) }
+        ensures marks { IfOk result (IsMarked (resized len (contents_of self.now))) }
+        ensures sound { OnOk result (IsSoundCut (contents_of self.now) len) }
+        ensures cause { IfErr result (IsCutFault (contents_of self.now) len) }
     {
         if len > WAL_LIMIT {
             return Err(WalFault::TooLong);
@@ -70,8 +70,8 @@ impl WalFile {
 
     /// Whether a cut would be refused and why, told without doing it.
     pub fn check_cut(&self, len: u64) -> Result<(), WalFault>
-        ensures sound { OnOk result (IsSoundCut (text_of self.now) len) }
-        ensures cause { IfErr result (IsCutFault (text_of self.now) len) }
+        ensures sound { OnOk result (IsSoundCut (contents_of self.now) len) }
+        ensures cause { IfErr result (IsCutFault (contents_of self.now) len) }
     {
         match self.cut_marks(len) {
             Ok(_marks) => Ok(()),
@@ -81,24 +81,24 @@ impl WalFile {
 
     /// How many committed frames stay in a cut to a length.
     fn shared_with_cut(&self, len: u64) -> usize
-        requires { IsSoundCut (text_of self.now) len }
-        ensures { AreShared (text_of self.now) (resized len (text_of self.now)) result }
+        requires { IsSoundCut (contents_of self.now) len }
+        ensures { AreShared (contents_of self.now) (resized len (contents_of self.now)) result }
     {
         if len == 0 { 0 } else { self.committed() }
     }
 
     /// Cuts the file to a length, or fills it up with zeros. It takes no memory.
     pub fn cut(&mut self, len: u64) -> Result<(), WalFault>
-        requires { IsSome self.old.text }
+        requires { IsSome self.old.contents }
         ensures ok { OnOk result (self.new ≡ after_cut self.old len) }
-        ensures sound { OnOk result (IsSoundCut (text_of self.old) len) }
+        ensures sound { OnOk result (IsSoundCut (contents_of self.old) len) }
         ensures err { OnErr result (self.new ≡ self.old) }
-        ensures cause { IfErr result (IsCutFault (text_of self.old) len) }
+        ensures cause { IfErr result (IsCutFault (contents_of self.old) len) }
     {
         let marks = self.cut_marks(len)?;
         let shared = self.shared_with_cut(len);
         self.index.go_over(shared);
-        self.text.cut(len).unwrap();
+        self.contents.cut(len).unwrap();
         self.marks = marks;
         Ok(())
     }

@@ -2,7 +2,7 @@
 ghost use Rattle.std.specs.Prelude.{◌≡◌, ◌+◌, ◌-◌, ◌≤◌, ◌<◌, ◌↔◌, ◌^◌, Option, None, Some, Err, [], length, take, IsTrue, IsSome, IsOk, IfSome, OnOk, OnErr};
 ghost use Rattle.lf_base.specs.FileBytes.{written, resized};
 ghost use Rattle.lf_sqlite_pages.specs.Blocks.{is_within, IsWithin};
-ghost use Rattle.wal_watch.specs.File.{no_wal, text_of, with_room, after_write, undone, with_text};
+ghost use Rattle.wal_watch.specs.File.{no_wal, contents_of, with_room, after_write, undone, with_contents};
 ghost use Rattle.wal_watch.specs.Frames.{committed_count, committed_end};
 ghost use Rattle.wal_watch.specs.Indexing.{AreShared};
 ghost use Rattle.wal_watch.specs.Refusals.{wal_limit};
@@ -25,12 +25,12 @@ const LEAST_FRAME: usize = 536;
 #[derive(Drop)]
 pub struct WalFile {
     pub(crate) present: bool,
-    pub(crate) text: Blocks,
+    pub(crate) contents: Blocks,
     pub(crate) marks: Option<Marks>,
     /// The marks before the last write.
     pub(crate) saved: Option<Marks>,
     pub(crate) index: FrameIndex,
-    /// How many committed frames the text before the last write shares with this one.
+    /// How many committed frames the contents before the last write shares with this one.
     pub(crate) shared: usize,
 }
 
@@ -48,18 +48,18 @@ impl Model for WalFile {
 
 /// The marks that a write leaves: those behind the last valid frame or behind the committed ones, if
 /// no byte before them changes.
-fn kept_marks(text: &Blocks, marks: Option<Marks>, at: usize, bytes: &[u8]) -> Option<Marks>
-    requires { IsMarked text.now.bytes marks }
-    ensures marks { IfSome result (AreMarks (written at bytes.now text.now.bytes)) }
-    ensures shared { IfSome result (λ marks. AreShared text.now.bytes (written at bytes.now text.now.bytes) marks.committed.frames) }
+fn kept_marks(contents: &Blocks, marks: Option<Marks>, at: usize, bytes: &[u8]) -> Option<Marks>
+    requires { IsMarked contents.now.bytes marks }
+    ensures marks { IfSome result (AreMarks (written at bytes.now contents.now.bytes)) }
+    ensures shared { IfSome result (λ marks. AreShared contents.now.bytes (written at bytes.now contents.now.bytes) marks.committed.frames) }
 {
     let Some(marks) = marks else {
         return None;
     };
-    if keeps(text, at, bytes, marks.last.place) {
+    if keeps(contents, at, bytes, marks.last.place) {
         return Some(marks);
     }
-    if keeps(text, at, bytes, marks.committed.place) {
+    if keeps(contents, at, bytes, marks.committed.place) {
         return Some(marks.back());
     }
     None
@@ -72,7 +72,7 @@ impl WalFile {
     {
         WalFile {
             present: false,
-            text: Blocks::new(alloc),
+            contents: Blocks::new(alloc),
             marks: None,
             saved: None,
             index: FrameIndex::new(alloc),
@@ -82,8 +82,8 @@ impl WalFile {
 
     /// Makes the file, without bytes.
     pub fn create(&mut self)
-        requires { self.old.text ≡ None }
-        ensures { self.new ≡ with_text self.old [] }
+        requires { self.old.contents ≡ None }
+        ensures { self.new ≡ with_contents self.old [] }
     {
         self.present = true;
     }
@@ -92,9 +92,9 @@ impl WalFile {
     pub fn remove(&mut self)
         ensures { self.new ≡ no_wal }
     {
-        let alloc = *self.text.allocator();
+        let alloc = *self.contents.allocator();
         self.present = false;
-        self.text.clear();
+        self.contents.clear();
         self.marks = None;
         self.saved = None;
         self.index = FrameIndex::new(alloc);
@@ -107,7 +107,7 @@ impl WalFile {
         ensures within { IsTrue result ↔ IsWithin self.now.room at count }
         ensures limited { IsTrue result → at + count ≤ wal_limit }
     {
-        self.text.has_room(at, count)
+        self.contents.has_room(at, count)
     }
 
     /// Sees to it that a write of `count` bytes at a place takes no memory: it takes the blocks of that
@@ -136,7 +136,7 @@ impl WalFile {
         ensures err { OnErr result (self.new ≡ self.old) }
     {
         self.make_index_room(count as usize)?;
-        self.text.reserve(at, count)?;
+        self.contents.reserve(at, count)?;
         Ok(())
     }
 
@@ -146,31 +146,31 @@ impl WalFile {
         requires { count ≤ wal_limit }
         ensures { self.new ≡ self.old }
     {
-        let _limit = self.text.len();
+        let _limit = self.contents.len();
         let committed = self.committed();
         let lacking = valid_in(self.marks).saturating_sub(self.index.len());
         self.index
             .reserve(lacking.saturating_add(count / LEAST_FRAME + 1))?;
         self.index
-            .extend(&self.text, page_size_of(self.marks), committed);
+            .extend(&self.contents, page_size_of(self.marks), committed);
         Ok(())
     }
 
     /// Writes within the room, whatever the bytes. It takes no memory.
     pub fn write_within(&mut self, at: u64, bytes: &[u8])
-        requires there { IsSome self.old.text }
+        requires there { IsSome self.old.contents }
         requires room { IsWithin self.old.room at (length bytes.now) }
         ensures { self.new ≡ after_write self.old at bytes.now }
     {
-        let from = kept_marks(&self.text, self.marks, at as usize, bytes);
-        self.text.write_within(at, bytes);
+        let from = kept_marks(&self.contents, self.marks, at as usize, bytes);
+        self.contents.write_within(at, bytes);
         self.saved = self.marks;
-        self.marks = marks_of(&self.text, self.text.len() as usize, from);
+        self.marks = marks_of(&self.contents, self.contents.len() as usize, from);
         self.shared = committed_in(from);
         self.index.go_over(self.shared);
         let committed = committed_in(self.marks);
         self.index
-            .extend(&self.text, page_size_of(self.marks), committed);
+            .extend(&self.contents, page_size_of(self.marks), committed);
     }
 
     /// Takes the last write back. It takes no memory.
@@ -178,10 +178,10 @@ impl WalFile {
         requires { IsSome self.old.before }
         ensures { self.new ≡ undone self.old }
     {
-        let _limit = self.text.len();
+        let _limit = self.contents.len();
         let page_size = page_size_of(self.marks);
-        self.index.truncate(&self.text, page_size, self.shared);
-        self.text.undo();
+        self.index.truncate(&self.contents, page_size, self.shared);
+        self.contents.undo();
         self.marks = self.saved;
     }
 }

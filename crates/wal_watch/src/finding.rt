@@ -10,21 +10,21 @@ use lf_sqlite_pages::Blocks;
 
 /// The latest of the frames from `from` on, among the first `count`, that holds a page.
 fn latest_since(
-    text: &Blocks,
+    contents: &Blocks,
     page_size: u32,
     page: u32,
     from: usize,
     count: usize,
 ) -> Option<usize>
-    requires among { count ≤ committed_count text.now.bytes }
-    requires size { 0 < committed_count text.now.bytes → page_size ≡ page_size_in text.now.bytes }
-    requires short { length text.now.bytes < 2 ^ 62 }
+    requires among { count ≤ committed_count contents.now.bytes }
+    requires size { 0 < committed_count contents.now.bytes → page_size ≡ page_size_in contents.now.bytes }
+    requires short { length contents.now.bytes < 2 ^ 62 }
     requires order { from ≤ count }
-    ensures { result ≡ latest_frame text.now.bytes page from count }
+    ensures { result ≡ latest_frame contents.now.bytes page from count }
 {
     let mut latest = None;
     for frame in from..count {
-        if number_in(text, page_size, frame) == page {
+        if number_in(contents, page_size, frame) == page {
             latest = Some(frame);
         }
     }
@@ -33,21 +33,21 @@ fn latest_since(
 
 /// The latest of the first `count` frames that holds a page. The index has no more frames than these.
 pub fn latest_frame(
-    text: &Blocks,
+    contents: &Blocks,
     index: &FrameIndex,
     page_size: u32,
     page: u32,
     count: usize,
 ) -> Option<usize>
-    requires among { count ≤ committed_count text.now.bytes }
-    requires size { 0 < committed_count text.now.bytes → page_size ≡ page_size_in text.now.bytes }
-    requires short { length text.now.bytes < 2 ^ 62 }
-    requires index { IsIndex text.now.bytes index.now }
+    requires among { count ≤ committed_count contents.now.bytes }
+    requires size { 0 < committed_count contents.now.bytes → page_size ≡ page_size_in contents.now.bytes }
+    requires short { length contents.now.bytes < 2 ^ 62 }
+    requires index { IsIndex contents.now.bytes index.now }
     requires few { indexed index.now ≤ count }
-    ensures latest { result ≡ latest_frame text.now.bytes page 0 count }
-    ensures there { IfSome result (λ frame. frame_place text.now.bytes (frame + 1) ≤ length text.now.bytes) }
+    ensures latest { result ≡ latest_frame contents.now.bytes page 0 count }
+    ensures there { IfSome result (λ frame. frame_place contents.now.bytes (frame + 1) ≤ length contents.now.bytes) }
 {
-    match latest_since(text, page_size, page, index.len(), count) {
+    match latest_since(contents, page_size, page, index.len(), count) {
         None => index.latest(page),
         Some(frame) => Some(frame),
     }
@@ -55,63 +55,63 @@ pub fn latest_frame(
 
 /// The latest frame before a frame that holds the same page.
 fn frame_before(
-    text: &Blocks,
+    contents: &Blocks,
     index: &FrameIndex,
     page_size: u32,
     page: u32,
     frame: usize,
 ) -> Option<usize>
-    requires among { frame < committed_count text.now.bytes }
-    requires size { 0 < committed_count text.now.bytes → page_size ≡ page_size_in text.now.bytes }
-    requires short { length text.now.bytes < 2 ^ 62 }
-    requires index { IsIndex text.now.bytes index.now }
-    requires page { page ≡ number_in text.now.bytes frame }
-    ensures { result ≡ latest_frame text.now.bytes page 0 frame }
+    requires among { frame < committed_count contents.now.bytes }
+    requires size { 0 < committed_count contents.now.bytes → page_size ≡ page_size_in contents.now.bytes }
+    requires short { length contents.now.bytes < 2 ^ 62 }
+    requires index { IsIndex contents.now.bytes index.now }
+    requires page { page ≡ number_in contents.now.bytes frame }
+    ensures { result ≡ latest_frame contents.now.bytes page 0 frame }
 {
     if frame < index.len() {
         index.earlier(frame)
     } else {
-        latest_frame(text, index, page_size, page, frame)
+        latest_frame(contents, index, page_size, page, frame)
     }
 }
 
 /// Whether one of the first `count` frames, the committed ones, holds a page with these bytes. It looks
 /// at the frames of that page alone, the latest first.
 pub fn holds_frame(
-    text: &Blocks,
+    contents: &Blocks,
     index: &FrameIndex,
     page_size: u32,
     count: usize,
     number: u32,
     page: &[u8],
 ) -> bool
-    requires count { count ≡ committed_count text.now.bytes }
-    requires size { 0 < committed_count text.now.bytes → page_size ≡ page_size_in text.now.bytes }
-    requires short { length text.now.bytes < 2 ^ 62 }
-    requires index { IsIndex text.now.bytes index.now }
+    requires count { count ≡ committed_count contents.now.bytes }
+    requires size { 0 < committed_count contents.now.bytes → page_size ≡ page_size_in contents.now.bytes }
+    requires short { length contents.now.bytes < 2 ^ 62 }
+    requires index { IsIndex contents.now.bytes index.now }
     requires few { indexed index.now ≤ count }
     requires whole { length page.now ≡ page_size }
-    ensures { IsTrue result ↔ (HoldsFrame text.now.bytes number page.now) }
+    ensures { IsTrue result ↔ (HoldsFrame contents.now.bytes number page.now) }
 {
-    let mut next = latest_frame(text, index, page_size, number, count);
+    let mut next = latest_frame(contents, index, page_size, number, count);
     while let Some(frame) = next {
-        if holds_page(text, page_size, frame, page) {
+        if holds_page(contents, page_size, frame, page) {
             return true;
         }
-        next = frame_before(text, index, page_size, number, frame);
+        next = frame_before(contents, index, page_size, number, frame);
     }
     false
 }
 
 /// Whether one of the first `count` frames, the committed ones, states this database size.
-pub fn holds_size(text: &Blocks, page_size: u32, count: usize, pages: u32) -> bool
-    requires count { count ≡ committed_count text.now.bytes }
-    requires size { 0 < count → page_size ≡ page_size_in text.now.bytes }
-    requires short { length text.now.bytes < 2 ^ 62 }
-    ensures { IsTrue result ↔ (HasSize text.now.bytes pages) }
+pub fn holds_size(contents: &Blocks, page_size: u32, count: usize, pages: u32) -> bool
+    requires count { count ≡ committed_count contents.now.bytes }
+    requires size { 0 < count → page_size ≡ page_size_in contents.now.bytes }
+    requires short { length contents.now.bytes < 2 ^ 62 }
+    ensures { IsTrue result ↔ (HasSize contents.now.bytes pages) }
 {
     for frame in 0..count {
-        if size_in(text, page_size, frame) == pages {
+        if size_in(contents, page_size, frame) == pages {
             return true;
         }
     }

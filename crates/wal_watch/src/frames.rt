@@ -8,54 +8,54 @@ use crate::reader::{fill, number_at};
 use lf_sqlite_pages::Blocks;
 
 /// Where a frame begins.
-pub fn place_of(text: &Blocks, page_size: u32, frame: usize) -> usize
-    requires size { page_size ≡ page_size_in text.now.bytes }
-    requires there { frame_place text.now.bytes frame ≤ length text.now.bytes }
-    requires short { length text.now.bytes < 2 ^ 62 }
-    ensures { result ≡ frame_place text.now.bytes frame }
+pub fn place_of(contents: &Blocks, page_size: u32, frame: usize) -> usize
+    requires size { page_size ≡ page_size_in contents.now.bytes }
+    requires there { frame_place contents.now.bytes frame ≤ length contents.now.bytes }
+    requires short { length contents.now.bytes < 2 ^ 62 }
+    ensures { result ≡ frame_place contents.now.bytes frame }
 {
-    let _text = text;
+    let _contents = contents;
     HEADER_LENGTH + frame * (24 + page_size as usize)
 }
 
 /// The number of the page that a frame holds.
-pub fn number_in(text: &Blocks, page_size: u32, frame: usize) -> u32
-    requires size { page_size ≡ page_size_in text.now.bytes }
-    requires there { frame_place text.now.bytes (frame + 1) ≤ length text.now.bytes }
-    requires short { length text.now.bytes < 2 ^ 62 }
-    ensures { result ≡ number_in text.now.bytes frame }
+pub fn number_in(contents: &Blocks, page_size: u32, frame: usize) -> u32
+    requires size { page_size ≡ page_size_in contents.now.bytes }
+    requires there { frame_place contents.now.bytes (frame + 1) ≤ length contents.now.bytes }
+    requires short { length contents.now.bytes < 2 ^ 62 }
+    ensures { result ≡ number_in contents.now.bytes frame }
 {
-    number_at(text, place_of(text, page_size, frame))
+    number_at(contents, place_of(contents, page_size, frame))
 }
 
 /// The database size in pages after the transaction that a frame ends, or 0.
-pub fn size_in(text: &Blocks, page_size: u32, frame: usize) -> u32
-    requires size { page_size ≡ page_size_in text.now.bytes }
-    requires there { frame_place text.now.bytes (frame + 1) ≤ length text.now.bytes }
-    requires short { length text.now.bytes < 2 ^ 62 }
-    ensures { result ≡ size_in text.now.bytes frame }
+pub fn size_in(contents: &Blocks, page_size: u32, frame: usize) -> u32
+    requires size { page_size ≡ page_size_in contents.now.bytes }
+    requires there { frame_place contents.now.bytes (frame + 1) ≤ length contents.now.bytes }
+    requires short { length contents.now.bytes < 2 ^ 62 }
+    ensures { result ≡ size_in contents.now.bytes frame }
 {
-    number_at(text, place_of(text, page_size, frame) + 4)
+    number_at(contents, place_of(contents, page_size, frame) + 4)
 }
 
 /// Fills `out`, which is one page, with the page that a frame holds.
-pub fn fill_page(text: &Blocks, page_size: u32, frame: usize, out: &mut [u8])
-    requires size { page_size ≡ page_size_in text.now.bytes }
-    requires there { frame_place text.now.bytes (frame + 1) ≤ length text.now.bytes }
-    requires short { length text.now.bytes < 2 ^ 62 }
+pub fn fill_page(contents: &Blocks, page_size: u32, frame: usize, out: &mut [u8])
+    requires size { page_size ≡ page_size_in contents.now.bytes }
+    requires there { frame_place contents.now.bytes (frame + 1) ≤ length contents.now.bytes }
+    requires short { length contents.now.bytes < 2 ^ 62 }
     requires whole { length out.old ≡ page_size }
-    ensures { out.new ≡ page_in text.now.bytes frame }
+    ensures { out.new ≡ page_in contents.now.bytes frame }
 {
-    fill(text, place_of(text, page_size, frame) + 24, out);
+    fill(contents, place_of(contents, page_size, frame) + 24, out);
 }
 
 /// Whether a frame holds these bytes, which are one page.
-pub fn holds_page(text: &Blocks, page_size: u32, frame: usize, page: &[u8]) -> bool
-    requires size { page_size ≡ page_size_in text.now.bytes }
-    requires there { frame_place text.now.bytes (frame + 1) ≤ length text.now.bytes }
-    requires short { length text.now.bytes < 2 ^ 62 }
+pub fn holds_page(contents: &Blocks, page_size: u32, frame: usize, page: &[u8]) -> bool
+    requires size { page_size ≡ page_size_in contents.now.bytes }
+    requires there { frame_place contents.now.bytes (frame + 1) ≤ length contents.now.bytes }
+    requires short { length contents.now.bytes < 2 ^ 62 }
     requires whole { length page.now ≡ page_size }
-    ensures { IsTrue result ↔ (page_in text.now.bytes frame ≡ page.now) }
+    ensures { IsTrue result ↔ (page_in contents.now.bytes frame ≡ page.now) }
 {
-    text.holds(place_of(text, page_size, frame) as u64 + 24, page)
+    contents.holds(place_of(contents, page_size, frame) as u64 + 24, page)
 }

@@ -46,38 +46,38 @@ impl Header {
 }
 
 /// Whether the words of the sums are little-endian.
-fn is_little(text: &[u8]) -> bool
-    requires { 32 ≤ length text.now }
-    ensures { result ≡ is_little text.now }
+fn is_little(contents: &[u8]) -> bool
+    requires { 32 ≤ length contents.now }
+    ensures { result ≡ is_little contents.now }
 {
-    be32_at(text, 0) == LITTLE_MAGIC
+    be32_at(contents, 0) == LITTLE_MAGIC
 }
 
 /// The sums of the first 24 bytes.
 #[tactic(auto, unfolding(crate::specs::Frames::header_sums))]
-pub fn header_sums(text: &[u8]) -> Sums
-    requires { 32 ≤ length text.now }
-    ensures { result ≡ header_sums text.now }
+pub fn header_sums(contents: &[u8]) -> Sums
+    requires { 32 ≤ length contents.now }
+    ensures { result ≡ header_sums contents.now }
 {
     let start = Sums {
         first: 0,
         second: 0,
     };
-    with_pairs(is_little(text), start, 0, text, 3)
+    with_pairs(is_little(contents), start, 0, contents, 3)
 }
 
-/// Whether the text begins with a valid header.
+/// Whether the contents begins with a valid header.
 #[tactic(auto, unfolding(crate::specs::Frames::is_header))]
-pub fn is_header(text: &[u8]) -> bool
-    ensures value { result ≡ is_header text.now }
-    ensures room { OnTrue result (32 ≤ length text.now) }
-    ensures page_size { OnTrue result (IsPageSize (page_size_in text.now)) }
+pub fn is_header(contents: &[u8]) -> bool
+    ensures value { result ≡ is_header contents.now }
+    ensures room { OnTrue result (32 ≤ length contents.now) }
+    ensures page_size { OnTrue result (IsPageSize (page_size_in contents.now)) }
 {
-    if text.len() < HEADER_LENGTH {
+    if contents.len() < HEADER_LENGTH {
         return false;
     }
-    (is_little(text) || be32_at(text, 0) == BIG_MAGIC)
-        && be32_at(text, 4) == VERSION
-        && is_page_size(be32_at(text, 8))
-        && stand_at(header_sums(text), 24, text)
+    (is_little(contents) || be32_at(contents, 0) == BIG_MAGIC)
+        && be32_at(contents, 4) == VERSION
+        && is_page_size(be32_at(contents, 8))
+        && stand_at(header_sums(contents), 24, contents)
 }

@@ -23,7 +23,7 @@ impl FrameIndex {
     /// No frame.
     pub fn new(alloc: Global) -> FrameIndex
         ensures none { indexed result ≡ 0 }
-        ensures index { (text : List ℕ) → IsIndex text result }
+        ensures index { (contents : List ℕ) → IsIndex contents result }
     {
         FrameIndex {
             latest: HashMap::new(alloc),
@@ -40,7 +40,7 @@ impl FrameIndex {
 
     /// The latest frame of a page.
     pub fn latest(&self, page: u32) -> Option<usize>
-        ensures { (text : List ℕ) → IsIndex text self.now → result ≡ latest_frame text page 0 (indexed self.now) }
+        ensures { (contents : List ℕ) → IsIndex contents self.now → result ≡ latest_frame contents page 0 (indexed self.now) }
     {
         self.latest.get(&page).copied()
     }
@@ -48,7 +48,7 @@ impl FrameIndex {
     /// The frame of the same page before a frame.
     pub fn earlier(&self, frame: usize) -> Option<usize>
         requires { frame < indexed self.now }
-        ensures { (text : List ℕ) → IsIndex text self.now → result ≡ latest_frame text (number_in text frame) 0 frame }
+        ensures { (contents : List ℕ) → IsIndex contents self.now → result ≡ latest_frame contents (number_in contents frame) 0 frame }
     {
         self.earlier[frame]
     }
@@ -56,13 +56,13 @@ impl FrameIndex {
     /// Drops all frames, and keeps the room.
     pub fn clear(&mut self)
         ensures none { indexed self.new ≡ 0 }
-        ensures index { (text : List ℕ) → IsIndex text self.new }
+        ensures index { (contents : List ℕ) → IsIndex contents self.new }
     {
         self.latest.clear();
         self.earlier.clear();
     }
 
-    /// Goes over to another text, whose first `shared` frames are of the same pages.
+    /// Goes over to other contents, whose first `shared` frames are of the same pages.
     pub fn go_over(&mut self, shared: usize)
         ensures among { indexed self.new ≤ shared }
         ensures index { (old new : List ℕ) → IsIndex old self.old → ((k : ℕ) → k < shared → number_in new k ≡ number_in old k) → IsIndex new self.new }
@@ -75,7 +75,7 @@ impl FrameIndex {
     /// Makes room for more frames.
     pub fn reserve(&mut self, more: usize) -> Result<(), NoMemory>
         ensures len { indexed self.new ≡ indexed self.old }
-        ensures index { (text : List ℕ) → IsIndex text self.old → IsIndex text self.new }
+        ensures index { (contents : List ℕ) → IsIndex contents self.old → IsIndex contents self.new }
     {
         self.latest.reserve(more)?;
         self.earlier.reserve(more)?;
@@ -85,7 +85,7 @@ impl FrameIndex {
     /// Adds the next frame, which holds `page`, if there is room for it. It takes no memory.
     fn push(&mut self, page: u32) -> bool
         ensures len { indexed self.new ≡ (if result then indexed self.old + 1 else indexed self.old) }
-        ensures index { (text : List ℕ) → IsIndex text self.old → page ≡ number_in text (indexed self.old) → IsIndex text self.new }
+        ensures index { (contents : List ℕ) → IsIndex contents self.old → page ≡ number_in contents (indexed self.old) → IsIndex contents self.new }
     {
         let frame = self.earlier.len();
         if frame == self.earlier.capacity() || self.latest.len() == self.latest.capacity() {
@@ -102,7 +102,7 @@ impl FrameIndex {
     fn pop(&mut self, page: u32)
         requires { 0 < indexed self.old }
         ensures len { indexed self.new + 1 ≡ indexed self.old }
-        ensures index { (text : List ℕ) → IsIndex text self.old → page ≡ number_in text (indexed self.new) → IsIndex text self.new }
+        ensures index { (contents : List ℕ) → IsIndex contents self.old → page ≡ number_in contents (indexed self.new) → IsIndex contents self.new }
     {
         let Some(earlier) = self.earlier.pop() else {
             return;
@@ -120,34 +120,34 @@ impl FrameIndex {
     }
 
     /// Adds the frames up to a count, all of them committed, as far as there is room. It takes no memory.
-    pub fn extend(&mut self, text: &Blocks, page_size: u32, count: usize)
-        requires count { count ≡ committed_count text.now.bytes }
-        requires size { 0 < count → page_size ≡ page_size_in text.now.bytes }
-        requires short { length text.now.bytes < 2 ^ 62 }
-        requires index { IsIndex text.now.bytes self.old }
+    pub fn extend(&mut self, contents: &Blocks, page_size: u32, count: usize)
+        requires count { count ≡ committed_count contents.now.bytes }
+        requires size { 0 < count → page_size ≡ page_size_in contents.now.bytes }
+        requires short { length contents.now.bytes < 2 ^ 62 }
+        requires index { IsIndex contents.now.bytes self.old }
         requires among { indexed self.old ≤ count }
-        ensures index { IsIndex text.now.bytes self.new }
+        ensures index { IsIndex contents.now.bytes self.new }
         ensures among { indexed self.new ≤ count }
     {
         for frame in self.len()..count {
-            if !self.push(number_in(text, page_size, frame)) {
+            if !self.push(number_in(contents, page_size, frame)) {
                 return;
             }
         }
     }
 
     /// Takes off the frames behind the first `count`. All frames are committed.
-    pub fn truncate(&mut self, text: &Blocks, page_size: u32, count: usize)
-        requires size { 0 < committed_count text.now.bytes → page_size ≡ page_size_in text.now.bytes }
-        requires short { length text.now.bytes < 2 ^ 62 }
-        requires index { IsIndex text.now.bytes self.old }
-        requires among { indexed self.old ≤ committed_count text.now.bytes }
-        ensures index { IsIndex text.now.bytes self.new }
+    pub fn truncate(&mut self, contents: &Blocks, page_size: u32, count: usize)
+        requires size { 0 < committed_count contents.now.bytes → page_size ≡ page_size_in contents.now.bytes }
+        requires short { length contents.now.bytes < 2 ^ 62 }
+        requires index { IsIndex contents.now.bytes self.old }
+        requires among { indexed self.old ≤ committed_count contents.now.bytes }
+        ensures index { IsIndex contents.now.bytes self.new }
         ensures among { indexed self.new ≡ min count (indexed self.old) }
     {
         while self.len() > count {
             let last = self.len() - 1;
-            self.pop(number_in(text, page_size, last));
+            self.pop(number_in(contents, page_size, last));
         }
     }
 }

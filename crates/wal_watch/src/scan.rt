@@ -38,7 +38,7 @@ impl Header {
     /// Whether a frame's head has a page number and the salts of the header.
     fn is_head(&self, head: &[u8]) -> bool
         requires { length head.now ≡ 24 }
-        ensures { (text : List ℕ) (place : ℕ) → StatesHeader text self.now → head.now ≡ take 24 (drop place text) → result ≡ is_head text place }
+        ensures { (contents : List ℕ) (place : ℕ) → StatesHeader contents self.now → head.now ≡ take 24 (drop place contents) → result ≡ is_head contents place }
     {
         if be32_at(head, 0) == 0 {
             return false;
@@ -81,7 +81,7 @@ impl Marks {
 
     /// The byte after the committed frames, 0 where there are none.
     fn committed_end(self) -> usize
-        ensures { (text : List ℕ) → AreFinal text self → result ≡ committed_end text }
+        ensures { (contents : List ℕ) → AreFinal contents self → result ≡ committed_end contents }
     {
         if self.committed.frames == 0 {
             0
@@ -146,7 +146,7 @@ impl Marks {
     fn pass(self, frame: NextFrame) -> Marks
         requires short { self.last.place + (24 + self.header.page_size) < 2 ^ 62 }
         requires few { self.last.frames < 2 ^ 62 }
-        ensures marks { (text : List ℕ) → AreMarks text self → IsNextFrame text self frame → AreMarks text result }
+        ensures marks { (contents : List ℕ) → AreMarks contents self → IsNextFrame contents self frame → AreMarks contents result }
         ensures progress { self.last.place < result.last.place }
     {
         let last = Mark {
@@ -209,7 +209,7 @@ pub fn valid_in(marks: Option<Marks>) -> usize
 
 /// How many frames are committed.
 pub fn committed_in(marks: Option<Marks>) -> usize
-    ensures count { (text : List ℕ) → IsMarked text marks → result ≡ committed_count text }
+    ensures count { (contents : List ℕ) → IsMarked contents marks → result ≡ committed_count contents }
     ensures none { IfNone marks (result ≡ 0) }
     ensures some { IfSome marks (λ marks. result ≡ marks.committed.frames) }
 {
@@ -221,7 +221,7 @@ pub fn committed_in(marks: Option<Marks>) -> usize
 
 /// The byte after the committed frames, 0 where there are none.
 pub fn end_in(marks: Option<Marks>) -> usize
-    ensures { (text : List ℕ) → IsMarked text marks → result ≡ committed_end text }
+    ensures { (contents : List ℕ) → IsMarked contents marks → result ≡ committed_end contents }
 {
     match marks {
         None => 0,
@@ -231,7 +231,7 @@ pub fn end_in(marks: Option<Marks>) -> usize
 
 /// The page size that the header states, 0 without a valid one.
 pub fn page_size_of(marks: Option<Marks>) -> u32
-    ensures { (text : List ℕ) → IsMarked text marks → 0 < committed_count text → result ≡ page_size_in text }
+    ensures { (contents : List ℕ) → IsMarked contents marks → 0 < committed_count contents → result ≡ page_size_in contents }
 {
     match marks {
         None => 0,

@@ -16,14 +16,14 @@ pub struct Sums {
 
 /// The word of the four bytes from `place` on, in either byte order.
 #[tactic(auto, unfolding(crate::specs::Sums::word_at))]
-fn word_at(little: bool, text: &[u8], place: usize) -> u32
-    requires { place + 4 ≤ length text.now }
-    ensures { result ≡ word_at little place text.now }
+fn word_at(little: bool, contents: &[u8], place: usize) -> u32
+    requires { place + 4 ≤ length contents.now }
+    ensures { result ≡ word_at little place contents.now }
 {
     if little {
-        le32_at(text, place)
+        le32_at(contents, place)
     } else {
-        be32_at(text, place)
+        be32_at(contents, place)
     }
 }
 
@@ -42,17 +42,17 @@ fn with_pair(sums: Sums, a: u32, b: u32) -> Sums
 
 /// The sums with `count` more pairs of words, which stand from `place` on.
 #[tactic(auto, using(crate::proofs::Steps::with_pairs_none, crate::proofs::Steps::with_pairs_more))]
-pub fn with_pairs(little: bool, sums: Sums, place: usize, text: &[u8], count: usize) -> Sums
-    requires { place + 8 * count ≤ length text.now }
-    ensures { result ≡ with_pairs little sums place text.now count }
+pub fn with_pairs(little: bool, sums: Sums, place: usize, contents: &[u8], count: usize) -> Sums
+    requires { place + 8 * count ≤ length contents.now }
+    ensures { result ≡ with_pairs little sums place contents.now count }
 {
     let mut sums = sums;
     for k in 0..count {
         let at = place + 8 * k;
         sums = with_pair(
             sums,
-            word_at(little, text, at),
-            word_at(little, text, at + 4),
+            word_at(little, contents, at),
+            word_at(little, contents, at + 4),
         );
     }
     sums
@@ -60,11 +60,11 @@ pub fn with_pairs(little: bool, sums: Sums, place: usize, text: &[u8], count: us
 
 /// Whether the eight bytes from `place` on are these sums.
 #[tactic(auto, unfolding(crate::specs::Sums::stand_at))]
-pub fn stand_at(sums: Sums, place: usize, text: &[u8]) -> bool
-    requires { place + 8 ≤ length text.now }
-    ensures { result ≡ stand_at sums place text.now }
+pub fn stand_at(sums: Sums, place: usize, contents: &[u8]) -> bool
+    requires { place + 8 ≤ length contents.now }
+    ensures { result ≡ stand_at sums place contents.now }
 {
-    sums.first == be32_at(text, place) && sums.second == be32_at(text, place + 4)
+    sums.first == be32_at(contents, place) && sums.second == be32_at(contents, place + 4)
 }
 
 /// The sums with `count` more pairs of words of a file, read by way of a buffer.

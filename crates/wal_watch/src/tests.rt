@@ -10,19 +10,19 @@ use std::process::Abort;
 use std::test::Fail;
 
 /// The bytes that runs tell.
-fn text_of(alloc: Global, length: usize, runs: Runs) -> Result<Vec<u8>, AllocError> {
-    let mut text = Vec::new(alloc);
+fn contents_of(alloc: Global, length: usize, runs: Runs) -> Result<Vec<u8>, AllocError> {
+    let mut contents = Vec::new(alloc);
     for (place, bytes) in runs {
-        text.resize(*place, 0)?;
-        text.extend_from_slice(bytes)?;
+        contents.resize(*place, 0)?;
+        contents.extend_from_slice(bytes)?;
     }
-    text.resize(length, 0)?;
-    Ok(text)
+    contents.resize(length, 0)?;
+    Ok(contents)
 }
 
 /// A file without bytes.
 fn empty(alloc: Global) -> WalFile
-    ensures { IsSome result.text }
+    ensures { IsSome result.contents }
 {
     let mut wal = WalFile::new(alloc);
     wal.create();
@@ -43,22 +43,22 @@ fn puts_latest(wal: &WalFile, number: u32, out: &mut [u8]) -> bool {
 }
 
 fn reads_back(rt: &impl Abort, alloc: Global, log: &Log) -> Result<(), Fail> {
-    let text = text_of(alloc, log.length, log.runs)?;
+    let contents = contents_of(alloc, log.length, log.runs)?;
     let mut wal = empty(alloc);
     assert_eq!(rt;
-        told(&wal.write(log.page_size, 0, text.as_slice())?),
+        told(&wal.write(log.page_size, 0, contents.as_slice())?),
         (2, 2)
     );
     assert_eq!(rt; wal.committed_end(), log.length as u64);
     for (number, other, runs) in [(1, 2, log.pages[0]), (2, 1, log.pages[1])] {
-        let page = text_of(alloc, log.page_size as usize, runs)?;
-        let mut out = text_of(alloc, log.page_size as usize, &[])?;
+        let page = contents_of(alloc, log.page_size as usize, runs)?;
+        let mut out = contents_of(alloc, log.page_size as usize, &[])?;
         assert!(rt; puts_latest(&wal, number, out.as_mut_slice()));
         assert!(rt; out.as_slice() == page.as_slice());
         assert!(rt; wal.has_frame(number, page.as_slice()));
         assert!(rt; !wal.has_frame(other, page.as_slice()));
     }
-    let mut out = text_of(alloc, log.page_size as usize, &[])?;
+    let mut out = contents_of(alloc, log.page_size as usize, &[])?;
     assert!(rt; !puts_latest(&wal, 3, out.as_mut_slice()));
     assert_eq!(rt; (wal.committed_frames() > 0, wal.last_size()), (true, 2));
     assert!(rt; wal.has_size(2) && !wal.has_size(9));
@@ -80,9 +80,9 @@ fn logs_of_sqlite_read_back(rt: HostRuntime) -> Result<(), Fail> {
 #[test]
 fn every_prefix_commits_its_whole_transactions(rt: HostRuntime) -> Result<(), Fail> {
     let alloc = rt.alloc();
-    let text = text_of(alloc, LOGS[0].length, LOGS[0].runs)?;
-    for length in 0..=text.len() {
-        let (prefix, _) = text.as_slice().split_at(length);
+    let contents = contents_of(alloc, LOGS[0].length, LOGS[0].runs)?;
+    for length in 0..=contents.len() {
+        let (prefix, _) = contents.as_slice().split_at(length);
         let mut wal = empty(alloc);
         let refused = wal.write(512, 0, prefix).err();
         let cut = if 0 < length && length < 32 {

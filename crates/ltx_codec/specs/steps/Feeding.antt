@@ -14,19 +14,19 @@ use Rattle.ltx_codec.specs.declared.fault.LtxFault.TheVariants as fault
 use Rattle.ltx_codec.specs.declared.decoder.Decoder.{Decoder}
 use Rattle.lf_base.specs.Endian.{be64_at}
 
--- the decoder has read this text, and these pages of it
-pub record HasPagesOf (decoder : Decoder) (limit : ℕ) (text : List ℕ) (change : PageChange) : Type 0 where
-  pub octets : AreBytes text
+-- the decoder has read this encoding, and these pages of it
+pub record HasPagesOf (decoder : Decoder) (limit : ℕ) (encoding : List ℕ) (change : PageChange) : Type 0 where
+  pub octets : AreBytes encoding
   pub sound : decoder.fault ≡ None
   pub limit_is : decoder.limit ≡ limit
-  pub within : IsWithin limit text
-  pub block : IsInBlock decoder text change
+  pub within : IsWithin limit encoding
+  pub block : IsInBlock decoder encoding change
 
 -- this number is held behind the pages, and meets the rules
-pub record HasNumber (decoder : Decoder) (limit : ℕ) (text : List ℕ) (change : PageChange) (number : ℕ) : Type 0 where
-  pub feeding : HasPagesOf decoder limit text change
-  pub sound : IsNextNumber text (length change.pages)
-  pub number_is : number ≡ number_at text (length change.pages)
+pub record HasNumber (decoder : Decoder) (limit : ℕ) (encoding : List ℕ) (change : PageChange) (number : ℕ) : Type 0 where
+  pub feeding : HasPagesOf decoder limit encoding change
+  pub sound : IsNextNumber encoding (length change.pages)
+  pub number_is : number ≡ number_at encoding (length change.pages)
 
 -- the sums that are there of the trailer are right, by the sums of the pages and the register before it
 pub record HasRightSums (header : Header) (sums register : ℕ) (held : List ℕ) : Type 0 where

@@ -10,22 +10,22 @@ use Rattle.ltx_codec.specs.declared.seen.Seen.{Seen}
 use Rattle.ltx_codec.specs.declared.seen.Seen.TheVariants as seen
 use Rattle.ltx_codec.specs.declared.fault.LtxFault.{LtxFault}
 
--- this is the text of a file, of which the decoder shows the header and the sum, and the change holds the pages
-pub record HasWhole (decoder : Decoder) (change : PageChange) (text : List ℕ) : Type 0 where
-  pub is : IsLtx text (record { header = header_shown decoder; change = change; post = post_shown decoder })
+-- this is the encoding of a file, of which the decoder shows the header and the sum, and the change holds the pages
+pub record HasWhole (decoder : Decoder) (change : PageChange) (encoding : List ℕ) : Type 0 where
+  pub is : IsLtx encoding (record { header = header_shown decoder; change = change; post = post_shown decoder })
   pub fed : HasFed decoder largest_page []
 
 -- some bytes of a piece, and no more than it has
 abbrev pub IsSomeOf : ℕ → List ℕ → Type 0
 IsSomeOf used piece = (1 ≤ used) × (used ≤ length piece)
 
--- what reading a piece behind a text gives, up to the end of a part
+-- what reading a piece behind an encoding gives, up to the end of a part
 abbrev pub ReadsPart : Decoder → PageChange → List ℕ → List ℕ → Result Seen LtxFault → Type 0
-ReadsPart decoder change text piece (Ok seen.More) = HasTaken decoder change (text ++ piece)
-ReadsPart decoder change text piece (Ok (seen.Header used)) = HasTaken decoder change (text ++ take used piece)
-ReadsPart decoder change text piece (Ok (seen.Page used number)) = HasTaken decoder change (text ++ take used piece)
-ReadsPart decoder change text piece (Ok (seen.Whole used)) = HasWhole decoder change (text ++ take used piece)
-ReadsPart decoder change text piece (Err f) = IsRefusedAt (text ++ piece) f
+ReadsPart decoder change encoding piece (Ok seen.More) = HasTaken decoder change (encoding ++ piece)
+ReadsPart decoder change encoding piece (Ok (seen.Header used)) = HasTaken decoder change (encoding ++ take used piece)
+ReadsPart decoder change encoding piece (Ok (seen.Page used number)) = HasTaken decoder change (encoding ++ take used piece)
+ReadsPart decoder change encoding piece (Ok (seen.Whole used)) = HasWhole decoder change (encoding ++ take used piece)
+ReadsPart decoder change encoding piece (Err f) = IsRefusedAt (encoding ++ piece) f
 
 -- how much of a piece was taken
 abbrev pub CountsSome : List ℕ → Seen → Type 0

@@ -88,7 +88,7 @@ fn page_of(alloc: Global, byte: u8) -> Result<Vec<u8>, AllocError> {
 
 /// A file with the header and the two frames of one transaction.
 fn committed(alloc: Global) -> Result<WalFile, Fail>
-    ensures { IfOk result (λ wal. IsSome wal.text) }
+    ensures { IfOk result (λ wal. IsSome wal.contents) }
 {
     let threes = page_of(alloc, 3)?;
     let fours = page_of(alloc, 4)?;

@@ -6,5 +6,5 @@ pub returns-clause-agrees : goal.returns-clause-agrees
 returns-clause-agrees c = clean-agrees
 
 pub returns-clause-exact : goal.returns-clause-exact
-returns-clause-exact c file image text none fits differs =
-    (clean-agrees file image text none, λ agrees. clean-of_same file image fits differs (agrees-same file image text none agrees))
+returns-clause-exact c file image contents none fits differs =
+    (clean-agrees file image contents none, λ agrees. clean-of_same file image fits differs (agrees-same file image contents none agrees))

@@ -2,7 +2,7 @@
 use Rattle.std.proofs.Common.{◌≡◌, ◌<◌, ℕ, List, [], rules, refl, sym, ap, ◌∙◌, subst, arith}
 use Rattle.lf_sqlite_pages.specs.PageSize.{IsPageSize}
 use Rattle.lf_sqlite_pages.specs.Change.{PageChange}
-use Rattle.wal_watch.specs.File.{text_of}
+use Rattle.wal_watch.specs.File.{contents_of}
 use Rattle.wal_watch.specs.Frames.{page_size_in}
 use Rattle.wal_watch.proofs.LawLemmas.{last_some}
 use Rattle.database_file.specs.WalCommit.{change_over}
@@ -13,15 +13,15 @@ use Rattle.database_under_log.proofs.writing.hold_commit.Goals as goal
 
 pub hold_pages-requires-clause-complete : goal.hold_pages-requires-clause-complete
 hold_pages-requires-clause-complete g c =
-    rw (← c.commit-before.ensures.value) (change-complete c.args.file.now (log_news (text_of c.args.log.now) c.requires.news.0 c.commit-before.result) c.in_ok-change.change c.commit-before.result
+    rw (← c.commit-before.ensures.value) (change-complete c.args.file.now (log_news (contents_of c.args.log.now) c.requires.news.0 c.commit-before.result) c.in_ok-change.change c.commit-before.result
     (c.in_ok-change.ensures c.requires.news.0 c.requires.news.1))
 
 pub returns-in-Ok-clause-ready : goal.returns-in-Ok-clause-ready
 returns-in-Ok-clause-ready g c =
-    let is : c.in_ok-change.change ≡ change_over c.args.file.now (log_news (text_of c.args.log.now) c.requires.news.0 c.commit-before.result) c.commit-before.result =
+    let is : c.in_ok-change.change ≡ change_over c.args.file.now (log_news (contents_of c.args.log.now) c.requires.news.0 c.commit-before.result) c.commit-before.result =
     c.in_ok-change.ensures c.requires.news.0 c.requires.news.1 in
-    let some : 0 < c.commit-commit.result = omega (arith, c.commit-commit.ensures, ap (λ (x : PageChange). x.commit) is, last_some (text_of c.args.log.now) c.requires.some) in
-    let size : c.in_ok-change.change.page_size ≡ page_size_in (text_of c.args.log.now) = ap (λ (x : PageChange). x.page_size) is in
+    let some : 0 < c.commit-commit.result = omega (arith, c.commit-commit.ensures, ap (λ (x : PageChange). x.commit) is, last_some (contents_of c.args.log.now) c.requires.some) in
+    let size : c.in_ok-change.change.page_size ≡ page_size_in (contents_of c.args.log.now) = ap (λ (x : PageChange). x.page_size) is in
     record {
       at_is = refl;
       bytes_are = search rules;
@@ -35,9 +35,9 @@ returns-in-Ok-clause-ready g c =
 
 pub returns-in-Ok-clause-told : goal.returns-in-Ok-clause-told
 returns-in-Ok-clause-told g c =
-    let is : c.in_ok-change.change ≡ change_over c.args.file.now (log_news (text_of c.args.log.now) c.requires.news.0 c.commit-before.result) c.commit-before.result =
+    let is : c.in_ok-change.change ≡ change_over c.args.file.now (log_news (contents_of c.args.log.now) c.requires.news.0 c.commit-before.result) c.commit-before.result =
     c.in_ok-change.ensures c.requires.news.0 c.requires.news.1 in
-    let some : 0 < c.in_ok-change.change.commit = omega (arith, ap (λ (x : PageChange). x.commit) is, last_some (text_of c.args.log.now) c.requires.some) in
+    let some : 0 < c.in_ok-change.change.commit = omega (arith, ap (λ (x : PageChange). x.commit) is, last_some (contents_of c.args.log.now) c.requires.some) in
     told-ready (g.S.PageStore.image c.args.base.now) c.args.file.now c.hold_pages.new.file (record { at = c.args.at; bytes = c.of-bytes.result; added = c.hold_pages.new.held.added.items; same = c.hold_pages.new.held.same.items; before = c.commit-before.result; commit = c.commit-commit.result }) c.in_ok-change.change (g.S.PageStore.page_size c.args.base.now) (g.S.PageStore.commit c.args.base.now)
     (rw (← c.commit-before.ensures.value) c.commit-before.ensures.told) c.commit-before.ensures.value c.commit-commit.ensures some c.in-Ok.ensures.shape.0 c.in-Ok.ensures.shape.1 c.in-Ok.ensures.fits
     c.in-Ok.ensures.told

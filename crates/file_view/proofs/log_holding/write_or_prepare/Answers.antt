@@ -4,7 +4,7 @@ use Rattle.lf_base.specs.FileBytes.{written}
 use Rattle.lf_sqlite_pages.specs.Change.{PageChange}
 use Rattle.lf_sqlite_pages.specs.Image.{DatabaseImage}
 use Rattle.lf_sqlite_pages.specs.PageSize.{IsPageSize}
-use Rattle.wal_watch.specs.File.{text_of}
+use Rattle.wal_watch.specs.File.{contents_of}
 use Rattle.wal_watch.specs.Frames.{committed_count}
 use Rattle.file_view.specs.HeldParts.{IsSettled}
 use Rattle.file_view.proofs.PrepareLemmas.{step-sized, stored, settled}
@@ -14,8 +14,8 @@ pub settle_commit-requires-clause-sized : goal.settle_commit-requires-clause-siz
 settle_commit-requires-clause-sized g c = λ many.
     let ready = (rw c.in-Waiting.is at c.in_ok-prepare_log_write.ensures.ok).0 in
     let base = c.in_ok-prepare_log_write.ensures.base in
-    let some : 0 < committed_count (written c.args.at c.args.bytes.now (text_of c.args.log.now)) = omega (arith, ready.more) in
-    let size = step-sized (text_of c.args.log.now) c.args.bytes.now (g.S.PageStore.page_size c.args.base.now) (g.S.PageStore.commit c.args.base.now) c.args.at c.requires.sound
+    let some : 0 < committed_count (written c.args.at c.args.bytes.now (contents_of c.args.log.now)) = omega (arith, ready.more) in
+    let size = step-sized (contents_of c.args.log.now) c.args.bytes.now (g.S.PageStore.page_size c.args.base.now) (g.S.PageStore.commit c.args.base.now) c.args.at c.requires.sound
     (subst (λ (n : ℕ). 0 < n → IsPageSize (g.S.PageStore.page_size c.args.base.now)) c.commit-commit.ensures.value c.commit-commit.ensures.sized) some (omega (arith, many, base.commit)) in
     base.page_size ∙ sym size ∙ sym (ap (λ (x : PageChange). x.page_size) ready.change)
 

@@ -1,20 +1,20 @@
 use Rattle.std.proofs.Common.{◌≡◌, ◌++◌, List, ℕ, ap, ◌∙◌}
 use Rattle.std.specs.Int.{w64, to_be_bytes}
 use Rattle.page_checksum.specs.Crc.{after_bytes}
-use Rattle.ltx_codec.specs.Format.{end_text, sealed}
+use Rattle.ltx_codec.specs.Format.{end_encoding, sealed}
 use Rattle.litefs_tool.proofs.GatherLemmas.{HasAdded-start, HasAdded-more, HasAdded-last, HasAdded-fails, Appends-held, AppendsPrefix-all, map_on_ok}
 use Rattle.litefs_tool.proofs.OutputLemmas.{on_err, map_on_err}
 use Rattle.litefs_tool.proofs.file_output.write_end.Goals as goal
 
 pub returns-in_err-add_bytes-clause-prefix : goal.returns-in_err-add_bytes-clause-prefix
 returns-in_err-add_bytes-clause-prefix g c =
-    let end : List ℕ = end_text c.args.post in
+    let end : List ℕ = end_encoding c.args.post in
     let sum : List ℕ = to_be_bytes w64 (sealed (after_bytes c.args.register end)) in
     on_err _ _ (HasAdded-fails _ _ _ _ _ _ (HasAdded-start (g.S.Sink.taken c.args.sink.now) c.args.buffer.now.items (end ++ sum)) c.in_err-add_bytes.ensures.prefix)
 
 pub returns-in_err-add_bytes-2-clause-prefix : goal.returns-in_err-add_bytes-2-clause-prefix
 returns-in_err-add_bytes-2-clause-prefix g c =
-    let end : List ℕ = end_text c.args.post in
+    let end : List ℕ = end_encoding c.args.post in
     let sum : List ℕ = to_be_bytes w64 (sealed (after_bytes c.args.register end)) in
     let start = HasAdded-start (g.S.Sink.taken c.args.sink.now) c.args.buffer.now.items (end ++ sum) in
     let ended = HasAdded-more _ _ _ _ end sum _ _ start (rw c.end_bytes-end.ensures at c.in_ok-add_bytes.ensures.whole) in
@@ -22,7 +22,7 @@ returns-in_err-add_bytes-2-clause-prefix g c =
 
 pub returns-clause-whole : goal.returns-clause-whole
 returns-clause-whole g c =
-    let end : List ℕ = end_text c.args.post in
+    let end : List ℕ = end_encoding c.args.post in
     let sum : List ℕ = to_be_bytes w64 (sealed (after_bytes c.args.register end)) in
     let start = HasAdded-start (g.S.Sink.taken c.args.sink.now) c.args.buffer.now.items (end ++ sum) in
     let ended = HasAdded-more _ _ _ _ end sum _ _ start (rw c.end_bytes-end.ensures at c.in_ok-add_bytes.ensures.whole) in
@@ -35,7 +35,7 @@ returns-clause-whole g c =
 
 pub returns-clause-prefix : goal.returns-clause-prefix
 returns-clause-prefix g c =
-    let end : List ℕ = end_text c.args.post in
+    let end : List ℕ = end_encoding c.args.post in
     let sum : List ℕ = to_be_bytes w64 (sealed (after_bytes c.args.register end)) in
     let start = HasAdded-start (g.S.Sink.taken c.args.sink.now) c.args.buffer.now.items (end ++ sum) in
     let ended = HasAdded-more _ _ _ _ end sum _ _ start (rw c.end_bytes-end.ensures at c.in_ok-add_bytes.ensures.whole) in

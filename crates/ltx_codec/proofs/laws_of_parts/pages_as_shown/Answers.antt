@@ -6,10 +6,10 @@ pub returns-clause-first : goal.returns-clause-first
 returns-clause-first c = whole_none
 
 pub returns-clause-more : goal.returns-clause-more
-returns-clause-more c = λ text piece change. whole_more change text piece
+returns-clause-more c = λ encoding piece change. whole_more change encoding piece
 
 pub returns-clause-next : goal.returns-clause-next
-returns-clause-next c = λ decoder limit used number text piece change. whole_page decoder limit change text piece used number
+returns-clause-next c = λ decoder limit used number encoding piece change. whole_page decoder limit change encoding piece used number
 
 pub returns-clause-whole : goal.returns-clause-whole
-returns-clause-whole c = λ used text piece change file. whole_file change text piece used file
+returns-clause-whole c = λ used encoding piece change file. whole_file change encoding piece used file

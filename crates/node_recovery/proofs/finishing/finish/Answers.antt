@@ -11,7 +11,7 @@ use Rattle.node_recovery.specs.Finishing.{IsFinished}
 use Rattle.node_recovery.specs.Listing.{AreListed}
 use Rattle.lf_disk.specs.declared.name.FileName.{FileName}
 use Rattle.txn_log.specs.Kept.{file_of, change_of}
-use Rattle.node_recovery.specs.Outline.{text_under}
+use Rattle.node_recovery.specs.Outline.{encoding_under}
 use Rattle.node_recovery.specs.Rewriting.{HoldsFile}
 use Rattle.node_recovery.specs.Summing.{restored_image}
 use Rattle.node_recovery.proofs.Finishings.{snapshot_held, last_held, unsettled_store, installed_store, unsettled_left, is_by_mark, worn_store, rest_written, worn_nothing, on_ok}
@@ -65,7 +65,7 @@ returns-in-Last-clause-moments g c honest store durable =
     let finds = c.requires.finds honest in
     let by : FindsLog (now h) outline found.names.items found.entries.items found.tally = subst (λ (d : Decider). FindsBy (now h) d found.names.items found.entries.items found.tally) c.in-Last.is finds.by in
     weakened h (g.D.Disk.history c.rewrite_from.new.disk) _ (λ f. Durable f store)
-    (c.rewrite_from.ensures.moments honest _ (subst (λ (n : FileName). HoldsFile n outline.header (file_of (text_under outline (now h))) (now h)) (sym c.name.ensures) (last_held found.names.items (now h) outline found.entries.items found.tally finds.names by)))
+    (c.rewrite_from.ensures.moments honest _ (subst (λ (n : FileName). HoldsFile n outline.header (file_of (encoding_under outline (now h))) (now h)) (sym c.name.ensures) (last_held found.names.items (now h) outline found.entries.items found.tally finds.names by)))
     (worn_store found.names.items (now h) outline found.entries.items found.tally finds.names by store durable)
 
 pub returns-in-Last-clause-done : goal.returns-in-Last-clause-done
@@ -79,7 +79,7 @@ returns-in-Last-clause-done g c honest =
     on_ok c.rewrite_from.result
     (λ done. subst (λ (d : Decider). IsFinished (now h) d found.names.items new) (sym c.in-Last.is)
     (rest_written found.names.items (now h) outline found.entries.items found.tally finds.names by new
-    (done _ (subst (λ (n : FileName). HoldsFile n outline.header (file_of (text_under outline (now h))) (now h)) (sym c.name.ensures) (last_held found.names.items (now h) outline found.entries.items found.tally finds.names by)))))
+    (done _ (subst (λ (n : FileName). HoldsFile n outline.header (file_of (encoding_under outline (now h))) (now h)) (sym c.name.ensures) (last_held found.names.items (now h) outline found.entries.items found.tally finds.names by)))))
     (c.rewrite_from.ensures.done honest)
 
 pub returns-in-Nothing-clause-moments : goal.returns-in-Nothing-clause-moments

@@ -13,7 +13,7 @@ parts-init g c = record {
   faults = c.in-Ok.ensures.cause;
   rests = c.open.ensures.rests;
   reads = record {
-    text = [];
+    encoding = [];
     change = empty_change 512 0;
     come = c.in-Ok.ensures.begins (empty_change 512 0);
     none = λ _. refl;
@@ -30,9 +30,9 @@ note-requires g c =
     let same = c.refill.ensures.same in
     let on : Reads (g.D.Disk.honest c.args.disk.now) c.args.pages (bytes_of (now h c.args.name)) c.refill.new.self c.parts.tally =
     reads_on _ _ _ c.parts.reader c.refill.new.self c.parts.tally same.0 same.1 same.2
-    (λ is text. subst (λ (f : Folder). IsIn c.parts.reader text (bytes_of (f c.args.name)) → IsIn c.refill.new.self text (bytes_of (f c.args.name))) (same_now h mid inv.rests) (c.in-Ok-true.ensures.here (inv.honest ∙ is) text))
+    (λ is encoding. subst (λ (f : Folder). IsIn c.parts.reader encoding (bytes_of (f c.args.name)) → IsIn c.refill.new.self encoding (bytes_of (f c.args.name))) (same_now h mid inv.rests) (c.in-Ok-true.ensures.here (inv.honest ∙ is) encoding))
     inv.reads in
-    fits_in c.step-came.result c.step-came.new.self on.text _ on.change c.parts.tally (c.step-came.ensures.comes on.text on.change on.come).sound (on.known c.if-not-pages.false)
+    fits_in c.step-came.result c.step-came.new.self on.encoding _ on.change c.parts.tally (c.step-came.ensures.comes on.encoding on.change on.come).sound (on.known c.if-not-pages.false)
 
 pub returns-in-Ok-finish-clause-reads : goal.returns-in-Ok-finish-clause-reads
 returns-in-Ok-finish-clause-reads g c honest =
@@ -42,7 +42,7 @@ returns-in-Ok-finish-clause-reads g c honest =
     let same = c.refill.ensures.same in
     let on : Reads (g.D.Disk.honest c.args.disk.now) c.args.pages (bytes_of (now h c.args.name)) c.refill.new.self c.parts.tally =
     reads_on _ _ _ c.parts.reader c.refill.new.self c.parts.tally same.0 same.1 same.2
-    (λ is text. subst (λ (f : Folder). IsIn c.parts.reader text (bytes_of (f c.args.name)) → IsIn c.refill.new.self text (bytes_of (f c.args.name))) (same_now h mid inv.rests) (c.in-Ok-false.ensures.here (inv.honest ∙ is) text))
+    (λ is encoding. subst (λ (f : Folder). IsIn c.parts.reader encoding (bytes_of (f c.args.name)) → IsIn c.refill.new.self encoding (bytes_of (f c.args.name))) (same_now h mid inv.rests) (c.in-Ok-false.ensures.here (inv.honest ∙ is) encoding))
     inv.reads in
     let filled : IsFilled c.refill.new.self false = subst (λ (b : Bool). IsFilled c.refill.new.self b) c.in-Ok-false.field-0-test c.in-Ok-false.ensures.filled in
-    read_whole _ _ _ c.refill.new.self c.parts.tally on filled c.in-Ok-finish.outline (c.in-Ok-finish.ensures on.text on.change on.come) honest
+    read_whole _ _ _ c.refill.new.self c.parts.tally on filled c.in-Ok-finish.outline (c.in-Ok-finish.ensures on.encoding on.change on.come) honest

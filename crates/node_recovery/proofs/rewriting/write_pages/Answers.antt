@@ -29,10 +29,10 @@ overflow_sub-number g c =
     let inv = c.parts.invariant in
     let same = c.refill.ensures.same in
     let on : Passed (g.D.Disk.honest c.args.disk.now) c.args.name c.args.header.now h new c.refill.new.self =
-    passes_on (g.D.Disk.honest c.args.disk.now) c.args.name c.args.header.now h c.requires mid new c.parts.reader c.refill.new.self c.refill.ensures.rests same.0 same.1 same.2 (λ is text. c.in_ok-refill.ensures.here (inv.honest ∙ is) text) inv.passed in
+    passes_on (g.D.Disk.honest c.args.disk.now) c.args.name c.args.header.now h c.requires mid new c.parts.reader c.refill.new.self c.refill.ensures.rests same.0 same.1 same.2 (λ is encoding. c.in_ok-refill.ensures.here (inv.honest ∙ is) encoding) inv.passed in
     let number = c.in-Page.number in
-    let comes : (text : List ℕ) (change : PageChange) → HasCome c.refill.new.self text change → Comes c.refill.new.self c.step.new.self text change (part.Page number) =
-    λ text change come. subst (λ (p : Part). Comes c.refill.new.self c.step.new.self text change p) c.in-Page.is (c.step.ensures.comes text change come) in
+    let comes : (encoding : List ℕ) (change : PageChange) → HasCome c.refill.new.self encoding change → Comes c.refill.new.self c.step.new.self encoding change (part.Page number) =
+    λ encoding change come. subst (λ (p : Part). Comes c.refill.new.self c.step.new.self encoding change p) c.in-Page.is (c.step.ensures.comes encoding change come) in
     first_is (g.D.Disk.honest c.args.disk.now) c.args.name c.args.header.now h c.requires new c.refill.new.self c.step.new.self number c.step.ensures.same.0 c.step.ensures.same.1 comes on
 
 pub parts-preserved-in_ok-write : goal.parts-preserved-in_ok-write
@@ -43,10 +43,10 @@ parts-preserved-in_ok-write g c =
     let inv = c.parts.invariant in
     let same = c.refill.ensures.same in
     let on : Passed (g.D.Disk.honest c.args.disk.now) c.args.name c.args.header.now h new c.refill.new.self =
-    passes_on (g.D.Disk.honest c.args.disk.now) c.args.name c.args.header.now h c.requires mid new c.parts.reader c.refill.new.self c.refill.ensures.rests same.0 same.1 same.2 (λ is text. c.in_ok-refill.ensures.here (inv.honest ∙ is) text) inv.passed in
+    passes_on (g.D.Disk.honest c.args.disk.now) c.args.name c.args.header.now h c.requires mid new c.parts.reader c.refill.new.self c.refill.ensures.rests same.0 same.1 same.2 (λ is encoding. c.in_ok-refill.ensures.here (inv.honest ∙ is) encoding) inv.passed in
     let number = c.in-Page.number in
-    let comes : (text : List ℕ) (change : PageChange) → HasCome c.refill.new.self text change → Comes c.refill.new.self c.step.new.self text change (part.Page number) =
-    λ text change come. subst (λ (p : Part). Comes c.refill.new.self c.step.new.self text change p) c.in-Page.is (c.step.ensures.comes text change come) in
+    let comes : (encoding : List ℕ) (change : PageChange) → HasCome c.refill.new.self encoding change → Comes c.refill.new.self c.step.new.self encoding change (part.Page number) =
+    λ encoding change come. subst (λ (p : Part). Comes c.refill.new.self c.step.new.self encoding change p) c.in-Page.is (c.step.ensures.comes encoding change come) in
     let place : c.from.result * c.from-in-Page.result ≡ (number - 1) * c.args.header.now.page_size = rw (c.from.ensures, c.from-in-Page.ensures) refl in
     record {
       honest = c.write.ensures.honest ∙ c.refill.ensures.honest ∙ inv.honest;
@@ -64,10 +64,10 @@ returns-in_err-write-clause-moments g c honest file holds =
     let inv = c.parts.invariant in
     let same = c.refill.ensures.same in
     let on : Passed (g.D.Disk.honest c.args.disk.now) c.args.name c.args.header.now h new c.refill.new.self =
-    passes_on (g.D.Disk.honest c.args.disk.now) c.args.name c.args.header.now h c.requires mid new c.parts.reader c.refill.new.self c.refill.ensures.rests same.0 same.1 same.2 (λ is text. c.in_ok-refill.ensures.here (inv.honest ∙ is) text) inv.passed in
+    passes_on (g.D.Disk.honest c.args.disk.now) c.args.name c.args.header.now h c.requires mid new c.parts.reader c.refill.new.self c.refill.ensures.rests same.0 same.1 same.2 (λ is encoding. c.in_ok-refill.ensures.here (inv.honest ∙ is) encoding) inv.passed in
     let number = c.in-Page.number in
-    let comes : (text : List ℕ) (change : PageChange) → HasCome c.refill.new.self text change → Comes c.refill.new.self c.step.new.self text change (part.Page number) =
-    λ text change come. subst (λ (p : Part). Comes c.refill.new.self c.step.new.self text change p) c.in-Page.is (c.step.ensures.comes text change come) in
+    let comes : (encoding : List ℕ) (change : PageChange) → HasCome c.refill.new.self encoding change → Comes c.refill.new.self c.step.new.self encoding change (part.Page number) =
+    λ encoding change come. subst (λ (p : Part). Comes c.refill.new.self c.step.new.self encoding change p) c.in-Page.is (c.step.ensures.comes encoding change come) in
     let place : c.from.result * c.from-in-Page.result ≡ (number - 1) * c.args.header.now.page_size = rw (c.from.ensures, c.from-in-Page.ensures) refl in
     page_wears (g.D.Disk.honest c.args.disk.now) c.args.name c.args.header.now h c.requires new c.refill.new.self c.step.new.self number c.step.ensures.same.0 c.step.ensures.same.1 comes on honest file holds
     _ (g.D.Disk.history c.write.new.self) _ _ place c.page.ensures c.write.ensures.ticks _ (c.in_err-write.ensures.failed (c.refill.ensures.honest ∙ inv.honest ∙ honest))
@@ -80,7 +80,7 @@ parts-preserved g c =
     let inv = c.parts.invariant in
     let same = c.refill.ensures.same in
     let on : Passed (g.D.Disk.honest c.args.disk.now) c.args.name c.args.header.now h new c.refill.new.self =
-    passes_on (g.D.Disk.honest c.args.disk.now) c.args.name c.args.header.now h c.requires mid new c.parts.reader c.refill.new.self c.refill.ensures.rests same.0 same.1 same.2 (λ is text. c.in_ok-refill.ensures.here (inv.honest ∙ is) text) inv.passed in
+    passes_on (g.D.Disk.honest c.args.disk.now) c.args.name c.args.header.now h c.requires mid new c.parts.reader c.refill.new.self c.refill.ensures.rests same.0 same.1 same.2 (λ is encoding. c.in_ok-refill.ensures.here (inv.honest ∙ is) encoding) inv.passed in
     record {
       honest = c.refill.ensures.honest ∙ inv.honest;
       faults = c.in_ok-refill.ensures.cause ∙ inv.faults;
@@ -99,7 +99,7 @@ returns-clause-seen g c honest file holds =
     let same = c.refill.ensures.same in
     let filled : IsFilled c.refill.new.self false = subst (λ (b : Bool). IsFilled c.refill.new.self b) c.if-not-branch.true c.in_ok-refill.ensures.filled in
     all_passed (g.D.Disk.honest c.args.disk.now) c.args.name c.args.header.now (g.D.Disk.history c.args.disk.now) c.requires (g.D.Disk.history c.parts.disk) (g.D.Disk.history c.refill.new.disk) c.parts.reader c.refill.new.self
-    c.refill.ensures.rests same.0 same.1 same.2 (λ is text. c.in_ok-refill.ensures.here (inv.honest ∙ is) text) filled inv.passed honest file holds
+    c.refill.ensures.rests same.0 same.1 same.2 (λ is encoding. c.in_ok-refill.ensures.here (inv.honest ∙ is) encoding) filled inv.passed honest file holds
 
 pub returns-clause-others : goal.returns-clause-others
 returns-clause-others g c honest n other =

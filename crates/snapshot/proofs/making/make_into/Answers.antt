@@ -5,15 +5,15 @@ use Rattle.std.proofs.lemmas.Bool.{cases_lt}
 use Rattle.lf_disk.specs.History.{now}
 use Rattle.lf_sqlite_pages.specs.Writes.{data_writes}
 use Rattle.lf_sqlite_pages.proofs.LockPages.{page_size-positive}
-use Rattle.ltx_codec.specs.Format.{file_text, no_meaning, pages_text}
+use Rattle.ltx_codec.specs.Format.{file_encoding, no_meaning, pages_encoding}
 use Rattle.world_laws.specs.Answers.{snapshot_of}
 use Rattle.txn_log.proofs.Moves.{moved-none}
 use Rattle.txn_log.proofs.PagesRead.{count}
 use Rattle.txn_log.specs.Store.{image_in, state_of, failed_of}
 use Rattle.snapshot.specs.Output.{AppendsPrefix}
 use Rattle.snapshot.specs.Pages.{HasPages}
-use Rattle.snapshot.specs.Parts.{parts_text}
-use Rattle.snapshot.proofs.MakeLemmas.{snapshot_text}
+use Rattle.snapshot.specs.Parts.{parts_encoding}
+use Rattle.snapshot.proofs.MakeLemmas.{snapshot_encoding}
 use Rattle.snapshot.proofs.OutputLemmas.{map_on_ok, map_on_err}
 use Rattle.snapshot.proofs.StoreLemmas.{kept_still, left_still, mode_still, moved_still, has_pages, image_now, page_size-most}
 use Rattle.snapshot.proofs.making.make_into.Goals as goal
@@ -68,11 +68,11 @@ returns-clause-whole g c honest =
     let has_it : HasPages (length c.split_at_mut-page.result.0.now) c.header_of-header.result.commit (now h) =
     subst (λ (n : ℕ). HasPages n c.header_of-header.result.commit (now h)) (sym size) (subst (λ (n : ℕ). HasPages s.page_size n (now h)) (sym commit) has) in
     let image = image_in s.page_size s.commit (now h) in
-    let text : parts_text c.header_of-header.result (pages_text (data_writes image)) c.pos-position.result.sum ≡ file_text (snapshot_of store) no_meaning =
-    snapshot_text store image c.header_of-header.result s.commit c.pos-position.result c.parts_are_the_text.ensures.finish
+    let encoding : parts_encoding c.header_of-header.result (pages_encoding (data_writes image)) c.pos-position.result.sum ≡ file_encoding (snapshot_of store) no_meaning =
+    snapshot_encoding store image c.header_of-header.result s.commit c.pos-position.result c.parts_are_the_encoding.ensures.finish
     (image_now h s.page_size s.commit s.whole s.broken c.if-store.false) c.header_of-header.ensures (count s.page_size s.commit (now h)) (c.pos-position.ensures.told honest) in
-    let same : parts_text c.header_of-header.result (pages_text (data_writes (image_in (length c.split_at_mut-page.result.0.now) c.header_of-header.result.commit (now h)))) c.pos-position.result.sum ≡ file_text (snapshot_of store) no_meaning =
-    (λ i. parts_text c.header_of-header.result (pages_text (data_writes (image_in (size i) (commit i) (now h)))) c.pos-position.result.sum) ∙ text in
+    let same : parts_encoding c.header_of-header.result (pages_encoding (data_writes (image_in (length c.split_at_mut-page.result.0.now) c.header_of-header.result.commit (now h)))) c.pos-position.result.sum ≡ file_encoding (snapshot_of store) no_meaning =
+    (λ i. parts_encoding c.header_of-header.result (pages_encoding (data_writes (image_in (size i) (commit i) (now h)))) c.pos-position.result.sum) ∙ encoding in
     map_on_ok c.write_parts.result _ _ (λ whole. subst (λ (l : List ℕ). Appends (g.K.Sink.taken c.args.sink.now) (g.K.Sink.taken c.write_parts.new.sink) l) same whole) (c.write_parts.ensures.whole honest has_it)
 
 pub returns-clause-prefix : goal.returns-clause-prefix
@@ -86,9 +86,9 @@ returns-clause-prefix g c honest =
     let has_it : HasPages (length c.split_at_mut-page.result.0.now) c.header_of-header.result.commit (now h) =
     subst (λ (n : ℕ). HasPages n c.header_of-header.result.commit (now h)) (sym size) (subst (λ (n : ℕ). HasPages s.page_size n (now h)) (sym commit) has) in
     let image = image_in s.page_size s.commit (now h) in
-    let text : parts_text c.header_of-header.result (pages_text (data_writes image)) c.pos-position.result.sum ≡ file_text (snapshot_of store) no_meaning =
-    snapshot_text store image c.header_of-header.result s.commit c.pos-position.result c.parts_are_the_text.ensures.finish
+    let encoding : parts_encoding c.header_of-header.result (pages_encoding (data_writes image)) c.pos-position.result.sum ≡ file_encoding (snapshot_of store) no_meaning =
+    snapshot_encoding store image c.header_of-header.result s.commit c.pos-position.result c.parts_are_the_encoding.ensures.finish
     (image_now h s.page_size s.commit s.whole s.broken c.if-store.false) c.header_of-header.ensures (count s.page_size s.commit (now h)) (c.pos-position.ensures.told honest) in
-    let same : parts_text c.header_of-header.result (pages_text (data_writes (image_in (length c.split_at_mut-page.result.0.now) c.header_of-header.result.commit (now h)))) c.pos-position.result.sum ≡ file_text (snapshot_of store) no_meaning =
-    (λ i. parts_text c.header_of-header.result (pages_text (data_writes (image_in (size i) (commit i) (now h)))) c.pos-position.result.sum) ∙ text in
+    let same : parts_encoding c.header_of-header.result (pages_encoding (data_writes (image_in (length c.split_at_mut-page.result.0.now) c.header_of-header.result.commit (now h)))) c.pos-position.result.sum ≡ file_encoding (snapshot_of store) no_meaning =
+    (λ i. parts_encoding c.header_of-header.result (pages_encoding (data_writes (image_in (size i) (commit i) (now h)))) c.pos-position.result.sum) ∙ encoding in
     map_on_err c.write_parts.result _ _ (λ prefix. subst (λ (l : List ℕ). AppendsPrefix (g.K.Sink.taken c.args.sink.now) (g.K.Sink.taken c.write_parts.new.sink) l) same prefix) (c.write_parts.ensures.prefix honest has_it)

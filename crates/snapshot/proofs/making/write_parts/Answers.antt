@@ -4,8 +4,8 @@ use Rattle.std.proofs.KnownBytes.{Appends-trans}
 use Rattle.page_checksum.specs.Crc.{after_bytes, all_ones}
 use Rattle.lf_disk.specs.History.{now}
 use Rattle.lf_sqlite_pages.specs.Writes.{data_writes}
-use Rattle.ltx_codec.specs.Encoding.{trailer_text}
-use Rattle.ltx_codec.specs.Format.{header_text, no_meaning, pages_text}
+use Rattle.ltx_codec.specs.Encoding.{trailer_encoding}
+use Rattle.ltx_codec.specs.Format.{header_encoding, no_meaning, pages_encoding}
 use Rattle.txn_log.specs.Store.{image_in}
 use Rattle.snapshot.specs.Output.{AppendsPrefix}
 use Rattle.snapshot.proofs.OutputLemmas.{AppendsPrefix-after, AppendsPrefix-more}
@@ -14,7 +14,7 @@ use Rattle.snapshot.proofs.making.write_parts.Goals as goal
 
 pub returns-in-Err-clause-prefix : goal.returns-in-Err-clause-prefix
 returns-in-Err-clause-prefix g c honest has =
-    let header : List ℕ = header_text c.args.header.now no_meaning in
+    let header : List ℕ = header_encoding c.args.header.now no_meaning in
     AppendsPrefix-more _ _ header _ (subst (λ (l : List ℕ). AppendsPrefix (g.K.Sink.taken c.args.sink.now) (g.K.Sink.taken c.write_part.new.sink) l) c.header_bytes.ensures c.in-Err.ensures.prefix)
 
 pub returns-in-Ok-write_end-clause-whole : goal.returns-in-Ok-write_end-clause-whole
@@ -23,14 +23,14 @@ returns-in-Ok-write_end-clause-whole g c honest has =
     let b = g.K.Sink.taken c.write_part.new.sink in
     let m = g.K.Sink.taken c.write_pages.new.sink in
     let z = g.K.Sink.taken c.write_end.new.sink in
-    let header : List ℕ = header_text c.args.header.now no_meaning in
-    let pages : List ℕ = pages_text (data_writes (image_in (length c.args.page.now) c.args.header.now.commit (now (g.D.Disk.history c.args.disk.now)))) in
+    let header : List ℕ = header_encoding c.args.header.now no_meaning in
+    let pages : List ℕ = pages_encoding (data_writes (image_in (length c.args.page.now) c.args.header.now.commit (now (g.D.Disk.history c.args.disk.now)))) in
     let register : ℕ = after_bytes (after_bytes all_ones header) pages in
     let is : c.in-Ok-write_pages.register ≡ register =
     c.in-Ok-write_pages.ensures.register honest has ∙ ap (λ (r : ℕ). after_bytes r pages) (c.in-Ok.ensures.register ∙ ap (λ (l : List ℕ). after_bytes all_ones l) c.header_bytes.ensures) in
     let headed : Appends a b header = subst (λ (l : List ℕ). Appends a b l) c.header_bytes.ensures c.in-Ok.ensures.whole in
-    let ended : Appends m z (trailer_text register c.args.post) = subst (λ (r : ℕ). Appends m z (trailer_text r c.args.post)) is c.in-Ok-write_end.ensures.whole in
-    Appends-trans a b z header (pages ++ trailer_text register c.args.post) headed (Appends-trans b m z pages (trailer_text register c.args.post) (c.in-Ok-write_pages.ensures.whole honest has) ended)
+    let ended : Appends m z (trailer_encoding register c.args.post) = subst (λ (r : ℕ). Appends m z (trailer_encoding r c.args.post)) is c.in-Ok-write_end.ensures.whole in
+    Appends-trans a b z header (pages ++ trailer_encoding register c.args.post) headed (Appends-trans b m z pages (trailer_encoding register c.args.post) (c.in-Ok-write_pages.ensures.whole honest has) ended)
 
 pub returns-in-Err-write_end-clause-prefix : goal.returns-in-Err-write_end-clause-prefix
 returns-in-Err-write_end-clause-prefix g c honest has =
@@ -38,25 +38,25 @@ returns-in-Err-write_end-clause-prefix g c honest has =
     let b = g.K.Sink.taken c.write_part.new.sink in
     let m = g.K.Sink.taken c.write_pages.new.sink in
     let z = g.K.Sink.taken c.write_end.new.sink in
-    let header : List ℕ = header_text c.args.header.now no_meaning in
-    let pages : List ℕ = pages_text (data_writes (image_in (length c.args.page.now) c.args.header.now.commit (now (g.D.Disk.history c.args.disk.now)))) in
+    let header : List ℕ = header_encoding c.args.header.now no_meaning in
+    let pages : List ℕ = pages_encoding (data_writes (image_in (length c.args.page.now) c.args.header.now.commit (now (g.D.Disk.history c.args.disk.now)))) in
     let register : ℕ = after_bytes (after_bytes all_ones header) pages in
     let is : c.in-Ok-write_pages.register ≡ register =
     c.in-Ok-write_pages.ensures.register honest has ∙ ap (λ (r : ℕ). after_bytes r pages) (c.in-Ok.ensures.register ∙ ap (λ (l : List ℕ). after_bytes all_ones l) c.header_bytes.ensures) in
     let headed : Appends a b header = subst (λ (l : List ℕ). Appends a b l) c.header_bytes.ensures c.in-Ok.ensures.whole in
-    let ended : AppendsPrefix m z (trailer_text register c.args.post) = subst (λ (r : ℕ). AppendsPrefix m z (trailer_text r c.args.post)) is c.in-Err-write_end.ensures.prefix in
-    let rest : List ℕ = pages ++ trailer_text register c.args.post in
+    let ended : AppendsPrefix m z (trailer_encoding register c.args.post) = subst (λ (r : ℕ). AppendsPrefix m z (trailer_encoding r c.args.post)) is c.in-Err-write_end.ensures.prefix in
+    let rest : List ℕ = pages ++ trailer_encoding register c.args.post in
     AppendsPrefix-after a b z header rest (header ++ rest) refl headed
-    (AppendsPrefix-after b m z pages (trailer_text register c.args.post) rest refl (c.in-Ok-write_pages.ensures.whole honest has) ended)
+    (AppendsPrefix-after b m z pages (trailer_encoding register c.args.post) rest refl (c.in-Ok-write_pages.ensures.whole honest has) ended)
 
 pub returns-in-Err-write_pages-clause-prefix : goal.returns-in-Err-write_pages-clause-prefix
 returns-in-Err-write_pages-clause-prefix g c honest has =
     let a = g.K.Sink.taken c.args.sink.now in
     let b = g.K.Sink.taken c.write_part.new.sink in
     let m = g.K.Sink.taken c.write_pages.new.sink in
-    let header : List ℕ = header_text c.args.header.now no_meaning in
-    let pages : List ℕ = pages_text (data_writes (image_in (length c.args.page.now) c.args.header.now.commit (now (g.D.Disk.history c.args.disk.now)))) in
-    let end : List ℕ = trailer_text (after_bytes (after_bytes all_ones header) pages) c.args.post in
+    let header : List ℕ = header_encoding c.args.header.now no_meaning in
+    let pages : List ℕ = pages_encoding (data_writes (image_in (length c.args.page.now) c.args.header.now.commit (now (g.D.Disk.history c.args.disk.now)))) in
+    let end : List ℕ = trailer_encoding (after_bytes (after_bytes all_ones header) pages) c.args.post in
     let headed : Appends a b header = subst (λ (l : List ℕ). Appends a b l) c.header_bytes.ensures c.in-Ok.ensures.whole in
     AppendsPrefix-after a b m header (pages ++ end) (header ++ (pages ++ end)) refl headed (AppendsPrefix-more b m pages end (c.in-Err-write_pages.ensures.prefix honest has))
 

@@ -2,7 +2,7 @@ use Rattle.std.proofs.Common.{List, ℕ, Some, subst}
 use Rattle.std.specs.Io.KnownBytes.{Appends}
 use Rattle.txn_log.proofs.Moves.{moved-none}
 use Rattle.txn_log.specs.Store.{state_of, failed_of}
-use Rattle.ltx_codec.specs.Format.{file_text, no_meaning}
+use Rattle.ltx_codec.specs.Format.{file_encoding, no_meaning}
 use Rattle.world_laws.specs.Answers.{snapshot_of}
 use Rattle.snapshot.proofs.whole.make.Goals as goal
 
@@ -21,5 +21,5 @@ returns-in-Err-clause-went g c honest =
 pub returns-in-Ok-make_into-clause-bytes : goal.returns-in-Ok-make_into-clause-bytes
 returns-in-Ok-make_into-clause-bytes g c honest =
     let s = c.args.store.now in
-    let text : List ℕ = file_text (snapshot_of (state_of (g.D.Disk.history s.disk) s.page_size s.commit s.entries.items s.dropped s.broken s.whole)) no_meaning in
-    subst (λ v. Appends (Some v.items) (Some c.make_into.new.sink.bytes.items) text) c.replace-bytes.ensures.value (c.in-Ok-make_into.ensures.whole honest)
+    let encoding : List ℕ = file_encoding (snapshot_of (state_of (g.D.Disk.history s.disk) s.page_size s.commit s.entries.items s.dropped s.broken s.whole)) no_meaning in
+    subst (λ v. Appends (Some v.items) (Some c.make_into.new.sink.bytes.items) encoding) c.replace-bytes.ensures.value (c.in-Ok-make_into.ensures.whole honest)

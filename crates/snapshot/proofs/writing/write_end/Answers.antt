@@ -2,19 +2,19 @@ use Rattle.std.proofs.Common.{◌≡◌, List, ℕ, refl, ap, ◌∙◌}
 use Rattle.std.specs.Int.{w64, to_be_bytes}
 use Rattle.std.proofs.KnownBytes.{Appends-trans}
 use Rattle.page_checksum.specs.Crc.{after_bytes}
-use Rattle.ltx_codec.specs.Format.{end_text, sealed}
+use Rattle.ltx_codec.specs.Format.{end_encoding, sealed}
 use Rattle.snapshot.proofs.OutputLemmas.{AppendsPrefix-after, AppendsPrefix-more, on_err, map_on_err, map_on_ok}
 use Rattle.snapshot.proofs.writing.write_end.Goals as goal
 
 pub returns-in_err-register-clause-prefix : goal.returns-in_err-register-clause-prefix
 returns-in_err-register-clause-prefix g c =
-    let end : List ℕ = end_text c.args.post in
+    let end : List ℕ = end_encoding c.args.post in
     let sum : List ℕ = to_be_bytes w64 (sealed (after_bytes c.args.register end)) in
     on_err _ _ (AppendsPrefix-more _ _ end sum (rw c.end_bytes.ensures at c.in_err-register.ensures.prefix))
 
 pub returns-clause-whole : goal.returns-clause-whole
 returns-clause-whole g c =
-    let end : List ℕ = end_text c.args.post in
+    let end : List ℕ = end_encoding c.args.post in
     let sum : List ℕ = to_be_bytes w64 (sealed (after_bytes c.args.register end)) in
     let sums : c.to_be_bytes.result ≡ sum =
     c.to_be_bytes.ensures ∙ ap (λ r. to_be_bytes w64 (sealed r)) (c.in_ok-register.ensures.register ∙ ap (λ (l : List ℕ). after_bytes c.args.register l) c.end_bytes.ensures)
@@ -23,7 +23,7 @@ returns-clause-whole g c =
 
 pub returns-clause-prefix : goal.returns-clause-prefix
 returns-clause-prefix g c =
-    let end : List ℕ = end_text c.args.post in
+    let end : List ℕ = end_encoding c.args.post in
     let sum : List ℕ = to_be_bytes w64 (sealed (after_bytes c.args.register end)) in
     let sums : c.to_be_bytes.result ≡ sum =
     c.to_be_bytes.ensures ∙ ap (λ r. to_be_bytes w64 (sealed r)) (c.in_ok-register.ensures.register ∙ ap (λ (l : List ℕ). after_bytes c.args.register l) c.end_bytes.ensures)

@@ -12,7 +12,7 @@ use Rattle.txn_log.proofs.Resting.{same_now}
 use Rattle.snapshot.specs.Output.{AppendsPrefix}
 use Rattle.snapshot.specs.Pages.{HasPages}
 use Rattle.snapshot.proofs.ExportLemmas.{rests_twice, rests_still}
-use Rattle.snapshot.proofs.WriteLemmas.{text_to, text-lock, text_to-none, took_page, register_page, prefix_within, some_more, Wrote, WrotePrefix, image_same}
+use Rattle.snapshot.proofs.WriteLemmas.{encoding_to, encoding-lock, encoding_to-none, took_page, register_page, prefix_within, some_more, Wrote, WrotePrefix, image_same}
 use Rattle.snapshot.proofs.writing.write_pages.Goals as goal
 
 pub loop-number-init : goal.loop-number-init
@@ -21,8 +21,8 @@ loop-number-init g c =
     record {
       within = omega arith;
       size = refl;
-      taken = λ honest has. subst (λ (l : List ℕ). Appends (g.K.Sink.taken c.args.sink.now) (g.K.Sink.taken c.args.sink.now) l) (sym (text_to-none image)) (Appends-nil (g.K.Sink.taken c.args.sink.now));
-      register = λ honest has. ap (after_bytes c.args.register) (sym (text_to-none image));
+      taken = λ honest has. subst (λ (l : List ℕ). Appends (g.K.Sink.taken c.args.sink.now) (g.K.Sink.taken c.args.sink.now) l) (sym (encoding_to-none image)) (Appends-nil (g.K.Sink.taken c.args.sink.now));
+      register = λ honest has. ap (after_bytes c.args.register) (sym (encoding_to-none image));
       grows = ([], Appends-nil (g.K.Sink.taken c.args.sink.now));
       rests = rests_still (g.D.Disk.history c.args.disk.now);
       honest = refl;
@@ -82,8 +82,8 @@ loop-number-preserved g c =
     record {
       within = omega (arith, c.loop-number-test.true);
       size = c.loop-number.invariant.size;
-      taken = λ honest has. subst (λ (l : List ℕ). Appends (g.K.Sink.taken c.args.sink.now) (g.K.Sink.taken c.loop-number.sink) l) (sym (text-lock image k is)) (c.loop-number.invariant.taken honest has);
-      register = λ honest has. c.loop-number.invariant.register honest has ∙ ap (after_bytes c.args.register) (sym (text-lock image k is));
+      taken = λ honest has. subst (λ (l : List ℕ). Appends (g.K.Sink.taken c.args.sink.now) (g.K.Sink.taken c.loop-number.sink) l) (sym (encoding-lock image k is)) (c.loop-number.invariant.taken honest has);
+      register = λ honest has. c.loop-number.invariant.register honest has ∙ ap (after_bytes c.args.register) (sym (encoding-lock image k is));
       grows = c.loop-number.invariant.grows;
       rests = c.loop-number.invariant.rests;
       honest = c.loop-number.invariant.honest;
@@ -115,7 +115,7 @@ returns-in-Err-clause-prefix g c honest has =
     subst (λ (i : DatabaseImage). WrotePrefix i (k + 1) b z)
     (image_same (length c.loop-number.page) size commit (now mid) (now h) c.loop-number.invariant.size same)
     (c.in-Err.ensures.written (c.loop-number.invariant.honest ∙ honest) commit more has_mid) in
-    subst (λ (n : ℕ). AppendsPrefix a z (text_to image n)) (sym (count size commit (now h)))
+    subst (λ (n : ℕ). AppendsPrefix a z (encoding_to image n)) (sym (count size commit (now h)))
     (prefix_within image k commit it.0 a b z more is_data it.1 (c.loop-number.invariant.taken honest has) it.2)
 
 pub returns-clause-whole : goal.returns-clause-whole
@@ -123,11 +123,11 @@ returns-clause-whole g c honest has =
     let image : DatabaseImage = image_in (length c.args.page.now) c.args.commit (now (g.D.Disk.history c.args.disk.now)) in
     let all : c.loop-number.number ≡ length image.pages =
     omega (arith, c.loop-number-test.false, c.loop-number.invariant.within, count (length c.args.page.now) c.args.commit (now (g.D.Disk.history c.args.disk.now))) in
-    subst (λ (n : ℕ). Appends (g.K.Sink.taken c.args.sink.now) (g.K.Sink.taken c.loop-number.sink) (text_to image n)) all (c.loop-number.invariant.taken honest has)
+    subst (λ (n : ℕ). Appends (g.K.Sink.taken c.args.sink.now) (g.K.Sink.taken c.loop-number.sink) (encoding_to image n)) all (c.loop-number.invariant.taken honest has)
 
 pub returns-clause-register : goal.returns-clause-register
 returns-clause-register g c honest has =
     let image : DatabaseImage = image_in (length c.args.page.now) c.args.commit (now (g.D.Disk.history c.args.disk.now)) in
     let all : c.loop-number.number ≡ length image.pages =
     omega (arith, c.loop-number-test.false, c.loop-number.invariant.within, count (length c.args.page.now) c.args.commit (now (g.D.Disk.history c.args.disk.now))) in
-    subst (λ (n : ℕ). c.loop-number.register ≡ after_bytes c.args.register (text_to image n)) all (c.loop-number.invariant.register honest has)
+    subst (λ (n : ℕ). c.loop-number.register ≡ after_bytes c.args.register (encoding_to image n)) all (c.loop-number.invariant.register honest has)

@@ -12,7 +12,7 @@ place_from-requires-clause-known g c =
     let left = g.S.Source.left c.args.source.now in
     let left_now = g.S.Source.left c.take_source.new.source in
     let gave = c.in-Ok.ensures.takes in
-    let judged = c.in-Ok-judge_taken.ensures.judges gave.text gave.change c.args.sums.now.sums gave.octets gave.is gave.taken_in in
+    let judged = c.in-Ok-judge_taken.ensures.judges gave.encoding gave.change c.args.sums.now.sums gave.octets gave.is gave.taken_in in
     let was = it honest left left_now start mid c.args.ground.now c.args.sums.now.sums c.take_source.new.table.sums c.in-Ok.it.0 c.in-Ok.it.1 c.in-Ok-judge_taken.intake gave judged in (
       now start,
       gave.change,
@@ -33,7 +33,7 @@ returns-in-Whole-clause-brings g c =
     let sums = c.args.sums.now.sums in
     let table = c.take_source.new.table.sums in
     let gave = c.in-Ok.ensures.takes in
-    let judged = c.in-Ok-judge_taken.ensures.judges gave.text gave.change sums gave.octets gave.is gave.taken_in in
+    let judged = c.in-Ok-judge_taken.ensures.judges gave.encoding gave.change sums gave.octets gave.is gave.taken_in in
     let intake = c.in-Ok-judge_taken.intake in (
       gave.change,
       brought honest left left_now start mid ground sums table c.in-Ok.it.0 c.in-Ok.it.1 intake gave judged,
@@ -54,7 +54,7 @@ returns-in-Unpublished-clause-brings g c =
     let sums = c.args.sums.now.sums in
     let table = c.take_source.new.table.sums in
     let gave = c.in-Ok.ensures.takes in
-    let judged = c.in-Ok-judge_taken.ensures.judges gave.text gave.change sums gave.octets gave.is gave.taken_in in
+    let judged = c.in-Ok-judge_taken.ensures.judges gave.encoding gave.change sums gave.octets gave.is gave.taken_in in
     let intake = c.in-Ok-judge_taken.intake in
     placed_whole honest left left_now start mid ground sums table c.in-Ok.it.0 c.in-Ok.it.1 intake gave judged (g.D.Disk.history c.place_from.new.disk) placed.Unpublished
     c.take_source.ensures.moments (λ is. c.in-Unpublished.ensures.places (c.take_source.ensures.honest ∙ is))
@@ -70,7 +70,7 @@ returns-in-From-clause-brings g c =
     let sums = c.args.sums.now.sums in
     let table = c.take_source.new.table.sums in
     let gave = c.in-Ok.ensures.takes in
-    let judged = c.in-Ok-judge_taken.ensures.judges gave.text gave.change sums gave.octets gave.is gave.taken_in in
+    let judged = c.in-Ok-judge_taken.ensures.judges gave.encoding gave.change sums gave.octets gave.is gave.taken_in in
     let intake = c.in-Ok-judge_taken.intake in (
       record { header = c.in-Ok.it.0.header; change = gave.change; post = c.in-Ok.it.0.post },
       brought honest left left_now start mid ground sums table c.in-Ok.it.0 c.in-Ok.it.1 intake gave judged,

@@ -3,14 +3,14 @@ use Rattle.lf_disk.specs.History.{now}
 use Rattle.lf_sqlite_pages.specs.Change.{empty_change}
 use Rattle.lf_sqlite_pages.specs.Complete.{completed_page}
 use Rattle.lf_sqlite_pages.specs.declared.page_write.PageWrite.{PageWrite}
-use Rattle.txn_log.specs.Staging.{HoldsSoFar, front_text, IsStaging}
+use Rattle.txn_log.specs.Staging.{HoldsSoFar, front_encoding, IsStaging}
 use Rattle.txn_log.proofs.Intakes.{no_writes}
 use Rattle.txn_log.proofs.intake.begin_receiving.Goals as goal
 
 pub returns-in-Ok-clause-staged : goal.returns-in-Ok-clause-staged
 returns-in-Ok-clause-staged g c honest count =
     let header = c.args.header.now in
-    subst (λ (ws : List PageWrite). HoldsSoFar (now (g.D.Disk.history c.args.disk.now)) (front_text header ws) (g.D.Disk.history c.stage_header.new.disk))
+    subst (λ (ws : List PageWrite). HoldsSoFar (now (g.D.Disk.history c.args.disk.now)) (front_encoding header ws) (g.D.Disk.history c.stage_header.new.disk))
     (sym (no_writes (completed_page (empty_change header.page_size header.commit) count))) (c.in-Ok.ensures.staged honest)
 
 pub returns-in-Ok-clause-begun : goal.returns-in-Ok-clause-begun

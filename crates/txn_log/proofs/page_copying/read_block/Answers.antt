@@ -14,7 +14,7 @@ returns-clause-block g c honest number page stands same =
     let mid = g.D.Disk.history c.read.new.self in
     let bytes : List ℕ = bytes_of (now h c.args.name) in
     let first : c.read.new.out ≡ to_be_bytes w32 number =
-    reads_piece bytes c.args.at _ c.read.new.out _ (to_be_bytes w32 number) (page ++ stands.rest) (c.in_ok-read.ensures.read honest) (stands.text ∙ append_assoc (to_be_bytes w32 number) page stands.rest) refl in
+    reads_piece bytes c.args.at _ c.read.new.out _ (to_be_bytes w32 number) (page ++ stands.rest) (c.in_ok-read.ensures.read honest) (stands.encoding ∙ append_assoc (to_be_bytes w32 number) page stands.rest) refl in
     let there : drop (c.args.at + 4) (bytes_of (now mid c.args.name)) ≡ page ++ stands.rest =
     ap (λ o. drop (c.args.at + 4) (bytes_of o)) (reads_on h mid c.read.ensures.rests c.args.name) ∙ behind_number bytes c.args.at number page stands in (
       c.from_be_bytes.ensures ∙ ap (from_be_bytes w32) first ∙ from_be_bytes-to_be_bytes_4 number stands.low,

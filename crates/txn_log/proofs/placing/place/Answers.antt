@@ -10,10 +10,10 @@ returns-in-Ok-put_staged-clause-places g c honest image files over =
     let mid = g.D.Disk.history c.stage.new.disk in
     let new = g.D.Disk.history c.put_staged.new.disk in
     let still = c.stage.ensures.honest ∙ honest in
-    let file : LogFile = record { min = c.args.min; max = c.args.max; text = c.args.text.now } in
-    let is = ready image files c.args.dropped c.args.text.now c.args.change.now h mid over (c.in-Ok.ensures.staged honest) in (
-      moments image files c.args.dropped c.args.text.now c.args.change.now h mid over new file (c.stage.ensures.moments honest) (c.put_staged.ensures.moments still image files c.args.text.now is over.empty),
-      c.in-Ok-put_staged.ensures.done still image files c.args.text.now is over.empty,
+    let file : LogFile = record { min = c.args.min; max = c.args.max; encoding = c.args.encoding.now } in
+    let is = ready image files c.args.dropped c.args.encoding.now c.args.change.now h mid over (c.in-Ok.ensures.staged honest) in (
+      moments image files c.args.dropped c.args.encoding.now c.args.change.now h mid over new file (c.stage.ensures.moments honest) (c.put_staged.ensures.moments still image files c.args.encoding.now is over.empty),
+      c.in-Ok-put_staged.ensures.done still image files c.args.encoding.now is over.empty,
     )
 
 pub returns-in-Err-put_staged-clause-places : goal.returns-in-Err-put_staged-clause-places
@@ -22,10 +22,10 @@ returns-in-Err-put_staged-clause-places g c honest image files over =
     let mid = g.D.Disk.history c.stage.new.disk in
     let new = g.D.Disk.history c.put_staged.new.disk in
     let still = c.stage.ensures.honest ∙ honest in
-    let file : LogFile = record { min = c.args.min; max = c.args.max; text = c.args.text.now } in
+    let file : LogFile = record { min = c.args.min; max = c.args.max; encoding = c.args.encoding.now } in
     let staged = c.in-Ok.ensures.staged honest in
-    let is = ready image files c.args.dropped c.args.text.now c.args.change.now h mid over staged in
-    let run = c.put_staged.ensures.moments still image files c.args.text.now is over.empty in (
-      moments image files c.args.dropped c.args.text.now c.args.change.now h mid over new file (c.stage.ensures.moments honest) run,
-      subst (λ (t : ℕ). IsTried c.args.text.now t new) (sym c.moment-tried.ensures) (tried image files c.args.dropped c.args.text.now c.args.change.now h mid over new _ staged run),
+    let is = ready image files c.args.dropped c.args.encoding.now c.args.change.now h mid over staged in
+    let run = c.put_staged.ensures.moments still image files c.args.encoding.now is over.empty in (
+      moments image files c.args.dropped c.args.encoding.now c.args.change.now h mid over new file (c.stage.ensures.moments honest) run,
+      subst (λ (t : ℕ). IsTried c.args.encoding.now t new) (sym c.moment-tried.ensures) (tried image files c.args.dropped c.args.encoding.now c.args.change.now h mid over new _ staged run),
     )

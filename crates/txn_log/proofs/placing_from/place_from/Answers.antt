@@ -5,7 +5,7 @@ use Rattle.lf_disk.specs.Publish.{IsStaged}
 use Rattle.lf_disk.proofs.Moments.{joined}
 use Rattle.lf_sqlite_pages.specs.Apply.{apply}
 use Rattle.lf_sqlite_pages.specs.Complete.{completed}
-use Rattle.ltx_codec.specs.Format.{file_text, no_meaning}
+use Rattle.ltx_codec.specs.Format.{file_encoding, no_meaning}
 use Rattle.ltx_codec.specs.declared.file.Ltx.{Ltx}
 use Rattle.ltx_codec.specs.declared.header.Header.{Header}
 use Rattle.txn_log.specs.Kept.{IsAtRest}
@@ -54,7 +54,7 @@ put_staged_from-requires-clause-settled g c yet =
     let passed = c.in-Ok.ensures.passed k.1 k.2 k.3 in
     let staging = whole_staging r c.pass_rest.new.self s c.args.count k.1 k.4 passed c.in-Ok.ensures.counts.0 c.in-Ok.ensures.counts.1 file refl refl in
     let front = whole_front r c.pass_rest.new.self s c.args.count k.1 k.4 passed c.in-Ok.ensures.counts.0 c.in-Ok.ensures.counts.1 file refl refl k.0 one (c.in-Ok.ensures.staged honest k.0 k.1 k.2 k.3 (k.5 honest)) in
-    settled k.0 (file_text file no_meaning) (g.D.Disk.history c.seal.new.disk) (c.in-Ok-seal.ensures.staged still k.0 file staging refl front)
+    settled k.0 (file_encoding file no_meaning) (g.D.Disk.history c.seal.new.disk) (c.in-Ok-seal.ensures.staged still k.0 file staging refl front)
 
 pub put_staged_from-requires-clause-there : goal.put_staged_from-requires-clause-there
 put_staged_from-requires-clause-there g c yet =
@@ -68,7 +68,7 @@ put_staged_from-requires-clause-there g c yet =
     let passed = c.in-Ok.ensures.passed k.1 k.2 k.3 in
     let staging = whole_staging r c.pass_rest.new.self s c.args.count k.1 k.4 passed c.in-Ok.ensures.counts.0 c.in-Ok.ensures.counts.1 file refl refl in
     let front = whole_front r c.pass_rest.new.self s c.args.count k.1 k.4 passed c.in-Ok.ensures.counts.0 c.in-Ok.ensures.counts.1 file refl refl k.0 one (c.in-Ok.ensures.staged honest k.0 k.1 k.2 k.3 (k.5 honest)) in
-    there k.0 (file_text file no_meaning) (g.D.Disk.history c.seal.new.disk) (c.in-Ok-seal.ensures.staged still k.0 file staging refl front)
+    there k.0 (file_encoding file no_meaning) (g.D.Disk.history c.seal.new.disk) (c.in-Ok-seal.ensures.staged still k.0 file staging refl front)
 
 pub returns-in-Ok-put_staged_from-clause-places : goal.returns-in-Ok-put_staged_from-clause-places
 returns-in-Ok-put_staged_from-clause-places g c honest before image files change file over holds =
@@ -88,14 +88,14 @@ returns-in-Ok-put_staged_from-clause-places g c honest before image files change
     let to_end = c.in-Ok.ensures.counts.1 in
     let staging = whole_staging r c.pass_rest.new.self s c.args.count change commit_is passed c.in-Ok.ensures.counts.0 to_end file header pages in
     let front = whole_front r c.pass_rest.new.self s c.args.count change commit_is passed c.in-Ok.ensures.counts.0 to_end file header pages before one (c.in-Ok.ensures.staged honest before change over.valid over.up holds) in
-    let staged : IsStaged before (file_text file no_meaning) two = c.in-Ok-seal.ensures.staged still before file staging post front in
+    let staged : IsStaged before (file_encoding file no_meaning) two = c.in-Ok-seal.ensures.staged still before file staging post front in
     let first = joined h one two (SameBut Staged before) (c.pass_rest.ensures.moments honest before change over.valid over.up holds) (c.seal.ensures.moments still before file.header file.change.pages staging front) in
     let is = ready before image files c.args.dropped r s c.args.count c.args.post change file over two staged in
     let has = held before image files c.args.dropped r s c.args.count c.args.post change file over two c.pass_rest.new.self _ staged to_end staging refl in (
       goes before image files c.args.dropped r s c.args.count c.args.post change file over h two new c.pass_rest.new.self.header to_end first
-          (c.put_staged_from.ensures.moments yet image files (file_text file no_meaning) file is over.empty has),
-      subst (λ (x : Header). IsAtRest (apply image file.change) (files ++ record { min = x.min; max = x.max; text = file_text file no_meaning } ∷ []) Rattle.std.proofs.Common.false new) to_end
-          (c.in-Ok-put_staged_from.ensures.done yet image files (file_text file no_meaning) file is over.empty has),
+          (c.put_staged_from.ensures.moments yet image files (file_encoding file no_meaning) file is over.empty has),
+      subst (λ (x : Header). IsAtRest (apply image file.change) (files ++ record { min = x.min; max = x.max; encoding = file_encoding file no_meaning } ∷ []) Rattle.std.proofs.Common.false new) to_end
+          (c.in-Ok-put_staged_from.ensures.done yet image files (file_encoding file no_meaning) file is over.empty has),
     )
 
 pub returns-in-Err-put_staged_from-clause-places : goal.returns-in-Err-put_staged_from-clause-places
@@ -116,11 +116,11 @@ returns-in-Err-put_staged_from-clause-places g c honest before image files chang
     let to_end = c.in-Ok.ensures.counts.1 in
     let staging = whole_staging r c.pass_rest.new.self s c.args.count change commit_is passed c.in-Ok.ensures.counts.0 to_end file header pages in
     let front = whole_front r c.pass_rest.new.self s c.args.count change commit_is passed c.in-Ok.ensures.counts.0 to_end file header pages before one (c.in-Ok.ensures.staged honest before change over.valid over.up holds) in
-    let staged : IsStaged before (file_text file no_meaning) two = c.in-Ok-seal.ensures.staged still before file staging post front in
+    let staged : IsStaged before (file_encoding file no_meaning) two = c.in-Ok-seal.ensures.staged still before file staging post front in
     let first = joined h one two (SameBut Staged before) (c.pass_rest.ensures.moments honest before change over.valid over.up holds) (c.seal.ensures.moments still before file.header file.change.pages staging front) in
     let is = ready before image files c.args.dropped r s c.args.count c.args.post change file over two staged in
     let has = held before image files c.args.dropped r s c.args.count c.args.post change file over two c.pass_rest.new.self _ staged to_end staging refl in
-    let run = c.put_staged_from.ensures.moments yet image files (file_text file no_meaning) file is over.empty has in (
+    let run = c.put_staged_from.ensures.moments yet image files (file_encoding file no_meaning) file is over.empty has in (
       goes before image files c.args.dropped r s c.args.count c.args.post change file over h two new c.pass_rest.new.self.header to_end first run,
       tried before image files c.args.dropped r s c.args.count c.args.post change file over two new _ c.moment-tried.result c.moment-tried.ensures staged run,
     )

@@ -77,49 +77,49 @@ invariant_of-store-in-Whole g c = record {
       let h = g.D.Disk.history s.disk in
       let new = g.D.Disk.history c.place.new.disk in
       let file = c.args.file.now in
-      let text : List ℕ = c.as_slice.result.now in
+      let encoding : List ℕ = c.as_slice.result.now in
       let kept : IsStore h s.page_size s.commit s.entries.items s.dropped s.sums.sums false s.whole s.tried =
       subst (λ (b : Bool). IsStore h s.page_size s.commit s.entries.items s.dropped s.sums.sums b s.whole s.tried) c.requires.open_ (s.kept honest) in
       let can : CanTake (state_in s.page_size s.commit s.entries.items s.dropped (now h)) file =
       subst (λ (b : Bool). CanTake (state_of h s.page_size s.commit s.entries.items s.dropped b s.whole) file) c.requires.open_ (c.requires.can honest) in
-      let is : IsLtx text file = subst (λ (t : List ℕ). IsLtx t file) (sym c.as_slice.ensures.value) c.in-Ok.ensures.text in
-      let read : file_of text ≡ file = ap file_of c.as_slice.ensures.value ∙ c.in-Ok.ensures.read in
-      let places = c.in-Whole.ensures.places honest (image h s.page_size s.commit s.entries.items s.dropped s.sums.sums s.whole s.tried s.shaped kept) (files h s.page_size s.commit s.entries.items s.dropped s.sums.sums s.whole s.tried s.shaped kept) (over h s.page_size s.commit s.entries.items s.dropped s.sums.sums s.whole s.tried s.shaped kept c.args.attempt file text c.requires.publishes can is read) in
-      rw (c.push_reserved.ensures.items, c.entry_of.ensures, c.reserve.ensures.items, c.update.ensures, c.in-Ok-reserve.ensures.ok, c.requires.open_) (stands h s.page_size s.commit s.entries.items s.dropped s.sums.sums s.whole s.tried s.shaped kept c.args.attempt file text c.requires.publishes can is read new places.0 places.1 c.moment-store.result s.tried);
+      let is : IsLtx encoding file = subst (λ (t : List ℕ). IsLtx t file) (sym c.as_slice.ensures.value) c.in-Ok.ensures.encoding in
+      let read : file_of encoding ≡ file = ap file_of c.as_slice.ensures.value ∙ c.in-Ok.ensures.read in
+      let places = c.in-Whole.ensures.places honest (image h s.page_size s.commit s.entries.items s.dropped s.sums.sums s.whole s.tried s.shaped kept) (files h s.page_size s.commit s.entries.items s.dropped s.sums.sums s.whole s.tried s.shaped kept) (over h s.page_size s.commit s.entries.items s.dropped s.sums.sums s.whole s.tried s.shaped kept c.args.attempt file encoding c.requires.publishes can is read) in
+      rw (c.push_reserved.ensures.items, c.entry_of.ensures, c.reserve.ensures.items, c.update.ensures, c.in-Ok-reserve.ensures.ok, c.requires.open_) (stands h s.page_size s.commit s.entries.items s.dropped s.sums.sums s.whole s.tried s.shaped kept c.args.attempt file encoding c.requires.publishes can is read new places.0 places.1 c.moment-store.result s.tried);
   left = λ still.
       let honest = sym c.place.ensures.honest ∙ still in
       let s = c.args.store.now in
       let h = g.D.Disk.history s.disk in
       let new = g.D.Disk.history c.place.new.disk in
       let file = c.args.file.now in
-      let text : List ℕ = c.as_slice.result.now in
+      let encoding : List ℕ = c.as_slice.result.now in
       let kept : IsStore h s.page_size s.commit s.entries.items s.dropped s.sums.sums false s.whole s.tried =
       subst (λ (b : Bool). IsStore h s.page_size s.commit s.entries.items s.dropped s.sums.sums b s.whole s.tried) c.requires.open_ (s.kept honest) in
       let can : CanTake (state_in s.page_size s.commit s.entries.items s.dropped (now h)) file =
       subst (λ (b : Bool). CanTake (state_of h s.page_size s.commit s.entries.items s.dropped b s.whole) file) c.requires.open_ (c.requires.can honest) in
-      let is : IsLtx text file = subst (λ (t : List ℕ). IsLtx t file) (sym c.as_slice.ensures.value) c.in-Ok.ensures.text in
-      let read : file_of text ≡ file = ap file_of c.as_slice.ensures.value ∙ c.in-Ok.ensures.read in
-      let places = c.in-Whole.ensures.places honest (image h s.page_size s.commit s.entries.items s.dropped s.sums.sums s.whole s.tried s.shaped kept) (files h s.page_size s.commit s.entries.items s.dropped s.sums.sums s.whole s.tried s.shaped kept) (over h s.page_size s.commit s.entries.items s.dropped s.sums.sums s.whole s.tried s.shaped kept c.args.attempt file text c.requires.publishes can is read) in
-      rw (c.push_reserved.ensures.items, c.entry_of.ensures, c.reserve.ensures.items, c.requires.open_) (left_done h s.page_size s.commit s.entries.items s.dropped s.sums.sums s.whole s.tried s.shaped kept c.args.attempt file text c.requires.publishes can is read new places.0 places.1);
+      let is : IsLtx encoding file = subst (λ (t : List ℕ). IsLtx t file) (sym c.as_slice.ensures.value) c.in-Ok.ensures.encoding in
+      let read : file_of encoding ≡ file = ap file_of c.as_slice.ensures.value ∙ c.in-Ok.ensures.read in
+      let places = c.in-Whole.ensures.places honest (image h s.page_size s.commit s.entries.items s.dropped s.sums.sums s.whole s.tried s.shaped kept) (files h s.page_size s.commit s.entries.items s.dropped s.sums.sums s.whole s.tried s.shaped kept) (over h s.page_size s.commit s.entries.items s.dropped s.sums.sums s.whole s.tried s.shaped kept c.args.attempt file encoding c.requires.publishes can is read) in
+      rw (c.push_reserved.ensures.items, c.entry_of.ensures, c.reserve.ensures.items, c.requires.open_) (left_done h s.page_size s.commit s.entries.items s.dropped s.sums.sums s.whole s.tried s.shaped kept c.args.attempt file encoding c.requires.publishes can is read new places.0 places.1);
   mode = λ still.
       let honest = sym c.place.ensures.honest ∙ still in
       let s = c.args.store.now in
       let h = g.D.Disk.history s.disk in
       let new = g.D.Disk.history c.place.new.disk in
       let file = c.args.file.now in
-      let text : List ℕ = c.as_slice.result.now in
+      let encoding : List ℕ = c.as_slice.result.now in
       let kept : IsStore h s.page_size s.commit s.entries.items s.dropped s.sums.sums false s.whole s.tried =
       subst (λ (b : Bool). IsStore h s.page_size s.commit s.entries.items s.dropped s.sums.sums b s.whole s.tried) c.requires.open_ (s.kept honest) in
       let can : CanTake (state_in s.page_size s.commit s.entries.items s.dropped (now h)) file =
       subst (λ (b : Bool). CanTake (state_of h s.page_size s.commit s.entries.items s.dropped b s.whole) file) c.requires.open_ (c.requires.can honest) in
-      let is : IsLtx text file = subst (λ (t : List ℕ). IsLtx t file) (sym c.as_slice.ensures.value) c.in-Ok.ensures.text in
-      let read : file_of text ≡ file = ap file_of c.as_slice.ensures.value ∙ c.in-Ok.ensures.read in
-      let places = c.in-Whole.ensures.places honest (image h s.page_size s.commit s.entries.items s.dropped s.sums.sums s.whole s.tried s.shaped kept) (files h s.page_size s.commit s.entries.items s.dropped s.sums.sums s.whole s.tried s.shaped kept) (over h s.page_size s.commit s.entries.items s.dropped s.sums.sums s.whole s.tried s.shaped kept c.args.attempt file text c.requires.publishes can is read) in
+      let is : IsLtx encoding file = subst (λ (t : List ℕ). IsLtx t file) (sym c.as_slice.ensures.value) c.in-Ok.ensures.encoding in
+      let read : file_of encoding ≡ file = ap file_of c.as_slice.ensures.value ∙ c.in-Ok.ensures.read in
+      let places = c.in-Whole.ensures.places honest (image h s.page_size s.commit s.entries.items s.dropped s.sums.sums s.whole s.tried s.shaped kept) (files h s.page_size s.commit s.entries.items s.dropped s.sums.sums s.whole s.tried s.shaped kept) (over h s.page_size s.commit s.entries.items s.dropped s.sums.sums s.whole s.tried s.shaped kept c.args.attempt file encoding c.requires.publishes can is read) in
       let mode : s.wal ≡ image_is_wal (image_in s.page_size s.commit (now h)) =
       subst (λ (b : Bool). s.wal ≡ image_is_wal (state_of h s.page_size s.commit s.entries.items s.dropped b s.whole).image) c.requires.open_ (s.mode honest) in
       rw (c.wal_after-store.ensures, c.requires.open_)
       (mode_after (image h s.page_size s.commit s.entries.items s.dropped s.sums.sums s.whole s.tried s.shaped kept) s.wal file.change c.requires.valid.block.pages.of_a_page_size can.complete mode
-      ∙ ap (λ (st : StoreState). image_is_wal st.image) (sym (is_done h s.page_size s.commit s.entries.items s.dropped s.sums.sums s.whole s.tried s.shaped kept c.args.attempt file text c.requires.publishes can is read new places.0 places.1)));
+      ∙ ap (λ (st : StoreState). image_is_wal st.image) (sym (is_done h s.page_size s.commit s.entries.items s.dropped s.sums.sums s.whole s.tried s.shaped kept c.args.attempt file encoding c.requires.publishes can is read new places.0 places.1)));
 }
 
 pub returns-in-Whole-clause-went : goal.returns-in-Whole-clause-went
@@ -128,15 +128,15 @@ returns-in-Whole-clause-went g c honest =
     let h = g.D.Disk.history s.disk in
     let new = g.D.Disk.history c.place.new.disk in
     let file = c.args.file.now in
-    let text : List ℕ = c.as_slice.result.now in
+    let encoding : List ℕ = c.as_slice.result.now in
     let kept : IsStore h s.page_size s.commit s.entries.items s.dropped s.sums.sums false s.whole s.tried =
     subst (λ (b : Bool). IsStore h s.page_size s.commit s.entries.items s.dropped s.sums.sums b s.whole s.tried) c.requires.open_ (s.kept honest) in
     let can : CanTake (state_in s.page_size s.commit s.entries.items s.dropped (now h)) file =
     subst (λ (b : Bool). CanTake (state_of h s.page_size s.commit s.entries.items s.dropped b s.whole) file) c.requires.open_ (c.requires.can honest) in
-    let is : IsLtx text file = subst (λ (t : List ℕ). IsLtx t file) (sym c.as_slice.ensures.value) c.in-Ok.ensures.text in
-    let read : file_of text ≡ file = ap file_of c.as_slice.ensures.value ∙ c.in-Ok.ensures.read in
-    let places = c.in-Whole.ensures.places honest (image h s.page_size s.commit s.entries.items s.dropped s.sums.sums s.whole s.tried s.shaped kept) (files h s.page_size s.commit s.entries.items s.dropped s.sums.sums s.whole s.tried s.shaped kept) (over h s.page_size s.commit s.entries.items s.dropped s.sums.sums s.whole s.tried s.shaped kept c.args.attempt file text c.requires.publishes can is read) in
-    rw (c.push_reserved.ensures.items, c.entry_of.ensures, c.reserve.ensures.items, c.requires.open_) (went_done h s.page_size s.commit s.entries.items s.dropped s.sums.sums s.whole s.tried s.shaped kept c.args.attempt file text c.requires.publishes can is read new places.0 places.1)
+    let is : IsLtx encoding file = subst (λ (t : List ℕ). IsLtx t file) (sym c.as_slice.ensures.value) c.in-Ok.ensures.encoding in
+    let read : file_of encoding ≡ file = ap file_of c.as_slice.ensures.value ∙ c.in-Ok.ensures.read in
+    let places = c.in-Whole.ensures.places honest (image h s.page_size s.commit s.entries.items s.dropped s.sums.sums s.whole s.tried s.shaped kept) (files h s.page_size s.commit s.entries.items s.dropped s.sums.sums s.whole s.tried s.shaped kept) (over h s.page_size s.commit s.entries.items s.dropped s.sums.sums s.whole s.tried s.shaped kept c.args.attempt file encoding c.requires.publishes can is read) in
+    rw (c.push_reserved.ensures.items, c.entry_of.ensures, c.reserve.ensures.items, c.requires.open_) (went_done h s.page_size s.commit s.entries.items s.dropped s.sums.sums s.whole s.tried s.shaped kept c.args.attempt file encoding c.requires.publishes can is read new places.0 places.1)
 
 pub invariant_of-store-in-Unpublished : goal.invariant_of-store-in-Unpublished
 invariant_of-store-in-Unpublished g c = record {
@@ -148,14 +148,14 @@ invariant_of-store-in-Unpublished g c = record {
       let h = g.D.Disk.history s.disk in
       let new = g.D.Disk.history c.place.new.disk in
       let file = c.args.file.now in
-      let text : List ℕ = c.as_slice.result.now in
+      let encoding : List ℕ = c.as_slice.result.now in
       let kept : IsStore h s.page_size s.commit s.entries.items s.dropped s.sums.sums false s.whole s.tried =
       subst (λ (b : Bool). IsStore h s.page_size s.commit s.entries.items s.dropped s.sums.sums b s.whole s.tried) c.requires.open_ (s.kept honest) in
       let can : CanTake (state_in s.page_size s.commit s.entries.items s.dropped (now h)) file =
       subst (λ (b : Bool). CanTake (state_of h s.page_size s.commit s.entries.items s.dropped b s.whole) file) c.requires.open_ (c.requires.can honest) in
-      let is : IsLtx text file = subst (λ (t : List ℕ). IsLtx t file) (sym c.as_slice.ensures.value) c.in-Ok.ensures.text in
-      let read : file_of text ≡ file = ap file_of c.as_slice.ensures.value ∙ c.in-Ok.ensures.read in
-      let places = c.in-Unpublished.ensures.places honest (image h s.page_size s.commit s.entries.items s.dropped s.sums.sums s.whole s.tried s.shaped kept) (files h s.page_size s.commit s.entries.items s.dropped s.sums.sums s.whole s.tried s.shaped kept) (over h s.page_size s.commit s.entries.items s.dropped s.sums.sums s.whole s.tried s.shaped kept c.args.attempt file text c.requires.publishes can is read) in
+      let is : IsLtx encoding file = subst (λ (t : List ℕ). IsLtx t file) (sym c.as_slice.ensures.value) c.in-Ok.ensures.encoding in
+      let read : file_of encoding ≡ file = ap file_of c.as_slice.ensures.value ∙ c.in-Ok.ensures.read in
+      let places = c.in-Unpublished.ensures.places honest (image h s.page_size s.commit s.entries.items s.dropped s.sums.sums s.whole s.tried s.shaped kept) (files h s.page_size s.commit s.entries.items s.dropped s.sums.sums s.whole s.tried s.shaped kept) (over h s.page_size s.commit s.entries.items s.dropped s.sums.sums s.whole s.tried s.shaped kept c.args.attempt file encoding c.requires.publishes can is read) in
       rw (c.reserve.ensures.items, c.in-Ok-reserve.ensures.ok, c.moment-store.ensures)
       (broken s.page_size s.commit s.entries.items s.dropped s.sums.sums h new places.past s.whole s.tried h.moment places.later places.later kept);
   left = λ still.
@@ -164,14 +164,14 @@ invariant_of-store-in-Unpublished g c = record {
       let h = g.D.Disk.history s.disk in
       let new = g.D.Disk.history c.place.new.disk in
       let file = c.args.file.now in
-      let text : List ℕ = c.as_slice.result.now in
+      let encoding : List ℕ = c.as_slice.result.now in
       let kept : IsStore h s.page_size s.commit s.entries.items s.dropped s.sums.sums false s.whole s.tried =
       subst (λ (b : Bool). IsStore h s.page_size s.commit s.entries.items s.dropped s.sums.sums b s.whole s.tried) c.requires.open_ (s.kept honest) in
       let can : CanTake (state_in s.page_size s.commit s.entries.items s.dropped (now h)) file =
       subst (λ (b : Bool). CanTake (state_of h s.page_size s.commit s.entries.items s.dropped b s.whole) file) c.requires.open_ (c.requires.can honest) in
-      let is : IsLtx text file = subst (λ (t : List ℕ). IsLtx t file) (sym c.as_slice.ensures.value) c.in-Ok.ensures.text in
-      let read : file_of text ≡ file = ap file_of c.as_slice.ensures.value ∙ c.in-Ok.ensures.read in
-      let places = c.in-Unpublished.ensures.places honest (image h s.page_size s.commit s.entries.items s.dropped s.sums.sums s.whole s.tried s.shaped kept) (files h s.page_size s.commit s.entries.items s.dropped s.sums.sums s.whole s.tried s.shaped kept) (over h s.page_size s.commit s.entries.items s.dropped s.sums.sums s.whole s.tried s.shaped kept c.args.attempt file text c.requires.publishes can is read) in
+      let is : IsLtx encoding file = subst (λ (t : List ℕ). IsLtx t file) (sym c.as_slice.ensures.value) c.in-Ok.ensures.encoding in
+      let read : file_of encoding ≡ file = ap file_of c.as_slice.ensures.value ∙ c.in-Ok.ensures.read in
+      let places = c.in-Unpublished.ensures.places honest (image h s.page_size s.commit s.entries.items s.dropped s.sums.sums s.whole s.tried s.shaped kept) (files h s.page_size s.commit s.entries.items s.dropped s.sums.sums s.whole s.tried s.shaped kept) (over h s.page_size s.commit s.entries.items s.dropped s.sums.sums s.whole s.tried s.shaped kept c.args.attempt file encoding c.requires.publishes can is read) in
       rw (c.reserve.ensures.items, c.moment-store.ensures) (left_before h s.page_size s.commit s.entries.items s.dropped s.sums.sums s.whole s.tried s.shaped kept new places);
   mode = λ still.
       let honest = sym c.place.ensures.honest ∙ still in
@@ -179,14 +179,14 @@ invariant_of-store-in-Unpublished g c = record {
       let h = g.D.Disk.history s.disk in
       let new = g.D.Disk.history c.place.new.disk in
       let file = c.args.file.now in
-      let text : List ℕ = c.as_slice.result.now in
+      let encoding : List ℕ = c.as_slice.result.now in
       let kept : IsStore h s.page_size s.commit s.entries.items s.dropped s.sums.sums false s.whole s.tried =
       subst (λ (b : Bool). IsStore h s.page_size s.commit s.entries.items s.dropped s.sums.sums b s.whole s.tried) c.requires.open_ (s.kept honest) in
       let can : CanTake (state_in s.page_size s.commit s.entries.items s.dropped (now h)) file =
       subst (λ (b : Bool). CanTake (state_of h s.page_size s.commit s.entries.items s.dropped b s.whole) file) c.requires.open_ (c.requires.can honest) in
-      let is : IsLtx text file = subst (λ (t : List ℕ). IsLtx t file) (sym c.as_slice.ensures.value) c.in-Ok.ensures.text in
-      let read : file_of text ≡ file = ap file_of c.as_slice.ensures.value ∙ c.in-Ok.ensures.read in
-      let places = c.in-Unpublished.ensures.places honest (image h s.page_size s.commit s.entries.items s.dropped s.sums.sums s.whole s.tried s.shaped kept) (files h s.page_size s.commit s.entries.items s.dropped s.sums.sums s.whole s.tried s.shaped kept) (over h s.page_size s.commit s.entries.items s.dropped s.sums.sums s.whole s.tried s.shaped kept c.args.attempt file text c.requires.publishes can is read) in
+      let is : IsLtx encoding file = subst (λ (t : List ℕ). IsLtx t file) (sym c.as_slice.ensures.value) c.in-Ok.ensures.encoding in
+      let read : file_of encoding ≡ file = ap file_of c.as_slice.ensures.value ∙ c.in-Ok.ensures.read in
+      let places = c.in-Unpublished.ensures.places honest (image h s.page_size s.commit s.entries.items s.dropped s.sums.sums s.whole s.tried s.shaped kept) (files h s.page_size s.commit s.entries.items s.dropped s.sums.sums s.whole s.tried s.shaped kept) (over h s.page_size s.commit s.entries.items s.dropped s.sums.sums s.whole s.tried s.shaped kept c.args.attempt file encoding c.requires.publishes can is read) in
       let mode : s.wal ≡ image_is_wal (image_in s.page_size s.commit (now h)) =
       subst (λ (b : Bool). s.wal ≡ image_is_wal (state_of h s.page_size s.commit s.entries.items s.dropped b s.whole).image) c.requires.open_ (s.mode honest) in
       rw (c.moment-store.ensures) (mode_before s.page_size s.commit s.entries.items s.dropped s.sums.sums h new places.past s.wal mode);
@@ -198,14 +198,14 @@ returns-in-Unpublished-clause-went g c honest =
     let h = g.D.Disk.history s.disk in
     let new = g.D.Disk.history c.place.new.disk in
     let file = c.args.file.now in
-    let text : List ℕ = c.as_slice.result.now in
+    let encoding : List ℕ = c.as_slice.result.now in
     let kept : IsStore h s.page_size s.commit s.entries.items s.dropped s.sums.sums false s.whole s.tried =
     subst (λ (b : Bool). IsStore h s.page_size s.commit s.entries.items s.dropped s.sums.sums b s.whole s.tried) c.requires.open_ (s.kept honest) in
     let can : CanTake (state_in s.page_size s.commit s.entries.items s.dropped (now h)) file =
     subst (λ (b : Bool). CanTake (state_of h s.page_size s.commit s.entries.items s.dropped b s.whole) file) c.requires.open_ (c.requires.can honest) in
-    let is : IsLtx text file = subst (λ (t : List ℕ). IsLtx t file) (sym c.as_slice.ensures.value) c.in-Ok.ensures.text in
-    let read : file_of text ≡ file = ap file_of c.as_slice.ensures.value ∙ c.in-Ok.ensures.read in
-    let places = c.in-Unpublished.ensures.places honest (image h s.page_size s.commit s.entries.items s.dropped s.sums.sums s.whole s.tried s.shaped kept) (files h s.page_size s.commit s.entries.items s.dropped s.sums.sums s.whole s.tried s.shaped kept) (over h s.page_size s.commit s.entries.items s.dropped s.sums.sums s.whole s.tried s.shaped kept c.args.attempt file text c.requires.publishes can is read) in
+    let is : IsLtx encoding file = subst (λ (t : List ℕ). IsLtx t file) (sym c.as_slice.ensures.value) c.in-Ok.ensures.encoding in
+    let read : file_of encoding ≡ file = ap file_of c.as_slice.ensures.value ∙ c.in-Ok.ensures.read in
+    let places = c.in-Unpublished.ensures.places honest (image h s.page_size s.commit s.entries.items s.dropped s.sums.sums s.whole s.tried s.shaped kept) (files h s.page_size s.commit s.entries.items s.dropped s.sums.sums s.whole s.tried s.shaped kept) (over h s.page_size s.commit s.entries.items s.dropped s.sums.sums s.whole s.tried s.shaped kept c.args.attempt file encoding c.requires.publishes can is read) in
     rw (c.reserve.ensures.items, c.moment-store.ensures, c.requires.open_) (inl (went_before h s.page_size s.commit s.entries.items s.dropped s.sums.sums s.whole s.tried s.shaped kept new places))
 
 pub invariant_of-store-in-From : goal.invariant_of-store-in-From
@@ -218,14 +218,14 @@ invariant_of-store-in-From g c = record {
       let h = g.D.Disk.history s.disk in
       let new = g.D.Disk.history c.place.new.disk in
       let file = c.args.file.now in
-      let text : List ℕ = c.as_slice.result.now in
+      let encoding : List ℕ = c.as_slice.result.now in
       let kept : IsStore h s.page_size s.commit s.entries.items s.dropped s.sums.sums false s.whole s.tried =
       subst (λ (b : Bool). IsStore h s.page_size s.commit s.entries.items s.dropped s.sums.sums b s.whole s.tried) c.requires.open_ (s.kept honest) in
       let can : CanTake (state_in s.page_size s.commit s.entries.items s.dropped (now h)) file =
       subst (λ (b : Bool). CanTake (state_of h s.page_size s.commit s.entries.items s.dropped b s.whole) file) c.requires.open_ (c.requires.can honest) in
-      let is : IsLtx text file = subst (λ (t : List ℕ). IsLtx t file) (sym c.as_slice.ensures.value) c.in-Ok.ensures.text in
-      let read : file_of text ≡ file = ap file_of c.as_slice.ensures.value ∙ c.in-Ok.ensures.read in
-      let places = c.in-From.ensures.places honest (image h s.page_size s.commit s.entries.items s.dropped s.sums.sums s.whole s.tried s.shaped kept) (files h s.page_size s.commit s.entries.items s.dropped s.sums.sums s.whole s.tried s.shaped kept) (over h s.page_size s.commit s.entries.items s.dropped s.sums.sums s.whole s.tried s.shaped kept c.args.attempt file text c.requires.publishes can is read) in
+      let is : IsLtx encoding file = subst (λ (t : List ℕ). IsLtx t file) (sym c.as_slice.ensures.value) c.in-Ok.ensures.encoding in
+      let read : file_of encoding ≡ file = ap file_of c.as_slice.ensures.value ∙ c.in-Ok.ensures.read in
+      let places = c.in-From.ensures.places honest (image h s.page_size s.commit s.entries.items s.dropped s.sums.sums s.whole s.tried s.shaped kept) (files h s.page_size s.commit s.entries.items s.dropped s.sums.sums s.whole s.tried s.shaped kept) (over h s.page_size s.commit s.entries.items s.dropped s.sums.sums s.whole s.tried s.shaped kept c.args.attempt file encoding c.requires.publishes can is read) in
       rw (c.reserve.ensures.items, c.in-Ok-reserve.ensures.ok, c.moment-store.ensures)
       (broken s.page_size s.commit s.entries.items s.dropped s.sums.sums h new places.0.past s.whole s.tried c.in-From.tried places.0.later places.1.past kept);
   left = λ still.
@@ -234,31 +234,31 @@ invariant_of-store-in-From g c = record {
       let h = g.D.Disk.history s.disk in
       let new = g.D.Disk.history c.place.new.disk in
       let file = c.args.file.now in
-      let text : List ℕ = c.as_slice.result.now in
+      let encoding : List ℕ = c.as_slice.result.now in
       let kept : IsStore h s.page_size s.commit s.entries.items s.dropped s.sums.sums false s.whole s.tried =
       subst (λ (b : Bool). IsStore h s.page_size s.commit s.entries.items s.dropped s.sums.sums b s.whole s.tried) c.requires.open_ (s.kept honest) in
       let can : CanTake (state_in s.page_size s.commit s.entries.items s.dropped (now h)) file =
       subst (λ (b : Bool). CanTake (state_of h s.page_size s.commit s.entries.items s.dropped b s.whole) file) c.requires.open_ (c.requires.can honest) in
-      let is : IsLtx text file = subst (λ (t : List ℕ). IsLtx t file) (sym c.as_slice.ensures.value) c.in-Ok.ensures.text in
-      let read : file_of text ≡ file = ap file_of c.as_slice.ensures.value ∙ c.in-Ok.ensures.read in
-      let places = c.in-From.ensures.places honest (image h s.page_size s.commit s.entries.items s.dropped s.sums.sums s.whole s.tried s.shaped kept) (files h s.page_size s.commit s.entries.items s.dropped s.sums.sums s.whole s.tried s.shaped kept) (over h s.page_size s.commit s.entries.items s.dropped s.sums.sums s.whole s.tried s.shaped kept c.args.attempt file text c.requires.publishes can is read) in
+      let is : IsLtx encoding file = subst (λ (t : List ℕ). IsLtx t file) (sym c.as_slice.ensures.value) c.in-Ok.ensures.encoding in
+      let read : file_of encoding ≡ file = ap file_of c.as_slice.ensures.value ∙ c.in-Ok.ensures.read in
+      let places = c.in-From.ensures.places honest (image h s.page_size s.commit s.entries.items s.dropped s.sums.sums s.whole s.tried s.shaped kept) (files h s.page_size s.commit s.entries.items s.dropped s.sums.sums s.whole s.tried s.shaped kept) (over h s.page_size s.commit s.entries.items s.dropped s.sums.sums s.whole s.tried s.shaped kept c.args.attempt file encoding c.requires.publishes can is read) in
       let P : List Entry → ℕ → Type 0 = λ es w. RestsAs (MayBeFound (state_of new s.page_size s.commit es s.dropped true w) (Some (failure_of new c.in-From.tried c.args.attempt))) new in
       subst (λ (es : List Entry). P es c.moment-store.result) (sym c.reserve.ensures.items) (subst (λ (w : ℕ). P s.entries.items w) (sym c.moment-store.ensures)
-      (left_in h s.page_size s.commit s.entries.items s.dropped s.sums.sums s.whole s.tried s.shaped kept c.args.attempt file text c.requires.publishes can is read new c.in-From.tried places.0 places.1));
+      (left_in h s.page_size s.commit s.entries.items s.dropped s.sums.sums s.whole s.tried s.shaped kept c.args.attempt file encoding c.requires.publishes can is read new c.in-From.tried places.0 places.1));
   mode = λ still.
       let honest = sym c.place.ensures.honest ∙ still in
       let s = c.args.store.now in
       let h = g.D.Disk.history s.disk in
       let new = g.D.Disk.history c.place.new.disk in
       let file = c.args.file.now in
-      let text : List ℕ = c.as_slice.result.now in
+      let encoding : List ℕ = c.as_slice.result.now in
       let kept : IsStore h s.page_size s.commit s.entries.items s.dropped s.sums.sums false s.whole s.tried =
       subst (λ (b : Bool). IsStore h s.page_size s.commit s.entries.items s.dropped s.sums.sums b s.whole s.tried) c.requires.open_ (s.kept honest) in
       let can : CanTake (state_in s.page_size s.commit s.entries.items s.dropped (now h)) file =
       subst (λ (b : Bool). CanTake (state_of h s.page_size s.commit s.entries.items s.dropped b s.whole) file) c.requires.open_ (c.requires.can honest) in
-      let is : IsLtx text file = subst (λ (t : List ℕ). IsLtx t file) (sym c.as_slice.ensures.value) c.in-Ok.ensures.text in
-      let read : file_of text ≡ file = ap file_of c.as_slice.ensures.value ∙ c.in-Ok.ensures.read in
-      let places = c.in-From.ensures.places honest (image h s.page_size s.commit s.entries.items s.dropped s.sums.sums s.whole s.tried s.shaped kept) (files h s.page_size s.commit s.entries.items s.dropped s.sums.sums s.whole s.tried s.shaped kept) (over h s.page_size s.commit s.entries.items s.dropped s.sums.sums s.whole s.tried s.shaped kept c.args.attempt file text c.requires.publishes can is read) in
+      let is : IsLtx encoding file = subst (λ (t : List ℕ). IsLtx t file) (sym c.as_slice.ensures.value) c.in-Ok.ensures.encoding in
+      let read : file_of encoding ≡ file = ap file_of c.as_slice.ensures.value ∙ c.in-Ok.ensures.read in
+      let places = c.in-From.ensures.places honest (image h s.page_size s.commit s.entries.items s.dropped s.sums.sums s.whole s.tried s.shaped kept) (files h s.page_size s.commit s.entries.items s.dropped s.sums.sums s.whole s.tried s.shaped kept) (over h s.page_size s.commit s.entries.items s.dropped s.sums.sums s.whole s.tried s.shaped kept c.args.attempt file encoding c.requires.publishes can is read) in
       let mode : s.wal ≡ image_is_wal (image_in s.page_size s.commit (now h)) =
       subst (λ (b : Bool). s.wal ≡ image_is_wal (state_of h s.page_size s.commit s.entries.items s.dropped b s.whole).image) c.requires.open_ (s.mode honest) in
       rw (c.moment-store.ensures) (mode_before s.page_size s.commit s.entries.items s.dropped s.sums.sums h new places.0.past s.wal mode);
@@ -270,15 +270,15 @@ returns-clause-went g c honest =
     let h = g.D.Disk.history s.disk in
     let new = g.D.Disk.history c.place.new.disk in
     let file = c.args.file.now in
-    let text : List ℕ = c.as_slice.result.now in
+    let encoding : List ℕ = c.as_slice.result.now in
     let kept : IsStore h s.page_size s.commit s.entries.items s.dropped s.sums.sums false s.whole s.tried =
     subst (λ (b : Bool). IsStore h s.page_size s.commit s.entries.items s.dropped s.sums.sums b s.whole s.tried) c.requires.open_ (s.kept honest) in
     let can : CanTake (state_in s.page_size s.commit s.entries.items s.dropped (now h)) file =
     subst (λ (b : Bool). CanTake (state_of h s.page_size s.commit s.entries.items s.dropped b s.whole) file) c.requires.open_ (c.requires.can honest) in
-    let is : IsLtx text file = subst (λ (t : List ℕ). IsLtx t file) (sym c.as_slice.ensures.value) c.in-Ok.ensures.text in
-    let read : file_of text ≡ file = ap file_of c.as_slice.ensures.value ∙ c.in-Ok.ensures.read in
-    let places = c.in-From.ensures.places honest (image h s.page_size s.commit s.entries.items s.dropped s.sums.sums s.whole s.tried s.shaped kept) (files h s.page_size s.commit s.entries.items s.dropped s.sums.sums s.whole s.tried s.shaped kept) (over h s.page_size s.commit s.entries.items s.dropped s.sums.sums s.whole s.tried s.shaped kept c.args.attempt file text c.requires.publishes can is read) in
-    rw (c.reserve.ensures.items, c.moment-store.ensures, c.requires.open_) (inr (went_in h s.page_size s.commit s.entries.items s.dropped s.sums.sums s.whole s.tried s.shaped kept c.args.attempt file text c.requires.publishes can is read new c.in-From.tried places.0 places.1))
+    let is : IsLtx encoding file = subst (λ (t : List ℕ). IsLtx t file) (sym c.as_slice.ensures.value) c.in-Ok.ensures.encoding in
+    let read : file_of encoding ≡ file = ap file_of c.as_slice.ensures.value ∙ c.in-Ok.ensures.read in
+    let places = c.in-From.ensures.places honest (image h s.page_size s.commit s.entries.items s.dropped s.sums.sums s.whole s.tried s.shaped kept) (files h s.page_size s.commit s.entries.items s.dropped s.sums.sums s.whole s.tried s.shaped kept) (over h s.page_size s.commit s.entries.items s.dropped s.sums.sums s.whole s.tried s.shaped kept c.args.attempt file encoding c.requires.publishes can is read) in
+    rw (c.reserve.ensures.items, c.moment-store.ensures, c.requires.open_) (inr (went_in h s.page_size s.commit s.entries.items s.dropped s.sums.sums s.whole s.tried s.shaped kept c.args.attempt file encoding c.requires.publishes can is read new c.in-From.tried places.0 places.1))
 
 pub returns-in-Whole-clause-position : goal.returns-in-Whole-clause-position
 returns-in-Whole-clause-position g c =

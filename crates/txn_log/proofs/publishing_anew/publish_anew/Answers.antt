@@ -70,56 +70,56 @@ invariant_of-store-in-Whole g c = record {
       let h = g.D.Disk.history s.disk in
       let new = g.D.Disk.history c.place_anew.new.disk in
       let file = c.args.file.now in
-      let text : List ℕ = c.as_slice-2.result.now in
+      let encoding : List ℕ = c.as_slice-2.result.now in
       let kept : IsStore h s.page_size s.commit s.entries.items s.dropped s.sums.sums false s.whole s.tried =
       subst (λ (b : Bool). IsStore h s.page_size s.commit s.entries.items s.dropped s.sums.sums b s.whole s.tried) c.requires.open_ (s.kept honest) in
-      let is : IsLtx text file = subst (λ (t : List ℕ). IsLtx t file) (sym c.as_slice-2.ensures.value) c.in-Ok.ensures.text in
-      let read : file_of text ≡ file = ap file_of c.as_slice-2.ensures.value ∙ c.in-Ok.ensures.read in
-      let old : DatabaseImage = old_image file c.requires.valid c.requires.first text is read h s.page_size s.commit s.entries.items s.dropped s.sums.sums s.whole s.tried s.shaped kept in
-      let before : List LogFile = old_files file c.requires.valid c.requires.first text is read h s.page_size s.commit s.entries.items s.dropped s.sums.sums s.whole s.tried s.shaped kept in
+      let is : IsLtx encoding file = subst (λ (t : List ℕ). IsLtx t file) (sym c.as_slice-2.ensures.value) c.in-Ok.ensures.encoding in
+      let read : file_of encoding ≡ file = ap file_of c.as_slice-2.ensures.value ∙ c.in-Ok.ensures.read in
+      let old : DatabaseImage = old_image file c.requires.valid c.requires.first encoding is read h s.page_size s.commit s.entries.items s.dropped s.sums.sums s.whole s.tried s.shaped kept in
+      let before : List LogFile = old_files file c.requires.valid c.requires.first encoding is read h s.page_size s.commit s.entries.items s.dropped s.sums.sums s.whole s.tried s.shaped kept in
       let made : DatabaseImage = apply empty_image file.change in
-      let ready : IsOverAnew old before s.dropped made text c.as_slice.result.now file.change h =
-      subst (λ (es : List Entry). IsOverAnew old before s.dropped made text es file.change h) (sym (c.as_slice.ensures.value ∙ c.reserve.ensures.items)) (over file c.requires.valid c.requires.first text is read h s.page_size s.commit s.entries.items s.dropped s.sums.sums s.whole s.tried s.shaped kept) in
+      let ready : IsOverAnew old before s.dropped made encoding c.as_slice.result.now file.change h =
+      subst (λ (es : List Entry). IsOverAnew old before s.dropped made encoding es file.change h) (sym (c.as_slice.ensures.value ∙ c.reserve.ensures.items)) (over file c.requires.valid c.requires.first encoding is read h s.page_size s.commit s.entries.items s.dropped s.sums.sums s.whole s.tried s.shaped kept) in
       let places = c.in-Whole.ensures.places honest old made before s.dropped ready in
-      rw (c.push_reserved.ensures.items, c.entry_of.ensures, c.clear.ensures.items, c.fill.ensures, c.requires.open_) (stands file c.requires.valid c.requires.first text is read h s.page_size s.commit s.entries.items s.dropped s.sums.sums s.whole s.tried s.shaped kept new places.0 places.1 c.moment-store.result s.tried);
+      rw (c.push_reserved.ensures.items, c.entry_of.ensures, c.clear.ensures.items, c.fill.ensures, c.requires.open_) (stands file c.requires.valid c.requires.first encoding is read h s.page_size s.commit s.entries.items s.dropped s.sums.sums s.whole s.tried s.shaped kept new places.0 places.1 c.moment-store.result s.tried);
   left = λ still.
       let honest = sym c.place_anew.ensures.honest ∙ still in
       let s = c.args.store.now in
       let h = g.D.Disk.history s.disk in
       let new = g.D.Disk.history c.place_anew.new.disk in
       let file = c.args.file.now in
-      let text : List ℕ = c.as_slice-2.result.now in
+      let encoding : List ℕ = c.as_slice-2.result.now in
       let kept : IsStore h s.page_size s.commit s.entries.items s.dropped s.sums.sums false s.whole s.tried =
       subst (λ (b : Bool). IsStore h s.page_size s.commit s.entries.items s.dropped s.sums.sums b s.whole s.tried) c.requires.open_ (s.kept honest) in
-      let is : IsLtx text file = subst (λ (t : List ℕ). IsLtx t file) (sym c.as_slice-2.ensures.value) c.in-Ok.ensures.text in
-      let read : file_of text ≡ file = ap file_of c.as_slice-2.ensures.value ∙ c.in-Ok.ensures.read in
-      let old : DatabaseImage = old_image file c.requires.valid c.requires.first text is read h s.page_size s.commit s.entries.items s.dropped s.sums.sums s.whole s.tried s.shaped kept in
-      let before : List LogFile = old_files file c.requires.valid c.requires.first text is read h s.page_size s.commit s.entries.items s.dropped s.sums.sums s.whole s.tried s.shaped kept in
+      let is : IsLtx encoding file = subst (λ (t : List ℕ). IsLtx t file) (sym c.as_slice-2.ensures.value) c.in-Ok.ensures.encoding in
+      let read : file_of encoding ≡ file = ap file_of c.as_slice-2.ensures.value ∙ c.in-Ok.ensures.read in
+      let old : DatabaseImage = old_image file c.requires.valid c.requires.first encoding is read h s.page_size s.commit s.entries.items s.dropped s.sums.sums s.whole s.tried s.shaped kept in
+      let before : List LogFile = old_files file c.requires.valid c.requires.first encoding is read h s.page_size s.commit s.entries.items s.dropped s.sums.sums s.whole s.tried s.shaped kept in
       let made : DatabaseImage = apply empty_image file.change in
-      let ready : IsOverAnew old before s.dropped made text c.as_slice.result.now file.change h =
-      subst (λ (es : List Entry). IsOverAnew old before s.dropped made text es file.change h) (sym (c.as_slice.ensures.value ∙ c.reserve.ensures.items)) (over file c.requires.valid c.requires.first text is read h s.page_size s.commit s.entries.items s.dropped s.sums.sums s.whole s.tried s.shaped kept) in
+      let ready : IsOverAnew old before s.dropped made encoding c.as_slice.result.now file.change h =
+      subst (λ (es : List Entry). IsOverAnew old before s.dropped made encoding es file.change h) (sym (c.as_slice.ensures.value ∙ c.reserve.ensures.items)) (over file c.requires.valid c.requires.first encoding is read h s.page_size s.commit s.entries.items s.dropped s.sums.sums s.whole s.tried s.shaped kept) in
       let places = c.in-Whole.ensures.places honest old made before s.dropped ready in
-      rw (c.push_reserved.ensures.items, c.entry_of.ensures, c.clear.ensures.items, c.requires.open_) (left_done file c.requires.valid c.requires.first text is read h s.page_size s.commit s.entries.items s.dropped s.sums.sums s.whole s.tried s.shaped kept new places.0 places.1);
+      rw (c.push_reserved.ensures.items, c.entry_of.ensures, c.clear.ensures.items, c.requires.open_) (left_done file c.requires.valid c.requires.first encoding is read h s.page_size s.commit s.entries.items s.dropped s.sums.sums s.whole s.tried s.shaped kept new places.0 places.1);
   mode = λ still.
       let honest = sym c.place_anew.ensures.honest ∙ still in
       let s = c.args.store.now in
       let h = g.D.Disk.history s.disk in
       let new = g.D.Disk.history c.place_anew.new.disk in
       let file = c.args.file.now in
-      let text : List ℕ = c.as_slice-2.result.now in
+      let encoding : List ℕ = c.as_slice-2.result.now in
       let kept : IsStore h s.page_size s.commit s.entries.items s.dropped s.sums.sums false s.whole s.tried =
       subst (λ (b : Bool). IsStore h s.page_size s.commit s.entries.items s.dropped s.sums.sums b s.whole s.tried) c.requires.open_ (s.kept honest) in
-      let is : IsLtx text file = subst (λ (t : List ℕ). IsLtx t file) (sym c.as_slice-2.ensures.value) c.in-Ok.ensures.text in
-      let read : file_of text ≡ file = ap file_of c.as_slice-2.ensures.value ∙ c.in-Ok.ensures.read in
-      let old : DatabaseImage = old_image file c.requires.valid c.requires.first text is read h s.page_size s.commit s.entries.items s.dropped s.sums.sums s.whole s.tried s.shaped kept in
-      let before : List LogFile = old_files file c.requires.valid c.requires.first text is read h s.page_size s.commit s.entries.items s.dropped s.sums.sums s.whole s.tried s.shaped kept in
+      let is : IsLtx encoding file = subst (λ (t : List ℕ). IsLtx t file) (sym c.as_slice-2.ensures.value) c.in-Ok.ensures.encoding in
+      let read : file_of encoding ≡ file = ap file_of c.as_slice-2.ensures.value ∙ c.in-Ok.ensures.read in
+      let old : DatabaseImage = old_image file c.requires.valid c.requires.first encoding is read h s.page_size s.commit s.entries.items s.dropped s.sums.sums s.whole s.tried s.shaped kept in
+      let before : List LogFile = old_files file c.requires.valid c.requires.first encoding is read h s.page_size s.commit s.entries.items s.dropped s.sums.sums s.whole s.tried s.shaped kept in
       let made : DatabaseImage = apply empty_image file.change in
-      let ready : IsOverAnew old before s.dropped made text c.as_slice.result.now file.change h =
-      subst (λ (es : List Entry). IsOverAnew old before s.dropped made text es file.change h) (sym (c.as_slice.ensures.value ∙ c.reserve.ensures.items)) (over file c.requires.valid c.requires.first text is read h s.page_size s.commit s.entries.items s.dropped s.sums.sums s.whole s.tried s.shaped kept) in
+      let ready : IsOverAnew old before s.dropped made encoding c.as_slice.result.now file.change h =
+      subst (λ (es : List Entry). IsOverAnew old before s.dropped made encoding es file.change h) (sym (c.as_slice.ensures.value ∙ c.reserve.ensures.items)) (over file c.requires.valid c.requires.first encoding is read h s.page_size s.commit s.entries.items s.dropped s.sums.sums s.whole s.tried s.shaped kept) in
       let places = c.in-Whole.ensures.places honest old made before s.dropped ready in
       rw (c.wal_after-store.ensures, c.requires.open_)
       (mode_after empty_image false file.change c.requires.valid.block.pages.of_a_page_size (complete file c.requires.valid c.requires.first) refl
-      ∙ ap (λ (st : StoreState). image_is_wal st.image) (sym (is_done file c.requires.valid c.requires.first text is read h s.page_size s.commit s.entries.items s.dropped s.sums.sums s.whole s.tried s.shaped kept new places.0 places.1)));
+      ∙ ap (λ (st : StoreState). image_is_wal st.image) (sym (is_done file c.requires.valid c.requires.first encoding is read h s.page_size s.commit s.entries.items s.dropped s.sums.sums s.whole s.tried s.shaped kept new places.0 places.1)));
 }
 
 pub returns-in-Whole-clause-went : goal.returns-in-Whole-clause-went
@@ -128,18 +128,18 @@ returns-in-Whole-clause-went g c honest =
     let h = g.D.Disk.history s.disk in
     let new = g.D.Disk.history c.place_anew.new.disk in
     let file = c.args.file.now in
-    let text : List ℕ = c.as_slice-2.result.now in
+    let encoding : List ℕ = c.as_slice-2.result.now in
     let kept : IsStore h s.page_size s.commit s.entries.items s.dropped s.sums.sums false s.whole s.tried =
     subst (λ (b : Bool). IsStore h s.page_size s.commit s.entries.items s.dropped s.sums.sums b s.whole s.tried) c.requires.open_ (s.kept honest) in
-    let is : IsLtx text file = subst (λ (t : List ℕ). IsLtx t file) (sym c.as_slice-2.ensures.value) c.in-Ok.ensures.text in
-    let read : file_of text ≡ file = ap file_of c.as_slice-2.ensures.value ∙ c.in-Ok.ensures.read in
-    let old : DatabaseImage = old_image file c.requires.valid c.requires.first text is read h s.page_size s.commit s.entries.items s.dropped s.sums.sums s.whole s.tried s.shaped kept in
-    let before : List LogFile = old_files file c.requires.valid c.requires.first text is read h s.page_size s.commit s.entries.items s.dropped s.sums.sums s.whole s.tried s.shaped kept in
+    let is : IsLtx encoding file = subst (λ (t : List ℕ). IsLtx t file) (sym c.as_slice-2.ensures.value) c.in-Ok.ensures.encoding in
+    let read : file_of encoding ≡ file = ap file_of c.as_slice-2.ensures.value ∙ c.in-Ok.ensures.read in
+    let old : DatabaseImage = old_image file c.requires.valid c.requires.first encoding is read h s.page_size s.commit s.entries.items s.dropped s.sums.sums s.whole s.tried s.shaped kept in
+    let before : List LogFile = old_files file c.requires.valid c.requires.first encoding is read h s.page_size s.commit s.entries.items s.dropped s.sums.sums s.whole s.tried s.shaped kept in
     let made : DatabaseImage = apply empty_image file.change in
-    let ready : IsOverAnew old before s.dropped made text c.as_slice.result.now file.change h =
-    subst (λ (es : List Entry). IsOverAnew old before s.dropped made text es file.change h) (sym (c.as_slice.ensures.value ∙ c.reserve.ensures.items)) (over file c.requires.valid c.requires.first text is read h s.page_size s.commit s.entries.items s.dropped s.sums.sums s.whole s.tried s.shaped kept) in
+    let ready : IsOverAnew old before s.dropped made encoding c.as_slice.result.now file.change h =
+    subst (λ (es : List Entry). IsOverAnew old before s.dropped made encoding es file.change h) (sym (c.as_slice.ensures.value ∙ c.reserve.ensures.items)) (over file c.requires.valid c.requires.first encoding is read h s.page_size s.commit s.entries.items s.dropped s.sums.sums s.whole s.tried s.shaped kept) in
     let places = c.in-Whole.ensures.places honest old made before s.dropped ready in
-    rw (c.push_reserved.ensures.items, c.entry_of.ensures, c.clear.ensures.items, c.requires.open_) (went_done file c.requires.valid c.requires.first text is read h s.page_size s.commit s.entries.items s.dropped s.sums.sums s.whole s.tried s.shaped kept new places.0 places.1)
+    rw (c.push_reserved.ensures.items, c.entry_of.ensures, c.clear.ensures.items, c.requires.open_) (went_done file c.requires.valid c.requires.first encoding is read h s.page_size s.commit s.entries.items s.dropped s.sums.sums s.whole s.tried s.shaped kept new places.0 places.1)
 
 pub invariant_of-store-in-Unpublished : goal.invariant_of-store-in-Unpublished
 invariant_of-store-in-Unpublished g c = record {
@@ -151,16 +151,16 @@ invariant_of-store-in-Unpublished g c = record {
       let h = g.D.Disk.history s.disk in
       let new = g.D.Disk.history c.place_anew.new.disk in
       let file = c.args.file.now in
-      let text : List ℕ = c.as_slice-2.result.now in
+      let encoding : List ℕ = c.as_slice-2.result.now in
       let kept : IsStore h s.page_size s.commit s.entries.items s.dropped s.sums.sums false s.whole s.tried =
       subst (λ (b : Bool). IsStore h s.page_size s.commit s.entries.items s.dropped s.sums.sums b s.whole s.tried) c.requires.open_ (s.kept honest) in
-      let is : IsLtx text file = subst (λ (t : List ℕ). IsLtx t file) (sym c.as_slice-2.ensures.value) c.in-Ok.ensures.text in
-      let read : file_of text ≡ file = ap file_of c.as_slice-2.ensures.value ∙ c.in-Ok.ensures.read in
-      let old : DatabaseImage = old_image file c.requires.valid c.requires.first text is read h s.page_size s.commit s.entries.items s.dropped s.sums.sums s.whole s.tried s.shaped kept in
-      let before : List LogFile = old_files file c.requires.valid c.requires.first text is read h s.page_size s.commit s.entries.items s.dropped s.sums.sums s.whole s.tried s.shaped kept in
+      let is : IsLtx encoding file = subst (λ (t : List ℕ). IsLtx t file) (sym c.as_slice-2.ensures.value) c.in-Ok.ensures.encoding in
+      let read : file_of encoding ≡ file = ap file_of c.as_slice-2.ensures.value ∙ c.in-Ok.ensures.read in
+      let old : DatabaseImage = old_image file c.requires.valid c.requires.first encoding is read h s.page_size s.commit s.entries.items s.dropped s.sums.sums s.whole s.tried s.shaped kept in
+      let before : List LogFile = old_files file c.requires.valid c.requires.first encoding is read h s.page_size s.commit s.entries.items s.dropped s.sums.sums s.whole s.tried s.shaped kept in
       let made : DatabaseImage = apply empty_image file.change in
-      let ready : IsOverAnew old before s.dropped made text c.as_slice.result.now file.change h =
-      subst (λ (es : List Entry). IsOverAnew old before s.dropped made text es file.change h) (sym (c.as_slice.ensures.value ∙ c.reserve.ensures.items)) (over file c.requires.valid c.requires.first text is read h s.page_size s.commit s.entries.items s.dropped s.sums.sums s.whole s.tried s.shaped kept) in
+      let ready : IsOverAnew old before s.dropped made encoding c.as_slice.result.now file.change h =
+      subst (λ (es : List Entry). IsOverAnew old before s.dropped made encoding es file.change h) (sym (c.as_slice.ensures.value ∙ c.reserve.ensures.items)) (over file c.requires.valid c.requires.first encoding is read h s.page_size s.commit s.entries.items s.dropped s.sums.sums s.whole s.tried s.shaped kept) in
       let places = c.in-Unpublished.ensures.places honest old made before s.dropped ready in
       rw (c.reserve.ensures.items, c.in-Ok-reserve.ensures.ok, c.moment-store.ensures)
       (broken s.page_size s.commit s.entries.items s.dropped s.sums.sums h new places.past s.whole s.tried h.moment places.later places.later kept);
@@ -170,16 +170,16 @@ invariant_of-store-in-Unpublished g c = record {
       let h = g.D.Disk.history s.disk in
       let new = g.D.Disk.history c.place_anew.new.disk in
       let file = c.args.file.now in
-      let text : List ℕ = c.as_slice-2.result.now in
+      let encoding : List ℕ = c.as_slice-2.result.now in
       let kept : IsStore h s.page_size s.commit s.entries.items s.dropped s.sums.sums false s.whole s.tried =
       subst (λ (b : Bool). IsStore h s.page_size s.commit s.entries.items s.dropped s.sums.sums b s.whole s.tried) c.requires.open_ (s.kept honest) in
-      let is : IsLtx text file = subst (λ (t : List ℕ). IsLtx t file) (sym c.as_slice-2.ensures.value) c.in-Ok.ensures.text in
-      let read : file_of text ≡ file = ap file_of c.as_slice-2.ensures.value ∙ c.in-Ok.ensures.read in
-      let old : DatabaseImage = old_image file c.requires.valid c.requires.first text is read h s.page_size s.commit s.entries.items s.dropped s.sums.sums s.whole s.tried s.shaped kept in
-      let before : List LogFile = old_files file c.requires.valid c.requires.first text is read h s.page_size s.commit s.entries.items s.dropped s.sums.sums s.whole s.tried s.shaped kept in
+      let is : IsLtx encoding file = subst (λ (t : List ℕ). IsLtx t file) (sym c.as_slice-2.ensures.value) c.in-Ok.ensures.encoding in
+      let read : file_of encoding ≡ file = ap file_of c.as_slice-2.ensures.value ∙ c.in-Ok.ensures.read in
+      let old : DatabaseImage = old_image file c.requires.valid c.requires.first encoding is read h s.page_size s.commit s.entries.items s.dropped s.sums.sums s.whole s.tried s.shaped kept in
+      let before : List LogFile = old_files file c.requires.valid c.requires.first encoding is read h s.page_size s.commit s.entries.items s.dropped s.sums.sums s.whole s.tried s.shaped kept in
       let made : DatabaseImage = apply empty_image file.change in
-      let ready : IsOverAnew old before s.dropped made text c.as_slice.result.now file.change h =
-      subst (λ (es : List Entry). IsOverAnew old before s.dropped made text es file.change h) (sym (c.as_slice.ensures.value ∙ c.reserve.ensures.items)) (over file c.requires.valid c.requires.first text is read h s.page_size s.commit s.entries.items s.dropped s.sums.sums s.whole s.tried s.shaped kept) in
+      let ready : IsOverAnew old before s.dropped made encoding c.as_slice.result.now file.change h =
+      subst (λ (es : List Entry). IsOverAnew old before s.dropped made encoding es file.change h) (sym (c.as_slice.ensures.value ∙ c.reserve.ensures.items)) (over file c.requires.valid c.requires.first encoding is read h s.page_size s.commit s.entries.items s.dropped s.sums.sums s.whole s.tried s.shaped kept) in
       let places = c.in-Unpublished.ensures.places honest old made before s.dropped ready in
       rw (c.reserve.ensures.items, c.moment-store.ensures) (left_before h s.page_size s.commit s.entries.items s.dropped s.sums.sums s.whole s.tried s.shaped kept new places);
   mode = λ still.
@@ -188,16 +188,16 @@ invariant_of-store-in-Unpublished g c = record {
       let h = g.D.Disk.history s.disk in
       let new = g.D.Disk.history c.place_anew.new.disk in
       let file = c.args.file.now in
-      let text : List ℕ = c.as_slice-2.result.now in
+      let encoding : List ℕ = c.as_slice-2.result.now in
       let kept : IsStore h s.page_size s.commit s.entries.items s.dropped s.sums.sums false s.whole s.tried =
       subst (λ (b : Bool). IsStore h s.page_size s.commit s.entries.items s.dropped s.sums.sums b s.whole s.tried) c.requires.open_ (s.kept honest) in
-      let is : IsLtx text file = subst (λ (t : List ℕ). IsLtx t file) (sym c.as_slice-2.ensures.value) c.in-Ok.ensures.text in
-      let read : file_of text ≡ file = ap file_of c.as_slice-2.ensures.value ∙ c.in-Ok.ensures.read in
-      let old : DatabaseImage = old_image file c.requires.valid c.requires.first text is read h s.page_size s.commit s.entries.items s.dropped s.sums.sums s.whole s.tried s.shaped kept in
-      let before : List LogFile = old_files file c.requires.valid c.requires.first text is read h s.page_size s.commit s.entries.items s.dropped s.sums.sums s.whole s.tried s.shaped kept in
+      let is : IsLtx encoding file = subst (λ (t : List ℕ). IsLtx t file) (sym c.as_slice-2.ensures.value) c.in-Ok.ensures.encoding in
+      let read : file_of encoding ≡ file = ap file_of c.as_slice-2.ensures.value ∙ c.in-Ok.ensures.read in
+      let old : DatabaseImage = old_image file c.requires.valid c.requires.first encoding is read h s.page_size s.commit s.entries.items s.dropped s.sums.sums s.whole s.tried s.shaped kept in
+      let before : List LogFile = old_files file c.requires.valid c.requires.first encoding is read h s.page_size s.commit s.entries.items s.dropped s.sums.sums s.whole s.tried s.shaped kept in
       let made : DatabaseImage = apply empty_image file.change in
-      let ready : IsOverAnew old before s.dropped made text c.as_slice.result.now file.change h =
-      subst (λ (es : List Entry). IsOverAnew old before s.dropped made text es file.change h) (sym (c.as_slice.ensures.value ∙ c.reserve.ensures.items)) (over file c.requires.valid c.requires.first text is read h s.page_size s.commit s.entries.items s.dropped s.sums.sums s.whole s.tried s.shaped kept) in
+      let ready : IsOverAnew old before s.dropped made encoding c.as_slice.result.now file.change h =
+      subst (λ (es : List Entry). IsOverAnew old before s.dropped made encoding es file.change h) (sym (c.as_slice.ensures.value ∙ c.reserve.ensures.items)) (over file c.requires.valid c.requires.first encoding is read h s.page_size s.commit s.entries.items s.dropped s.sums.sums s.whole s.tried s.shaped kept) in
       let places = c.in-Unpublished.ensures.places honest old made before s.dropped ready in
       let mode : s.wal ≡ image_is_wal (image_in s.page_size s.commit (now h)) =
       subst (λ (b : Bool). s.wal ≡ image_is_wal (state_of h s.page_size s.commit s.entries.items s.dropped b s.whole).image) c.requires.open_ (s.mode honest) in
@@ -210,16 +210,16 @@ returns-in-Unpublished-clause-went g c honest =
     let h = g.D.Disk.history s.disk in
     let new = g.D.Disk.history c.place_anew.new.disk in
     let file = c.args.file.now in
-    let text : List ℕ = c.as_slice-2.result.now in
+    let encoding : List ℕ = c.as_slice-2.result.now in
     let kept : IsStore h s.page_size s.commit s.entries.items s.dropped s.sums.sums false s.whole s.tried =
     subst (λ (b : Bool). IsStore h s.page_size s.commit s.entries.items s.dropped s.sums.sums b s.whole s.tried) c.requires.open_ (s.kept honest) in
-    let is : IsLtx text file = subst (λ (t : List ℕ). IsLtx t file) (sym c.as_slice-2.ensures.value) c.in-Ok.ensures.text in
-    let read : file_of text ≡ file = ap file_of c.as_slice-2.ensures.value ∙ c.in-Ok.ensures.read in
-    let old : DatabaseImage = old_image file c.requires.valid c.requires.first text is read h s.page_size s.commit s.entries.items s.dropped s.sums.sums s.whole s.tried s.shaped kept in
-    let before : List LogFile = old_files file c.requires.valid c.requires.first text is read h s.page_size s.commit s.entries.items s.dropped s.sums.sums s.whole s.tried s.shaped kept in
+    let is : IsLtx encoding file = subst (λ (t : List ℕ). IsLtx t file) (sym c.as_slice-2.ensures.value) c.in-Ok.ensures.encoding in
+    let read : file_of encoding ≡ file = ap file_of c.as_slice-2.ensures.value ∙ c.in-Ok.ensures.read in
+    let old : DatabaseImage = old_image file c.requires.valid c.requires.first encoding is read h s.page_size s.commit s.entries.items s.dropped s.sums.sums s.whole s.tried s.shaped kept in
+    let before : List LogFile = old_files file c.requires.valid c.requires.first encoding is read h s.page_size s.commit s.entries.items s.dropped s.sums.sums s.whole s.tried s.shaped kept in
     let made : DatabaseImage = apply empty_image file.change in
-    let ready : IsOverAnew old before s.dropped made text c.as_slice.result.now file.change h =
-    subst (λ (es : List Entry). IsOverAnew old before s.dropped made text es file.change h) (sym (c.as_slice.ensures.value ∙ c.reserve.ensures.items)) (over file c.requires.valid c.requires.first text is read h s.page_size s.commit s.entries.items s.dropped s.sums.sums s.whole s.tried s.shaped kept) in
+    let ready : IsOverAnew old before s.dropped made encoding c.as_slice.result.now file.change h =
+    subst (λ (es : List Entry). IsOverAnew old before s.dropped made encoding es file.change h) (sym (c.as_slice.ensures.value ∙ c.reserve.ensures.items)) (over file c.requires.valid c.requires.first encoding is read h s.page_size s.commit s.entries.items s.dropped s.sums.sums s.whole s.tried s.shaped kept) in
     let places = c.in-Unpublished.ensures.places honest old made before s.dropped ready in
     rw (c.reserve.ensures.items, c.moment-store.ensures, c.requires.open_) (inl (went_before h s.page_size s.commit s.entries.items s.dropped s.sums.sums s.whole s.tried s.shaped kept new places))
 
@@ -233,16 +233,16 @@ invariant_of-store-in-From g c = record {
       let h = g.D.Disk.history s.disk in
       let new = g.D.Disk.history c.place_anew.new.disk in
       let file = c.args.file.now in
-      let text : List ℕ = c.as_slice-2.result.now in
+      let encoding : List ℕ = c.as_slice-2.result.now in
       let kept : IsStore h s.page_size s.commit s.entries.items s.dropped s.sums.sums false s.whole s.tried =
       subst (λ (b : Bool). IsStore h s.page_size s.commit s.entries.items s.dropped s.sums.sums b s.whole s.tried) c.requires.open_ (s.kept honest) in
-      let is : IsLtx text file = subst (λ (t : List ℕ). IsLtx t file) (sym c.as_slice-2.ensures.value) c.in-Ok.ensures.text in
-      let read : file_of text ≡ file = ap file_of c.as_slice-2.ensures.value ∙ c.in-Ok.ensures.read in
-      let old : DatabaseImage = old_image file c.requires.valid c.requires.first text is read h s.page_size s.commit s.entries.items s.dropped s.sums.sums s.whole s.tried s.shaped kept in
-      let before : List LogFile = old_files file c.requires.valid c.requires.first text is read h s.page_size s.commit s.entries.items s.dropped s.sums.sums s.whole s.tried s.shaped kept in
+      let is : IsLtx encoding file = subst (λ (t : List ℕ). IsLtx t file) (sym c.as_slice-2.ensures.value) c.in-Ok.ensures.encoding in
+      let read : file_of encoding ≡ file = ap file_of c.as_slice-2.ensures.value ∙ c.in-Ok.ensures.read in
+      let old : DatabaseImage = old_image file c.requires.valid c.requires.first encoding is read h s.page_size s.commit s.entries.items s.dropped s.sums.sums s.whole s.tried s.shaped kept in
+      let before : List LogFile = old_files file c.requires.valid c.requires.first encoding is read h s.page_size s.commit s.entries.items s.dropped s.sums.sums s.whole s.tried s.shaped kept in
       let made : DatabaseImage = apply empty_image file.change in
-      let ready : IsOverAnew old before s.dropped made text c.as_slice.result.now file.change h =
-      subst (λ (es : List Entry). IsOverAnew old before s.dropped made text es file.change h) (sym (c.as_slice.ensures.value ∙ c.reserve.ensures.items)) (over file c.requires.valid c.requires.first text is read h s.page_size s.commit s.entries.items s.dropped s.sums.sums s.whole s.tried s.shaped kept) in
+      let ready : IsOverAnew old before s.dropped made encoding c.as_slice.result.now file.change h =
+      subst (λ (es : List Entry). IsOverAnew old before s.dropped made encoding es file.change h) (sym (c.as_slice.ensures.value ∙ c.reserve.ensures.items)) (over file c.requires.valid c.requires.first encoding is read h s.page_size s.commit s.entries.items s.dropped s.sums.sums s.whole s.tried s.shaped kept) in
       let places = c.in-From.ensures.places honest old made before s.dropped ready in
       rw (c.reserve.ensures.items, c.in-Ok-reserve.ensures.ok, c.moment-store.ensures)
       (broken s.page_size s.commit s.entries.items s.dropped s.sums.sums h new places.0.past s.whole s.tried c.in-From.tried places.0.later places.1.past kept);
@@ -252,36 +252,36 @@ invariant_of-store-in-From g c = record {
       let h = g.D.Disk.history s.disk in
       let new = g.D.Disk.history c.place_anew.new.disk in
       let file = c.args.file.now in
-      let text : List ℕ = c.as_slice-2.result.now in
+      let encoding : List ℕ = c.as_slice-2.result.now in
       let kept : IsStore h s.page_size s.commit s.entries.items s.dropped s.sums.sums false s.whole s.tried =
       subst (λ (b : Bool). IsStore h s.page_size s.commit s.entries.items s.dropped s.sums.sums b s.whole s.tried) c.requires.open_ (s.kept honest) in
-      let is : IsLtx text file = subst (λ (t : List ℕ). IsLtx t file) (sym c.as_slice-2.ensures.value) c.in-Ok.ensures.text in
-      let read : file_of text ≡ file = ap file_of c.as_slice-2.ensures.value ∙ c.in-Ok.ensures.read in
-      let old : DatabaseImage = old_image file c.requires.valid c.requires.first text is read h s.page_size s.commit s.entries.items s.dropped s.sums.sums s.whole s.tried s.shaped kept in
-      let before : List LogFile = old_files file c.requires.valid c.requires.first text is read h s.page_size s.commit s.entries.items s.dropped s.sums.sums s.whole s.tried s.shaped kept in
+      let is : IsLtx encoding file = subst (λ (t : List ℕ). IsLtx t file) (sym c.as_slice-2.ensures.value) c.in-Ok.ensures.encoding in
+      let read : file_of encoding ≡ file = ap file_of c.as_slice-2.ensures.value ∙ c.in-Ok.ensures.read in
+      let old : DatabaseImage = old_image file c.requires.valid c.requires.first encoding is read h s.page_size s.commit s.entries.items s.dropped s.sums.sums s.whole s.tried s.shaped kept in
+      let before : List LogFile = old_files file c.requires.valid c.requires.first encoding is read h s.page_size s.commit s.entries.items s.dropped s.sums.sums s.whole s.tried s.shaped kept in
       let made : DatabaseImage = apply empty_image file.change in
-      let ready : IsOverAnew old before s.dropped made text c.as_slice.result.now file.change h =
-      subst (λ (es : List Entry). IsOverAnew old before s.dropped made text es file.change h) (sym (c.as_slice.ensures.value ∙ c.reserve.ensures.items)) (over file c.requires.valid c.requires.first text is read h s.page_size s.commit s.entries.items s.dropped s.sums.sums s.whole s.tried s.shaped kept) in
+      let ready : IsOverAnew old before s.dropped made encoding c.as_slice.result.now file.change h =
+      subst (λ (es : List Entry). IsOverAnew old before s.dropped made encoding es file.change h) (sym (c.as_slice.ensures.value ∙ c.reserve.ensures.items)) (over file c.requires.valid c.requires.first encoding is read h s.page_size s.commit s.entries.items s.dropped s.sums.sums s.whole s.tried s.shaped kept) in
       let places = c.in-From.ensures.places honest old made before s.dropped ready in
       let P : List Entry → ℕ → Type 0 = λ es w. RestsAs (MayBeFound (state_of new s.page_size s.commit es s.dropped true w) (Some (failure_of new c.in-From.tried attempt.Install))) new in
       subst (λ (es : List Entry). P es c.moment-store.result) (sym c.reserve.ensures.items) (subst (λ (w : ℕ). P s.entries.items w) (sym c.moment-store.ensures)
-      (left_in file c.requires.valid c.requires.first text is read h s.page_size s.commit s.entries.items s.dropped s.sums.sums s.whole s.tried s.shaped kept new c.in-From.tried places.0 places.1));
+      (left_in file c.requires.valid c.requires.first encoding is read h s.page_size s.commit s.entries.items s.dropped s.sums.sums s.whole s.tried s.shaped kept new c.in-From.tried places.0 places.1));
   mode = λ still.
       let honest = sym c.place_anew.ensures.honest ∙ still in
       let s = c.args.store.now in
       let h = g.D.Disk.history s.disk in
       let new = g.D.Disk.history c.place_anew.new.disk in
       let file = c.args.file.now in
-      let text : List ℕ = c.as_slice-2.result.now in
+      let encoding : List ℕ = c.as_slice-2.result.now in
       let kept : IsStore h s.page_size s.commit s.entries.items s.dropped s.sums.sums false s.whole s.tried =
       subst (λ (b : Bool). IsStore h s.page_size s.commit s.entries.items s.dropped s.sums.sums b s.whole s.tried) c.requires.open_ (s.kept honest) in
-      let is : IsLtx text file = subst (λ (t : List ℕ). IsLtx t file) (sym c.as_slice-2.ensures.value) c.in-Ok.ensures.text in
-      let read : file_of text ≡ file = ap file_of c.as_slice-2.ensures.value ∙ c.in-Ok.ensures.read in
-      let old : DatabaseImage = old_image file c.requires.valid c.requires.first text is read h s.page_size s.commit s.entries.items s.dropped s.sums.sums s.whole s.tried s.shaped kept in
-      let before : List LogFile = old_files file c.requires.valid c.requires.first text is read h s.page_size s.commit s.entries.items s.dropped s.sums.sums s.whole s.tried s.shaped kept in
+      let is : IsLtx encoding file = subst (λ (t : List ℕ). IsLtx t file) (sym c.as_slice-2.ensures.value) c.in-Ok.ensures.encoding in
+      let read : file_of encoding ≡ file = ap file_of c.as_slice-2.ensures.value ∙ c.in-Ok.ensures.read in
+      let old : DatabaseImage = old_image file c.requires.valid c.requires.first encoding is read h s.page_size s.commit s.entries.items s.dropped s.sums.sums s.whole s.tried s.shaped kept in
+      let before : List LogFile = old_files file c.requires.valid c.requires.first encoding is read h s.page_size s.commit s.entries.items s.dropped s.sums.sums s.whole s.tried s.shaped kept in
       let made : DatabaseImage = apply empty_image file.change in
-      let ready : IsOverAnew old before s.dropped made text c.as_slice.result.now file.change h =
-      subst (λ (es : List Entry). IsOverAnew old before s.dropped made text es file.change h) (sym (c.as_slice.ensures.value ∙ c.reserve.ensures.items)) (over file c.requires.valid c.requires.first text is read h s.page_size s.commit s.entries.items s.dropped s.sums.sums s.whole s.tried s.shaped kept) in
+      let ready : IsOverAnew old before s.dropped made encoding c.as_slice.result.now file.change h =
+      subst (λ (es : List Entry). IsOverAnew old before s.dropped made encoding es file.change h) (sym (c.as_slice.ensures.value ∙ c.reserve.ensures.items)) (over file c.requires.valid c.requires.first encoding is read h s.page_size s.commit s.entries.items s.dropped s.sums.sums s.whole s.tried s.shaped kept) in
       let places = c.in-From.ensures.places honest old made before s.dropped ready in
       let mode : s.wal ≡ image_is_wal (image_in s.page_size s.commit (now h)) =
       subst (λ (b : Bool). s.wal ≡ image_is_wal (state_of h s.page_size s.commit s.entries.items s.dropped b s.whole).image) c.requires.open_ (s.mode honest) in
@@ -294,18 +294,18 @@ returns-clause-went g c honest =
     let h = g.D.Disk.history s.disk in
     let new = g.D.Disk.history c.place_anew.new.disk in
     let file = c.args.file.now in
-    let text : List ℕ = c.as_slice-2.result.now in
+    let encoding : List ℕ = c.as_slice-2.result.now in
     let kept : IsStore h s.page_size s.commit s.entries.items s.dropped s.sums.sums false s.whole s.tried =
     subst (λ (b : Bool). IsStore h s.page_size s.commit s.entries.items s.dropped s.sums.sums b s.whole s.tried) c.requires.open_ (s.kept honest) in
-    let is : IsLtx text file = subst (λ (t : List ℕ). IsLtx t file) (sym c.as_slice-2.ensures.value) c.in-Ok.ensures.text in
-    let read : file_of text ≡ file = ap file_of c.as_slice-2.ensures.value ∙ c.in-Ok.ensures.read in
-    let old : DatabaseImage = old_image file c.requires.valid c.requires.first text is read h s.page_size s.commit s.entries.items s.dropped s.sums.sums s.whole s.tried s.shaped kept in
-    let before : List LogFile = old_files file c.requires.valid c.requires.first text is read h s.page_size s.commit s.entries.items s.dropped s.sums.sums s.whole s.tried s.shaped kept in
+    let is : IsLtx encoding file = subst (λ (t : List ℕ). IsLtx t file) (sym c.as_slice-2.ensures.value) c.in-Ok.ensures.encoding in
+    let read : file_of encoding ≡ file = ap file_of c.as_slice-2.ensures.value ∙ c.in-Ok.ensures.read in
+    let old : DatabaseImage = old_image file c.requires.valid c.requires.first encoding is read h s.page_size s.commit s.entries.items s.dropped s.sums.sums s.whole s.tried s.shaped kept in
+    let before : List LogFile = old_files file c.requires.valid c.requires.first encoding is read h s.page_size s.commit s.entries.items s.dropped s.sums.sums s.whole s.tried s.shaped kept in
     let made : DatabaseImage = apply empty_image file.change in
-    let ready : IsOverAnew old before s.dropped made text c.as_slice.result.now file.change h =
-    subst (λ (es : List Entry). IsOverAnew old before s.dropped made text es file.change h) (sym (c.as_slice.ensures.value ∙ c.reserve.ensures.items)) (over file c.requires.valid c.requires.first text is read h s.page_size s.commit s.entries.items s.dropped s.sums.sums s.whole s.tried s.shaped kept) in
+    let ready : IsOverAnew old before s.dropped made encoding c.as_slice.result.now file.change h =
+    subst (λ (es : List Entry). IsOverAnew old before s.dropped made encoding es file.change h) (sym (c.as_slice.ensures.value ∙ c.reserve.ensures.items)) (over file c.requires.valid c.requires.first encoding is read h s.page_size s.commit s.entries.items s.dropped s.sums.sums s.whole s.tried s.shaped kept) in
     let places = c.in-From.ensures.places honest old made before s.dropped ready in
-    rw (c.reserve.ensures.items, c.moment-store.ensures, c.requires.open_) (inr (went_in file c.requires.valid c.requires.first text is read h s.page_size s.commit s.entries.items s.dropped s.sums.sums s.whole s.tried s.shaped kept new c.in-From.tried places.0 places.1))
+    rw (c.reserve.ensures.items, c.moment-store.ensures, c.requires.open_) (inr (went_in file c.requires.valid c.requires.first encoding is read h s.page_size s.commit s.entries.items s.dropped s.sums.sums s.whole s.tried s.shaped kept new c.in-From.tried places.0 places.1))
 
 pub returns-in-Whole-clause-position : goal.returns-in-Whole-clause-position
 returns-in-Whole-clause-position g c =

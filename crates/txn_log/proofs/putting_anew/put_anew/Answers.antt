@@ -22,36 +22,36 @@ settle-requires-clause-there g c still =
     subst (λ (o : Option (List ℕ)). IsSome o) (sym (published.seen Snapshot refl)) refl
 
 pub returns-in_err-put_in_place-clause-moments : goal.returns-in_err-put_in_place-clause-moments
-returns-in_err-put_in_place-clause-moments g c honest before image text ready =
+returns-in_err-put_in_place-clause-moments g c honest before image encoding ready =
     let h = g.D.Disk.history c.args.disk.now in
-    let file : LogFile = record { min = c.args.min; max = c.args.max; text = text } in
-    weakened _ _ _ _ (c.put_in_place.ensures.moments honest before text ready.staged) (first h before image c.args.entries.now c.args.change.now file ready)
+    let file : LogFile = record { min = c.args.min; max = c.args.max; encoding = encoding } in
+    weakened _ _ _ _ (c.put_in_place.ensures.moments honest before encoding ready.staged) (first h before image c.args.entries.now c.args.change.now file ready)
 
 pub returns-in_err-settle-clause-moments : goal.returns-in_err-settle-clause-moments
-returns-in_err-settle-clause-moments g c honest before image text ready =
+returns-in_err-settle-clause-moments g c honest before image encoding ready =
     let h = g.D.Disk.history c.args.disk.now in
     let mid = g.D.Disk.history c.put_in_place.new.disk in
     let new = g.D.Disk.history c.settle.new.disk in
     let still = c.put_in_place.ensures.honest ∙ honest in
-    let file : LogFile = record { min = c.args.min; max = c.args.max; text = text } in
-    moments h before image c.args.entries.now c.args.change.now file ready mid new (c.put_in_place.ensures.moments honest before text ready.staged)
-    (c.settle.ensures.moments still image text (unsettled h before image c.args.entries.now c.args.change.now file ready mid (c.in_ok-put_in_place.ensures.published honest before text ready.staged)))
+    let file : LogFile = record { min = c.args.min; max = c.args.max; encoding = encoding } in
+    moments h before image c.args.entries.now c.args.change.now file ready mid new (c.put_in_place.ensures.moments honest before encoding ready.staged)
+    (c.settle.ensures.moments still image encoding (unsettled h before image c.args.entries.now c.args.change.now file ready mid (c.in_ok-put_in_place.ensures.published honest before encoding ready.staged)))
 
 pub returns-clause-moments : goal.returns-clause-moments
-returns-clause-moments g c honest before image text ready =
+returns-clause-moments g c honest before image encoding ready =
     let h = g.D.Disk.history c.args.disk.now in
     let mid = g.D.Disk.history c.put_in_place.new.disk in
     let new = g.D.Disk.history c.settle.new.disk in
     let still = c.put_in_place.ensures.honest ∙ honest in
-    let file : LogFile = record { min = c.args.min; max = c.args.max; text = text } in
-    moments h before image c.args.entries.now c.args.change.now file ready mid new (c.put_in_place.ensures.moments honest before text ready.staged)
-    (c.settle.ensures.moments still image text (unsettled h before image c.args.entries.now c.args.change.now file ready mid (c.in_ok-put_in_place.ensures.published honest before text ready.staged)))
+    let file : LogFile = record { min = c.args.min; max = c.args.max; encoding = encoding } in
+    moments h before image c.args.entries.now c.args.change.now file ready mid new (c.put_in_place.ensures.moments honest before encoding ready.staged)
+    (c.settle.ensures.moments still image encoding (unsettled h before image c.args.entries.now c.args.change.now file ready mid (c.in_ok-put_in_place.ensures.published honest before encoding ready.staged)))
 
 pub returns-clause-done : goal.returns-clause-done
-returns-clause-done g c honest before image text ready =
+returns-clause-done g c honest before image encoding ready =
     let h = g.D.Disk.history c.args.disk.now in
     let mid = g.D.Disk.history c.put_in_place.new.disk in
     let still = c.put_in_place.ensures.honest ∙ honest in
-    let file : LogFile = record { min = c.args.min; max = c.args.max; text = text } in
-    c.in_ok-settle.ensures.done still image text
-    (unsettled h before image c.args.entries.now c.args.change.now file ready mid (c.in_ok-put_in_place.ensures.published honest before text ready.staged))
+    let file : LogFile = record { min = c.args.min; max = c.args.max; encoding = encoding } in
+    c.in_ok-settle.ensures.done still image encoding
+    (unsettled h before image c.args.entries.now c.args.change.now file ready mid (c.in_ok-put_in_place.ensures.published honest before encoding ready.staged))

@@ -24,20 +24,20 @@ rename-requires g c still =
     (g.D.Disk.history c.rewrite_from.new.disk) (c.requires.there honest) (c.in_ok-rewrite_from.ensures.others more)
 
 pub returns-in_err-remove-clause-moments : goal.returns-in_err-remove-clause-moments
-returns-in_err-remove-clause-moments g c honest file holds image text is =
+returns-in_err-remove-clause-moments g c honest file holds image encoding is =
     let h = g.D.Disk.history c.args.disk.now in
     let one = g.D.Disk.history c.remove.new.self in
-    let log : LogFile = record { min = c.args.header.now.min; max = c.args.header.now.max; text = text } in
+    let log : LogFile = record { min = c.args.header.now.min; max = c.args.header.now.max; encoding = encoding } in
     let es = c.args.entries.now in
     let change = file.change in
     let still = c.requires.settled honest in
     unmarks image log es change h still is _ one _ c.remove.ensures.ticks (c.in_err-remove.ensures.failed honest)
 
 pub returns-in_err-clear-clause-moments : goal.returns-in_err-clear-clause-moments
-returns-in_err-clear-clause-moments g c honest file holds image text is =
+returns-in_err-clear-clause-moments g c honest file holds image encoding is =
     let h = g.D.Disk.history c.args.disk.now in
     let one = g.D.Disk.history c.remove.new.self in
-    let log : LogFile = record { min = c.args.header.now.min; max = c.args.header.now.max; text = text } in
+    let log : LogFile = record { min = c.args.header.now.min; max = c.args.header.now.max; encoding = encoding } in
     let es = c.args.entries.now in
     let change = file.change in
     let still = c.requires.settled honest in
@@ -48,10 +48,10 @@ returns-in_err-clear-clause-moments g c honest file holds image text is =
     clears image log es change h still is one _ gone two first (c.clear.ensures.moments yet)
 
 pub returns-in_err-rewrite_from-clause-moments : goal.returns-in_err-rewrite_from-clause-moments
-returns-in_err-rewrite_from-clause-moments g c honest file holds image text is =
+returns-in_err-rewrite_from-clause-moments g c honest file holds image encoding is =
     let h = g.D.Disk.history c.args.disk.now in
     let one = g.D.Disk.history c.remove.new.self in
-    let log : LogFile = record { min = c.args.header.now.min; max = c.args.header.now.max; text = text } in
+    let log : LogFile = record { min = c.args.header.now.min; max = c.args.header.now.max; encoding = encoding } in
     let es = c.args.entries.now in
     let change = file.change in
     let still = c.requires.settled honest in
@@ -66,10 +66,10 @@ returns-in_err-rewrite_from-clause-moments g c honest file holds image text is =
     writes image log es change h still is one _ gone two cleared three second (c.rewrite_from.ensures.moments more file (held_beside h one two es _ gone cleared c.args.header.now c.args.len file holds))
 
 pub returns-in_err-rename-clause-moments : goal.returns-in_err-rename-clause-moments
-returns-in_err-rename-clause-moments g c honest file holds image text is =
+returns-in_err-rename-clause-moments g c honest file holds image encoding is =
     let h = g.D.Disk.history c.args.disk.now in
     let one = g.D.Disk.history c.remove.new.self in
-    let log : LogFile = record { min = c.args.header.now.min; max = c.args.header.now.max; text = text } in
+    let log : LogFile = record { min = c.args.header.now.min; max = c.args.header.now.max; encoding = encoding } in
     let es = c.args.entries.now in
     let change = file.change in
     let still = c.requires.settled honest in
@@ -85,14 +85,14 @@ returns-in_err-rename-clause-moments g c honest file holds image text is =
     let new = g.D.Disk.history c.rename.new.self in
     let last = c.rewrite_from.ensures.honest ∙ more in
     let real : may_leave three (now three) = g.met.D.Disk.as_it_read c.rewrite_from.new.disk three.moment last (omega arith) in
-    let is_written : IsWritten image text three = written image log es change h still is one _ gone two cleared three holds.valid.block.pages (c.rewrite_from.ensures.moments more file (held_beside h one two es _ gone cleared c.args.header.now c.args.len file holds)) real (c.in_ok-rewrite_from.ensures.done more file (held_beside h one two es _ gone cleared c.args.header.now c.args.len file holds)) in
+    let is_written : IsWritten image encoding three = written image log es change h still is one _ gone two cleared three holds.valid.block.pages (c.rewrite_from.ensures.moments more file (held_beside h one two es _ gone cleared c.args.header.now c.args.len file holds)) real (c.in_ok-rewrite_from.ensures.done more file (held_beside h one two es _ gone cleared c.args.header.now c.args.len file holds)) in
     goes_on _ h three new (IsInstalled image log) third c.rename.ensures.ticks (renaming image log three new is_written _ (c.in_err-rename.ensures.failed last))
 
 pub returns-clause-moments : goal.returns-clause-moments
-returns-clause-moments g c honest file holds image text is =
+returns-clause-moments g c honest file holds image encoding is =
     let h = g.D.Disk.history c.args.disk.now in
     let one = g.D.Disk.history c.remove.new.self in
-    let log : LogFile = record { min = c.args.header.now.min; max = c.args.header.now.max; text = text } in
+    let log : LogFile = record { min = c.args.header.now.min; max = c.args.header.now.max; encoding = encoding } in
     let es = c.args.entries.now in
     let change = file.change in
     let still = c.requires.settled honest in
@@ -108,14 +108,14 @@ returns-clause-moments g c honest file holds image text is =
     let new = g.D.Disk.history c.rename.new.self in
     let last = c.rewrite_from.ensures.honest ∙ more in
     let real : may_leave three (now three) = g.met.D.Disk.as_it_read c.rewrite_from.new.disk three.moment last (omega arith) in
-    let is_written : IsWritten image text three = written image log es change h still is one _ gone two cleared three holds.valid.block.pages (c.rewrite_from.ensures.moments more file (held_beside h one two es _ gone cleared c.args.header.now c.args.len file holds)) real (c.in_ok-rewrite_from.ensures.done more file (held_beside h one two es _ gone cleared c.args.header.now c.args.len file holds)) in
+    let is_written : IsWritten image encoding three = written image log es change h still is one _ gone two cleared three holds.valid.block.pages (c.rewrite_from.ensures.moments more file (held_beside h one two es _ gone cleared c.args.header.now c.args.len file holds)) real (c.in_ok-rewrite_from.ensures.done more file (held_beside h one two es _ gone cleared c.args.header.now c.args.len file holds)) in
     goes_on _ h three new (IsInstalled image log) third c.rename.ensures.ticks (renaming image log three new is_written _ (perhaps three new _ _ (c.in_ok-rename.ensures.done last)))
 
 pub returns-clause-done : goal.returns-clause-done
-returns-clause-done g c honest file holds image text is =
+returns-clause-done g c honest file holds image encoding is =
     let h = g.D.Disk.history c.args.disk.now in
     let one = g.D.Disk.history c.remove.new.self in
-    let log : LogFile = record { min = c.args.header.now.min; max = c.args.header.now.max; text = text } in
+    let log : LogFile = record { min = c.args.header.now.min; max = c.args.header.now.max; encoding = encoding } in
     let es = c.args.entries.now in
     let change = file.change in
     let still = c.requires.settled honest in
@@ -128,5 +128,5 @@ returns-clause-done g c honest file holds image text is =
     let new = g.D.Disk.history c.rename.new.self in
     let last = c.rewrite_from.ensures.honest ∙ more in
     let real : may_leave three (now three) = g.met.D.Disk.as_it_read c.rewrite_from.new.disk three.moment last (omega arith) in
-    let is_written : IsWritten image text three = written image log es change h still is one _ gone two cleared three holds.valid.block.pages (c.rewrite_from.ensures.moments more file (held_beside h one two es _ gone cleared c.args.header.now c.args.len file holds)) real (c.in_ok-rewrite_from.ensures.done more file (held_beside h one two es _ gone cleared c.args.header.now c.args.len file holds)) in
+    let is_written : IsWritten image encoding three = written image log es change h still is one _ gone two cleared three holds.valid.block.pages (c.rewrite_from.ensures.moments more file (held_beside h one two es _ gone cleared c.args.header.now c.args.len file holds)) real (c.in_ok-rewrite_from.ensures.done more file (held_beside h one two es _ gone cleared c.args.header.now c.args.len file holds)) in
     at_rest image log three new is_written (c.in_ok-rename.ensures.done last)

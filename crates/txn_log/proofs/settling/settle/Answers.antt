@@ -23,20 +23,20 @@ rename-requires g c still =
     (c.requires.there honest) (c.in_ok-remove.ensures.done honest) (c.in_ok-clear.ensures.done yet) (c.in_ok-rewrite.ensures.done more)
 
 pub returns-in_err-remove-clause-moments : goal.returns-in_err-remove-clause-moments
-returns-in_err-remove-clause-moments g c honest image text is =
+returns-in_err-remove-clause-moments g c honest image encoding is =
     let h = g.D.Disk.history c.args.disk.now in
     let one = g.D.Disk.history c.remove.new.self in
-    let file : LogFile = record { min = c.args.min; max = c.args.max; text = text } in
+    let file : LogFile = record { min = c.args.min; max = c.args.max; encoding = encoding } in
     let es = c.args.entries.now in
     let change = c.args.change.now in
     let still = c.requires.settled honest in
     unmarks image file es change h still is _ one _ c.remove.ensures.ticks (c.in_err-remove.ensures.failed honest)
 
 pub returns-in_err-clear-clause-moments : goal.returns-in_err-clear-clause-moments
-returns-in_err-clear-clause-moments g c honest image text is =
+returns-in_err-clear-clause-moments g c honest image encoding is =
     let h = g.D.Disk.history c.args.disk.now in
     let one = g.D.Disk.history c.remove.new.self in
-    let file : LogFile = record { min = c.args.min; max = c.args.max; text = text } in
+    let file : LogFile = record { min = c.args.min; max = c.args.max; encoding = encoding } in
     let es = c.args.entries.now in
     let change = c.args.change.now in
     let still = c.requires.settled honest in
@@ -47,10 +47,10 @@ returns-in_err-clear-clause-moments g c honest image text is =
     clears image file es change h still is one _ gone two first (c.clear.ensures.moments yet)
 
 pub returns-in_err-rewrite-clause-moments : goal.returns-in_err-rewrite-clause-moments
-returns-in_err-rewrite-clause-moments g c honest image text is =
+returns-in_err-rewrite-clause-moments g c honest image encoding is =
     let h = g.D.Disk.history c.args.disk.now in
     let one = g.D.Disk.history c.remove.new.self in
-    let file : LogFile = record { min = c.args.min; max = c.args.max; text = text } in
+    let file : LogFile = record { min = c.args.min; max = c.args.max; encoding = encoding } in
     let es = c.args.entries.now in
     let change = c.args.change.now in
     let still = c.requires.settled honest in
@@ -65,10 +65,10 @@ returns-in_err-rewrite-clause-moments g c honest image text is =
     writes image file es change h still is one _ gone two cleared three second (c.rewrite.ensures.moments more)
 
 pub returns-in_err-rename-clause-moments : goal.returns-in_err-rename-clause-moments
-returns-in_err-rename-clause-moments g c honest image text is =
+returns-in_err-rename-clause-moments g c honest image encoding is =
     let h = g.D.Disk.history c.args.disk.now in
     let one = g.D.Disk.history c.remove.new.self in
-    let file : LogFile = record { min = c.args.min; max = c.args.max; text = text } in
+    let file : LogFile = record { min = c.args.min; max = c.args.max; encoding = encoding } in
     let es = c.args.entries.now in
     let change = c.args.change.now in
     let still = c.requires.settled honest in
@@ -84,14 +84,14 @@ returns-in_err-rename-clause-moments g c honest image text is =
     let new = g.D.Disk.history c.rename.new.self in
     let last = c.rewrite.ensures.honest ∙ more in
     let real : may_leave three (now three) = g.met.D.Disk.as_it_read c.rewrite.new.disk three.moment last (omega arith) in
-    let is_written : IsWritten image text three = written image file es change h still is one _ gone two cleared three c.rewrite.ensures.valid (c.rewrite.ensures.moments more) real (c.in_ok-rewrite.ensures.done more) in
+    let is_written : IsWritten image encoding three = written image file es change h still is one _ gone two cleared three c.rewrite.ensures.valid (c.rewrite.ensures.moments more) real (c.in_ok-rewrite.ensures.done more) in
     goes_on _ h three new (IsInstalled image file) third c.rename.ensures.ticks (renaming image file three new is_written _ (c.in_err-rename.ensures.failed last))
 
 pub returns-clause-moments : goal.returns-clause-moments
-returns-clause-moments g c honest image text is =
+returns-clause-moments g c honest image encoding is =
     let h = g.D.Disk.history c.args.disk.now in
     let one = g.D.Disk.history c.remove.new.self in
-    let file : LogFile = record { min = c.args.min; max = c.args.max; text = text } in
+    let file : LogFile = record { min = c.args.min; max = c.args.max; encoding = encoding } in
     let es = c.args.entries.now in
     let change = c.args.change.now in
     let still = c.requires.settled honest in
@@ -107,14 +107,14 @@ returns-clause-moments g c honest image text is =
     let new = g.D.Disk.history c.rename.new.self in
     let last = c.rewrite.ensures.honest ∙ more in
     let real : may_leave three (now three) = g.met.D.Disk.as_it_read c.rewrite.new.disk three.moment last (omega arith) in
-    let is_written : IsWritten image text three = written image file es change h still is one _ gone two cleared three c.rewrite.ensures.valid (c.rewrite.ensures.moments more) real (c.in_ok-rewrite.ensures.done more) in
+    let is_written : IsWritten image encoding three = written image file es change h still is one _ gone two cleared three c.rewrite.ensures.valid (c.rewrite.ensures.moments more) real (c.in_ok-rewrite.ensures.done more) in
     goes_on _ h three new (IsInstalled image file) third c.rename.ensures.ticks (renaming image file three new is_written _ (perhaps three new _ _ (c.in_ok-rename.ensures.done last)))
 
 pub returns-clause-done : goal.returns-clause-done
-returns-clause-done g c honest image text is =
+returns-clause-done g c honest image encoding is =
     let h = g.D.Disk.history c.args.disk.now in
     let one = g.D.Disk.history c.remove.new.self in
-    let file : LogFile = record { min = c.args.min; max = c.args.max; text = text } in
+    let file : LogFile = record { min = c.args.min; max = c.args.max; encoding = encoding } in
     let es = c.args.entries.now in
     let change = c.args.change.now in
     let still = c.requires.settled honest in
@@ -127,5 +127,5 @@ returns-clause-done g c honest image text is =
     let new = g.D.Disk.history c.rename.new.self in
     let last = c.rewrite.ensures.honest ∙ more in
     let real : may_leave three (now three) = g.met.D.Disk.as_it_read c.rewrite.new.disk three.moment last (omega arith) in
-    let is_written : IsWritten image text three = written image file es change h still is one _ gone two cleared three c.rewrite.ensures.valid (c.rewrite.ensures.moments more) real (c.in_ok-rewrite.ensures.done more) in
+    let is_written : IsWritten image encoding three = written image file es change h still is one _ gone two cleared three c.rewrite.ensures.valid (c.rewrite.ensures.moments more) real (c.in_ok-rewrite.ensures.done more) in
     at_rest image file three new is_written (c.in_ok-rename.ensures.done last)

@@ -16,10 +16,10 @@ take_part-requires-clause-came g c =
     let rest_is : rest ≡ drop c.in-Ok.it.0 (take c.in-Ok.it.1 c.refill.new.page) = c.split_at-in-parts.ensures.back ∙ ap (drop c.in-Ok.it.0) c.split_at.ensures.front in
     let on : Going (g.D.Disk.honest c.args.disk.now) left left_now c.parts.coming c.parts.taken c.parts.table.sums c.args.old.now.sums c.args.count c.args.wal c.args.room rest h mid =
     going_read (g.D.Disk.honest c.args.disk.now) left _ c.parts.coming c.parts.taken c.parts.table.sums c.args.old.now.sums c.args.count c.args.wal c.args.room _ h mid inv.going left_now rest
-    (λ text read. subst (λ (l : List ℕ). Consumes left left_now (text ++ l)) (sym rest_is) (c.in-Ok.ensures.more left text read)) in (
+    (λ encoding read. subst (λ (l : List ℕ). Consumes left left_now (encoding ++ l)) (sym rest_is) (c.in-Ok.ensures.more left encoding read)) in (
       now h,
-      on.text,
-      on.text ++ take c.in-Ok-step.came.1 rest,
+      on.encoding,
+      on.encoding ++ take c.in-Ok-step.came.1 rest,
       on.change,
       came (g.D.Disk.honest c.args.disk.now) left left_now c.parts.coming c.parts.taken c.parts.table.sums c.args.old.now.sums c.args.count c.args.wal c.args.room rest h mid on c.step.new.self c.in-Ok-step.came.0 c.in-Ok-step.came.1 c.in-Ok-step.ensures.comes,
       on.taken_in,
@@ -37,7 +37,7 @@ returns-in-Err-take_part-clause-moments g c =
     let rest_is : rest ≡ drop c.in-Ok.it.0 (take c.in-Ok.it.1 c.refill.new.page) = c.split_at-in-parts.ensures.back ∙ ap (drop c.in-Ok.it.0) c.split_at.ensures.front in
     let on : Going (g.D.Disk.honest c.args.disk.now) left left_now c.parts.coming c.parts.taken c.parts.table.sums c.args.old.now.sums c.args.count c.args.wal c.args.room rest h mid =
     going_read (g.D.Disk.honest c.args.disk.now) left _ c.parts.coming c.parts.taken c.parts.table.sums c.args.old.now.sums c.args.count c.args.wal c.args.room _ h mid inv.going left_now rest
-    (λ text read. subst (λ (l : List ℕ). Consumes left left_now (text ++ l)) (sym rest_is) (c.in-Ok.ensures.more left text read)) in
+    (λ encoding read. subst (λ (l : List ℕ). Consumes left left_now (encoding ++ l)) (sym rest_is) (c.in-Ok.ensures.more left encoding read)) in
     going_failed (g.D.Disk.honest c.args.disk.now) left left_now c.parts.coming c.parts.taken c.parts.table.sums c.args.old.now.sums c.args.count c.args.wal c.args.room rest h mid on
     c.step.new.self c.in-Ok-step.came.0 c.in-Ok-step.came.1 (g.D.Disk.history c.take_part.new.disk) c.in-Ok-step.ensures.comes (λ is. c.take_part.ensures.moments (inv.honest ∙ is))
 
@@ -53,7 +53,7 @@ parts-preserved g c =
     let rest_is : rest ≡ drop c.in-Ok.it.0 (take c.in-Ok.it.1 page) = c.split_at-in-parts.ensures.back ∙ ap (drop c.in-Ok.it.0) c.split_at.ensures.front in
     let on : Going (g.D.Disk.honest c.args.disk.now) left left_now c.parts.coming c.parts.taken c.parts.table.sums c.args.old.now.sums c.args.count c.args.wal c.args.room rest h mid =
     going_read (g.D.Disk.honest c.args.disk.now) left _ c.parts.coming c.parts.taken c.parts.table.sums c.args.old.now.sums c.args.count c.args.wal c.args.room _ h mid inv.going left_now rest
-    (λ text read. subst (λ (l : List ℕ). Consumes left left_now (text ++ l)) (sym rest_is) (c.in-Ok.ensures.more left text read)) in
+    (λ encoding read. subst (λ (l : List ℕ). Consumes left left_now (encoding ++ l)) (sym rest_is) (c.in-Ok.ensures.more left encoding read)) in
     let used : ℕ = c.in-Ok-step.came.1 in
     let splits : rest ≡ take used rest ++ drop (c.in-Ok.it.0 + used) (take c.in-Ok.it.1 page) =
     sym (take-append-drop used rest) ∙ ap (λ (l : List ℕ). take used rest ++ l) (ap (drop used) rest_is ∙ drop-drop used c.in-Ok.it.0 (take c.in-Ok.it.1 page)) in
@@ -76,12 +76,12 @@ returns-in-Ok-finish-clause-takes g c =
     let left = g.S.Source.left c.args.source.now in
     let left_now = g.S.Source.left c.refill.new.source in
     record {
-      text = going.text;
+      encoding = going.encoding;
       change = going.change;
-      read = read_all left left_now going.text _ (none_left c.in-Ok.it.0 c.in-Ok.it.1 c.refill.new.page c.if-from-to.true) (c.in-Ok.ensures.more left going.text going.read);
+      read = read_all left left_now going.encoding _ (none_left c.in-Ok.it.0 c.in-Ok.it.1 c.refill.new.page c.if-from-to.true) (c.in-Ok.ensures.more left going.encoding going.read);
       end = c.in-Ok.ensures.ended c.if-from-to.true;
       octets = going.come.octets;
-      is = c.in-Ok-finish.ensures going.text going.change going.come;
+      is = c.in-Ok-finish.ensures going.encoding going.change going.come;
       taken_in = going.taken_in;
       staged = going.staged;
     }
@@ -92,9 +92,9 @@ returns-in-Err-finish-clause-takes g c =
     let left = g.S.Source.left c.args.source.now in
     let left_now = g.S.Source.left c.refill.new.source in (
       record {
-        text = going.text;
-        read = read_all left left_now going.text _ (none_left c.in-Ok.it.0 c.in-Ok.it.1 c.refill.new.page c.if-from-to.true) (c.in-Ok.ensures.more left going.text going.read);
-        stands = inr (c.in-Ok.ensures.ended c.if-from-to.true, c.in-Err-finish.ensures going.text going.change going.come);
+        encoding = going.encoding;
+        read = read_all left left_now going.encoding _ (none_left c.in-Ok.it.0 c.in-Ok.it.1 c.refill.new.page c.if-from-to.true) (c.in-Ok.ensures.more left going.encoding going.read);
+        stands = inr (c.in-Ok.ensures.ended c.if-from-to.true, c.in-Err-finish.ensures going.encoding going.change going.come);
       },
       quiet (g.D.Disk.honest c.args.disk.now) left _ c.parts.coming c.parts.taken c.parts.table.sums c.args.old.now.sums c.args.count c.args.wal c.args.room _ (g.D.Disk.history c.args.disk.now) (g.D.Disk.history c.parts.disk) going,
     )

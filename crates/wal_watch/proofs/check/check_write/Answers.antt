@@ -6,11 +6,11 @@ use Rattle.wal_watch.proofs.check.check_write.Goals as goal
 
 pub returns-then-not-keeps_header-clause-first : goal.returns-then-not-keeps_header-clause-first
 returns-then-not-keeps_header-clause-first c =
-    first_other c.args.text.now.bytes (written c.args.at c.args.bytes.now c.args.text.now.bytes) (inl (λ same. let on = c.keeps_header.ensures.1 same in cc (on, c.if-not-keeps_header.true)))
+    first_other c.args.contents.now.bytes (written c.args.at c.args.bytes.now c.args.contents.now.bytes) (inl (λ same. let on = c.keeps_header.ensures.1 same in cc (on, c.if-not-keeps_header.true)))
 
 pub keeps-requires : goal.keeps-requires
-keeps-requires c = omega (arith, c.requires.end, end_there c.args.text.now.bytes)
+keeps-requires c = omega (arith, c.requires.end, end_there c.args.contents.now.bytes)
 
 pub returns-clause-first : goal.returns-clause-first
 returns-clause-first c =
-    c.requires.count ∙ first_same c.args.text.now.bytes (written c.args.at c.args.bytes.now c.args.text.now.bytes) (c.keeps_header.ensures.0 c.if-not-keeps_header.false)
+    c.requires.count ∙ first_same c.args.contents.now.bytes (written c.args.at c.args.bytes.now c.args.contents.now.bytes) (c.keeps_header.ensures.0 c.if-not-keeps_header.false)

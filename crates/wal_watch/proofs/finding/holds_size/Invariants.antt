@@ -4,4 +4,4 @@ use Rattle.wal_watch.proofs.finding.holds_size.Given as goal
 
 -- none of the frames so far states the size
 abbrev pub invariant-loop-frame : goal.invariant-loop-frame
-invariant-loop-frame l = (k : ℕ) → k < l.frame → size_in l.text.bytes k ≡ l.pages → ⊥
+invariant-loop-frame l = (k : ℕ) → k < l.frame → size_in l.contents.bytes k ≡ l.pages → ⊥

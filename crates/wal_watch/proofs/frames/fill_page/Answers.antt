@@ -6,9 +6,9 @@ use Rattle.wal_watch.proofs.frames.fill_page.Goals as goal
 
 pub returns : goal.returns
 returns c =
-    let text = c.args.text.now.bytes in
+    let contents = c.args.contents.now.bytes in
     let size = length c.args.out.now in
-    c.fill.ensures (length text) (omega (arith, c.place_of.ensures, next_place text c.args.frame, c.requires.there, c.requires.whole, c.requires.size))
-    ∙ ap (λ (t : List ℕ). take size (drop (c.place_of.result + 24) t)) (resized-whole text)
-    ∙ ap (λ (p : ℕ). take size (drop (p + 24) text)) c.place_of.ensures
-    ∙ ap (λ (n : ℕ). take n (drop (frame_place text c.args.frame + 24) text)) (c.requires.whole ∙ c.requires.size)
+    c.fill.ensures (length contents) (omega (arith, c.place_of.ensures, next_place contents c.args.frame, c.requires.there, c.requires.whole, c.requires.size))
+    ∙ ap (λ (t : List ℕ). take size (drop (c.place_of.result + 24) t)) (resized-whole contents)
+    ∙ ap (λ (p : ℕ). take size (drop (p + 24) contents)) c.place_of.ensures
+    ∙ ap (λ (n : ℕ). take n (drop (frame_place contents c.args.frame + 24) contents)) (c.requires.whole ∙ c.requires.size)

@@ -6,6 +6,6 @@ use Rattle.wal_watch.proofs.frames.size_in.Goals as goal
 
 pub returns : goal.returns
 returns c =
-    let text = c.args.text.now.bytes in
-    c.number_at.ensures (length text) (omega (arith, c.place_of.ensures, next_place text c.args.frame, c.requires.there))
-    ∙ ap (λ (t : List ℕ). be32_at (c.place_of.result + 4) t) (resized-whole text) ∙ ap (λ (p : ℕ). be32_at (p + 4) text) c.place_of.ensures
+    let contents = c.args.contents.now.bytes in
+    c.number_at.ensures (length contents) (omega (arith, c.place_of.ensures, next_place contents c.args.frame, c.requires.there))
+    ∙ ap (λ (t : List ℕ). be32_at (c.place_of.result + 4) t) (resized-whole contents) ∙ ap (λ (p : ℕ). be32_at (p + 4) contents) c.place_of.ensures

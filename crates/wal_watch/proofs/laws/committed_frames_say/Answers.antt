@@ -9,7 +9,7 @@ pub returns-clause-size : goal.returns-clause-size
 returns-clause-size c = last_some
 
 pub returns-clause-page_size : goal.returns-clause-page_size
-returns-clause-page_size c = λ text some. (has_committed text (committed_count text) refl some).header.page_size
+returns-clause-page_size c = λ contents some. (has_committed contents (committed_count contents) refl some).header.page_size
 
 pub returns-clause-short : goal.returns-clause-short
 returns-clause-short c = short_none

@@ -7,4 +7,4 @@ pub returns-clause-stay : goal.returns-clause-stay
 returns-clause-stay c = λ old new marks same room. marks-stay old new c.args.marks.now.last.place same marks.last.there room c.args.marks.now marks (omega arith)
 
 pub returns-clause-count : goal.returns-clause-count
-returns-clause-count c = λ text final. final-count text c.args.marks.now final
+returns-clause-count c = λ contents final. final-count contents c.args.marks.now final

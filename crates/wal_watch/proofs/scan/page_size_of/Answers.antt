@@ -4,4 +4,4 @@ use Rattle.wal_watch.proofs.StayLemmas.{marked-none}
 use Rattle.wal_watch.proofs.scan.page_size_of.Goals as goal
 
 pub returns-in-None : goal.returns-in-None
-returns-in-None c = λ text is some. absurd (omega (arith, some, none_committed text (marked-none text c.args.marks c.in-None.is is)))
+returns-in-None c = λ contents is some. absurd (omega (arith, some, none_committed contents (marked-none contents c.args.marks c.in-None.is is)))

@@ -15,9 +15,9 @@ loop-done-preserved c = record {
   within = omega (arith, c.min-pairs.ensures, c.loop-done-test.true);
   sums =
       λ len fits.
-      let text = resized len c.args.blocks.now.bytes in
+      let contents = resized len c.args.blocks.now.bytes in
       let room : c.args.place + 8 * c.loop-done.done + 8 * c.min-pairs.result ≤ len = omega (arith, fits, c.min-pairs.ensures, c.loop-done-test.true) in
       let part = rw c.split_at_mut-part.ensures.front_len at (c.fill.ensures len (omega (arith, room, c.split_at_mut-part.ensures.front_len))) in
-      sums-more c.args.little c.args.sums c.loop-done.sums c.with_pairs-sums.result c.args.place c.loop-done.done c.min-pairs.result text c.fill.new.out
+      sums-more c.args.little c.args.sums c.loop-done.sums c.with_pairs-sums.result c.args.place c.loop-done.done c.min-pairs.result contents c.fill.new.out
       (c.loop-done.invariant.sums len fits) part c.with_pairs-sums.ensures;
 }

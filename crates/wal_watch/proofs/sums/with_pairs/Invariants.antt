@@ -4,4 +4,4 @@ use Rattle.wal_watch.proofs.sums.with_pairs.Given as goal
 
 -- the sums of the pairs so far
 abbrev pub invariant-loop-k : goal.invariant-loop-k
-invariant-loop-k l = l.sums ≡ with_pairs l.little l.fn.sums l.place l.text l.k
+invariant-loop-k l = l.sums ≡ with_pairs l.little l.fn.sums l.place l.contents l.k

@@ -5,4 +5,4 @@ use Rattle.file_view.proofs.view.View.commit_done.Goals as goal
 
 pub invariant_of-self : goal.invariant_of-self
 invariant_of-self c =
-    done-kept c.self.inside c.finish.new.self c.finish.new.log (sym c.waits.ensures ∙ c.if-waits.true) c.finish.ensures.file c.finish.ensures.text c.finish.ensures.there c.self.invariant
+    done-kept c.self.inside c.finish.new.self c.finish.new.log (sym c.waits.ensures ∙ c.if-waits.true) c.finish.ensures.file c.finish.ensures.contents c.finish.ensures.there c.self.invariant

@@ -6,24 +6,24 @@ use Rattle.ltx_codec.proofs.BlockLemmas.{next_place}
 use Rattle.ltx_codec.proofs.PartLemmas.{none_in_block, none_in_number}
 use Rattle.ltx_codec.specs.Places.{number_place}
 use Rattle.ltx_codec.proofs.FeedLemmas.{refused_first}
-use Rattle.ltx_codec.proofs.TextLemmas.{AreBytes-take}
+use Rattle.ltx_codec.proofs.EncodingLemmas.{AreBytes-take}
 use Rattle.ltx_codec.specs.declared.decoder.Decoder.{Decoder}
 use Rattle.ltx_codec.proofs.decoder.Decoder.feed_block.Goals as goal
 use Rattle.lf_base.specs.Endian.{be32_at}
 
 pub returns-then-len-lt-NUMBER-clause-gives : goal.returns-then-len-lt-NUMBER-clause-gives
-returns-then-len-lt-NUMBER-clause-gives c limit text fed =
+returns-then-len-lt-NUMBER-clause-gives c limit encoding fed =
     let piece = c.args.piece.now in
     let all : take c.fill-first.result piece ≡ piece =
     take_all c.fill-first.result piece (omega (arith, c.fill-first.ensures.count, c.fill-first.ensures.len, c.len.ensures, c.if-len-lt-NUMBER.true)) in
     let old = c.args.self.now in
-    let p = pages_of old limit text fed c.requires.stage in
+    let p = pages_of old limit encoding fed c.requires.stage in
     let grown = ap length c.fill-first.ensures.items in
-    let bound : length text + (length piece + 1) ≤ number_place text (length p.0.pages + 1) =
+    let bound : length encoding + (length piece + 1) ≤ number_place encoding (length p.0.pages + 1) =
     omega (
       arith,
-      held_length old limit text p.0 p.1 c.requires.untold,
-      next_place text (length p.0.pages),
+      held_length old limit encoding p.0 p.1 c.requires.untold,
+      next_place encoding (length p.0.pages),
       c.fill-first.ensures.size,
       c.len.ensures,
       c.if-len-lt-NUMBER.true,
@@ -31,7 +31,7 @@ returns-then-len-lt-NUMBER-clause-gives c limit text fed =
       length-append old.held.items (take c.fill-first.result piece),
       ap length all,
     ) in (
-      number_goes_on c.args.self.now _ limit text piece fed c.requires.stage
+      number_goes_on c.args.self.now _ limit encoding piece fed c.requires.stage
           (record {
             stays = record { fault = refl; limit = refl };
             untold = c.requires.untold;
@@ -45,11 +45,11 @@ returns-then-len-lt-NUMBER-clause-gives c limit text fed =
           })
           (λ i. omega (arith, c.type_inv.piece i))
           (omega (arith, c.fill-first.ensures.size, c.len.ensures, c.if-len-lt-NUMBER.true)),
-      none_in_block text piece p.0 (length piece) (length piece + 1) p.1.block.read (λ i. omega (arith, c.type_inv.piece i)) (omega arith) (omega arith) (inl bound),
+      none_in_block encoding piece p.0 (length piece) (length piece + 1) p.1.block.read (λ i. omega (arith, c.type_inv.piece i)) (omega arith) (omega arith) (inl bound),
     )
 
 pub returns-in-Err-clause-gives : goal.returns-in-Err-clause-gives
-returns-in-Err-clause-gives c limit text fed =
+returns-in-Err-clause-gives c limit encoding fed =
     let old = c.args.self.now in
     let piece = c.args.piece.now in
     let more = take c.fill-first.result piece in
@@ -81,16 +81,16 @@ returns-in-Err-clause-gives c limit text fed =
       register = refl;
       held = c.fill-first.ensures.items;
     } in
-    let refused = number_refused_at old mid limit text more c.be32_at-number.result fed c.requires.stage grows fits held number-is c.in-Err.fault c.in-Err.ensures.fault in
-    let p = pages_of old limit text fed c.requires.stage in
+    let refused = number_refused_at old mid limit encoding more c.be32_at-number.result fed c.requires.stage grows fits held number-is c.in-Err.fault c.in-Err.ensures.fault in
+    let p = pages_of old limit encoding fed c.requires.stage in
     let grown : length c.fill-first.new.held.items ≡ length old.held.items + length more = ap length c.fill-first.ensures.items ∙ length-append old.held.items more in
     let count : c.fill-first.result ≤ 4 - length old.held.items =
     omega (arith, c.fill-first.ensures.count, c.fill-first.ensures.size, c.fill-first.ensures.len, grown, length-take c.fill-first.result piece) in
-    refused_first limit text piece c.fill-first.result c.in-Err.fault (omega (arith, c.fill-first.ensures.count))
-    (none_in_number old limit text piece p.0 p.1 c.requires.untold (λ i. omega (arith, c.type_inv.piece i)) c.fill-first.result (omega (arith, c.fill-first.ensures.count)) count) refused
+    refused_first limit encoding piece c.fill-first.result c.in-Err.fault (omega (arith, c.fill-first.ensures.count))
+    (none_in_number old limit encoding piece p.0 p.1 c.requires.untold (λ i. omega (arith, c.type_inv.piece i)) c.fill-first.result (omega (arith, c.fill-first.ensures.count)) count) refused
 
 pub returns-then-number-eq0-clause-gives : goal.returns-then-number-eq0-clause-gives
-returns-then-number-eq0-clause-gives c limit text fed =
+returns-then-number-eq0-clause-gives c limit encoding fed =
     let old = c.args.self.now in
     let piece = c.args.piece.now in
     let more = take c.fill-first.result piece in
@@ -129,9 +129,9 @@ returns-then-number-eq0-clause-gives c limit text fed =
     } in
     let zero : c.be32_at-number.result ≡ 0 = omega arith in
     let first-is : length more ≡ c.fill-first.result = omega (arith, length-take c.fill-first.result piece, c.fill-first.ensures.count) in
-    let part = number_in_trailer old mid limit text more c.be32_at-number.result fed c.requires.stage grows fits held number-is few none zero in
-    c.feed_trailer.ensures.gives limit text (pages_of old limit text fed c.requires.stage).0
-    (end_held old _ limit text more c.be32_at-number.result fed c.requires.stage (record {
+    let part = number_in_trailer old mid limit encoding more c.be32_at-number.result fed c.requires.stage grows fits held number-is few none zero in
+    c.feed_trailer.ensures.gives limit encoding (pages_of old limit encoding fed c.requires.stage).0
+    (end_held old _ limit encoding more c.be32_at-number.result fed c.requires.stage (record {
       stays = record { fault = refl; limit = refl };
       untold = c.requires.untold;
       told = refl;
@@ -141,10 +141,10 @@ returns-then-number-eq0-clause-gives c limit text fed =
       sums = refl;
       register = refl;
       held = c.fill-first.ensures.items;
-    }) fits held number-is zero c.in_default.ensures.ok) (pages_of old limit text fed c.requires.stage).1.block.read part.0 (omega (arith, part.1, first-is))
+    }) fits held number-is zero c.in_default.ensures.ok) (pages_of old limit encoding fed c.requires.stage).1.block.read part.0 (omega (arith, part.1, first-is))
 
 pub returns-clause-gives : goal.returns-clause-gives
-returns-clause-gives c limit text fed =
+returns-clause-gives c limit encoding fed =
     let old = c.args.self.now in
     let piece = c.args.piece.now in
     let more = take c.fill-first.result piece in
@@ -183,9 +183,9 @@ returns-clause-gives c limit text fed =
     } in
     let some : c.be32_at-number.result ≢ 0 = c.if-number-eq0.false in
     let first-is : length more ≡ c.fill-first.result = omega (arith, length-take c.fill-first.result piece, c.fill-first.ensures.count) in
-    let part = number_in_page old mid limit text more c.be32_at-number.result fed c.requires.stage grows fits held number-is few none some in
-    c.feed_page.ensures.gives limit text (pages_of old limit text fed c.requires.stage).0
-    (number_held old _ limit text more c.be32_at-number.result fed c.requires.stage (record {
+    let part = number_in_page old mid limit encoding more c.be32_at-number.result fed c.requires.stage grows fits held number-is few none some in
+    c.feed_page.ensures.gives limit encoding (pages_of old limit encoding fed c.requires.stage).0
+    (number_held old _ limit encoding more c.be32_at-number.result fed c.requires.stage (record {
       stays = record { fault = refl; limit = refl };
       untold = c.requires.untold;
       told = refl;
@@ -195,4 +195,4 @@ returns-clause-gives c limit text fed =
       sums = refl;
       register = refl;
       held = c.fill-first.ensures.items;
-    }) fits held number-is c.in_default.ensures.ok) (pages_of old limit text fed c.requires.stage).1.block.read part.0 (omega (arith, part.1, first-is))
+    }) fits held number-is c.in_default.ensures.ok) (pages_of old limit encoding fed c.requires.stage).1.block.read part.0 (omega (arith, part.1, first-is))

@@ -2,14 +2,14 @@ use Rattle.std.proofs.Common.{◌≡◌, ◌≤◌, ◌+◌, ◌-◌, ◌++◌, 
 use Rattle.std.proofs.lemmas.List.{length-take, take_all}
 use Rattle.ltx_codec.specs.Decoding.{ShowsPage}
 use Rattle.ltx_codec.specs.declared.decoder.Decoder.{Decoder}
-use Rattle.ltx_codec.proofs.TextLemmas.{AreBytes-take, AreBytes-drop}
+use Rattle.ltx_codec.proofs.EncodingLemmas.{AreBytes-take, AreBytes-drop}
 use Rattle.ltx_codec.proofs.PieceLemmas.{Grows, two_taken}
 use Rattle.ltx_codec.proofs.PartLemmas.{none_in_block, page_bound}
 use Rattle.ltx_codec.proofs.PageLemmas.{TakesPage, page_more, page_ends, number_longer}
 use Rattle.ltx_codec.proofs.decoder.Decoder.feed_page.Goals as goal
 
 pub returns-then-len-part-clause-gives : goal.returns-then-len-part-clause-gives
-returns-then-len-part-clause-gives c limit text change has read part less =
+returns-then-len-part-clause-gives c limit encoding change has read part less =
     let piece = c.args.piece.now in
     let rest = c.split_at.result.1.now in
     let all : take c.fill.result rest ≡ drop c.args.first piece =
@@ -28,8 +28,8 @@ returns-then-len-part-clause-gives c limit text change has read part less =
       c.fill.ensures.len,
       c.split_at.ensures.back_len,
     ) in
-    let bound = page_bound c.args.self.now limit text piece c.args.first change has.feeding c.requires.untold read c.requires.within (length piece - c.args.first + 1) few in (
-      page_more c.args.self.now _ limit text piece c.args.first change c.args.number has c.requires.more
+    let bound = page_bound c.args.self.now limit encoding piece c.args.first change has.feeding c.requires.untold read c.requires.within (length piece - c.args.first + 1) few in (
+      page_more c.args.self.now _ limit encoding piece c.args.first change c.args.number has c.requires.more
           (record {
             stays = record { fault = refl; limit = refl };
             untold = c.requires.untold;
@@ -43,12 +43,12 @@ returns-then-len-part-clause-gives c limit text change has read part less =
           })
           (λ i. omega (arith, c.type_inv.piece i))
           (omega (arith, c.fill.ensures.size, c.len.ensures, c.if-len-part.true)),
-      none_in_block text piece change (length piece) (length piece + 1) read (λ i. omega (arith, c.type_inv.piece i)) (omega arith) (omega arith)
+      none_in_block encoding piece change (length piece) (length piece + 1) read (λ i. omega (arith, c.type_inv.piece i)) (omega arith) (omega arith)
           (inl (let within = c.requires.within in omega (arith, bound, within))),
     )
 
 pub returns-clause-gives : goal.returns-clause-gives
-returns-clause-gives c limit text change has read part less =
+returns-clause-gives c limit encoding change has read part less =
     let old = c.args.self.now in
     let piece = c.args.piece.now in
     let first = c.args.first in
@@ -78,7 +78,7 @@ returns-clause-gives c limit text change has read part less =
       register = refl;
       held = c.fill.ensures.items ∙ ap (λ (l : List ℕ). old.held.items ++ take c.fill.result l) c.split_at.ensures.back;
     } in
-    let longer = number_longer old mid limit (text ++ take first piece) more change c.args.number has grows (AreBytes-take c.fill.result (drop first piece) (AreBytes-drop first piece (λ i. omega (arith, c.type_inv.piece i)))) in
+    let longer = number_longer old mid limit (encoding ++ take first piece) more change c.args.number has grows (AreBytes-take c.fill.result (drop first piece) (AreBytes-drop first piece (λ i. omega (arith, c.type_inv.piece i)))) in
     let grown = ap length c.fill.ensures.items in
     let whole : length c.fill.new.held.items ≡ 4 + old.header.page_size =
     omega (
@@ -103,13 +103,13 @@ returns-clause-gives c limit text change has read part less =
       register = c.take_page.ensures.register;
       sums = c.take_page.ensures.sums;
     } in
-    let page = page_ends mid c.take_page.new.self limit ((text ++ take first piece) ++ more) change c.args.number longer c.requires.more c.requires.untold whole takes in
+    let page = page_ends mid c.take_page.new.self limit ((encoding ++ take first piece) ++ more) change c.args.number longer c.requires.more c.requires.untold whole takes in
     let used : first + c.fill.result ≤ length piece = omega (arith, c.fill.ensures.count, c.split_at.ensures.back_len) in
     let few : length old.held.items + c.fill.result ≤ 4 + old.header.page_size =
     omega (arith, whole, grown, length-append old.held.items (take c.fill.result c.split_at.result.1.now), length-take c.fill.result c.split_at.result.1.now, c.fill.ensures.count) in (
       omega (arith, less, whole, grown, length-append old.held.items (take c.fill.result c.split_at.result.1.now), length-take c.fill.result c.split_at.result.1.now, c.fill.ensures.count),
       used,
-      none_in_block text piece change (first + c.fill.result) (first + c.fill.result) read (λ i. omega (arith, c.type_inv.piece i)) used (omega arith)
-          (inl (page_bound old limit text piece first change has.feeding c.requires.untold read c.requires.within c.fill.result few)),
-      subst (λ (t : List ℕ). ShowsPage c.take_page.new.self limit c.args.number t) (sym (two_taken text piece first c.fill.result)) page,
+      none_in_block encoding piece change (first + c.fill.result) (first + c.fill.result) read (λ i. omega (arith, c.type_inv.piece i)) used (omega arith)
+          (inl (page_bound old limit encoding piece first change has.feeding c.requires.untold read c.requires.within c.fill.result few)),
+      subst (λ (t : List ℕ). ShowsPage c.take_page.new.self limit c.args.number t) (sym (two_taken encoding piece first c.fill.result)) page,
     )

@@ -3,7 +3,7 @@ use Rattle.std.proofs.lemmas.List.{length-take, take_all}
 use Rattle.ltx_codec.specs.Decoding.{ShowsFile, IsRefusedWithin}
 use Rattle.ltx_codec.specs.steps.Feeding.{HasRightSums, BreaksSums}
 use Rattle.ltx_codec.specs.declared.decoder.Decoder.{Decoder}
-use Rattle.ltx_codec.proofs.TextLemmas.{AreBytes-take, AreBytes-drop}
+use Rattle.ltx_codec.proofs.EncodingLemmas.{AreBytes-take, AreBytes-drop}
 use Rattle.ltx_codec.proofs.FeedLemmas.{refused_first}
 use Rattle.ltx_codec.proofs.PieceLemmas.{Grows, two_taken}
 use Rattle.ltx_codec.proofs.PartLemmas.{none_in_block, end_stays}
@@ -12,7 +12,7 @@ use Rattle.ltx_codec.proofs.TrailerLemmas.{trailer_more, trailer_refused, traile
 use Rattle.ltx_codec.proofs.decoder.Decoder.feed_trailer.Goals as goal
 
 pub returns-in-Err-clause-gives : goal.returns-in-Err-clause-gives
-returns-in-Err-clause-gives c limit text change has read part less =
+returns-in-Err-clause-gives c limit encoding change has read part less =
     let old = c.args.self.now in
     let piece = c.args.piece.now in
     let first = c.args.first in
@@ -42,24 +42,24 @@ returns-in-Err-clause-gives c limit text change has read part less =
       register = refl;
       held = c.fill.ensures.items ∙ ap (λ (l : List ℕ). old.held.items ++ take c.fill.result l) c.split_at.ensures.back;
     } in
-    let longer = number_longer old mid limit (text ++ take first piece) more change 0 has grows (AreBytes-take c.fill.result (drop first piece) (AreBytes-drop first piece (λ i. omega (arith, c.type_inv.piece i)))) in
+    let longer = number_longer old mid limit (encoding ++ take first piece) more change 0 has grows (AreBytes-take c.fill.result (drop first piece) (AreBytes-drop first piece (λ i. omega (arith, c.type_inv.piece i)))) in
     let breaks : BreaksSums old.header old.sums old.register c.fill.new.held.items c.in-Err.fault =
     subst (λ (l : List ℕ). BreaksSums old.header old.sums old.register l c.in-Err.fault) c.as_slice-held.ensures.value c.in-Err.ensures.fault in
-    let refused = trailer_refused mid limit ((text ++ take first piece) ++ more) change longer c.requires.untold c.in-Err.fault breaks in
+    let refused = trailer_refused mid limit ((encoding ++ take first piece) ++ more) change longer c.requires.untold c.in-Err.fault breaks in
     let used : first + c.fill.result ≤ length piece = omega (arith, c.fill.ensures.count, c.split_at.ensures.back_len) in
-    refused_first limit text piece (first + c.fill.result) c.in-Err.fault used
-    (none_in_block text piece change (first + c.fill.result) (first + c.fill.result) read (λ i. omega (arith, c.type_inv.piece i)) used (omega arith)
-    (inr (end_stays old limit text piece first change has c.fill.result)))
-    (subst (λ (t : List ℕ). IsRefusedWithin limit t c.in-Err.fault) (sym (two_taken text piece first c.fill.result)) refused)
+    refused_first limit encoding piece (first + c.fill.result) c.in-Err.fault used
+    (none_in_block encoding piece change (first + c.fill.result) (first + c.fill.result) read (λ i. omega (arith, c.type_inv.piece i)) used (omega arith)
+    (inr (end_stays old limit encoding piece first change has c.fill.result)))
+    (subst (λ (t : List ℕ). IsRefusedWithin limit t c.in-Err.fault) (sym (two_taken encoding piece first c.fill.result)) refused)
 
 pub returns-then-held-lt-TRAILER-clause-gives : goal.returns-then-held-lt-TRAILER-clause-gives
-returns-then-held-lt-TRAILER-clause-gives c limit text change has read part less =
+returns-then-held-lt-TRAILER-clause-gives c limit encoding change has read part less =
     let old = c.args.self.now in
     let piece = c.args.piece.now in
     let rest = c.split_at.result.1.now in
     let all : take c.fill.result rest ≡ drop c.args.first piece =
     take_all c.fill.result rest (omega (arith, c.fill.ensures.count, c.fill.ensures.len, c.as_slice-held.ensures.len, c.if-held-lt-TRAILER.true)) ∙ c.split_at.ensures.back in (
-      trailer_more old _ limit text piece c.args.first change has
+      trailer_more old _ limit encoding piece c.args.first change has
           (record {
             stays = record { fault = refl; limit = refl };
             untold = c.requires.untold;
@@ -75,12 +75,12 @@ returns-then-held-lt-TRAILER-clause-gives c limit text change has read part less
           (subst (λ (l : List ℕ). HasRightSums old.header old.sums old.register l) c.as_slice-held.ensures.value c.in_default.ensures.ok)
           (omega (arith, c.fill.ensures.size, c.as_slice-held.ensures.len, c.if-held-lt-TRAILER.true)),
       let within = c.requires.within in
-          none_in_block text piece change (c.args.first + (length piece - c.args.first)) (length piece + 1) read (λ i. omega (arith, c.type_inv.piece i)) (omega (arith, within)) (omega (arith, within))
-          (inr (end_stays old limit text piece c.args.first change has (length piece - c.args.first))),
+          none_in_block encoding piece change (c.args.first + (length piece - c.args.first)) (length piece + 1) read (λ i. omega (arith, c.type_inv.piece i)) (omega (arith, within)) (omega (arith, within))
+          (inr (end_stays old limit encoding piece c.args.first change has (length piece - c.args.first))),
     )
 
 pub returns-clause-gives : goal.returns-clause-gives
-returns-clause-gives c limit text change has read part less =
+returns-clause-gives c limit encoding change has read part less =
     let old = c.args.self.now in
     let piece = c.args.piece.now in
     let first = c.args.first in
@@ -110,7 +110,7 @@ returns-clause-gives c limit text change has read part less =
       register = refl;
       held = c.fill.ensures.items ∙ ap (λ (l : List ℕ). old.held.items ++ take c.fill.result l) c.split_at.ensures.back;
     } in
-    let longer = number_longer old mid limit (text ++ take first piece) more change 0 has grows (AreBytes-take c.fill.result (drop first piece) (AreBytes-drop first piece (λ i. omega (arith, c.type_inv.piece i)))) in
+    let longer = number_longer old mid limit (encoding ++ take first piece) more change 0 has grows (AreBytes-take c.fill.result (drop first piece) (AreBytes-drop first piece (λ i. omega (arith, c.type_inv.piece i)))) in
     let whole : length c.fill.new.held.items ≡ 20 =
     omega (
       arith,
@@ -126,12 +126,12 @@ returns-clause-gives c limit text change has read part less =
     ) in
     let right : HasRightSums old.header old.sums old.register c.fill.new.held.items =
     subst (λ (l : List ℕ). HasRightSums old.header old.sums old.register l) c.as_slice-held.ensures.value c.in_default.ensures.ok in
-    let file = trailer_ends mid limit ((text ++ take first piece) ++ more) change longer c.requires.untold right c.end_file.new.self whole
+    let file = trailer_ends mid limit ((encoding ++ take first piece) ++ more) change longer c.requires.untold right c.end_file.new.self whole
     (record { fault = c.end_file.ensures.same.1; limit = c.end_file.ensures.same.0 }) c.end_file.ensures.post c.end_file.ensures.same.2 c.end_file.ensures.told.0 c.end_file.ensures.told.1 in
     let used : first + c.fill.result ≤ length piece = omega (arith, c.fill.ensures.count, c.split_at.ensures.back_len) in (
       omega (arith, less, whole, ap length c.fill.ensures.items, length-append old.held.items (take c.fill.result c.split_at.result.1.now), length-take c.fill.result c.split_at.result.1.now, c.fill.ensures.count),
       used,
-      none_in_block text piece change (first + c.fill.result) (first + c.fill.result) read (λ i. omega (arith, c.type_inv.piece i)) used (omega arith)
-          (inr (end_stays old limit text piece first change has c.fill.result)),
-      subst (λ (t : List ℕ). ShowsFile c.end_file.new.self limit t) (sym (two_taken text piece first c.fill.result)) file,
+      none_in_block encoding piece change (first + c.fill.result) (first + c.fill.result) read (λ i. omega (arith, c.type_inv.piece i)) used (omega arith)
+          (inr (end_stays old limit encoding piece first change has c.fill.result)),
+      subst (λ (t : List ℕ). ShowsFile c.end_file.new.self limit t) (sym (two_taken encoding piece first c.fill.result)) file,
     )

@@ -9,14 +9,14 @@ use Rattle.ltx_codec.specs.declared.seen.Seen.TheVariants as seen
 use Rattle.ltx_codec.specs.declared.fault.LtxFault.{LtxFault}
 use Rattle.ltx_codec.proofs.file_reader.FileReader.take_part.Goals as goal
 
--- behind a part that was taken stands a text that was taken
-taken_after : (d : Decoder) (change : PageChange) (text piece : List ℕ) (r : Result Seen LtxFault) → ((f : LtxFault) → r ≡ Err f → ⊥) → ReadsPart d change text piece r
+-- behind a part that was taken stands an encoding that was taken
+taken_after : (d : Decoder) (change : PageChange) (encoding piece : List ℕ) (r : Result Seen LtxFault) → ((f : LtxFault) → r ≡ Err f → ⊥) → ReadsPart d change encoding piece r
     → (now : List ℕ) × HasTaken d change now
-taken_after d change text piece (Ok seen.More) good taken = (text ++ piece, taken)
-taken_after d change text piece (Ok (seen.Header used)) good taken = (text ++ take used piece, taken)
-taken_after d change text piece (Ok (seen.Page used number)) good taken = (text ++ take used piece, taken)
-taken_after d change text piece (Ok (seen.Whole used)) good taken = ([], record { fed = taken.fed; pages = λ long. absurd (omega (arith, long)) })
-taken_after d change text piece (Err f) good taken = absurd (good f refl)
+taken_after d change encoding piece (Ok seen.More) good taken = (encoding ++ piece, taken)
+taken_after d change encoding piece (Ok (seen.Header used)) good taken = (encoding ++ take used piece, taken)
+taken_after d change encoding piece (Ok (seen.Page used number)) good taken = (encoding ++ take used piece, taken)
+taken_after d change encoding piece (Ok (seen.Whole used)) good taken = ([], record { fed = taken.fed; pages = λ long. absurd (omega (arith, long)) })
+taken_after d change encoding piece (Err f) good taken = absurd (good f refl)
 
 pub invariant_of-self-in_default : goal.invariant_of-self-in_default
 invariant_of-self-in_default c = record {

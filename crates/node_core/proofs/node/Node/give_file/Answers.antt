@@ -3,7 +3,7 @@ use Rattle.std.proofs.lemmas.List.{get_or_default}
 use Rattle.ltx_codec.specs.Fields.{AreBytes}
 use Rattle.ltx_codec.specs.FileIn.{file_in}
 use Rattle.txn_log.specs.declared.entry.Entry.{Entry}
-use Rattle.txn_log.specs.Giving.{IsTextAt}
+use Rattle.txn_log.specs.Giving.{IsEncodingAt}
 use Rattle.world_laws.specs.Node as laws
 use Rattle.node_core.specs.declared.answer.Answer.TheVariants as answers
 use Rattle.node_core.specs.declared.refusal.Refusal.{Refusal}
@@ -34,7 +34,7 @@ returns-in-Ok-clause-does g c =
           first = c.args.first;
           owed = c.requires.owed;
           leads = λ d. ap (λ (e : Entry). e.post) (c.index.ensures ∙ get_or_default s.entries.items c.args.first c.index.result.now d c.requires.owed.2.there);
-          text = λ honest. subst (λ (l : List ℕ). IsTextAt (state h (fields_of s)).log c.args.first l) (sym c.of.ensures) (c.in-Ok.ensures.text honest);
+          encoding = λ honest. subst (λ (l : List ℕ). IsEncodingAt (state h (fields_of s)).log c.args.first l) (sym c.of.ensures) (c.in-Ok.ensures.encoding honest);
         },
       );
       read = record {
@@ -57,8 +57,8 @@ returns-in-Ok-clause-safe g c honest =
     let from = c.args.from in
     let ltx : List ℕ = c.of.result in
     let octets : AreBytes ltx = subst (λ (l : List ℕ). AreBytes l) (c.as_slice.ensures.value ∙ sym c.of.ensures) c.are_bytes.ensures in
-    let text : IsTextAt (state h old.store).log c.args.first ltx = subst (λ (l : List ℕ). IsTextAt (state h old.store).log c.args.first l) (sym c.of.ensures) (c.in-Ok.ensures.text honest) in
-    let owes = tells-file h old.store (n.store.kept honest) from c.file_is_read.ensures c.args.first ltx octets c.requires.owed text in
+    let encoding : IsEncodingAt (state h old.store).log c.args.first ltx = subst (λ (l : List ℕ). IsEncodingAt (state h old.store).log c.args.first l) (sym c.of.ensures) (c.in-Ok.ensures.encoding honest) in
+    let owes = tells-file h old.store (n.store.kept honest) from c.file_is_read.ensures c.args.first ltx octets c.requires.owed encoding in
     let still = c.file.ensures.store honest in
     steps-still (seen h old) (seen end new) (laws.Hello from) (laws.Item (file_in ltx)) h end ∣ c.file.ensures.rests honest ∣₁ still.0 still.1 (t.left (c.file.ensures.honest ∙ honest))
     (looks-says h end old (fields_of t) still.0 c.requires.primary (n.image honest) n.locked.together n.replica from (laws.Item (file_in ltx)) (leads n.config.candidate c.requires.primary, owes.0, owes.1) tt)

@@ -1,7 +1,7 @@
 use Rattle.std.proofs.Common.{◌≡◌, ◌∙◌, ◌≤◌, ◌++◌, ℕ, List, [], None, inl, inr, ap, refl, subst, sym}
 use Rattle.ltx_codec.specs.Fields.{AreBytes}
 use Rattle.ltx_codec.specs.FileIn.{file_in}
-use Rattle.ltx_codec.specs.Format.{file_text, no_meaning}
+use Rattle.ltx_codec.specs.Format.{file_encoding, no_meaning}
 use Rattle.world_laws.specs.Answers.{snapshot_of}
 use Rattle.world_laws.specs.Node as laws
 use Rattle.node_core.specs.declared.answer.Answer.TheVariants as answers
@@ -37,8 +37,8 @@ returns-in-Ok-clause-does g c =
           owed = c.requires.owed;
           written = written;
           leads = c.pos-after.ensures.value;
-          text = λ honest.
-              c.of.ensures ∙ c.in-Ok.ensures.bytes honest ∙ ap (λ (l : List ℕ). l ++ file_text (snapshot_of (state h (fields_of s))) no_meaning) c.new-bytes.ensures.items;
+          encoding = λ honest.
+              c.of.ensures ∙ c.in-Ok.ensures.bytes honest ∙ ap (λ (l : List ℕ). l ++ file_encoding (snapshot_of (state h (fields_of s))) no_meaning) c.new-bytes.ensures.items;
         },
       );
       read = record {
@@ -62,9 +62,9 @@ returns-in-Ok-clause-safe g c honest =
     let ltx : List ℕ = c.of.result in
     let octets : AreBytes ltx = subst (λ (l : List ℕ). AreBytes l) (c.as_slice.ensures.value ∙ sym c.of.ensures) c.are_bytes.ensures in
     let written : 1 ≤ (position old.store).txid = n.store.shaped.some (λ none. c.requires.owed.1 (inl none)) in
-    let text : ltx ≡ file_text (snapshot_of (state h old.store)) no_meaning =
-    c.of.ensures ∙ c.in-Ok.ensures.bytes honest ∙ ap (λ (l : List ℕ). l ++ file_text (snapshot_of (state h old.store)) no_meaning) c.new-bytes.ensures.items in
-    let owes = tells-snapshot h old.store (n.store.kept honest) from c.file_is_read.ensures ltx octets written c.requires.owed (c.snapshot_is_a_file.ensures.sound honest) text in
+    let encoding : ltx ≡ file_encoding (snapshot_of (state h old.store)) no_meaning =
+    c.of.ensures ∙ c.in-Ok.ensures.bytes honest ∙ ap (λ (l : List ℕ). l ++ file_encoding (snapshot_of (state h old.store)) no_meaning) c.new-bytes.ensures.items in
+    let owes = tells-snapshot h old.store (n.store.kept honest) from c.file_is_read.ensures ltx octets written c.requires.owed (c.snapshot_is_a_file.ensures.sound honest) encoding in
     let went = c.make.ensures.went honest in
     steps (seen h old) (seen end new) (laws.Hello from) (laws.Item (file_in ltx)) (seen h old).role [] None h h end ∣ rests_stay h ∣₁ went
     (looks-says h end old (fields_of t) went.store c.requires.primary (n.image honest) n.locked.together n.replica from (laws.Item (file_in ltx)) (leads n.config.candidate c.requires.primary, owes.0, owes.1) tt)

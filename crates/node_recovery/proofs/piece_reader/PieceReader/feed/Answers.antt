@@ -25,11 +25,11 @@ invariant_of-self c =
     }
 
 pub returns-in-Ok-clause-comes : goal.returns-in-Ok-clause-comes
-returns-in-Ok-clause-comes c text change come =
+returns-in-Ok-clause-comes c encoding change come =
     let left = c.split_at.result.1.now in
     let is : left ≡ left_over c.args.self.now = c.split_at.ensures.back ∙ ap (λ (l : List ℕ). drop c.args.self.now.taken l) c.as_slice.ensures.value in
-    let gives = c.in-Ok.ensures.gives largest_page text (taken_of c.args.self.now text change c.requires.begun come).fed in
-    sees c.args.self.now text change c.requires.begun come _ left c.are_bytes.ensures is refl c.in-Ok.seen c.part_of.result gives
+    let gives = c.in-Ok.ensures.gives largest_page encoding (taken_of c.args.self.now encoding change c.requires.begun come).fed in
+    sees c.args.self.now encoding change c.requires.begun come _ left c.are_bytes.ensures is refl c.in-Ok.seen c.part_of.result gives
     (ap (λ (n : ℕ). c.args.self.now.taken + n) c.used_in.ensures) c.ends_file-self.ensures c.requires.begun.1 c.part_of.ensures
 
 pub returns-in-Ok-clause-fewer : goal.returns-in-Ok-clause-fewer
@@ -41,9 +41,9 @@ returns-in-Ok-clause-fewer c =
     omega (arith, used.0, c.used_in.ensures, c.split_at.ensures.back_len, c.as_slice.ensures.len, c.requires.more)
 
 pub returns-in-Err-clause-comes : goal.returns-in-Err-clause-comes
-returns-in-Err-clause-comes c text change come =
+returns-in-Err-clause-comes c encoding change come =
     let left = c.split_at.result.1.now in
     let is : left ≡ left_over c.args.self.now = c.split_at.ensures.back ∙ ap (λ (l : List ℕ). drop c.args.self.now.taken l) c.as_slice.ensures.value in
-    let gives = c.in-Err.ensures.gives largest_page text (taken_of c.args.self.now text change c.requires.begun come).fed in
-    fault_comes c.args.self.now text change c.requires.begun come _ left c.are_bytes.ensures is refl c.in-Err.fault gives
+    let gives = c.in-Err.ensures.gives largest_page encoding (taken_of c.args.self.now encoding change c.requires.begun come).fed in
+    fault_comes c.args.self.now encoding change c.requires.begun come _ left c.are_bytes.ensures is refl c.in-Err.fault gives
     (omega (arith, c.len-self.ensures)) refl

@@ -7,7 +7,7 @@ use Rattle.node_recovery.proofs.PieceReaders.{refilled}
 use Rattle.node_recovery.proofs.piece_reader.PieceReader.refill.Goals as goal
 
 pub returns-clause-here : goal.returns-clause-here
-returns-clause-here g c honest text here =
+returns-clause-here g c honest encoding here =
     let r = c.args.self.now in
     let bytes = bytes_of (now (g.D.Disk.history c.args.disk.now) c.args.name) in
     let buffer = c.as_mut_slice.result.now in
@@ -17,5 +17,5 @@ returns-clause-here g c honest text here =
     let long : length buffer ≡ len = omega (arith, c.as_mut_slice.ensures.len, resized) in
     let none : length r.buffer.items ≤ r.taken = omega (arith, c.if-self-len.false, c.len.ensures) in
     let room : r.read + len ≤ r.size = omega (arith, c.min-len.ensures, r.order.1) in
-    refilled r _ text bytes buffer len none refl refl refl room long
+    refilled r _ encoding bytes buffer len none refl refl refl room long
     (with_items_is c.resize.new.self c.read.new.out (omega (arith, c.read.auto.out, c.as_mut_slice.ensures.len)) ∙ (c.in_ok-read.ensures.read honest).front) here

@@ -3,7 +3,7 @@ use Rattle.txn_log.proofs.Comings.{begun_as, bounded_come, used_some, sees, faul
 use Rattle.txn_log.proofs.coming.Coming.step.Goals as goal
 
 pub returns-then-self-clause-comes : goal.returns-then-self-clause-comes
-returns-then-self-clause-comes c text change come = tail_comes c.args.self.now text c.args.piece.now change c.if-self.true come c.requires.some
+returns-then-self-clause-comes c encoding change come = tail_comes c.args.self.now encoding c.args.piece.now change c.if-self.true come c.requires.some
 
 pub overflow_add-self : goal.overflow_add-self
 overflow_add-self c =
@@ -13,10 +13,10 @@ overflow_add-self c =
     omega (arith, used.1, c.used_by-used.ensures, c.requires.short, bounded_come c.args.self.now o.0 o.1 c.if-self.false o.2)
 
 pub returns-in-Ok-clause-comes : goal.returns-in-Ok-clause-comes
-returns-in-Ok-clause-comes c text change come =
-    let fed = (begun_as c.args.self.now.whole c.args.self.now.reader.decoder text change c.if-self.false come.stands).fed in
-    sees c.args.self.now _ text c.args.piece.now change c.if-self.false come c.are_bytes.ensures c.in-Ok.seen c.ended_part.result c.used_by-used.result
-    (c.in-Ok.ensures text fed) c.requires.some c.used_by-used.ensures refl c.is_end-self.ensures c.ended_part.ensures
+returns-in-Ok-clause-comes c encoding change come =
+    let fed = (begun_as c.args.self.now.whole c.args.self.now.reader.decoder encoding change c.if-self.false come.stands).fed in
+    sees c.args.self.now _ encoding c.args.piece.now change c.if-self.false come c.are_bytes.ensures c.in-Ok.seen c.ended_part.result c.used_by-used.result
+    (c.in-Ok.ensures encoding fed) c.requires.some c.used_by-used.ensures refl c.is_end-self.ensures c.ended_part.ensures
 
 pub returns-in-Ok-clause-more : goal.returns-in-Ok-clause-more
 returns-in-Ok-clause-more c =
@@ -31,6 +31,6 @@ returns-in-Ok-clause-within c =
     bounded_come c.args.self.now o.0 o.1 c.if-self.false o.2
 
 pub returns-in-Err-clause-comes : goal.returns-in-Err-clause-comes
-returns-in-Err-clause-comes c text change come =
-    let fed = (begun_as c.args.self.now.whole c.args.self.now.reader.decoder text change c.if-self.false come.stands).fed in
-    faulty c.args.self.now (record { reader = c.feed.new.self; whole = c.args.self.now.whole; taken = c.args.self.now.taken }) text c.args.piece.now change c.if-self.false come c.are_bytes.ensures c.in-Err.fault (c.in-Err.ensures text fed)
+returns-in-Err-clause-comes c encoding change come =
+    let fed = (begun_as c.args.self.now.whole c.args.self.now.reader.decoder encoding change c.if-self.false come.stands).fed in
+    faulty c.args.self.now (record { reader = c.feed.new.self; whole = c.args.self.now.whole; taken = c.args.self.now.taken }) encoding c.args.piece.now change c.if-self.false come c.are_bytes.ensures c.in-Err.fault (c.in-Err.ensures encoding fed)

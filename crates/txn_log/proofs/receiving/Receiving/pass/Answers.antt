@@ -5,7 +5,7 @@ use Rattle.lf_sqlite_pages.specs.LockPage.{IsDataPage}
 use Rattle.lf_sqlite_pages.specs.declared.page_write.PageWrite.{PageWrite}
 use Rattle.lf_sqlite_pages.proofs.LockPages.{page_size-positive}
 use Rattle.txn_log.specs.Receiving.{lacking_page}
-use Rattle.txn_log.specs.Staging.{HoldsSoFar, front_text}
+use Rattle.txn_log.specs.Staging.{HoldsSoFar, front_encoding}
 use Rattle.txn_log.proofs.Modes.{page_size-most}
 use Rattle.txn_log.proofs.Receivings.{lacking-lock, lacking-within, lacking-past, passed-writes, passes-lock, passes-none}
 use Rattle.txn_log.proofs.receiving.Receiving.pass.Goals as goal
@@ -22,7 +22,7 @@ pub returns-then-number-lock_page-clause-staged : goal.returns-then-number-lock_
 returns-then-number-lock_page-clause-staged g c honest before held has lack so_far =
     let s = c.args.self.now in
     let none = lack ∙ lacking-lock s.header.page_size c.args.count (s.passed + 1) (c.if-number-lock_page.true ∙ c.lock_page.ensures) in
-    subst (λ (ws : List PageWrite). HoldsSoFar before (front_text s.header ws) (g.D.Disk.history c.args.disk.now)) (passed-writes held s.passed none) so_far
+    subst (λ (ws : List PageWrite). HoldsSoFar before (front_encoding s.header ws) (g.D.Disk.history c.args.disk.now)) (passed-writes held s.passed none) so_far
 
 pub returns-then-number-lock_page-clause-passed : goal.returns-then-number-lock_page-clause-passed
 returns-then-number-lock_page-clause-passed g c held has lack =
@@ -35,7 +35,7 @@ returns-then-number-count-clause-staged g c honest before held has lack so_far =
     let s = c.args.self.now in
     let other : IsDataPage s.header.page_size (s.passed + 1) = λ lock. c.if-number-lock_page.false (lock ∙ sym c.lock_page.ensures) in
     let none = lack ∙ lacking-within s.header.page_size c.args.count (s.passed + 1) other c.if-number-count.true in
-    subst (λ (ws : List PageWrite). HoldsSoFar before (front_text s.header ws) (g.D.Disk.history c.args.disk.now)) (passed-writes held s.passed none) so_far
+    subst (λ (ws : List PageWrite). HoldsSoFar before (front_encoding s.header ws) (g.D.Disk.history c.args.disk.now)) (passed-writes held s.passed none) so_far
 
 pub returns-then-number-count-clause-passed : goal.returns-then-number-count-clause-passed
 returns-then-number-count-clause-passed g c held has lack =

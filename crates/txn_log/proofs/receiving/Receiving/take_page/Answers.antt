@@ -2,7 +2,7 @@ use Rattle.std.proofs.Common.{List, refl, ap, subst, arith}
 use Rattle.std.specs.Prelude.{bit_xor}
 use Rattle.lf_sqlite_pages.specs.Writes.{writes_of}
 use Rattle.lf_sqlite_pages.specs.declared.page_write.PageWrite.{PageWrite}
-use Rattle.txn_log.specs.Staging.{HoldsSoFar, front_text}
+use Rattle.txn_log.specs.Staging.{HoldsSoFar, front_encoding}
 use Rattle.txn_log.proofs.Modes.{page_size-most}
 use Rattle.txn_log.proofs.Receivings.{taken-writes, takes}
 use Rattle.txn_log.proofs.receiving.Receiving.take_page.Goals as goal
@@ -26,7 +26,7 @@ returns-clause-moments g c honest before sums held has so_far =
 pub returns-clause-staged : goal.returns-clause-staged
 returns-clause-staged g c honest before sums held has some so_far =
     let s = c.args.self.now in
-    subst (λ (ws : List PageWrite). HoldsSoFar before (front_text s.header ws) (g.D.Disk.history c.stage_page.new.disk))
+    subst (λ (ws : List PageWrite). HoldsSoFar before (front_encoding s.header ws) (g.D.Disk.history c.stage_page.new.disk))
     (taken-writes held s.passed c.args.number c.args.page.now c.requires.next some)
     (c.in_ok-stage_page.ensures.staged honest before s.header (writes_of held s.passed) has.staging so_far)
 

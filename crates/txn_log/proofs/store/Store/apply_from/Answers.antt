@@ -11,7 +11,7 @@ use Rattle.txn_log.specs.Store.{IsStore, end_of_entries, image_in, state_of, fai
 use Rattle.txn_log.specs.declared.attempt.Attempt.TheVariants as attempt
 use Rattle.txn_log.specs.declared.bringing.Brought.{Brought}
 use Rattle.txn_log.specs.declared.bringing.Brought.TheVariants as brought
-use Rattle.txn_log.proofs.FromMoves.{over_ground, made, text, valid, is, read, can, still_kept, still_left, still_mode, went_nowhere, refused_went, refused_breaks, not_disk}
+use Rattle.txn_log.proofs.FromMoves.{over_ground, made, encoding, valid, is, read, can, still_kept, still_left, still_mode, went_nowhere, refused_went, refused_breaks, not_disk}
 use Rattle.txn_log.proofs.Modes.{mode_after}
 use Rattle.txn_log.proofs.Moves.{moved-none, image, files, is_done, stands, left_done, went_done, left_in, went_in, left_before, went_before, shaped-after}
 use Rattle.txn_log.proofs.Stores.{broken, mode_before}
@@ -65,13 +65,13 @@ invariant_of-self-in-Whole g c =
           let kept : IsStore h s.page_size s.commit s.entries.items s.dropped s.sums.sums false s.whole s.tried =
           subst (λ (x : Bool). IsStore h s.page_size s.commit s.entries.items s.dropped s.sums.sums x s.whole s.tried) c.if-self.false (s.kept honest) in
           let places = b.4 honest (image h s.page_size s.commit s.entries.items s.dropped s.sums.sums s.whole s.tried s.shaped kept) (files h s.page_size s.commit s.entries.items s.dropped s.sums.sums s.whole s.tried s.shaped kept) (over_ground h s.page_size s.commit s.entries.items s.dropped s.sums.sums s.whole s.tried s.shaped s.wal room kept) in
-          rw (c.push_reserved.ensures.items, c.before-in-Whole.ensures b.0, c.exchange.ensures, b.3.table_is, c.if-self.false) (stands h s.page_size s.commit s.entries.items s.dropped s.sums.sums s.whole s.tried s.shaped kept attempt.Apply (made h s.page_size s.commit s.entries.items s.dropped s.sums.sums s.whole s.tried s.shaped s.wal room left left_now file b.1 b.2) (text h s.page_size s.commit s.entries.items s.dropped s.sums.sums s.whole s.tried s.shaped s.wal room left left_now file b.1 b.2) tt (can h s.page_size s.commit s.entries.items s.dropped s.sums.sums s.whole s.tried s.shaped s.wal room left left_now file b.1 b.2 kept) (is h s.page_size s.commit s.entries.items s.dropped s.sums.sums s.whole s.tried s.shaped s.wal room left left_now file b.1 b.2) (read h s.page_size s.commit s.entries.items s.dropped s.sums.sums s.whole s.tried s.shaped s.wal room left left_now file b.1 b.2) new places.0 places.1 s.whole s.tried);
+          rw (c.push_reserved.ensures.items, c.before-in-Whole.ensures b.0, c.exchange.ensures, b.3.table_is, c.if-self.false) (stands h s.page_size s.commit s.entries.items s.dropped s.sums.sums s.whole s.tried s.shaped kept attempt.Apply (made h s.page_size s.commit s.entries.items s.dropped s.sums.sums s.whole s.tried s.shaped s.wal room left left_now file b.1 b.2) (encoding h s.page_size s.commit s.entries.items s.dropped s.sums.sums s.whole s.tried s.shaped s.wal room left left_now file b.1 b.2) tt (can h s.page_size s.commit s.entries.items s.dropped s.sums.sums s.whole s.tried s.shaped s.wal room left left_now file b.1 b.2 kept) (is h s.page_size s.commit s.entries.items s.dropped s.sums.sums s.whole s.tried s.shaped s.wal room left left_now file b.1 b.2) (read h s.page_size s.commit s.entries.items s.dropped s.sums.sums s.whole s.tried s.shaped s.wal room left left_now file b.1 b.2) new places.0 places.1 s.whole s.tried);
       left = λ still.
           let honest = sym c.bring_with-brought.ensures.honest ∙ still in
           let kept : IsStore h s.page_size s.commit s.entries.items s.dropped s.sums.sums false s.whole s.tried =
           subst (λ (x : Bool). IsStore h s.page_size s.commit s.entries.items s.dropped s.sums.sums x s.whole s.tried) c.if-self.false (s.kept honest) in
           let places = b.4 honest (image h s.page_size s.commit s.entries.items s.dropped s.sums.sums s.whole s.tried s.shaped kept) (files h s.page_size s.commit s.entries.items s.dropped s.sums.sums s.whole s.tried s.shaped kept) (over_ground h s.page_size s.commit s.entries.items s.dropped s.sums.sums s.whole s.tried s.shaped s.wal room kept) in
-          rw (c.push_reserved.ensures.items, c.before-in-Whole.ensures b.0, c.if-self.false) (left_done h s.page_size s.commit s.entries.items s.dropped s.sums.sums s.whole s.tried s.shaped kept attempt.Apply (made h s.page_size s.commit s.entries.items s.dropped s.sums.sums s.whole s.tried s.shaped s.wal room left left_now file b.1 b.2) (text h s.page_size s.commit s.entries.items s.dropped s.sums.sums s.whole s.tried s.shaped s.wal room left left_now file b.1 b.2) tt (can h s.page_size s.commit s.entries.items s.dropped s.sums.sums s.whole s.tried s.shaped s.wal room left left_now file b.1 b.2 kept) (is h s.page_size s.commit s.entries.items s.dropped s.sums.sums s.whole s.tried s.shaped s.wal room left left_now file b.1 b.2) (read h s.page_size s.commit s.entries.items s.dropped s.sums.sums s.whole s.tried s.shaped s.wal room left left_now file b.1 b.2) new places.0 places.1);
+          rw (c.push_reserved.ensures.items, c.before-in-Whole.ensures b.0, c.if-self.false) (left_done h s.page_size s.commit s.entries.items s.dropped s.sums.sums s.whole s.tried s.shaped kept attempt.Apply (made h s.page_size s.commit s.entries.items s.dropped s.sums.sums s.whole s.tried s.shaped s.wal room left left_now file b.1 b.2) (encoding h s.page_size s.commit s.entries.items s.dropped s.sums.sums s.whole s.tried s.shaped s.wal room left left_now file b.1 b.2) tt (can h s.page_size s.commit s.entries.items s.dropped s.sums.sums s.whole s.tried s.shaped s.wal room left left_now file b.1 b.2 kept) (is h s.page_size s.commit s.entries.items s.dropped s.sums.sums s.whole s.tried s.shaped s.wal room left left_now file b.1 b.2) (read h s.page_size s.commit s.entries.items s.dropped s.sums.sums s.whole s.tried s.shaped s.wal room left left_now file b.1 b.2) new places.0 places.1);
       mode = λ still.
           let honest = sym c.bring_with-brought.ensures.honest ∙ still in
           let kept : IsStore h s.page_size s.commit s.entries.items s.dropped s.sums.sums false s.whole s.tried =
@@ -81,7 +81,7 @@ invariant_of-self-in-Whole g c =
           subst (λ (x : Bool). s.wal ≡ image_is_wal (state_of h s.page_size s.commit s.entries.items s.dropped x s.whole).image) c.if-self.false (s.mode honest) in
           rw (c.if-self.false)
           (b.3.wal_is ∙ mode_after (image h s.page_size s.commit s.entries.items s.dropped s.sums.sums s.whole s.tried s.shaped kept) s.wal (made h s.page_size s.commit s.entries.items s.dropped s.sums.sums s.whole s.tried s.shaped s.wal room left left_now file b.1 b.2).change valid_file.block.pages.of_a_page_size (can h s.page_size s.commit s.entries.items s.dropped s.sums.sums s.whole s.tried s.shaped s.wal room left left_now file b.1 b.2 kept).complete mode
-          ∙ ap (λ (st : StoreState). image_is_wal st.image) (sym (is_done h s.page_size s.commit s.entries.items s.dropped s.sums.sums s.whole s.tried s.shaped kept attempt.Apply (made h s.page_size s.commit s.entries.items s.dropped s.sums.sums s.whole s.tried s.shaped s.wal room left left_now file b.1 b.2) (text h s.page_size s.commit s.entries.items s.dropped s.sums.sums s.whole s.tried s.shaped s.wal room left left_now file b.1 b.2) tt (can h s.page_size s.commit s.entries.items s.dropped s.sums.sums s.whole s.tried s.shaped s.wal room left left_now file b.1 b.2 kept) (is h s.page_size s.commit s.entries.items s.dropped s.sums.sums s.whole s.tried s.shaped s.wal room left left_now file b.1 b.2) (read h s.page_size s.commit s.entries.items s.dropped s.sums.sums s.whole s.tried s.shaped s.wal room left left_now file b.1 b.2) new places.0 places.1)));
+          ∙ ap (λ (st : StoreState). image_is_wal st.image) (sym (is_done h s.page_size s.commit s.entries.items s.dropped s.sums.sums s.whole s.tried s.shaped kept attempt.Apply (made h s.page_size s.commit s.entries.items s.dropped s.sums.sums s.whole s.tried s.shaped s.wal room left left_now file b.1 b.2) (encoding h s.page_size s.commit s.entries.items s.dropped s.sums.sums s.whole s.tried s.shaped s.wal room left left_now file b.1 b.2) tt (can h s.page_size s.commit s.entries.items s.dropped s.sums.sums s.whole s.tried s.shaped s.wal room left left_now file b.1 b.2 kept) (is h s.page_size s.commit s.entries.items s.dropped s.sums.sums s.whole s.tried s.shaped s.wal room left left_now file b.1 b.2) (read h s.page_size s.commit s.entries.items s.dropped s.sums.sums s.whole s.tried s.shaped s.wal room left left_now file b.1 b.2) new places.0 places.1)));
     }
 
 pub returns-in-Whole-clause-went : goal.returns-in-Whole-clause-went
@@ -100,7 +100,7 @@ returns-in-Whole-clause-went g c honest =
     let kept : IsStore h s.page_size s.commit s.entries.items s.dropped s.sums.sums false s.whole s.tried =
     subst (λ (x : Bool). IsStore h s.page_size s.commit s.entries.items s.dropped s.sums.sums x s.whole s.tried) c.if-self.false (s.kept honest) in
     let places = b.4 honest (image h s.page_size s.commit s.entries.items s.dropped s.sums.sums s.whole s.tried s.shaped kept) (files h s.page_size s.commit s.entries.items s.dropped s.sums.sums s.whole s.tried s.shaped kept) (over_ground h s.page_size s.commit s.entries.items s.dropped s.sums.sums s.whole s.tried s.shaped s.wal room kept) in
-    (file, b.1.gave, refl, rw (c.push_reserved.ensures.items, c.before-in-Whole.ensures b.0, c.if-self.false) (went_done h s.page_size s.commit s.entries.items s.dropped s.sums.sums s.whole s.tried s.shaped kept attempt.Apply (made h s.page_size s.commit s.entries.items s.dropped s.sums.sums s.whole s.tried s.shaped s.wal room left left_now file b.1 b.2) (text h s.page_size s.commit s.entries.items s.dropped s.sums.sums s.whole s.tried s.shaped s.wal room left left_now file b.1 b.2) tt (can h s.page_size s.commit s.entries.items s.dropped s.sums.sums s.whole s.tried s.shaped s.wal room left left_now file b.1 b.2 kept) (is h s.page_size s.commit s.entries.items s.dropped s.sums.sums s.whole s.tried s.shaped s.wal room left left_now file b.1 b.2) (read h s.page_size s.commit s.entries.items s.dropped s.sums.sums s.whole s.tried s.shaped s.wal room left left_now file b.1 b.2) new places.0 places.1))
+    (file, b.1.gave, refl, rw (c.push_reserved.ensures.items, c.before-in-Whole.ensures b.0, c.if-self.false) (went_done h s.page_size s.commit s.entries.items s.dropped s.sums.sums s.whole s.tried s.shaped kept attempt.Apply (made h s.page_size s.commit s.entries.items s.dropped s.sums.sums s.whole s.tried s.shaped s.wal room left left_now file b.1 b.2) (encoding h s.page_size s.commit s.entries.items s.dropped s.sums.sums s.whole s.tried s.shaped s.wal room left left_now file b.1 b.2) tt (can h s.page_size s.commit s.entries.items s.dropped s.sums.sums s.whole s.tried s.shaped s.wal room left left_now file b.1 b.2 kept) (is h s.page_size s.commit s.entries.items s.dropped s.sums.sums s.whole s.tried s.shaped s.wal room left left_now file b.1 b.2) (read h s.page_size s.commit s.entries.items s.dropped s.sums.sums s.whole s.tried s.shaped s.wal room left left_now file b.1 b.2) new places.0 places.1))
 
 pub invariant_of-self-in-Refused : goal.invariant_of-self-in-Refused
 invariant_of-self-in-Refused g c =
@@ -254,7 +254,7 @@ invariant_of-self-in-From g c =
           subst (λ (x : Bool). IsStore h s.page_size s.commit s.entries.items s.dropped s.sums.sums x s.whole s.tried) c.if-self.false (s.kept honest) in
           let places = b.3 honest (image h s.page_size s.commit s.entries.items s.dropped s.sums.sums s.whole s.tried s.shaped kept) (files h s.page_size s.commit s.entries.items s.dropped s.sums.sums s.whole s.tried s.shaped kept) (over_ground h s.page_size s.commit s.entries.items s.dropped s.sums.sums s.whole s.tried s.shaped s.wal room kept) in
           let P : ℕ → Type 0 = λ w. RestsAs (MayBeFound (state_of new s.page_size s.commit s.entries.items s.dropped true w) (Some (failure_of new c.in-From.tried attempt.Apply))) new in
-          subst (λ (w : ℕ). P w) (sym c.moment-start.ensures) (left_in h s.page_size s.commit s.entries.items s.dropped s.sums.sums s.whole s.tried s.shaped kept attempt.Apply (made h s.page_size s.commit s.entries.items s.dropped s.sums.sums s.whole s.tried s.shaped s.wal room left left_now file b.1 b.2) (text h s.page_size s.commit s.entries.items s.dropped s.sums.sums s.whole s.tried s.shaped s.wal room left left_now file b.1 b.2) tt (can h s.page_size s.commit s.entries.items s.dropped s.sums.sums s.whole s.tried s.shaped s.wal room left left_now file b.1 b.2 kept) (is h s.page_size s.commit s.entries.items s.dropped s.sums.sums s.whole s.tried s.shaped s.wal room left left_now file b.1 b.2) (read h s.page_size s.commit s.entries.items s.dropped s.sums.sums s.whole s.tried s.shaped s.wal room left left_now file b.1 b.2) new c.in-From.tried places.0 places.1);
+          subst (λ (w : ℕ). P w) (sym c.moment-start.ensures) (left_in h s.page_size s.commit s.entries.items s.dropped s.sums.sums s.whole s.tried s.shaped kept attempt.Apply (made h s.page_size s.commit s.entries.items s.dropped s.sums.sums s.whole s.tried s.shaped s.wal room left left_now file b.1 b.2) (encoding h s.page_size s.commit s.entries.items s.dropped s.sums.sums s.whole s.tried s.shaped s.wal room left left_now file b.1 b.2) tt (can h s.page_size s.commit s.entries.items s.dropped s.sums.sums s.whole s.tried s.shaped s.wal room left left_now file b.1 b.2 kept) (is h s.page_size s.commit s.entries.items s.dropped s.sums.sums s.whole s.tried s.shaped s.wal room left left_now file b.1 b.2) (read h s.page_size s.commit s.entries.items s.dropped s.sums.sums s.whole s.tried s.shaped s.wal room left left_now file b.1 b.2) new c.in-From.tried places.0 places.1);
       mode = λ still.
           let honest = sym c.bring_with-brought.ensures.honest ∙ still in
           let kept : IsStore h s.page_size s.commit s.entries.items s.dropped s.sums.sums false s.whole s.tried =
@@ -281,4 +281,4 @@ returns-in-From-clause-went g c honest =
     let kept : IsStore h s.page_size s.commit s.entries.items s.dropped s.sums.sums false s.whole s.tried =
     subst (λ (x : Bool). IsStore h s.page_size s.commit s.entries.items s.dropped s.sums.sums x s.whole s.tried) c.if-self.false (s.kept honest) in
     let places = b.3 honest (image h s.page_size s.commit s.entries.items s.dropped s.sums.sums s.whole s.tried s.shaped kept) (files h s.page_size s.commit s.entries.items s.dropped s.sums.sums s.whole s.tried s.shaped kept) (over_ground h s.page_size s.commit s.entries.items s.dropped s.sums.sums s.whole s.tried s.shaped s.wal room kept) in
-    rw (c.moment-start.ensures, c.if-self.false) (inr (file, b.1.gave, went_in h s.page_size s.commit s.entries.items s.dropped s.sums.sums s.whole s.tried s.shaped kept attempt.Apply (made h s.page_size s.commit s.entries.items s.dropped s.sums.sums s.whole s.tried s.shaped s.wal room left left_now file b.1 b.2) (text h s.page_size s.commit s.entries.items s.dropped s.sums.sums s.whole s.tried s.shaped s.wal room left left_now file b.1 b.2) tt (can h s.page_size s.commit s.entries.items s.dropped s.sums.sums s.whole s.tried s.shaped s.wal room left left_now file b.1 b.2 kept) (is h s.page_size s.commit s.entries.items s.dropped s.sums.sums s.whole s.tried s.shaped s.wal room left left_now file b.1 b.2) (read h s.page_size s.commit s.entries.items s.dropped s.sums.sums s.whole s.tried s.shaped s.wal room left left_now file b.1 b.2) new c.in-From.tried places.0 places.1))
+    rw (c.moment-start.ensures, c.if-self.false) (inr (file, b.1.gave, went_in h s.page_size s.commit s.entries.items s.dropped s.sums.sums s.whole s.tried s.shaped kept attempt.Apply (made h s.page_size s.commit s.entries.items s.dropped s.sums.sums s.whole s.tried s.shaped s.wal room left left_now file b.1 b.2) (encoding h s.page_size s.commit s.entries.items s.dropped s.sums.sums s.whole s.tried s.shaped s.wal room left left_now file b.1 b.2) tt (can h s.page_size s.commit s.entries.items s.dropped s.sums.sums s.whole s.tried s.shaped s.wal room left left_now file b.1 b.2 kept) (is h s.page_size s.commit s.entries.items s.dropped s.sums.sums s.whole s.tried s.shaped s.wal room left left_now file b.1 b.2) (read h s.page_size s.commit s.entries.items s.dropped s.sums.sums s.whole s.tried s.shaped s.wal room left left_now file b.1 b.2) new c.in-From.tried places.0 places.1))

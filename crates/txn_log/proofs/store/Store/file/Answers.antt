@@ -4,9 +4,9 @@ use Rattle.lf_disk.specs.History.{now}
 use Rattle.lf_sqlite_pages.specs.Header.{image_is_wal}
 use Rattle.world_laws.specs.Store.{MayBeFound}
 use Rattle.txn_log.specs.Calls.{RestsAs}
-use Rattle.txn_log.specs.Giving.{IsTextAt}
+use Rattle.txn_log.specs.Giving.{IsEncodingAt}
 use Rattle.txn_log.specs.Store.{IsStore, image_in, state_in, state_of, failed_of}
-use Rattle.txn_log.proofs.Givings.{text_at}
+use Rattle.txn_log.proofs.Givings.{encoding_at}
 use Rattle.txn_log.proofs.Resting.{same_now, kept_rested, left_rested, mode_rested}
 use Rattle.txn_log.proofs.store.Store.file.Goals as goal
 
@@ -40,14 +40,14 @@ invariant_of-self g c = record {
       rw (c.if-self.false) (mode_rested h new c.read_file.ensures.rests s.page_size s.commit s.wal mode);
 }
 
-pub returns-clause-text : goal.returns-clause-text
-returns-clause-text g c honest =
+pub returns-clause-encoding : goal.returns-clause-encoding
+returns-clause-encoding g c honest =
     let s = c.args.self.now in
     let h = g.D.Disk.history s.disk in
     let kept : IsStore h s.page_size s.commit s.entries.items s.dropped s.sums.sums false s.whole s.tried =
     subst (λ (b : Bool). IsStore h s.page_size s.commit s.entries.items s.dropped s.sums.sums b s.whole s.tried) c.if-self.false (s.kept honest) in
-    subst (λ (b : Bool). IsTextAt (state_of h s.page_size s.commit s.entries.items s.dropped b s.whole).log c.args.at c.read_file.new.out.items) (sym c.if-self.false)
-    (text_at s.entries.items (now h) c.args.at c.index-entry.result.now c.read_file.new.out.items kept.log.log c.requires c.index-entry.ensures (c.in_ok-read_file.ensures.bytes honest))
+    subst (λ (b : Bool). IsEncodingAt (state_of h s.page_size s.commit s.entries.items s.dropped b s.whole).log c.args.at c.read_file.new.out.items) (sym c.if-self.false)
+    (encoding_at s.entries.items (now h) c.args.at c.index-entry.result.now c.read_file.new.out.items kept.log.log c.requires c.index-entry.ensures (c.in_ok-read_file.ensures.bytes honest))
 
 pub returns-clause-store : goal.returns-clause-store
 returns-clause-store g c honest =

@@ -12,7 +12,7 @@ invariant_of-self c =
       gone = λ off. c.undo.ensures.before;
       marks = kept.saved c.undo.new.self.bytes (sym c.undo.ensures.bytes);
       saved = λ old is. absurd (let none : None ≡ Some old = sym c.undo.ensures.before ∙ is in cc);
-      index = index-stays c.self.inside.text.bytes back c.truncate.new.self c.truncate.ensures.index (λ k less. sym (shared.same k (omega (arith, less, c.truncate.ensures.among))));
+      index = index-stays c.self.inside.contents.bytes back c.truncate.new.self c.truncate.ensures.index (λ k less. sym (shared.same k (omega (arith, less, c.truncate.ensures.among))));
       few = omega (arith, c.truncate.ensures.among, shared.among);
       shared = λ old is. absurd (let none : None ≡ Some old = sym c.undo.ensures.before ∙ is in cc);
     }

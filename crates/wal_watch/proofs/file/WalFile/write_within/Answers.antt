@@ -13,22 +13,22 @@ extend-requires-clause-count c =
 pub extend-requires-clause-index : goal.extend-requires-clause-index
 extend-requires-clause-index c =
     let new = c.write_within.new.self.bytes in
-    let shared : AreShared c.self.inside.text.bytes c.write_within.new.self.bytes c.committed_in-self-inside.result = rw c.write_within.ensures.bytes
-    (shared-from c.self.inside.text.bytes (written c.args.at c.args.bytes.now c.self.inside.text.bytes) c.kept_marks-from.result c.committed_in-self-inside.result c.kept_marks-from.ensures.shared
+    let shared : AreShared c.self.inside.contents.bytes c.write_within.new.self.bytes c.committed_in-self-inside.result = rw c.write_within.ensures.bytes
+    (shared-from c.self.inside.contents.bytes (written c.args.at c.args.bytes.now c.self.inside.contents.bytes) c.kept_marks-from.result c.committed_in-self-inside.result c.kept_marks-from.ensures.shared
     c.committed_in-self-inside.ensures.none c.committed_in-self-inside.ensures.some) in
-    c.go_over.ensures.index c.self.inside.text.bytes new c.self.invariant.index shared.same
+    c.go_over.ensures.index c.self.inside.contents.bytes new c.self.invariant.index shared.same
 
 pub extend-requires-clause-among : goal.extend-requires-clause-among
 extend-requires-clause-among c =
-    let shared : AreShared c.self.inside.text.bytes c.write_within.new.self.bytes c.committed_in-self-inside.result = rw c.write_within.ensures.bytes
-    (shared-from c.self.inside.text.bytes (written c.args.at c.args.bytes.now c.self.inside.text.bytes) c.kept_marks-from.result c.committed_in-self-inside.result c.kept_marks-from.ensures.shared
+    let shared : AreShared c.self.inside.contents.bytes c.write_within.new.self.bytes c.committed_in-self-inside.result = rw c.write_within.ensures.bytes
+    (shared-from c.self.inside.contents.bytes (written c.args.at c.args.bytes.now c.self.inside.contents.bytes) c.kept_marks-from.result c.committed_in-self-inside.result c.kept_marks-from.ensures.shared
     c.committed_in-self-inside.ensures.none c.committed_in-self-inside.ensures.some) in
     omega (arith, c.go_over.ensures.among, shared.there, extend-requires-clause-count c)
 
 pub invariant_of-self : goal.invariant_of-self
 invariant_of-self c =
-    let shared : AreShared c.self.inside.text.bytes c.write_within.new.self.bytes c.committed_in-self-inside.result = rw c.write_within.ensures.bytes
-    (shared-from c.self.inside.text.bytes (written c.args.at c.args.bytes.now c.self.inside.text.bytes) c.kept_marks-from.result c.committed_in-self-inside.result c.kept_marks-from.ensures.shared
+    let shared : AreShared c.self.inside.contents.bytes c.write_within.new.self.bytes c.committed_in-self-inside.result = rw c.write_within.ensures.bytes
+    (shared-from c.self.inside.contents.bytes (written c.args.at c.args.bytes.now c.self.inside.contents.bytes) c.kept_marks-from.result c.committed_in-self-inside.result c.kept_marks-from.ensures.shared
     c.committed_in-self-inside.ensures.none c.committed_in-self-inside.ensures.some) in
     record {
       absent = search rules;
@@ -42,5 +42,5 @@ invariant_of-self c =
         c.committed_in-committed.ensures.count c.write_within.new.self.bytes
             (marked-whole c.write_within.new.self.bytes c.len.result c.marks_of-self-inside.result c.len.ensures.value c.marks_of-self-inside.ensures),
       );
-      shared = λ old is. let same : Some c.self.inside.text.bytes ≡ Some old = sym c.write_within.ensures.before ∙ is in let own : c.self.inside.text.bytes ≡ old = cc in rw (← own) shared;
+      shared = λ old is. let same : Some c.self.inside.contents.bytes ≡ Some old = sym c.write_within.ensures.before ∙ is in let own : c.self.inside.contents.bytes ≡ old = cc in rw (← own) shared;
     }

@@ -2,4 +2,4 @@ use Rattle.wal_watch.proofs.IndexLemmas.{index-none}
 use Rattle.wal_watch.proofs.index.FrameIndex.new.Goals as goal
 
 pub returns-clause-index : goal.returns-clause-index
-returns-clause-index c = λ text. index-none text _ c.new-2.ensures.len c.new.ensures.empty
+returns-clause-index c = λ contents. index-none contents _ c.new-2.ensures.len c.new.ensures.empty

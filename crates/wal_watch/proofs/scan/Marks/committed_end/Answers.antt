@@ -5,9 +5,9 @@ use Rattle.wal_watch.proofs.ScanLemmas.{final-count}
 use Rattle.wal_watch.proofs.scan.Marks.committed_end.Goals as goal
 
 pub returns-then-self-eq0 : goal.returns-then-self-eq0
-returns-then-self-eq0 c = λ text final. sym (cond-true _ _ _ (eq-eqb (committed_count text) 0 (sym (final-count text c.args.self final) ∙ c.if-self-eq0.true)))
+returns-then-self-eq0 c = λ contents final. sym (cond-true _ _ _ (eq-eqb (committed_count contents) 0 (sym (final-count contents c.args.self final) ∙ c.if-self-eq0.true)))
 
 pub returns-else-self-eq0 : goal.returns-else-self-eq0
-returns-else-self-eq0 c = λ text final.
-    let count = final-count text c.args.self final in
-    final.behind.committed.place ∙ ap (λ (k : ℕ). frame_place text k) count ∙ sym (cond-false _ _ _ (ne_eqb (committed_count text) 0 (λ none. c.if-self-eq0.false (count ∙ none))))
+returns-else-self-eq0 c = λ contents final.
+    let count = final-count contents c.args.self final in
+    final.behind.committed.place ∙ ap (λ (k : ℕ). frame_place contents k) count ∙ sym (cond-false _ _ _ (ne_eqb (committed_count contents) 0 (λ none. c.if-self-eq0.false (count ∙ none))))

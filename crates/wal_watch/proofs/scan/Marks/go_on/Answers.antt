@@ -9,9 +9,9 @@ pass-marks-requires-clause-short c = omega (arith, c.in-Some.ensures.room, c.req
 
 pub pass-marks-requires-clause-few : goal.pass-marks-requires-clause-few
 pass-marks-requires-clause-few c =
-    let text = resized c.args.len c.args.blocks.now.bytes in
+    let contents = resized c.args.len c.args.blocks.now.bytes in
     let last = c.loop-frame.invariant.last in
-    omega (arith, frames_fit text c.loop-frame.marks.last.frames (rw (← last.place) last.there), length-resized c.args.len c.args.blocks.now.bytes, c.requires.short)
+    omega (arith, frames_fit contents c.loop-frame.marks.last.frames (rw (← last.place) last.there), length-resized c.args.len c.args.blocks.now.bytes, c.requires.short)
 
 pub loop-frame-smaller : goal.loop-frame-smaller
 loop-frame-smaller c = omega (arith, c.in-Some.ensures.room, c.pass-marks.ensures.progress)

@@ -10,13 +10,13 @@ returns-then-len-lt-HEADER_LENGTH-clause-none c =
 
 pub returns-then-not-is_header-clause-none : goal.returns-then-not-is_header-clause-none
 returns-then-not-is_header-clause-none c =
-    let text = resized c.args.len c.args.blocks.now.bytes in
+    let contents = resized c.args.len c.args.blocks.now.bytes in
     let room : 32 ≤ length (resized c.args.len c.args.blocks.now.bytes) = omega (arith, length-resized c.args.len c.args.blocks.now.bytes, c.if-len-lt-HEADER_LENGTH.false) in
-    sym (front_header c.fill.new.out text (c.fill.ensures c.args.len c.if-len-lt-HEADER_LENGTH.false) room) ∙ sym c.is_header.ensures.value ∙ c.if-not-is_header.true
+    sym (front_header c.fill.new.out contents (c.fill.ensures c.args.len c.if-len-lt-HEADER_LENGTH.false) room) ∙ sym c.is_header.ensures.value ∙ c.if-not-is_header.true
 
 pub returns-clause-some : goal.returns-clause-some
 returns-clause-some c =
-    let text = resized c.args.len c.args.blocks.now.bytes in
+    let contents = resized c.args.len c.args.blocks.now.bytes in
     let room : 32 ≤ length (resized c.args.len c.args.blocks.now.bytes) = omega (arith, length-resized c.args.len c.args.blocks.now.bytes, c.if-len-lt-HEADER_LENGTH.false) in
     let is = c.fill.ensures c.args.len c.if-len-lt-HEADER_LENGTH.false in
-    marks-none text c.of.result _ (front_states c.fill.new.out text is c.of.result room c.of.ensures) room refl refl (c.header_sums.ensures ∙ front_sums c.fill.new.out text is)
+    marks-none contents c.of.result _ (front_states c.fill.new.out contents is c.of.result room c.of.ensures) room refl refl (c.header_sums.ensures ∙ front_sums c.fill.new.out contents is)

@@ -3,7 +3,7 @@ use Rattle.wal_watch.proofs.tests.rows.a_frame_behind_many_is_taken_back.Given a
 
 -- the file is there
 abbrev pub invariant-loop-frame : goal.invariant-loop-frame
-invariant-loop-frame g l = IsSome l.wal.text
+invariant-loop-frame g l = IsSome l.wal.contents
 
 abbrev pub invariant-loop-again : goal.invariant-loop-again
-invariant-loop-again g l = IsSome l.wal.text
+invariant-loop-again g l = IsSome l.wal.contents

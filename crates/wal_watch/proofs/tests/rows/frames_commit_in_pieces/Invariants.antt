@@ -3,4 +3,4 @@ use Rattle.wal_watch.proofs.tests.rows.frames_commit_in_pieces.Given as goal
 
 -- the file is there
 abbrev pub invariant-loop-at : goal.invariant-loop-at
-invariant-loop-at g l = IsSome l.wal.text
+invariant-loop-at g l = IsSome l.wal.contents

@@ -1,5 +1,5 @@
 use Rattle.ltx_codec.proofs.PartLaws.{started, page_added, finished}
-use Rattle.ltx_codec.proofs.laws_of_parts.parts_are_the_text.Goals as goal
+use Rattle.ltx_codec.proofs.laws_of_parts.parts_are_the_encoding.Goals as goal
 
 pub returns-clause-start : goal.returns-clause-start
 returns-clause-start c = started

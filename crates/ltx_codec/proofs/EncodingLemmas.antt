@@ -1,4 +1,4 @@
--- Bytes that were read are the text of what they say.
+-- Bytes that were read are the encoding of what they say.
 use Rattle.std.proofs.Common.{◌<◌, ◌^◌, ◌≡◌, ◌≢◌, ℕ, ◌+◌, ◌≤◌, List, [], ◌∷◌, ◌++◌, length, take, drop, arith, refl, sym, ap, subst, inl, inr, ◌∙◌, add-one, append_assoc}
 use Rattle.std.specs.Prelude.{IsSome}
 use Rattle.std.specs.Int.{w32, w64, to_be_bytes}
@@ -12,7 +12,7 @@ use Rattle.lf_sqlite_pages.specs.declared.page_write.PageWrite.{PageWrite}
 use Rattle.lf_sqlite_pages.specs.LockPage.{data_page_after}
 use Rattle.lf_sqlite_pages.specs.Change.{PageChange, with_page, last_number, written}
 use Rattle.ltx_codec.specs.Fields.{AreBytes, stated_page_size, header_in}
-use Rattle.ltx_codec.specs.Format.{pages_text}
+use Rattle.ltx_codec.specs.Format.{pages_encoding}
 use Rattle.ltx_codec.specs.Places.{number_place, number_at, number_before, page_in, write_in, writes_in}
 use Rattle.ltx_codec.specs.Block.{HoldsPages, HoldsEachSoFar, IsNextNumber}
 use Rattle.ltx_codec.proofs.BlockLemmas.{next_place}
@@ -57,10 +57,10 @@ eight_below place bytes fits =
     let few = AreBytes-take 8 (drop place bytes) (AreBytes-drop place bytes fits) in
     omega (arith, few 0, few 1, few 2, few 3, few 4, few 5, few 6, few 7)
 
--- the text of one more page
-pub pages_text-push : (ws : List PageWrite) (w : PageWrite) → pages_text (ws ++ w ∷ []) ≡ pages_text ws ++ (to_be_bytes w32 w.number ++ w.bytes)
-pages_text-push [] w = simp append-nil
-pages_text-push (v ∷ vs) w = rw (pages_text-push vs w) (simp append_assoc)
+-- the encoding of one more page
+pub pages_encoding-push : (ws : List PageWrite) (w : PageWrite) → pages_encoding (ws ++ w ∷ []) ≡ pages_encoding ws ++ (to_be_bytes w32 w.number ++ w.bytes)
+pages_encoding-push [] w = simp append-nil
+pages_encoding-push (v ∷ vs) w = rw (pages_encoding-push vs w) (simp append_assoc)
 
 -- the bytes from the k-th number's place to the next are the number and its page
 slot_spelled : (bytes : List ℕ) (k : ℕ) → AreBytes bytes → number_place bytes k + 4 ≤ length bytes
@@ -110,12 +110,12 @@ holds_next bytes change k n page fits holds number n-is more page-is =
           let next = follows-next (header_in bytes) (number_before bytes k) (number_at bytes k) number.may (λ zero. more (n-is ∙ zero)) snapshot in
           each_next change n page (n-is ∙ next ∙ ap (λ (m : ℕ). data_page_after (stated_page_size bytes) m) (sym holds.last) ∙ ap (λ (size : ℕ). data_page_after size (last_number change.pages)) (sym holds.page_size))
           last (holds.each snapshot);
-      text = slot_spelled bytes k fits number.there
-          ∙ ap (λ (d : List ℕ). d ++ (to_be_bytes w32 (number_at bytes k) ++ page_in bytes k)) holds.text
-          ∙ append_assoc (take 100 bytes) (pages_text change.pages) (to_be_bytes w32 (number_at bytes k) ++ page_in bytes k)
-          ∙ ap (λ (m : ℕ). take 100 bytes ++ (pages_text change.pages ++ (to_be_bytes w32 m ++ page_in bytes k))) (sym n-is)
-          ∙ ap (λ (p : List ℕ). take 100 bytes ++ (pages_text change.pages ++ (to_be_bytes w32 n ++ p))) (sym page-is)
-          ∙ ap (λ (d : List ℕ). take 100 bytes ++ d) (sym (pages_text-push change.pages w));
+      encoding = slot_spelled bytes k fits number.there
+          ∙ ap (λ (d : List ℕ). d ++ (to_be_bytes w32 (number_at bytes k) ++ page_in bytes k)) holds.encoding
+          ∙ append_assoc (take 100 bytes) (pages_encoding change.pages) (to_be_bytes w32 (number_at bytes k) ++ page_in bytes k)
+          ∙ ap (λ (m : ℕ). take 100 bytes ++ (pages_encoding change.pages ++ (to_be_bytes w32 m ++ page_in bytes k))) (sym n-is)
+          ∙ ap (λ (p : List ℕ). take 100 bytes ++ (pages_encoding change.pages ++ (to_be_bytes w32 n ++ p))) (sym page-is)
+          ∙ ap (λ (d : List ℕ). take 100 bytes ++ d) (sym (pages_encoding-push change.pages w));
     }
   where
     write_is : (m n : ℕ) (p q : List ℕ) → m ≡ n → p ≡ q → (let v : PageWrite = record { number = m; bytes = p } in v) ≡ record { number = n; bytes = q }

@@ -12,13 +12,13 @@ use Rattle.world_laws.specs.Answers.{Answers}
 use Rattle.world_laws.specs.Node as laws
 use Rattle.world_laws.specs.Node.{NodeState, Role}
 use Rattle.node_core.specs.declared.answer.Answer.TheVariants as answers
-use Rattle.node_core.specs.Deciding.{Decided, is_text}
-use Rattle.node_core.specs.Errors.{refusal_of_text}
+use Rattle.node_core.specs.Deciding.{Decided, is_encoding}
+use Rattle.node_core.specs.Errors.{refusal_of_encoding}
 use Rattle.node_core.specs.Framing.{RefusesBytes}
 use Rattle.node_core.specs.Safely.{law_answer, law_frame, law_frame_by}
 
--- a text has no earliest fault
-none-earliest : ((text rest : List ℕ) (file : Ltx) (f : LtxFault) (place : ℕ) → AreBytes (text ++ rest) → IsLtx text file → IsBroken (text ++ rest) f place → (f ≡ fault.Tail) × (length text < place))
+-- an encoding has no earliest fault
+none-earliest : ((encoding rest : List ℕ) (file : Ltx) (f : LtxFault) (place : ℕ) → AreBytes (encoding ++ rest) → IsLtx encoding file → IsBroken (encoding ++ rest) f place → (f ≡ fault.Tail) × (length encoding < place))
     → (bytes : List ℕ) (file : Ltx) (f : LtxFault) → AreBytes bytes → IsLtx bytes file → IsEarliest bytes f → ⊥
 none-earliest law bytes file f octets is earliest =
     let nil : bytes ++ [] ≡ bytes = append-nil bytes in
@@ -32,7 +32,7 @@ named bytes f other (inl same) = absurd (other same)
 named bytes f other (inr earliest) = earliest
 
 -- why the bytes are refused
-pub refuses-bytes : (bytes : List ℕ) (f : LtxFault) → IsRefused bytes f → RefusesBytes bytes (answers.Refused (refusal_of_text f))
+pub refuses-bytes : (bytes : List ℕ) (f : LtxFault) → IsRefused bytes f → RefusesBytes bytes (answers.Refused (refusal_of_encoding f))
 refuses-bytes bytes fault.NoMemory is = tt
 refuses-bytes bytes fault.Short is = named bytes fault.Short (λ same. cc) is
 refuses-bytes bytes fault.Magic is = named bytes fault.Magic (λ same. cc) is
@@ -56,21 +56,21 @@ module _ (old new : NodeState) (role : Role) (bytes : List ℕ) where
   not-replica primary (inr none) = tt
 
   -- as the laws say it
-  module _ (law : (text rest : List ℕ) (file : Ltx) (f : LtxFault) (place : ℕ) → AreBytes (text ++ rest) → IsLtx text file → IsBroken (text ++ rest) f place → (f ≡ fault.Tail) × (length text < place))
+  module _ (law : (encoding rest : List ℕ) (file : Ltx) (f : LtxFault) (place : ℕ) → AreBytes (encoding ++ rest) → IsLtx encoding file → IsBroken (encoding ++ rest) f place → (f ≡ fault.Tail) × (length encoding < place))
       (octets : AreBytes bytes) where
     wanting : (f : LtxFault) → IsLtx bytes (file_in bytes) → IsRefused bytes f → f ≡ fault.NoMemory
     wanting f is (inl same) = same
     wanting f is (inr earliest) = absurd (none-earliest law bytes (file_in bytes) f octets is earliest)
 
     pub bytes-refused : (f : LtxFault) → IsRefused bytes f → (decided : Decided (IsLtx bytes (file_in bytes)))
-        → Answers old role (law_frame_by bytes decided) [] None (law_answer (answers.Refused (refusal_of_text f))) new
+        → Answers old role (law_frame_by bytes decided) [] None (law_answer (answers.Refused (refusal_of_encoding f))) new
     bytes-refused f refused (inr none) = tt
     bytes-refused f refused (inl is) =
-        subst (λ (g : LtxFault). Answers old role (laws.Frame (file_in bytes)) [] None (law_answer (answers.Refused (refusal_of_text g))) new) (sym (wanting f is refused)) tt
+        subst (λ (g : LtxFault). Answers old role (laws.Frame (file_in bytes)) [] None (law_answer (answers.Refused (refusal_of_encoding g))) new) (sym (wanting f is refused)) tt
 
 -- the bytes of a file are that frame
 pub frame-is : ((bytes : List ℕ) (file : Ltx) → AreBytes bytes → IsLtx bytes file → file_in bytes ≡ file) → (bytes : List ℕ) (file : Ltx) → AreBytes bytes → IsLtx bytes file → laws.Frame file ≡ law_frame bytes
-frame-is law bytes file octets is = go (is_text bytes) where
+frame-is law bytes file octets is = go (is_encoding bytes) where
   go : (decided : Decided (IsLtx bytes (file_in bytes))) → laws.Frame file ≡ law_frame_by bytes decided
-  go (inl text) = ap (λ (f : Ltx). laws.Frame f) (sym (law bytes file octets is))
+  go (inl encoding) = ap (λ (f : Ltx). laws.Frame f) (sym (law bytes file octets is))
   go (inr none) = absurd (none (subst (λ (f : Ltx). IsLtx bytes f) (sym (law bytes file octets is)) is))
