@@ -1,5 +1,5 @@
 -- The handles that sessions have open on served files.
-use Rattle.std.specs.Prelude.{ℕ, Bool, false, not, nat_eq, Option, Some, None, is_none, List, find, filter, unwrap_or}
+use Rattle.std.specs.Prelude.{ℕ, Bool, false, not, nat_eq, Option, is_none, List, find, filter, unwrap_or}
 use Rattle.std.specs.List.{range_with_len}
 use Rattle.std.specs.Option.{option_map}
 use Rattle.std.specs.declared.cmp.Ordering.{Ordering}

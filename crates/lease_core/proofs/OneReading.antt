@@ -1,15 +1,14 @@
 -- No two requests and no two replies have the same members.
-use Rattle.std.proofs.Common.{◌≡◌, ℕ, ◌<◌, ◌^◌, List, codes, ap, refl, sym, ◌∙◌, arith, get_or}
+use Rattle.std.proofs.Common.{◌≡◌, ℕ, ◌<◌, ◌^◌, List, ap, refl, sym, ◌∙◌, arith, get_or}
 use Rattle.lf_base.specs.Hex.{hex_digits, number_after}
 use Rattle.lf_base.proofs.HexLemmas.{sixteen}
-use Rattle.serde_json.specs.Data.{Members}
 use Rattle.lease_core.specs.declared.lease_ask.LeaseAsk.{LeaseAsk}
 use Rattle.lease_core.specs.declared.lease_ask.LeaseAsk.TheVariants as ask
 use Rattle.lease_core.specs.declared.lease_reply.LeaseKind.{LeaseKind}
 use Rattle.lease_core.specs.declared.lease_reply.LeaseKind.TheVariants as kind
 use Rattle.lease_core.specs.declared.lease_reply.LeaseReply.{LeaseReply}
 use Rattle.lease_core.specs.declared.lease_reply.LeaseReply.TheVariants as reply
-use Rattle.lease_core.specs.Bodies.{ask_members, term_members, FitsAsk, kind_name, reply_members}
+use Rattle.lease_core.specs.Bodies.{ask_members, FitsAsk, kind_name, reply_members}
 use Rattle.lease_core.proofs.Shapes.{count_ask, ask_count, count_reply, reply_count}
 
 one_node : (n m : ℕ) → n < 2 ^ 64 → m < 2 ^ 64 → hex_digits 16 n ≡ hex_digits 16 m → n ≡ m

@@ -1,6 +1,6 @@
 -- How many members a request or a reply has, and that no other shape is left.
-use Rattle.std.proofs.Common.{◌≡◌, ◌≢◌, ℕ, ◌+◌, ◌<◌, ◌^◌, suc, List, [], ◌∷◌, length, String, Global, ap, refl, sym, ◌∙◌, arith, add-one, codes, inl, inr, IfErr, Result, Ok, Err}
-use Rattle.serde_json.specs.Data.{Data, object, Members, no_members, member}
+use Rattle.std.proofs.Common.{◌≡◌, ◌≢◌, ℕ, ◌<◌, ◌^◌, suc, List, [], ◌∷◌, length, String, Global, ap, refl, ◌∙◌, arith, codes, inl, inr, IfErr, Result, Ok, Err}
+use Rattle.serde_json.specs.Data.{object, Members, no_members}
 use Rattle.serde_json.specs.Events.{members_len}
 use Rattle.serde_json.specs.View.{members_view}
 use Rattle.serde_json.specs.declared.value.Value.{Value}
@@ -11,7 +11,7 @@ use Rattle.lease_core.specs.declared.lease_reply.LeaseReply.{LeaseReply}
 use Rattle.lease_core.specs.declared.lease_reply.LeaseReply.TheVariants as reply
 use Rattle.lease_core.specs.declared.body_fault.BodyFault.{BodyFault}
 use Rattle.lease_core.specs.declared.body_fault.BodyFault.TheVariants as fault
-use Rattle.lease_core.specs.Bodies.{ask_members, FitsAsk, NoAsk, IsAskData, IsTermOp, IsShapeOnly, term_members, reply_members, FitsKind, NoReply}
+use Rattle.lease_core.specs.Bodies.{ask_members, NoAsk, IsAskData, IsTermOp, IsShapeOnly, term_members, reply_members, FitsKind, NoReply}
 
 pub members_len-view : (es : List (String Global × Value)) → members_len (members_view es) ≡ length es
 members_len-view [] = refl

@@ -1,5 +1,5 @@
 -- What a lease service knows: the grant of each term so far. All times are in milliseconds.
-use Rattle.std.specs.Prelude.{◌≡◌, ℕ, ◌+◌, ◌-◌, ◌^◌, ◌<◌, ◌≤◌, ◌==◌, ◌&&◌, not, nat_lt, nat_le, max, Bool, if◌then◌else◌, List, [], ◌∷◌, ◌++◌, length, take, find, slice_index_or, Option, Some, None}
+use Rattle.std.specs.Prelude.{◌≡◌, ℕ, ◌+◌, ◌-◌, ◌^◌, ◌<◌, ◌≤◌, ◌==◌, ◌&&◌, not, nat_lt, max, Bool, if◌then◌else◌, List, [], ◌∷◌, ◌++◌, length, take, find, slice_index_or, Option, Some, None}
 use Rattle.std.specs.List.{slice_get}
 use Rattle.lease_core.specs.declared.grant.Grant.{Grant}
 use Rattle.lease_core.specs.declared.lease_fault.LeaseFault.{LeaseFault}

@@ -1,12 +1,12 @@
 -- Bytes in blocks: which byte stands where, after a write to one block and after a block was taken or given up.
-use Rattle.std.proofs.Common.{◌≡◌, ◌≢◌, ℕ, zero, suc, Bool, true, false, cond, not, ◌==◌, subst, add-zero, ◌+◌, ◌-◌, ◌*◌, ◌/◌, ◌%◌, ◌<◌, ◌≤◌, ◌⊎◌, List, [], ◌∷◌, ◌++◌, length, take, drop, replicate, get_or, map, set, min, refl, sym, ap, ◌∙◌, inl, inr, arith}
-use Rattle.std.specs.Prelude.{IsSome, Option, Some, None, if◌then◌else◌}
-use Rattle.std.specs.List.{range_with_len, count_by}
+use Rattle.std.proofs.Common.{◌≡◌, ◌≢◌, ℕ, zero, suc, Bool, true, false, cond, not, ◌==◌, subst, add-zero, ◌+◌, ◌-◌, ◌/◌, ◌%◌, ◌<◌, ◌≤◌, ◌⊎◌, List, [], ◌∷◌, ◌++◌, length, take, drop, replicate, get_or, set, min, refl, sym, ap, ◌∙◌, inl, inr, arith}
+use Rattle.std.specs.Prelude.{IsSome, Some, None, if◌then◌else◌}
+use Rattle.std.specs.List.{count_by}
 use Rattle.std.proofs.lemmas.List.Sums.{sum_by-cons, sum_by-append, sum_by-set, sum_by-take-le}
 use Rattle.std.proofs.lemmas.Bool.{cases_lt, cases_eq}
 use Rattle.std.proofs.lemmas.List.{length-take, length-drop, length-append, length-replicate, length-set, get_or_append_left, get_or-append_right, get_or-take, get_or-drop, get_or_past, get_or-replicate, get_or-set_same, get_or-set_other, ext_get_or, take-take, take_all}
 use Rattle.std.proofs.lemmas.List.FromFn.{length-map-range_with_len, get_or-map-range_with_len}
-use Rattle.lf_sqlite_pages.specs.BlockTable.{block_size, is_kept, kept_in, IsBlank, replaced, cleared_from, block_at, byte_in, bytes_in, blocks_in, IsWhole, IsPut, IsReady, IsFilled, IsGivenBack, IsReleased, IsTable, IsCut, IsSaved}
+use Rattle.lf_sqlite_pages.specs.BlockTable.{is_kept, kept_in, IsBlank, replaced, cleared_from, block_at, byte_in, bytes_in, blocks_in, IsWhole, IsPut, IsReady, IsFilled, IsGivenBack, IsReleased, IsTable, IsCut}
 
 pub length-bytes_in : (len : ℕ) (blocks : List (List ℕ)) → length (bytes_in len blocks) ≡ len
 unfolding bytes_in

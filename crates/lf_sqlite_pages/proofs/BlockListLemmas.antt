@@ -1,10 +1,10 @@
 -- The list of bytes that stands in blocks, through a write, a cut and a write that is taken back.
-use Rattle.std.proofs.Common.{◌≡◌, ℕ, ◌+◌, ◌-◌, ◌*◌, ◌/◌, ◌%◌, ◌<◌, ◌≤◌, List, [], ◌++◌, length, take, drop, min, max, get_or, refl, sym, ap, ◌∙◌, inl, inr, arith}
+use Rattle.std.proofs.Common.{◌≡◌, ℕ, ◌+◌, ◌-◌, ◌/◌, ◌<◌, ◌≤◌, List, [], ◌++◌, length, take, drop, min, max, get_or, refl, sym, ap, ◌∙◌, inl, inr, arith}
 use Rattle.std.proofs.lemmas.Bool.{cases_lt, cond-false, ne_eqb}
 use Rattle.std.proofs.lemmas.List.{get_or_past, ext_get_or, get_or-take, get_or-drop, length-take, length-drop, drop_all, take_all}
 use Rattle.lf_base.specs.FileBytes.{resized, overwritten, written, Reads}
-use Rattle.lf_base.proofs.FileLemmas.{length-resized, get_or-resized, length-overwritten, overwritten_before, overwritten_within, overwritten_behind, written-some, length-written, written_before, written_within, written_behind}
-use Rattle.lf_sqlite_pages.specs.BlockTable.{byte_in, bytes_in, block_at, blocks_in, kept_in, IsWhole, IsReady, AreReady, AreKept, IsPut, IsFilled, IsSaved, IsRead, IsTable, IsCut, HoldsAll}
+use Rattle.lf_base.proofs.FileLemmas.{length-resized, get_or-resized, overwritten_before, overwritten_within, overwritten_behind, length-written, written_before, written_within, written_behind}
+use Rattle.lf_sqlite_pages.specs.BlockTable.{byte_in, bytes_in, block_at, blocks_in, kept_in, IsReady, AreReady, AreKept, IsPut, IsFilled, IsSaved, IsRead, IsTable, IsCut, HoldsAll}
 use Rattle.lf_sqlite_pages.specs.Blocks.{touched}
 use Rattle.lf_sqlite_pages.proofs.BlockLemmas.{length-bytes_in, get_or-bytes_in, same-bytes_in, same-count}
 

@@ -1,5 +1,5 @@
 -- What the parts of a list in blocks keep between its calls.
-use Rattle.std.specs.Prelude.{◌≡◌, ℕ, ◌+◌, ◌-◌, ◌/◌, ◌<◌, ◌≤◌, Bool, true, Option, Some, None, List, length, vec_len, vec_capacity, if◌then◌else◌}
+use Rattle.std.specs.Prelude.{◌≡◌, ◌+◌, ◌-◌, ◌/◌, ◌<◌, ◌≤◌, true, Some, None, vec_len, vec_capacity, if◌then◌else◌}
 use Rattle.lf_base.specs.FileBytes.{overwritten, resized}
 use Rattle.lf_sqlite_pages.specs.BlockTable.{bytes_in, blocks_in, kept_in, IsTable, AreKept, AreReady}
 use Rattle.lf_sqlite_pages.specs.Blocks.{BlockList}

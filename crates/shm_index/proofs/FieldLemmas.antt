@@ -1,6 +1,5 @@
 -- Numbers of two and four bytes in a list, byte by byte.
-use Rattle.std.proofs.Common.{append_assoc, ◌≡◌, ℕ, length, slice_index_or, List, [], ◌∷◌, ◌++◌, refl, ap, ◌∙◌, arith, rules}
-use Rattle.std.proofs.lemmas.Grind.{common_steps}
+use Rattle.std.proofs.Common.{append_assoc, ◌≡◌, ℕ, length, slice_index_or, List, [], ◌∷◌, ◌++◌, refl, ap, ◌∙◌, arith}
 
 two : (xs ys : List ℕ) → length xs ≡ 2 → slice_index_or xs 0 0 ∷ slice_index_or xs 1 0 ∷ ys ≡ xs ++ ys
 two [] ys h = absurd (omega (arith, h))

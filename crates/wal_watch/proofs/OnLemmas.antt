@@ -1,9 +1,8 @@
 -- A scan that begins behind valid frames finds all that are committed.
-use Rattle.std.proofs.Common.{◌≡◌, ℕ, zero, suc, ◌+◌, ◌≤◌, ◌<◌, ◌==◌, true, false, List, length, take, refl, sym, ap, ◌∙◌, inl, inr, add-one, arith, if◌then◌else◌}
+use Rattle.std.proofs.Common.{◌≡◌, ℕ, zero, suc, ◌+◌, ◌≤◌, ◌==◌, true, false, List, length, take, refl, sym, ap, ◌∙◌, inl, inr, add-one, arith, if◌then◌else◌}
 use Rattle.std.proofs.lemmas.Bool.{cases_Bool, cond-true, cond-false, and_from, and_right}
 use Rattle.std.proofs.lemmas.List.{length-take}
-use Rattle.lf_base.specs.Endian.{be32_at}
-use Rattle.wal_watch.specs.Frames.{are_valid, commits_among, committed_count, frame_place, frame_sums, is_frame, is_frame_at, page_size_in, size_in, sums_after}
+use Rattle.wal_watch.specs.Frames.{are_valid, commits_among, committed_count, frame_place, frame_sums, is_frame, page_size_in, size_in, sums_after}
 use Rattle.wal_watch.specs.Scanning.{committed_from}
 use Rattle.wal_watch.specs.declared.sums.Sums.{Sums}
 use Rattle.wal_watch.proofs.Steps.{sums_more, valid_more}

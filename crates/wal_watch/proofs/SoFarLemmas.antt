@@ -1,7 +1,7 @@
 -- The pages of the new frames, collected frame by frame; one of which a later frame is known waits for that.
-use Rattle.std.proofs.Common.{◌≡◌, ◌⊎◌, ℕ, zero, suc, ◌+◌, ◌≤◌, ◌<◌, ◌&&◌, ◌==◌, Option, Some, None, List, [], refl, sym, ap, ◌∙◌, inl, inr, add-one, arith, nat_le}
+use Rattle.std.proofs.Common.{◌≡◌, ◌⊎◌, ℕ, zero, suc, ◌+◌, ◌≤◌, ◌<◌, ◌&&◌, ◌==◌, Option, Some, None, List, [], refl, sym, ap, ◌∙◌, inl, inr, arith, nat_le}
 use Rattle.std.specs.Map.{lookup}
-use Rattle.std.specs.BTreeMap.{BTreeMap, get, Updates, is_at}
+use Rattle.std.specs.BTreeMap.{BTreeMap, Updates, is_at}
 use Rattle.std.specs.Ordering.{nat_cmp}
 use Rattle.std.proofs.lemmas.Bool.{cases_lt, cases_eq, cases_Bool, cond-true, cond-false, and_parts, eqb-true}
 use Rattle.lf_sqlite_pages.specs.LockPage.{lock_page_of}

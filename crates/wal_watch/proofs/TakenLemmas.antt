@@ -17,7 +17,7 @@ use Rattle.wal_watch.specs.Frames.{number_in, page_size_in, page_in, is_frame, i
 use Rattle.wal_watch.specs.News.{latest_frame, change_frame, latest_pages, write_in}
 use Rattle.wal_watch.specs.Searching.{frame_within, HoldsPages, HoldsNone, IsLeast, AreTaken}
 use Rattle.wal_watch.proofs.Steps.{valid_more}
-use Rattle.wal_watch.proofs.ChangeLemmas.{latest_other, latest_none, latest_among, change_data, change_lock, change_here, change_other, change_none, no_pages, pages_next, pages_end}
+use Rattle.wal_watch.proofs.ChangeLemmas.{latest_other, latest_none, latest_among, change_data, change_lock, change_none, no_pages, pages_next, pages_end}
 
 -- a page within the commit, and one past it
 pub within_is : (contents : List ℕ) (commit first n page : ℕ) → page ≤ commit → frame_within contents commit first n page ≡ change_frame contents page first n

@@ -1,9 +1,8 @@
 -- The front of the file after the write is the front with the part of the write that lies in it.
-use Rattle.std.proofs.Common.{◌≡◌, ap, sym, ◌∙◌, take, List, ℕ}
+use Rattle.std.proofs.Common.{ap, sym, ◌∙◌, take, List, ℕ}
 use Rattle.lf_base.specs.FileBytes.{written}
 use Rattle.lf_base.proofs.FileLemmas.{take-written, take-written_within}
 use Rattle.journal_watch.proofs.header.front_after_write.Goals as goal
-use Rattle.std.proofs.Common.{arith}
 
 pub returns-then-at-lt8 : goal.returns-then-at-lt8
 returns-then-at-lt8 c =

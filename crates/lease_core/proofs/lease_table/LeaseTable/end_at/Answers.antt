@@ -1,4 +1,4 @@
-use Rattle.std.proofs.Common.{◌≡◌, ◌-◌, None, subst, sym, refl, arith}
+use Rattle.std.proofs.Common.{◌≡◌, ◌-◌, None, subst, sym, arith}
 use Rattle.lease_core.specs.Leases.{Leases, release_refusal}
 use Rattle.lease_core.proofs.Tables.{changes_end}
 use Rattle.lease_core.proofs.lease_table.LeaseTable.end_at.Goals as goal

@@ -1,4 +1,4 @@
-use Rattle.std.proofs.Common.{arith, ◌≡◌, subst, length, sym, ◌-◌, ◌∙◌}
+use Rattle.std.proofs.Common.{arith, ◌≡◌, subst, sym, ◌-◌}
 use Rattle.std.specs.Option.{option_copied}
 use Rattle.lease_core.specs.Leases.{Leases, live_grant, next_term}
 use Rattle.lease_core.proofs.Tables.{with_last, live_at}

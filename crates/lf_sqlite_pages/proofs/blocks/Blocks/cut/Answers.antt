@@ -1,4 +1,4 @@
-use Rattle.std.proofs.Common.{◌≡◌, ◌/◌, length, ap, sym, ◌∙◌, arith, refl, List, ℕ}
+use Rattle.std.proofs.Common.{◌≡◌, ◌/◌, arith, refl}
 use Rattle.std.specs.Vec.{with_items}
 use Rattle.std.proofs.lemmas.List.{with_items_is}
 use Rattle.lf_sqlite_pages.proofs.BlockListLemmas.{cut-bytes, cut-ready}

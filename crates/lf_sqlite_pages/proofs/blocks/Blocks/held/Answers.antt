@@ -1,6 +1,5 @@
-use Rattle.std.proofs.Common.{rules, length, ap, arith, ◌≡◌, ◌≤◌}
+use Rattle.std.proofs.Common.{rules, length, arith, ◌≡◌, ◌≤◌}
 use Rattle.std.proofs.lemmas.List.Sums.{count_by-le-length}
-use Rattle.lf_sqlite_pages.specs.Blocks.{BlockList}
 use Rattle.lf_sqlite_pages.specs.BlockTable.{is_kept, kept_in}
 use Rattle.lf_sqlite_pages.proofs.BlockLemmas.{length-bytes_in}
 use Rattle.lf_sqlite_pages.proofs.blocks.Blocks.held.Goals as goal

@@ -1,5 +1,4 @@
-use Rattle.std.proofs.Common.{◌≡◌, ◌≤◌, ◌+◌, length, ap, sym, subst, ◌∙◌, arith}
-use Rattle.lf_sqlite_pages.specs.Blocks.{BlockList}
+use Rattle.std.proofs.Common.{◌≡◌, ◌≤◌, ◌+◌, length, arith}
 use Rattle.lf_sqlite_pages.proofs.BlockLemmas.{length-bytes_in}
 use Rattle.lf_sqlite_pages.proofs.BlockListLemmas.{piece-there, there-piece}
 use Rattle.lf_sqlite_pages.proofs.blocks.Blocks.holds.Goals as goal

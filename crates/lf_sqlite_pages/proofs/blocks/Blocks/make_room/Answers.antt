@@ -1,4 +1,4 @@
-use Rattle.std.proofs.Common.{◌≡◌, ◌/◌, length, ap, sym, ◌∙◌, arith}
+use Rattle.std.proofs.Common.{arith}
 use Rattle.lf_sqlite_pages.proofs.blocks.Blocks.make_room.Goals as goal
 
 pub invariant_of-self : goal.invariant_of-self

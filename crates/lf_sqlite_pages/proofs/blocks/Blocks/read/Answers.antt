@@ -1,4 +1,4 @@
-use Rattle.std.proofs.Common.{◌≡◌, length, ap, sym, ◌∙◌, arith}
+use Rattle.std.proofs.Common.{arith}
 use Rattle.lf_sqlite_pages.specs.BlockTable.{bytes_in, IsRead}
 use Rattle.lf_sqlite_pages.proofs.BlockLemmas.{length-bytes_in}
 use Rattle.lf_sqlite_pages.proofs.BlockListLemmas.{read-none, read-some}

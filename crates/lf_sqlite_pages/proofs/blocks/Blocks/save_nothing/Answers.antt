@@ -1,6 +1,4 @@
-use Rattle.std.proofs.Common.{refl, ap, sym, ◌∙◌, ◌≡◌, [], List, ℕ, Some}
-use Rattle.lf_base.specs.FileBytes.{resized, overwritten}
-use Rattle.lf_sqlite_pages.specs.Blocks.{BlockList}
+use Rattle.std.proofs.Common.{refl}
 use Rattle.lf_sqlite_pages.specs.BlockTable.{bytes_in}
 use Rattle.lf_sqlite_pages.proofs.BlockLemmas.{length-bytes_in}
 use Rattle.lf_sqlite_pages.proofs.BlockListLemmas.{nothing-back}

@@ -1,4 +1,4 @@
-use Rattle.std.proofs.Common.{◌≡◌, ◌+◌, ◌/◌, true, Some, length, ap, sym, subst, ◌∙◌, arith, refl, List, ℕ, vec_len}
+use Rattle.std.proofs.Common.{◌≡◌, ◌+◌, ◌/◌, true, Some, length, ap, sym, subst, ◌∙◌, arith, refl, vec_len}
 use Rattle.std.specs.Prelude.{IsSome}
 use Rattle.std.specs.Vec.{with_items}
 use Rattle.std.proofs.lemmas.Bool.{cond-true}

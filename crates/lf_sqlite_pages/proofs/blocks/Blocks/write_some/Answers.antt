@@ -1,4 +1,4 @@
-use Rattle.std.proofs.Common.{◌≡◌, ◌≤◌, ◌+◌, ◌/◌, true, Some, length, max, ap, sym, subst, ◌∙◌, arith, refl, List, ℕ, vec_len}
+use Rattle.std.proofs.Common.{◌≡◌, ◌+◌, ◌/◌, Some, length, max, ap, sym, arith, refl, vec_len}
 use Rattle.std.specs.Vec.{with_items}
 use Rattle.std.proofs.lemmas.List.{with_items_is}
 use Rattle.lf_sqlite_pages.specs.Blocks.{BlockList}

@@ -1,6 +1,6 @@
-use Rattle.std.proofs.Common.{◌≡◌, ◌/◌, [], ap, sym, ◌∙◌, List, ℕ, slice_set, arith, get_or}
-use Rattle.std.proofs.lemmas.List.{get_or_read, get_or_past}
-use Rattle.lf_sqlite_pages.specs.BlockTable.{block_at, kept_in, IsTable, byte_in, cleared_from}
+use Rattle.std.proofs.Common.{◌≡◌, ◌/◌, [], sym, ◌∙◌, get_or}
+use Rattle.std.proofs.lemmas.List.{get_or_read}
+use Rattle.lf_sqlite_pages.specs.BlockTable.{block_at}
 use Rattle.lf_sqlite_pages.proofs.BlockLemmas.{tail-table, tail-same, tail-sizes, tail-count}
 use Rattle.lf_sqlite_pages.proofs.blocks.table.clear_tail.Goals as goal
 

@@ -1,7 +1,7 @@
-use Rattle.std.proofs.Common.{◌≡◌, ap, sym, ◌∙◌, arith, length, List, ℕ, subst}
+use Rattle.std.proofs.Common.{◌≡◌, ap, arith, length}
 use Rattle.std.proofs.lemmas.List.{with_items_is, length-take}
 use Rattle.std.specs.Vec.{with_items}
-use Rattle.lf_sqlite_pages.specs.BlockTable.{IsCut, IsReleased, blocks_in}
+use Rattle.lf_sqlite_pages.specs.BlockTable.{IsReleased, blocks_in}
 use Rattle.lf_sqlite_pages.proofs.BlockLemmas.{cut-is}
 use Rattle.lf_sqlite_pages.proofs.blocks.table.cut.Goals as goal
 

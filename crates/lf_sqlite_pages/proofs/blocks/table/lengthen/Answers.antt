@@ -1,4 +1,4 @@
-use Rattle.std.proofs.Common.{◌≡◌, ◌++◌, ◌∷◌, [], ◌∙◌, List, ℕ, arith, sym}
+use Rattle.std.proofs.Common.{◌∙◌, arith}
 use Rattle.lf_sqlite_pages.proofs.BlockLemmas.{push-none-same, push-none-count}
 use Rattle.lf_sqlite_pages.proofs.blocks.table.lengthen.Goals as goal
 

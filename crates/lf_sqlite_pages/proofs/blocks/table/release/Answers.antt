@@ -1,4 +1,4 @@
-use Rattle.std.proofs.Common.{◌≡◌, ◌-◌, ◌<◌, ◌∙◌, [], ap, sym, subst, arith, length, List, ℕ, take, vec_len}
+use Rattle.std.proofs.Common.{◌≡◌, ◌-◌, ◌<◌, ◌∙◌, [], ap, sym, subst, arith, length, ℕ, take, vec_len}
 use Rattle.lf_sqlite_pages.specs.BlockTable.{IsReleased, IsGivenBack, block_at}
 use Rattle.lf_sqlite_pages.proofs.BlockLemmas.{released-none, released-more, take-same}
 use Rattle.lf_sqlite_pages.proofs.blocks.table.release.Goals as goal

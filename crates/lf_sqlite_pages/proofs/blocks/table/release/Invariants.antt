@@ -1,4 +1,4 @@
-use Rattle.std.proofs.Common.{◌≤◌, min, vec_len, vec_capacity, length}
+use Rattle.std.proofs.Common.{◌≤◌, min, vec_len, vec_capacity}
 use Rattle.lf_sqlite_pages.specs.BlockTable.{IsReleased}
 use Rattle.lf_sqlite_pages.proofs.blocks.table.release.Given as goal
 

@@ -1,6 +1,6 @@
-use Rattle.std.proofs.Common.{◌≡◌, ◌-◌, ◌<◌, [], sym, ap, ◌∙◌, length, inl, inr, arith, List, ℕ, get_or}
+use Rattle.std.proofs.Common.{◌≡◌, ◌-◌, ◌<◌, [], sym, ap, ◌∙◌, length, arith, get_or}
 use Rattle.std.proofs.lemmas.List.{get_or_read}
-use Rattle.lf_sqlite_pages.specs.BlockTable.{block_at, IsBlank, IsWhole, IsFilled}
+use Rattle.lf_sqlite_pages.specs.BlockTable.{block_at, IsBlank}
 use Rattle.lf_sqlite_pages.proofs.BlockLemmas.{filled-none, filled-same, filled-taken, blank-there, missing-ready}
 use Rattle.lf_sqlite_pages.proofs.blocks.table.take_ready.Goals as goal
 use Rattle.lf_sqlite_pages.proofs.blocks.table.take_ready.Goals.{then-not-is_kept, else-not-is_kept}

@@ -1,5 +1,4 @@
-use Rattle.std.proofs.Common.{refl, ◌∙◌, ap}
-use Rattle.lf_sqlite_pages.specs.BlockTable.{IsBlank}
+use Rattle.std.proofs.Common.{refl}
 use Rattle.lf_sqlite_pages.proofs.BlockLemmas.{blank-zeros}
 use Rattle.lf_sqlite_pages.proofs.blocks.block.Block.blank.Goals as goal
 
