@@ -4,6 +4,7 @@ ghost use Rattle.std.specs.Prelude.{◌≡◌, ◌==◌, not, false, IfOk};
 use crate::acceptor::Acceptor;
 use crate::closing::Closing;
 use crate::handles::Handles;
+use crate::polling_stream::PollingStream;
 use crate::source::Failed;
 use crate::stream_link::{StreamLink, TcpLink, UnixLink};
 use std::net::{TcpListener, TcpStream};
@@ -178,6 +179,7 @@ impl Acceptor for UnixAccept {
         match next_stream(rt, &self.listener, &self.closing) {
             Ok(Some(stream)) => {
                 self.given = self.given.saturating_add(1);
+                let stream = PollingStream::new(stream);
                 Ok(Some(StreamLink::new(stream)))
             }
             Ok(None) => {

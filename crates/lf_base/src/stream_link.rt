@@ -1,10 +1,10 @@
 ghost use Rattle.std.specs.Prelude.{◌≡◌, ◌==◌, not, None};
 
 use crate::link::Link;
+use crate::polling_stream::PollingStream;
 use crate::source::Failed;
 use std::io;
 use std::net::TcpStream;
-use std::os::unix::net::UnixStream;
 
 /// A stream of the system as a link. It tells its counts alone: of what the other end sends and gets
 /// no contract knows.
@@ -19,7 +19,7 @@ pub struct StreamLink<S: io::Read + io::Write> {
 pub type TcpLink = StreamLink<TcpStream>;
 
 /// A stream of a Unix socket as a link.
-pub type UnixLink = StreamLink<UnixStream>;
+pub type UnixLink = StreamLink<PollingStream>;
 
 impl<S: io::Read + io::Write> StreamLink<S> {
     pub fn new(stream: S) -> StreamLink<S>

@@ -19,6 +19,7 @@ use lf_base::NoMemory;
 use std::alloc::Global;
 use std::snapshot::Snapshot;
 use std::sync::Wait;
+use std::sync::atomic::{AtomicU64, Ordering};
 
 /// The desk of a machine.
 pub type Desk<M> = DeskOver<
@@ -44,7 +45,9 @@ impl<M: Machine> Desk<M> {
         ensures cause { IfErr result (λ refusal. HasCause refusal (turn_words seat.old) (turn_words seat.new)) }
     {
         let number = seat.number;
-        try_turn(&self.table.shared, &mut seat.place, number, ask)
+        let answer = try_turn(&self.table.shared, &mut seat.place, number, ask)?;
+        self.wake();
+        Ok(answer)
     }
 
     /// Takes one step of the machine by this seat's number. Waits for the turn.
@@ -73,13 +76,23 @@ impl<M: Machine> Desk<M> {
         unreachable!()
     }
 
-    // Sleeps while another seat has the turn.
+    // Sleeps while another seat has the turn. Who gives a turn up and sees no sleeper is seen here: the count goes up before
+    // the turn word is read.
     fn wait<R: Wait>(&self, rt: &R) {
+        self.sleepers.fetch_add(1, Ordering::SeqCst);
         let now = self.table.shared.peek(TURN);
         if now % 2 == 1 {
             self.table
                 .shared
                 .park(rt, TURN, (now % 4_294_967_296) as u32);
+        }
+        self.sleepers.fetch_sub(1, Ordering::SeqCst);
+    }
+
+    // Wakes all sleepers, if there are any: one that was woken alone may leave as worn and wake no other.
+    fn wake(&self) {
+        if self.sleepers.load(Ordering::SeqCst) > 0 {
+            self.table.shared.wake_all(TURN);
         }
     }
 
@@ -167,7 +180,10 @@ where
         };
         slots.push_reserved(Some(value));
         match Table::new(alloc, &[0, 1], slots, &opened) {
-            Ok((table, place)) => Ok((DeskOver { table }, SeatOver { place, number: 0 })),
+            Ok((table, place)) => {
+                let sleepers = AtomicU64::new(0);
+                Ok((DeskOver { table, sleepers }, SeatOver { place, number: 0 }))
+            }
             Err(Refused { mut slots }) => {
                 let value = slots.pop().unwrap().unwrap();
                 Err((NoMemory, value.machine))

@@ -98,8 +98,6 @@ pub(crate) fn try_turn<M: Machine>(
     let out = top.exchange(place, 0, Some(value));
     let None = out else { unreachable!() };
     top.store::<GiveTurn>(place, TURN, found + 2);
-    // All, since a sleeper that was woken alone may leave as worn and wake no other.
-    top.wake_all(TURN);
     Ok(answer)
 }
 

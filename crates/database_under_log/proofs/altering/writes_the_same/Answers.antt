@@ -1,7 +1,7 @@
 -- One page more is the image's, or is another.
 use Rattle.std.proofs.Common.{◌≡◌, ◌≤◌, get_or, rules, arith, refl, sym, ◌∙◌}
 use Rattle.lf_sqlite_pages.specs.LockPage.{IsDataPage}
-use Rattle.database_file.proofs.ContentsLemmas.{SameBase-trans}
+use Rattle.database_file.proofs.TextLemmas.{SameBase-trans}
 use Rattle.database_under_log.proofs.AlterLemmas.{told-none, told-more, told-same, told-other}
 use Rattle.database_under_log.proofs.ToldSteps.{write-is}
 use Rattle.database_under_log.proofs.altering.writes_the_same.Goals as goal

@@ -7,7 +7,7 @@ use Rattle.lf_sqlite_pages.specs.Change.{AscendsAbove}
 use Rattle.lf_sqlite_pages.specs.declared.page_write.PageWrite.{PageWrite}
 use Rattle.lf_sqlite_pages.proofs.LockPages.{page_size-positive}
 use Rattle.database_file.specs.DatabaseFile.{size_over, count_over}
-use Rattle.database_file.proofs.ContentsLemmas.{SameBase-trans}
+use Rattle.database_file.proofs.TextLemmas.{SameBase-trans}
 use Rattle.database_file.proofs.WalLemmas.{numbers-later, element-same}
 use Rattle.database_under_log.specs.HoldingParts.{AreBelow, IsNoted, is_left}
 use Rattle.database_under_log.proofs.HoldLemmas.{back-none}
