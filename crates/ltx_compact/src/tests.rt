@@ -278,3 +278,18 @@ fn the_first_file_that_does_not_join_is_named(rt: HostRuntime) -> Result<(), Fai
     assert_eq!(rt; fault_of(rt.alloc(), &[])?, Some(CompactFault::Empty));
     Ok(())
 }
+
+/// A gap of sums prints both, the one that is got first.
+#[test]
+fn a_gap_of_sums_prints_both(rt: HostRuntime) -> Result<(), Fail> {
+    let fault = CompactFault::SumGap {
+        at: 2,
+        want: 0xab,
+        got: 0xcd,
+    };
+    let line = format!(in rt.alloc(); "{fault}")?;
+    let got = "file 2 begins with the sum 00000000000000cd";
+    let want = ", and the one before it ends with 00000000000000ab";
+    assert_eq!(rt; line.as_str().strip_prefix(got), Some(want));
+    Ok(())
+}

@@ -6,7 +6,7 @@ ghost use Rattle.lf_disk.specs.declared.name.FileName.{FileName as Name};
 ghost use Rattle.lf_sqlite_pages.specs.Image.{DatabaseImage};
 ghost use Rattle.ltx_codec.specs.declared.file.Ltx.{Ltx};
 ghost use Rattle.txn_log.specs.Kept.{IsAtRest};
-ghost use Rattle.txn_log.specs.Settling.{IsThinned, IsCleared, IsUnsettled, IsInstalled};
+ghost use Rattle.txn_log.specs.Settling.{IsUnsettled, IsInstalled};
 ghost use Rattle.node_recovery.specs.Rewriting.{HoldsFile};
 
 use crate::piece_reader::PieceReader;
@@ -14,25 +14,7 @@ use crate::rewriting::rewrite_from;
 use lf_base::Failed;
 use lf_disk::{Disk, FileName};
 use ltx_codec::Header;
-use txn_log::Entry;
-
-/// Removes the transaction files of these entries, of which some may be absent.
-fn clear<D: Disk>(disk: &mut D, entries: &[Entry]) -> Result<(), Failed>
-    requires { IsTrue (D.honest disk.old) → IsSettledBut Name.Staged (D.history disk.old) }
-    ensures moments { IsTrue (D.honest disk.old)
-        → EachMoment (D.history disk.old) (D.history disk.new) (IsThinned entries.now (now (D.history disk.old))) }
-    ensures done { IsTrue (D.honest disk.old) → OnOk result (IsCleared entries.now (now (D.history disk.old)) (D.history disk.new)) }
-    ensures honest { D.honest disk.new ≡ D.honest disk.old }
-    ensures cause { CountsFaults (D.faults disk.old) (D.faults disk.new) result }
-{
-    for entry in entries {
-        disk.remove(FileName::Ltx {
-            min: entry.min,
-            max: entry.max,
-        })?;
-    }
-    Ok(())
-}
+use txn_log::{Entry, clear};
 
 /// Does the rest of an install where a snapshot of this header stands: removes the mark of a
 /// dropped database and the transaction files of these entries, writes the snapshot's pages over

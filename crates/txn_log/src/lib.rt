@@ -69,6 +69,7 @@ mod zeros;
 
 pub use answer::Answer;
 pub use attempt::Attempt;
+pub use clearing::clear;
 pub use coming::{Coming, Part};
 pub use entry::Entry;
 pub use fault::StoreFault;
