@@ -123,10 +123,10 @@ pub record MountOutcome (Back : Result (Unit {0}) MountFault → Type 0) (outsid
   pub name_is : name ≡ name_of_end end
 
 -- what a run did: it read its input and wrote its output, or refused its arguments; or it was a node
-pub data Went (Back : Result (Unit {0}) MountFault → Type 0) (arguments : List (List ℕ)) (outside : Outside) (status : Status) (name : List ℕ) : Type 0 where
+pub data RunCourse (Back : Result (Unit {0}) MountFault → Type 0) (arguments : List (List ℕ)) (outside : Outside) (status : Status) (name : List ℕ) : Type 0 where
   over_streams : (read written : List ℕ) → Moves outside.input outside.output status read written → ArgumentsOutcome arguments read status written name
-      → Went Back arguments outside status name
-  mounted : arguments ≡ arguments_of Mount → MountOutcome Back outside status name → Went Back arguments outside status name
+      → RunCourse Back arguments outside status name
+  mounted : arguments ≡ arguments_of Mount → MountOutcome Back outside status name → RunCourse Back arguments outside status name
 
 -- a line of standard error
 abbrev pub line : List ℕ → List ℕ
@@ -145,7 +145,7 @@ Says errors bytes = Holds errors × Takes errors bytes ⊎ Fails errors × Appen
 -- how a run went that ended with this status: what it did, and the name of the fault on standard error
 pub record RunOutcome (Back : Result (Unit {0}) MountFault → Type 0) (run : Run) (status : Status) : Type 0 where
   pub name : List ℕ
-  pub went : Went Back run.arguments run.outside status name
+  pub went : RunCourse Back run.arguments run.outside status name
   pub says : Says run.errors (line_of status name)
 
 -- what a run leaves: without `mount` the configuration and the maker, with it the input and the output

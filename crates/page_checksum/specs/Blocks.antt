@@ -1,4 +1,4 @@
--- Blocks of 256 bytes for CRC-64/GO-ISO. With z for a zero byte after a text, the polynomial's 32nd power says that
+-- Blocks of 256 bytes for CRC-64/GO-ISO. With z for a zero byte after some bytes, the polynomial's 32nd power says that
 -- z^256 does to the register what z^16 + z^12 + z^4 + 1 does.
 use Rattle.std.specs.Prelude.{◌≡◌, ℕ, ◌+◌, ◌<◌, List, ◌++◌, bit_xor, take, replicate, slice_index}
 

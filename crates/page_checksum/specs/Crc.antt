@@ -24,6 +24,6 @@ after_bytes register (byte ∷ bytes) = after_bytes (after_byte register byte) b
 abbrev pub all_ones : ℕ
 all_ones = 0xFFFF_FFFF_FFFF_FFFF
 
--- the checksum of a text
+-- the checksum of bytes
 unfoldable pub crc : List ℕ → ℕ
 crc bytes = bit_xor (after_bytes all_ones bytes) all_ones

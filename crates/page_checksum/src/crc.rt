@@ -4,11 +4,11 @@ ghost use Rattle.page_checksum.specs.Crc.{after_bytes, crc};
 use crate::blocks::feed_blocks;
 use crate::words::feed_by_words;
 
-/// The register before the first byte of a text. The checksum is the register's complement after
+/// The register before the first byte. The checksum is the register's complement after
 /// the last.
 pub const FIRST_REGISTER: u64 = u64::MAX;
 
-/// The CRC-64/GO-ISO of a text.
+/// The CRC-64/GO-ISO of bytes.
 #[tactic(auto, unfolding(crate::specs::Crc::crc))]
 pub fn crc64(bytes: &[u8]) -> u64
     ensures { result ≡ crc bytes.now }

@@ -6,11 +6,11 @@ use std::test::Fail;
 /// The check values of CRC-64/GO-ISO that its catalogue and Go's tests give.
 #[test]
 fn checksums_of_the_catalogue(rt: HostRuntime) {
-    for (text, sum) in [
+    for (message, sum) in [
         (b"123456789".as_slice(), 0xb909_56c7_75a4_1001),
         (b"a".as_slice(), 0x3420_0000_0000_0000),
     ] {
-        assert_eq!(rt; crc64(text), sum);
+        assert_eq!(rt; crc64(message), sum);
     }
 }
 
@@ -41,7 +41,7 @@ fn table_of_two_pages(rt: HostRuntime) -> Result<(), Fail> {
 /// The blocks and tables as they run, beside the definition's plain program.
 #[test]
 fn blocks_and_tables_beside_bits(rt: HostRuntime) -> Result<(), Fail> {
-    let text = mixed_bytes(rt.alloc())?;
+    let message = mixed_bytes(rt.alloc())?;
     for (shortest, longest) in [
         (0usize, 40usize),
         (255, 260),
@@ -50,10 +50,10 @@ fn blocks_and_tables_beside_bits(rt: HostRuntime) -> Result<(), Fail> {
         (4096, 4096),
     ] {
         for length in shortest..=longest {
-            let front = text
+            let front = message
                 .as_slice()
                 .get(..length)
-                .ok_or("the text is too short")?;
+                .ok_or("the message is too short")?;
             for register in [FIRST_REGISTER, 0, 1 << 63] {
                 assert_eq!(rt;
                     crc_feed(register, front),
@@ -67,9 +67,9 @@ fn blocks_and_tables_beside_bits(rt: HostRuntime) -> Result<(), Fail> {
 }
 
 fn mixed_bytes(alloc: Global) -> Result<Vec<u8>, AllocError> {
-    let mut text = Vec::new(alloc);
+    let mut message = Vec::new(alloc);
     for place in 0..4096u32 {
-        text.push((place * 31 % 251) as u8)?;
+        message.push((place * 31 % 251) as u8)?;
     }
-    Ok(text)
+    Ok(message)
 }

@@ -7,7 +7,7 @@ use Rattle.node_mount.specs.declared.mount_fault.MountFault.{MountFault}
 use Rattle.node_mount.specs.Configuring.{ReadsConfiguration}
 use Rattle.node_mount.specs.Mounting.{IsMountCause}
 use Rattle.litefs_tool.specs.Mount.{status_of_end, name_of_end}
-use Rattle.litefs_tool.specs.Run.{Stream, Moves, Outside, Went}
+use Rattle.litefs_tool.specs.Run.{Stream, Moves, Outside, RunCourse}
 use Rattle.litefs_tool.specs.declared.failure.Failure.{Failure}
 
 -- the streams moved as the result's status says, and this is what it comes to
@@ -18,7 +18,7 @@ Performs outcome input output result =
 
 -- the run went as the result's status and name say
 abbrev pub Goes : (Result (Unit {0}) MountFault → Type 0) → List (List ℕ) → Outside → Result (Unit {0}) Failure → Type 0
-Goes Back arguments outside result = Went Back arguments outside (status_of result) (name_of result)
+Goes Back arguments outside result = RunCourse Back arguments outside (status_of result) (name_of result)
 
 -- a node ended as the result's status and name say
 pub record Mounts (Back : Result (Unit {0}) MountFault → Type 0) (config : Stream) (counts counts_after : Counts) (result : Result (Unit {0}) Failure) : Type 0 where
