@@ -2,6 +2,7 @@ pub mod Anew
 pub mod Applyings
 pub mod Blank
 pub mod Bringings
+pub mod BringingsAnew
 pub mod Cleanings
 pub mod Clearings
 pub mod Comings
@@ -14,6 +15,7 @@ pub mod Emptyings
 pub mod Entries
 pub mod Fittings
 pub mod FromMoves
+pub mod FromMovesAnew
 pub mod Givings
 pub mod Growths
 pub mod Installed
@@ -28,6 +30,7 @@ pub mod PagesRead
 pub mod Places
 pub mod Placings
 pub mod PlacingsAnew
+pub mod PlacingsAnewFrom
 pub mod PlacingsFrom
 pub mod Prunings
 pub mod Puttings

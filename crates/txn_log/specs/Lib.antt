@@ -1,6 +1,7 @@
 pub mod Answering
 pub mod Apply
 pub mod Bringing
+pub mod BringingAnew
 pub mod Calls
 pub mod Causes
 pub mod Coming
@@ -10,6 +11,7 @@ pub mod Durable
 pub mod Entries
 pub mod FaultNumber
 pub mod From
+pub mod FromSnapshot
 pub mod Giving
 pub mod Installing
 pub mod Intake

@@ -78,7 +78,7 @@ fn bring_with<D: Disk, S: Source>(
 }
 
 /// Room, or that the store is broken.
-fn broken_or_room(commit: u32, room: u32) -> FromFault
+pub fn broken_or_room(commit: u32, room: u32) -> FromFault
     ensures { result ≡ broken_or_past commit room }
 {
     if commit > room {
