@@ -1,11 +1,12 @@
 -- What stands once no rule refuses a write to the log, and what a trial of it tells. No public clause cites these.
-use Rattle.std.specs.Prelude.{◌≡◌, ℕ, ◌+◌, ◌*◌, Bool, false, not, ◌&&◌, ◌||◌, is_some, nat_lt, Option, Some, None, List, [], ◌∷◌, length}
+use Rattle.std.specs.Prelude.{◌≡◌, ℕ, ◌+◌, Bool, false, not, ◌&&◌, ◌||◌, is_some, nat_lt, Option, Some, None, List, [], ◌∷◌, length}
 use Rattle.byte_locks.specs.declared.lock_id.LockId.TheVariants as lock
 use Rattle.database_file.specs.DatabaseFile.{is_clean}
 use Rattle.database_under_log.specs.declared.fault.LogWriteFault.{LogWriteFault}
 use Rattle.database_under_log.specs.declared.fault.LogWriteFault.TheVariants as write
 use Rattle.lf_base.specs.FileBytes.{written}
 use Rattle.lf_sqlite_pages.specs.Change.{PageChange}
+use Rattle.lf_sqlite_pages.specs.LockPage.{is_past_limit}
 use Rattle.journal_watch.specs.Journal.{is_active}
 use Rattle.wal_watch.specs.declared.fault.WalFault.TheVariants as wal
 use Rattle.file_view.specs.declared.fault.ViewFault.{ViewFault}
@@ -43,7 +44,7 @@ begins_anew s at bytes = changes_header (log_contents s) (log_after s at bytes) 
 -- whether a change makes a database past the limit
 abbrev pub makes_too_many : Option PageChange → Bool
 makes_too_many None = false
-makes_too_many (Some change) = nat_lt 2147483648 (change.commit * (change.page_size + 4) + 120)
+makes_too_many (Some change) = is_past_limit change.page_size change.commit
 
 -- a fault of a write to the log as one of a request
 abbrev pub IsLogFault : LogWriteFault → ViewFault → Type 0

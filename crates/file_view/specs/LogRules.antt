@@ -1,5 +1,5 @@
 -- WRITE, SETATTR of a size and UNLINK of the log.
-use Rattle.std.specs.Prelude.{◌≡◌, ℕ, ◌+◌, ◌*◌, ◌<◌, ◌==◌, Bool, true, false, ◌&&◌, ◌||◌, not, is_some, nat_lt, nat_le, Option, Some, None, IfSome, List, [], ◌∷◌, length, take}
+use Rattle.std.specs.Prelude.{◌≡◌, ℕ, ◌+◌, ◌<◌, ◌==◌, Bool, true, false, ◌&&◌, ◌||◌, not, is_some, nat_lt, nat_le, Option, Some, None, IfSome, List, [], ◌∷◌, length, take}
 use Rattle.std.specs.Str.{bytes_eq}
 use Rattle.byte_locks.specs.declared.lock_id.LockId.TheVariants as lock
 use Rattle.byte_locks.specs.LockList.{LockList}
@@ -13,6 +13,7 @@ use Rattle.lf_base.specs.FileBytes.{resized, written}
 use Rattle.lf_sqlite_pages.specs.Apply.{apply}
 use Rattle.lf_sqlite_pages.specs.Change.{PageChange}
 use Rattle.lf_sqlite_pages.specs.Image.{DatabaseImage, SameImage}
+use Rattle.lf_sqlite_pages.specs.LockPage.{is_past_limit}
 use Rattle.wal_watch.specs.Frames.{is_header, page_size_in, committed_count, committed_end}
 use Rattle.wal_watch.specs.News.{first_new, last_size}
 use Rattle.file_view.specs.declared.scene.Scene.{Scene}
@@ -41,13 +42,12 @@ breaks_header page_size at bytes new =
 abbrev pub changes_committed : List ℕ → List ℕ → Bool
 changes_committed old new = not (changes_header old new) && not (bytes_eq (take (committed_end old) new) (take (committed_end old) old))
 
--- whether there are frames that only the later bytes commit, and whether these make a database past the limit, of which an LTX
--- file of all pages would have more than 2,147,483,648 bytes
+-- whether there are frames that only the later bytes commit, and whether these make a database past the limit
 abbrev pub commits_frames : List ℕ → List ℕ → Bool
 commits_frames old new = nat_lt (first_new old new) (committed_count new)
 
 abbrev pub commits_too_many : List ℕ → List ℕ → Bool
-commits_too_many old new = commits_frames old new && nat_lt 2147483648 (last_size new * (page_size_in new + 4) + 120)
+commits_too_many old new = commits_frames old new && is_past_limit (page_size_in new) (last_size new)
 
 -- what is left to refuse of a write that the log takes
 abbrev pub log_commit_rows : Served → ℕ → List ℕ → List Row
