@@ -1,9 +1,10 @@
 //! A snapshot that a source gives is installed, without memory.
-ghost use Rattle.std.specs.Prelude.{◌≡◌, ◌<◌, length, vec_capacity, IsSome, IsTrue};
-ghost use Rattle.txn_log.specs.From.{BreaksFrom};
+ghost use Rattle.std.specs.Prelude.{◌≡◌, ◌<◌, length, vec_capacity, IsSome, IsTrue, IfOk, OnOk, OnErr};
+ghost use Rattle.ltx_codec.specs.declared.file.Ltx.{Ltx};
+ghost use Rattle.txn_log.specs.From.{Gave, BreaksFrom};
 ghost use Rattle.txn_log.specs.FromSnapshot.{InstallsFrom, WentInstalled};
 ghost use Rattle.txn_log.specs.Renewing.{spare_in};
-ghost use Rattle.txn_log.specs.Store.{state_of, failed_of};
+ghost use Rattle.txn_log.specs.Store.{end_of_entries, state_of, failed_of};
 
 use lf_base::{Pos, Source};
 use lf_disk::Disk;
@@ -22,6 +23,11 @@ pub fn install_from<D: Disk, S: Source>(
     requires page { length page.old ≡ 65536 }
     ensures installs { InstallsFrom (S.left source.old) (S.left source.new) (spare_in store.old.decoder) store.old.broken result }
     ensures cause { BreaksFrom store.old.broken (S.faults source.old) (D.faults store.old.disk) result store.new.broken (S.faults source.new) (D.faults store.new.disk) }
+    ensures shape { OnOk result ((file : Ltx) × Gave (S.left source.old) (S.left source.new) file
+        × (store.new.page_size ≡ file.header.page_size) × (store.new.commit ≡ file.header.commit)) }
+    ensures position { IfOk result (λ told. end_of_entries store.new.entries.items ≡ told) }
+    ensures same { OnErr result ((store.new.page_size ≡ store.old.page_size) × (store.new.commit ≡ store.old.commit)
+        × (store.new.entries.items ≡ store.old.entries.items)) }
     ensures reader { IsSome store.new.decoder }
 
     // What a crash leaves at each moment.

@@ -40,6 +40,7 @@ pub mod Reservings
 pub mod Resting
 pub mod Rewritings
 pub mod Settlings
+pub mod Sourced
 pub mod Stagings
 pub mod Stores
 pub mod SumTables

@@ -11,6 +11,7 @@ pub mod Durable
 pub mod Entries
 pub mod FaultNumber
 pub mod From
+pub mod FromFile
 pub mod FromSnapshot
 pub mod Giving
 pub mod Installing

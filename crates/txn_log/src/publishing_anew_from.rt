@@ -1,13 +1,14 @@
 //! A snapshot that a source gives is published in place of a store's image and log, without memory.
-ghost use Rattle.std.specs.Prelude.{◌≡◌, ◌<◌, true, length, vec_capacity, IsSome, IsTrue};
+ghost use Rattle.std.specs.Prelude.{◌≡◌, ◌<◌, true, length, vec_capacity, IsSome, IsTrue, IfOk, OnOk, OnErr};
 ghost use Rattle.lf_disk.specs.History.{IsSettledBut};
 ghost use Rattle.lf_disk.specs.declared.name.FileName.{FileName as Name};
 ghost use Rattle.txn_log.specs.Bringing.{CountsBrought};
 ghost use Rattle.txn_log.specs.BringingAnew.{BringsAnew};
-ghost use Rattle.txn_log.specs.From.{BreaksFrom, CountsRefused};
+ghost use Rattle.ltx_codec.specs.declared.file.Ltx.{Ltx};
+ghost use Rattle.txn_log.specs.From.{Gave, BreaksFrom, CountsRefused};
 ghost use Rattle.txn_log.specs.FromSnapshot.{RefusesInstall, InstallsFrom, WentInstalled, broken_or_other};
 ghost use Rattle.txn_log.specs.Renewing.{spare_in};
-ghost use Rattle.txn_log.specs.Store.{state_of, failed_of};
+ghost use Rattle.txn_log.specs.Store.{end_of_entries, state_of, failed_of};
 
 use crate::applying_from::broken_or_room;
 use crate::attempt::Attempt;
@@ -118,6 +119,11 @@ pub fn publish_anew_from<D: Disk, S: Source>(
     requires page { length page.old ≡ 65536 }
     ensures installs { InstallsFrom (S.left source.old) (S.left source.new) (spare_in store.old.decoder) store.old.broken result }
     ensures cause { BreaksFrom store.old.broken (S.faults source.old) (D.faults store.old.disk) result store.new.broken (S.faults source.new) (D.faults store.new.disk) }
+    ensures shape { OnOk result ((file : Ltx) × Gave (S.left source.old) (S.left source.new) file
+        × (store.new.page_size ≡ file.header.page_size) × (store.new.commit ≡ file.header.commit)) }
+    ensures position { IfOk result (λ told. end_of_entries store.new.entries.items ≡ told) }
+    ensures same { OnErr result ((store.new.page_size ≡ store.old.page_size) × (store.new.commit ≡ store.old.commit)
+        × (store.new.entries.items ≡ store.old.entries.items)) }
     ensures reader { IsSome store.new.decoder }
 
     // What a crash leaves at each moment.

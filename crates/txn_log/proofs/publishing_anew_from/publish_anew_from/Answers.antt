@@ -14,6 +14,7 @@ use Rattle.txn_log.specs.declared.attempt.Attempt.TheVariants as attempt
 use Rattle.txn_log.specs.declared.bringing.Brought.{Brought}
 use Rattle.txn_log.specs.declared.bringing.Brought.TheVariants as brought
 use Rattle.txn_log.specs.declared.entry.Entry.{Entry}
+use Rattle.txn_log.proofs.Entries.{end-push}
 use Rattle.txn_log.proofs.FromMoves.{still_kept, still_left, still_mode, went_nowhere, refused_breaks}
 use Rattle.txn_log.proofs.FromMovesAnew.{over_log, done_from, stands_from, left_from, went_from, all_in, left_in_from, went_in_from, refused_went, not_disk}
 use Rattle.txn_log.proofs.Installings.{complete, shaped-installed}
@@ -271,3 +272,20 @@ returns-in-From-clause-went g c honest =
     let kept : IsStore h s.page_size s.commit s.entries.items s.dropped s.sums.sums false s.whole s.tried =
     subst (λ (x : Bool). IsStore h s.page_size s.commit s.entries.items s.dropped s.sums.sums x s.whole s.tried) c.if-store.false (s.kept honest) in
     rw (c.moment-start.ensures, c.if-store.false) (inr (b.0, b.1.gave, went_in_from h s.page_size s.commit s.entries.items s.dropped s.sums.sums s.whole s.tried s.shaped kept left left_now room b.0 b.1 b.2 (g.D.Disk.honest s.disk) honest new c.in-From.tried b.3))
+
+pub returns-in-Whole-clause-shape : goal.returns-in-Whole-clause-shape
+returns-in-Whole-clause-shape g c =
+    let s = c.args.store.now in
+    let h = g.D.Disk.history s.disk in
+    let new = g.D.Disk.history c.bring_anew_with-brought.new.disk in
+    let left = g.S.Source.left c.args.source.now in
+    let left_now = g.S.Source.left c.bring_anew_with-brought.new.source in
+    let room = c.in-Some.reserved.pages in
+    let table = c.bring_anew_with-brought.result.1.sums.sums in
+    let b : BringsAnew (g.D.Disk.honest s.disk) left left_now h room s.entries.items table (brought.Whole c.in-Whole.outline c.in-Whole.wal) new =
+    subst (λ (es : List Entry). BringsAnew (g.D.Disk.honest s.disk) left left_now h room es table (brought.Whole c.in-Whole.outline c.in-Whole.wal) new) c.as_slice.ensures.value
+    (subst (λ (x : Brought). BringsAnew (g.D.Disk.honest s.disk) left left_now h room c.as_slice.result.now table x new) c.in-Whole.is c.bring_anew_with-brought.ensures.brings) in
+    (as_file c.in-Whole.outline b.0, b.1.gave, refl, refl)
+
+pub returns-in-Whole-clause-position : goal.returns-in-Whole-clause-position
+returns-in-Whole-clause-position g c = rw (c.push_reserved.ensures.items) (end-push c.clear.new.self.items _)
