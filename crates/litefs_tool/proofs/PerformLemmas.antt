@@ -85,7 +85,7 @@ WritesFor-compact bytes file become valid = record {
   file = file;
   become = become;
   encoding = refl;
-  is_file = record { valid = valid; reserved = no_meaning; room = refl; text = refl };
+  is_file = record { valid = valid; reserved = no_meaning; room = refl; encoding = refl };
 }
 
 -- the input was read whole, and the command ends before it writes

@@ -35,7 +35,7 @@ stands-empty = inl record {
     decided = record { none = λ same. refl; some = λ file same. absurd (none_file file same) };
   };
   log = refl;
-  sound = record { ascends = tt; texts = λ k d within. absurd (omega (arith, within)); min = λ k d within. absurd (omega (arith, within)); max = λ k d within. absurd (omega (arith, within)); follow = λ k d within. absurd (omega (arith, within)) };
+  sound = record { ascends = tt; encodings = λ k d within. absurd (omega (arith, within)); min = λ k d within. absurd (omega (arith, within)); max = λ k d within. absurd (omega (arith, within)); follow = λ k d within. absurd (omega (arith, within)) };
   sum = λ some. absurd (some refl);
   unmarked = refl;
 }

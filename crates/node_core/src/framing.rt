@@ -16,7 +16,7 @@ use crate::answer::Answer;
 use crate::ask::Ask;
 use crate::node::Node;
 use crate::octets::are_bytes;
-use crate::refusal::{Refusal, refusal_of, refusal_of_contents};
+use crate::refusal::{Refusal, refusal_of, refusal_of_encoding};
 use lf_base::{Bytes, Pos};
 use lf_disk::Disk;
 use ltx_codec::{Ltx, decode, encoding_breaks_no_rule, file_is_read};
@@ -92,7 +92,7 @@ impl<D: Disk> Node<D> {
         are_bytes(bytes.as_slice());
         match decode(self.alloc, bytes.as_slice()) {
             Ok(file) => self.answer_ltx(&file),
-            Err(fault) => Answer::Refused(refusal_of_contents(fault)),
+            Err(fault) => Answer::Refused(refusal_of_encoding(fault)),
         }
     }
 

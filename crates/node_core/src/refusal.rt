@@ -1,5 +1,5 @@
 ghost use Rattle.std.specs.Prelude.{◌≡◌};
-ghost use Rattle.node_core.specs.Errors.{refusal_of, refusal_of_contents};
+ghost use Rattle.node_core.specs.Errors.{refusal_of, refusal_of_encoding};
 
 use ltx_codec::LtxFault;
 use txn_log::StoreFault;
@@ -31,8 +31,8 @@ pub(crate) fn refusal_of(fault: StoreFault) -> Refusal
 }
 
 /// The refusal of bytes that are no file.
-pub(crate) fn refusal_of_contents(fault: LtxFault) -> Refusal
-    ensures { result ≡ refusal_of_contents fault }
+pub(crate) fn refusal_of_encoding(fault: LtxFault) -> Refusal
+    ensures { result ≡ refusal_of_encoding fault }
 {
     match fault {
         LtxFault::NoMemory => Refusal::NoMemory,

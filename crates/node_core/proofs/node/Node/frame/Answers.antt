@@ -5,8 +5,8 @@ use Rattle.ltx_codec.specs.Places.{IsRefused}
 use Rattle.world_laws.specs.Node as laws
 use Rattle.node_core.specs.declared.answer.Answer.TheVariants as answers
 use Rattle.node_core.specs.declared.refusal.Refusal.{Refusal}
-use Rattle.node_core.specs.Deciding.{is_contents}
-use Rattle.node_core.specs.Errors.{refusal_of_contents}
+use Rattle.node_core.specs.Deciding.{is_encoding}
+use Rattle.node_core.specs.Errors.{refusal_of_encoding}
 use Rattle.node_core.specs.Framing.{AnswersFrame}
 use Rattle.node_core.specs.Nodes.{parts_of, seen}
 use Rattle.node_core.specs.Safely.{StepsSafely, law_answer, law_frame}
@@ -26,7 +26,7 @@ returns-then-self-clause-safe g c honest =
     let bytes = c.args.bytes.now in
     steps-still (seen h old) (seen h old) (law_frame bytes) (laws.Refused laws.NotReplica) h h ∣ rests_stay h ∣₁ refl refl (n.store.left honest)
     (says-none (seen h old) (seen h old) (seen h old).role (law_frame bytes) (laws.Refused laws.NotReplica)
-    (not-replica (seen h old) (seen h old) (seen h old).role bytes (leads n.config.candidate c.if-self.true) (is_contents bytes)) refl
+    (not-replica (seen h old) (seen h old) (seen h old).role bytes (leads n.config.candidate c.if-self.true) (is_encoding bytes)) refl
     (λ plain still. steady-files h h old old.store old.files refl refl refl) (sound h old (n.image honest) n.locked.together n.replica))
 
 pub returns-in-Ok-clause-safe : goal.returns-in-Ok-clause-safe
@@ -47,7 +47,7 @@ returns-in-Err-clause-does g c =
     let old = parts_of n in
     let bytes : List ℕ = c.args.bytes.now in
     let refused : IsRefused bytes c.in-Err.fault = subst (λ (l : List ℕ). IsRefused l c.in-Err.fault) c.as_slice-2.ensures c.in-Err.ensures.fault in
-    subst (λ (r : Refusal). AnswersFrame h old bytes (answers.Refused r) h old) (sym c.refusal_of_contents.ensures)
+    subst (λ (r : Refusal). AnswersFrame h old bytes (answers.Refused r) h old) (sym c.refusal_of_encoding.ensures)
     (inr (c.if-self.false, inl (refuses-bytes bytes c.in-Err.fault refused, (refl, ∣ rests_stay h ∣₁))))
 
 pub returns-in-Err-clause-safe : goal.returns-in-Err-clause-safe
@@ -58,9 +58,9 @@ returns-in-Err-clause-safe g c honest =
     let bytes : List ℕ = c.args.bytes.now in
     let octets : AreBytes bytes = subst (λ (l : List ℕ). AreBytes l) c.as_slice.ensures c.are_bytes.ensures in
     let refused : IsRefused bytes c.in-Err.fault = subst (λ (l : List ℕ). IsRefused l c.in-Err.fault) c.as_slice-2.ensures c.in-Err.ensures.fault in
-    let answer = law_answer (answers.Refused (refusal_of_contents c.in-Err.fault)) in
-    subst (λ (r : Refusal). StepsSafely (seen h old) (law_frame bytes) (law_answer (answers.Refused r)) (seen h old) h h) (sym c.refusal_of_contents.ensures)
+    let answer = law_answer (answers.Refused (refusal_of_encoding c.in-Err.fault)) in
+    subst (λ (r : Refusal). StepsSafely (seen h old) (law_frame bytes) (law_answer (answers.Refused r)) (seen h old) h h) (sym c.refusal_of_encoding.ensures)
     (steps-still (seen h old) (seen h old) (law_frame bytes) answer h h ∣ rests_stay h ∣₁ refl refl (n.store.left honest)
     (says-none (seen h old) (seen h old) (seen h old).role (law_frame bytes) answer
-    (bytes-refused (seen h old) (seen h old) (seen h old).role bytes c.encoding_breaks_no_rule.ensures octets c.in-Err.fault refused (is_contents bytes)) refl
+    (bytes-refused (seen h old) (seen h old) (seen h old).role bytes c.encoding_breaks_no_rule.ensures octets c.in-Err.fault refused (is_encoding bytes)) refl
     (λ plain still. steady-files h h old old.store old.files refl refl refl) (sound h old (n.image honest) n.locked.together n.replica)))
