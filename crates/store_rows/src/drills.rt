@@ -2,7 +2,7 @@
 ghost use Rattle.std.specs.Prelude.{◌≡◌, []};
 
 use crate::place::Place;
-use crate::script::{STEPS, around, script};
+use crate::script::{STEPS, Way, around, script};
 use crate::stages::place_of;
 use crate::steps::{Step, Went, does, run};
 use crate::stores::{MemStore, blank, opened, recovered};
@@ -15,7 +15,15 @@ use txn_log::StoreFault;
 const CHOICES: [u64; 4] = [0, u64::MAX / 3, 0x6666_6666_6666_6666, u64::MAX];
 
 /// More calls than the script makes of its disk.
-const ENOUGH: u64 = 120;
+const ENOUGH: u64 = 140;
+
+/// What the script is called.
+fn title(way: Way) -> &'static str {
+    match way {
+        Way::Whole => "the script",
+        Way::Source => "the script with files from sources",
+    }
+}
 
 /// A disk after the script, and how many steps were done on it.
 #[derive(Drop)]
@@ -38,7 +46,7 @@ fn is_closed(alloc: Global, store: &mut MemStore, went: Went) -> bool {
 }
 
 /// The script on a disk on which nothing was called.
-fn run_script(alloc: Global, disk: MemDisk) -> Ended
+fn run_script(alloc: Global, disk: MemDisk, way: Way) -> Ended
     requires { disk.calls ≡ [] }
 {
     let mut store = match opened(alloc, disk) {
@@ -51,7 +59,7 @@ fn run_script(alloc: Global, disk: MemDisk) -> Ended
             };
         }
     };
-    let (done, went) = run(alloc, &mut store, &script());
+    let (done, went) = run(alloc, &mut store, &script(way));
     let closed = is_closed(alloc, &mut store, went);
     Ended {
         disk: store.disk,
@@ -62,10 +70,10 @@ fn run_script(alloc: Global, disk: MemDisk) -> Ended
 
 /// Whether the store that is recovered after the script is the one before the step that was not done,
 /// or the one after it, and how many were done.
-fn holds_behind(alloc: Global, disk: MemDisk, choice: u64) -> Option<usize>
+fn holds_behind(alloc: Global, disk: MemDisk, way: Way, choice: u64) -> Option<usize>
     requires { disk.calls ≡ [] }
 {
-    let ended = run_script(alloc, disk);
+    let ended = run_script(alloc, disk, way);
     let (before, after) = around(ended.done)?;
     let mut store = recovered(alloc, ended.disk, choice)?;
     if ended.closed && place_of(&mut store, &before, &after) != Place::Neither {
@@ -76,21 +84,21 @@ fn holds_behind(alloc: Global, disk: MemDisk, choice: u64) -> Option<usize>
 }
 
 /// How many steps were done on a disk that stops after so many calls.
-fn after_stop(alloc: Global, stop: u64, choice: u64) -> Option<usize> {
-    holds_behind(alloc, blank(alloc, None, Some(stop))?, choice)
+fn after_stop(alloc: Global, way: Way, stop: u64, choice: u64) -> Option<usize> {
+    holds_behind(alloc, blank(alloc, None, Some(stop))?, way, choice)
 }
 
 /// How many steps were done on a disk of which one call fails.
-fn after_fault(alloc: Global, failing: u64, choice: u64) -> Option<usize> {
-    holds_behind(alloc, blank(alloc, Some(failing), None)?, choice)
+fn after_fault(alloc: Global, way: Way, failing: u64, choice: u64) -> Option<usize> {
+    holds_behind(alloc, blank(alloc, Some(failing), None)?, way, choice)
 }
 
 /// Prints how many steps were done at the last of many stops, and each stop that does not leave the
 /// store before a step or after it.
-fn print_stops_with(rt: HostRuntime, choice: u64) -> io::Result<()> {
+fn print_stops_with(rt: HostRuntime, way: Way, choice: u64) -> io::Result<()> {
     let mut last = 0;
     for stop in 0..ENOUGH {
-        match after_stop(rt.alloc(), stop, choice) {
+        match after_stop(rt.alloc(), way, stop, choice) {
             Some(done) => last = done,
             None => println!(rt; "  stop {stop}, choice {choice}: neither")?,
         }
@@ -99,10 +107,10 @@ fn print_stops_with(rt: HostRuntime, choice: u64) -> io::Result<()> {
 }
 
 /// The same of a fault at each call.
-fn print_faults_with(rt: HostRuntime, choice: u64) -> io::Result<()> {
+fn print_faults_with(rt: HostRuntime, way: Way, choice: u64) -> io::Result<()> {
     let mut last = 0;
     for failing in 0..ENOUGH {
-        match after_fault(rt.alloc(), failing, choice) {
+        match after_fault(rt.alloc(), way, failing, choice) {
             Some(done) => last = done,
             None => println!(rt; "  fault {failing}, choice {choice}: neither")?,
         }
@@ -111,19 +119,19 @@ fn print_faults_with(rt: HostRuntime, choice: u64) -> io::Result<()> {
 }
 
 /// The script, stopped at each call.
-pub fn print_stops(rt: HostRuntime) -> io::Result<()> {
-    println!(rt; "the script, stopped at each call of the disk")?;
+pub fn print_stops(rt: HostRuntime, way: Way) -> io::Result<()> {
+    println!(rt; "{}, stopped at each call of the disk", title(way))?;
     for choice in CHOICES {
-        print_stops_with(rt, choice)?;
+        print_stops_with(rt, way, choice)?;
     }
     Ok(())
 }
 
 /// The script, with a fault at each call.
-pub fn print_faults(rt: HostRuntime) -> io::Result<()> {
-    println!(rt; "the script, with a fault at each call of the disk")?;
+pub fn print_faults(rt: HostRuntime, way: Way) -> io::Result<()> {
+    println!(rt; "{}, with a fault at each call of the disk", title(way))?;
     for choice in CHOICES {
-        print_faults_with(rt, choice)?;
+        print_faults_with(rt, way, choice)?;
     }
     Ok(())
 }

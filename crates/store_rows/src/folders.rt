@@ -1,6 +1,6 @@
 //! A store in a folder of the system.
 use crate::samples::{A, B, Sample, encoding_of};
-use crate::script::{around, script};
+use crate::script::{Way, around, script};
 use crate::stages::{Stage, is_just};
 use crate::steps::{Step, Went, does};
 use lf_disk::DirDisk;
@@ -39,7 +39,7 @@ fn goes_on(rt: HostRuntime, stage: &Stage, step: Step) -> bool {
 /// The script on a folder that is opened anew before each step.
 pub fn print_script(rt: HostRuntime) -> io::Result<()> {
     let _ = fs::remove_dir_all(&rt, TOP);
-    for (place, step) in script().iter().enumerate() {
+    for (place, step) in script(Way::Whole).iter().enumerate() {
         let held = match around(place) {
             Some((before, _)) => goes_on(rt, &before, *step),
             None => false,

@@ -5,10 +5,34 @@ use crate::steps::Step;
 
 pub const STEPS: usize = 11;
 
+/// How the files of others come.
+#[derive(Clone, Copy)]
+pub enum Way {
+    Whole,
+    /// From a source.
+    Source,
+}
+
+impl Way {
+    fn apply(&self, sample: Sample) -> Step {
+        match self {
+            Way::Whole => Step::Apply(sample),
+            Way::Source => Step::ApplyFrom(sample),
+        }
+    }
+
+    fn install(&self, sample: Sample) -> Step {
+        match self {
+            Way::Whole => Step::Install(sample),
+            Way::Source => Step::InstallFrom(sample),
+        }
+    }
+}
+
 /// A first commit, one that grows, one that keeps the size, one that shrinks, one to no pages, one
 /// that grows again, a prune to two files, a drop, a commit on the dropped store, a file of another,
 /// and a snapshot of another.
-pub fn script() -> [Step; 11] {
+pub fn script(way: Way) -> [Step; 11] {
     [
         Step::Commit(change(2, [(1, 1), (2, 2), NONE])),
         Step::Commit(change(4, [(2, 5), (4, 7), NONE])),
@@ -19,7 +43,7 @@ pub fn script() -> [Step; 11] {
         Step::Prune,
         Step::Drop,
         Step::Commit(change(2, [(1, 1), (2, 2), NONE])),
-        Step::Apply(Sample {
+        way.apply(Sample {
             min: 2,
             max: 2,
             commit: 2,
@@ -27,7 +51,7 @@ pub fn script() -> [Step; 11] {
             pages: [(2, 6), NONE, NONE],
             post: ONE_AND_SIX,
         }),
-        Step::Install(one_and_two_to(6)),
+        way.install(one_and_two_to(6)),
     ]
 }
 

@@ -14,26 +14,28 @@ pub fn room(alloc: Global) -> Option<Vec<u8>>
     vec![in alloc; 0u8; 65536].ok()
 }
 
-/// A source of these bytes, whose first call fails or not.
-pub fn source_of(alloc: Global, bytes: &[u8], fails: bool) -> Option<SliceSource<'_>> {
-    let mut failing = Vec::new(alloc);
-    if fails && failing.push(0).is_err() {
-        return None;
+/// A source of these bytes, whose call of the number `failing` fails.
+pub fn source_of(alloc: Global, bytes: &[u8], failing: Option<u64>) -> Option<SliceSource<'_>> {
+    let mut numbers = Vec::new(alloc);
+    if let Some(number) = failing {
+        if numbers.push(number).is_err() {
+            return None;
+        }
     }
-    SliceSource::new(bytes, failing).ok()
+    SliceSource::new(bytes, numbers).ok()
 }
 
 /// What a source is.
-fn read(alloc: Global, bytes: &[u8], fails: bool) -> Option<Result<Outline, SourceFault>> {
-    let mut source = source_of(alloc, bytes, fails)?;
+fn read(alloc: Global, bytes: &[u8], failing: Option<u64>) -> Option<Result<Outline, SourceFault>> {
+    let mut source = source_of(alloc, bytes, failing)?;
     let mut coming = Coming::new(FileDecoder::new(alloc).ok()?);
     let mut page = room(alloc)?;
     Some(read_source(&mut source, &mut coming, page.as_mut_slice()))
 }
 
 /// Prints what a source of these bytes is.
-fn print_read(rt: HostRuntime, title: &str, bytes: &[u8], fails: bool) -> io::Result<()> {
-    match read(rt.alloc(), bytes, fails) {
+fn print_read(rt: HostRuntime, title: &str, bytes: &[u8], failing: Option<u64>) -> io::Result<()> {
+    match read(rt.alloc(), bytes, failing) {
         Some(Ok(file)) => {
             let header = file.header;
             println!(rt;
@@ -52,22 +54,22 @@ pub fn print_sources(rt: HostRuntime) -> io::Result<()> {
         return println!(rt; "no encoding");
     };
     println!(rt; "a source of {} bytes", encoding.len())?;
-    print_read(rt, "whole", encoding.as_slice(), false)?;
-    print_read(rt, "failing", encoding.as_slice(), true)?;
+    print_read(rt, "whole", encoding.as_slice(), None)?;
+    print_read(rt, "failing", encoding.as_slice(), Some(0))?;
     print_read(
         rt,
         "cut off",
         encoding.as_slice().get(..635).unwrap_or(&[]),
-        false,
+        None,
     )?;
     if encoding.push(0).is_err() {
         return println!(rt; "no memory");
     }
-    print_read(rt, "one byte more", encoding.as_slice(), false)?;
+    print_read(rt, "one byte more", encoding.as_slice(), None)?;
     print_read(
         rt,
         "its end",
         encoding.as_slice().get(1..).unwrap_or(&[]),
-        false,
+        None,
     )
 }

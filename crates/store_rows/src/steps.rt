@@ -1,4 +1,5 @@
 //! One call on a store.
+use crate::given::{Taking, takes};
 use crate::samples::{Sample, file_of};
 use crate::stores::{MemStore, anew};
 use lf_base::Pos;
@@ -13,6 +14,10 @@ pub enum Step {
     Commit(Sample),
     Apply(Sample),
     Install(Sample),
+    /// Apply, from a source.
+    ApplyFrom(Sample),
+    /// Install, from a source.
+    InstallFrom(Sample),
     Prune,
     Drop,
 }
@@ -72,6 +77,8 @@ pub fn does<D: Disk>(alloc: Global, store: &mut Store<D>, step: Step) -> Went {
         Step::Commit(sample) => commits(alloc, store, &sample),
         Step::Apply(sample) => applies(alloc, store, &sample),
         Step::Install(sample) => installs(alloc, store, &sample),
+        Step::ApplyFrom(sample) => takes(alloc, store, Taking::Apply, &sample),
+        Step::InstallFrom(sample) => takes(alloc, store, Taking::Install, &sample),
         Step::Prune => outcome_of(store.prune(2)),
         Step::Drop => drops(store),
     }

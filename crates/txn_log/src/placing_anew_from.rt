@@ -1,4 +1,4 @@
-ghost use Rattle.std.specs.Prelude.{◌≡◌, Bool, ℕ, List, length, IsTrue};
+ghost use Rattle.std.specs.Prelude.{◌≡◌, Bool, List, length, IsTrue};
 ghost use Rattle.lf_disk.specs.Folder.{Folder};
 ghost use Rattle.lf_sqlite_pages.specs.Change.{PageChange, IsChange};
 ghost use Rattle.lf_sqlite_pages.specs.Image.{DatabaseImage};
