@@ -1,6 +1,8 @@
 //! How often a request is asked.
 ghost use Rattle.std.specs.Prelude.{◌≡◌};
-ghost use Rattle.file_session.specs.Asking.{at_moment, is_again, last_stands, tries_of};
+ghost use Rattle.node_core.specs.Moments.{ask_at};
+ghost use Rattle.node_core.proofs.Moments.{last_stands};
+ghost use Rattle.file_session.specs.Asking.{is_again, tries_of};
 
 use fuse_msgs::Op;
 use link_session::Patience;
@@ -32,18 +34,12 @@ impl Patience for Tries {
 
     type Answer = Answer;
 
-    ghost at_moment = { at_moment };
+    ghost at_moment = { ask_at };
 
     ghost again = { is_again };
 
     fn set_moment(&self, ask: &mut Ask, moment: u64) {
-        match ask {
-            Ask::File { now, .. } => *now = moment,
-            Ask::Hello { now, .. } => *now = moment,
-            Ask::Frame { now, .. } => *now = moment,
-            Ask::Drop { now } => *now = moment,
-            Ask::EndSession | Ask::Where | Ask::Prune { .. } => {}
-        }
+        ask.set_moment(moment);
     }
 
     fn is_again(&self, answer: &Answer) -> bool {

@@ -3,11 +3,12 @@ use Rattle.std.proofs.Common.{◌≡◌, ℕ, zero, suc, ◌+◌, ◌-◌, ◌<�
 use Rattle.std.proofs.lemmas.Bool.{leb-true, le-leb, lt-leb, lt-ltb, le-ltb, cases_lt}
 use Rattle.std.proofs.lemmas.List.{length-append, length-take, take-append-drop, take-append-le}
 use Rattle.fuse_msgs.specs.declared.feed.Fed.TheVariants as fed
+use Rattle.fuse_msgs.specs.declared.fault.BadMessage.{BadMessage}
 use Rattle.fuse_msgs.specs.declared.fault.BadMessage.TheVariants as bad
 use Rattle.std.specs.Int.{w32, from_le_bytes}
 use Rattle.lf_base.specs.Endian.{le32_at}
 use Rattle.fuse_msgs.specs.Message.{len_of, is_length}
-use Rattle.fuse_msgs.specs.Feed.{part, whole, broken, beginning_of, is_whole, is_whole_beginning, feed_answer, fed_on}
+use Rattle.fuse_msgs.specs.Feed.{part, whole, broken, beginning_of, is_whole, is_whole_beginning, feed_answer, fed_on, BeginsRefused}
 
 abbrev no_bytes : List ℕ
 no_bytes = []
@@ -62,6 +63,14 @@ unfinished_below stream h g u =
       | inl lt ↦ lt
       | inr le ↦ absurd (true_false (sym (ap is_whole_beginning (beginning_of-whole stream h g le)) ∙ u))
     ]
+
+-- a stream that is refused stays refused, whatever follows
+pub refusal_stays : (stream more : List ℕ) (fault : BadMessage) → BeginsRefused stream fault → BeginsRefused (stream ++ more) fault
+refusal_stays stream more fault r = record {
+  field = omega (arith, length-append stream more, r.field);
+  refused = ap is_length (len_of-append stream more r.field) ∙ r.refused;
+  fault_is = r.fault_is ∙ ap bad.Length (sym (len_of-append stream more r.field));
+}
 
 -- ---- the bytes that were taken
 

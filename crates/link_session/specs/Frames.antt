@@ -5,7 +5,6 @@ use Rattle.stream_wire.specs.declared.wire_fault.WireFault.{WireFault}
 use Rattle.stream_wire.specs.Frame.{frame_text}
 use Rattle.stream_wire.specs.Front.{part, whole, broken, BeginsWith}
 use Rattle.stream_wire.specs.Feeding.{Feeding}
-use Rattle.stream_wire.proofs.Fronts.{refusal_stays}
 use Rattle.link_session.specs.declared.stage.Stage.{Stage}
 use Rattle.link_session.specs.declared.stage.Stage.TheVariants as stages
 
@@ -35,7 +34,3 @@ IsFramePart limit text = BeginsWith limit text part
 
 abbrev pub IsBrokenFrame : ℕ → List ℕ → Type 0
 IsBrokenFrame limit text = (fault : WireFault) × BeginsWith limit text (broken fault)
-
--- it stays broken, whatever follows
-pub broken_more : (limit : ℕ) (text more : List ℕ) → IsBrokenFrame limit text → IsBrokenFrame limit (text ++ more)
-broken_more limit text more b = (b.0, refusal_stays limit text more b.0 b.1)

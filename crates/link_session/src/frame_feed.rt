@@ -2,7 +2,8 @@
 ghost use Rattle.std.specs.Prelude.{◌≡◌, [], true, IfOk};
 ghost use Rattle.link_session.specs.declared.stage.Stage.TheVariants as stages;
 ghost use Rattle.stream_wire.specs.Frame.{frame_text};
-ghost use Rattle.link_session.specs.Frames.{held_by, frame_stage, IsFrame, IsFramePart, IsBrokenFrame, broken_more};
+ghost use Rattle.stream_wire.proofs.Fronts.{refusal_stays};
+ghost use Rattle.link_session.specs.Frames.{held_by, frame_stage, IsFrame, IsFramePart, IsBrokenFrame};
 
 use crate::feed::{Feed, FeedFault};
 use crate::inbox::Inbox;
@@ -49,7 +50,7 @@ impl Feed for FrameFeed {
         self.held() == 0
     }
 
-    ghost lasts = { broken_more };
+    ghost lasts = { λ limit text more b. (b.0, refusal_stays limit text more b.0 b.1) };
 }
 
 impl Inbox<FrameFeed> {

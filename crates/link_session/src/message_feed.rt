@@ -1,8 +1,9 @@
 //! FUSE messages as a feed.
 ghost use Rattle.std.specs.Prelude.{◌≡◌, [], false, IfOk};
 ghost use Rattle.fuse_msgs.specs.Feed.{is_whole, IsWholeMessage};
+ghost use Rattle.fuse_msgs.proofs.Feeding.{refusal_stays};
 ghost use Rattle.link_session.specs.declared.stage.Stage.TheVariants as stages;
-ghost use Rattle.link_session.specs.Messages.{stage_of, IsPart, IsRefused, refused_more};
+ghost use Rattle.link_session.specs.Messages.{stage_of, IsPart, IsRefused};
 
 use crate::feed::{Feed, FeedFault};
 use crate::inbox::Inbox;
@@ -45,7 +46,7 @@ impl Feed for MessageFeed {
         self.held() == 0
     }
 
-    ghost lasts = { refused_more };
+    ghost lasts = { λ limit text more r. (r.0, refusal_stays text more r.0 r.1) };
 }
 
 impl Inbox<MessageFeed> {

@@ -1,4 +1,5 @@
 pub mod Reading
+pub mod Moments
 pub mod Calls
 pub mod Facts
 pub mod Overlay

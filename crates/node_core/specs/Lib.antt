@@ -1,4 +1,5 @@
 pub mod Roles
+pub mod Moments
 pub mod Stores
 pub mod Nodes
 pub mod Errors

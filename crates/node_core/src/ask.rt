@@ -1,3 +1,6 @@
+ghost use Rattle.std.specs.Prelude.{◌≡◌};
+ghost use Rattle.node_core.specs.Moments.{ask_at};
+
 use fuse_msgs::Request;
 use lf_base::{Bytes, Pos};
 
@@ -18,4 +21,19 @@ pub enum Ask {
     Drop { now: u64 },
     /// The log is to keep this many files, its newest. 0 stands for 1.
     Prune { keep: u64 },
+}
+
+impl Ask {
+    /// Makes it the same ask at this moment.
+    pub fn set_moment(&mut self, moment: u64)
+        ensures { self.new ≡ ask_at moment self.old }
+    {
+        match self {
+            Ask::File { now, .. } => *now = moment,
+            Ask::Hello { now, .. } => *now = moment,
+            Ask::Frame { now, .. } => *now = moment,
+            Ask::Drop { now } => *now = moment,
+            Ask::EndSession | Ask::Where | Ask::Prune { .. } => {}
+        }
+    }
 }

@@ -1,5 +1,5 @@
 -- How a frame is asked.
-use Rattle.std.proofs.Common.{◌≡◌, refl, ℕ, Bool, true, false, List}
+use Rattle.std.specs.Prelude.{◌≡◌, ℕ, Bool, true, false, List}
 use Rattle.turn_desk.specs.declared.history.Entry.{Entry}
 use Rattle.link_session.specs.Asking.{Manner}
 use Rattle.link_session.specs.Stands.{Asker}
@@ -7,32 +7,13 @@ use Rattle.node_core.specs.declared.ask.Ask.{Ask}
 use Rattle.node_core.specs.declared.ask.Ask.TheVariants as ask
 use Rattle.node_core.specs.declared.answer.Answer.{Answer}
 use Rattle.node_core.specs.declared.answer.Answer.TheVariants as answer
+use Rattle.node_core.specs.Moments.{ask_at}
 use Rattle.stream_wire.specs.declared.frame.Frame.TheVariants as frame
 use Rattle.stream_wire.specs.Frame.{frame_text}
 
 -- what the node was asked, and what it answered
 abbrev pub NodeEntry : Type 0
 NodeEntry = Entry Ask Answer
-
--- the same ask at this moment
-abbrev pub at_moment : ℕ → Ask → Ask
-at_moment now (ask.File before request) = ask.File now request
-at_moment now ask.EndSession = ask.EndSession
-at_moment now ask.Where = ask.Where
-at_moment now (ask.Hello before pos) = ask.Hello now pos
-at_moment now (ask.Frame before bytes) = ask.Frame now bytes
-at_moment now (ask.Drop before) = ask.Drop now
-at_moment now (ask.Prune keep) = ask.Prune keep
-
--- its last moment stands
-pub last_stands : (first last : ℕ) (asked : Ask) → at_moment last (at_moment first asked) ≡ at_moment last asked
-last_stands first last (ask.File before request) = refl
-last_stands first last ask.EndSession = refl
-last_stands first last ask.Where = refl
-last_stands first last (ask.Hello before pos) = refl
-last_stands first last (ask.Frame before bytes) = refl
-last_stands first last (ask.Drop before) = refl
-last_stands first last (ask.Prune keep) = refl
 
 -- a lock holds it back
 abbrev pub is_held : Answer → Bool
@@ -41,7 +22,7 @@ is_held _ = false
 
 -- a frame is asked again while a lock holds it back
 abbrev pub manner : Asker → Manner Ask Answer
-manner who = record { may = who.may; at_moment = at_moment; again = is_held; caller = who.caller }
+manner who = record { may = who.may; at_moment = ask_at; again = is_held; caller = who.caller }
 
 -- what a frame of this database is asked as: its file, or the drop
 pub data IsAskOf (name text : List ℕ) (asked : Ask) : Type 0 where

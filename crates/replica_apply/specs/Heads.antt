@@ -1,9 +1,9 @@
 -- The head of a reply as what is read first.
-use Rattle.std.proofs.Common.{ℕ, List, ◌++◌, length, Option, Some, None, subst, append_assoc}
+use Rattle.std.specs.Prelude.{ℕ, List, length, Option, Some, None}
 use Rattle.httparse.specs.Grammar.{HasNoResponse}
 use Rattle.link_session.specs.declared.stage.Stage.{Stage}
 use Rattle.link_session.specs.declared.stage.Stage.TheVariants as stages
-use Rattle.stream_wire.specs.Head.{IsResponse, MayTakeResponse, NeverTakesResponse, TakesResponse}
+use Rattle.stream_wire.specs.Head.{IsResponse, MayTakeResponse}
 
 -- the bytes of a head with this status, and no more
 abbrev pub IsHead : ℕ → List ℕ → Type 0
@@ -30,7 +30,3 @@ HoldsHead (Some status) bytes = IsHead status bytes
 abbrev pub head_stage : Option ℕ → Stage
 head_stage None = stages.Open
 head_stage (Some status) = stages.Whole
-
--- what begins no head begins none with more bytes behind it
-pub never_more : (text more : List ℕ) → NeverTakesResponse text → NeverTakesResponse (text ++ more)
-never_more text more n = λ behind takes. n (more ++ behind) (subst TakesResponse (append_assoc text more behind) takes)

@@ -3,7 +3,8 @@ ghost use Rattle.std.specs.Prelude.{◌≡◌, ◌++◌, ◌≤◌, ℕ, [], tru
 ghost use Rattle.httparse.specs.Grammar.{HasNoResponse};
 ghost use Rattle.link_session.specs.Reading.{Faulted};
 ghost use Rattle.stream_wire.specs.Head.{NeverTakesResponse};
-ghost use Rattle.replica_apply.specs.Heads.{head_stage, never_more, IsHead, IsHeadPart, IsSomeHead};
+ghost use Rattle.stream_wire.proofs.Heads.{never_more};
+ghost use Rattle.replica_apply.specs.Heads.{head_stage, IsHead, IsHeadPart, IsSomeHead};
 
 use link_session::{Feed, FeedFault};
 use std::alloc::Global;

@@ -1,6 +1,8 @@
 //! How a frame is asked again.
 ghost use Rattle.std.specs.Prelude.{◌≡◌};
-ghost use Rattle.replica_apply.specs.Asking.{at_moment, is_held, last_stands};
+ghost use Rattle.node_core.specs.Moments.{ask_at};
+ghost use Rattle.node_core.proofs.Moments.{last_stands};
+ghost use Rattle.replica_apply.specs.Asking.{is_held};
 
 use link_session::Patience;
 use node_core::{Answer, Ask};
@@ -14,18 +16,12 @@ impl Patience for WhileHeld {
 
     type Answer = Answer;
 
-    ghost at_moment = { at_moment };
+    ghost at_moment = { ask_at };
 
     ghost again = { λ patience answer. is_held answer };
 
     fn set_moment(&self, ask: &mut Ask, moment: u64) {
-        match ask {
-            Ask::File { now, .. } => *now = moment,
-            Ask::Hello { now, .. } => *now = moment,
-            Ask::Frame { now, .. } => *now = moment,
-            Ask::Drop { now } => *now = moment,
-            Ask::EndSession | Ask::Where | Ask::Prune { .. } => {}
-        }
+        ask.set_moment(moment);
     }
 
     fn is_again(&self, answer: &Answer) -> bool {

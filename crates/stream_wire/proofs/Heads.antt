@@ -1,12 +1,12 @@
 -- Which heads are never taken.
-use Rattle.std.proofs.Common.{◌≡◌, ℕ, ◌<◌, ◌≤◌, List, ◌++◌, length, map, take, drop, Some, None, sym, ap, ◌∙◌, arith}
+use Rattle.std.proofs.Common.{◌≡◌, ℕ, ◌<◌, ◌≤◌, List, ◌++◌, length, map, take, drop, Some, None, subst, sym, ap, ◌∙◌, arith, append_assoc}
 use Rattle.std.proofs.lemmas.Grind.{common_steps}
 use Rattle.std.proofs.lemmas.List.{take-append-drop, take-append-le}
 use Rattle.httparse.specs.Grammar.{Field, RequestHead, print_request, ReadsRequest, HasNoRequest, ResponseHead, print_response, ReadsResponse, HasNoResponse}
 use Rattle.httparse.specs.declared.spans.HeaderSpan.{HeaderSpan}
 use Rattle.httparse.specs.Spans.{RequestOverflows, ResponseOverflows, name_and_value, header_bytes}
 use Rattle.httparse.proofs.GrammarLemmas.{request_prefix_free, response_prefix_free}
-use Rattle.stream_wire.specs.Head.{framing_of, NeverTakesRequest, NeverTakesResponse}
+use Rattle.stream_wire.specs.Head.{framing_of, NeverTakesRequest, NeverTakesResponse, TakesResponse}
 
 -- no more fields than there is room for
 pub few_fields : (bytes : List ℕ) (headers : List HeaderSpan) (count : ℕ) (fields : List Field)
@@ -62,3 +62,7 @@ never_framed_response bytes k left read none more (h, rest, len, reads, taken) =
     let same = response_prefix_free bytes more k h left rest read reads in
     let f : framing_of k.fields ≡ framing_of h.fields = ap (λ (x : ResponseHead). framing_of x.fields) same.0 in
     let g : None ≡ Some len = sym none ∙ f ∙ taken.framed in cc
+
+-- what begins no head begins none with more bytes behind it
+pub never_more : (bytes more : List ℕ) → NeverTakesResponse bytes → NeverTakesResponse (bytes ++ more)
+never_more bytes more n = λ behind takes. n (more ++ behind) (subst TakesResponse (append_assoc bytes more behind) takes)

@@ -1,0 +1,15 @@
+-- An ask at another moment.
+use Rattle.std.proofs.Common.{◌≡◌, refl, ℕ}
+use Rattle.node_core.specs.declared.ask.Ask.{Ask}
+use Rattle.node_core.specs.declared.ask.Ask.TheVariants as ask
+use Rattle.node_core.specs.Moments.{ask_at}
+
+-- its last moment stands
+pub last_stands : (first last : ℕ) (asked : Ask) → ask_at last (ask_at first asked) ≡ ask_at last asked
+last_stands first last (ask.File before request) = refl
+last_stands first last ask.EndSession = refl
+last_stands first last ask.Where = refl
+last_stands first last (ask.Hello before from) = refl
+last_stands first last (ask.Frame before bytes) = refl
+last_stands first last (ask.Drop before) = refl
+last_stands first last (ask.Prune keep) = refl
