@@ -1,0 +1,139 @@
+//! Nodes over disks in memory: opened, asked and opened again.
+ghost use Rattle.std.specs.Prelude.{◌≡◌, [], IfOk};
+
+use crate::fault::Fault;
+use lf_base::{Name, Pos, Text};
+use lf_disk::MemDisk;
+use node_core::{Answer, Ask, Node, NodeConfig};
+use node_recovery::recover;
+use std::alloc::Global;
+use std::mem;
+use turn_desk::Machine;
+use txn_log::Store;
+
+pub type MemNode = Node<MemDisk>;
+
+/// The moment at which everything is asked.
+pub const NOW: u64 = 1_700_000_000_000;
+
+/// The position of a database that was never written.
+pub const NOWHERE: Pos = Pos { txid: 0, sum: 0 };
+
+/// How many files of the log are kept after a commit.
+const RETENTION: u64 = 100;
+
+/// What a node is in its cluster.
+#[derive(Clone, Copy, Debug, PartialEq, Eq)]
+pub enum Part {
+    Primary,
+    Replica,
+}
+
+fn config(alloc: Global, part: Part) -> Result<NodeConfig, Fault> {
+    let Ok(name) = Name::read(alloc, b"app") else {
+        return Err(Fault::NoMemory);
+    };
+    Ok(NodeConfig {
+        name,
+        node: 3,
+        candidate: part == Part::Primary,
+        primary_host: Text::of(alloc, "")?,
+        halt_ttl: 1_000,
+        retention: RETENTION,
+    })
+}
+
+/// A disk without files. Its call of the number `failing` fails, and every call from `stop` on.
+pub fn blank(alloc: Global, failing: Option<u64>, stop: Option<u64>) -> Result<MemDisk, Fault>
+    ensures { IfOk result (λ disk. disk.calls ≡ []) }
+{
+    let mut numbers = Vec::new(alloc);
+    if let Some(number) = failing {
+        numbers.push(number)?;
+    }
+    match MemDisk::new(alloc, numbers, stop) {
+        Ok(disk) => Ok(disk),
+        Err(_) => Err(Fault::NoMemory),
+    }
+}
+
+/// The store of a disk on which nothing was called.
+fn store_of(alloc: Global, disk: MemDisk) -> Result<Store<MemDisk>, Fault>
+    requires { disk.calls ≡ [] }
+{
+    match recover(alloc, disk) {
+        Ok(store) => Ok(store),
+        Err(_) => Err(Fault::Recovery),
+    }
+}
+
+/// A node over a store.
+fn node_over(alloc: Global, store: Store<MemDisk>, part: Part) -> Result<MemNode, Fault> {
+    match Node::open(alloc, store, config(alloc, part)?) {
+        Ok(node) => Ok(node),
+        Err(_) => Err(Fault::NoMemory),
+    }
+}
+
+/// The node of a disk on which nothing was called.
+fn opened(alloc: Global, disk: MemDisk, part: Part) -> Result<MemNode, Fault>
+    requires { disk.calls ≡ [] }
+{
+    let store = store_of(alloc, disk)?;
+    node_over(alloc, store, part)
+}
+
+/// A node of a database that was never written.
+pub fn new_node(alloc: Global, part: Part) -> Result<MemNode, Fault> {
+    let disk = blank(alloc, None, None)?;
+    opened(alloc, disk, part)
+}
+
+/// The node becomes one of a disk on which nothing was called.
+pub fn reopen(alloc: Global, node: &mut MemNode, disk: MemDisk, part: Part) -> Result<(), Fault>
+    requires { disk.calls ≡ [] }
+{
+    *node = opened(alloc, disk, part)?;
+    Ok(())
+}
+
+/// The node becomes one of a database that was never written.
+pub fn renew(alloc: Global, node: &mut MemNode, part: Part) -> Result<(), Fault> {
+    let disk = blank(alloc, None, None)?;
+    reopen(alloc, node, disk, part)
+}
+
+/// The node is stopped, and gives its disk. It becomes one of a database that was never written.
+pub fn take_disk(alloc: Global, node: &mut MemNode) -> Result<MemDisk, Fault> {
+    let spare = new_node(alloc, Part::Replica)?;
+    Ok(mem::replace(node, spare).into_store().disk)
+}
+
+/// What a crash leaves of a disk, where a number chooses what is left of each call that is pending.
+fn crashed(disk: MemDisk, choice: u64) -> Result<MemDisk, Fault>
+    ensures { IfOk result (λ disk. disk.calls ≡ []) }
+{
+    match disk.reopen_as(choice) {
+        Ok(disk) => Ok(disk),
+        Err(_) => Err(Fault::NoMemory),
+    }
+}
+
+/// The node is stopped, its disk crashed, and it is opened again.
+pub fn restart(alloc: Global, node: &mut MemNode, part: Part, choice: u64) -> Result<(), Fault> {
+    let disk = crashed(take_disk(alloc, node)?, choice)?;
+    reopen(alloc, node, disk, part)
+}
+
+/// One step of a node.
+pub fn ask(node: &mut MemNode, caller: u64, ask: &Ask) -> Answer {
+    node.step(caller, ask)
+}
+
+/// Where a node stands.
+pub fn position(node: &mut MemNode) -> Pos {
+    match ask(node, 0, &Ask::Where) {
+        Answer::At(position) => position,
+        _ => NOWHERE,
+    }
+}

@@ -1,0 +1,94 @@
+//! What a node answers, in words.
+
+use byte_locks::LockId;
+use lf_base::{Bytes, Pos};
+use ltx_codec::decode;
+use node_core::{Answer, Refusal};
+use std::alloc::Global;
+use std::fmt;
+use txn_log::StoreFault;
+
+/// An answer without the bytes that it has.
+#[derive(Clone, Copy, Debug, PartialEq, Eq)]
+pub enum Told {
+    Done,
+    /// A request on the files is refused with this number.
+    Number(u32),
+    At(Pos),
+    Level(Pos),
+    /// A file of these transactions, which leads to a position.
+    File { min: u64, max: u64, after: Pos },
+    NoFile,
+    Gone,
+    Applied(Pos),
+    Held(LockId),
+    Pruned(u64),
+    /// The file leads on from another position.
+    NotNext { have: Pos, want: Pos },
+    Refused(Refusal),
+}
+
+/// The file that leads to a position.
+fn file_of(alloc: Global, bytes: &Bytes, after: Pos) -> Told {
+    match decode(alloc, bytes.as_slice()) {
+        Ok(file) => Told::File {
+            min: file.header.min,
+            max: file.header.max,
+            after,
+        },
+        Err(_) => Told::NoFile,
+    }
+}
+
+/// Why a node refused.
+fn refused(why: Refusal) -> Told {
+    match why {
+        Refusal::Store(StoreFault::NotNext { have, want }) => Told::NotNext { have, want },
+        other => Told::Refused(other),
+    }
+}
+
+/// What a node answered.
+pub fn told_by(alloc: Global, answer: &Answer) -> Told {
+    match answer {
+        Answer::Done(_) | Answer::Quiet => Told::Done,
+        Answer::Refuse(number) => Told::Number(number.0),
+        Answer::At(at) => Told::At(*at),
+        Answer::Level(at) => Told::Level(*at),
+        Answer::Item { ltx, after } => file_of(alloc, ltx, *after),
+        Answer::Gone => Told::Gone,
+        Answer::Applied(at) => Told::Applied(*at),
+        Answer::Held(lock) => Told::Held(*lock),
+        Answer::Pruned(count) => Told::Pruned(*count),
+        Answer::Refused(why) => refused(*why),
+    }
+}
+
+impl fmt::Display for Told {
+    fn fmt<W: fmt::Write>(&self, f: &mut fmt::Formatter<W>) -> Result<(), fmt::Error> {
+        match self {
+            Told::Done => f.write_str("done"),
+            Told::Number(number) => write!(f, "refused with {number}"),
+            Told::At(at) => write!(f, "at {:x}/{:016x}", at.txid, at.sum),
+            Told::Level(at) => write!(f, "level at {:x}/{:016x}", at.txid, at.sum),
+            Told::File { min, max, after } => {
+                write!(
+                    f,
+                    "file {min} to {max}, then at {:x}/{:016x}",
+                    after.txid, after.sum
+                )
+            }
+            Told::NoFile => f.write_str("bytes that are no file"),
+            Told::Gone => f.write_str("dropped"),
+            Told::Applied(at) => write!(f, "applied, at {:x}/{:016x}", at.txid, at.sum),
+            Told::Held(lock) => write!(f, "held back by {lock:?}"),
+            Told::Pruned(count) => write!(f, "{count} files pruned"),
+            Told::NotNext { have, want } => write!(
+                f,
+                "refused, have {:x}/{:016x}, want {:x}/{:016x}",
+                have.txid, have.sum, want.txid, want.sum
+            ),
+            Told::Refused(why) => write!(f, "refused as {why:?}"),
+        }
+    }
+}
