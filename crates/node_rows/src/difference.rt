@@ -1,5 +1,6 @@
 //! What differs from what was wanted.
 
+use node_mount::MountFault;
 use std::fmt;
 
 /// How a scene went otherwise.
@@ -17,6 +18,8 @@ pub enum Difference {
     Count { files: usize },
     /// The file at this place of the list of the disk is none that was wanted.
     File { place: usize },
+    /// `mount` ended by a fault.
+    Mount(MountFault),
 }
 
 impl fmt::Display for Difference {
@@ -31,6 +34,7 @@ impl fmt::Display for Difference {
             }
             Difference::Position => f.write_str("another position"),
             Difference::Count { files } => write!(f, "{files} files are left"),
+            Difference::Mount(fault) => write!(f, "mount ended with {fault:?}"),
             Difference::File { place } => write!(f, "file {place} was not wanted"),
         }
     }

@@ -17,6 +17,8 @@ pub enum Fault {
     Left,
     /// The desk took no more steps.
     Worn,
+    /// No thread was to be had.
+    Thread,
     NoMemory,
 }
 

@@ -1,34 +1,76 @@
 //! Sessions of clients with a node over a disk in memory: each reply, the position, and the files that are left on the
-//! disk are compared with what was wanted.
+//! disk are compared with what was wanted. Those with a primary are played once more through `mount`.
 #![tactic(auto)]
 
+mod clients;
 mod difference;
 mod fault;
+mod flag;
 mod folder;
 mod gathering;
+mod held_link;
 mod line;
+mod mounted;
 mod opening;
 mod playing;
 mod scene;
 mod stage;
+mod waiting;
 
+use difference::Difference;
 use fault::Fault;
 use gathering::scenes_in;
+use mounted::play_mounted;
 use playing::play;
+use scene::Scene;
 use std::fs;
+use std::net::{TcpListener, TcpStream};
+use waiting::{MESSAGES, play_waiting};
 
 fn main(rt: HostRuntime) -> Result<(), Fault> {
+    let _named: Option<(TcpListener, TcpStream)> = None;
     let text = fs::read_to_string(&rt, "sessions.jsonl")?;
     for scene in &scenes_in(rt.alloc(), text.as_str())? {
         let name = scene.start.name.as_str();
-        match play(rt, rt.alloc(), scene)? {
-            Some(why) => println!(rt; "{name}: {why}")?,
-            None => {
-                let messages = scene.messages();
-                let files = scene.left.files.len();
-                println!(rt; "{name}: {messages} messages, {files} files left")?;
-            }
+        let found = play(rt, rt.alloc(), scene)?;
+        print_played(&rt, scene, found)?;
+        if scene.has_waiting() {
+            let found = play_waiting(rt, rt.alloc(), &scene.start)?;
+            print_again(&rt, name, "by two threads", MESSAGES, found)?;
         }
+        if scene.is_for_mount() {
+            let found = play_mounted(rt, rt.alloc(), scene)?;
+            print_again(&rt, name, "through mount", scene.messages(), found)?;
+        }
+    }
+    Ok(())
+}
+
+/// Prints how a scene went at a desk.
+fn print_played(rt: &HostRuntime, scene: &Scene, found: Option<Difference>) -> Result<(), Fault> {
+    let name = scene.start.name.as_str();
+    match found {
+        Some(why) => println!(rt; "{name}: {why}")?,
+        None => {
+            let messages = scene.messages();
+            let files = scene.left.files.len();
+            println!(rt; "{name}: {messages} messages, {files} files left")?;
+        }
+    }
+    Ok(())
+}
+
+/// Prints how a scene went that was played once more.
+fn print_again(
+    rt: &HostRuntime,
+    name: &str,
+    how: &str,
+    messages: u64,
+    found: Option<Difference>,
+) -> Result<(), Fault> {
+    match found {
+        Some(why) => println!(rt; "{name}, {how}: {why}")?,
+        None => println!(rt; "{name}, {how}: {messages} messages")?,
     }
     Ok(())
 }

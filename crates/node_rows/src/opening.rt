@@ -1,9 +1,12 @@
 //! The node that a scene begins with.
+ghost use Rattle.std.specs.Prelude.{IfOk, IsTrue};
+ghost use Rattle.node_mount.specs.MemMaker.{IsNewDisk};
+ghost use Rattle.txn_log.specs.Opening.{IsBlank};
 
 use crate::fault::Fault;
 use crate::scene::Start;
 use lf_base::{Name, Text};
-use lf_disk::MemDisk;
+use lf_disk::{Disk, MemDisk};
 use lf_sqlite_pages::{Change, is_page_size};
 use node_core::{Node, NodeConfig};
 use std::alloc::Global;
@@ -31,9 +34,9 @@ fn config(alloc: Global, start: &Start) -> Result<NodeConfig, Fault> {
 }
 
 /// Commits the next transaction of a start: the first one makes all pages, and the others change none.
-fn commit_next(
+fn commit_next<D: Disk>(
     alloc: Global,
-    store: &mut Store<MemDisk>,
+    store: &mut Store<D>,
     start: &Start,
     txid: u64,
 ) -> Result<(), Fault> {
@@ -50,6 +53,13 @@ fn commit_next(
 /// The store of a start, on a disk of which every call from a number on fails.
 fn store_of(alloc: Global, start: &Start, stop: Option<u64>) -> Result<Store<MemDisk>, Fault> {
     let disk = MemDisk::new(alloc, Vec::new(alloc), stop)?;
+    store_on(alloc, disk, start)
+}
+
+/// The store of a start, on a disk without files.
+pub fn store_on<D: Disk + Drop>(alloc: Global, disk: D, start: &Start) -> Result<Store<D>, Fault>
+    requires { IsTrue (D.honest disk) → IsBlank (D.history disk) }
+{
     let mut store = Store::on_blank(alloc, disk);
     for txid in 1..=start.transactions {
         commit_next(alloc, &mut store, start, txid)?;
@@ -66,6 +76,17 @@ fn stopped_store(alloc: Global, start: &Start) -> Result<Store<MemDisk>, Fault> 
             let stop = store.disk.calls().saturating_add(calls);
             store_of(alloc, start, Some(stop))
         }
+    }
+}
+
+/// The disk of a start, as a node finds it that was stopped.
+#[tactic(auto, using(crate::proofs::DiskLemmas::rests))]
+pub fn stored_disk(alloc: Global, start: &Start) -> Result<MemDisk, Fault>
+    ensures { IfOk result IsNewDisk }
+{
+    match store_of(alloc, start, None)?.disk.reopen() {
+        Ok(disk) => Ok(disk),
+        Err(_) => Err(Fault::NoMemory),
     }
 }
 

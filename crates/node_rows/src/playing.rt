@@ -29,7 +29,7 @@ fn link_of(alloc: Global, session: &Session) -> Result<MemLink, Fault> {
 }
 
 /// How the end of a session differs.
-fn end_differs(
+pub fn end_differs(
     alloc: Global,
     end: SessionEnd,
     number: usize,
@@ -41,7 +41,7 @@ fn end_differs(
 }
 
 /// How the replies of a session differ.
-fn replies_differ(found: &[u8], number: usize, session: &Session) -> Option<Difference> {
+pub fn replies_differ(found: &[u8], number: usize, session: &Session) -> Option<Difference> {
     let wanted = session.replies.as_slice();
     (found != wanted).then_some(Difference::Replies {
         session: number,

@@ -52,6 +52,23 @@ pub struct Scene {
 }
 
 impl Scene {
+    /// Whether its node is a primary over a disk that goes on, and none of its sessions is out of turns.
+    pub fn is_for_mount(&self) -> bool {
+        let stays = self.start.is_primary && self.start.stop.is_none();
+        stays
+            && self
+                .sessions
+                .iter()
+                .all(|session| session.ending.end.as_str() == "Closed")
+    }
+
+    /// Whether a session waits for a lock until its turns are used up.
+    pub fn has_waiting(&self) -> bool {
+        self.sessions
+            .iter()
+            .any(|session| session.ending.end.as_str() == "Turns")
+    }
+
     /// How many messages its clients send.
     pub fn messages(&self) -> u64 {
         let mut messages = 0_u64;

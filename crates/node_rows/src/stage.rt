@@ -11,7 +11,7 @@ use std::sync::Wait;
 use turn_desk::{Desk, Seat};
 
 /// The moment at which everything is asked.
-const NOW: u64 = 1_700_000_000_000;
+pub const NOW: u64 = 1_700_000_000_000;
 
 #[derive(Drop)]
 pub struct Stage {
