@@ -1,5 +1,6 @@
 mod crashes;
 mod handles;
+mod parts;
 
 use crate::{DirDisk, Disk, FileName, ListFault, MemDisk};
 use lf_base::Failed;

@@ -3,33 +3,38 @@ ghost use Rattle.std.specs.Prelude.{◌≤◌, length, IfOk};
 ghost use Rattle.lf_disk.specs.Kept.{IsClosed};
 
 use super::kept::Kept;
+use super::places::Places;
+use super::whole::{read_from, write_to};
 use crate::name::FileName;
 use lf_base::read_hex16;
 use std::alloc::{AllocError, Global};
 use std::fs::{self, File, OpenOptions};
 use std::io::{self, ErrorKind};
-use std::os::unix::fs::FileExt;
 use std::rt::Files;
 
-/// A folder with its path, and with the handles of its database file and its staged file. Where a call
-/// failed, its file is opened anew by the next one.
+/// A folder with its path, and with the handles of its database file, its staged file and the folders that have the
+/// names. Where a call failed, its file is opened anew by the next one.
 #[derive(Drop)]
 pub(super) struct Folder<R: Files<File = File> + AllocGlobal + Copy> {
     rt: R,
     path: String,
     kept: Kept,
+    places: Places,
 }
 
 impl<R: Files<File = File> + AllocGlobal + Copy> Folder<R> {
     pub(super) fn open(rt: R, path: &str) -> io::Result<Folder<R>> {
         let path = String::from_str(rt.alloc(), path)?;
-        let kept = Kept::new();
-        let folder = Folder { rt, path, kept };
-        let transactions = folder.path_of("/ltx")?;
+        let transactions = format!(in rt.alloc(); "{path}/ltx")?;
         make_folders(&rt, transactions.as_str())?;
-        folder.sync_names("/ltx")?;
-        folder.sync_names("")?;
-        Ok(folder)
+        let places = Places::open(&rt, path.as_str(), transactions.as_str())?;
+        places.sync_all()?;
+        Ok(Folder {
+            rt,
+            path,
+            kept: Kept::new(),
+            places,
+        })
     }
 
     /// The path of what has this name in the folder, which begins with a slash.
@@ -52,13 +57,6 @@ impl<R: Files<File = File> + AllocGlobal + Copy> Folder<R> {
         }
     }
 
-    /// Syncs the names in the folder or in a folder of it.
-    fn sync_names(&self, name: &str) -> io::Result<()> {
-        let path = self.path_of(name)?;
-        let folder = fs::open(&self.rt, path.as_str())?;
-        folder.sync_all()
-    }
-
     /// The length of a file, None where there is none.
     pub(super) fn size(&self, name: FileName) -> io::Result<Option<u64>> {
         if let Some(file) = self.kept.get(name) {
@@ -72,39 +70,44 @@ impl<R: Files<File = File> + AllocGlobal + Copy> Folder<R> {
         }
     }
 
+    /// Opens a file, which is made where it is missing if `makes` says so.
+    fn open_file(&self, name: FileName, makes: bool) -> io::Result<File> {
+        let path = self.path_to(name)?;
+        let mut options = OpenOptions::new();
+        options.read(true).write(true).create(makes);
+        options.open(&self.rt, path.as_str())
+    }
+
     /// Takes the handle of a file that is kept, and else opens it. None where there is no file.
     fn file(&mut self, name: FileName) -> io::Result<Option<File>> {
         if let Some(file) = self.kept.take(name) {
             return Ok(Some(file));
         }
-        let path = self.path_to(name)?;
-        let mut options = OpenOptions::new();
-        options.read(true).write(true);
-        match options.open(&self.rt, path.as_str()) {
+        match self.open_file(name, false) {
             Ok(file) => Ok(Some(file)),
             Err(error) if error.kind() == ErrorKind::NotFound => Ok(None),
             Err(error) => Err(error),
         }
     }
 
-    /// The same, but it makes a file where there is none.
+    /// The same, but it makes a file where there is none, and syncs its name.
     fn file_or_new(&mut self, name: FileName) -> io::Result<File> {
+        if name == FileName::Staged {
+            return self.staged();
+        }
         if let Some(file) = self.file(name)? {
             return Ok(file);
         }
-        let path = self.path_to(name)?;
-        let mut options = OpenOptions::new();
-        options.read(true).write(true).create(true);
-        let file = options.open(&self.rt, path.as_str())?;
-        self.sync_new(name)?;
+        let file = self.open_file(name, true)?;
+        self.places.sync(name)?;
         Ok(file)
     }
 
-    /// Syncs the name of a new file. That of a staged file is synced where it is renamed.
-    fn sync_new(&self, name: FileName) -> io::Result<()> {
-        match name {
-            FileName::Staged => Ok(()),
-            _ => self.sync_names(folder_of(name)),
+    /// The staged file, made where there is none. Its name is synced where it is renamed.
+    fn staged(&mut self) -> io::Result<File> {
+        match self.kept.take(FileName::Staged) {
+            Some(file) => Ok(file),
+            None => self.open_file(FileName::Staged, true),
         }
     }
 
@@ -123,6 +126,9 @@ impl<R: Files<File = File> + AllocGlobal + Copy> Folder<R> {
     /// Writes all bytes. Without any, it makes sure that the file is there and as long as `at`.
     pub(super) fn write(&mut self, name: FileName, at: u64, bytes: &[u8]) -> io::Result<()> {
         let file = self.file_or_new(name)?;
+        if bytes.is_empty() && file.metadata()?.len() < at {
+            file.set_len(at)?;
+        }
         write_to(&file, at, bytes)?;
         self.kept.keep(name, file);
         Ok(())
@@ -155,11 +161,7 @@ impl<R: Files<File = File> + AllocGlobal + Copy> Folder<R> {
         let old = self.path_to(from)?;
         let new = self.path_to(to)?;
         fs::rename(&self.rt, old.as_str(), new.as_str())?;
-        self.sync_names(folder_of(to))?;
-        if folder_of(from) == folder_of(to) {
-            return Ok(());
-        }
-        self.sync_names(folder_of(from))
+        self.places.sync_both(to, from)
     }
 
     /// Closes what is kept of the name, and syncs the folder that had it.
@@ -169,7 +171,7 @@ impl<R: Files<File = File> + AllocGlobal + Copy> Folder<R> {
         let _ = self.kept.take(name);
         let path = self.path_to(name)?;
         match fs::remove_file(&self.rt, path.as_str()) {
-            Ok(()) => self.sync_names(folder_of(name)),
+            Ok(()) => self.places.sync(name),
             Err(error) if error.kind() == ErrorKind::NotFound => Ok(()),
             Err(error) => Err(error),
         }
@@ -196,37 +198,6 @@ impl<R: Files<File = File> + AllocGlobal + Copy> Folder<R> {
         }
         Ok(names)
     }
-}
-
-/// Which folder has a name, by its path in the folder of them all.
-fn folder_of(name: FileName) -> &'static str {
-    match name {
-        FileName::Ltx { .. } => "/ltx",
-        _ => "",
-    }
-}
-
-/// Reads until `out` is full or the file ends.
-fn read_from(file: &File, at: u64, out: &mut [u8]) -> io::Result<usize>
-    ensures { IfOk result (λ n. n ≤ length out.new) }
-{
-    let mut count = 0;
-    while count < out.len() {
-        let more = file.read_at(&mut out[count..], at.saturating_add(count as u64))?;
-        if more == 0 {
-            break;
-        }
-        count += more;
-    }
-    Ok(count)
-}
-
-/// Writes all bytes. Without any, it makes the file as long as `at` where it is shorter.
-fn write_to(file: &File, at: u64, bytes: &[u8]) -> io::Result<()> {
-    if bytes.is_empty() && file.metadata()?.len() < at {
-        return file.set_len(at);
-    }
-    file.write_all_at(bytes, at)
 }
 
 /// Makes the folders of a path that are missing, the outermost first.

@@ -1,0 +1,47 @@
+//! A file of the system of which each call moves a part.
+use crate::dir_disk::whole::{read_from, write_to};
+use std::fs::{self, File, OpenOptions};
+use std::io;
+use std::os::unix::fs::FileExt;
+use std::test::Fail;
+
+/// A file of which each call reads or writes three bytes at most.
+#[derive(Drop)]
+struct SlowFile {
+    file: File,
+}
+
+impl FileExt for SlowFile {
+    fn read_at(&self, out: &mut [u8], at: u64) -> io::Result<usize> {
+        let count = out.len().min(3);
+        self.file.read_at(&mut out[..count], at)
+    }
+
+    fn write_at(&self, bytes: &[u8], at: u64) -> io::Result<usize> {
+        let count = bytes.len().min(3);
+        self.file.write_at(&bytes[..count], at)
+    }
+}
+
+/// What is written in parts is whole, and is read in parts up to its end.
+#[test]
+fn each_call_moves_a_part(rt: HostRuntime) -> Result<(), Fail> {
+    let mut options = OpenOptions::new();
+    options.read(true).write(true).create(true).truncate(true);
+    let file = options.open(&rt, "lf_disk_parts")?;
+    let slow = SlowFile { file };
+    write_to(&slow, 2, b"abcdefgh")?;
+    assert_eq!(&rt; fs::read(&rt, "lf_disk_parts")?.as_slice(), b"\0\0abcdefgh".as_slice());
+    for (at, count, want) in [
+        (0, 10, *b"\0\0abcdefgh.."),
+        (4, 6, *b"cdefgh......"),
+        (9, 1, *b"h..........."),
+        (10, 0, *b"............"),
+    ] {
+        let mut out = [b'.'; 12];
+        assert_eq!(&rt; read_from(&slow, at, &mut out)?, count);
+        assert_eq!(&rt; out, want);
+    }
+    fs::remove_file(&rt, "lf_disk_parts")?;
+    Ok(())
+}
