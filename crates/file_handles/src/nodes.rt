@@ -1,6 +1,6 @@
 //! The node numbers of the served files.
 ghost use Rattle.std.specs.Prelude.{◌≡◌, Some};
-ghost use Rattle.file_handles.specs.Nodes.{root, node_of, file_at};
+ghost use Rattle.file_handles.specs.Nodes.{node_of, file_at};
 
 use byte_locks::FileKind;
 

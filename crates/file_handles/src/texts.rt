@@ -1,5 +1,5 @@
 //! The files that are short texts: the position, and the primary's host.
-ghost use Rattle.std.specs.Prelude.{◌≡◌, ◌++◌, ◌∷◌, [], IfOk};
+ghost use Rattle.std.specs.Prelude.{◌≡◌, IfOk};
 ghost use Rattle.file_handles.specs.Texts.{position_line, line, part};
 
 use lf_base::{NoMemory, Pos, pos_text};

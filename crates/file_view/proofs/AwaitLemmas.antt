@@ -1,14 +1,13 @@
 -- The files stand over the image that a change leads to, once it is committed and the request that waited is done.
-use Rattle.std.proofs.Common.{◌≡◌, ◌≢◌, ℕ, ◌<◌, Bool, true, false, ◌&&◌, ◌||◌, not, length, List, [], ◌∷◌, Option, Some, None, IfSome, Result, Ok, Err, IfOk, OnOk, OnErr, refl, sym, ap, ◌∙◌, inl, inr, subst, arith}
-use Rattle.std.specs.Prelude.{is_some, IsSomeAnd, nat_lt, if◌then◌else◌}
+use Rattle.std.proofs.Common.{◌≡◌, ℕ, ◌<◌, Bool, true, false, ◌&&◌, not, List, Option, Some, None, IfSome, Result, Ok, Err, IfOk, OnOk, refl, sym, ap, ◌∙◌, inl, inr, subst, arith}
+use Rattle.std.specs.Prelude.{IsSomeAnd}
 use Rattle.std.specs.Option.{option_map}
 use Rattle.std.proofs.lemmas.Bool.{cases_Bool}
 use Rattle.std.proofs.lemmas.Bool.Decides.{nat_tests}
 use Rattle.byte_locks.specs.declared.lock_bytes.FileKind.{FileKind}
 use Rattle.byte_locks.specs.declared.lock_bytes.FileKind.TheVariants as file
-use Rattle.byte_locks.specs.declared.owner.Owner.{Owner}
 use Rattle.database_file.specs.Commit.{IsChangeOf}
-use Rattle.database_file.specs.DatabaseFile.{DatabaseFile, FitsShape, KeepsDifferences, KeepsNothing, size_over, count_over, clean, is_clean}
+use Rattle.database_file.specs.DatabaseFile.{DatabaseFile, FitsShape, KeepsDifferences, size_over, clean, is_clean}
 use Rattle.database_under_log.specs.Over.{Agrees}
 use Rattle.database_under_log.proofs.KeepLemmas.{clean-agrees}
 use Rattle.file_handles.specs.Names.{file_named}
@@ -22,22 +21,20 @@ use Rattle.lf_sqlite_pages.specs.Apply.{apply}
 use Rattle.lf_sqlite_pages.specs.Change.{PageChange}
 use Rattle.lf_sqlite_pages.specs.Image.{DatabaseImage}
 use Rattle.lf_sqlite_pages.specs.PageSize.{IsPageSize}
-use Rattle.wal_watch.specs.Frames.{committed_count, page_size_in}
-use Rattle.wal_watch.specs.News.{last_size}
+use Rattle.wal_watch.specs.Frames.{committed_count}
 use Rattle.file_view.specs.declared.fault.ViewFault.{ViewFault}
 use Rattle.file_view.specs.declared.journal.JournalCall.{JournalCall}
 use Rattle.file_view.specs.declared.journal.JournalCall.TheVariants as call
 use Rattle.file_view.specs.declared.plan.Plan.{Plan}
 use Rattle.file_view.specs.declared.plan.Plan.TheVariants as plan
 use Rattle.file_view.specs.declared.scene.Scene.{Scene}
-use Rattle.file_view.specs.DatabaseState.{HeldWrite}
 use Rattle.file_view.specs.Done.{MayCommit, IsWritten, IsSized, IsUnlinked, IsDoneAt, IsDone}
 use Rattle.file_view.specs.Endings.{committed}
 use Rattle.file_view.specs.JournalRules.{ends_writing, finishing_rows, Commits, JournalDone}
 use Rattle.file_view.specs.JournalState.{holding}
 use Rattle.file_view.specs.LogRules.{LeadsUnderLog, log_after, log_write_rows, LogWaits, LogDone}
 use Rattle.file_view.specs.NameRules.{unlinking_rows}
-use Rattle.file_view.specs.Overlay.{without_uncommitted, IsOverImage, StandsOver, AwaitsOver}
+use Rattle.file_view.specs.Overlay.{IsOverImage, StandsOver, AwaitsOver}
 use Rattle.file_view.specs.Refusal.{first_refusal, IsAllowed}
 use Rattle.file_view.specs.Requests.{write_rows, size_rows, rows_at, rows_of}
 use Rattle.file_view.specs.Served.{Served, log_contents, has_committed_frames}

@@ -1,10 +1,10 @@
 -- How the files go on to stand over the committed image when the log is cut or removed.
-use Rattle.std.proofs.Common.{◌≡◌, ◌≢◌, ℕ, ◌+◌, ◌-◌, ◌<◌, ◌≤◌, Bool, true, false, ◌&&◌, not, length, take, List, [], Option, Some, None, IfSome, refl, sym, ap, ◌∙◌, inl, inr, subst, arith}
-use Rattle.std.specs.Prelude.{◌==◌, is_some, nat_lt, nat_le, if◌then◌else◌}
-use Rattle.std.proofs.lemmas.Bool.{cases_Bool, cases_eq, cases_lt, cond-false}
+use Rattle.std.proofs.Common.{◌≡◌, ◌≢◌, ℕ, ◌-◌, ◌<◌, ◌≤◌, Bool, true, false, ◌&&◌, not, length, take, List, [], Option, Some, None, IfSome, refl, sym, ap, ◌∙◌, inl, inr, arith}
+use Rattle.std.specs.Prelude.{◌==◌}
+use Rattle.std.proofs.lemmas.Bool.{cases_lt, cond-false}
 use Rattle.std.proofs.lemmas.Bool.Decides.{nat_tests}
 use Rattle.byte_locks.specs.declared.owner.Owner.{Owner}
-use Rattle.database_file.specs.DatabaseFile.{DatabaseFile, clean, is_clean}
+use Rattle.database_file.specs.DatabaseFile.{is_clean}
 use Rattle.database_under_log.specs.Over.{Agrees}
 use Rattle.database_under_log.proofs.KeepLemmas.{cut-keeps, empty_none}
 use Rattle.lf_base.specs.FileBytes.{resized}

@@ -1,5 +1,5 @@
 -- What the rows of a request say, behind those that it begins with.
-use Rattle.std.proofs.Common.{◌≡◌, ℕ, ◌+◌, ◌*◌, ◌/◌, ◌%◌, ◌<◌, ◌≤◌, ◌^◌, Bool, true, false, ◌&&◌, not, length, List, [], ◌∷◌, ◌++◌, Option, Some, None, refl, sym, ap, ◌∙◌, subst, arith}
+use Rattle.std.proofs.Common.{◌≡◌, ℕ, ◌+◌, ◌*◌, ◌/◌, ◌%◌, ◌<◌, ◌≤◌, ◌^◌, Bool, true, false, ◌&&◌, not, length, List, [], ◌∷◌, Option, Some, None, refl, sym, subst, arith}
 use Rattle.std.specs.Prelude.{◌==◌, is_some, unwrap_or, IsSomeAnd, nat_lt, if◌then◌else◌}
 use Rattle.std.specs.Option.{option_map}
 use Rattle.std.proofs.Math.Nat.{div-add-mod}
@@ -15,7 +15,7 @@ use Rattle.file_view.specs.declared.fault.ViewFault.TheVariants as fault
 use Rattle.file_view.specs.declared.journal.JournalCall.{JournalCall}
 use Rattle.file_view.specs.declared.journal.JournalCall.TheVariants as call
 use Rattle.file_view.specs.declared.scene.Scene.{Scene}
-use Rattle.file_view.specs.DatabaseRules.{write_size, first_page, page_count, most_pages, sized_write_rows, database_write_rows}
+use Rattle.file_view.specs.DatabaseRules.{write_size, page_count, most_pages, sized_write_rows, database_write_rows}
 use Rattle.file_view.specs.Errno.{ENOENT, EIO, EBADF, EACCES, ENOSPC, EROFS}
 use Rattle.file_view.specs.HandleRules.{is_served, is_known, is_open_at}
 use Rattle.file_view.specs.JournalRules.{may_write_journal, finishing_rows, journal_rows, journal_unlink_rows}
@@ -25,8 +25,8 @@ use Rattle.file_view.specs.NameRules.{is_there, unlinking_rows}
 use Rattle.file_view.specs.Refusal.{Row, first_refusal, HasCause, HasReadCause}
 use Rattle.file_view.specs.Requests.{write_rows, size_rows, rows_at}
 use Rattle.file_view.specs.Roles.{is_replica}
-use Rattle.file_view.specs.Served.{Served, exists}
-use Rattle.file_view.proofs.DatabaseLemmas.{opposite, two-fail, write-parts, write-pages}
+use Rattle.file_view.specs.Served.{Served}
+use Rattle.file_view.proofs.DatabaseLemmas.{two-fail, write-parts, write-pages}
 use Rattle.file_view.proofs.RowLemmas.{none-holds}
 
 -- the rows behind one that doesn't hold

@@ -1,6 +1,6 @@
 -- How the files go on to stand over the committed image at every request.
-use Rattle.std.proofs.Common.{◌≡◌, ◌≢◌, ℕ, ◌<◌, Bool, true, false, ◌&&◌, ◌||◌, not, length, List, [], ◌∷◌, ◌++◌, Option, Some, None, IfSome, Result, Ok, Err, IfOk, OnOk, OnErr, refl, sym, ap, ◌∙◌, inl, inr, subst, arith}
-use Rattle.std.specs.Prelude.{is_some, IsSomeAnd, if◌then◌else◌}
+use Rattle.std.proofs.Common.{◌≡◌, ℕ, ◌<◌, Bool, true, false, ◌||◌, List, Option, Some, None, IfSome, Result, Ok, Err, IfOk, OnOk, OnErr, refl, sym, ap, ◌∙◌, inl, inr, subst}
+use Rattle.std.specs.Prelude.{is_some, IsSomeAnd}
 use Rattle.std.proofs.lemmas.Bool.{cases_Bool, and_parts, cond-true, cond-false}
 use Rattle.byte_locks.specs.declared.lock_bytes.FileKind.{FileKind}
 use Rattle.byte_locks.specs.declared.lock_bytes.FileKind.TheVariants as file
@@ -9,7 +9,7 @@ use Rattle.byte_locks.specs.declared.owner.Owner.{Owner}
 use Rattle.byte_locks.specs.LockEntry.{in_set, on_file}
 use Rattle.byte_locks.specs.LockList.{without, granted}
 use Rattle.byte_locks.specs.LockSet.{Marks}
-use Rattle.database_file.specs.DatabaseFile.{DatabaseFile, KeepsDifferences}
+use Rattle.database_file.specs.DatabaseFile.{KeepsDifferences}
 use Rattle.database_under_log.specs.Over.{Agrees}
 use Rattle.file_handles.specs.Handles.{OpenHandles}
 use Rattle.file_handles.specs.Names.{file_named}
@@ -20,7 +20,6 @@ use Rattle.fuse_msgs.specs.declared.request.LockWish.TheVariants as wish
 use Rattle.fuse_msgs.specs.declared.request.Op.{Op}
 use Rattle.fuse_msgs.specs.declared.request.Op.TheVariants as op
 use Rattle.fuse_msgs.specs.declared.request.Request.{Request}
-use Rattle.lf_base.specs.declared.errno.Errno.{Errno}
 use Rattle.lf_sqlite_pages.specs.Change.{PageChange}
 use Rattle.lf_sqlite_pages.specs.Image.{DatabaseImage}
 use Rattle.lf_sqlite_pages.specs.PageSize.{IsPageSize}
@@ -30,13 +29,13 @@ use Rattle.file_view.specs.declared.journal.JournalCall.TheVariants as call
 use Rattle.file_view.specs.declared.plan.Plan.{Plan}
 use Rattle.file_view.specs.declared.plan.Plan.TheVariants as plan
 use Rattle.file_view.specs.declared.scene.Scene.{Scene}
-use Rattle.file_view.specs.Done.{IsReplied, MayCommit, IsWritten, IsSized, IsUnlinked, IsDoneAt, IsDone}
-use Rattle.file_view.specs.JournalRules.{ends_writing, finishes, after_journal_call, JournalDone}
+use Rattle.file_view.specs.Done.{MayCommit, IsWritten, IsSized, IsUnlinked, IsDoneAt, IsDone}
+use Rattle.file_view.specs.JournalRules.{ends_writing, finishes, JournalDone}
 use Rattle.file_view.specs.LockRules.{locks_at, after_wish}
 use Rattle.file_view.specs.LogRules.{log_after, log_written, log_write_rows, LogKeeps, LogDone}
 use Rattle.file_view.specs.NameRules.{with_file, unlinking_rows}
-use Rattle.file_view.specs.Overlay.{without_uncommitted, IsOverImage, StandsOver}
-use Rattle.file_view.specs.Refusal.{Row, first_refusal, IsAllowed}
+use Rattle.file_view.specs.Overlay.{IsOverImage, StandsOver}
+use Rattle.file_view.specs.Refusal.{first_refusal, IsAllowed}
 use Rattle.file_view.specs.Requests.{owner_of, write_rows, size_rows, rows_at, rows_of}
 use Rattle.file_view.specs.Served.{Served, log_contents}
 use Rattle.file_view.specs.Sound.{IsSound}

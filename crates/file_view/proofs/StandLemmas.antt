@@ -1,11 +1,8 @@
 -- How the served files go on to stand over the committed image while the database file and the log stay.
-use Rattle.std.proofs.Common.{◌≡◌, ◌≢◌, ℕ, ◌<◌, Bool, true, false, ◌&&◌, not, List, Option, Some, None, IfSome, refl, sym, ap, ◌∙◌, inl, inr, subst, arith}
-use Rattle.std.specs.Prelude.{is_some, nat_lt, if◌then◌else◌}
+use Rattle.std.proofs.Common.{◌≡◌, ℕ, ◌<◌, Bool, true, false, List, Option, Some, None, IfSome, refl, sym, ◌∙◌}
+use Rattle.std.specs.Prelude.{is_some, if◌then◌else◌}
 use Rattle.std.specs.Ordering.{nat_cmp}
-use Rattle.std.specs.FinMap as pages
 use Rattle.std.specs.FinMap.{len-empty}
-use Rattle.std.proofs.lemmas.Bool.{cases_Bool}
-use Rattle.std.proofs.lemmas.Bool.Decides.{nat_tests}
 use Rattle.byte_locks.specs.declared.owner.Owner.{Owner}
 use Rattle.byte_locks.specs.declared.lock_id.LockId.TheVariants as lock
 use Rattle.byte_locks.specs.LockList.{LockList}
@@ -13,15 +10,11 @@ use Rattle.database_file.specs.DatabaseFile.{DatabaseFile, FitsShape, KeepsDiffe
 use Rattle.database_file.proofs.CleanLemmas.{clean-reads, cleared_keeps_nothing}
 use Rattle.database_under_log.specs.Over.{Agrees}
 use Rattle.database_under_log.proofs.OverLemmas.{over-pages}
-use Rattle.database_under_log.proofs.KeepLemmas.{clean-agrees}
-use Rattle.lf_sqlite_pages.specs.Image.{DatabaseImage, SameImage}
+use Rattle.lf_sqlite_pages.specs.Image.{DatabaseImage}
 use Rattle.lf_sqlite_pages.specs.PageSize.{IsPageSize}
-use Rattle.wal_watch.specs.Frames.{committed_count}
-use Rattle.file_view.specs.Acting.{is_writer, settled_database, while_exclusive, with_locks}
-use Rattle.file_view.specs.Overlay.{without_uncommitted, AgreesOver, IsOverImage, FitsImage, StandsOver}
-use Rattle.file_view.specs.Served.{Served, log_contents, has_committed_frames}
-use Rattle.file_view.specs.Sound.{IsSound}
-use Rattle.file_view.proofs.LogLemmas.{clean-is}
+use Rattle.file_view.specs.Acting.{is_writer, with_locks}
+use Rattle.file_view.specs.Overlay.{without_uncommitted, IsOverImage, StandsOver}
+use Rattle.file_view.specs.Served.{Served, log_contents}
 
 -- a file that keeps nothing
 pub clean-nothing : (file : DatabaseFile) → KeepsNothing (clean file)

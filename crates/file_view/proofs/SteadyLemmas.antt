@@ -1,7 +1,7 @@
 -- At a replica where nobody writes a request leaves the database as it reads.
-use Rattle.std.proofs.Common.{◌≡◌, ℕ, ◌<◌, ◌≤◌, Bool, true, false, ◌&&◌, ◌||◌, not, length, List, [], ◌∷◌, Option, Some, None, refl, sym, ap, ◌∙◌, subst, inl, inr, arith}
-use Rattle.std.specs.Prelude.{is_some, nat_lt, IsSomeAnd, if◌then◌else◌}
-use Rattle.std.proofs.lemmas.Bool.{cases_Bool, cases_lt, cond-false}
+use Rattle.std.proofs.Common.{◌≡◌, ℕ, ◌≤◌, Bool, true, false, ◌&&◌, List, Option, Some, None, refl, sym, ap, ◌∙◌, subst, inl, inr, arith}
+use Rattle.std.specs.Prelude.{nat_lt, IsSomeAnd}
+use Rattle.std.proofs.lemmas.Bool.{cases_lt, cond-false}
 use Rattle.std.proofs.lemmas.Bool.Decides.{nat_tests}
 use Rattle.byte_locks.specs.declared.lock_bytes.FileKind.{FileKind}
 use Rattle.byte_locks.specs.declared.lock_bytes.FileKind.TheVariants as file
@@ -20,7 +20,6 @@ use Rattle.fuse_msgs.specs.declared.request.LockWish.TheVariants as wish
 use Rattle.fuse_msgs.specs.declared.request.Op.{Op}
 use Rattle.fuse_msgs.specs.declared.request.Op.TheVariants as op
 use Rattle.lf_base.specs.FileBytes.{resized}
-use Rattle.lf_sqlite_pages.specs.Change.{PageChange}
 use Rattle.lf_sqlite_pages.specs.Image.{DatabaseImage}
 use Rattle.wal_watch.specs.Frames.{committed_count}
 use Rattle.file_view.specs.declared.journal.JournalCall.{JournalCall}
@@ -35,7 +34,7 @@ use Rattle.file_view.specs.Endings.{ended}
 use Rattle.file_view.specs.JournalRules.{finishes, ends_writing, journal_rows, JournalDone}
 use Rattle.file_view.specs.LockRules.{locks_at, after_wish}
 use Rattle.file_view.specs.LogRules.{log_write_rows, log_cut_rows, log_unlink_rows, log_cut, log_removed}
-use Rattle.file_view.specs.DatabaseRules.{write_size, sized_write_rows, sized_resize_rows, database_write_rows, database_size_rows}
+use Rattle.file_view.specs.DatabaseRules.{database_write_rows, database_size_rows}
 use Rattle.file_view.specs.NameRules.{with_file, unlinking_rows}
 use Rattle.file_view.specs.Refusal.{first_refusal}
 use Rattle.file_view.specs.Requests.{owner_of, write_rows, size_rows, rows_at}

@@ -1,6 +1,6 @@
 -- A request that waits goes on to wait.
-use Rattle.std.proofs.Common.{◌≡◌, ℕ, ◌<◌, Bool, true, false, length, List, [], ◌∷◌, Option, Some, None, refl, sym, ap, ◌∙◌, subst}
-use Rattle.std.specs.Prelude.{is_some, IsSomeAnd, if◌then◌else◌}
+use Rattle.std.proofs.Common.{◌≡◌, ℕ, Bool, true, false, List, Option, Some, None, refl, sym, ap, ◌∙◌, subst}
+use Rattle.std.specs.Prelude.{IsSomeAnd}
 use Rattle.byte_locks.specs.declared.lock_bytes.FileKind.{FileKind}
 use Rattle.byte_locks.specs.declared.lock_bytes.FileKind.TheVariants as file
 use Rattle.byte_locks.specs.declared.lock_id.LockId.TheVariants as lock
@@ -9,7 +9,6 @@ use Rattle.byte_locks.specs.declared.owner.Owner.{Owner}
 use Rattle.byte_locks.specs.LockEntry.{in_set, on_file, of_session}
 use Rattle.byte_locks.specs.LockList.{LockList, without, granted}
 use Rattle.byte_locks.specs.LockSet.{Marks}
-use Rattle.database_file.specs.DatabaseFile.{DatabaseFile, clean}
 use Rattle.file_handles.specs.Handles.{OpenHandles, without_session}
 use Rattle.file_handles.specs.Names.{file_named}
 use Rattle.file_handles.specs.Nodes.{file_at}
@@ -33,7 +32,7 @@ use Rattle.file_view.specs.NameRules.{with_file, unlinking_rows}
 use Rattle.file_view.specs.Overlay.{StandsOver}
 use Rattle.file_view.specs.Refusal.{first_refusal}
 use Rattle.file_view.specs.Requests.{owner_of, write_rows, size_rows, rows_at}
-use Rattle.file_view.specs.Served.{Served, log_contents, waits}
+use Rattle.file_view.specs.Served.{Served, waits}
 use Rattle.file_view.specs.Sound.{IsSound}
 use Rattle.file_view.specs.Steady.{GoesOn, CommitsNothing}
 use Rattle.file_view.proofs.EndingLemmas.{nothing-dropped}

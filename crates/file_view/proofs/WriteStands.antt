@@ -1,30 +1,29 @@
 -- How the files go on to stand over the committed image when the database file is written or resized.
-use Rattle.std.proofs.Common.{◌≡◌, ◌≢◌, ℕ, zero, suc, ◌+◌, ◌/◌, ◌%◌, ◌<◌, ◌≤◌, Bool, true, false, ◌&&◌, ◌||◌, not, length, List, [], Option, Some, None, IfSome, refl, sym, ap, ◌∙◌, inl, inr, subst, arith}
-use Rattle.std.specs.Prelude.{◌==◌, is_some, nat_lt, if◌then◌else◌}
+use Rattle.std.proofs.Common.{◌≡◌, ℕ, ◌+◌, ◌/◌, ◌%◌, ◌<◌, ◌≤◌, Bool, true, false, ◌&&◌, ◌||◌, not, length, List, [], Option, Some, None, IfSome, refl, sym, ap, ◌∙◌, inl, inr, subst, arith}
+use Rattle.std.specs.Prelude.{◌==◌, is_some, nat_lt}
 use Rattle.std.specs.List.{list_all, range_with_len}
-use Rattle.std.proofs.lemmas.Bool.{cases_Bool, cases_eq, cond-true, cond-false, and_parts}
+use Rattle.std.proofs.lemmas.Bool.{cases_Bool, cond-true, cond-false, and_parts}
 use Rattle.std.proofs.lemmas.Bool.Decides.{nat_tests}
 use Rattle.byte_locks.specs.declared.owner.Owner.{Owner}
 use Rattle.byte_locks.specs.declared.lock_id.LockId.TheVariants as lock
 use Rattle.byte_locks.specs.LockList.{writer_of}
-use Rattle.database_file.specs.DatabaseFile.{DatabaseFile, KeepsDifferences, as_read, clean, is_clean, count_over}
+use Rattle.database_file.specs.DatabaseFile.{KeepsDifferences, as_read, clean, is_clean, count_over}
 use Rattle.database_file.specs.Writing.{with_pages, sized}
 use Rattle.database_file.specs.Writing.{page_in as page_of_bytes}
-use Rattle.database_under_log.specs.Over.{Agrees, AreFrames, over}
+use Rattle.database_under_log.specs.Over.{AreFrames, over}
 use Rattle.database_under_log.proofs.KeepLemmas.{frames-keep, resize-keeps}
 use Rattle.journal_watch.specs.Journal.{is_active}
-use Rattle.lf_sqlite_pages.specs.Image.{DatabaseImage, SameImage}
-use Rattle.lf_sqlite_pages.specs.PageSize.{IsPageSize}
+use Rattle.lf_sqlite_pages.specs.Image.{DatabaseImage}
 use Rattle.wal_watch.specs.Frames.{committed_count, page_size_in}
 use Rattle.wal_watch.specs.News.{HoldsFrame, last_size}
 use Rattle.wal_watch.proofs.LawLemmas.{last_some}
 use Rattle.file_view.specs.declared.scene.Scene.{Scene}
 use Rattle.file_view.specs.Acting.{writes}
-use Rattle.file_view.specs.DatabaseRules.{write_size, first_page, page_count, are_pages, most_pages, kept_at_most, states_other, holds_frame, hold_frames, uncommitted_rows, checkpoint_rows, checkpoint_resize_rows, resize_rows, sized_write_rows, sized_resize_rows, database_write_rows, database_size_rows, writer_after, resizes, IsDatabaseChanged, IsDatabaseWritten, IsDatabaseSized}
+use Rattle.file_view.specs.DatabaseRules.{write_size, first_page, page_count, most_pages, kept_at_most, states_other, holds_frame, hold_frames, uncommitted_rows, checkpoint_rows, checkpoint_resize_rows, resize_rows, sized_write_rows, sized_resize_rows, database_write_rows, database_size_rows, resizes, IsDatabaseChanged, IsDatabaseWritten, IsDatabaseSized}
 use Rattle.file_view.specs.Done.{WritesDatabase, SizesDatabase}
 use Rattle.file_view.specs.Errno.{EIO, EINVAL, EFBIG, EROFS}
 use Rattle.file_view.specs.LogRules.{FollowsImage}
-use Rattle.file_view.specs.Overlay.{without_uncommitted, AgreesOver, IsOverImage, StandsOver}
+use Rattle.file_view.specs.Overlay.{without_uncommitted, IsOverImage, StandsOver}
 use Rattle.file_view.specs.Refusal.{first_refusal}
 use Rattle.file_view.specs.Roles.{is_replica}
 use Rattle.file_view.specs.Served.{Served, log_contents, has_committed_frames}

@@ -6,7 +6,6 @@ use Rattle.file_handles.specs.Names.{file_named}
 use Rattle.file_handles.specs.Nodes.{node_of, file_at}
 use Rattle.fuse_msgs.specs.declared.reply.Reply.{Reply}
 use Rattle.fuse_msgs.specs.declared.reply.Reply.TheVariants as reply
-use Rattle.fuse_msgs.specs.declared.request.LockWish.{LockWish}
 use Rattle.fuse_msgs.specs.declared.request.Op.{Op}
 use Rattle.fuse_msgs.specs.declared.request.Op.TheVariants as op
 use Rattle.fuse_msgs.specs.declared.request.Request.{Request}

@@ -1,6 +1,5 @@
 -- What goes on as it was: the database at a replica while nobody writes, and what a request that waits will leave.
-use Rattle.std.specs.Prelude.{◌≡◌, true, false, Option, None}
-use Rattle.lf_sqlite_pages.specs.Change.{PageChange}
+use Rattle.std.specs.Prelude.{◌≡◌, true, false, None}
 use Rattle.database_file.specs.DatabaseFile.{clean}
 use Rattle.file_view.specs.declared.plan.Plan.{Plan}
 use Rattle.file_view.specs.declared.plan.Plan.TheVariants as plan

@@ -4,7 +4,6 @@ ghost use Rattle.byte_locks.specs.declared.lock_id.LockId.TheVariants as lock;
 ghost use Rattle.wal_watch.specs.File.{contents_of};
 ghost use Rattle.wal_watch.specs.Frames.{committed_count};
 ghost use Rattle.file_view.specs.Acting.{is_actor, writes, is_writer, while_exclusive, settled_database, has_left, is_index_of, settled_index};
-ghost use Rattle.byte_locks.specs.LockList.{writer_of};
 
 use crate::database::Database;
 use byte_locks::{LockId, LockTable, Owner};

@@ -1,6 +1,5 @@
 //! Every request, by what it asks for.
 ghost use Rattle.std.specs.Prelude.{◌≡◌, IfOk, IfErr, OnOk, OnErr};
-ghost use Rattle.database_file.specs.DatabaseFile.{FitsShape};
 ghost use Rattle.database_file.specs.Fault.{SameBase};
 ghost use Rattle.file_view.specs.Done.{IsDone};
 ghost use Rattle.file_view.specs.Overlay.{FitsImage};

@@ -3,7 +3,7 @@ ghost use Rattle.std.specs.Prelude.{◌≡◌, ◌≤◌, None, IsSome, IfNone, 
 ghost use Rattle.database_file.specs.DatabaseFile.{FitsShape};
 ghost use Rattle.database_file.specs.Fault.{SameBase, HasCause as HasFileCause};
 ghost use Rattle.file_view.specs.JournalState.{reach};
-ghost use Rattle.file_view.specs.JournalRules.{may_write_journal, finishes, ends_writing, finishing_rows, journal_rows, journal_unlink_rows, after_journal_call, Commits, JournalDone};
+ghost use Rattle.file_view.specs.JournalRules.{may_write_journal, ends_writing, finishing_rows, journal_rows, journal_unlink_rows, after_journal_call, Commits, JournalDone};
 ghost use Rattle.file_view.specs.Refusal.{first_refusal};
 
 use crate::acting::writes;

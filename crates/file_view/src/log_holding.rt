@@ -2,7 +2,6 @@
 ghost use Rattle.std.specs.Prelude.{◌≡◌, ◌<◌, false, None, IsSome, IfOk, IfErr, OnOk, OnErr, length};
 ghost use Rattle.lf_base.specs.FileBytes.{written};
 ghost use Rattle.lf_sqlite_pages.specs.Blocks.{IsWithin};
-ghost use Rattle.lf_sqlite_pages.specs.LockPage.{IsWithinLimit};
 ghost use Rattle.database_file.specs.DatabaseFile.{FitsShape};
 ghost use Rattle.database_file.specs.Fault.{HasCause, SameBase};
 ghost use Rattle.database_under_log.specs.Fault.{HasWriteCause, wanted_size};

@@ -2,7 +2,6 @@
 ghost use Rattle.std.specs.Prelude.{◌≡◌, IsSome, IfErr, OnOk, OnErr, length};
 ghost use Rattle.file_view.specs.SharedRules.{shared_rows, shared_written, shared_cut, shared_removed};
 ghost use Rattle.file_view.specs.Refusal.{IsAllowed, HasCause};
-ghost use Rattle.lf_base.specs.FileBytes.{written, resized};
 
 use crate::errno::ENOSPC;
 use crate::fault::ViewFault;

@@ -11,8 +11,8 @@ use Rattle.fuse_msgs.specs.declared.request.LockWish.TheVariants as wish
 use Rattle.fuse_msgs.specs.declared.request.Request.{Request}
 use Rattle.fuse_msgs.specs.declared.opcode.Opcode.{Opcode}
 use Rattle.fuse_msgs.specs.declared.opcode.Opcode.TheVariants as opcode
-use Rattle.fuse_msgs.specs.Fields.{le32, le64, zeros, is_set}
-use Rattle.lf_base.specs.Endian.{le32_at, le64_at}
+use Rattle.fuse_msgs.specs.Fields.{zeros, is_set}
+use Rattle.lf_base.specs.Endian.{le32, le64, le32_at, le64_at}
 use Rattle.fuse_msgs.specs.Opcodes.{opcode_named, number_of, opcode_of}
 use Rattle.fuse_msgs.specs.Names.{is_name}
 use Rattle.fuse_msgs.specs.Locks.{IsLkIn, lock_type}

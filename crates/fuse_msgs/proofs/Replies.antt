@@ -2,7 +2,8 @@
 use Rattle.std.proofs.Common.{◌≤◌, length, lit≤}
 use Rattle.fuse_msgs.specs.declared.reply.Reply.{Reply}
 use Rattle.fuse_msgs.specs.declared.reply.Reply.TheVariants as reply
-use Rattle.fuse_msgs.specs.Fields.{le16, le32, le64, zeros}
+use Rattle.lf_base.specs.Endian.{le16, le32, le64}
+use Rattle.fuse_msgs.specs.Fields.{zeros}
 use Rattle.fuse_msgs.specs.Reply.{reply_body, HasFixedBody}
 
 -- a fixed body has a length that fits its field

@@ -4,7 +4,8 @@ use Rattle.fuse_msgs.specs.declared.request.Op.{Op}
 use Rattle.fuse_msgs.specs.declared.request.Op.TheVariants as op
 use Rattle.fuse_msgs.specs.declared.request.LockWish.{LockWish}
 use Rattle.fuse_msgs.specs.declared.request.Request.{Request}
-use Rattle.fuse_msgs.specs.Fields.{le32, le64, zeros}
+use Rattle.lf_base.specs.Endian.{le32, le64}
+use Rattle.fuse_msgs.specs.Fields.{zeros}
 use Rattle.fuse_msgs.specs.Names.{is_name}
 use Rattle.fuse_msgs.specs.Locks.{lock_type}
 use Rattle.fuse_msgs.specs.Opcodes.{number_of, opcode_of}

@@ -3,7 +3,8 @@ use Rattle.std.specs.Prelude.{ℕ, ◌+◌, ◌-◌, ◌/◌, ◌^◌, ◌≤◌
 use Rattle.fuse_msgs.specs.declared.reply.Reply.{Reply}
 use Rattle.fuse_msgs.specs.declared.reply.Reply.TheVariants as reply
 use Rattle.fuse_msgs.specs.declared.request.LockWish.{LockWish}
-use Rattle.fuse_msgs.specs.Fields.{le16, le32, le64, zeros}
+use Rattle.lf_base.specs.Endian.{le16, le32, le64}
+use Rattle.fuse_msgs.specs.Fields.{zeros}
 use Rattle.fuse_msgs.specs.Locks.{lock_type}
 
 -- a file has mode 0100644, the root 040755

@@ -1,6 +1,6 @@
 //! Requests from bytes.
 
-ghost use Rattle.std.specs.Prelude.{◌≡◌, ◌⊎◌, List, IfOk, IfErr, Ok, Err, Some};
+ghost use Rattle.std.specs.Prelude.{◌≡◌, ◌⊎◌, IfOk, IfErr, Ok, Err, Some};
 ghost use Rattle.fuse_msgs.specs.declared.fault.BadMessage.{BadMessage};
 ghost use Rattle.fuse_msgs.specs.declared.fault.BadMessage.TheVariants as bad;
 ghost use Rattle.fuse_msgs.specs.declared.request.Request.{Request};

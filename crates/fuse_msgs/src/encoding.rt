@@ -6,8 +6,7 @@ ghost use Rattle.fuse_msgs.specs.Reply.{IsReply, reply_bytes, reply_body, out_me
 use crate::init_reply::put_init;
 use crate::reply::Reply;
 use crate::reply_body::{put_attr_out, put_entry, put_lock, put_open, put_written};
-use crate::writing::{u32_bytes, u64_bytes};
-use lf_base::NoMemory;
+use lf_base::{NoMemory, le32_bytes, le64_bytes};
 use std::alloc::Global;
 
 /// The size of a `fuse_out_header`.
@@ -63,9 +62,9 @@ fn append(out: &mut Vec<u8>, error: u32, unique: u64, body: &[u8]) -> Result<(),
 {
     let len = HEADER + body.len();
     out.reserve(len)?;
-    put(out, &u32_bytes(len as u32));
-    put(out, &u32_bytes(error));
-    put(out, &u64_bytes(unique));
+    put(out, &le32_bytes(len as u32));
+    put(out, &le32_bytes(error));
+    put(out, &le64_bytes(unique));
     put(out, body);
     Ok(())
 }

@@ -1,6 +1,6 @@
 //! The flags of a message, and the sizes of bodies.
 
-ghost use Rattle.std.specs.Prelude.{◌≡◌, ◌+◌, ◌<◌, ◌≤◌, ◌==◌, ◌≢◌, length, OnOk, OnErr, IsErrOf};
+ghost use Rattle.std.specs.Prelude.{◌≡◌, ◌<◌, ◌≢◌, length, OnOk, OnErr, IsErrOf};
 ghost use Rattle.fuse_msgs.specs.Fields.{is_set, given};
 
 use crate::fault::BodyFault;

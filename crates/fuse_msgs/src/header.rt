@@ -1,6 +1,6 @@
 //! The head of a request: `fuse_in_header` of fuse.h.
 
-ghost use Rattle.std.specs.Prelude.{◌≡◌, ◌≤◌, length, IfOk, IfErr};
+ghost use Rattle.std.specs.Prelude.{◌≡◌, IfOk, IfErr};
 ghost use Rattle.fuse_msgs.specs.Message.{is_length};
 ghost use Rattle.fuse_msgs.specs.steps.Reading.{HasHeader, LacksHeader};
 

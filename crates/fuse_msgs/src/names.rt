@@ -1,6 +1,6 @@
 //! LOOKUP, UNLINK and CREATE.
 
-ghost use Rattle.std.specs.Prelude.{◌≡◌, length, IfOk, IfErr};
+ghost use Rattle.std.specs.Prelude.{◌≡◌, IfOk, IfErr};
 ghost use Rattle.fuse_msgs.specs.declared.opcode.Opcode.TheVariants as opcode;
 ghost use Rattle.fuse_msgs.specs.Names.{is_name, IsTerminatedName};
 ghost use Rattle.fuse_msgs.specs.steps.Reading.{LacksName};

@@ -1,7 +1,7 @@
 //! The bodies of replies, as fuse.h lays them out.
 
-ghost use Rattle.std.specs.Prelude.{◌≡◌, ◌++◌, IfOk, OnOk};
-ghost use Rattle.fuse_msgs.specs.Reply.{attr, entry_out, attr_out, open_out, write_out, init_out, lk_out, mode_of};
+ghost use Rattle.std.specs.Prelude.{◌≡◌, ◌++◌, OnOk};
+ghost use Rattle.fuse_msgs.specs.Reply.{attr, entry_out, attr_out, open_out, write_out, lk_out, mode_of};
 ghost use Rattle.fuse_msgs.specs.Locks.{lock_type};
 
 use crate::request::LockWish;

@@ -1,32 +1,32 @@
 //! The numbers of a reply, little-endian.
 
-ghost use Rattle.std.specs.Prelude.{◌≡◌, ◌≤◌, ◌++◌, length, OnOk};
-ghost use Rattle.fuse_msgs.specs.Fields.{le16, le32, le64, zeros};
+ghost use Rattle.std.specs.Prelude.{◌≡◌, ◌≤◌, ◌++◌, OnOk};
+ghost use Rattle.lf_base.specs.Endian.{le16, le32, le64};
+ghost use Rattle.fuse_msgs.specs.Fields.{zeros};
 
-use lf_base::NoMemory;
+use lf_base::{NoMemory, le16_bytes, le32_bytes, le64_bytes};
 
 /// The longest run of zero bytes that a reply has.
 const ZEROS: [u8; 36] = [0; 36];
 
-#[tactic(auto, unfolding(crate::specs::Fields::le16))]
 pub fn put_u16(out: &mut Vec<u8>, number: u16) -> Result<(), NoMemory>
     ensures { OnOk result (out.new.items ≡ out.old.items ++ le16 number) }
 {
-    out.extend_from_slice(&number.to_le_bytes())?;
+    out.extend_from_slice(&le16_bytes(number))?;
     Ok(())
 }
 
 pub fn put_u32(out: &mut Vec<u8>, number: u32) -> Result<(), NoMemory>
     ensures { OnOk result (out.new.items ≡ out.old.items ++ le32 number) }
 {
-    out.extend_from_slice(&u32_bytes(number))?;
+    out.extend_from_slice(&le32_bytes(number))?;
     Ok(())
 }
 
 pub fn put_u64(out: &mut Vec<u8>, number: u64) -> Result<(), NoMemory>
     ensures { OnOk result (out.new.items ≡ out.old.items ++ le64 number) }
 {
-    out.extend_from_slice(&u64_bytes(number))?;
+    out.extend_from_slice(&le64_bytes(number))?;
     Ok(())
 }
 
@@ -44,20 +44,4 @@ fn zero_bytes(count: usize) -> &'static [u8]
     ensures { result.now ≡ zeros count }
 {
     &ZEROS[..count]
-}
-
-#[tactic(auto, unfolding(crate::specs::Fields::le32))]
-pub fn u32_bytes(number: u32) -> [u8; 4]
-    ensures value { result ≡ le32 number }
-    ensures len { length (le32 number) ≡ 4 }
-{
-    number.to_le_bytes()
-}
-
-#[tactic(auto, unfolding(crate::specs::Fields::le64))]
-pub fn u64_bytes(number: u64) -> [u8; 8]
-    ensures value { result ≡ le64 number }
-    ensures len { length (le64 number) ≡ 8 }
-{
-    number.to_le_bytes()
 }

@@ -1,5 +1,5 @@
 //! The rollback journal as a file.
-ghost use Rattle.std.specs.Prelude.{◌≡◌, ◌+◌, ◌-◌, ◌<◌, ◌≤◌, ◌↔◌, [], length, Some, None, IsTrue, IsSome, IsNone, IfOk, IsOk, OnOk, OnErr};
+ghost use Rattle.std.specs.Prelude.{◌≡◌, ◌+◌, ◌<◌, ◌≤◌, ◌↔◌, [], length, Some, IsTrue, IsSome, IsNone, IfOk, IsOk, OnOk, OnErr};
 ghost use Rattle.std.specs.Option.{option_map};
 ghost use Rattle.lf_base.specs.FileBytes.{written, resized, Reads};
 ghost use Rattle.lf_sqlite_pages.specs.Blocks.{is_within, IsWithin};

@@ -1,9 +1,10 @@
 //! The header of a rollback journal (SQLite file format, section 3).
-ghost use Rattle.std.specs.Prelude.{◌≡◌, ◌+◌, ◌≤◌, length, true, take, nat_eq};
+ghost use Rattle.std.specs.Prelude.{◌≡◌, ◌≤◌, length, true, take, nat_eq};
 ghost use Rattle.std.specs.List.{starts_with};
 ghost use Rattle.lf_base.specs.FileBytes.{written};
 ghost use Rattle.journal_watch.specs.Journal.{magic, has_header};
 
+use lf_base::overwrite;
 use lf_sqlite_pages::Blocks;
 
 const MAGIC: [u8; 8] = [0xd9, 0xd5, 0x05, 0xf9, 0x20, 0xa1, 0x63, 0xd7];
@@ -34,14 +35,6 @@ pub fn has_header(file: &Blocks) -> bool
     file.len() >= HEADER_SIZE && begins_with_magic(&front_of(file))
 }
 
-/// Puts a piece in place of the bytes at a place of the first ones.
-fn replace(front: &mut [u8], at: usize, piece: &[u8])
-    requires { at + length piece.now ≤ length front.old }
-    ensures { front.new ≡ written at piece.now front.old }
-{
-    front[at..at + piece.len()].copy_from_slice(piece);
-}
-
 /// The first eight bytes of a file as a write would leave them.
 fn front_after_write(file: &Blocks, at: u64, bytes: &[u8]) -> [u8; 8]
     requires { 8 ≤ length file.now.bytes }
@@ -51,7 +44,7 @@ fn front_after_write(file: &Blocks, at: u64, bytes: &[u8]) -> [u8; 8]
     if at < 8 {
         let at = at as usize;
         let (reached, _) = bytes.split_at(bytes.len().min(8 - at));
-        replace(&mut front, at, reached);
+        overwrite(&mut front, at, reached);
     }
     front
 }

@@ -1,6 +1,6 @@
--- Numbers of two, four and eight bytes at places of a list of bytes, in both byte orders.
+-- Numbers of two, four and eight bytes: at places of a list of bytes in both byte orders, and as little-endian bytes.
 use Rattle.std.specs.Prelude.{ℕ, List, take, drop}
-use Rattle.std.specs.Int.{w16, w32, w64, from_be_bytes, from_le_bytes}
+use Rattle.std.specs.Int.{w16, w32, w64, from_be_bytes, from_le_bytes, to_le_bytes}
 
 -- the big-endian number of the two bytes from a place on
 unfoldable pub be16_at : ℕ → List ℕ → ℕ
@@ -25,3 +25,15 @@ le32_at place bytes = from_le_bytes w32 (take 4 (drop place bytes))
 -- of the eight bytes
 unfoldable pub le64_at : ℕ → List ℕ → ℕ
 le64_at place bytes = from_le_bytes w64 (take 8 (drop place bytes))
+
+-- the two bytes of a number, the lowest first
+unfoldable pub le16 : ℕ → List ℕ
+le16 n = to_le_bytes w16 n
+
+-- the four bytes
+unfoldable pub le32 : ℕ → List ℕ
+le32 n = to_le_bytes w32 n
+
+-- the eight bytes
+unfoldable pub le64 : ℕ → List ℕ
+le64 n = to_le_bytes w64 n

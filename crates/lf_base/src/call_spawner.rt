@@ -1,4 +1,4 @@
-ghost use Rattle.std.specs.Prelude.{◌≡◌, ◌==◌, ◌↔◌, not, true, IfOk, IsOk, Contains};
+ghost use Rattle.std.specs.Prelude.{◌≡◌, ◌==◌, not, true, IfOk, IsOk, Contains};
 ghost use Rattle.lf_base.specs.Faults.{one_more, Rose};
 ghost use Rattle.lf_base.specs.Starts.{CountsRefusal, IsAsSaid};
 

@@ -1,6 +1,7 @@
-//! Numbers of two, four and eight bytes at places of a list of bytes, in both byte orders.
+//! Numbers of two, four and eight bytes: read at places of a list of bytes in both byte orders, and as
+//! little-endian bytes.
 ghost use Rattle.std.specs.Prelude.{◌≡◌, ◌+◌, ◌≤◌, length};
-ghost use Rattle.lf_base.specs.Endian.{be16_at, be32_at, be64_at, le16_at, le32_at, le64_at};
+ghost use Rattle.lf_base.specs.Endian.{be16_at, be32_at, be64_at, le16_at, le32_at, le64_at, le16, le32, le64};
 
 /// The big-endian number of the two bytes from `place` on.
 #[tactic(auto, unfolding(crate::specs::Endian::be16_at))]
@@ -70,4 +71,31 @@ pub fn le64_at(bytes: &[u8], place: usize) -> u64
     u64::from_le_bytes([
         field[0], field[1], field[2], field[3], field[4], field[5], field[6], field[7],
     ])
+}
+
+/// The two bytes of a number, the lowest first.
+#[tactic(auto, unfolding(crate::specs::Endian::le16))]
+pub fn le16_bytes(number: u16) -> [u8; 2]
+    ensures value { result ≡ le16 number }
+    ensures len { length (le16 number) ≡ 2 }
+{
+    number.to_le_bytes()
+}
+
+/// The four bytes of a number, the lowest first.
+#[tactic(auto, unfolding(crate::specs::Endian::le32))]
+pub fn le32_bytes(number: u32) -> [u8; 4]
+    ensures value { result ≡ le32 number }
+    ensures len { length (le32 number) ≡ 4 }
+{
+    number.to_le_bytes()
+}
+
+/// The eight bytes of a number, the lowest first.
+#[tactic(auto, unfolding(crate::specs::Endian::le64))]
+pub fn le64_bytes(number: u64) -> [u8; 8]
+    ensures value { result ≡ le64 number }
+    ensures len { length (le64 number) ≡ 8 }
+{
+    number.to_le_bytes()
 }

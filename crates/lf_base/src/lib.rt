@@ -14,6 +14,7 @@ mod dialer;
 mod digits;
 mod endian;
 mod errno;
+mod file_bytes;
 mod gate;
 mod handles;
 mod link;
@@ -48,8 +49,11 @@ pub use clock::{Clock, FixedClock};
 pub use closing::Closing;
 pub use dialer::Dialer;
 pub use digits::{hex16, read_hex16};
-pub use endian::{be16_at, be32_at, be64_at, le16_at, le32_at, le64_at};
+pub use endian::{
+    be16_at, be32_at, be64_at, le16_at, le16_bytes, le32_at, le32_bytes, le64_at, le64_bytes,
+};
 pub use errno::Errno;
+pub use file_bytes::overwrite;
 pub use gate::Gate;
 pub use handles::Handles;
 pub use link::Link;

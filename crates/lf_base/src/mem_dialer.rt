@@ -1,4 +1,4 @@
-ghost use Rattle.std.specs.Prelude.{◌≡◌, ◌==◌, ◌↔◌, not, ◌<◌, ◌≤◌, ◌+◌, ◌⊎◌, ◌∷◌, ◌++◌, [], nat_lt, if◌then◌else◌, length, Some, None, Option, All, IfOk, IsErr, IfSome, IfNone, IsNone, MatchResult, MatchBool, Contains};
+ghost use Rattle.std.specs.Prelude.{◌≡◌, ◌==◌, ◌↔◌, not, ◌≤◌, ◌∷◌, [], Some, None, All, IfOk, IsErr, IfSome, IfNone, IsNone, MatchResult, MatchBool};
 ghost use Rattle.lf_base.specs.Faults.{CountsFaults, Rose, one_more};
 ghost use Rattle.lf_base.specs.Dials.{TellsSame, TellsMore, TellsNone, IsFailed, IsHungUp};
 ghost use Rattle.lf_base.specs.Doors.{IsUnused, FailsDial, dials_of, noted};

@@ -1,5 +1,5 @@
 //! A link in memory, and a second view of what it took.
-ghost use Rattle.std.specs.Prelude.{◌≡◌, ◌<◌, ◌≤◌, ◌+◌, ◌⊎◌, ◌++◌, [], ◌↔◌, length, min, take, drop, not, ◌==◌, IsTrue, IfOk, IsErr, Contains, Some};
+ghost use Rattle.std.specs.Prelude.{◌≡◌, ◌<◌, ◌≤◌, ◌+◌, ◌⊎◌, ◌++◌, [], ◌↔◌, length, min, take, not, ◌==◌, IsTrue, IfOk, IsErr, Contains, Some};
 ghost use Rattle.std.specs.Io.{ReadsAtMost, WritesAtMost};
 ghost use Rattle.std.specs.Io.KnownBytes.{ReadConsumes, WriteAppends, Keeps};
 ghost use Rattle.lf_base.specs.Faults.{CountsFaults, Rose, one_more};

@@ -1,4 +1,4 @@
-ghost use Rattle.std.specs.Prelude.{◌≡◌, IfOk, IfErr, IfSome, IfNone, length, ◌<◌, ◌↔◌, IsTrue, IsFalse, slice_index};
+ghost use Rattle.std.specs.Prelude.{◌≡◌, IfOk, IfErr, IfSome, IfNone, length, ◌<◌, IsFalse, slice_index};
 ghost use Rattle.lf_base.specs.Name.{IsName, BreaksName, HasNameBytes, is_name_byte as may_stand, has_ending as ends_as_file};
 
 use crate::memory::NoMemory;

@@ -16,7 +16,8 @@ pub struct PollingStream {
 }
 
 impl PollingStream {
-    /// Where the system refuses, the stream waits at once.
+    /// Where the system refuses, the stream waits at once. No clause: it changes the mode of the socket
+    /// alone, of which no contract knows.
     pub fn new(stream: UnixStream) -> PollingStream {
         let _ = stream.set_nonblocking(true);
         PollingStream { stream }

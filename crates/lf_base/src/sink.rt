@@ -1,4 +1,4 @@
-ghost use Rattle.std.specs.Prelude.{◌≡◌, ◌<◌, List, ℕ, Option, length, IfOk};
+ghost use Rattle.std.specs.Prelude.{◌<◌, List, ℕ, Option, length, IfOk};
 ghost use Rattle.std.specs.Io.{WritesAtMost};
 ghost use Rattle.std.specs.Io.KnownBytes.{WriteAppends};
 ghost use Rattle.lf_base.specs.Faults.{CountsFaults};

@@ -83,6 +83,22 @@ fn numbers_at_places(rt: HostRuntime) {
     assert_eq!(rt; le64_at(&bytes, 1), 0x0807_0605_0403_0201);
 }
 
+#[test]
+fn numbers_as_little_endian_bytes(rt: HostRuntime) {
+    assert_eq!(rt; le16_bytes(0x0102), [2, 1]);
+    assert_eq!(rt; le32_bytes(0x0102_0304), [4, 3, 2, 1]);
+    assert_eq!(rt; le64_bytes(0x0102_0304_0506_0708), [8, 7, 6, 5, 4, 3, 2, 1]);
+}
+
+#[test]
+fn bytes_are_written_over(rt: HostRuntime) {
+    let mut bytes = [1, 2, 3, 4, 5];
+    overwrite(&mut bytes, 1, &[8, 9]);
+    assert_eq!(rt; bytes, [1, 8, 9, 4, 5]);
+    overwrite(&mut bytes, 5, &[]);
+    assert_eq!(rt; bytes, [1, 8, 9, 4, 5]);
+}
+
 /// The second of three reads fails, and loses nothing.
 #[test]
 fn a_source_fails_in_mid_stream(rt: HostRuntime) -> Result<(), Fail> {

@@ -1,19 +1,11 @@
 -- The index of a log that has no frames, which the `-shm` file begins with (SQLite, WAL-index format, sections 2.1 and 2.2).
 -- SQLite writes it in the byte order of the machine, which is little-endian here.
 use Rattle.std.specs.Prelude.{ℕ, ◌+◌, ◌%◌, ◌^◌, Bool, true, ◌==◌, ◌&&◌, max, Some, List, [], ◌∷◌, ◌++◌, take, drop, replicate, if◌then◌else◌}
-use Rattle.std.specs.Int.{w16, w32, to_le_bytes}
 use Rattle.std.specs.Str.{bytes_eq}
-use Rattle.lf_base.specs.Endian.{le32_at}
+use Rattle.lf_base.specs.Endian.{le32_at, le16, le32}
 use Rattle.lf_base.specs.FileBytes.{written}
 use Rattle.wal_watch.specs.Sums.{no_sums, with_pairs}
 use Rattle.shm_index.specs.Shared.{Shared, bytes_of, with_bytes, has_index}
-
--- numbers of two and four bytes, the lowest first
-unfoldable pub le16 : ℕ → List ℕ
-le16 n = to_le_bytes w16 n
-
-unfoldable pub le32 : ℕ → List ℕ
-le32 n = to_le_bytes w32 n
 
 -- a page size in two bytes: 65,536 is 1
 abbrev pub stated_size : ℕ → ℕ

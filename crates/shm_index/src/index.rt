@@ -2,7 +2,7 @@
 ghost use Rattle.std.specs.Prelude.{◌≡◌, ◌+◌, ◌≤◌, length, true};
 ghost use Rattle.lf_base.specs.Endian.{le32_at};
 ghost use Rattle.shm_index.specs.Shared.{bytes_of, with_bytes, has_index};
-ghost use Rattle.shm_index.specs.Index.{index_rest, next_change, with_fields, with_index, without_header, names_log};
+ghost use Rattle.shm_index.specs.Index.{next_change, with_fields, with_index, without_header, names_log};
 
 use crate::file::{INDEX_SIZE, SharedMemory};
 use crate::header::{index_fields, sums_bytes};

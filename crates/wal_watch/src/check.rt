@@ -1,6 +1,5 @@
 //! What stands against a write, memory aside.
-ghost use Rattle.std.specs.Prelude.{◌≡◌, ◌≢◌, ◌+◌, ◌≤◌, ◌<◌, ◌↔◌, ◌⊎◌, ◌^◌, true, false, length, take, Err, IsTrue, IfNone, IfSome, OnSome, IfOk, OnOk, IfErr};
-ghost use Rattle.std.specs.Bool.{OnTrue, OnFalse};
+ghost use Rattle.std.specs.Prelude.{◌≡◌, ◌≢◌, ◌+◌, ◌≤◌, ◌↔◌, true, false, length, take, Err, IsTrue, IfNone, IfSome, OnSome, IfOk, OnOk, IfErr};
 ghost use Rattle.lf_base.specs.FileBytes.{written};
 ghost use Rattle.wal_watch.specs.Frames.{is_header, page_size_in, committed_count, committed_end};
 ghost use Rattle.wal_watch.specs.News.{first_new};
@@ -9,19 +8,11 @@ ghost use Rattle.wal_watch.specs.Refusals.{wal_limit, BreaksHeader, IsSoundWrite
 use crate::fault::WalFault;
 use crate::header::{HEADER_LENGTH, is_header};
 use crate::reader::fill;
-use lf_base::be32_at;
+use lf_base::{be32_at, overwrite};
 use lf_sqlite_pages::Blocks;
 
 /// The greatest length of the file in bytes.
 pub const WAL_LIMIT: u64 = 268_435_456;
-
-/// Puts a piece in place of the bytes at a place.
-fn replace(front: &mut [u8], at: usize, piece: &[u8])
-    requires { at + length piece.now ≤ length front.old }
-    ensures { front.new ≡ written at piece.now front.old }
-{
-    front[at..at + piece.len()].copy_from_slice(piece);
-}
 
 /// Puts the first 32 bytes after a write into `header`.
 fn fill_header(contents: &Blocks, at: usize, bytes: &[u8], header: &mut [u8])
@@ -32,7 +23,7 @@ fn fill_header(contents: &Blocks, at: usize, bytes: &[u8], header: &mut [u8])
     fill(contents, 0, header);
     if at < HEADER_LENGTH {
         let (piece, _) = bytes.split_at(bytes.len().min(HEADER_LENGTH - at));
-        replace(header, at, piece);
+        overwrite(header, at, piece);
     }
 }
 

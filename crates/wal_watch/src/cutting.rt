@@ -1,8 +1,8 @@
 //! A file cut, or made longer with zeros.
-ghost use Rattle.std.specs.Prelude.{◌≡◌, ◌≢◌, ◌≤◌, ◌<◌, ◌↔◌, Some, length, IsSome, IsTrue, IfOk, OnOk, OnErr, IfErr, IfSome};
+ghost use Rattle.std.specs.Prelude.{◌≡◌, ◌≢◌, ◌≤◌, ◌<◌, ◌↔◌, IsSome, IsTrue, IfOk, OnOk, OnErr, IfErr, IfSome};
 ghost use Rattle.lf_base.specs.FileBytes.{resized};
 ghost use Rattle.wal_watch.specs.File.{contents_of, after_cut};
-ghost use Rattle.wal_watch.specs.Frames.{committed_count, committed_end};
+ghost use Rattle.wal_watch.specs.Frames.{committed_end};
 ghost use Rattle.wal_watch.specs.Indexing.{AreShared};
 ghost use Rattle.wal_watch.specs.Refusals.{wal_limit, IsSoundCut, IsCutFault};
 ghost use Rattle.wal_watch.specs.Scanning.{AreMarks, IsMarked};

@@ -1,9 +1,8 @@
 //! The write-ahead log as a file.
-ghost use Rattle.std.specs.Prelude.{◌≡◌, ◌+◌, ◌-◌, ◌≤◌, ◌<◌, ◌↔◌, ◌^◌, Option, None, Some, Err, [], length, take, IsTrue, IsSome, IsOk, IfSome, OnOk, OnErr};
-ghost use Rattle.lf_base.specs.FileBytes.{written, resized};
+ghost use Rattle.std.specs.Prelude.{◌≡◌, ◌+◌, ◌≤◌, ◌<◌, ◌↔◌, None, Err, [], length, IsTrue, IsSome, IsOk, IfSome, OnOk, OnErr};
+ghost use Rattle.lf_base.specs.FileBytes.{written};
 ghost use Rattle.lf_sqlite_pages.specs.Blocks.{is_within, IsWithin};
-ghost use Rattle.wal_watch.specs.File.{no_wal, contents_of, with_room, after_write, undone, with_contents};
-ghost use Rattle.wal_watch.specs.Frames.{committed_count, committed_end};
+ghost use Rattle.wal_watch.specs.File.{no_wal, with_room, after_write, undone, with_contents};
 ghost use Rattle.wal_watch.specs.Indexing.{AreShared};
 ghost use Rattle.wal_watch.specs.Refusals.{wal_limit};
 ghost use Rattle.wal_watch.specs.Scanning.{AreMarks, IsMarked};

@@ -1,6 +1,6 @@
 //! The frames that hold a page. Those that the index lacks are found by walking over them.
 ghost use Rattle.std.specs.Prelude.{◌≡◌, ◌+◌, ◌≤◌, ◌<◌, ◌^◌, length, IfSome, IsTrue, ◌↔◌};
-ghost use Rattle.wal_watch.specs.Frames.{frame_place, number_in, page_size_in, committed_count, size_in};
+ghost use Rattle.wal_watch.specs.Frames.{frame_place, number_in, page_size_in, committed_count};
 ghost use Rattle.wal_watch.specs.Indexing.{indexed, IsIndex};
 ghost use Rattle.wal_watch.specs.News.{latest_frame, HoldsFrame, HasSize};
 

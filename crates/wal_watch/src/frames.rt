@@ -1,7 +1,6 @@
 //! The frames of a write-ahead log, counted from 0 (SQLite file format, section 4.1).
 ghost use Rattle.std.specs.Prelude.{◌≡◌, ◌+◌, ◌≤◌, ◌<◌, ◌^◌, length, IsTrue, ◌↔◌};
-ghost use Rattle.wal_watch.specs.Frames.{frame_place, number_in, size_in, page_in, page_size_in, committed_count};
-ghost use Rattle.wal_watch.specs.News.{latest_frame, HoldsFrame};
+ghost use Rattle.wal_watch.specs.Frames.{frame_place, number_in, size_in, page_in, page_size_in};
 
 use crate::header::HEADER_LENGTH;
 use crate::reader::{fill, number_at};

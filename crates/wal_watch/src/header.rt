@@ -2,7 +2,7 @@
 ghost use Rattle.std.specs.Prelude.{◌≡◌, ◌≤◌, length, true};
 ghost use Rattle.std.specs.Bool.{OnTrue};
 ghost use Rattle.lf_sqlite_pages.specs.PageSize.{IsPageSize};
-ghost use Rattle.wal_watch.specs.Frames.{is_header, is_little, is_big, header_sums, page_size_in};
+ghost use Rattle.wal_watch.specs.Frames.{is_header, is_little, header_sums, page_size_in};
 ghost use Rattle.wal_watch.specs.Scanning.{StatesHeader};
 
 use crate::sums::{Sums, stand_at, with_pairs};

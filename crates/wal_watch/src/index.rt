@@ -1,6 +1,5 @@
 //! Where the committed frames of each page stand, so that none has to be looked for.
-ghost use Rattle.std.specs.Prelude.{◌≡◌, ◌+◌, ◌≤◌, ◌<◌, ◌^◌, List, ℕ, Option, length, nat_eq, min, if◌then◌else◌};
-ghost use Rattle.std.specs.HashMap.{get};
+ghost use Rattle.std.specs.Prelude.{◌≡◌, ◌+◌, ◌≤◌, ◌<◌, ◌^◌, List, ℕ, length, min, if◌then◌else◌};
 ghost use Rattle.wal_watch.specs.Frames.{number_in, page_size_in, committed_count};
 ghost use Rattle.wal_watch.specs.Indexing.{indexed, IsIndex};
 ghost use Rattle.wal_watch.specs.News.{latest_frame};

@@ -1,5 +1,5 @@
 //! Bytes read out of a file for a scan: behind its end there are zeros.
-ghost use Rattle.std.specs.Prelude.{◌≡◌, ◌+◌, ◌*◌, ◌≤◌, ◌<◌, ◌^◌, ℕ, length, take, drop};
+ghost use Rattle.std.specs.Prelude.{◌≡◌, ◌+◌, ◌≤◌, ℕ, length, take, drop};
 ghost use Rattle.lf_base.specs.FileBytes.{resized};
 ghost use Rattle.lf_base.specs.Endian.{be32_at};
 

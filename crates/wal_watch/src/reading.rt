@@ -1,9 +1,9 @@
 //! What a file tells: its bytes, and its committed frames. None of these takes memory.
-ghost use Rattle.std.specs.Prelude.{◌≡◌, ◌+◌, ◌-◌, ◌≤◌, ◌<◌, ◌↔◌, ◌^◌, ℕ, length, IsTrue, IsSome, IfSome, IfNone, Some, None};
+ghost use Rattle.std.specs.Prelude.{◌≡◌, ◌+◌, ◌≤◌, ◌<◌, ◌↔◌, length, IsTrue, IsSome, IfSome, IfNone};
 ghost use Rattle.std.specs.Option.{option_map};
 ghost use Rattle.lf_base.specs.FileBytes.{Reads};
 ghost use Rattle.wal_watch.specs.File.{contents_of};
-ghost use Rattle.wal_watch.specs.Frames.{frame_place, committed_count, committed_end, page_size_in, size_in};
+ghost use Rattle.wal_watch.specs.Frames.{frame_place, committed_count, committed_end, page_size_in};
 ghost use Rattle.wal_watch.specs.News.{HoldsFrame, HasSize, last_size, latest_frame, latest_page};
 
 use crate::file::WalFile;

@@ -1,5 +1,5 @@
 //! A scan over the frames of a write-ahead log, which goes on where an earlier one stopped.
-ghost use Rattle.std.specs.Prelude.{◌≡◌, ◌+◌, ◌-◌, ◌*◌, ◌/◌, ◌≤◌, ◌<◌, ◌^◌, ℕ, List, true, false, length, take, drop, IfNone, IfSome, OnSome};
+ghost use Rattle.std.specs.Prelude.{◌≡◌, ◌+◌, ◌≤◌, ◌<◌, ◌^◌, ℕ, List, false, length, take, drop, IfNone, IfSome, OnSome};
 ghost use Rattle.lf_base.specs.FileBytes.{resized};
 ghost use Rattle.wal_watch.specs.Frames.{is_header, is_head, is_frame_at, frame_sums, page_size_in, committed_count, committed_end};
 ghost use Rattle.wal_watch.specs.Scanning.{StatesHeader, AreMarks, AreFinal, IsMarked, IsNextFrame};

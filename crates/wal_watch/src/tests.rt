@@ -1,23 +1,21 @@
 ghost use Rattle.std.specs.Prelude.{IsSome};
 
+mod fields;
+mod frames;
 mod logs;
+mod pages;
 mod rows;
 
-use crate::tests::logs::{BIG_ENDIAN_LOGS, LOGS, Log, Runs};
+use crate::tests::logs::{LOGS, Log};
 use crate::{WalFault, WalFile, WalNews};
 use std::alloc::{AllocError, Global};
 use std::process::Abort;
 use std::test::Fail;
 
-/// The bytes that runs tell.
-fn contents_of(alloc: Global, length: usize, runs: Runs) -> Result<Vec<u8>, AllocError> {
-    let mut contents = Vec::new(alloc);
-    for (place, bytes) in runs {
-        contents.resize(*place, 0)?;
-        contents.extend_from_slice(bytes)?;
-    }
-    contents.resize(length, 0)?;
-    Ok(contents)
+fn zeros(alloc: Global, size: usize) -> Result<Vec<u8>, AllocError> {
+    let mut bytes = Vec::new(alloc);
+    bytes.resize(size, 0)?;
+    Ok(bytes)
 }
 
 /// A file without bytes.
@@ -43,22 +41,22 @@ fn puts_latest(wal: &WalFile, number: u32, out: &mut [u8]) -> bool {
 }
 
 fn reads_back(rt: &impl Abort, alloc: Global, log: &Log) -> Result<(), Fail> {
-    let contents = contents_of(alloc, log.length, log.runs)?;
+    let contents = log.bytes(alloc)?;
+    let (first, second) = log.pages(alloc)?;
     let mut wal = empty(alloc);
     assert_eq!(rt;
         told(&wal.write(log.page_size, 0, contents.as_slice())?),
         (2, 2)
     );
     assert_eq!(rt; wal.committed_end(), log.length as u64);
-    for (number, other, runs) in [(1, 2, log.pages[0]), (2, 1, log.pages[1])] {
-        let page = contents_of(alloc, log.page_size as usize, runs)?;
-        let mut out = contents_of(alloc, log.page_size as usize, &[])?;
+    for (number, other, page) in [(1, 2, &first), (2, 1, &second)] {
+        let mut out = zeros(alloc, log.page_size as usize)?;
         assert!(rt; puts_latest(&wal, number, out.as_mut_slice()));
         assert!(rt; out.as_slice() == page.as_slice());
         assert!(rt; wal.has_frame(number, page.as_slice()));
         assert!(rt; !wal.has_frame(other, page.as_slice()));
     }
-    let mut out = contents_of(alloc, log.page_size as usize, &[])?;
+    let mut out = zeros(alloc, log.page_size as usize)?;
     assert!(rt; !puts_latest(&wal, 3, out.as_mut_slice()));
     assert_eq!(rt; (wal.committed_frames() > 0, wal.last_size()), (true, 2));
     assert!(rt; wal.has_size(2) && !wal.has_size(9));
@@ -70,9 +68,6 @@ fn logs_of_sqlite_read_back(rt: HostRuntime) -> Result<(), Fail> {
     for log in LOGS {
         reads_back(&rt, rt.alloc(), log)?;
     }
-    for log in BIG_ENDIAN_LOGS {
-        reads_back(&rt, rt.alloc(), log)?;
-    }
     Ok(())
 }
 
@@ -80,7 +75,7 @@ fn logs_of_sqlite_read_back(rt: HostRuntime) -> Result<(), Fail> {
 #[test]
 fn every_prefix_commits_its_whole_transactions(rt: HostRuntime) -> Result<(), Fail> {
     let alloc = rt.alloc();
-    let contents = contents_of(alloc, LOGS[0].length, LOGS[0].runs)?;
+    let contents = LOGS[0].bytes(alloc)?;
     for length in 0..=contents.len() {
         let (prefix, _) = contents.as_slice().split_at(length);
         let mut wal = empty(alloc);

@@ -1,8 +1,7 @@
 //! What a write tells, and when it is refused.
-ghost use Rattle.std.specs.Prelude.{◌≡◌, ◌≢◌, ◌+◌, ◌≤◌, ◌<◌, ◌↔◌, Err, length, take, IsTrue, IsSome, OnOk, OnErr, IfOk, IfErr};
+ghost use Rattle.std.specs.Prelude.{◌≡◌, ◌≢◌, ◌+◌, ◌≤◌, ◌↔◌, Err, length, take, IsTrue, IsSome, OnOk, OnErr, IfOk, IfErr};
 ghost use Rattle.lf_base.specs.FileBytes.{written};
 ghost use Rattle.wal_watch.specs.File.{contents_of, after_write, with_room, IsUnchanged};
-ghost use Rattle.wal_watch.specs.Frames.{committed_count, committed_end};
 ghost use Rattle.wal_watch.specs.News.{news_change, change_from, change_between, first_new};
 ghost use Rattle.wal_watch.specs.Refusals.{wal_limit, IsSoundWrite, IsWriteFault, KeepsCommitted};
 

@@ -1,83 +1,15 @@
-//! Single writes and whole transactions at page size 4,096. The sums were computed apart from this
-//! crate, by the rule of the file format.
+//! Single writes and whole transactions at page size 4,096.
 ghost use Rattle.std.specs.Prelude.{IfOk, IsSome};
 
+use crate::tests::fields::Head;
+use crate::tests::frames::{
+    AGAIN, ALONE, FOURTH, HEADER, NEWER_HEADER, NEXT_HEADER, NONE, SALTED, SALTS, SHRINK,
+    SMALL_HEADER, THIRD, ZEROS,
+};
 use crate::tests::{empty, told};
 use crate::{WalFault, WalFile};
 use std::alloc::{AllocError, Global};
 use std::test::Fail;
-
-/// Page size 4,096, salts 11223344 and 55667788.
-const HEADER: [u8; 32] = [
-    0x37, 0x7f, 0x06, 0x82, 0x00, 0x2d, 0xe2, 0x18, 0x00, 0x00, 0x10, 0x00, 0x00, 0x00, 0x00, 0x00,
-    0x11, 0x22, 0x33, 0x44, 0x55, 0x66, 0x77, 0x88, 0x19, 0x1a, 0x25, 0x24, 0x59, 0x79, 0x63, 0x1e,
-];
-
-/// The header of the next generation.
-const NEXT_HEADER: [u8; 32] = [
-    0x37, 0x7f, 0x06, 0x82, 0x00, 0x2d, 0xe2, 0x18, 0x00, 0x00, 0x10, 0x00, 0x00, 0x00, 0x00, 0x01,
-    0x11, 0x22, 0x33, 0x45, 0x99, 0xaa, 0xbb, 0xcc, 0x1b, 0x1a, 0x25, 0x24, 0xa0, 0xbd, 0xa7, 0x62,
-];
-
-/// The header with version 3007001.
-const NEWER_HEADER: [u8; 32] = [
-    0x37, 0x7f, 0x06, 0x82, 0x00, 0x2d, 0xe2, 0x19, 0x00, 0x00, 0x10, 0x00, 0x00, 0x00, 0x00, 0x00,
-    0x11, 0x22, 0x33, 0x44, 0x55, 0x66, 0x77, 0x88, 0x1c, 0x1a, 0x25, 0x24, 0x5e, 0x79, 0x63, 0x1e,
-];
-
-/// The header with page size 512.
-const SMALL_HEADER: [u8; 32] = [
-    0x37, 0x7f, 0x06, 0x82, 0x00, 0x2d, 0xe2, 0x18, 0x00, 0x00, 0x02, 0x00, 0x00, 0x00, 0x00, 0x00,
-    0x11, 0x22, 0x33, 0x44, 0x55, 0x66, 0x77, 0x88, 0x18, 0xfe, 0x25, 0x24, 0x59, 0x4f, 0x63, 0x1e,
-];
-
-/// The head of a frame of page 3, which commits nothing; its page is of bytes 3.
-const THIRD: [u8; 24] = [
-    0x00, 0x00, 0x00, 0x03, 0x00, 0x00, 0x00, 0x00, 0x11, 0x22, 0x33, 0x44, 0x55, 0x66, 0x77, 0x88,
-    0xdb, 0xb6, 0x2c, 0xb8, 0x39, 0xa5, 0x7c, 0x1b,
-];
-
-/// The head of the frame of page 4 after it, which commits 100 pages; its page is of bytes 4.
-const FOURTH: [u8; 24] = [
-    0x00, 0x00, 0x00, 0x04, 0x00, 0x00, 0x00, 0x64, 0x11, 0x22, 0x33, 0x44, 0x55, 0x66, 0x77, 0x88,
-    0xf8, 0x3a, 0x3f, 0x90, 0xe9, 0xb3, 0xfc, 0xf3,
-];
-
-/// A third frame, of page 4 again, which commits nothing; its page is of bytes 5.
-const AGAIN: [u8; 24] = [
-    0x00, 0x00, 0x00, 0x04, 0x00, 0x00, 0x00, 0x00, 0x11, 0x22, 0x33, 0x44, 0x55, 0x66, 0x77, 0x88,
-    0xdd, 0x75, 0x29, 0x64, 0xac, 0xee, 0xb4, 0x42,
-];
-
-/// A fourth frame, of page 5, which commits 3 pages; its page is of bytes 6.
-const SHRINK: [u8; 24] = [
-    0x00, 0x00, 0x00, 0x05, 0x00, 0x00, 0x00, 0x03, 0x11, 0x22, 0x33, 0x44, 0x55, 0x66, 0x77, 0x88,
-    0x1c, 0x61, 0x2f, 0xac, 0x42, 0x97, 0x8e, 0x94,
-];
-
-/// The head of a first frame of page 1, which commits 1 page of zeros.
-const ZEROS: [u8; 24] = [
-    0x00, 0x00, 0x00, 0x01, 0x00, 0x00, 0x00, 0x01, 0x11, 0x22, 0x33, 0x44, 0x55, 0x66, 0x77, 0x88,
-    0xee, 0x2b, 0x95, 0x64, 0xca, 0xae, 0xa5, 0x16,
-];
-
-/// The head of a first frame of page 0.
-const NONE: [u8; 24] = [
-    0x00, 0x00, 0x00, 0x00, 0x00, 0x00, 0x00, 0x01, 0x11, 0x22, 0x33, 0x44, 0x55, 0x66, 0x77, 0x88,
-    0xbf, 0xb6, 0x2c, 0xb8, 0x4e, 0xa5, 0x7c, 0x1b,
-];
-
-/// The head of a first frame with other salts.
-const SALTED: [u8; 24] = [
-    0x00, 0x00, 0x00, 0x03, 0x00, 0x00, 0x00, 0x01, 0x11, 0x22, 0x33, 0x44, 0x55, 0x66, 0x77, 0x89,
-    0x16, 0xb6, 0x2c, 0xb8, 0x56, 0xa5, 0x7c, 0x1b,
-];
-
-/// A frame whose sums begin at the header, as if it were the first.
-const ALONE: [u8; 24] = [
-    0x00, 0x00, 0x00, 0x04, 0x00, 0x00, 0x00, 0x64, 0x11, 0x22, 0x33, 0x44, 0x55, 0x66, 0x77, 0x88,
-    0xa9, 0x8f, 0x09, 0xd4, 0xd9, 0xa2, 0x6e, 0x72,
-];
 
 /// A page that repeats a byte.
 fn page_of(alloc: Global, byte: u8) -> Result<Vec<u8>, AllocError> {
@@ -93,10 +25,10 @@ fn committed(alloc: Global) -> Result<WalFile, Fail>
     let threes = page_of(alloc, 3)?;
     let fours = page_of(alloc, 4)?;
     let mut wal = empty(alloc);
-    wal.write(4096, 0, &HEADER)?;
-    wal.write(4096, 32, &THIRD)?;
+    wal.write(4096, 0, &HEADER.bytes())?;
+    wal.write(4096, 32, &THIRD.bytes())?;
     wal.write(4096, 56, threes.as_slice())?;
-    wal.write(4096, 4152, &FOURTH)?;
+    wal.write(4096, 4152, &FOURTH.bytes())?;
     wal.write(4096, 4176, fours.as_slice())?;
     Ok(wal)
 }
@@ -111,25 +43,25 @@ fn frames_commit_in_pieces(rt: HostRuntime) -> Result<(), Fail> {
     let nines = page_of(rt.alloc(), 9)?;
     let mut wal = empty(rt.alloc());
     for (at, bytes, want, end) in [
-        (0, &HEADER[..], (0, 0), 0),
-        (32, &THIRD[..], (0, 0), 0),
+        (0, &HEADER.bytes()[..], (0, 0), 0),
+        (32, &THIRD.bytes()[..], (0, 0), 0),
         (56, threes.as_slice(), (0, 0), 0),
-        (4152, &FOURTH[..], (0, 0), 0),
+        (4152, &FOURTH.bytes()[..], (0, 0), 0),
         (4176, fours.as_slice(), (100, 2), 8272),
         // The same bytes again, over themselves and behind the end, commit nothing.
         (4176, fours.as_slice(), (0, 0), 8272),
-        (8272, &FOURTH[..], (0, 0), 8272),
+        (8272, &FOURTH.bytes()[..], (0, 0), 8272),
         (8296, fours.as_slice(), (0, 0), 8272),
         // A frame that isn't committed may be written over.
-        (8272, &AGAIN[..], (0, 0), 8272),
+        (8272, &AGAIN.bytes()[..], (0, 0), 8272),
         (8296, fives.as_slice(), (0, 0), 8272),
         (8296, nines.as_slice(), (0, 0), 8272),
         (8296, fives.as_slice(), (0, 0), 8272),
         // Pages 4 and 5 are past the 3 pages that this commit leaves.
-        (12392, &SHRINK[..], (0, 0), 8272),
+        (12392, &SHRINK.bytes()[..], (0, 0), 8272),
         (12416, sixes.as_slice(), (3, 0), 16512),
         // A header with other salts begins anew.
-        (0, &NEXT_HEADER[..], (0, 0), 0),
+        (0, &NEXT_HEADER.bytes()[..], (0, 0), 0),
     ] {
         assert_eq!(rt; told(&wal.write(4096, at, bytes)?), want, "at {at}");
         assert_eq!(rt; wal.committed_end(), end, "at {at}");
@@ -141,14 +73,26 @@ fn frames_commit_in_pieces(rt: HostRuntime) -> Result<(), Fail> {
 #[test]
 fn writes_are_refused(rt: HostRuntime) -> Result<(), Fail> {
     for (page_size, at, bytes, fault, end) in [
-        (4096, 0, &NEWER_HEADER[..], Some(WalFault::Header), 8272),
-        (4096, 0, &SMALL_HEADER[..], Some(WalFault::Header), 8272),
+        (
+            4096,
+            0,
+            &NEWER_HEADER.bytes()[..],
+            Some(WalFault::Header),
+            8272,
+        ),
+        (
+            4096,
+            0,
+            &SMALL_HEADER.bytes()[..],
+            Some(WalFault::Header),
+            8272,
+        ),
         (4096, 31, &[0][..], Some(WalFault::Header), 8272),
-        (512, 8272, &AGAIN[..], Some(WalFault::Header), 8272),
-        (0, 8272, &AGAIN[..], None, 8272),
-        (0, 0, &SMALL_HEADER[..], None, 0),
-        (4096, 0, &NEXT_HEADER[..], None, 0),
-        (4096, 0, &HEADER[..], None, 8272),
+        (512, 8272, &AGAIN.bytes()[..], Some(WalFault::Header), 8272),
+        (0, 8272, &AGAIN.bytes()[..], None, 8272),
+        (0, 0, &SMALL_HEADER.bytes()[..], None, 0),
+        (4096, 0, &NEXT_HEADER.bytes()[..], None, 0),
+        (4096, 0, &HEADER.bytes()[..], None, 8272),
         (4096, 32, &[9][..], Some(WalFault::Part), 8272),
         (4096, 8271, &[4, 9][..], None, 8272),
         (4096, 8271, &[5, 9][..], Some(WalFault::Part), 8272),
@@ -176,15 +120,15 @@ fn invalid_frames_commit_nothing(rt: HostRuntime) -> Result<(), Fail> {
     let fours = page_of(alloc, 4)?;
     for head in [&NONE, &SALTED] {
         let mut wal = empty(alloc);
-        wal.write(4096, 0, &HEADER)?;
-        wal.write(4096, 32, head)?;
+        wal.write(4096, 0, &HEADER.bytes())?;
+        wal.write(4096, 32, &head.bytes())?;
         assert_eq!(rt; told(&wal.write(4096, 56, threes.as_slice())?), (0, 0));
     }
     let mut wal = empty(alloc);
-    wal.write(4096, 0, &HEADER)?;
-    wal.write(4096, 32, &THIRD)?;
+    wal.write(4096, 0, &HEADER.bytes())?;
+    wal.write(4096, 32, &THIRD.bytes())?;
     wal.write(4096, 56, threes.as_slice())?;
-    wal.write(4096, 4152, &ALONE)?;
+    wal.write(4096, 4152, &ALONE.bytes())?;
     assert_eq!(rt; told(&wal.write(4096, 4176, fours.as_slice())?), (0, 0));
     Ok(())
 }
@@ -210,8 +154,8 @@ fn cuts_keep_committed_frames(rt: HostRuntime) -> Result<(), Fail> {
 #[test]
 fn zeros_complete_no_frame(rt: HostRuntime) -> Result<(), Fail> {
     let mut wal = empty(rt.alloc());
-    wal.write(4096, 0, &HEADER)?;
-    wal.write(4096, 32, &ZEROS)?;
+    wal.write(4096, 0, &HEADER.bytes())?;
+    wal.write(4096, 32, &ZEROS.bytes())?;
     assert_eq!(rt; wal.cut(4152).err(), Some(WalFault::Part));
     assert_eq!(rt; wal.committed_end(), 0);
     Ok(())
@@ -231,20 +175,19 @@ fn summed(sums: (u32, u32), bytes: &[u8]) -> (u32, u32) {
     (first, second)
 }
 
-/// The head of a frame that follows some sums, and the sums behind the frame.
-fn next_head(sums: (u32, u32), number: u8, size: u8, page: &[u8]) -> ([u8; 24], (u32, u32)) {
-    let start = [
-        0, 0, 0, number, 0, 0, 0, size, 0x11, 0x22, 0x33, 0x44, 0x55, 0x66, 0x77, 0x88,
-    ];
-    let (front, _) = start.split_at(8);
-    let sums = summed(summed(sums, front), page);
-    let mut head = [0; 24];
-    let (to, rest) = head.split_at_mut(16);
-    to.copy_from_slice(&start);
-    let (first, second) = rest.split_at_mut(4);
-    first.copy_from_slice(&sums.0.to_be_bytes());
-    second.copy_from_slice(&sums.1.to_be_bytes());
-    (head, sums)
+/// The head of a frame that follows some sums, and the sums through the frame.
+fn next_head(sums: (u32, u32), number: u32, commit: u32, page: &[u8]) -> ([u8; 24], (u32, u32)) {
+    let mut head = Head {
+        number,
+        commit,
+        salts: SALTS,
+        sums: 0,
+    };
+    let bytes = head.bytes();
+    let (front, _) = bytes.split_at(8);
+    let (first, second) = summed(summed(sums, front), page);
+    head.sums = u64::from(first) << 32 | u64::from(second);
+    (head.bytes(), (first, second))
 }
 
 /// Behind 1,000 committed frames a frame comes in two pieces, is taken back, and comes again.
@@ -252,7 +195,7 @@ fn next_head(sums: (u32, u32), number: u8, size: u8, page: &[u8]) -> ([u8; 24], 
 fn a_frame_behind_many_is_taken_back(rt: HostRuntime) -> Result<(), Fail> {
     let page = page_of(rt.alloc(), 7)?;
     let mut wal = empty(rt.alloc());
-    wal.write(4096, 0, &HEADER)?;
+    wal.write(4096, 0, &HEADER.bytes())?;
     let mut sums = (0x191a_2524, 0x5979_631e);
     let mut at = 32;
     for _frame in 0..1000 {
@@ -286,8 +229,10 @@ fn refusals_are_told_beforehand(rt: HostRuntime) -> Result<(), Fail> {
     assert_eq!(rt; wal.check(4096, 8271, &[4, 9]).err(), None);
     assert_eq!(rt; wal.check_cut(8271).err(), Some(WalFault::Part));
     assert_eq!(rt; wal.check_cut(8272).err(), None);
-    assert!(rt; wal.changes_header(0, &NEXT_HEADER) && !wal.changes_header(0, &HEADER));
-    assert!(rt; !wal.changes_header(32, &THIRD));
+    assert!(rt;
+        wal.changes_header(0, &NEXT_HEADER.bytes()) && !wal.changes_header(0, &HEADER.bytes())
+    );
+    assert!(rt; !wal.changes_header(32, &THIRD.bytes()));
     assert_eq!(rt; (wal.committed_frames(), wal.last_size()), (2, 100));
     assert!(rt; wal.has_size(100) && !wal.has_size(3));
     Ok(())
@@ -299,9 +244,9 @@ fn a_prepared_write_is_made_again(rt: HostRuntime) -> Result<(), Fail> {
     let fives = page_of(rt.alloc(), 5)?;
     let sixes = page_of(rt.alloc(), 6)?;
     let mut wal = committed(rt.alloc())?;
-    wal.write(4096, 8272, &AGAIN)?;
+    wal.write(4096, 8272, &AGAIN.bytes())?;
     wal.write(4096, 8296, fives.as_slice())?;
-    wal.write(4096, 12392, &SHRINK)?;
+    wal.write(4096, 12392, &SHRINK.bytes())?;
     assert_eq!(rt; told(&wal.write(4096, 12416, sixes.as_slice())?), (3, 0));
     wal.undo();
     assert_eq!(rt; wal.committed_end(), 8272);

@@ -6,7 +6,7 @@ use Rattle.journal_watch.proofs.header.front_after_write.Goals as goal
 
 pub returns-then-at-lt8 : goal.returns-then-at-lt8
 returns-then-at-lt8 c =
-    c.replace.ensures
+    c.overwrite.ensures
     ∙ ap (λ (piece : List ℕ). written c.args.at piece c.front_of-front.result) c.split_at.ensures.front
     ∙ ap (λ (front : List ℕ). written c.args.at (take c.min.result c.args.bytes.now) front) c.front_of-front.ensures
     ∙ sym (take-written_within c.args.at c.args.bytes.now c.args.file.now.bytes 8 c.min.result c.if-at-lt8.true c.requires c.min.ensures)
