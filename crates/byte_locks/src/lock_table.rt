@@ -1,4 +1,4 @@
-ghost use Rattle.std.specs.Prelude.{◌≡◌, ◌≢◌, [], ℕ, IfSome, IfNone, IsFalse, OnOk, OnErr, IfErr, IsErrOf, Err, Some, None, IsSome, ◌↔◌, IsTrue};
+ghost use Rattle.std.specs.Prelude.{◌≡◌, ◌≢◌, [], IfSome, IfNone, IsFalse, OnOk, OnErr, IfErr, Some, None, IsSome, ◌↔◌};
 ghost use Rattle.byte_locks.specs.declared.owner.Owner.{Owner};
 ghost use Rattle.byte_locks.specs.LockEntry.{in_set, on_file, of_session};
 ghost use Rattle.byte_locks.specs.LockList.{IsLockList, kind_held, is_held, writer_of, IsFree, StandsAgainst, IsShared, holder_count, opponent, first_contested, conflict, is_full, first_full, MayGrant, HasCause, granted, without, HeldAfter};

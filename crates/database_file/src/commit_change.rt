@@ -1,5 +1,5 @@
 //! The change that commits the database file.
-ghost use Rattle.std.specs.Prelude.{◌≡◌, ◌++◌, ◌≤◌, ◌<◌, ◌^◌, length, None, Some, Ok, IsTrue, if◌then◌else◌, [], List, ℕ, IsSome, IfSome, IfOk, IfErr, OnOk};
+ghost use Rattle.std.specs.Prelude.{◌≡◌, ◌++◌, ◌≤◌, ◌<◌, length, None, Some, Ok, IsTrue, if◌then◌else◌, [], List, ℕ, IsSome, IfSome, IfOk, IfErr, OnOk};
 ghost use Rattle.std.specs.Option.{option_copied};
 ghost use Rattle.std.specs.FinMap as pages;
 ghost use Rattle.lf_base.specs.Faults.{CountsFaults};

@@ -1,5 +1,5 @@
 //! Pages kept over those of the committed image.
-ghost use Rattle.std.specs.Prelude.{◌≡◌, ◌≢◌, ◌+◌, ◌-◌, ◌*◌, ◌/◌, ◌≤◌, ◌<◌, ◌^◌, length, Some, None, Ok, true, IfSome, IfOk, IfErr, OnOk, OnErr, ℕ, List, replicate, if◌then◌else◌};
+ghost use Rattle.std.specs.Prelude.{◌≡◌, ◌≢◌, ◌+◌, ◌-◌, ◌/◌, ◌≤◌, ◌<◌, ◌^◌, length, Some, Ok, true, IfSome, IfOk, IfErr, OnOk, OnErr, ℕ, List, replicate, if◌then◌else◌};
 ghost use Rattle.std.specs.FinMap as pages;
 ghost use Rattle.lf_base.specs.Faults.{CountsFaults};
 ghost use Rattle.lf_sqlite_pages.specs.LockPage.{lock_page_of, IsDataPage};

@@ -1,11 +1,11 @@
 //! The database file read over the committed image.
-ghost use Rattle.std.specs.Prelude.{◌≡◌, ◌+◌, ◌-◌, ◌*◌, ◌≤◌, ◌<◌, length, map, IfSome, ◌++◌, [], IfOk, IfErr, OnOk, replicate};
+ghost use Rattle.std.specs.Prelude.{◌≡◌, ◌+◌, ◌-◌, ◌*◌, ◌≤◌, length, map, IfSome, ◌++◌, [], IfOk, IfErr, OnOk, replicate};
 ghost use Rattle.std.specs.List.{concat, range_with_len};
 ghost use Rattle.lf_base.specs.Faults.{CountsFaults};
 ghost use Rattle.lf_sqlite_pages.specs.Image.{image_bytes};
 ghost use Rattle.std.specs.Option.{option_copied};
 ghost use Rattle.std.specs.FinMap as pages;
-ghost use Rattle.database_file.specs.DatabaseFile.{size_over, count_over, page_of, as_read, without_pages, FitsShape, bytes_from};
+ghost use Rattle.database_file.specs.DatabaseFile.{size_over, page_of, as_read, without_pages, FitsShape, bytes_from};
 ghost use Rattle.database_file.specs.Fault.{HasCause, SameBase};
 
 use crate::database_file::DatabaseFile;

@@ -1,5 +1,4 @@
-ghost use Rattle.std.specs.Prelude.{◌≡◌, IfOk, OnOk, vec_len, ℕ, None, false, true};
-ghost use Rattle.lf_sqlite_pages.specs.Image.{DatabaseImage};
+ghost use Rattle.std.specs.Prelude.{◌≡◌, IfOk, vec_len, None, false, true};
 ghost use Rattle.database_file.specs.DatabaseFile.{FitsShape};
 
 use super::*;

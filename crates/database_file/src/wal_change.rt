@@ -1,5 +1,5 @@
 //! The change of a commit in the write-ahead log.
-ghost use Rattle.std.specs.Prelude.{◌≡◌, ◌≢◌, ◌+◌, ◌++◌, ◌≤◌, ◌<◌, length, None, Some, [], List, ℕ, IfOk, OnOk, replicate, nat_le, unwrap_or, if◌then◌else◌};
+ghost use Rattle.std.specs.Prelude.{◌≡◌, ◌++◌, ◌≤◌, ◌<◌, length, None, Some, [], List, ℕ, IfOk, OnOk, replicate, nat_le, unwrap_or, if◌then◌else◌};
 ghost use Rattle.std.specs.FinMap as pages;
 ghost use Rattle.lf_sqlite_pages.specs.LockPage.{IsDataPage};
 ghost use Rattle.lf_sqlite_pages.specs.Change.{last_number, written};

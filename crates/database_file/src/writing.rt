@@ -1,5 +1,5 @@
 //! Pages of the database file written, and its size changed.
-ghost use Rattle.std.specs.Prelude.{◌≡◌, ◌↔◌, IsTrue, ◌≤◌, ◌<◌, length, IfSome, IfErr, OnOk, OnErr};
+ghost use Rattle.std.specs.Prelude.{◌≡◌, ◌↔◌, IsTrue, ◌<◌, IfSome, IfErr, OnOk, OnErr};
 ghost use Rattle.database_file.specs.DatabaseFile.{FitsShape, KeepsDifferences, as_read};
 ghost use Rattle.database_file.specs.Fault.{HasCause, SameBase};
 ghost use Rattle.database_file.specs.Writing.{AreDataPages, TakesPages, sized, with_pages};

@@ -1,5 +1,5 @@
 //! Pages that the file keeps so that it stays as it reads once a commit is done.
-ghost use Rattle.std.specs.Prelude.{◌≡◌, ◌≢◌, ℕ, ◌+◌, ◌++◌, ◌≤◌, ◌<◌, ◌^◌, List, [], length, None, Some, IsSome, OnOk, IfSome, IfErr};
+ghost use Rattle.std.specs.Prelude.{◌≡◌, ℕ, ◌≤◌, ◌<◌, ◌^◌, [], length, IsSome, OnOk, IfSome, IfErr};
 ghost use Rattle.std.specs.Option.{option_copied};
 ghost use Rattle.std.specs.FinMap as pages;
 ghost use Rattle.lf_sqlite_pages.specs.LockPage.{IsDataPage};
@@ -8,7 +8,7 @@ ghost use Rattle.database_file.specs.DatabaseFile.{FitsShape, KeepsDifferences, 
 ghost use Rattle.database_file.specs.Fault.{HasCause, SameBase};
 ghost use Rattle.database_file.specs.WritingParts.{Pages};
 ghost use Rattle.database_under_log.specs.Staying.{without};
-ghost use Rattle.database_under_log.specs.HoldingParts.{is_left, IsNoted, IsBack, ReadsOn, StaysBy, StaysTo};
+ghost use Rattle.database_under_log.specs.HoldingParts.{is_left, IsNoted, IsBack, ReadsOn, StaysTo};
 
 use database_file::{DatabaseFile, FileFault};
 use lf_base::NoMemory;

@@ -1,12 +1,12 @@
 //! Laws of the database file under its log, each the contract of a function that does nothing else.
 ghost use Rattle.std.specs.Prelude.{◌≡◌, ◌≢◌, ◌<◌, ◌↔◌, IsTrue, ℕ, true, length, take, List, [], None};
 ghost use Rattle.lf_base.specs.FileBytes.{resized};
-ghost use Rattle.lf_sqlite_pages.specs.Image.{DatabaseImage, SameImage};
+ghost use Rattle.lf_sqlite_pages.specs.Image.{DatabaseImage};
 ghost use Rattle.lf_sqlite_pages.specs.Apply.{apply};
-ghost use Rattle.wal_watch.specs.Frames.{page_size_in, committed_count, committed_end};
+ghost use Rattle.wal_watch.specs.Frames.{page_size_in, committed_count};
 ghost use Rattle.wal_watch.specs.News.{last_size, change_between, first_new};
 ghost use Rattle.wal_watch.specs.Refusals.{KeepsCommitted, IsSoundCut};
-ghost use Rattle.database_file.specs.DatabaseFile.{DatabaseFile, FitsShape, KeepsDifferences, as_read, count_of, size_of, is_clean, new_file, clean};
+ghost use Rattle.database_file.specs.DatabaseFile.{DatabaseFile, FitsShape, KeepsDifferences, as_read, count_of, size_of, is_clean, new_file};
 ghost use Rattle.database_file.specs.Writing.{with_pages, sized};
 ghost use Rattle.database_under_log.specs.Over.{over, Agrees, AreFrames};
 ghost use Rattle.database_under_log.specs.LogChange.{log_change};

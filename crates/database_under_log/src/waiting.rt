@@ -1,5 +1,3 @@
-ghost use Rattle.std.specs.Prelude.{◌≡◌, length, List, ℕ};
-ghost use Rattle.database_under_log.specs.Staying.{without};
 
 use crate::holding::Held;
 use lf_base::Bytes;

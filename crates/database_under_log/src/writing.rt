@@ -1,18 +1,18 @@
 //! A write to the log: done where it commits nothing, else in two halves with the commit between.
-ghost use Rattle.std.specs.Prelude.{◌≡◌, ◌≢◌, ℕ, ◌+◌, ◌≤◌, ◌<◌, ◌^◌, ◌==◌, true, List, length, take, None, Some, IsSome, IfSome, IfOk, IfErr, OnOk, OnErr};
+ghost use Rattle.std.specs.Prelude.{◌≡◌, ℕ, ◌<◌, length, IsSome, IfSome, IfOk, IfErr, OnOk, OnErr};
 ghost use Rattle.lf_base.specs.FileBytes.{written};
 ghost use Rattle.lf_sqlite_pages.specs.Blocks.{IsWithin};
 ghost use Rattle.lf_sqlite_pages.specs.LockPage.{IsWithinLimit};
-ghost use Rattle.wal_watch.specs.File.{contents_of, after_write, with_room};
+ghost use Rattle.wal_watch.specs.File.{contents_of, after_write};
 ghost use Rattle.wal_watch.specs.Frames.{page_size_in, committed_count};
-ghost use Rattle.wal_watch.specs.News.{change_of, change_between, last_size};
-ghost use Rattle.database_file.specs.DatabaseFile.{FitsShape, KeepsDifferences, count_over, size_over, is_clean, as_read};
+ghost use Rattle.wal_watch.specs.News.{change_of, last_size};
+ghost use Rattle.database_file.specs.DatabaseFile.{FitsShape, KeepsDifferences, count_over, size_over};
 ghost use Rattle.database_file.specs.Fault.{HasCause, SameBase};
 ghost use Rattle.lf_sqlite_pages.specs.PageSize.{IsPageSize};
 ghost use Rattle.database_under_log.specs.Fault.{HasWriteCause, HasCommitCause, wanted_size};
 ghost use Rattle.database_under_log.specs.LogChange.{log_news};
 ghost use Rattle.database_under_log.specs.Over.{Agrees, FollowsLog};
-ghost use Rattle.database_under_log.specs.Staying.{finished, forgotten, without};
+ghost use Rattle.database_under_log.specs.Staying.{finished, forgotten};
 ghost use Rattle.database_file.specs.WalCommit.{change_over};
 ghost use Rattle.database_under_log.specs.Waiting.{IsLimited, IsPrepared, IsPreparedOver, MayChangeHeader};
 ghost use Rattle.database_under_log.specs.WaitingParts.{IsHeld, Stays};

@@ -1,10 +1,10 @@
 //! Requests read.
 
-ghost use Rattle.std.specs.Prelude.{◌≡◌, ◌^◌, ◌<◌, ℕ, List, codes, IfOk, IfErr, IfSome, IfNone, OnOk, string_bytes};
-ghost use Rattle.serde_json.specs.Data.{string, object};
+ghost use Rattle.std.specs.Prelude.{◌≡◌, ◌^◌, ◌<◌, ℕ, List, IfOk, IfErr, IfSome, IfNone, string_bytes};
+ghost use Rattle.serde_json.specs.Data.{object};
 ghost use Rattle.serde_json.specs.View.{members_view};
 ghost use Rattle.lease_core.specs.declared.lease_ask.LeaseAsk.TheVariants as ask;
-ghost use Rattle.lease_core.specs.Bodies.{IsJson, ask_members, FitsAsk, IsAskData, BreaksBody, IsShapeOnly, NoAsk, term_members, IsTermOp};
+ghost use Rattle.lease_core.specs.Bodies.{IsJson, ask_members, IsAskData, BreaksBody, IsShapeOnly, NoAsk, term_members, IsTermOp};
 
 use crate::members::{is_end, members_of, take_node, take_number, take_text};
 use crate::{BodyFault, LeaseAsk};

@@ -1,6 +1,6 @@
 //! One file in memory.
 ghost use Rattle.std.specs.Prelude.{◌≡◌, ◌≤◌, ◌+◌, ◌-◌, ◌++◌, length, take, drop, replicate, OnOk, OnErr};
-ghost use Rattle.lf_base.specs.FileBytes.{resized, overwritten};
+ghost use Rattle.lf_base.specs.FileBytes.{overwritten};
 ghost use Rattle.lf_disk.specs.Change.{Writes, Cuts};
 
 use lf_base::Bytes;

@@ -1,7 +1,7 @@
 //! A whole file is published: it is staged, synced, and then renamed.
 ghost use Rattle.std.specs.Prelude.{◌≡◌, false, ℕ, List, IsTrue, IsSome, OnOk};
 ghost use Rattle.lf_base.specs.Faults.{CountsFaults};
-ghost use Rattle.lf_disk.specs.Folder.{Folder, SameBut, bytes_of, same_name};
+ghost use Rattle.lf_disk.specs.Folder.{Folder, SameBut, same_name};
 ghost use Rattle.lf_disk.specs.History.{now, EachMoment, IsSettledBut};
 ghost use Rattle.lf_disk.specs.Publish.{IsEmptied, IsStaged, IsOldOrPublished, IsPublished, IsOneOfThree, with_bytes};
 

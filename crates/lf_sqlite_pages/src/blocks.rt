@@ -1,6 +1,6 @@
 //! A list of bytes kept in blocks of 4,096. A block in which nothing was written isn't kept, and reads
 //! as zeros.
-ghost use Rattle.std.specs.Prelude.{◌≡◌, ◌+◌, ◌≤◌, ◌<◌, ◌↔◌, Some, None, length, take, drop, IsTrue, IsSome, IsOk, OnOk, OnErr};
+ghost use Rattle.std.specs.Prelude.{◌≡◌, ◌+◌, ◌≤◌, ◌<◌, ◌↔◌, Some, length, take, drop, IsTrue, IsSome, IsOk, OnOk, OnErr};
 ghost use Rattle.lf_base.specs.FileBytes.{Reads};
 ghost use Rattle.lf_sqlite_pages.specs.BlockTable.{blocks_in};
 ghost use Rattle.lf_sqlite_pages.specs.Blocks.{no_blocks, is_within, room_with, IsWithin, IsWritten, IsUndone, IsResized};

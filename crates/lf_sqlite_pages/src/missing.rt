@@ -1,5 +1,5 @@
 //! The pages that a change lacks to be complete.
-ghost use Rattle.std.specs.Prelude.{◌≡◌, length, replicate, IfOk};
+ghost use Rattle.std.specs.Prelude.{◌≡◌, replicate, IfOk};
 ghost use Rattle.lf_sqlite_pages.specs.Steps.{missing_page};
 ghost use Rattle.lf_sqlite_pages.specs.Writes.{writes_of};
 

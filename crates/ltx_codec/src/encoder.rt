@@ -1,6 +1,5 @@
 ghost use Rattle.std.specs.Prelude.{◌≡◌, ◌++◌, OnOk, OnErr, IfOk, IfErr};
 ghost use Rattle.std.specs.Io.{StartsWith};
-ghost use Rattle.std.specs.Int.{w64, to_be_bytes};
 ghost use Rattle.page_checksum.specs.Crc.{after_bytes, all_ones};
 ghost use Rattle.ltx_codec.specs.Format.{header_encoding, no_meaning, page_encoding};
 ghost use Rattle.ltx_codec.specs.Encoding.{trailer_encoding};

@@ -1,6 +1,6 @@
 //! The rules of the header's fields, in the order of the bytes. A field that is not there yet
 //! breaks none.
-ghost use Rattle.std.specs.Prelude.{◌≤◌, length, OnOk, IfErr};
+ghost use Rattle.std.specs.Prelude.{OnOk, IfErr};
 ghost use Rattle.ltx_codec.specs.HeaderRules.{HasSoundFields, IsOfStart};
 ghost use Rattle.ltx_codec.specs.Decoding.{IsWithin, IsRefusedWithin};
 ghost use Rattle.ltx_codec.specs.Places.{IsEarliest, IsFound};

@@ -4,7 +4,7 @@ ghost use Rattle.page_checksum.specs.Sums.{flagged};
 ghost use Rattle.lf_sqlite_pages.specs.Apply.{Fits, apply};
 ghost use Rattle.lf_sqlite_pages.specs.Change.{IsChange};
 ghost use Rattle.ltx_codec.specs.Format.{IsFile};
-ghost use Rattle.ltx_codec.specs.Sums.{joined_sums, sum_of_writes as sum_of_all, image_sum};
+ghost use Rattle.ltx_codec.specs.Sums.{sum_of_writes as sum_of_all, image_sum};
 ghost use Rattle.ltx_codec.specs.Positions.{sum_after as sum_behind};
 ghost use Rattle.ltx_codec.specs.steps.ChangedSum.{joined_over, standing_sum as sum_standing, rewriting_sum};
 

@@ -1,4 +1,4 @@
-ghost use Rattle.std.specs.Prelude.{◌≡◌, ◌≤◌, ◌<◌, length, take, IfOk, IfErr};
+ghost use Rattle.std.specs.Prelude.{◌≤◌, ◌<◌, length, take, IfOk, IfErr};
 ghost use Rattle.ltx_codec.specs.Format.{IsLtx};
 ghost use Rattle.ltx_codec.specs.Places.{IsEarliest, IsRefused, StandsInside};
 

@@ -1,5 +1,5 @@
 //! The pages of a file whose encoding comes in pieces, kept as they end.
-ghost use Rattle.std.specs.Prelude.{◌≡◌, List, ℕ, IfOk, OnOk};
+ghost use Rattle.std.specs.Prelude.{◌≡◌, List, ℕ, IfOk};
 ghost use Rattle.lf_sqlite_pages.specs.Change.{empty_change};
 ghost use Rattle.ltx_codec.specs.WholePages.{HasTaken, IsTaking};
 ghost use Rattle.ltx_codec.specs.steps.ReadingParts.{ReadsPart, CountsSome};

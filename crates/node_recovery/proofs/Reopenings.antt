@@ -1,6 +1,5 @@
 -- From a folder that was examined to a store.
 use Rattle.std.proofs.Common.{inl, inr, ℕ, Bool, false, Option, None, Result, List, refl, sym, ◌∙◌, subst, arith}
-use Rattle.std.specs.Prelude.{◌==◌, if◌then◌else◌}
 use Rattle.lf_disk.specs.Folder.{Folder, bytes_of, SameBut}
 use Rattle.lf_disk.specs.declared.name.FileName.TheVariants.{Database, Staged, Snapshot, Dropped}
 use Rattle.lf_disk.specs.Change.{Step, SetsFile, Perhaps}

@@ -1,8 +1,7 @@
 //! What stands in a folder.
-ghost use Rattle.std.specs.Prelude.{◌≡◌, ◌↔◌, ◌*◌, ◌+◌, ◌^◌, ℕ, IsTrue, IsSome, IfOk, IfErr, Contains};
+ghost use Rattle.std.specs.Prelude.{◌≡◌, ◌↔◌, ℕ, IsTrue, IfOk, IfErr};
 ghost use Rattle.std.specs.List.{IsDistinct};
 ghost use Rattle.lf_disk.specs.Folder.{same_name};
-ghost use Rattle.lf_disk.specs.declared.name.FileName.{FileName as Name};
 ghost use Rattle.lf_disk.specs.History.{now, Rests};
 ghost use Rattle.node_recovery.specs.Listing.{Has, Names, place_of, AreInOrder, AreOnce, AreListed};
 ghost use Rattle.node_recovery.specs.Outcome.{HasCause, IsBlameless};

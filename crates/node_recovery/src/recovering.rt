@@ -1,7 +1,6 @@
 //! A data directory is opened after a stop.
 ghost use Rattle.std.specs.Prelude.{◌≡◌, false, IsTrue, IfOk, IfErr};
-ghost use Rattle.lf_disk.specs.History.{now, EachMoment, IsSettledBut};
-ghost use Rattle.lf_disk.specs.declared.name.FileName.{FileName as Name};
+ghost use Rattle.lf_disk.specs.History.{now, EachMoment};
 ghost use Rattle.world_laws.specs.Store.{StoreState};
 ghost use Rattle.txn_log.specs.Durable.{Durable};
 ghost use Rattle.txn_log.specs.Putting.{IsSettled};

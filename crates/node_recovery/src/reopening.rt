@@ -1,15 +1,12 @@
 //! A folder is examined and gets its last form.
-ghost use Rattle.std.specs.Prelude.{◌≡◌, ◌==◌, false, None, IsTrue, IfOk, IfErr, OnOk, if◌then◌else◌};
-ghost use Rattle.lf_base.specs.Faults.{CountsFaults};
-ghost use Rattle.lf_disk.specs.Change.{SetsFile};
-ghost use Rattle.lf_disk.specs.Folder.{bytes_of, SameBut};
-ghost use Rattle.lf_disk.specs.History.{now, Rests, EachMoment, IsSettledBut};
+ghost use Rattle.std.specs.Prelude.{◌≡◌, IsTrue, IfOk};
+ghost use Rattle.lf_disk.specs.History.{now, EachMoment, IsSettledBut};
 ghost use Rattle.lf_disk.specs.declared.name.FileName.{FileName as Name};
 ghost use Rattle.world_laws.specs.Store.{StoreState};
 ghost use Rattle.txn_log.specs.Durable.{Durable};
 ghost use Rattle.node_recovery.specs.Finishing.{size_left, commit_left, is_marked};
 ghost use Rattle.node_recovery.specs.Opening.{Opens, IsFitting};
-ghost use Rattle.node_recovery.specs.Outcome.{HasCause, IsBlameless};
+ghost use Rattle.node_recovery.specs.Outcome.{HasCause};
 
 use crate::examining::examine_by;
 use crate::fault::RecoverFault;

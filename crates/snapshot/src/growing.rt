@@ -1,8 +1,5 @@
 //! A sink that keeps what it takes.
-ghost use Rattle.std.specs.Prelude.{◌≡◌, ◌<◌, length, Some, IfOk};
-ghost use Rattle.std.specs.Io.{WritesAtMost};
-ghost use Rattle.std.specs.Io.KnownBytes.{WriteAppends};
-ghost use Rattle.lf_base.specs.Faults.{CountsFaults};
+ghost use Rattle.std.specs.Prelude.{Some};
 
 use lf_base::{Failed, Sink};
 

@@ -1,9 +1,9 @@
 //! The snapshot of a store.
-ghost use Rattle.std.specs.Prelude.{◌≡◌, ◌≢◌, ◌<◌, ◌≤◌, ◌++◌, ◌^◌, ℕ, [], false, length, None, IsTrue, OnOk, OnErr};
+ghost use Rattle.std.specs.Prelude.{◌≡◌, ◌<◌, ◌≤◌, ◌^◌, [], false, length, None, IsTrue, OnOk, OnErr};
 ghost use Rattle.std.specs.Io.KnownBytes.{Appends};
 ghost use Rattle.lf_disk.specs.History.{now, Rests};
 ghost use Rattle.lf_sqlite_pages.specs.Writes.{data_writes};
-ghost use Rattle.ltx_codec.specs.Format.{IsFile, file_encoding, no_meaning, pages_encoding};
+ghost use Rattle.ltx_codec.specs.Format.{file_encoding, no_meaning, pages_encoding};
 ghost use Rattle.world_laws.specs.Answers.{snapshot_of};
 ghost use Rattle.txn_log.specs.Calls.{Moved};
 ghost use Rattle.txn_log.specs.Store.{end_of_entries, image_in, state_of, failed_of};

@@ -1,8 +1,6 @@
 //! The call that a method and a target name.
 
-ghost use Rattle.std.specs.Prelude.{◌≡◌, ◌++◌, ◌↔◌, codes, drop, length, IfOk, IsTrue, IfSome, IfNone, ℕ, List};
-ghost use Rattle.lf_base.specs.Name.{IsName};
-ghost use Rattle.stream_wire.specs.declared.call.Call.TheVariants as call;
+ghost use Rattle.std.specs.Prelude.{◌≡◌, ◌↔◌, codes, IfOk, IsTrue};
 ghost use Rattle.stream_wire.specs.Call.{Names, NamesDatabase};
 
 use crate::Call;

@@ -1,7 +1,6 @@
 //! The body of a request for a stream.
 
-ghost use Rattle.std.specs.Prelude.{◌≡◌, ◌++◌, length, IfOk, OnOk, OnErr, ◌↔◌, IsTrue};
-ghost use Rattle.std.specs.Io.{StartsWith};
+ghost use Rattle.std.specs.Prelude.{◌≡◌, ◌++◌, length, IfOk, OnOk, ◌↔◌, IsTrue};
 ghost use Rattle.stream_wire.specs.StreamLine.{stream_line, ReadsLineEnd, ReadsName, ReadsStreamLine};
 
 use lf_base::{Name, NameFault, NoMemory, Pos, pos_text, read_pos};

@@ -1,5 +1,5 @@
 //! The desk: its calls.
-ghost use Rattle.std.specs.Prelude.{ℕ, ◌≡◌, ◌≢◌, ◌⊎◌, ◌/◌, ◌^◌, ◌<◌, ◌≤◌, ◌++◌, ◌∷◌, [], length, IfOk, OnOk, OnErr, IfErr, Some};
+ghost use Rattle.std.specs.Prelude.{ℕ, ◌≡◌, ◌≢◌, ◌⊎◌, ◌/◌, ◌^◌, ◌<◌, ◌≤◌, ◌++◌, ◌∷◌, [], length, IfOk, OnOk, OnErr, IfErr};
 ghost use Rattle.turn_desk.specs.History.{StartsWith};
 ghost use Rattle.turn_desk.specs.Calls.{IsSameHistory, IsTakenTurn, HasStepped, HasCause, EndsAt, EndsRun};
 ghost use Rattle.turn_desk.specs.Rule.{first_view};

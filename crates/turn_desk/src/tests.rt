@@ -1,7 +1,7 @@
 //! A counter on the desk: its answers are the numbers of the steps, so those of all threads together tell the order.
-ghost use Rattle.std.specs.Prelude.{◌≡◌, IfOk, IfSome, ℕ};
+ghost use Rattle.std.specs.Prelude.{◌≡◌, IfOk, IfSome};
 ghost use Rattle.std.specs.Arc.{arc_value};
-ghost use Rattle.turn_desk.specs.History.{IsLegal, HasEntry, StartsWith};
+ghost use Rattle.turn_desk.specs.History.{IsLegal, HasEntry};
 ghost use Rattle.turn_desk.specs.Seats.{view, number_of, opened_on, IsOf};
 
 use crate::turn::take_turn;

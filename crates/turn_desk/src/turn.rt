@@ -1,5 +1,5 @@
 //! One turn: take the machine out of the slot, step it, and put it home.
-ghost use Rattle.std.specs.Prelude.{ℕ, ◌≡◌, ◌+◌, ◌*◌, ◌^◌, ◌≤◌, ◌++◌, ◌∷◌, [], length, IfOk, OnOk, OnErr, IfErr};
+ghost use Rattle.std.specs.Prelude.{◌≡◌, [], IfOk, OnOk, OnErr, IfErr};
 ghost use Rattle.turn_desk.specs.Calls.{IsSeated, IsSameHistory, IsTakenTurn, HasStepped, HasCause, IsLast, EndsRun};
 ghost use Rattle.turn_desk.specs.Moves.{HasTaken};
 

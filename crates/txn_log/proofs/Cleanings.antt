@@ -21,7 +21,7 @@ use Rattle.txn_log.specs.Store.{image_in, files_in, state_in, state_of, end_of_e
 use Rattle.txn_log.proofs.Moves.{moved-done, moved-in, at_last, tells, summed, files, store}
 use Rattle.txn_log.proofs.Placings.{kept_same}
 use Rattle.txn_log.proofs.Prunings.{ascends_drop}
-use Rattle.txn_log.proofs.Stores.{Tells, named_in, length-files_in, broken, seen_before, settles, state_now}
+use Rattle.txn_log.proofs.Stores.{Tells, named_in, length-files_in, seen_before, settles, state_now}
 
 lower : (low number : ℕ) (files : List LogFile) → low ≤ number → Ascends number files → Ascends low files
 lower low number [] under ascends = tt

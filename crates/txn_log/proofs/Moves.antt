@@ -9,7 +9,6 @@ use Rattle.lf_disk.proofs.Moments.{started, weakened}
 use Rattle.lf_sqlite_pages.specs.Image.{DatabaseImage, empty_image}
 use Rattle.lf_sqlite_pages.specs.Apply.{apply}
 use Rattle.ltx_codec.specs.Format.{IsLtx}
-use Rattle.ltx_codec.specs.Positions.{after}
 use Rattle.ltx_codec.specs.declared.file.Ltx.{Ltx}
 use Rattle.ltx_codec.proofs.SumLaws.{image_sum-table}
 use Rattle.world_laws.specs.Store.{StoreState, StoreCall, Failure, FailedBefore, FailedIn, MayBeFound, IsCandidate, MayLeave, CanDo, end_of, done, with_file, dropped_store}

@@ -1,19 +1,15 @@
 //! A source is read as one file, judged, and published, beside the fields of a store.
-ghost use Rattle.std.specs.Prelude.{◌≡◌, ◌↔◌, ◌≤◌, ◌<◌, true, [], ℕ, List, Bool, length, IsTrue, IfOk};
-ghost use Rattle.lf_disk.specs.Folder.{bytes_of};
+ghost use Rattle.std.specs.Prelude.{◌≡◌, ◌↔◌, ◌≤◌, ◌<◌, [], ℕ, List, length, IsTrue};
 ghost use Rattle.lf_disk.specs.History.{now, IsSettledBut};
 ghost use Rattle.lf_disk.specs.declared.name.FileName.{FileName as Name};
 ghost use Rattle.lf_sqlite_pages.specs.Change.{PageChange, IsChange, HoldsEveryPage, FitsOver};
 ghost use Rattle.lf_sqlite_pages.specs.PageSize.{IsPageSize};
-ghost use Rattle.lf_sqlite_pages.specs.Image.{DatabaseImage};
 ghost use Rattle.lf_sqlite_pages.specs.LockPage.{data_pages_to as data_pages};
 ghost use Rattle.ltx_codec.specs.Fields.{AreBytes};
-ghost use Rattle.ltx_codec.specs.Format.{IsFile, IsLtx};
+ghost use Rattle.ltx_codec.specs.Format.{IsLtx};
 ghost use Rattle.ltx_codec.specs.Positions.{before as position_before};
-ghost use Rattle.txn_log.specs.Apply.{whole_file, IsTaken};
-ghost use Rattle.txn_log.specs.Bringing.{JudgesTaken, IsOverGround, Brings, CountsBrought};
+ghost use Rattle.txn_log.specs.Bringing.{JudgesTaken, Brings, CountsBrought};
 ghost use Rattle.txn_log.specs.Coming.{HasCome};
-ghost use Rattle.txn_log.specs.Kept.{LogFile, IsAtRest, IsComplete};
 ghost use Rattle.txn_log.specs.Reserve.{spare_of};
 ghost use Rattle.txn_log.specs.Taking.{TakenIn};
 

@@ -1,6 +1,5 @@
 //! The file that a commit would publish.
 ghost use Rattle.std.specs.Prelude.{◌≡◌, ◌↔◌, ◌<◌, ◌^◌, IsTrue, IfOk, OnOk};
-ghost use Rattle.lf_base.specs.declared.pos.Pos.{Pos as Position};
 ghost use Rattle.lf_sqlite_pages.specs.Change.{IsChange};
 ghost use Rattle.ltx_codec.specs.Format.{IsFile, FitsWidths};
 ghost use Rattle.txn_log.specs.Store.{end_of_entries};

@@ -1,4 +1,4 @@
-ghost use Rattle.std.specs.Prelude.{◌≡◌, Bool, IsTrue, List, ℕ};
+ghost use Rattle.std.specs.Prelude.{◌≡◌, Bool, IsTrue, List};
 ghost use Rattle.lf_disk.specs.History.{IsSettledBut};
 ghost use Rattle.lf_disk.specs.declared.name.FileName.{FileName as Name};
 ghost use Rattle.lf_sqlite_pages.specs.Image.{DatabaseImage};

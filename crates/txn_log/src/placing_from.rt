@@ -1,6 +1,5 @@
-ghost use Rattle.std.specs.Prelude.{◌≡◌, ◌≤◌, true, [], ℕ, List, length, IsTrue};
-ghost use Rattle.lf_disk.specs.Folder.{Folder, bytes_of};
-ghost use Rattle.lf_disk.specs.declared.name.FileName.{FileName as Name};
+ghost use Rattle.std.specs.Prelude.{◌≡◌, List, length, IsTrue};
+ghost use Rattle.lf_disk.specs.Folder.{Folder};
 ghost use Rattle.lf_sqlite_pages.specs.Apply.{apply};
 ghost use Rattle.lf_sqlite_pages.specs.Change.{PageChange, IsChange};
 ghost use Rattle.lf_sqlite_pages.specs.Image.{DatabaseImage};

@@ -1,4 +1,4 @@
-ghost use Rattle.std.specs.Prelude.{◌≡◌, ℕ, false, ◌<◌, length, drop, IsTrue, OnOk, List};
+ghost use Rattle.std.specs.Prelude.{◌≡◌, false, ◌<◌, length, drop, IsTrue, OnOk, List};
 ghost use Rattle.lf_base.specs.Faults.{CountsFaults};
 ghost use Rattle.lf_disk.specs.History.{EachMoment};
 ghost use Rattle.lf_sqlite_pages.specs.Image.{DatabaseImage};

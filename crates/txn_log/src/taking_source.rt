@@ -1,5 +1,5 @@
 //! A source is read as one file, which is taken in as it comes.
-ghost use Rattle.std.specs.Prelude.{◌≡◌, ◌+◌, ◌<◌, ◌≤◌, ℕ, List, [], Option, Bool, take, drop, ◌++◌, length, IsTrue, IfOk, OnOk};
+ghost use Rattle.std.specs.Prelude.{◌≡◌, ◌<◌, ◌≤◌, ℕ, List, [], Option, take, drop, ◌++◌, length, IsTrue, IfOk};
 ghost use Rattle.std.specs.Io.KnownBytes.{Consumes, IsAtEnd};
 ghost use Rattle.lf_base.specs.Faults.{CountsFaults};
 ghost use Rattle.lf_disk.specs.Folder.{Folder, SameBut};
@@ -8,7 +8,7 @@ ghost use Rattle.lf_disk.specs.declared.name.FileName.{FileName as Name};
 ghost use Rattle.lf_sqlite_pages.specs.Change.{PageChange};
 ghost use Rattle.txn_log.specs.Coming.{HasCome, change_after};
 ghost use Rattle.txn_log.specs.Reserve.{spare_of};
-ghost use Rattle.txn_log.specs.Taking.{TakenIn, StagedIn, IsQuiet};
+ghost use Rattle.txn_log.specs.Taking.{TakenIn, StagedIn};
 ghost use Rattle.txn_log.specs.TakingSource.{Came, TakesSource, CountsTaking};
 
 use crate::coming::{Coming, Part};

@@ -1,5 +1,5 @@
 //! One block of bytes in memory.
-ghost use Rattle.std.specs.Prelude.{◌≡◌, ◌+◌, ◌-◌, ◌<◌, ◌≤◌, ◌↔◌, ℕ, [], false, length, replicate, slice_index, EachIndex, IsTrue, IfOk};
+ghost use Rattle.std.specs.Prelude.{◌≡◌, ◌+◌, ◌<◌, ◌≤◌, ◌↔◌, ℕ, [], false, length, replicate, slice_index, EachIndex, IsTrue, IfOk};
 ghost use Rattle.lf_sqlite_pages.specs.BlockTable.{block_size, is_kept, replaced, cleared_from, IsBlank, HoldsAll};
 
 use lf_base::NoMemory;

@@ -1,4 +1,4 @@
-use Rattle.std.proofs.Common.{◌≡◌, ◌∙◌, refl, ◌≤◌, arith}
+use Rattle.std.proofs.Common.{◌∙◌, arith}
 use Rattle.lf_disk.specs.Folder.{bytes_of}
 use Rattle.lf_disk.specs.History.{now, may_leave}
 use Rattle.lf_disk.specs.declared.name.FileName.TheVariants.{Staged}

@@ -1,4 +1,4 @@
-use Rattle.std.proofs.Common.{◌≡◌, ◌≤◌, ◌∙◌, ℕ, refl, ap}
+use Rattle.std.proofs.Common.{◌∙◌}
 use Rattle.txn_log.proofs.Emptyings.{clears, writes, at_rest}
 use Rattle.txn_log.proofs.settling.empty.Goals as goal
 

@@ -1,4 +1,4 @@
-use Rattle.std.proofs.Common.{◌≡◌, ◌≤◌, ◌∙◌, ◌∷◌, [], List, ℕ, false, refl, arith}
+use Rattle.std.proofs.Common.{◌∙◌, arith}
 use Rattle.lf_disk.specs.History.{now, may_leave, EachMoment}
 use Rattle.lf_disk.proofs.Moments.{goes_on}
 use Rattle.txn_log.specs.Kept.{LogFile}

@@ -1,4 +1,4 @@
-use Rattle.std.proofs.Common.{◌≡◌, ◌∙◌, ◌+◌, ◌≤◌, ℕ, List, length, take, replicate, sym, ap, subst, refl, arith}
+use Rattle.std.proofs.Common.{◌≡◌, ◌∙◌, ℕ, List, length, take, ap, arith}
 use Rattle.std.proofs.lemmas.List.{length-replicate, take-replicate, length-set}
 use Rattle.lf_sqlite_pages.specs.Change.{empty_change}
 use Rattle.lf_sqlite_pages.specs.Complete.{completed}
