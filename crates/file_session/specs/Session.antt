@@ -4,8 +4,7 @@ use Rattle.std.specs.Io.KnownBytes.{Consumes}
 use Rattle.lf_base.specs.declared.session_end.SessionEnd.{SessionEnd}
 use Rattle.lf_base.specs.declared.session_end.SessionEnd.TheVariants as ends
 use Rattle.fuse_msgs.specs.Feed.{IsWholeMessage}
-use Rattle.turn_desk.specs.declared.history.Entry.{Entry}
-use Rattle.turn_desk.specs.History.{entry, IsLegal}
+use Rattle.turn_desk.specs.History.{entry}
 use Rattle.link_session.specs.Messages.{IsPart, IsRefused}
 use Rattle.link_session.specs.Reading.{EndsReading}
 use Rattle.link_session.specs.Rounds.{Place, Talked}
@@ -43,7 +42,3 @@ pub record IsSession (who : Asker) (budget : ℕ) (old new : Stand) (result : Se
   pub end : SessionEnd
   pub conversation : Conversation who budget old (record new { place = record new.place { entries = said } }) end
   pub told : IsTold who.caller said new.place.entries end result
-
--- the history that the seat has seen stays one of the machine's steps
-pub record StaysLegal {M Q A : Type 0} (steps : M → ℕ → Q → A → M → Type 0) (opened : M) (before after : List (Entry Q A)) : Type 0 where
-  pub legal : IsLegal steps opened before → IsLegal steps opened after

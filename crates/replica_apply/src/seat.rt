@@ -1,10 +1,10 @@
 //! A stream followed by a seat of a desk, whose machine answers the asks of a node.
 ghost use Rattle.std.specs.Prelude.{◌≡◌};
-ghost use Rattle.link_session.specs.Seats.{FoundWorn};
+ghost use Rattle.link_session.specs.Seats.{FoundWorn, StaysLegal};
 ghost use Rattle.link_session.specs.Stands.{stand};
 ghost use Rattle.turn_desk.specs.Seats.{view, number_of, opened_on, IsOf};
 ghost use Rattle.replica_apply.specs.declared.follow_end.FollowEnd.TheVariants as ends;
-ghost use Rattle.replica_apply.specs.Following.{Follows, StaysLegal};
+ghost use Rattle.replica_apply.specs.Following.{Follows};
 
 use crate::follow_end::FollowEnd;
 use crate::following::follow_link;

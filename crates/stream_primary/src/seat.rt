@@ -1,10 +1,10 @@
 //! A session by a seat of a desk, whose machine answers the asks of a node.
 ghost use Rattle.std.specs.Prelude.{◌≡◌};
 ghost use Rattle.lf_base.specs.declared.session_end.SessionEnd.TheVariants as ends;
-ghost use Rattle.link_session.specs.Seats.{FoundWorn};
+ghost use Rattle.link_session.specs.Seats.{FoundWorn, StaysLegal};
 ghost use Rattle.link_session.specs.Stands.{stand};
 ghost use Rattle.turn_desk.specs.Seats.{view, number_of, opened_on, IsOf};
-ghost use Rattle.stream_primary.specs.Session.{IsSession, StaysLegal};
+ghost use Rattle.stream_primary.specs.Session.{IsSession};
 
 use crate::session::serve_link;
 use lf_base::{Clock, Link, Name, Pause, SessionEnd};
