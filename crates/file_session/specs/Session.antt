@@ -4,8 +4,7 @@ use Rattle.std.specs.Io.KnownBytes.{Consumes}
 use Rattle.lf_base.specs.declared.session_end.SessionEnd.{SessionEnd}
 use Rattle.lf_base.specs.declared.session_end.SessionEnd.TheVariants as ends
 use Rattle.fuse_msgs.specs.Feed.{IsWholeMessage}
-use Rattle.turn_desk.specs.declared.history.Entry.{Entry}
-use Rattle.turn_desk.specs.History.{entry, IsLegal}
+use Rattle.turn_desk.specs.History.{entry}
 use Rattle.link_session.specs.Messages.{IsPart, IsRefused}
 use Rattle.link_session.specs.Reading.{EndsReading}
 use Rattle.link_session.specs.Rounds.{Place, Talked}
@@ -32,18 +31,14 @@ pub record Conversation (who : Asker) (turns : ℕ) (old new : Stand) (end : Ses
   pub ending : Ends who old (record old { place = place }) new left end
   pub spent : Spends {T = Unit {0}} turns old left new (Err end)
 
--- the node is told of the end, and that is the last entry, unless no step can be taken
-abbrev pub IsTold : ℕ → List FileEntry → List FileEntry → SessionEnd → SessionEnd → Type 0
-IsTold caller said all end ends.Worn = all ≡ said
-IsTold caller said all end result = (result ≡ end) × ((answer : Answer) × (all ≡ said ++ entry caller ask.EndSession answer ∷ []))
+-- the node is asked to end the session, and that is the last entry, unless no step can be taken
+abbrev pub AsksEnd : ℕ → List FileEntry → List FileEntry → SessionEnd → SessionEnd → Type 0
+AsksEnd caller said all end ends.Worn = all ≡ said
+AsksEnd caller said all end result = (result ≡ end) × ((answer : Answer) × (all ≡ said ++ entry caller ask.EndSession answer ∷ []))
 
 -- A SESSION: a conversation, and then its end
 pub record IsSession (who : Asker) (budget : ℕ) (old new : Stand) (result : SessionEnd) : Type 0 where
   pub said : List FileEntry
   pub end : SessionEnd
   pub conversation : Conversation who budget old (record new { place = record new.place { entries = said } }) end
-  pub told : IsTold who.caller said new.place.entries end result
-
--- the history that the seat has seen stays one of the machine's steps
-pub record StaysLegal {M Q A : Type 0} (steps : M → ℕ → Q → A → M → Type 0) (opened : M) (before after : List (Entry Q A)) : Type 0 where
-  pub legal : IsLegal steps opened before → IsLegal steps opened after
+  pub asked : AsksEnd who.caller said new.place.entries end result

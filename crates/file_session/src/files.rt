@@ -1,9 +1,9 @@
 //! The files of the node, served to one client.
 ghost use Rattle.std.specs.Prelude.{◌≡◌};
 ghost use Rattle.lf_base.specs.declared.session_end.SessionEnd.TheVariants as ends;
-ghost use Rattle.link_session.specs.Seats.{FoundWorn};
+ghost use Rattle.link_session.specs.Seats.{FoundWorn, StaysLegal};
 ghost use Rattle.turn_desk.specs.Seats.{view, number_of, opened_on, IsOf};
-ghost use Rattle.file_session.specs.Session.{IsSession, StaysLegal};
+ghost use Rattle.file_session.specs.Session.{IsSession};
 ghost use Rattle.file_session.specs.Stands.{stand};
 
 use crate::seat::serve_seat;

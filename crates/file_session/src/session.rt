@@ -2,7 +2,7 @@
 ghost use Rattle.std.specs.Prelude.{◌≡◌};
 ghost use Rattle.lf_base.specs.declared.session_end.SessionEnd.TheVariants as ends;
 ghost use Rattle.link_session.specs.declared.stage.Stage.TheVariants as stages;
-ghost use Rattle.file_session.specs.Session.{Conversation, IsSession, IsTold};
+ghost use Rattle.file_session.specs.Session.{AsksEnd, Conversation, IsSession};
 ghost use Rattle.file_session.specs.Stands.{asker, stand, stand_with, AsksOn};
 
 use crate::serving::serve_message;
@@ -26,13 +26,13 @@ pub fn serve_link<S: Steps<Ask = Ask, Answer = Answer>, L: Link, C: Clock, P: Pa
     ensures worn { result ≡ ends.Worn → S.is_worn steps.new }
 {
     let end = converse(alloc, steps, link, clock, pause, budget);
-    tell_end(steps, end)
+    ask_end(steps, end)
 }
 
-/// Tells the node that the session ended.
-fn tell_end<S: Steps<Ask = Ask, Answer = Answer>>(steps: &mut S, end: SessionEnd) -> SessionEnd
+/// Asks the node to end the session.
+fn ask_end<S: Steps<Ask = Ask, Answer = Answer>>(steps: &mut S, end: SessionEnd) -> SessionEnd
     requires { end ≡ ends.Worn → S.is_worn steps.old }
-    ensures told { IsTold (S.number steps.old) (S.entries steps.old) (S.entries steps.new) end result }
+    ensures asked { AsksEnd (S.number steps.old) (S.entries steps.old) (S.entries steps.new) end result }
     ensures same { (S.of steps.new ≡ S.of steps.old) × (S.number steps.new ≡ S.number steps.old) × (S.is_legal steps.old → S.is_legal steps.new) }
     ensures worn { result ≡ ends.Worn → S.is_worn steps.new }
 {

@@ -71,8 +71,8 @@ impl Acceptor for ListAcceptor {
         ensures given { CountsLinks self.old.given self.new.given result }
         ensures cause { CountsFaults self.old.faults self.new.faults result }
 
-        // It fails at the calls that it was told, and at no other, and counts one fault there; else it
-        // gives the next link.
+        // It fails at the planned calls, and at no other, and counts one fault there; else it gives the
+        // next link.
         ensures fails { IsErr result ↔ Contains self.old.failing self.old.calls }
         ensures one { IsErr result → self.new ≡ record self.old { calls = one_more self.old.calls; faults = one_more self.old.faults } }
         ensures gives { IfOk result (λ link. MatchOption link (self.old.links ≡ [] × self.new.links ≡ []) (λ first. self.old.links ≡ first ∷ self.new.links)) }

@@ -126,8 +126,8 @@ impl Dialer for MemDialer {
         ensures dials { MatchResult result (λ _. TellsSame (dials_of self.old) (dials_of self.new)) (λ _. TellsMore IsFailed (dials_of self.old) (dials_of self.new)) }
         ensures cause { CountsFaults self.old.faults self.new.faults result }
 
-        // It fails at the dials that it was told, past its places and past its links, and at no other,
-        // and counts one fault there; else it gives the next link.
+        // It fails at the planned dials, past its places and past its links, and at no other, and counts
+        // one fault there; else it gives the next link.
         ensures fails { IsErr result ↔ FailsDial self.old }
         ensures ok { IfOk result (λ link. (self.old.links ≡ link ∷ self.new.links) × (self.new ≡ record self.old { links = self.new.links; calls = one_more self.old.calls })) }
         ensures err { IsErr result → self.new ≡ noted None (record self.old { calls = one_more self.old.calls; faults = one_more self.old.faults }) }

@@ -87,9 +87,9 @@ impl MemLink {
         self.faults != 0
     }
 
-    /// Counts a call, and whether it fails because it was told to.
+    /// Counts a call, and says whether it is planned to fail.
     fn begin(&mut self) -> bool
-        ensures told { IsTrue result ↔ Contains self.old.failing self.old.calls }
+        ensures planned { IsTrue result ↔ Contains self.old.failing self.old.calls }
         ensures counted { self.new ≡ record self.old { calls = one_more self.old.calls } }
     {
         let fails = self.failing.contains(&self.calls);
@@ -161,7 +161,7 @@ impl Link for MemLink {
         ensures moves { CountsMoves self.old.moves self.new.moves result }
         ensures cause { CountsFaults self.old.faults self.new.faults result }
 
-        // It fails at the calls that it was told, and at no other, and counts one fault there.
+        // It fails at the planned calls, and at no other, and counts one fault there.
         ensures fails { IsErr result ↔ Contains self.old.failing self.old.calls }
         ensures one { IsErr result → self.new.faults ≡ one_more self.old.faults }
         ensures gives { IfOk result (λ n. n ≡ min (min self.old.size (length out.old)) (length (left_on self.old))) }
@@ -183,8 +183,7 @@ impl Link for MemLink {
         ensures moves { CountsMoves self.old.moves self.new.moves result }
         ensures cause { CountsFaults self.old.faults self.new.faults result }
 
-        // It fails at the calls that it was told and past its room, and at no other, and counts one
-        // fault there.
+        // It fails at the planned calls and past its room, and at no other, and counts one fault there.
         ensures fails { IsErr result ↔ Contains self.old.failing self.old.calls ⊎ (self.old.room < length self.old.taken + length piece.now) }
         ensures one { IsErr result → self.new.faults ≡ one_more self.old.faults }
         ensures whole { IfOk result (λ n. n ≡ length piece.now) }

@@ -49,7 +49,7 @@ impl Source for SliceSource<'_> {
         ensures bytes { ReadConsumes (Some self.old.left) (Some self.new.left) result out.new }
         ensures cause { CountsFaults self.old.faults self.new.faults result }
 
-        // It fails at the calls that it was told, and at no other.
+        // It fails at the planned calls, and at no other.
         ensures fails { IsErr result ↔ Contains self.old.failing self.old.calls }
         ensures counted { self.new.calls ≡ one_more self.old.calls }
         ensures failing { self.new.failing ≡ self.old.failing }

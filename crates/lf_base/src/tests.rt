@@ -113,7 +113,7 @@ fn a_source_fails_in_mid_stream(rt: HostRuntime) -> Result<(), Fail> {
 }
 
 #[test]
-fn a_sink_fails_when_told_and_past_its_room(rt: HostRuntime) -> Result<(), Fail> {
+fn a_sink_fails_where_planned_and_past_its_room(rt: HostRuntime) -> Result<(), Fail> {
     let failing = vec![in rt.alloc(); 1u64]?;
     let mut sink = VecSink::new(rt.alloc(), 5, failing).ok().ok_or("a sink")?;
     assert_eq!(rt; sink.write(b"abc").ok(), Some(3));

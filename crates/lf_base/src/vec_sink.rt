@@ -65,9 +65,9 @@ impl Sink for VecSink {
         ensures bytes { WriteAppends (Some self.old.taken) (Some self.new.taken) result piece.now }
         ensures cause { CountsFaults self.old.faults self.new.faults result }
 
-        // It fails at the calls that it was told and past its room, and at no other.
+        // It fails at the planned calls and past its room, and at no other.
         ensures one { IsErr result → self.new.faults ≡ one_more self.old.faults }
-        ensures told { Contains self.old.failing self.old.calls → IsErr result }
+        ensures planned { Contains self.old.failing self.old.calls → IsErr result }
         ensures full { self.old.room < length self.old.taken + length piece.now → IsErr result }
         ensures only { IsErr result → Contains self.old.failing self.old.calls ⊎ (self.old.room < length self.old.taken + length piece.now) }
         ensures counted { self.new ≡ record self.new { room = self.old.room; failing = self.old.failing; calls = one_more self.old.calls } }

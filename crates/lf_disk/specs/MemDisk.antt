@@ -27,7 +27,7 @@ history_of r = record { moment = length r.calls; seen = λ t. (state_at r t).see
 abbrev pub fresh : List Slot → Recording
 fresh first = record { first = first; calls = []; plan = record { failing = []; stop_after = None; calls = 0; faults = 0; short = 0 } }
 
--- a changing call failed: it was told to, no moment was left for it, or there was no memory, which is counted. It counts one fault
+-- a changing call failed: that was planned, no moment was left for it, or there was no memory, which is counted. It counts one fault
 pub record FailsFor (old new : Recording) : Type 0 where
   pub cause : IsTrue (fails_next old.plan) ⊎ (2 ^ 62 ≤ length old.calls) ⊎ (new.plan.short ≡ one_more old.plan.short)
   pub one : new.plan.faults ≡ one_more old.plan.faults

@@ -32,7 +32,7 @@ stopped_in calls plan = record plan { stop_after = earlier plan.stop_after (min 
 
 -- the call is counted, and fails where it is to
 pub record Follows {T E : Type 0} (result : Result T E) (old new : Plan) : Type 0 where
-  pub told : IsTrue (fails_next old) → IsErr result
+  pub planned : IsTrue (fails_next old) → IsErr result
   pub calls : new.calls ≡ one_more old.calls
   pub failing : new.failing ≡ old.failing
   pub stop_after : new.stop_after ≡ old.stop_after

@@ -6,7 +6,7 @@ use Rattle.std.proofs.lemmas.Bool.{cases_eq, cases_lt}
 use Rattle.std.proofs.lemmas.List.Elements.{All-cons, All-head, All-nil, All-tail}
 use Rattle.std.proofs.Math.Seq.{take-append_seam}
 use Rattle.lf_sqlite_pages.specs.Change.{AscendsAbove, HoldsEveryPage, IsChange, PageChange, written}
-use Rattle.lf_sqlite_pages.specs.LockPage.{IsDataPage, lock_page_of}
+use Rattle.lf_sqlite_pages.specs.LockPage.{IsDataPage, IsWithinLimit, lock_page_of}
 use Rattle.lf_sqlite_pages.specs.PageSize.{is_page_size}
 use Rattle.lf_sqlite_pages.specs.declared.page_write.PageWrite.{PageWrite}
 use Rattle.ltx_codec.specs.FileIn.{file_in}
@@ -46,6 +46,9 @@ at_most a b = elim (cases_lt b a) [
   | inl more ↦ inr (λ less. omega (arith, less, more))
   | inr less ↦ inl less
 ]
+
+within_limit : (page_size commit : ℕ) → Decided (IsWithinLimit page_size commit)
+within_limit page_size commit = at_most _ _
 
 equal : (a b : ℕ) → Decided (a ≡ b)
 equal a b = cases_eq a b
@@ -130,7 +133,7 @@ header_decided h =
     again
     (λ p. record { widths = p.0; page_size = p.1.0; commit = p.1.1.0; min = p.1.1.1.0; max = p.1.1.1.1.0; snapshot_pre = p.1.1.1.1.1.0; delta_pre = p.1.1.1.1.1.1 })
     (λ w. (w.widths, (w.page_size, (w.commit, (w.min, (w.max, (w.snapshot_pre, w.delta_pre)))))))
-    (both (widths_decided h) (both (tested (is_page_size h.page_size)) (both (at_most (h.commit * (h.page_size + 4) + 120) 2147483648) (both (at_most 1 h.min) (both (at_most h.min h.max)
+    (both (widths_decided h) (both (tested (is_page_size h.page_size)) (both (within_limit h.page_size h.commit) (both (at_most 1 h.min) (both (at_most h.min h.max)
     (both (implied (equal h.min 1) (equal h.pre 0)) (implied (other h.min 1) (at_most (2 ^ 63) h.pre))))))))
 
 block_decided : (h : Header) (change : PageChange) → Decided (IsBlock h change)

@@ -20,8 +20,8 @@ use Rattle.node_core.specs.declared.node.Node.{Node}
 use Rattle.node_core.specs.Roles.{law_role, role_of}
 use Rattle.node_core.specs.Stores.{StoreFields, failed, fields_of, history_of, state}
 
--- a node at one moment: the served files, with the position and the primary's host as they were told; its store; what it was
--- told of itself; and the greatest moment that it was given
+-- a node at one moment: the served files, with the position and the primary's host as they were given; its store; what it was
+-- given of itself; and the greatest moment that it was given
 pub record NodeParts : Type 0 where
   pub files : Served
   pub store : StoreFields

@@ -1,4 +1,4 @@
--- What a node is in its cluster: until there are leases, what it was told when it was opened.
+-- What a node is in its cluster: until there are leases, what it was given when it was opened.
 use Rattle.std.specs.Prelude.{Bool, true, false}
 use Rattle.file_view.specs.declared.role.Role.{Role}
 use Rattle.file_view.specs.declared.role.Role.TheVariants as role

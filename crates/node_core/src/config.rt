@@ -4,7 +4,7 @@ ghost use Rattle.node_core.specs.Roles.{role_of};
 use file_view::Role;
 use lf_base::{Name, Text};
 
-/// What a node is told of itself when it is opened.
+/// What a node is given of itself when it is opened.
 #[derive(Drop)]
 pub struct NodeConfig {
     /// The name of the database.

@@ -148,7 +148,7 @@ impl Maker for MemMaker {
         ensures cause { FailsBy DisksRose self.old.counts self.new.counts result }
         ensures back { told_by self.new.back ≡ told_by self.old.back }
 
-        // It fails where it was told and where no disk is left, and counts one fault there; else it
+        // It fails where that was planned and where no disk is left, and counts one fault there; else it
         // gives the next disk.
         ensures fails { IsErr result ↔ FailsNext self.old self.old.disks }
         ensures one { IsErr result → self.new ≡ record (called self.old) { counts = disk_failed self.old.counts } }

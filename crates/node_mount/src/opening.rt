@@ -2,7 +2,7 @@
 ghost use Rattle.std.specs.Prelude.{◌≡◌, IsTrue, IfOk, IfErr};
 ghost use Rattle.lf_disk.specs.History.{now};
 ghost use Rattle.node_core.specs.Nodes.{history, parts_of, seen};
-ghost use Rattle.node_mount.specs.Opening.{config_of as told, primary_host as host_of, seen_anew, ComesBack, IsUnopened};
+ghost use Rattle.node_mount.specs.Opening.{config_of as given, primary_host as host_of, seen_anew, ComesBack, IsUnopened};
 ghost use Rattle.turn_desk.specs.Seats.{IsOf};
 ghost use Rattle.txn_log.specs.Durable.{Durable};
 ghost use Rattle.txn_log.specs.Putting.{IsSettled};
@@ -70,9 +70,9 @@ fn open_desk<D: Disk + Drop>(
     }
 }
 
-/// What a node is told of itself.
+/// What a node is given of itself.
 pub fn config_of(alloc: Global, settings: &Settings, node: u64) -> Result<NodeConfig, NoMemory>
-    ensures { IfOk result (λ config. config ≡ told settings.now node) }
+    ensures { IfOk result (λ config. config ≡ given settings.now node) }
 {
     let name = settings.database.copy()?;
     let primary_host = primary_host(alloc, settings)?;

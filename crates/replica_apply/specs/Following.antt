@@ -5,8 +5,7 @@ use Rattle.lf_base.specs.Faults.{Rose}
 use Rattle.lf_base.specs.declared.pos.Pos.{Pos}
 use Rattle.lf_base.specs.declared.session_end.SessionEnd.{SessionEnd}
 use Rattle.lf_base.specs.declared.session_end.SessionEnd.TheVariants as session
-use Rattle.turn_desk.specs.declared.history.Entry.{Entry}
-use Rattle.turn_desk.specs.History.{entry, IsLegal}
+use Rattle.turn_desk.specs.History.{entry}
 use Rattle.link_session.specs.declared.unread.Unread.{Unread}
 use Rattle.link_session.specs.declared.unread.Unread.TheVariants as unread
 use Rattle.link_session.specs.Frames.{IsBrokenFrame, IsFrame, IsFramePart}
@@ -161,7 +160,3 @@ pub record Follows (who : Asker) (name : List ℕ) (budget : ℕ) (old new : Sta
   pub left : ℕ
   pub ends : Ends who name old new left end
   pub spent : Uses {T = Unit {0}} budget old left new (Err end)
-
--- the history that the seat has seen stays one of the machine's steps
-pub record StaysLegal {M Q A : Type 0} (steps : M → ℕ → Q → A → M → Type 0) (opened : M) (before after : List (Entry Q A)) : Type 0 where
-  pub legal : IsLegal steps opened before → IsLegal steps opened after

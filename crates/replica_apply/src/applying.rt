@@ -1,10 +1,10 @@
 //! The stream of another node, applied to this one.
 ghost use Rattle.std.specs.Prelude.{◌≡◌};
-ghost use Rattle.link_session.specs.Seats.{FoundWorn};
+ghost use Rattle.link_session.specs.Seats.{FoundWorn, StaysLegal};
 ghost use Rattle.link_session.specs.Stands.{stand};
 ghost use Rattle.turn_desk.specs.Seats.{view, number_of, opened_on, IsOf};
 ghost use Rattle.replica_apply.specs.declared.follow_end.FollowEnd.TheVariants as ends;
-ghost use Rattle.replica_apply.specs.Following.{Follows, StaysLegal};
+ghost use Rattle.replica_apply.specs.Following.{Follows};
 
 use crate::follow_end::FollowEnd;
 use crate::seat::follow_seat;

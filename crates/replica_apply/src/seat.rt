@@ -1,10 +1,10 @@
 //! A stream followed by a seat of a desk, whose machine answers the asks of a node.
 ghost use Rattle.std.specs.Prelude.{◌≡◌};
-ghost use Rattle.link_session.specs.Seats.{FoundWorn};
+ghost use Rattle.link_session.specs.Seats.{FoundWorn, StaysLegal};
 ghost use Rattle.link_session.specs.Stands.{stand};
 ghost use Rattle.turn_desk.specs.Seats.{view, number_of, opened_on, IsOf};
 ghost use Rattle.replica_apply.specs.declared.follow_end.FollowEnd.TheVariants as ends;
-ghost use Rattle.replica_apply.specs.Following.{Follows, StaysLegal};
+ghost use Rattle.replica_apply.specs.Following.{Follows};
 
 use crate::follow_end::FollowEnd;
 use crate::following::follow_link;
@@ -45,26 +45,5 @@ pub fn follow_seat<
         desk,
         seat,
     };
-    follow_at(alloc, &mut steps, name, link, clock, pause, budget)
-}
-
-/// The same of a seat that is lent with its desk, and stays the same.
-fn follow_at<R: Wait + Copy, M: Machine<Ask = Ask, Answer = Answer>, L: Link, C: Clock, P: Pause>(
-    alloc: Global,
-    steps: &mut AtSeat<M, R>,
-    name: &Name,
-    link: &mut L,
-    clock: &mut C,
-    pause: &mut P,
-    budget: u64,
-) -> FollowEnd
-    ensures follows { Follows (record { caller = number_of steps.old.seat.now; may = C.may_give clock.old }) name.now budget (stand L.Link link.old (view steps.old.seat.now).mine) (stand L.Link link.new (view steps.new.seat.now).mine) result }
-    ensures worn { result ≡ ends.Worn → FoundWorn steps.new.seat.now }
-    ensures legal { StaysLegal M.steps (opened_on steps.old.desk.now) (view steps.old.seat.now).seen (view steps.new.seat.now).seen }
-    ensures seat { steps.new.seat.ghost_name ≡ steps.old.seat.ghost_name }
-    ensures desk { steps.new.desk.now ≡ steps.old.desk.now }
-    ensures number { number_of steps.new.seat.now ≡ number_of steps.old.seat.now }
-    ensures clock { C.may_give clock.new ≡ C.may_give clock.old }
-{
-    follow_link(alloc, steps, name, link, clock, pause, budget)
+    follow_link(alloc, &mut steps, name, link, clock, pause, budget)
 }

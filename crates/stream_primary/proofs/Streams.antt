@@ -1,4 +1,4 @@
--- Streams: what was told so far, and how they end.
+-- Streams: what was sent so far, and how they end.
 use Rattle.std.proofs.Common.{◌≡◌, inl, inr, ℕ, ◌+◌, Bool, true, false, IsTrue, List, [], ◌∷◌, ◌++◌, length, take, Option, Result, Ok, Err, OnOk, OnErr, refl, sym, ap, ◌∙◌, subst, append_assoc, append-nil, length-append, arith}
 use Rattle.std.specs.Io.KnownBytes.{Appends, Keeps}
 use Rattle.std.proofs.KnownBytes.{Appends-nil, Appends-trans, Keeps-refl}
@@ -14,7 +14,7 @@ use Rattle.link_session.specs.Writing.{AppendsPart}
 use Rattle.node_core.specs.declared.answer.Answer.{Answer}
 use Rattle.stream_primary.specs.declared.standing.Standing.{Standing}
 use Rattle.stream_primary.specs.Telling.{goes_on, next, standing_at, words}
-use Rattle.stream_primary.specs.Streaming.{NodeEntry, AreHellos, AsksHello, EndsRound, EndsTelling, IsHello, Streamed, Streams, behind, told_by}
+use Rattle.stream_primary.specs.Streaming.{NodeEntry, AreHellos, AsksHello, EndsRound, EndsTelling, IsHello, Streamed, Streams, behind, sent_by}
 use Rattle.stream_primary.proofs.Wholes.{kept_appends}
 
 -- ---- two texts, one behind the other
@@ -45,18 +45,18 @@ back_in_part old mid new front back (Err e) w a = part_of_back old mid new front
 
 -- ---- one Hello
 
--- it was asked, and so its answer was told
-pub told_on : (who : Asker) (name : List ℕ) (at : Standing) (given : Answer) (old new : Place NodeEntry) (before now turns : ℕ) (r : Result Standing SessionEnd)
+-- it was asked, and so its answer was sent
+pub sent_on : (who : Asker) (name : List ℕ) (at : Standing) (given : Answer) (old new : Place NodeEntry) (before now turns : ℕ) (r : Result Standing SessionEnd)
     → AsksHello who at.pos given old.entries new.entries → EndsTelling name at given old.taken new.taken before now turns r
     → EndsRound who name at old new before now turns r
-told_on who name at given old new before now turns (Ok then) h t = (given, record { hello = h; written = t.0 }, t.1, t.2, t.3)
-told_on who name at given old new before now turns (Err ends.Closed) h t = (given, record { hello = h; written = t.0 }, t.1, t.2)
-told_on who name at given old new before now turns (Err ends.WriteFault) h t = (given, record { hello = h; written = t.0 }, t.1)
-told_on who name at given old new before now turns (Err ends.Turns) h t = (inr (given, record { hello = h; written = t.0 }), t.1, t.2)
-told_on who name at given old new before now turns (Err ends.NoMemory) h t = ((given, record { hello = h; written = t.0 }), t.1)
-told_on who name at given old new before now turns (Err ends.ReadFault) h t = absurd t
-told_on who name at given old new before now turns (Err ends.BadMessage) h t = absurd t
-told_on who name at given old new before now turns (Err ends.Worn) h t = absurd t
+sent_on who name at given old new before now turns (Ok then) h t = (given, record { hello = h; written = t.0 }, t.1, t.2, t.3)
+sent_on who name at given old new before now turns (Err ends.Closed) h t = (given, record { hello = h; written = t.0 }, t.1, t.2)
+sent_on who name at given old new before now turns (Err ends.WriteFault) h t = (given, record { hello = h; written = t.0 }, t.1)
+sent_on who name at given old new before now turns (Err ends.Turns) h t = (inr (given, record { hello = h; written = t.0 }), t.1, t.2)
+sent_on who name at given old new before now turns (Err ends.NoMemory) h t = ((given, record { hello = h; written = t.0 }), t.1)
+sent_on who name at given old new before now turns (Err ends.ReadFault) h t = absurd t
+sent_on who name at given old new before now turns (Err ends.BadMessage) h t = absurd t
+sent_on who name at given old new before now turns (Err ends.Worn) h t = absurd t
 
 -- it was not asked
 pub not_asked : (T : Type 0) (who : Asker) (name : List ℕ) (at : Standing) (old new : Place NodeEntry) (count turns : ℕ) (worn : Type 0) (end : SessionEnd)
@@ -74,8 +74,8 @@ not_asked T who name at old new count turns worn ends.NoMemory same still e = ab
 -- ---- Hellos
 
 -- none yet
-pub none_told : (who : Asker) (name : List ℕ) (start : Standing) (place : Place NodeEntry) → Streamed who name start start place place
-none_told who name start place = record {
+pub none_sent : (who : Asker) (name : List ℕ) (start : Standing) (place : Place NodeEntry) → Streamed who name start start place place
+none_sent who name start place = record {
   hellos = [];
   each = tt;
   stands = refl;
@@ -92,22 +92,22 @@ behind_pushed : (start : Standing) (hellos : List NodeEntry) (one : NodeEntry) �
 behind_pushed start [] one = refl
 behind_pushed start (x ∷ xs) one = behind_pushed (next start x.answer) xs one
 
-told_pushed : (name : List ℕ) (start : Standing) (hellos : List NodeEntry) (one : NodeEntry)
-    → told_by name start hellos ++ words name (behind start hellos).told one.answer ≡ told_by name start (hellos ++ one ∷ [])
-told_pushed name start [] one = sym (append-nil (words name start.told one.answer))
-told_pushed name start (x ∷ xs) one =
-    append_assoc (words name start.told x.answer) (told_by name (next start x.answer) xs) (words name (behind (next start x.answer) xs).told one.answer)
-    ∙ ap (λ (bytes : List ℕ). words name start.told x.answer ++ bytes) (told_pushed name (next start x.answer) xs one)
+sent_pushed : (name : List ℕ) (start : Standing) (hellos : List NodeEntry) (one : NodeEntry)
+    → sent_by name start hellos ++ words name (behind start hellos).sent one.answer ≡ sent_by name start (hellos ++ one ∷ [])
+sent_pushed name start [] one = sym (append-nil (words name start.sent one.answer))
+sent_pushed name start (x ∷ xs) one =
+    append_assoc (words name start.sent x.answer) (sent_by name (next start x.answer) xs) (words name (behind (next start x.answer) xs).sent one.answer)
+    ∙ ap (λ (bytes : List ℕ). words name start.sent x.answer ++ bytes) (sent_pushed name (next start x.answer) xs one)
 
 is_true : (b : Bool) → b ≡ true → IsTrue b
 is_true true e = refl
 is_true false e = absurd cc
 
--- one more was told
-pub one_told : (who who_now : Asker) (name : List ℕ) (start at then : Standing) (old mid new : Place NodeEntry) (before now turns : ℕ) → who_now ≡ who → Streamed who name start at old mid
+-- one more was sent
+pub one_sent : (who who_now : Asker) (name : List ℕ) (start at then : Standing) (old mid new : Place NodeEntry) (before now turns : ℕ) → who_now ≡ who → Streamed who name start at old mid
     → EndsRound who_now name at mid new before now turns (Ok then) → Streamed who name start then old new
-one_told who who_now name start at then old mid new before now turns by s told =
-    let e : EndsRound who name at mid new before now turns (Ok then) = subst (λ (w : Asker). EndsRound w name at mid new before now turns (Ok then)) by told in
+one_sent who who_now name start at then old mid new before now turns by s sent =
+    let e : EndsRound who name at mid new before now turns (Ok then) = subst (λ (w : Asker). EndsRound w name at mid new before now turns (Ok then)) by sent in
     let given : Answer = e.0 in
     let one : NodeEntry = e.1.hello.one in
     let same : one.answer ≡ given = e.1.hello.answered in
@@ -118,10 +118,10 @@ one_told who who_now name start at then old mid new before now turns by s told =
       stands = e.3 ∙ ap (λ (st : Standing). next st given) s.stands ∙ ap (λ (a : Answer). next (behind start s.hellos) a) (sym same)
           ∙ sym (behind_pushed start s.hellos one);
       written = subst (λ (bytes : List ℕ). Appends old.taken new.taken bytes)
-          (ap (λ (st : Standing). told_by name start s.hellos ++ words name st.told given) s.stands
-          ∙ ap (λ (a : Answer). told_by name start s.hellos ++ words name (behind start s.hellos).told a) (sym same)
-          ∙ told_pushed name start s.hellos one)
-          (Appends-trans old.taken mid.taken new.taken (told_by name start s.hellos) (words name at.told given) s.written e.1.written);
+          (ap (λ (st : Standing). sent_by name start s.hellos ++ words name st.sent given) s.stands
+          ∙ ap (λ (a : Answer). sent_by name start s.hellos ++ words name (behind start s.hellos).sent a) (sym same)
+          ∙ sent_pushed name start s.hellos one)
+          (Appends-trans old.taken mid.taken new.taken (sent_by name start s.hellos) (words name at.sent given) s.written e.1.written);
       asked = e.1.hello.asked ∙ ap (λ (es : List NodeEntry). es ++ one ∷ []) s.asked ∙ append_assoc old.entries s.hellos (one ∷ []);
     }
 
@@ -135,7 +135,7 @@ stream_from who name from old mid new turns end kept entries faults s = record {
     hellos = s.rounds.hellos;
     each = s.rounds.each;
     stands = s.rounds.stands;
-    written = kept_appends old.place.taken mid.place.taken s.place.taken (told_by name (standing_at from) s.rounds.hellos) kept s.rounds.written;
+    written = kept_appends old.place.taken mid.place.taken s.place.taken (sent_by name (standing_at from) s.rounds.hellos) kept s.rounds.written;
     asked = s.rounds.asked ∙ ap (λ (es : List NodeEntry). es ++ s.rounds.hellos) entries;
   };
   last = subst (λ (count : ℕ). EndsRound who name s.at s.place new.place count new.faults turns (Err end)) faults s.last;

@@ -2,8 +2,6 @@
 use Rattle.std.specs.Prelude.{◌≡◌, ℕ, true, List, [], Err}
 use Rattle.lf_base.specs.declared.pos.Pos.{Pos}
 use Rattle.lf_base.specs.declared.session_end.SessionEnd.{SessionEnd}
-use Rattle.turn_desk.specs.declared.history.Entry.{Entry}
-use Rattle.turn_desk.specs.History.{IsLegal}
 use Rattle.link_session.specs.Reading.{EndsReading}
 use Rattle.link_session.specs.Stands.{Asker, IsStill, Spends, Stand}
 use Rattle.stream_wire.specs.Head.{NeverTakesRequest}
@@ -28,7 +26,3 @@ pub record IsSession (who : Asker) (name : List ℕ) (budget : ℕ) (old new : S
   pub left : ℕ
   pub ends : Ends who name old new left end
   pub spent : Spends {T = Unit {0}} budget old left new (Err end)
-
--- the history that the seat has seen stays one of the machine's steps
-pub record StaysLegal {M Q A : Type 0} (steps : M → ℕ → Q → A → M → Type 0) (opened : M) (before after : List (Entry Q A)) : Type 0 where
-  pub legal : IsLegal steps opened before → IsLegal steps opened after

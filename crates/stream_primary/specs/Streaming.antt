@@ -37,16 +37,16 @@ behind at [] = at
 behind at (one ∷ more) = behind (next at one.answer) more
 
 -- THE BYTES that they are to it, one after another
-abbrev pub told_by : List ℕ → Standing → List NodeEntry → List ℕ
-told_by name at [] = []
-told_by name at (one ∷ more) = words name at.told one.answer ++ told_by name (next at one.answer) more
+abbrev pub sent_by : List ℕ → Standing → List NodeEntry → List ℕ
+sent_by name at [] = []
+sent_by name at (one ∷ more) = words name at.sent one.answer ++ sent_by name (next at one.answer) more
 
--- Hellos were asked, and their answers told
+-- Hellos were asked, and their answers sent
 pub record Streamed (who : Asker) (name : List ℕ) (start at : Standing) (old new : Place NodeEntry) : Type 0 where
   pub hellos : List NodeEntry
   pub each : AreHellos who start hellos
   pub stands : at ≡ behind start hellos
-  pub written : Appends old.taken new.taken (told_by name start hellos)
+  pub written : Appends old.taken new.taken (sent_by name start hellos)
   pub asked : new.entries ≡ old.entries ++ hellos
 
 -- one Hello more was asked
@@ -56,23 +56,23 @@ pub record AsksHello (who : Asker) (pos : Pos) (given : Answer) (old new : List 
   pub answered : one.answer ≡ given
   pub asked : new ≡ old ++ one ∷ []
 
--- and its answer told
+-- and its answer sent
 pub record IsRound (who : Asker) (name : List ℕ) (at : Standing) (given : Answer) (old new : Place NodeEntry) : Type 0 where
   pub hello : AsksHello who at.pos given old.entries new.entries
-  pub written : Appends old.taken new.taken (words name at.told given)
+  pub written : Appends old.taken new.taken (words name at.sent given)
 
--- and its answer told in part
+-- and its answer sent in part
 pub record IsHalfRound (who : Asker) (name : List ℕ) (at : Standing) (given : Answer) (old new : Place NodeEntry) : Type 0 where
   pub hello : AsksHello who at.pos given old.entries new.entries
-  pub written : AppendsPart old.taken new.taken (words name at.told given)
+  pub written : AppendsPart old.taken new.taken (words name at.sent given)
 
--- and nothing of its answer told
-pub record IsUntold (who : Asker) (at : Standing) (given : Answer) (old new : Place NodeEntry) : Type 0 where
+-- and nothing of its answer sent
+pub record IsUnsent (who : Asker) (at : Standing) (given : Answer) (old new : Place NodeEntry) : Type 0 where
   pub hello : AsksHello who at.pos given old.entries new.entries
   pub written : Keeps old.taken new.taken
 
 -- what became of one Hello, and of the count of faults. The stream goes on, standing so; or it is at its end, since the Hello was
--- refused; or its answer was not told whole; or it was not asked
+-- refused; or its answer was not sent whole; or it was not asked
 abbrev pub EndsRound : Asker → List ℕ → Standing → Place NodeEntry → Place NodeEntry → ℕ → ℕ → ℕ → Result Standing SessionEnd → Type 0
 EndsRound who name at old new before now turns (Ok then) =
     (given : Answer) × IsRound who name at given old new × (goes_on given ≡ true) × (then ≡ next at given) × (now ≡ before)
@@ -84,17 +84,17 @@ EndsRound who name at old new before now turns (Err ends.Turns) =
     (IsStill old new ⊎ ((given : Answer) × IsHalfRound who name at given old new)) × (turns ≡ 0) × (now ≡ before)
 EndsRound who name at old new before now turns (Err ends.Worn) = IsStill old new × (now ≡ before)
 EndsRound who name at old new before now turns (Err ends.NoMemory) =
-    ((given : Answer) × IsUntold who at given old new) × (now ≡ before)
+    ((given : Answer) × IsUnsent who at given old new) × (now ≡ before)
 EndsRound who name at old new before now turns (Err _) = ⊥
 
--- what became of an answer that was to be told: it was, and the stream goes on or is at its end; or a part of it was; or nothing
+-- what became of an answer that was to be sent: it was, and the stream goes on or is at its end; or a part of it was; or nothing
 abbrev pub EndsTelling : List ℕ → Standing → Answer → Option (List ℕ) → Option (List ℕ) → ℕ → ℕ → ℕ → Result Standing SessionEnd → Type 0
 EndsTelling name at given old new before now turns (Ok then) =
-    Appends old new (words name at.told given) × (goes_on given ≡ true) × (then ≡ next at given) × (now ≡ before)
+    Appends old new (words name at.sent given) × (goes_on given ≡ true) × (then ≡ next at given) × (now ≡ before)
 EndsTelling name at given old new before now turns (Err ends.Closed) =
-    Appends old new (words name at.told given) × (goes_on given ≡ false) × (now ≡ before)
-EndsTelling name at given old new before now turns (Err ends.WriteFault) = AppendsPart old new (words name at.told given) × Rose before now
-EndsTelling name at given old new before now turns (Err ends.Turns) = AppendsPart old new (words name at.told given) × (turns ≡ 0) × (now ≡ before)
+    Appends old new (words name at.sent given) × (goes_on given ≡ false) × (now ≡ before)
+EndsTelling name at given old new before now turns (Err ends.WriteFault) = AppendsPart old new (words name at.sent given) × Rose before now
+EndsTelling name at given old new before now turns (Err ends.Turns) = AppendsPart old new (words name at.sent given) × (turns ≡ 0) × (now ≡ before)
 EndsTelling name at given old new before now turns (Err ends.NoMemory) = Keeps old new × (now ≡ before)
 EndsTelling name at given old new before now turns (Err _) = ⊥
 

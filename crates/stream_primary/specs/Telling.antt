@@ -7,8 +7,8 @@ use Rattle.node_core.specs.declared.refusal.Refusal.TheVariants as refusal
 use Rattle.stream_wire.specs.declared.frame.Frame.TheVariants as frame
 use Rattle.stream_wire.specs.Frame.{frame_text}
 use Rattle.stream_wire.specs.Writing.{reply_head}
-use Rattle.stream_primary.specs.declared.standing.Told.{Told}
-use Rattle.stream_primary.specs.declared.standing.Told.TheVariants as told
+use Rattle.stream_primary.specs.declared.standing.Sent.{Sent}
+use Rattle.stream_primary.specs.declared.standing.Sent.TheVariants as sent
 use Rattle.stream_primary.specs.declared.standing.Standing.{Standing}
 use Rattle.stream_primary.specs.Refusing.{refused_reply}
 
@@ -20,21 +20,21 @@ goes_on (answer.Level pos) = true
 goes_on _ = false
 
 -- the head of the reply, which has no length, where it was not written before
-abbrev pub opening : Told → List ℕ
-opening told.Nothing = reply_head 200 None
+abbrev pub opening : Sent → List ℕ
+opening sent.Nothing = reply_head 200 None
 opening _ = []
 
--- that the follower is level is told once
-abbrev pub ready_frame : List ℕ → Told → Pos → List ℕ
-ready_frame name told.Ready pos = []
+-- that the follower is level is sent once
+abbrev pub ready_frame : List ℕ → Sent → Pos → List ℕ
+ready_frame name sent.Ready pos = []
 ready_frame name _ pos = frame_text (frame.Ready name pos)
 
 -- the frame that an answer is
-abbrev pub frame_for : List ℕ → Told → Answer → List ℕ
-frame_for name told (answer.Item ltx after) = frame_text (frame.Ltx name ltx)
-frame_for name told answer.Gone = frame_text (frame.Drop name)
-frame_for name told (answer.Level pos) = ready_frame name told pos
-frame_for name told _ = []
+abbrev pub frame_for : List ℕ → Sent → Answer → List ℕ
+frame_for name sent (answer.Item ltx after) = frame_text (frame.Ltx name ltx)
+frame_for name sent answer.Gone = frame_text (frame.Drop name)
+frame_for name sent (answer.Level pos) = ready_frame name sent pos
+frame_for name sent _ = []
 
 -- the end of a stream that has begun: an End where the node is no primary any longer, else nothing
 abbrev pub end_frame : Answer → List ℕ
@@ -42,31 +42,31 @@ end_frame (answer.Refused refusal.NotPrimary) = frame_text frame.End
 end_frame _ = []
 
 -- what ends a stream: the reply where none was begun
-abbrev pub last_words : Told → Answer → List ℕ
-last_words told.Nothing given = refused_reply given
+abbrev pub last_words : Sent → Answer → List ℕ
+last_words sent.Nothing given = refused_reply given
 last_words _ given = end_frame given
 
 -- THE BYTES that an answer is to a follower of this database
-abbrev pub words : List ℕ → Told → Answer → List ℕ
-words name told given = if goes_on given then opening told ++ frame_for name told given else last_words told given
+abbrev pub words : List ℕ → Sent → Answer → List ℕ
+words name sent given = if goes_on given then opening sent ++ frame_for name sent given else last_words sent given
 
 -- of these the file, which is written from where it stands
 abbrev pub file_of : Answer → List ℕ
 file_of (answer.Item ltx after) = ltx
 file_of _ = []
 
--- it was told something
-abbrev pub begun : Told → Told
-begun told.Ready = told.Ready
-begun _ = told.Head
+-- it was sent something
+abbrev pub begun : Sent → Sent
+begun sent.Ready = sent.Ready
+begun _ = sent.Head
 
 -- THE NEXT STANDING, behind this answer: behind a drop the follower has nothing
 abbrev pub next : Standing → Answer → Standing
-next at (answer.Item ltx after) = record { pos = after; told = begun at.told }
-next at answer.Gone = record { pos = record { txid = 0; sum = 0 }; told = begun at.told }
-next at (answer.Level pos) = record { pos = at.pos; told = told.Ready }
+next at (answer.Item ltx after) = record { pos = after; sent = begun at.sent }
+next at answer.Gone = record { pos = record { txid = 0; sum = 0 }; sent = begun at.sent }
+next at (answer.Level pos) = record { pos = at.pos; sent = sent.Ready }
 next at _ = at
 
--- a stream from a position on, before anything was told
+-- a stream from a position on, before anything was sent
 abbrev pub standing_at : Pos → Standing
-standing_at pos = record { pos = pos; told = told.Nothing }
+standing_at pos = record { pos = pos; sent = sent.Nothing }

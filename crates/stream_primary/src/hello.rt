@@ -1,4 +1,4 @@
-//! One Hello: it is asked, and its answer told.
+//! One Hello: it is asked, and its answer sent.
 ghost use Rattle.std.specs.Prelude.{◌≡◌, ◌++◌, length, Err, IfErr, IfOk, OnErr, OnOk};
 ghost use Rattle.std.specs.Io.KnownBytes.{Appends, Keeps};
 ghost use Rattle.lf_base.specs.declared.session_end.SessionEnd.TheVariants as ends;
@@ -17,7 +17,7 @@ use std::alloc::Global;
 
 /// Asks one Hello and tells its answer, and answers how the follower stands then.
 ///
-/// Closed where the Hello was refused, and that is told.
+/// Closed where the Hello was refused, and that is sent.
 pub fn greet<S: Steps<Ask = Ask, Answer = Answer>, L: Link, C: Clock, P: Pause>(
     alloc: Global,
     steps: &mut S,
@@ -79,11 +79,11 @@ fn tell<L: Link, P: Pause>(
     text: &mut Vec<u8>,
     turns: &mut Turns,
 ) -> Result<Standing, SessionEnd>
-    ensures told { EndsTelling name.now at answer (L.taken link.old) (L.taken link.new) (L.faults link.old) (L.faults link.new) turns.new result }
+    ensures sent { EndsTelling name.now at answer (L.taken link.old) (L.taken link.new) (L.faults link.old) (L.faults link.new) turns.new result }
     ensures left { Keeps (L.left link.old) (L.left link.new) }
     ensures spent { MovesFor result turns.old (L.moves link.old) turns.new (L.moves link.new) }
 {
-    match put_words(alloc, name, at.told, &answer, text) {
+    match put_words(alloc, name, at.sent, &answer, text) {
         Ok(()) => {}
         Err(_) => return Err(SessionEnd::NoMemory),
     }

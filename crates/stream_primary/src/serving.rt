@@ -1,10 +1,10 @@
 //! The calls of a node over HTTP.
 ghost use Rattle.std.specs.Prelude.{◌≡◌};
 ghost use Rattle.lf_base.specs.declared.session_end.SessionEnd.TheVariants as ends;
-ghost use Rattle.link_session.specs.Seats.{FoundWorn};
+ghost use Rattle.link_session.specs.Seats.{FoundWorn, StaysLegal};
 ghost use Rattle.link_session.specs.Stands.{stand};
 ghost use Rattle.turn_desk.specs.Seats.{view, number_of, opened_on, IsOf};
-ghost use Rattle.stream_primary.specs.Session.{IsSession, StaysLegal};
+ghost use Rattle.stream_primary.specs.Session.{IsSession};
 
 use crate::seat::serve_seat;
 use lf_base::{Clock, Link, Name, Pause, SessionEnd};

@@ -1,8 +1,8 @@
 use lf_base::Pos;
 
-/// What a follower was told of its stream.
+/// What a follower was sent of its stream.
 #[derive(Clone, Copy, Debug, PartialEq, Eq)]
-pub enum Told {
+pub enum Sent {
     /// Nothing, not even the head of the reply.
     Nothing,
     /// That the stream has begun.
@@ -14,7 +14,7 @@ pub enum Told {
 /// How a follower stands.
 #[derive(Clone, Copy, Debug, PartialEq, Eq)]
 pub struct Standing {
-    /// The position that it has, once it has applied what it was told.
+    /// The position that it has, once it has applied what it was sent.
     pub pos: Pos,
-    pub told: Told,
+    pub sent: Sent,
 }

@@ -6,14 +6,14 @@ ghost use Rattle.link_session.specs.Stands.{asker, stand, AsksOn, Spends};
 ghost use Rattle.stream_primary.specs.Streaming.{Streams};
 
 use crate::hello::greet;
-use crate::standing::{Standing, Told};
+use crate::standing::{Sent, Standing};
 use lf_base::{Clock, Link, Name, Pause, Pos, SessionEnd};
 use link_session::{Steps, Turns};
 use node_core::{Answer, Ask};
 use std::alloc::Global;
 
 /// Streams to a follower at this position, to the end of the session: one Hello after another, each
-/// told before the next is asked.
+/// sent before the next is asked.
 pub fn stream<S: Steps<Ask = Ask, Answer = Answer>, L: Link, C: Clock, P: Pause>(
     alloc: Global,
     steps: &mut S,
@@ -33,7 +33,7 @@ pub fn stream<S: Steps<Ask = Ask, Answer = Answer>, L: Link, C: Clock, P: Pause>
     let mut text = Vec::new(alloc);
     let mut at = Standing {
         pos,
-        told: Told::Nothing,
+        sent: Sent::Nothing,
     };
     'hellos: loop {
         match greet(alloc, steps, name, link, clock, pause, at, &mut text, turns) {

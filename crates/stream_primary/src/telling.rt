@@ -5,7 +5,7 @@ ghost use Rattle.stream_wire.specs.Frame.{frame_text};
 ghost use Rattle.stream_wire.specs.declared.frame.Frame.TheVariants as frame;
 
 use crate::replies::put_refused;
-use crate::standing::{Standing, Told};
+use crate::standing::{Sent, Standing};
 use lf_base::{Name, NoMemory, Pos};
 use node_core::{Answer, Refusal};
 use std::alloc::Global;
@@ -28,26 +28,26 @@ pub fn next(at: Standing, answer: &Answer) -> Standing
     match answer {
         Answer::Item { after, .. } => Standing {
             pos: *after,
-            told: begun(at.told),
+            sent: begun(at.sent),
         },
         Answer::Gone => Standing {
             pos: Pos { txid: 0, sum: 0 },
-            told: begun(at.told),
+            sent: begun(at.sent),
         },
         Answer::Level(_) => Standing {
             pos: at.pos,
-            told: Told::Ready,
+            sent: Sent::Ready,
         },
         _ => at,
     }
 }
 
-fn begun(told: Told) -> Told
-    ensures { result ≡ begun told }
+fn begun(sent: Sent) -> Sent
+    ensures { result ≡ begun sent }
 {
-    match told {
-        Told::Ready => Told::Ready,
-        _ => Told::Head,
+    match sent {
+        Sent::Ready => Sent::Ready,
+        _ => Sent::Head,
     }
 }
 
@@ -65,38 +65,38 @@ pub fn file_of(answer: &Answer) -> &[u8]
 pub fn put_words(
     alloc: Global,
     name: &Name,
-    told: Told,
+    sent: Sent,
     answer: &Answer,
     text: &mut Vec<u8>,
 ) -> Result<(), NoMemory>
-    ensures { OnOk result (text.new.items ++ file_of answer.now ≡ words name.now told answer.now) }
+    ensures { OnOk result (text.new.items ++ file_of answer.now ≡ words name.now sent answer.now) }
 {
     text.clear();
     if !goes_on(answer) {
-        return put_last_words(alloc, told, answer, text);
+        return put_last_words(alloc, sent, answer, text);
     }
-    match put_opening(alloc, told, text) {
-        Ok(()) => put_frame(name, told, answer, text),
+    match put_opening(alloc, sent, text) {
+        Ok(()) => put_frame(name, sent, answer, text),
         Err(_) => Err(NoMemory),
     }
 }
 
-fn put_opening(alloc: Global, told: Told, text: &mut Vec<u8>) -> Result<(), NoMemory>
-    ensures { OnOk result (text.new.items ≡ text.old.items ++ opening told) }
+fn put_opening(alloc: Global, sent: Sent, text: &mut Vec<u8>) -> Result<(), NoMemory>
+    ensures { OnOk result (text.new.items ≡ text.old.items ++ opening sent) }
 {
-    match told {
-        Told::Nothing => write_head(alloc, 200, None, text),
-        Told::Head | Told::Ready => Ok(()),
+    match sent {
+        Sent::Nothing => write_head(alloc, 200, None, text),
+        Sent::Head | Sent::Ready => Ok(()),
     }
 }
 
-fn put_frame(name: &Name, told: Told, answer: &Answer, text: &mut Vec<u8>) -> Result<(), NoMemory>
-    ensures { OnOk result (text.new.items ++ file_of answer.now ≡ text.old.items ++ frame_for name.now told answer.now) }
+fn put_frame(name: &Name, sent: Sent, answer: &Answer, text: &mut Vec<u8>) -> Result<(), NoMemory>
+    ensures { OnOk result (text.new.items ++ file_of answer.now ≡ text.old.items ++ frame_for name.now sent answer.now) }
 {
     match answer {
         Answer::Item { ltx, .. } => put_front(name, ltx.as_slice(), text),
         Answer::Gone => put_drop(name, text),
-        Answer::Level(pos) => put_ready(name, told, *pos, text),
+        Answer::Level(pos) => put_ready(name, sent, *pos, text),
         _ => Ok(()),
     }
 }
@@ -114,10 +114,10 @@ fn put_drop(name: &Name, text: &mut Vec<u8>) -> Result<(), NoMemory>
     encode_frame(&Frame::Drop { name }, text)
 }
 
-fn put_ready(name: &Name, told: Told, pos: Pos, text: &mut Vec<u8>) -> Result<(), NoMemory>
-    ensures { OnOk result (text.new.items ≡ text.old.items ++ ready_frame name.now told pos) }
+fn put_ready(name: &Name, sent: Sent, pos: Pos, text: &mut Vec<u8>) -> Result<(), NoMemory>
+    ensures { OnOk result (text.new.items ≡ text.old.items ++ ready_frame name.now sent pos) }
 {
-    if told == Told::Ready {
+    if sent == Sent::Ready {
         return Ok(());
     }
     let name = name.copy()?;
@@ -127,16 +127,16 @@ fn put_ready(name: &Name, told: Told, pos: Pos, text: &mut Vec<u8>) -> Result<()
 /// Appends what ends the stream, or the reply where none was begun.
 fn put_last_words(
     alloc: Global,
-    told: Told,
+    sent: Sent,
     answer: &Answer,
     text: &mut Vec<u8>,
 ) -> Result<(), NoMemory>
     requires { goes_on answer.now ≡ false }
-    ensures { OnOk result (text.new.items ++ file_of answer.now ≡ text.old.items ++ last_words told answer.now) }
+    ensures { OnOk result (text.new.items ++ file_of answer.now ≡ text.old.items ++ last_words sent answer.now) }
 {
-    match told {
-        Told::Nothing => put_refused(alloc, answer, text),
-        Told::Head | Told::Ready => put_end(answer, text),
+    match sent {
+        Sent::Nothing => put_refused(alloc, answer, text),
+        Sent::Head | Sent::Ready => put_end(answer, text),
     }
 }
 

@@ -1,4 +1,4 @@
-//! Each fake fails once, at the call that it was told. A test that passes the runtime
+//! Each fake fails once, at the planned call. A test that passes the runtime
 //! on names its types of sockets, as the check wants.
 ghost use Rattle.std.specs.Prelude.{IfSome};
 ghost use Rattle.lf_base.specs.Doors.{IsUnused};
@@ -23,7 +23,7 @@ fn failing_link(alloc: Global) -> Option<MemLink>
 }
 
 #[test]
-fn a_link_fails_when_told_and_past_its_room(rt: HostRuntime) -> Result<(), Fail> {
+fn a_link_fails_where_planned_and_past_its_room(rt: HostRuntime) -> Result<(), Fail> {
     let alloc = rt.alloc();
     let input = vec![in alloc; b'a', b'b', b'c']?;
     let failing = vec![in alloc; 1u64]?;
@@ -46,7 +46,7 @@ fn a_link_fails_when_told_and_past_its_room(rt: HostRuntime) -> Result<(), Fail>
 }
 
 #[test]
-fn an_acceptor_fails_when_told(rt: HostRuntime) -> Result<(), Fail> {
+fn an_acceptor_fails_where_planned(rt: HostRuntime) -> Result<(), Fail> {
     let _named: Option<(TcpListener, TcpStream)> = None;
     let link = failing_link(rt.alloc()).ok_or("a link")?;
     let mut links = Vec::new(rt.alloc());
@@ -59,10 +59,10 @@ fn an_acceptor_fails_when_told(rt: HostRuntime) -> Result<(), Fail> {
     Ok(())
 }
 
-/// The first dial fails as told, the link of the second fails its read, and the third dial is past
+/// The first dial fails as planned, the link of the second fails its read, and the third dial is past
 /// the places.
 #[test]
-fn a_dialer_fails_when_told_and_past_its_places(rt: HostRuntime) -> Result<(), Fail> {
+fn a_dialer_fails_where_planned_and_past_its_places(rt: HostRuntime) -> Result<(), Fail> {
     let _named: Option<(TcpListener, TcpStream)> = None;
     let mut links = Vec::new(rt.alloc());
     let link = failing_link(rt.alloc()).ok_or("a link")?;
@@ -96,7 +96,7 @@ impl<R: Copy> Job<R> for Count {
 }
 
 #[test]
-fn a_spawner_refuses_when_told(rt: HostRuntime) -> Result<(), Fail> {
+fn a_spawner_refuses_where_planned(rt: HostRuntime) -> Result<(), Fail> {
     let _named: Option<(TcpListener, TcpStream)> = None;
     let went = Arc::new(rt.alloc(), AtomicU64::new(0))?;
     let failing = vec![in rt.alloc(); 1u64]?;

@@ -1,4 +1,4 @@
-//! A disk in memory meets the contract of a disk, and fails the calls that it was told to fail.
+//! A disk in memory meets the contract of a disk, and fails the calls that are planned to fail.
 ghost use Rattle.std.specs.Prelude.{◌≡◌, ◌↔◌, ◌≤◌, length, true, None, option_map, IsTrue, IsSome, IsErr, IsErrOf, IfOk, OnOk, OnErr, Contains};
 ghost use Rattle.std.specs.List.{IsDistinct};
 ghost use Rattle.lf_base.specs.Faults.{CountsFaults, one_more};

@@ -138,7 +138,7 @@ fn rows() -> [Row; 24] {
             size: 1,
             ..worked()
         },
-        // A level is told once, and a fault ends the stream without a word.
+        // A level is sent once, and a fault ends the stream without a word.
         streamed(
             STREAM,
             &[Word::File, Word::Level, Word::Level, Word::Disk],

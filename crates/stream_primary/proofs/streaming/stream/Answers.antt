@@ -2,15 +2,15 @@ use Rattle.std.proofs.Common.{◌∙◌, arith}
 use Rattle.std.proofs.KnownBytes.{Keeps-trans}
 use Rattle.link_session.specs.Stands.{stand}
 use Rattle.link_session.proofs.Stands.{same_asker, spent_on}
-use Rattle.stream_primary.proofs.Streams.{one_told}
+use Rattle.stream_primary.proofs.Streams.{one_sent}
 use Rattle.stream_primary.proofs.streaming.stream.Goals as goal
 
 pub hellos-preserved : goal.hellos-preserved
 hellos-preserved g c = record {
-  told = one_told _ _ _ _ c.hellos.at c.in-Ok.next _
+  sent = one_sent _ _ _ _ c.hellos.at c.in-Ok.next _
       (stand g.L.Link c.hellos.link (g.S.Steps.entries c.hellos.steps)).place (stand g.L.Link c.greet.new.link (g.S.Steps.entries c.greet.new.steps)).place
       (g.L.Link.faults c.hellos.link) (g.L.Link.faults c.greet.new.link) c.greet.new.turns
-      (same_asker _ _ _ _ c.hellos.invariant.same.1 c.hellos.invariant.same.3) c.hellos.invariant.told c.in-Ok.ensures.round;
+      (same_asker _ _ _ _ c.hellos.invariant.same.1 c.hellos.invariant.same.3) c.hellos.invariant.sent c.in-Ok.ensures.round;
   left = Keeps-trans _ _ _ c.hellos.invariant.left c.greet.ensures.left;
   same = (
     c.greet.ensures.same.0 ∙ c.hellos.invariant.same.0,
