@@ -2,7 +2,7 @@
 use Rattle.std.proofs.Common.{◌≡◌, ℕ, IsSome, List, [], ◌∷◌, ◌++◌, Option, Some, None, inl, inr, refl, sym, ap, subst, ◌∙◌}
 use Rattle.lf_disk.specs.Folder.{Folder}
 use Rattle.world_laws.specs.Events as events
-use Rattle.world_laws.specs.Events.{Event, Grants, Leases, Loses, Opens, Renews, Reopens, Steps, Turns}
+use Rattle.world_laws.specs.Events.{Event, Grants, Loses, Opens, Renews, Reopens, Steps, Turns}
 use Rattle.world_laws.specs.Node as laws
 use Rattle.world_laws.specs.Node.{NodeState}
 use Rattle.world_laws.specs.Premises.{FindsACandidate}

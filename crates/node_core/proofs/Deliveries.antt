@@ -4,7 +4,7 @@ use Rattle.byte_locks.specs.declared.owner.Owner.{Owner}
 use Rattle.world_laws.specs.CatchUpLaw.{AnswersByWhole, DropInstalls, IsFreeRefusal, IsWhole, SentFileApplies, SnapshotInstalls}
 use Rattle.world_laws.specs.Events.{Turns}
 use Rattle.world_laws.specs.Node as laws
-use Rattle.world_laws.specs.Node.{IsSoundNode, NodeState}
+use Rattle.world_laws.specs.Node.{IsSoundNode}
 use Rattle.world_laws.specs.ReaderLaw.{ReadRuns, ReaderSteady, reads}
 use Rattle.world_laws.specs.ReaderLaw as reader
 use Rattle.world_laws.specs.Step.{StepFacts}

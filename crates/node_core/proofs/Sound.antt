@@ -10,7 +10,7 @@ use Rattle.database_under_log.specs.Over.{Agrees}
 use Rattle.file_view.specs.Overlay.{IsOverImage}
 use Rattle.file_view.specs.Served.{Served, log_contents}
 use Rattle.world_laws.specs.Node as laws
-use Rattle.world_laws.specs.Node.{IsPlain, IsSoundNode}
+use Rattle.world_laws.specs.Node.{IsSoundNode}
 use Rattle.world_laws.specs.Served.{IsUnder, MeetsOverlay, ShareForReading}
 use Rattle.node_core.specs.Nodes.{NodeParts, seen, served_over, writer_in}
 use Rattle.node_core.specs.Roles.{law_role, role_by}

@@ -1,7 +1,6 @@
 //! The log keeps its newest files.
-ghost use Rattle.std.specs.Prelude.{◌≡◌, ℕ, IsTrue, max};
-ghost use Rattle.node_core.specs.Nodes.{history, parts_of, seen};
-ghost use Rattle.node_core.specs.Pruning.{AnswersPrune};
+ghost use Rattle.std.specs.Prelude.{ℕ};
+ghost use Rattle.node_core.specs.Nodes.{history, parts_of};
 ghost use Rattle.node_core.specs.Steps.{IsStep};
 
 use crate::answer::Answer;

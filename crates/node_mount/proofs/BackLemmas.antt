@@ -1,5 +1,5 @@
 -- What came back, object by object.
-use Rattle.std.proofs.Common.{◌≡◌, ◌≢◌, ◌⊎◌, inl, inr, ℕ, ◌^◌, Bool, true, List, [], ◌∷◌, ◌++◌, Option, Some, None, Result, Ok, Err, OnOk, IfErr, IsTrue, ap, refl, ◌∙◌, append_assoc}
+use Rattle.std.proofs.Common.{◌≡◌, inl, inr, ℕ, Bool, true, List, [], ◌∷◌, ◌++◌, Option, Some, None, Result, Ok, Err, OnOk, IsTrue, ap, refl, ◌∙◌, append_assoc}
 use Rattle.lf_disk.specs.History.{History, now}
 use Rattle.node_recovery.specs.declared.fault.RecoverFault.{RecoverFault}
 use Rattle.node_recovery.specs.declared.fault.RecoverFault.TheVariants as recovery
@@ -11,7 +11,7 @@ use Rattle.node_mount.specs.declared.returned.Returned.TheVariants as returned
 use Rattle.node_mount.specs.Damage.{DamageHasCause}
 use Rattle.node_mount.specs.Making.{TakesBack}
 use Rattle.node_mount.specs.Mounting.{fault_of, IsOfReading, IsServing}
-use Rattle.node_mount.specs.Returns.{GivesBack, AllBack, CameBack}
+use Rattle.node_mount.specs.Returns.{GivesBack, CameBack}
 use Rattle.node_mount.specs.Serving.{CountsServing, GivesLimit}
 
 -- one object

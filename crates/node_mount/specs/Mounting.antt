@@ -1,5 +1,5 @@
 -- How a node that was started ends.
-use Rattle.std.specs.Prelude.{◌≡◌, ℕ, Result, Ok, Err}
+use Rattle.std.specs.Prelude.{◌≡◌, ℕ, Result, Err}
 use Rattle.node_recovery.specs.declared.fault.RecoverFault.{RecoverFault}
 use Rattle.node_recovery.specs.declared.fault.RecoverFault.TheVariants as recovery
 use Rattle.node_mount.specs.Configuring.{CountsSource}

@@ -1,5 +1,5 @@
 -- What a node is given of itself, and the node that is opened over a disk.
-use Rattle.std.specs.Prelude.{◌≡◌, ℕ, Bool, None, List, [], Result, Ok, Err, IsTrue, if◌then◌else◌}
+use Rattle.std.specs.Prelude.{◌≡◌, ℕ, Bool, None, List, [], if◌then◌else◌}
 use Rattle.lf_disk.specs.Folder.{Folder}
 use Rattle.node_core.specs.Roles.{law_role, role_of}
 use Rattle.node_core.specs.declared.config.NodeConfig.{NodeConfig}

@@ -1,4 +1,4 @@
-ghost use Rattle.std.specs.Prelude.{◌≡◌, ℕ, Option, List, IfOk};
+ghost use Rattle.std.specs.Prelude.{◌≡◌, Option, List, IfOk};
 ghost use Rattle.node_mount.specs.declared.counts.Counts.{Counts};
 ghost use Rattle.node_mount.specs.Making.{DisksRose, NetworkRose, SpawnersRose, FailsBy, TellsBy, IsAtRest, IsNew, TakesBack};
 

@@ -1,5 +1,4 @@
 //! A maker of the system's objects.
-ghost use Rattle.std.specs.Prelude.{◌≡◌, IfOk};
 ghost use Rattle.node_mount.specs.Keeping.{told_by};
 
 use crate::counts::Counts;

@@ -1,6 +1,5 @@
 //! Where the node stands.
 ghost use Rattle.std.specs.Prelude.{◌≡◌, length, IfErr};
-ghost use Rattle.link_session.specs.Stands.{asker, AsksOn};
 ghost use Rattle.replica_apply.specs.declared.follow_end.FollowEnd.TheVariants as ends;
 ghost use Rattle.replica_apply.specs.Following.{Asks, SaysWhere};
 

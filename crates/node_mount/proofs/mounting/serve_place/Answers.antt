@@ -2,7 +2,6 @@ use Rattle.std.proofs.Common.{◌∙◌, subst}
 use Rattle.node_mount.specs.Making.{TakesBack}
 use Rattle.node_mount.specs.declared.returned.Returned.TheVariants as returned
 use Rattle.node_mount.proofs.BackLemmas.{three_back, served_back}
-use Rattle.node_mount.proofs.ServingLemmas.{counts_serves}
 use Rattle.node_mount.proofs.mounting.serve_place.Goals as goal
 
 pub returns-clause-back : goal.returns-clause-back

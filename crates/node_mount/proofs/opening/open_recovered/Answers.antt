@@ -1,7 +1,5 @@
 use Rattle.std.proofs.Common.{◌≡◌, ◌∙◌, ap, Bool, None}
-use Rattle.lf_disk.specs.History.{History}
 use Rattle.world_laws.specs.Served.{untouched}
-use Rattle.world_laws.specs.Store.{Failure, StoreState}
 use Rattle.node_core.specs.Nodes.{history, parts_of, seen}
 use Rattle.node_core.specs.Opening.{opened, seen_opened}
 use Rattle.node_core.specs.Roles.{law_role, role_of}
