@@ -1,6 +1,7 @@
 //! The served files over a committed image in memory.
 ghost use Rattle.std.specs.Prelude.{◌≡◌, IfOk};
 ghost use Rattle.conversations.specs.Standing.{Stand, Await, AwaitWhere};
+ghost use Rattle.std.proofs.Props.{props};
 
 use crate::fault::Fault;
 use file_view::{

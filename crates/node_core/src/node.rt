@@ -1,4 +1,5 @@
 ghost use Rattle.std.specs.Prelude.{◌≡◌, false, None, IsTrue};
+ghost use Rattle.std.proofs.Props.{props};
 ghost use Rattle.file_view.specs.Overlay.{FitsImage, IsOverImage};
 ghost use Rattle.file_view.specs.Served.{waits};
 ghost use Rattle.byte_locks.specs.LockList.{IsLockList};
