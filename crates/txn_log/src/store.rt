@@ -1,6 +1,8 @@
 ghost use Rattle.std.specs.Prelude.{◌≡◌, IsTrue};
+ghost use Rattle.std.proofs.Props.{props};
 ghost use Rattle.lf_sqlite_pages.specs.Header.{image_is_wal};
 ghost use Rattle.txn_log.specs.Calls.{RestsAs};
+ghost use Rattle.txn_log.specs.Kept.{Ascends-prop};
 ghost use Rattle.txn_log.specs.Store.{IsStore, IsShaped, IsSized, state_of, failed_of};
 ghost use Rattle.world_laws.specs.Store.{MayBeFound};
 
