@@ -1,4 +1,3 @@
-
 use crate::holding::Held;
 use lf_base::Bytes;
 use lf_sqlite_pages::Change;

@@ -31,7 +31,10 @@ fn each_call_moves_a_part(rt: HostRuntime) -> Result<(), Fail> {
     let file = options.open(&rt, "lf_disk_parts")?;
     let slow = SlowFile { file };
     write_to(&slow, 2, b"abcdefgh")?;
-    assert_eq!(&rt; fs::read(&rt, "lf_disk_parts")?.as_slice(), b"\0\0abcdefgh".as_slice());
+    assert_eq!(&rt;
+        fs::read(&rt, "lf_disk_parts")?.as_slice(),
+        b"\0\0abcdefgh".as_slice()
+    );
     for (at, count, want) in [
         (0, 10, *b"\0\0abcdefgh.."),
         (4, 6, *b"cdefgh......"),
