@@ -1,5 +1,5 @@
 //! Pages that the file keeps so that it stays as it reads once a commit is done.
-ghost use Rattle.std.specs.Prelude.{◌≡◌, ℕ, ◌≤◌, ◌<◌, ◌^◌, [], length, IsSome, OnOk, IfSome, IfErr};
+ghost use Rattle.std.specs.Prelude.{◌≡◌, ◌≢◌, ℕ, ◌+◌, ◌++◌, ◌≤◌, ◌<◌, ◌^◌, [], length, None, Some, IsSome, OnOk, IfSome, IfErr};
 ghost use Rattle.std.specs.Option.{option_copied};
 ghost use Rattle.std.specs.FinMap as pages;
 ghost use Rattle.lf_sqlite_pages.specs.LockPage.{IsDataPage};

@@ -1,5 +1,5 @@
 //! What the log writes over an image, past the image's end by older frames too.
-ghost use Rattle.std.specs.Prelude.{◌≡◌, ◌++◌, ◌≤◌, ◌<◌, length, None, Some, [], List, ℕ, IfOk, OnOk, replicate, nat_le, if◌then◌else◌};
+ghost use Rattle.std.specs.Prelude.{◌≡◌, ◌≢◌, ◌+◌, ◌++◌, ◌≤◌, ◌<◌, length, None, Some, [], List, ℕ, IfOk, OnOk, replicate, nat_le, if◌then◌else◌};
 ghost use Rattle.lf_sqlite_pages.specs.LockPage.{IsDataPage};
 ghost use Rattle.lf_sqlite_pages.specs.Change.{last_number, written};
 ghost use Rattle.database_file.specs.CommitParts.{WritesTo, one_write};

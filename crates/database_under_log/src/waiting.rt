@@ -1,3 +1,5 @@
+ghost use Rattle.std.specs.Prelude.{◌≡◌};
+
 use crate::holding::Held;
 use lf_base::Bytes;
 use lf_sqlite_pages::Change;

@@ -1,5 +1,5 @@
 //! A write to the log: done where it commits nothing, else in two halves with the commit between.
-ghost use Rattle.std.specs.Prelude.{◌≡◌, ℕ, ◌<◌, length, IsSome, IfSome, IfOk, IfErr, OnOk, OnErr};
+ghost use Rattle.std.specs.Prelude.{◌≡◌, ◌≢◌, ℕ, ◌+◌, ◌≤◌, ◌<◌, ◌^◌, ◌==◌, length, IsSome, IfSome, IfOk, IfErr, OnOk, OnErr};
 ghost use Rattle.lf_base.specs.FileBytes.{written};
 ghost use Rattle.lf_sqlite_pages.specs.Blocks.{IsWithin};
 ghost use Rattle.lf_sqlite_pages.specs.LockPage.{IsWithinLimit};

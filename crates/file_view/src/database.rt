@@ -1,6 +1,6 @@
 //! The database file, and a write to the log that waits for its commit: the file keeps pages for it
 //! until it is finished, forgotten or overtaken by another image. Meanwhile it reads as before.
-ghost use Rattle.std.specs.Prelude.{◌≡◌, is_some, None, Some, Ok, IsSome, IsTrue, IfSome, IfOk, IfErr, OnOk, OnErr, length};
+ghost use Rattle.std.specs.Prelude.{◌≡◌, ◌+◌, ◌≤◌, ◌<◌, is_some, None, Some, Ok, IsSome, IsTrue, IfSome, IfOk, IfErr, OnOk, OnErr, length};
 ghost use Rattle.std.specs.FinMap as pages;
 ghost use Rattle.std.specs.Option.{option_map};
 ghost use Rattle.lf_sqlite_pages.specs.Blocks.{IsWithin};

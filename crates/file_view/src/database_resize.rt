@@ -2,7 +2,7 @@
 ghost use Rattle.std.specs.Prelude.{◌≡◌, ◌/◌, ◌<◌, Some, None, [], IfSome, IfOk, IfErr, OnOk, OnErr, ℕ};
 ghost use Rattle.database_file.specs.DatabaseFile.{FitsShape};
 ghost use Rattle.database_file.specs.Fault.{SameBase, HasCause as HasFileCause};
-ghost use Rattle.file_view.specs.DatabaseRules.{write_size, states_size, is_log_size, checkpoint_resize_rows, resize_rows, sized_resize_rows, database_size_rows, resizes, DatabaseSized};
+ghost use Rattle.file_view.specs.DatabaseRules.{write_size, states_size, is_log_size, most_pages, checkpoint_resize_rows, resize_rows, sized_resize_rows, database_size_rows, resizes, DatabaseSized};
 ghost use Rattle.file_view.specs.DatabaseParts.{MayResize};
 ghost use Rattle.file_view.specs.Refusal.{first_refusal, IsAllowed, HasCause, HasReadCause};
 ghost use Rattle.lf_sqlite_pages.specs.PageSize.{IsPageSize};

@@ -1,5 +1,5 @@
 //! What happens to the served files beside requests. None of these takes memory.
-ghost use Rattle.std.specs.Prelude.{◌≡◌, ◌≤◌, Some, None, OnOk, IfErr, []};
+ghost use Rattle.std.specs.Prelude.{◌≡◌, ◌≤◌, Some, None, Ok, Err, OnOk, IfErr, []};
 ghost use Rattle.std.specs.Option.{option_map};
 ghost use Rattle.byte_locks.specs.LockList.{is_held};
 ghost use Rattle.database_file.specs.DatabaseFile.{KeepsNothing};

@@ -1,6 +1,7 @@
 //! OPEN, RELEASE, FLUSH, FSYNC and GETATTR, and what every request with a handle begins with.
 ghost use Rattle.std.specs.Prelude.{◌≡◌, Some, IfSome, IfOk, IfErr, OnOk, OnErr, is_some, true};
 ghost use Rattle.file_handles.specs.Nodes.{file_at as file_number};
+ghost use Rattle.file_handles.specs.Handles.{is_open, least_free};
 ghost use Rattle.file_view.specs.HandleRules.{is_served, is_known, is_open_at, known_rows, served_rows, handle_rows, lock_handle_rows, closing_rows, size_at, open_rows, IsOpened, released, flushed};
 ghost use Rattle.file_view.specs.Refusal.{IsAllowed, HasCause};
 ghost use Rattle.file_view.specs.Served.{exists};

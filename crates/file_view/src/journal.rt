@@ -1,5 +1,5 @@
 //! The journal with a call in store: room is reserved for a call that waits for its commit.
-ghost use Rattle.std.specs.Prelude.{◌≡◌, ◌≤◌, is_some, nat_lt, [], None, Some, IsSome, IfSome, OnOk, OnErr, length, true};
+ghost use Rattle.std.specs.Prelude.{◌≡◌, ◌≤◌, ◌<◌, ◌^◌, is_some, nat_lt, [], None, Some, IsSome, IfSome, OnOk, OnErr, length, true};
 ghost use Rattle.std.specs.Option.{option_map};
 ghost use Rattle.lf_base.specs.FileBytes.{Reads};
 ghost use Rattle.journal_watch.specs.Journal.{is_active, bytes_of};

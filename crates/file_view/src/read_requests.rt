@@ -3,7 +3,7 @@ ghost use Rattle.std.specs.Prelude.{◌≡◌, ◌-◌, [], IfOk, IfErr, length,
 ghost use Rattle.std.specs.Option.{option_map};
 ghost use Rattle.database_file.specs.DatabaseFile.{FitsShape};
 ghost use Rattle.database_file.specs.Fault.{SameBase, HasCause as HasFileCause};
-ghost use Rattle.file_handles.specs.Texts.{part, line};
+ghost use Rattle.file_handles.specs.Texts.{part, line, position_line};
 ghost use Rattle.file_view.specs.Reading.{is_being_written, hides_journal, file_contents, IsReading};
 ghost use Rattle.journal_watch.specs.Journal.{bytes_of};
 ghost use Rattle.wal_watch.specs.File.{contents_of};

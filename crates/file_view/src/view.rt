@@ -1,4 +1,4 @@
-ghost use Rattle.std.specs.Prelude.{◌≡◌, IfOk};
+ghost use Rattle.std.specs.Prelude.{◌≡◌, IfOk, None, [], Some};
 ghost use Rattle.file_view.specs.Served.{exists, host_size, file_size, has_committed_frames, waits};
 ghost use Rattle.file_view.specs.Views.{new_view};
 ghost use Rattle.database_file.specs.DatabaseFile.{KeepsNothing};

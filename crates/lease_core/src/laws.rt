@@ -1,6 +1,6 @@
 //! Laws of the definitions, each proved as the contract of a function that does nothing.
 
-ghost use Rattle.std.specs.Prelude.{◌≡◌, ℕ, ◌-◌, ◌<◌, ◌≤◌, true, Some, Contains};
+ghost use Rattle.std.specs.Prelude.{◌≡◌, ℕ, ◌+◌, ◌-◌, ◌<◌, ◌≤◌, true, Some, Contains};
 ghost use Rattle.lease_core.specs.declared.grant.Grant.{Grant};
 ghost use Rattle.lease_core.specs.declared.lease_ask.LeaseAsk.{LeaseAsk};
 ghost use Rattle.lease_core.specs.declared.lease_reply.LeaseReply.{LeaseReply};

@@ -1,4 +1,5 @@
 //! A seat of a desk, as one that asks steps.
+ghost use Rattle.std.specs.Prelude.{◌≡◌};
 ghost use Rattle.turn_desk.specs.History.{IsLegal};
 ghost use Rattle.turn_desk.specs.Seats.{view, number_of, opened_on, IsOf};
 ghost use Rattle.link_session.specs.Seats.{FoundWorn, Gives};

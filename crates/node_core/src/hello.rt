@@ -1,5 +1,5 @@
 //! What is owed to a follower.
-ghost use Rattle.std.specs.Prelude.{◌≡◌, ℕ, true, IsTrue};
+ghost use Rattle.std.specs.Prelude.{◌≡◌, ◌<◌, ◌≤◌, ℕ, true, IsTrue};
 ghost use Rattle.node_core.specs.Hello.{AnswersHello};
 ghost use Rattle.node_core.specs.Nodes.{history, parts_of, seen};
 ghost use Rattle.node_core.specs.Safely.{StepsSafely, law_answer};

@@ -3,7 +3,7 @@
 //! What a call over any page store leaves of the one that it is given is said of the image alone. So
 //! the files are given the store under a brand, which keeps what the store was: whatever the call
 //! gives back has been read at most.
-ghost use Rattle.std.specs.Prelude.{◌≡◌, ℕ, IfOk, OnOk, IfErr, OnErr, min, if◌then◌else◌};
+ghost use Rattle.std.specs.Prelude.{◌≡◌, ◌≤◌, ℕ, IfOk, OnOk, IfErr, OnErr, min, if◌then◌else◌};
 ghost use Rattle.lf_disk.specs.History.{History, untold};
 ghost use Rattle.file_view.specs.Done.{IsDone};
 ghost use Rattle.file_view.specs.Overlay.{StandsOver, AwaitsOver};

@@ -1,5 +1,5 @@
 //! The log keeps its newest files.
-ghost use Rattle.std.specs.Prelude.{ℕ};
+ghost use Rattle.std.specs.Prelude.{◌≡◌, ℕ, max};
 ghost use Rattle.node_core.specs.Nodes.{history, parts_of};
 ghost use Rattle.node_core.specs.Steps.{IsStep};
 

@@ -1,5 +1,5 @@
 //! The node as one machine.
-ghost use Rattle.std.specs.Prelude.{ℕ};
+ghost use Rattle.std.specs.Prelude.{◌≡◌, ℕ};
 ghost use Rattle.node_core.specs.Nodes.{history, parts_of};
 ghost use Rattle.node_core.specs.Steps.{IsStep};
 

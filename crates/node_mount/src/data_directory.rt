@@ -1,5 +1,5 @@
 //! The data directory of a database in the working directory.
-ghost use Rattle.std.specs.Prelude.{◌≡◌, IfOk};
+ghost use Rattle.std.specs.Prelude.{◌≡◌, ◌==◌, IfOk};
 
 use crate::system::System;
 use lf_base::{Failed, Name};

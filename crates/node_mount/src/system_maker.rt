@@ -1,4 +1,5 @@
 //! A maker of the system's objects.
+ghost use Rattle.std.specs.Prelude.{◌≡◌};
 ghost use Rattle.node_mount.specs.Keeping.{told_by};
 
 use crate::counts::Counts;

@@ -1,5 +1,5 @@
 //! What stands in a folder.
-ghost use Rattle.std.specs.Prelude.{◌≡◌, ◌↔◌, ℕ, IsTrue, IfOk, IfErr};
+ghost use Rattle.std.specs.Prelude.{◌≡◌, ◌↔◌, ◌*◌, ◌+◌, ◌^◌, ℕ, IsTrue, IfOk, IfErr};
 ghost use Rattle.std.specs.List.{IsDistinct};
 ghost use Rattle.lf_disk.specs.Folder.{same_name};
 ghost use Rattle.lf_disk.specs.History.{now, Rests};

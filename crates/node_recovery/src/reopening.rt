@@ -1,5 +1,5 @@
 //! A folder is examined and gets its last form.
-ghost use Rattle.std.specs.Prelude.{◌≡◌, IsTrue, IfOk};
+ghost use Rattle.std.specs.Prelude.{◌≡◌, ◌==◌, false, IsTrue, IfOk, if◌then◌else◌};
 ghost use Rattle.lf_disk.specs.History.{now, EachMoment, IsSettledBut};
 ghost use Rattle.lf_disk.specs.declared.name.FileName.{FileName as Name};
 ghost use Rattle.world_laws.specs.Store.{StoreState};

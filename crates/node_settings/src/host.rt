@@ -1,7 +1,7 @@
 //! The parts of addresses.
 
-ghost use Rattle.std.specs.Prelude.{◌≡◌, ◌≢◌, ◌++◌, ◌↔◌, All, IsTrue, IfSome, IfNone, codes};
-ghost use Rattle.node_settings.specs.Address.{is_host_byte, is_ipv6_byte, IsIpv6End, IsBracketed, IsHost, IsPort, IsAddress};
+ghost use Rattle.std.specs.Prelude.{◌≡◌, ◌≢◌, ◌++◌, ◌∷◌, ◌↔◌, All, IsTrue, IfSome, IfNone, codes};
+ghost use Rattle.node_settings.specs.Address.{is_host_byte, is_ipv6_byte, IsIpv6End, IsBracketed, IsHost, IsPort, IsAddress, IsUrl};
 
 /// Whether the text is `host:port`.
 pub(crate) fn is_address(text: &str) -> bool

@@ -1,6 +1,6 @@
 //! The table `lease`.
 
-ghost use Rattle.std.specs.Prelude.{None, false, codes, IsSomeAnd};
+ghost use Rattle.std.specs.Prelude.{◌≡◌, Some, None, false, codes, IsSomeAnd};
 ghost use Rattle.toml.specs.View.{table_view};
 ghost use Rattle.node_settings.specs.declared.settings.LeaseType.TheVariants as lease_type;
 ghost use Rattle.node_settings.specs.Answers.{Reads};

@@ -1,7 +1,8 @@
 //! The configuration read: its text, its root, and the tables in it but that of the lease.
 
-ghost use Rattle.std.specs.Prelude.{◌^◌, ◌-◌, false, codes, IsSomeAnd};
+ghost use Rattle.std.specs.Prelude.{◌≡◌, ◌^◌, ◌-◌, Some, false, codes, IsSomeAnd};
 ghost use Rattle.toml.specs.View.{table_view};
+ghost use Rattle.node_settings.specs.declared.settings_fault.SettingsFault.TheVariants as fault;
 ghost use Rattle.node_settings.specs.Answers.{Reads};
 ghost use Rattle.node_settings.specs.Configuration.{IsFuse, IsHttp, IsData, IsRoot, IsConfiguration};
 ghost use Rattle.node_settings.specs.Values.{Holds, HoldsOr, section as section_at, members_at, IsNameText, IsAddressText, IsOff, IsNumber};

@@ -11,7 +11,7 @@ pub struct Url {
 }
 
 impl Model for Url {
-    ghost use Rattle.std.specs.Prelude.{ℕ, List, codes};
+    ghost use Rattle.std.specs.Prelude.{ℕ, List, codes, ◌++◌};
 
     ghost Value = { List ℕ };
 

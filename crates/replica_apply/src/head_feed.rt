@@ -1,5 +1,5 @@
 //! The head of a reply as a feed.
-ghost use Rattle.std.specs.Prelude.{◌≡◌, ◌++◌, ◌≤◌, [], true, Ok, None, length, take, IfOk, IfErr, OnErr, IfSome};
+ghost use Rattle.std.specs.Prelude.{◌≡◌, ◌++◌, ◌≤◌, [], true, Ok, None, Some, length, take, IfOk, IfErr, OnErr, IfSome};
 ghost use Rattle.httparse.specs.Grammar.{HasNoResponse};
 ghost use Rattle.link_session.specs.Reading.{Faulted};
 ghost use Rattle.stream_wire.specs.Head.{NeverTakesResponse};

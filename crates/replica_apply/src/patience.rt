@@ -1,4 +1,5 @@
 //! How a frame is asked again.
+ghost use Rattle.std.specs.Prelude.{◌≡◌};
 ghost use Rattle.node_core.specs.Moments.{ask_at};
 ghost use Rattle.node_core.proofs.Moments.{last_stands};
 ghost use Rattle.replica_apply.specs.Asking.{is_held};

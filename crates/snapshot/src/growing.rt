@@ -1,5 +1,5 @@
 //! A sink that keeps what it takes.
-ghost use Rattle.std.specs.Prelude.{Some};
+ghost use Rattle.std.specs.Prelude.{◌≡◌, ◌<◌, Some};
 
 use lf_base::{Failed, Sink};
 

@@ -1,6 +1,6 @@
 //! Frames from bytes that come in pieces.
 
-ghost use Rattle.std.specs.Prelude.{◌≡◌, ◌++◌, [], None, Some, length, take, IfOk, IfErr, IfSome, Err, Ok, drop};
+ghost use Rattle.std.specs.Prelude.{◌≡◌, ◌++◌, ◌+◌, ◌≤◌, [], None, Some, length, take, IfOk, IfErr, IfSome, Err, Ok, drop};
 ghost use Rattle.stream_wire.specs.declared.wire_fault.WireFault.{WireFault};
 ghost use Rattle.stream_wire.specs.Frame.{frame_text, pos_body};
 ghost use Rattle.stream_wire.specs.Front.{part, whole, BeginsWith, GivesName, Refuses, IsWholeFrame, IsShort, named_len_at};

@@ -1,6 +1,6 @@
 //! What the bytes of a frame so far begin with.
 
-ghost use Rattle.std.specs.Prelude.{◌≡◌, ◌≤◌, ◌^◌, None, Some, IfOk, OnOk, IfErr, IfSome, IfNone, length};
+ghost use Rattle.std.specs.Prelude.{◌≡◌, ◌+◌, ◌<◌, ◌≤◌, ◌^◌, ◌↔◌, None, Some, IfOk, OnOk, IfErr, IfSome, IfNone, length};
 ghost use Rattle.stream_wire.specs.Front.{head_fault, is_kind as counts_as_kind, is_name_len as fits_name, is_body_len as fits_body, frame_len_at, HasBadName, GivesName, RefusesName};
 
 use crate::WireFault;

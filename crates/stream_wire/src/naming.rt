@@ -1,6 +1,7 @@
 //! The call that a method and a target name.
 
-ghost use Rattle.std.specs.Prelude.{◌≡◌, ◌↔◌, codes, IfOk, IsTrue};
+ghost use Rattle.std.specs.Prelude.{◌≡◌, ◌++◌, ◌↔◌, codes, IfOk, IsTrue};
+ghost use Rattle.stream_wire.specs.declared.call.Call.TheVariants as call;
 ghost use Rattle.stream_wire.specs.Call.{Names, NamesDatabase};
 
 use crate::Call;

@@ -1,5 +1,5 @@
 //! What a follower is owed.
-ghost use Rattle.std.specs.Prelude.{◌≡◌, [], IsTrue, IfSome, IfNone};
+ghost use Rattle.std.specs.Prelude.{◌≡◌, ◌≤◌, [], IsTrue, IfSome, IfNone};
 ghost use Rattle.txn_log.specs.Answering.{IsFirstBehind, IsLacking, Answers};
 ghost use Rattle.txn_log.specs.Store.{state_of};
 

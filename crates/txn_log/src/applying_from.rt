@@ -1,5 +1,5 @@
 //! A file that a source gives is applied, without memory.
-ghost use Rattle.std.specs.Prelude.{◌≡◌, ◌<◌, true, ℕ, List, length, vec_capacity, IsSome, IsTrue};
+ghost use Rattle.std.specs.Prelude.{◌≡◌, ◌<◌, ◌≤◌, false, true, ℕ, List, length, vec_capacity, IsSome, IsTrue};
 ghost use Rattle.lf_disk.specs.History.{now, IsSettledBut};
 ghost use Rattle.lf_disk.specs.declared.name.FileName.{FileName as Name};
 ghost use Rattle.txn_log.specs.Bringing.{Brings, CountsBrought};

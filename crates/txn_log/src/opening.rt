@@ -1,5 +1,5 @@
 //! A store on a disk without files.
-ghost use Rattle.std.specs.Prelude.{◌≡◌, false, IsTrue};
+ghost use Rattle.std.specs.Prelude.{◌≡◌, None, false, IsTrue};
 ghost use Rattle.world_laws.specs.Store.{empty_store};
 ghost use Rattle.txn_log.specs.Opening.{IsBlank};
 ghost use Rattle.txn_log.specs.Store.{state_of};

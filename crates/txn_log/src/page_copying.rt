@@ -1,5 +1,5 @@
 //! The pages of a published file are read again, and written over the database file.
-ghost use Rattle.std.specs.Prelude.{◌≡◌, ◌+◌, ◌<◌, ◌^◌, false, ℕ, List, length, IsTrue, IfOk, OnOk};
+ghost use Rattle.std.specs.Prelude.{◌≡◌, ◌+◌, ◌<◌, ◌≤◌, ◌^◌, false, ℕ, List, length, IsTrue, IfOk, OnOk};
 ghost use Rattle.lf_base.specs.Faults.{CountsFaults};
 ghost use Rattle.lf_disk.specs.Change.{OnFile};
 ghost use Rattle.lf_disk.specs.Folder.{bytes_of, same_name, SameBut};

@@ -1,4 +1,4 @@
-ghost use Rattle.std.specs.Prelude.{◌≡◌, List, length, IsTrue};
+ghost use Rattle.std.specs.Prelude.{◌≡◌, ◌≤◌, [], List, length, IsTrue};
 ghost use Rattle.lf_disk.specs.Folder.{Folder};
 ghost use Rattle.lf_sqlite_pages.specs.Apply.{apply};
 ghost use Rattle.lf_sqlite_pages.specs.Change.{PageChange, IsChange};

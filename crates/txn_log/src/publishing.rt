@@ -1,5 +1,5 @@
 //! A file is published as the next of a store.
-ghost use Rattle.std.specs.Prelude.{◌≡◌, false, IsTrue, IfOk, IfErr, OnOk, OnErr};
+ghost use Rattle.std.specs.Prelude.{◌≡◌, ◌∷◌, false, IsTrue, IfOk, IfErr, OnOk, OnErr};
 ghost use Rattle.ltx_codec.specs.Format.{IsFile};
 ghost use Rattle.ltx_codec.specs.Positions.{after};
 ghost use Rattle.txn_log.specs.Calls.{Went};

@@ -1,6 +1,6 @@
 //! A file is taken in as its parts come: staged, with the sums of the pages after it in a table beside
 //! that of the store.
-ghost use Rattle.std.specs.Prelude.{◌≡◌, ◌==◌, if◌then◌else◌, ◌≤◌, ℕ, Bool, replicate, IsTrue, IfOk};
+ghost use Rattle.std.specs.Prelude.{◌≡◌, ◌==◌, if◌then◌else◌, ◌+◌, ◌<◌, ◌≤◌, ℕ, Bool, replicate, IsTrue, IfOk};
 ghost use Rattle.lf_base.specs.Faults.{CountsFaults};
 ghost use Rattle.lf_disk.specs.Folder.{Folder, SameBut};
 ghost use Rattle.lf_disk.specs.History.{now, EachMoment, IsSettledBut};
