@@ -34,7 +34,10 @@ impl fmt::Display for Difference {
             Difference::Asked { session, asked } => {
                 write!(f, "{asked} asks in session {session}")
             }
-            Difference::Early { session } => write!(f, "a lock came too early in session {session}"),
+            Difference::Early { session } => write!(
+                f,
+                "a lock came too early in session {session}"
+            ),
             Difference::Position => f.write_str("another position"),
             Difference::Count { files } => write!(f, "{files} files are left"),
             Difference::Mount(fault) => write!(f, "mount ended with {fault:?}"),

@@ -5,7 +5,9 @@ ghost use Rattle.node_mount.specs.MemMaker.{IsNewDisk, IsNewDoor, IsNewSpawner};
 use crate::clients::CONFIG;
 use crate::fault::Fault;
 use crate::stage::NOW;
-use lf_base::{CallSpawner, FixedClock, Handles, ListAcceptor, MemLink, SliceSource, ThreadSpawner};
+use lf_base::{
+    CallSpawner, FixedClock, Handles, ListAcceptor, MemLink, SliceSource, ThreadSpawner,
+};
 use lf_disk::MemDisk;
 use node_mount::{Maker, MemMaker, MemSpawn, MountFault, mount};
 use std::alloc::Global;
