@@ -13,6 +13,9 @@ pub const CONFIG: &[u8] = b"database = \"app\"\n\
     [data]\nretention-files = 3\n\
     [lease]\ncandidate = true\nadvertise-url = \"http://localhost:20202\"\nhostname = \"localhost\"\n";
 
+/// Where that listens for the clients of its files.
+pub const SOCKET: &str = "node.sock";
+
 /// OPEN and READ of the position file.
 const POSITION_ASKED: &str = "300000000e000000010000000000000006000000000000000000000000000000\
     00000000000000000000000000000000\

@@ -12,6 +12,8 @@ pub enum Difference {
     End { session: usize },
     /// The node was asked another number of times in it.
     Asked { session: usize, asked: u64 },
+    /// A lock was granted in the session of this number while another client held it.
+    Early { session: usize },
     /// The node stands elsewhere.
     Position,
     /// There are more files, or fewer.
@@ -32,6 +34,10 @@ impl fmt::Display for Difference {
             Difference::Asked { session, asked } => {
                 write!(f, "{asked} asks in session {session}")
             }
+            Difference::Early { session } => write!(
+                f,
+                "a lock came too early in session {session}"
+            ),
             Difference::Position => f.write_str("another position"),
             Difference::Count { files } => write!(f, "{files} files are left"),
             Difference::Mount(fault) => write!(f, "mount ended with {fault:?}"),

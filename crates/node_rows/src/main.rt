@@ -1,5 +1,6 @@
 //! Sessions of clients with a node over a disk in memory: each reply, the position, and the files that are left on the
-//! disk are compared with what was wanted. Those with a primary are played once more through `mount`.
+//! disk are compared with what was wanted. Those with a primary are played once more through `mount`, over links in memory
+//! and through a Unix socket.
 #![tactic(auto)]
 
 mod clients;
@@ -10,11 +11,16 @@ mod folder;
 mod gathering;
 mod held_link;
 mod line;
+mod making;
 mod mounted;
 mod opening;
 mod playing;
 mod scene;
+mod socket_client;
+mod socket_maker;
+mod socketed;
 mod stage;
+mod two_links;
 mod waiting;
 
 use difference::Difference;
@@ -23,12 +29,14 @@ use gathering::scenes_in;
 use mounted::play_mounted;
 use playing::play;
 use scene::Scene;
-use std::fs;
+use socketed::play_over_socket;
+use std::fs::{self, File};
 use std::net::{TcpListener, TcpStream};
+use two_links::play_two_links;
 use waiting::{MESSAGES, play_waiting};
 
 fn main(rt: HostRuntime) -> Result<(), Fault> {
-    let _named: Option<(TcpListener, TcpStream)> = None;
+    let _named: Option<(TcpListener, TcpStream, File)> = None;
     let text = fs::read_to_string(&rt, "sessions.jsonl")?;
     for scene in &scenes_in(rt.alloc(), text.as_str())? {
         let name = scene.start.name.as_str();
@@ -37,10 +45,14 @@ fn main(rt: HostRuntime) -> Result<(), Fault> {
         if scene.has_waiting() {
             let found = play_waiting(rt, rt.alloc(), &scene.start)?;
             print_again(&rt, name, "by two threads", MESSAGES, found)?;
+            let found = play_two_links(rt, rt.alloc(), &scene.start)?;
+            print_again(&rt, name, "by two links of mount", MESSAGES, found)?;
         }
         if scene.is_for_mount() {
             let found = play_mounted(rt, rt.alloc(), scene)?;
             print_again(&rt, name, "through mount", scene.messages(), found)?;
+            let found = play_over_socket(rt, rt.alloc(), scene)?;
+            print_again(&rt, name, "through a socket", scene.messages(), found)?;
         }
     }
     Ok(())

@@ -31,7 +31,7 @@ const OPEN: &str = "300000000e00000001000000000000000200000000000000\
     000000000000000000000000000000000000000000000000";
 
 /// How many bytes OPEN and a lock have.
-const OPEN_AND_LOCK: usize = 136;
+pub const OPEN_AND_LOCK: usize = 136;
 
 /// For how many bytes a link has room.
 const ROOM: usize = 256;
@@ -76,6 +76,11 @@ fn session_of(alloc: Global, opcode: u8, owner: u8) -> Result<Session, Fault> {
             budget: TURNS,
         },
     })
+}
+
+/// The session of the client that has the lock first, and of the one that waits for it.
+pub fn two_sessions(alloc: Global) -> Result<(Session, Session), Fault> {
+    Ok((session_of(alloc, SETLK, 1)?, session_of(alloc, SETLKW, 2)?))
 }
 
 /// A nap after which the other may go on.
@@ -196,7 +201,7 @@ pub fn play_waiting<R: Handles + Copy + Send + 'static>(
     alloc: Global,
     start: &Start,
 ) -> Result<Option<Difference>, Fault> {
-    let (holding, waiting) = (session_of(alloc, SETLK, 1)?, session_of(alloc, SETLKW, 2)?);
+    let (holding, waiting) = two_sessions(alloc)?;
     let ((locked, has_lock), (refused, go_on)) = (Flag::two(alloc)?, Flag::two(alloc)?);
     let (first, rest) = two_links(alloc, &holding.requests)?;
     let holder = HeldLink::new(rt, first, rest, locked, refused);
