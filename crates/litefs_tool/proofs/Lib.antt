@@ -1,5 +1,7 @@
 pub mod AnswerLemmas
 pub mod ApplyingLemmas
+pub mod ClapLemmas
+pub mod CommandLineLemmas
 pub mod CompactionLemmas
 pub mod CompactionOnce
 pub mod FileLemmas

@@ -1,5 +1,5 @@
 -- The commands: their arguments, what each writes for an input, and how it refuses one.
-use Rattle.std.specs.Prelude.{◌≡◌, ℕ, List, [], ◌∷◌, codes, Ok, Err}
+use Rattle.std.specs.Prelude.{◌≡◌, ◌≢◌, ℕ, List, [], ◌∷◌, codes, Option, Ok, Err, MatchOption}
 use Rattle.lf_sqlite_pages.specs.Image.{DatabaseImage, image_bytes}
 use Rattle.litefs_tool.specs.Compaction.{BecomesEncoding, RefusesToCompact}
 use Rattle.litefs_tool.specs.CompactRefusal.{compact_refusal_name}
@@ -10,11 +10,19 @@ use Rattle.litefs_tool.specs.declared.command.Command.TheVariants.{Apply, Compac
 use Rattle.litefs_tool.specs.declared.compact_refusal.CompactRefusal.{CompactRefusal}
 use Rattle.litefs_tool.specs.declared.refusal.Refusal.{Refusal}
 
--- the arguments that name a command
+-- a command's name
+abbrev pub command_name : Command → List ℕ
+command_name Apply = codes "apply"
+command_name Compact = codes "compact"
+command_name Mount = codes "mount"
+
+-- the arguments that name a command: its name, and no more
 abbrev pub arguments_of : Command → List (List ℕ)
-arguments_of Apply = codes "apply" ∷ []
-arguments_of Compact = codes "compact" ∷ []
-arguments_of Mount = codes "mount" ∷ []
+arguments_of command = command_name command ∷ []
+
+-- the arguments are this command's, or no command's
+abbrev pub IsReadAs : List (List ℕ) → Option Command → Type 0
+IsReadAs arguments read = MatchOption read ((command : Command) → arguments ≢ arguments_of command) (λ command. arguments ≡ arguments_of command)
 
 -- a command that turns its input into its output
 abbrev pub IsOverStreams : Command → Type 0

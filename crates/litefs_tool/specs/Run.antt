@@ -122,11 +122,25 @@ pub record MountOutcome (Back : Result (Unit {0}) MountFault → Type 0) (outsid
   pub status_is : status ≡ status_of_end end
   pub name_is : name ≡ name_of_end end
 
--- what a run did: it read its input and wrote its output, or refused its arguments; or it was a node
+-- the stream is as it was
+abbrev pub IsStill : Stream → Type 0
+IsStill stream = (stream.bytes_after ≡ stream.bytes) × Holds stream
+
+-- memory ran out before it was known which command the arguments name, and all is as it was
+pub record EndsUnread (outside : Outside) (ended : Status) : Type 0 where
+  pub wanted : ended ≡ status.NoMemory
+  pub input : IsStill outside.input
+  pub output : IsStill outside.output
+  pub config : IsStill outside.config
+  pub counts : outside.counts_after ≡ outside.counts
+
+-- what a run did: it read its input and wrote its output, or refused its arguments; or it was a node; or had no memory to read
+-- its arguments
 pub data RunCourse (Back : Result (Unit {0}) MountFault → Type 0) (arguments : List (List ℕ)) (outside : Outside) (status : Status) (name : List ℕ) : Type 0 where
   over_streams : (read written : List ℕ) → Moves outside.input outside.output status read written → ArgumentsOutcome arguments read status written name
       → RunCourse Back arguments outside status name
   mounted : arguments ≡ arguments_of Mount → MountOutcome Back outside status name → RunCourse Back arguments outside status name
+  unread : EndsUnread outside status → RunCourse Back arguments outside status name
 
 -- a line of standard error
 abbrev pub line : List ℕ → List ℕ

@@ -4,7 +4,8 @@ ghost use Rattle.litefs_tool.specs.Run.{CommandOutcome, LeavesApart, Outside, Ru
 ghost use Rattle.litefs_tool.specs.steps.Performing.{Goes, Mounts, Performs};
 
 use crate::applying::Applying;
-use crate::command::{Command, read_arguments};
+use crate::command::Command;
+use crate::command_line::read_arguments;
 use crate::compaction::one_file;
 use crate::failure::Failure;
 use crate::file_output::write_file;
@@ -86,7 +87,7 @@ fn perform<R: Handles + Copy + Send + 'static, I: Source, O: Sink, G: Source, M:
     } in Goes (GoesBack M.FileAccept.ended M.FileAccept.given M.Disk.honest M.Disk.history (M.may_give make.old) (M.back make.old) (M.back make.new)) arguments.now outside result }
     ensures apart { LeavesApart arguments.now input.old input.new output.old output.new config.old config.new make.old make.new }
 {
-    match read_arguments(arguments) {
+    match read_arguments(alloc, arguments)? {
         Some(Command::Apply) => apply(alloc, input, output),
         Some(Command::Compact) => compact(alloc, input, output),
         Some(Command::Mount) => mount_node(rt, alloc, config, make),

@@ -14,7 +14,7 @@ const SNAPSHOT: (&str, usize) = ("snapshot.ltx", ALL);
 
 const DELTA: (&str, usize) = ("delta.ltx", ALL);
 
-pub const COMMANDS: [CommandRow; 19] = [
+pub const COMMANDS: [CommandRow; 23] = [
     CommandRow {
         words: &["apply"],
         input: &[SNAPSHOT],
@@ -81,6 +81,22 @@ pub const COMMANDS: [CommandRow; 19] = [
     },
     CommandRow {
         words: &["--help"],
+        input: &[SNAPSHOT],
+    },
+    CommandRow {
+        words: &["-h"],
+        input: &[SNAPSHOT],
+    },
+    CommandRow {
+        words: &["help"],
+        input: &[SNAPSHOT],
+    },
+    CommandRow {
+        words: &["--", "apply"],
+        input: &[SNAPSHOT],
+    },
+    CommandRow {
+        words: &["apply", "--"],
         input: &[SNAPSHOT],
     },
     CommandRow {
