@@ -6,7 +6,6 @@
 
 mod applying;
 mod command;
-mod command_line;
 mod compact_refusal;
 mod compaction;
 mod database;

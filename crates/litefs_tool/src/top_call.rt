@@ -4,8 +4,7 @@ ghost use Rattle.litefs_tool.specs.Run.{CommandOutcome, LeavesApart, Outside, Ru
 ghost use Rattle.litefs_tool.specs.steps.Performing.{Goes, Mounts, Performs};
 
 use crate::applying::Applying;
-use crate::command::Command;
-use crate::command_line::read_arguments;
+use crate::command::{Command, read_arguments};
 use crate::compaction::one_file;
 use crate::failure::Failure;
 use crate::file_output::write_file;

@@ -1,6 +1,5 @@
 //! The words of the command line: a command's name alone, to the letter.
-use crate::command::Command;
-use crate::command_line::read_arguments;
+use crate::command::{Command, read_arguments};
 use lf_base::Text;
 use std::alloc::Global;
 use std::test::Fail;

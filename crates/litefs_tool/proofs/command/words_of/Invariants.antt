@@ -1,5 +1,5 @@
 use Rattle.std.proofs.Common.{◌≡◌, map, take}
-use Rattle.litefs_tool.proofs.command_line.words_of.Given as goal
+use Rattle.litefs_tool.proofs.command.words_of.Given as goal
 
 -- the words are those of the arguments before this one
 abbrev pub invariant-loop-argument : goal.invariant-loop-argument

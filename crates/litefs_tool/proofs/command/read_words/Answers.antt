@@ -2,7 +2,7 @@ use Rattle.std.proofs.Common.{◌∙◌, sym}
 use Rattle.clap.specs.Words.{app_of, kind_of}
 use Rattle.clap.proofs.WalkLemmas.{list_any-map}
 use Rattle.litefs_tool.proofs.CommandLineLemmas.{dashed, refused, taken}
-use Rattle.litefs_tool.proofs.command_line.read_words.Goals as goal
+use Rattle.litefs_tool.proofs.command.read_words.Goals as goal
 
 pub returns-then-contains : goal.returns-then-contains
 returns-then-contains c = dashed _ (sym (list_any-map _ (λ word. word.now) c.args.words.now) ∙ sym c.contains.ensures.value ∙ c.if-contains.true)
