@@ -13,8 +13,6 @@ mod lock_set;
 mod lock_table;
 mod owner;
 mod set_fault;
-#[cfg(test)]
-mod tests;
 
 pub use lock_bytes::FileKind;
 pub use lock_entry::LockEntry;

@@ -13,8 +13,6 @@ mod keeping;
 mod laws;
 mod reading;
 mod span;
-#[cfg(test)]
-mod tests;
 mod wal_change;
 mod writing;
 

@@ -9,8 +9,6 @@ mod holding;
 mod laws;
 mod news;
 mod reading;
-#[cfg(test)]
-mod tests;
 mod waiting;
 mod writing;
 

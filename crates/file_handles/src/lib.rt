@@ -7,8 +7,6 @@
 mod handles;
 mod names;
 mod nodes;
-#[cfg(test)]
-mod tests;
 mod texts;
 
 pub use handles::Handles;

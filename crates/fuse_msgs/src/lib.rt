@@ -34,6 +34,3 @@ pub use feed::{Fed, MessageFeed};
 pub use laws::{any_pieces, refused_for_good, request_encodings, rests_fed_again};
 pub use reply::Reply;
 pub use request::{LockWish, Op, Request};
-
-#[cfg(test)]
-mod tests;

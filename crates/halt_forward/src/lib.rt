@@ -11,6 +11,3 @@ mod halt_table;
 pub use halt_fault::HaltFault;
 pub use halt_pass::HaltPass;
 pub use halt_table::HaltTable;
-
-#[cfg(test)]
-mod tests;

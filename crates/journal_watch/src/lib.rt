@@ -9,8 +9,6 @@
 mod fault;
 mod file;
 mod header;
-#[cfg(test)]
-mod tests;
 
 pub use fault::JournalFault;
 pub use file::{JOURNAL_LIMIT, JournalFile};

@@ -29,6 +29,3 @@ pub use lease_table::LeaseTable;
 pub use reading::read_body;
 pub use reading_replies::read_reply;
 pub use writing::{write_ask, write_body};
-
-#[cfg(test)]
-mod tests;

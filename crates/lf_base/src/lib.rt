@@ -80,6 +80,3 @@ pub use text::Text;
 pub use thread_spawner::ThreadSpawner;
 pub use vec_sink::VecSink;
 pub use watch::Watch;
-
-#[cfg(test)]
-mod tests;

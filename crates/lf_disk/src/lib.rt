@@ -17,8 +17,6 @@ mod plan;
 mod publication;
 mod record;
 mod slots;
-#[cfg(test)]
-mod tests;
 
 pub use dir_disk::DirDisk;
 pub use disk::Disk;
@@ -26,3 +24,6 @@ pub use list_fault::ListFault;
 pub use mem_disk::MemDisk;
 pub use name::FileName;
 pub use publication::{publish, publish_two, put_in_place, stage};
+
+#[cfg(test)]
+mod tests;

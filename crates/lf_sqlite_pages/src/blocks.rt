@@ -7,8 +7,6 @@ ghost use Rattle.lf_sqlite_pages.specs.Blocks.{no_blocks, is_within, room_with, 
 
 mod block;
 mod table;
-#[cfg(test)]
-mod tests;
 
 use block::{BLOCK_SIZE, Block};
 use lf_base::NoMemory;

@@ -19,8 +19,6 @@ mod page_write;
 mod pages;
 mod placing;
 mod table;
-#[cfg(test)]
-mod tests;
 
 pub use blocks::{BLOCKS_LIMIT, Blocks};
 pub use change::Change;

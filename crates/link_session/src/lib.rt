@@ -32,6 +32,3 @@ pub use steps::Steps;
 pub use turns::Turns;
 pub use unread::Unread;
 pub use writing::write_whole;
-
-#[cfg(test)]
-mod tests;

@@ -2,3 +2,4 @@
 mod apply;
 mod command_line;
 mod files;
+mod same;

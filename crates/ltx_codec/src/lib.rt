@@ -44,12 +44,3 @@ pub use layout::{header_bytes, trailer_bytes};
 pub use reading::{decode, decode_first};
 pub use seen::Seen;
 pub use writing::encode;
-
-#[cfg(test)]
-mod lock_page_tests;
-#[cfg(test)]
-mod part_tests;
-#[cfg(test)]
-mod sample;
-#[cfg(test)]
-mod tests;

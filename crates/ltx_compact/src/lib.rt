@@ -14,6 +14,3 @@ mod slots;
 
 pub use compacting::{compact, compact_owned};
 pub use fault::CompactFault;
-
-#[cfg(test)]
-mod tests;

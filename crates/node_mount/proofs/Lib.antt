@@ -1,4 +1,4 @@
-mod DiskLemmas
+pub mod DiskLemmas
 mod ConfigLemmas
 mod ServingLemmas
 mod BackLemmas

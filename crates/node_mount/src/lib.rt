@@ -39,6 +39,3 @@ pub use opening::{OpenFault, open_recovered};
 pub use returned::Returned;
 pub use system::System;
 pub use system_maker::{SystemMaker, SystemReturned};
-
-#[cfg(test)]
-mod tests;

@@ -18,6 +18,3 @@ pub use reading::read_settings;
 pub use settings::{LeaseSettings, LeaseType, Settings};
 pub use settings_fault::SettingsFault;
 pub use url::Url;
-
-#[cfg(test)]
-mod tests;

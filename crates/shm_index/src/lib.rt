@@ -7,7 +7,5 @@
 mod file;
 mod header;
 mod index;
-#[cfg(test)]
-mod tests;
 
 pub use file::{INDEX_SIZE, SHM_LIMIT, SharedMemory};

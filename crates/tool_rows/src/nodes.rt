@@ -148,7 +148,7 @@ fn write_log<D: Disk>(disk: &mut D, file: &[u8]) -> Result<(), Fault> {
 }
 
 /// A disk that has one file of the log, or a part of it, as a node finds it that was stopped.
-#[tactic(auto, using(crate::proofs::DiskLemmas::rests))]
+#[tactic(auto, using(node_mount::proofs::DiskLemmas::rests))]
 fn disks(alloc: Global, file: &[u8]) -> Result<Vec<MemDisk>, Fault>
     ensures { IfOk result (λ disks. All IsNewDisk disks.items) }
 {

@@ -15,8 +15,6 @@ mod rule;
 mod seat;
 mod slot;
 mod table;
-#[cfg(test)]
-mod tests;
 mod turn;
 mod view;
 
@@ -29,3 +27,6 @@ pub use seat::{Seat, SeatOver};
 pub use slot::{LastStep, SlotValue};
 pub use table::DeskOver;
 pub use view::SeatView;
+
+#[cfg(test)]
+mod tests;

@@ -20,8 +20,6 @@ mod reader;
 mod reading;
 mod scan;
 mod sums;
-#[cfg(test)]
-mod tests;
 mod writing;
 
 pub use check::WAL_LIMIT;

@@ -1,10 +1,11 @@
 //! A table of sessions: what came, what was written, how it ended and what was asked.
 use crate::seat::serve_seat;
+use crate::tests::same::same;
 use crate::tests::scripted::Scripted;
 use lf_base::{FixedClock, MemLink, NoPause, SessionEnd};
-use std::alloc::{AllocError, Global};
+use std::alloc::Global;
+use std::process::Abort;
 use std::sync::Wait;
-use std::test::Fail;
 use turn_desk::Desk;
 
 // READ of the position file, 7.
@@ -64,7 +65,7 @@ struct Row {
     steps: u64,
 }
 
-const ROWS: [Row; 9] = [
+const ROWS: &[Row] = &[
     Row {
         input: &[READ, FORGET, LOOKUP, READLINK, DESTROY],
         size: 99_999,
@@ -163,7 +164,7 @@ const ROWS: [Row; 9] = [
 ];
 
 /// The bytes that a text of hexadecimal digits and blanks stands for, appended.
-fn append_hex(bytes: &mut Vec<u8>, text: &[u8]) -> Result<(), AllocError> {
+fn append_hex(rt: impl Copy + Abort, bytes: &mut Vec<u8>, text: &[u8]) {
     let mut high = None;
     for b in text {
         let digit = match *b {
@@ -174,63 +175,64 @@ fn append_hex(bytes: &mut Vec<u8>, text: &[u8]) -> Result<(), AllocError> {
         match high {
             None => high = Some(digit),
             Some(first) => {
-                bytes.push(first << 4 | digit)?;
+                bytes.push(first << 4 | digit).expect(&rt, "memory");
                 high = None;
             }
         }
     }
-    Ok(())
 }
 
-fn all_hex(alloc: Global, texts: &[&[u8]]) -> Result<Vec<u8>, AllocError> {
+fn all_hex(rt: impl Copy + Abort, alloc: Global, texts: &[&[u8]]) -> Vec<u8> {
     let mut bytes = Vec::new(alloc);
     for text in texts {
-        append_hex(&mut bytes, text)?;
+        append_hex(rt, &mut bytes, text);
     }
-    Ok(bytes)
+    bytes
 }
 
-fn link_of(alloc: Global, row: &Row) -> Result<MemLink, Fail> {
-    let input = all_hex(alloc, row.input)?;
-    let failing = vec![in alloc; row.failing]?;
-    let mut link = MemLink::new(alloc, input, 4096, failing)
-        .ok()
-        .ok_or("a link")?;
+fn link_of(rt: impl Copy + Abort, alloc: Global, row: &Row) -> MemLink {
+    let input = all_hex(rt, alloc, row.input);
+    let failing = vec![in alloc; row.failing].expect(&rt, "memory");
+    let mut link = MemLink::new(alloc, input, 4096, failing).expect(&rt, "a link");
     link.cut_into(row.size.max(1));
-    Ok(link)
+    link
 }
 
 /// The end of the row's session, and the machine afterwards.
-fn served<R: Wait + Copy>(
+fn served<R: Wait + Copy + Abort>(
     rt: R,
     alloc: Global,
     link: &mut MemLink,
     budget: u64,
-) -> Result<(SessionEnd, Scripted), Fail> {
+) -> (SessionEnd, Scripted) {
     let (desk, mut seat) = Desk::open(alloc, Scripted::new(alloc))
         .ok()
-        .ok_or("a desk")?;
+        .expect(&rt, "a desk");
     let mut clock = FixedClock::new(5);
     let mut pause = NoPause::new();
     let end = serve_seat(
         rt, alloc, &desk, &mut seat, link, &mut clock, &mut pause, budget,
     );
-    Ok((end, desk.close(rt, seat)))
+    (end, desk.close(rt, seat))
 }
 
 #[test]
-fn sessions(rt: HostRuntime) -> Result<(), Fail> {
-    let alloc = rt.alloc();
+fn sessions(rt: HostRuntime) {
     for row in ROWS {
-        let mut link = link_of(alloc, &row)?;
-        let watch = link.watch();
-        let (end, machine) = served(rt, alloc, &mut link, row.budget)?;
-        let written = watch.bytes().ok().ok_or("memory")?;
-        let wanted = all_hex(alloc, row.written)?;
-        assert_eq!(rt; written.as_slice(), wanted.as_slice());
-        assert_eq!(rt; end, row.end);
-        assert_eq!(rt; machine.asked.as_slice(), row.asked);
-        assert_eq!(rt; machine.steps, row.steps);
+        has_session(rt, rt.alloc(), row);
     }
-    Ok(())
+}
+
+fn has_session<R: Wait + Copy + Abort>(rt: R, alloc: Global, row: &Row) {
+    let mut link = link_of(rt, alloc, row);
+    let watch = link.watch();
+    let (end, machine) = served(rt, alloc, &mut link, row.budget);
+    let written = watch.bytes().expect(&rt, "memory");
+    let wanted = all_hex(rt, alloc, row.written);
+    same(rt, written.as_slice(), wanted.as_slice());
+    same(
+        rt,
+        (end, machine.asked.as_slice(), machine.steps),
+        (row.end, row.asked, row.steps),
+    );
 }

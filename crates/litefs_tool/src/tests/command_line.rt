@@ -1,16 +1,17 @@
 //! The words of the command line: a command's name alone, to the letter.
 use crate::command::{Command, read_arguments};
+use crate::tests::same::same;
 use lf_base::Text;
 use std::alloc::Global;
-use std::test::Fail;
+use std::process::Abort;
 
-const NAMED: [(&str, Command); 3] = [
+const NAMED: &[(&str, Command)] = &[
     ("apply", Command::Apply),
     ("compact", Command::Compact),
     ("mount", Command::Mount),
 ];
 
-const REFUSED: [&[&str]; 26] = [
+const REFUSED: &[&[&str]] = &[
     &[],
     &[""],
     &["Apply"],
@@ -39,26 +40,25 @@ const REFUSED: [&[&str]; 26] = [
     &["compact", "-x", "mount"],
 ];
 
-fn read(alloc: Global, words: &[&str]) -> Result<Option<Command>, Fail> {
+fn read(rt: impl Copy + Abort, alloc: Global, words: &[&str]) -> Option<Command> {
     let mut arguments = Vec::new(alloc);
     for word in words {
-        arguments.push(Text::of(alloc, word)?)?;
+        let word = Text::of(alloc, word).expect(&rt, "memory");
+        arguments.push(word).expect(&rt, "memory");
     }
-    Ok(read_arguments(alloc, arguments.as_slice())?)
+    read_arguments(alloc, arguments.as_slice()).expect(&rt, "memory")
 }
 
 #[test]
-fn names_a_command(rt: HostRuntime) -> Result<(), Fail> {
+fn names_a_command(rt: HostRuntime) {
     for (name, command) in NAMED {
-        assert_eq!(rt; read(rt.alloc(), &[name])?, Some(command));
+        same(rt, read(rt, rt.alloc(), &[name]), Some(*command));
     }
-    Ok(())
 }
 
 #[test]
-fn refuses_other_words(rt: HostRuntime) -> Result<(), Fail> {
+fn refuses_other_words(rt: HostRuntime) {
     for words in REFUSED {
-        assert_eq!(rt; read(rt.alloc(), words)?, None, "{words:?}");
+        same(rt, (*words, read(rt, rt.alloc(), words)), (*words, None));
     }
-    Ok(())
 }

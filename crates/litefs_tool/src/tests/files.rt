@@ -1,4 +1,5 @@
 //! LTX files of pages of zeros, field by field.
+use crate::tests::same::same;
 use lf_base::NoMemory;
 use ltx_codec::{Encoder, Header};
 use std::alloc::Global;
@@ -94,15 +95,17 @@ pub(super) fn file_sum(file: &[u8]) -> Option<u64> {
 
 /// The files stand as the independent program wrote them.
 #[test]
-fn file_sums(rt: HostRuntime) -> Result<(), std::test::Fail> {
+fn file_sums(rt: HostRuntime) {
     for (fields, length, sum) in [
         (SNAPSHOT, 636, 0xb8dc_e586_6977_8c30),
         (DELTA, 636, 0xe529_06ba_6d3f_4924),
         (EMPTY, 120, 0x8106_fa82_9c65_6655),
     ] {
-        let file = encode_all(rt.alloc(), &[fields])?;
-        assert_eq!(rt; file.len(), length);
-        assert_eq!(rt; file_sum(file.as_slice()), Some(sum));
+        let file = encode_all(rt.alloc(), &[fields]).expect(&rt, "memory");
+        same(
+            rt,
+            (file.len(), file_sum(file.as_slice())),
+            (length, Some(sum)),
+        );
     }
-    Ok(())
 }

@@ -1,12 +1,13 @@
 //! A table of streams: what came, in pieces of which size, how it ended and what was asked.
 use crate::follow_end::FollowEnd;
 use crate::seat::follow_seat;
+use crate::tests::same::same;
 use crate::tests::scripted::{Scripted, Word};
 use lf_base::{FixedClock, MemLink, Name, NoPause, Pos};
 use node_core::Refusal;
-use std::alloc::{AllocError, Global};
+use std::alloc::Global;
+use std::process::Abort;
 use std::sync::Wait;
-use std::test::Fail;
 use turn_desk::Desk;
 use txn_log::StoreFault;
 
@@ -45,119 +46,151 @@ struct Row {
     asked: &'static [u64],
 }
 
-const fn ending(input: &'static [&'static [u8]], end: FollowEnd, asked: &'static [u64]) -> Row {
+/// What a row is where it says nothing else.
+const CUT: Row = Row {
+    input: &[],
+    size: 99_999,
+    failing: NEVER,
+    budget: 1_000,
+    script: &[],
+    end: FollowEnd::Cut,
+    asked: &[1],
+};
+
+const WORKED: Row = Row {
+    input: &[HEAD, FILE, READY, FILE, DROP, END],
+    end: FollowEnd::Ended,
+    asked: &[1, 5, 5, 0],
+    ..CUT
+};
+
+const ROWS: &[Row] = &[
+    WORKED,
+    Row { size: 1, ..WORKED },
     Row {
-        input,
-        size: 99_999,
-        failing: NEVER,
-        budget: 1_000,
-        script: &[],
-        end,
-        asked,
-    }
-}
+        input: &[UNAVAILABLE],
+        end: FollowEnd::Status(503),
+        asked: &[1],
+        ..CUT
+    },
+    // The input ends behind a frame, inside one, inside the head, and before it.
+    Row {
+        input: &[HEAD, FILE, READY],
+        end: FollowEnd::Cut,
+        asked: &[1, 5],
+        ..CUT
+    },
+    Row {
+        input: &[HEAD, FILE, b"\0\0\0\x01\0"],
+        end: FollowEnd::Cut,
+        asked: &[1, 5],
+        ..CUT
+    },
+    Row {
+        input: &[b"HTTP/1.1 200"],
+        end: FollowEnd::Cut,
+        asked: &[1],
+        ..CUT
+    },
+    Row {
+        input: &[],
+        end: FollowEnd::Cut,
+        asked: &[1],
+        ..CUT
+    },
+    // No head, a kind that no frame has, and a frame of another database.
+    Row {
+        input: &[b"\x01\x02"],
+        end: FollowEnd::BadFrame,
+        asked: &[1],
+        ..CUT
+    },
+    Row {
+        input: &[HEAD, FILE, b"\0\0\0\x09"],
+        end: FollowEnd::BadFrame,
+        asked: &[1, 5],
+        ..CUT
+    },
+    Row {
+        input: &[HEAD, OTHER, FILE],
+        end: FollowEnd::BadFrame,
+        asked: &[1],
+        ..CUT
+    },
+    // A file that is held back twice, and one that is refused.
+    Row {
+        script: &[Word::Held, Word::Held, Word::Applied],
+        asked: &[1, 5, 5, 5, 5, 0],
+        ..WORKED
+    },
+    Row {
+        script: &[Word::Applied, Word::Disk],
+        end: FollowEnd::Refused(Refusal::Store(StoreFault::Disk)),
+        asked: &[1, 5, 5],
+        ..WORKED
+    },
+    // The second call is the read.
+    Row {
+        failing: 1,
+        end: FollowEnd::ReadFault,
+        asked: &[1],
+        ..WORKED
+    },
+    // Where, a write, a read and the first file.
+    Row {
+        budget: 4,
+        end: FollowEnd::Turns,
+        asked: &[1, 5],
+        ..WORKED
+    },
+];
 
-const fn worked() -> Row {
-    ending(
-        &[HEAD, FILE, READY, FILE, DROP, END],
-        FollowEnd::Ended,
-        &[1, 5, 5, 0],
-    )
-}
-
-fn rows() -> [Row; 14] {
-    [
-        worked(),
-        Row {
-            size: 1,
-            ..worked()
-        },
-        ending(&[UNAVAILABLE], FollowEnd::Status(503), &[1]),
-        // The input ends behind a frame, inside one, inside the head, and before it.
-        ending(&[HEAD, FILE, READY], FollowEnd::Cut, &[1, 5]),
-        ending(&[HEAD, FILE, b"\0\0\0\x01\0"], FollowEnd::Cut, &[1, 5]),
-        ending(&[b"HTTP/1.1 200"], FollowEnd::Cut, &[1]),
-        ending(&[], FollowEnd::Cut, &[1]),
-        // No head, a kind that no frame has, and a frame of another database.
-        ending(&[b"\x01\x02"], FollowEnd::BadFrame, &[1]),
-        ending(&[HEAD, FILE, b"\0\0\0\x09"], FollowEnd::BadFrame, &[1, 5]),
-        ending(&[HEAD, OTHER, FILE], FollowEnd::BadFrame, &[1]),
-        // A file that is held back twice, and one that is refused.
-        Row {
-            script: &[Word::Held, Word::Held, Word::Applied],
-            asked: &[1, 5, 5, 5, 5, 0],
-            ..worked()
-        },
-        Row {
-            script: &[Word::Applied, Word::Disk],
-            end: FollowEnd::Refused(Refusal::Store(StoreFault::Disk)),
-            asked: &[1, 5, 5],
-            ..worked()
-        },
-        // The second call is the read.
-        Row {
-            failing: 1,
-            end: FollowEnd::ReadFault,
-            asked: &[1],
-            ..worked()
-        },
-        // Where, a write, a read and the first file.
-        Row {
-            budget: 4,
-            end: FollowEnd::Turns,
-            asked: &[1, 5],
-            ..worked()
-        },
-    ]
-}
-
-fn joined(alloc: Global, texts: &[&[u8]]) -> Result<Vec<u8>, AllocError> {
+fn joined(rt: impl Copy + Abort, alloc: Global, texts: &[&[u8]]) -> Vec<u8> {
     let mut bytes = Vec::new(alloc);
     for text in texts {
-        bytes.extend_from_slice(text)?;
+        bytes.extend_from_slice(text).expect(&rt, "memory");
     }
-    Ok(bytes)
+    bytes
 }
 
-fn link_of(alloc: Global, row: &Row) -> Result<MemLink, Fail> {
-    let input = joined(alloc, row.input)?;
-    let failing = vec![in alloc; row.failing]?;
-    let mut link = MemLink::new(alloc, input, 4096, failing)
-        .ok()
-        .ok_or("a link")?;
+fn link_of(rt: impl Copy + Abort, alloc: Global, row: &Row) -> MemLink {
+    let input = joined(rt, alloc, row.input);
+    let failing = vec![in alloc; row.failing].expect(&rt, "memory");
+    let mut link = MemLink::new(alloc, input, 4096, failing).expect(&rt, "a link");
     link.cut_into(row.size.max(1));
-    Ok(link)
+    link
 }
 
 /// How the row's stream ended, and the machine afterwards.
-fn followed<R: Wait + Copy>(
+fn followed<R: Wait + Copy + Abort>(
     rt: R,
     alloc: Global,
     link: &mut MemLink,
     row: &Row,
-) -> Result<(FollowEnd, Scripted), Fail> {
+) -> (FollowEnd, Scripted) {
     let machine = Scripted::new(alloc, Pos { txid: 0, sum: 0 }, row.script);
-    let (desk, mut seat) = Desk::open(alloc, machine).ok().ok_or("a desk")?;
-    let name = Name::read(alloc, b"app").ok().ok_or("a name")?;
+    let (desk, mut seat) = Desk::open(alloc, machine).ok().expect(&rt, "a desk");
+    let name = Name::read(alloc, b"app").expect(&rt, "a name");
     let mut clock = FixedClock::new(5);
     let mut pause = NoPause::new();
     let end = follow_seat(
         rt, alloc, &desk, &mut seat, &name, link, &mut clock, &mut pause, row.budget,
     );
-    Ok((end, desk.close(rt, seat)))
+    (end, desk.close(rt, seat))
 }
 
 #[test]
-fn streams(rt: HostRuntime) -> Result<(), Fail> {
-    let alloc = rt.alloc();
-    for row in rows() {
-        let mut link = link_of(alloc, &row)?;
-        let watch = link.watch();
-        let (end, machine) = followed(rt, alloc, &mut link, &row)?;
-        let written = watch.bytes().ok().ok_or("memory")?;
-        assert_eq!(rt; written.as_slice(), REQUEST);
-        assert_eq!(rt; end, row.end);
-        assert_eq!(rt; machine.asked.as_slice(), row.asked);
+fn streams(rt: HostRuntime) {
+    for row in ROWS {
+        has_stream(rt, rt.alloc(), row);
     }
-    Ok(())
+}
+
+fn has_stream<R: Wait + Copy + Abort>(rt: R, alloc: Global, row: &Row) {
+    let mut link = link_of(rt, alloc, row);
+    let watch = link.watch();
+    let (end, machine) = followed(rt, alloc, &mut link, row);
+    let written = watch.bytes().expect(&rt, "memory");
+    same(rt, written.as_slice(), REQUEST);
+    same(rt, (end, machine.asked.as_slice()), (row.end, row.asked));
 }

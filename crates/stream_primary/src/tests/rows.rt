@@ -1,11 +1,12 @@
 //! A table of sessions: what came, in pieces of which size, what was written, how it ended and where
 //! the node was asked from.
 use crate::seat::serve_seat;
+use crate::tests::same::same;
 use crate::tests::scripted::{Scripted, Word};
 use lf_base::{FixedClock, MemLink, Name, NoPause, SessionEnd};
-use std::alloc::{AllocError, Global};
+use std::alloc::Global;
+use std::process::Abort;
 use std::sync::Wait;
-use std::test::Fail;
 use turn_desk::Desk;
 
 const NOT_FOUND: &[u8] =
@@ -72,227 +73,259 @@ struct Row {
     asked: &'static [u64],
 }
 
-const fn answered(input: &'static [u8], written: &'static [&'static [u8]]) -> Row {
+/// What a row is where it says nothing else.
+const CLOSED: Row = Row {
+    input: b"",
+    size: 99_999,
+    failing: NEVER,
+    budget: 1_000,
+    script: &[],
+    written: &[],
+    end: SessionEnd::Closed,
+    asked: &[],
+};
+
+/// The same without an answer, and with few turns.
+const SILENT: Row = Row {
+    budget: 9,
+    ..CLOSED
+};
+
+const WORKED: Row = Row {
+    input: STREAM,
+    script: &[Word::File, Word::Level, Word::NotPrimary],
+    written: &[BEGUN, FILE, READY, END],
+    asked: &[0, 1, 1],
+    ..CLOSED
+};
+
+const ROWS: &[Row] = &[
+    WORKED,
+    Row { size: 1, ..WORKED },
+    // A level is sent once, and a fault ends the stream without a word.
     Row {
-        input,
-        size: 99_999,
-        failing: NEVER,
-        budget: 1_000,
+        input: STREAM,
+        script: &[Word::File, Word::Level, Word::Level, Word::Disk],
+        written: &[BEGUN, FILE, READY],
+        asked: &[0, 1, 1, 1],
+        ..CLOSED
+    },
+    // Behind a drop it begins anew.
+    Row {
+        input: STREAM_AT_9,
+        script: &[Word::Gone, Word::File, Word::File, Word::NotPrimary],
+        written: &[BEGUN, DROP, FILE, FILE, END],
+        asked: &[9, 0, 1, 2],
+        ..CLOSED
+    },
+    Row {
+        input: STREAM,
+        script: &[Word::NotPrimary],
+        written: &[UNAVAILABLE],
+        asked: &[0],
+        ..CLOSED
+    },
+    Row {
+        input: STREAM,
+        script: &[Word::Disk],
+        written: &[FAILED],
+        asked: &[0],
+        ..CLOSED
+    },
+    Row {
+        input: STREAM,
+        script: &[Word::NoMemory],
+        written: &[FULL],
+        asked: &[0],
+        ..CLOSED
+    },
+    // The second write is that of the file behind its frame's front.
+    Row {
+        failing: 2,
+        end: SessionEnd::WriteFault,
+        written: &[BEGUN, b"\0\0\0\x01\0\0\0\x03\0\0\0\0\0\0\x02\x7capp"],
+        asked: &[0],
+        ..WORKED
+    },
+    // A follower that stays level: three Hellos, a read and three writes.
+    Row {
         script: &[],
-        written,
-        end: SessionEnd::Closed,
-        asked: &[],
-    }
-}
-
-const fn silent(
-    input: &'static [u8],
-    size: usize,
-    failing: u64,
-    budget: u64,
-    end: SessionEnd,
-) -> Row {
+        input: STREAM_AT_9,
+        budget: 7,
+        end: SessionEnd::Turns,
+        written: &[
+            BEGUN,
+            b"\0\0\0\x02\0\0\0\x03\0\0\0\0\0\0\0\x10app\0\0\0\0\0\0\0\x09\x80\0\0\0\0\0\0\0",
+        ],
+        asked: &[9, 9, 9, 9, 9],
+        ..WORKED
+    },
+    // Calls that are not served, and bodies that do not read.
     Row {
-        input,
-        size,
-        failing,
-        budget,
-        script: &[],
-        written: &[],
-        end,
-        asked: &[],
-    }
-}
-
-const fn streamed(
-    input: &'static [u8],
-    script: &'static [Word],
-    written: &'static [&'static [u8]],
-    asked: &'static [u64],
-) -> Row {
+        input: GET,
+        written: &[NOT_FOUND],
+        ..CLOSED
+    },
     Row {
-        input,
-        size: 99_999,
-        failing: NEVER,
-        budget: 1_000,
-        script,
-        written,
+        input: OTHER,
+        written: &[NOT_FOUND],
+        ..CLOSED
+    },
+    Row {
+        input: b"PUT /stream HTTP/1.1\r\nContent-Length: 3\r\n\r\nabc",
+        written: &[NOT_FOUND],
+        ..CLOSED
+    },
+    Row {
+        input: UPPER,
+        written: &[BAD],
+        ..CLOSED
+    },
+    Row {
+        input: SHORT,
+        written: &[BAD],
+        ..CLOSED
+    },
+    Row {
+        size: 1,
+        input: SHORT,
+        written: &[BAD],
+        ..CLOSED
+    },
+    // Another request behind it is not read.
+    Row {
+        input: b"GET / HTTP/1.0\r\n\r\nGET / HTTP/1.0\r\n\r\n",
+        written: &[NOT_FOUND],
+        ..CLOSED
+    },
+    // No input; none of a head, and none of a body, to the end.
+    Row {
+        input: b"",
         end: SessionEnd::Closed,
-        asked,
-    }
-}
-
-const fn worked() -> Row {
-    streamed(
-        STREAM,
-        &[Word::File, Word::Level, Word::NotPrimary],
-        &[BEGUN, FILE, READY, END],
-        &[0, 1, 1],
-    )
-}
-
-fn rows() -> [Row; 24] {
-    [
-        worked(),
-        Row {
-            size: 1,
-            ..worked()
-        },
-        // A level is sent once, and a fault ends the stream without a word.
-        streamed(
-            STREAM,
-            &[Word::File, Word::Level, Word::Level, Word::Disk],
-            &[BEGUN, FILE, READY],
-            &[0, 1, 1, 1],
-        ),
-        // Behind a drop it begins anew.
-        streamed(
-            STREAM_AT_9,
-            &[Word::Gone, Word::File, Word::File, Word::NotPrimary],
-            &[BEGUN, DROP, FILE, FILE, END],
-            &[9, 0, 1, 2],
-        ),
-        streamed(STREAM, &[Word::NotPrimary], &[UNAVAILABLE], &[0]),
-        streamed(STREAM, &[Word::Disk], &[FAILED], &[0]),
-        streamed(STREAM, &[Word::NoMemory], &[FULL], &[0]),
-        // The second write is that of the file behind its frame's front.
-        Row {
-            failing: 2,
-            end: SessionEnd::WriteFault,
-            written: &[BEGUN, b"\0\0\0\x01\0\0\0\x03\0\0\0\0\0\0\x02\x7capp"],
-            asked: &[0],
-            ..worked()
-        },
-        // A follower that stays level: three Hellos, a read and three writes.
-        Row {
-            script: &[],
-            input: STREAM_AT_9,
-            budget: 7,
-            end: SessionEnd::Turns,
-            written: &[
-                BEGUN,
-                b"\0\0\0\x02\0\0\0\x03\0\0\0\0\0\0\0\x10app\0\0\0\0\0\0\0\x09\x80\0\0\0\0\0\0\0",
-            ],
-            asked: &[9, 9, 9, 9, 9],
-            ..worked()
-        },
-        // Calls that are not served, and bodies that do not read.
-        answered(GET, &[NOT_FOUND]),
-        answered(OTHER, &[NOT_FOUND]),
-        answered(
-            b"PUT /stream HTTP/1.1\r\nContent-Length: 3\r\n\r\nabc",
-            &[NOT_FOUND],
-        ),
-        answered(UPPER, &[BAD]),
-        answered(SHORT, &[BAD]),
-        Row {
-            size: 1,
-            ..answered(SHORT, &[BAD])
-        },
-        // Another request behind it is not read.
-        answered(
-            b"GET / HTTP/1.0\r\n\r\nGET / HTTP/1.0\r\n\r\n",
-            &[NOT_FOUND],
-        ),
-        // No input; none of a head, and none of a body, to the end.
-        silent(b"", 99_999, NEVER, 9, SessionEnd::Closed),
-        silent(b"GET / HTT", 4, NEVER, 9, SessionEnd::BadMessage),
-        silent(
-            b"PUT / HTTP/1.1\r\nContent-Length: 3\r\n\r\nab",
-            99,
-            NEVER,
-            9,
-            SessionEnd::BadMessage,
-        ),
-        // A head that is not taken.
-        silent(
-            b"GET / HTTP/1.1\r\nTransfer-Encoding: chunked\r\n\r\n",
-            99,
-            NEVER,
-            9,
-            SessionEnd::BadMessage,
-        ),
-        // The second call is the second read, or the write.
-        silent(GET, 9, 1, 9, SessionEnd::ReadFault),
-        silent(GET, 99, 1, 9, SessionEnd::WriteFault),
-        // No turn for the reply, and none for the body.
-        silent(GET, 99, NEVER, 1, SessionEnd::Turns),
-        silent(SHORT, 45, NEVER, 1, SessionEnd::Turns),
-    ]
-}
+        ..SILENT
+    },
+    Row {
+        input: b"GET / HTT",
+        size: 4,
+        end: SessionEnd::BadMessage,
+        ..SILENT
+    },
+    Row {
+        input: b"PUT / HTTP/1.1\r\nContent-Length: 3\r\n\r\nab",
+        size: 99,
+        end: SessionEnd::BadMessage,
+        ..SILENT
+    },
+    // A head that is not taken.
+    Row {
+        input: b"GET / HTTP/1.1\r\nTransfer-Encoding: chunked\r\n\r\n",
+        size: 99,
+        end: SessionEnd::BadMessage,
+        ..SILENT
+    },
+    // The second call is the second read, or the write.
+    Row {
+        input: GET,
+        size: 9,
+        failing: 1,
+        end: SessionEnd::ReadFault,
+        ..SILENT
+    },
+    Row {
+        input: GET,
+        size: 99,
+        failing: 1,
+        end: SessionEnd::WriteFault,
+        ..SILENT
+    },
+    // No turn for the reply, and none for the body.
+    Row {
+        input: GET,
+        size: 99,
+        budget: 1,
+        end: SessionEnd::Turns,
+        ..SILENT
+    },
+    Row {
+        input: SHORT,
+        size: 45,
+        budget: 1,
+        end: SessionEnd::Turns,
+        ..SILENT
+    },
+];
 
 /// The bytes of the file.
-fn file(alloc: Global) -> Result<Vec<u8>, AllocError> {
-    let mut bytes = Vec::new(alloc);
-    bytes.extend_from_slice(FRONT)?;
-    append_zeros(&mut bytes, 71)?;
-    bytes.push(1)?;
-    append_zeros(&mut bytes, 516)?;
-    bytes.extend_from_slice(BACK)?;
-    Ok(bytes)
+fn file(rt: impl Copy + Abort, alloc: Global) -> Vec<u8> {
+    let mut bytes = Vec::from_slice(alloc, FRONT).expect(&rt, "memory");
+    append_zeros(rt, &mut bytes, 71);
+    bytes.push(1).expect(&rt, "memory");
+    append_zeros(rt, &mut bytes, 516);
+    bytes.extend_from_slice(BACK).expect(&rt, "memory");
+    bytes
 }
 
-fn append_zeros(bytes: &mut Vec<u8>, count: usize) -> Result<(), AllocError> {
+fn append_zeros(rt: impl Copy + Abort, bytes: &mut Vec<u8>, count: usize) {
     for _ in 0..count {
-        bytes.push(0)?;
+        bytes.push(0).expect(&rt, "memory");
     }
-    Ok(())
 }
 
 /// The texts, one behind another; a star at the end of one stands for the file.
-fn joined(alloc: Global, texts: &[&[u8]]) -> Result<Vec<u8>, AllocError> {
+fn joined(rt: impl Copy + Abort, alloc: Global, texts: &[&[u8]]) -> Vec<u8> {
+    let file = file(rt, alloc);
     let mut bytes = Vec::new(alloc);
     for text in texts {
-        bytes.extend_from_slice(text)?;
+        bytes.extend_from_slice(text).expect(&rt, "memory");
         if bytes.last() == Some(&b'*') {
             bytes.pop();
-            bytes.extend_from_slice(file(alloc)?.as_slice())?;
+            bytes
+                .extend_from_slice(file.as_slice())
+                .expect(&rt, "memory");
         }
     }
-    Ok(bytes)
+    bytes
 }
 
-fn link_of(alloc: Global, row: &Row) -> Result<MemLink, Fail> {
-    let mut input = Vec::new(alloc);
-    input.extend_from_slice(row.input)?;
-    let failing = vec![in alloc; row.failing]?;
-    let mut link = MemLink::new(alloc, input, 4096, failing)
-        .ok()
-        .ok_or("a link")?;
+fn link_of(rt: impl Copy + Abort, alloc: Global, row: &Row) -> MemLink {
+    let input = Vec::from_slice(alloc, row.input).expect(&rt, "memory");
+    let failing = vec![in alloc; row.failing].expect(&rt, "memory");
+    let mut link = MemLink::new(alloc, input, 4096, failing).expect(&rt, "a link");
     link.cut_into(row.size.max(1));
-    Ok(link)
+    link
 }
 
 /// The end of the row's session, and the machine afterwards.
-fn served<R: Wait + Copy>(
+fn served<R: Wait + Copy + Abort>(
     rt: R,
     alloc: Global,
     link: &mut MemLink,
     row: &Row,
-) -> Result<(SessionEnd, Scripted), Fail> {
-    let machine = Scripted::new(alloc, file(alloc)?, row.script);
-    let (desk, mut seat) = Desk::open(alloc, machine).ok().ok_or("a desk")?;
-    let name = Name::read(alloc, b"app").ok().ok_or("a name")?;
+) -> (SessionEnd, Scripted) {
+    let machine = Scripted::new(alloc, file(rt, alloc), row.script);
+    let (desk, mut seat) = Desk::open(alloc, machine).ok().expect(&rt, "a desk");
+    let name = Name::read(alloc, b"app").expect(&rt, "a name");
     let mut clock = FixedClock::new(5);
     let mut pause = NoPause::new();
     let end = serve_seat(
         rt, alloc, &desk, &mut seat, &name, link, &mut clock, &mut pause, row.budget,
     );
-    Ok((end, desk.close(rt, seat)))
+    (end, desk.close(rt, seat))
 }
 
 #[test]
-fn sessions(rt: HostRuntime) -> Result<(), Fail> {
-    let alloc = rt.alloc();
-    for row in rows() {
-        let mut link = link_of(alloc, &row)?;
-        let watch = link.watch();
-        let (end, machine) = served(rt, alloc, &mut link, &row)?;
-        let written = watch.bytes().ok().ok_or("memory")?;
-        let wanted = joined(alloc, row.written)?;
-        assert_eq!(rt; written.as_slice(), wanted.as_slice());
-        assert_eq!(rt; end, row.end);
-        assert_eq!(rt; machine.asked.as_slice(), row.asked);
+fn sessions(rt: HostRuntime) {
+    for row in ROWS {
+        has_session(rt, rt.alloc(), row);
     }
-    Ok(())
+}
+
+fn has_session<R: Wait + Copy + Abort>(rt: R, alloc: Global, row: &Row) {
+    let mut link = link_of(rt, alloc, row);
+    let watch = link.watch();
+    let (end, machine) = served(rt, alloc, &mut link, row);
+    let written = watch.bytes().expect(&rt, "memory");
+    let wanted = joined(rt, alloc, row.written);
+    same(rt, written.as_slice(), wanted.as_slice());
+    same(rt, (end, machine.asked.as_slice()), (row.end, row.asked));
 }

@@ -1,0 +1,219 @@
+//! Texts of configurations, with what they say or that they are refused.
+use crate::same::{holds, same};
+use node_settings::{Settings, SettingsFault, read_settings};
+use std::alloc::Global;
+use std::process::Abort;
+
+/// The keys that are required.
+const REQUIRED: &str =
+    "database = \"app\"\n[lease]\nadvertise-url = \"http://db1:20202\"\nhostname = \"db1\"\n";
+
+/// The settings in the order of the keys, with the address of a URL.
+fn line(rt: impl Copy + Abort, alloc: Global, settings: &Settings) -> String {
+    let service = match &settings.lease.service_url {
+        Some(url) => url.address().as_str(),
+        None => "none",
+    };
+    format!(in alloc;
+        "{} {} {} {} {} {} {} {}",
+        settings.socket.as_str(),
+        settings.http.text().as_str(),
+        settings.retention_files,
+        settings.lease.candidate,
+        settings.lease.advertise_url.address().as_str(),
+        settings.lease.hostname.as_str(),
+        service,
+        settings.lease.ttl
+    )
+    .expect(&rt, "memory")
+}
+
+fn with_required(rt: impl Copy + Abort, alloc: Global, more: &str) -> String {
+    let mut text = String::from_str(alloc, REQUIRED).expect(&rt, "memory");
+    text.push_str(more).expect(&rt, "memory");
+    text
+}
+
+/// The text is a configuration of the database `app` that says this.
+fn says(rt: impl Copy + Abort, alloc: Global, text: &str, said: &str) {
+    let settings = read_settings(alloc, text.as_bytes()).expect(&rt, "settings");
+    same(rt, settings.database.bytes(), b"app".as_slice());
+    same(
+        rt,
+        (text, line(rt, alloc, &settings).as_str()),
+        (text, said),
+    );
+}
+
+const READ: &[(&str, &str)] = &[
+    ("", "litefs.sock :20202 1000 false db1:20202 db1 none 10000"),
+    (
+        "type = \"static\"\ncandidate = true\n",
+        "litefs.sock :20202 1000 true db1:20202 db1 none 10000",
+    ),
+    (
+        "ttl = 1\n",
+        "litefs.sock :20202 1000 false db1:20202 db1 none 1",
+    ),
+    (
+        "ttl = 86_400_000\n",
+        "litefs.sock :20202 1000 false db1:20202 db1 none 86400000",
+    ),
+    (
+        "service-url = \"http://lease-1.example_2.org:080\"\n",
+        "litefs.sock :20202 1000 false db1:20202 db1 lease-1.example_2.org:080 10000",
+    ),
+    (
+        "[fuse]\nlisten = \"/run/a b.sock\"\n",
+        "/run/a b.sock :20202 1000 false db1:20202 db1 none 10000",
+    ),
+    (
+        "[http]\naddr = \"localhost:0\"\n",
+        "litefs.sock localhost:0 1000 false db1:20202 db1 none 10000",
+    ),
+    (
+        "[http]\naddr = \"[::1]:65535\"\n",
+        "litefs.sock [::1]:65535 1000 false db1:20202 db1 none 10000",
+    ),
+    (
+        "[data]\ncompress = false\nretention-files = 1\n",
+        "litefs.sock :20202 1 false db1:20202 db1 none 10000",
+    ),
+    (
+        "[data]\nretention-files = 0x7fff_ffff_ffff_ffff\n",
+        "litefs.sock :20202 9223372036854775807 false db1:20202 db1 none 10000",
+    ),
+    (
+        "# none of these has a key\n[fuse]\n[http]\n[data]\n",
+        "litefs.sock :20202 1000 false db1:20202 db1 none 10000",
+    ),
+];
+
+/// What stands behind the required keys, and what it says.
+#[test]
+fn configurations_are_read(rt: HostRuntime) {
+    let alloc = rt.alloc();
+    for (more, said) in READ {
+        says(rt, alloc, with_required(rt, alloc, more).as_str(), said);
+    }
+}
+
+const OTHER_FORMS: &[(&str, &str)] = &[
+    (
+        "lease.hostname = \"\"\nlease.advertise-url = 'http://h:1'\nfuse.listen = \"s\"\ndatabase = \"app\"\n",
+        "s :20202 1000 false h:1  none 10000",
+    ),
+    (
+        "database = \"app\"\nlease = { hostname = \"h\", advertise-url = \"http://h:1\", ttl = 7 }\r\n",
+        "litefs.sock :20202 1000 false h:1 h none 7",
+    ),
+];
+
+/// The same keys in other forms of TOML.
+#[test]
+fn other_forms_are_read(rt: HostRuntime) {
+    let alloc = rt.alloc();
+    for (text, said) in OTHER_FORMS {
+        says(rt, alloc, text, said);
+    }
+}
+
+const FURTHER: &[&str] = &[
+    "type = \"service\"\nservice-url = \"http://lease:20202\"\n",
+    "type = \"Static\"\n",
+    "type = 1\n",
+    "candidate = 1\n",
+    "candidate = \"true\"\n",
+    "ttl = 0\n",
+    "ttl = 86400001\n",
+    "ttl = -1\n",
+    "ttl = 1.0\n",
+    "ttl = \"10\"\n",
+    "service-url = \"lease:20202\"\n",
+    "service-url = \"https://lease:20202\"\n",
+    "promote = true\n",
+    "hostname = \"twice\"\n",
+    "[fuse]\nlisten = 1\n",
+    "[fuse]\ndir = \"/litefs\"\n",
+    "[http]\naddr = \"20202\"\n",
+    "[http]\naddr = \":65536\"\n",
+    "[http]\naddr = \":+80\"\n",
+    "[http]\naddr = \": 80\"\n",
+    "[http]\naddr = \"localhost:\"\n",
+    "[http]\naddr = \"a b:80\"\n",
+    "[http]\naddr = \"a:b:80\"\n",
+    "[http]\naddr = \"[::1:80\"\n",
+    "[http]\naddr = \"[]:80\"\n",
+    "[http]\naddr = 20202\n",
+    "[data]\ncompress = true\n",
+    "[data]\ncompress = \"false\"\n",
+    "[data]\nretention-files = 0\n",
+    "[data]\nretention-files = \"10\"\n",
+    "[data]\ndir = \"/var/lib/litefs\"\n",
+    "[proxy]\naddr = \":8081\"\n",
+    "[fuse]\n[fuse]\n",
+];
+
+/// Behind the required keys: another key, another kind, and a value outside its rule.
+#[test]
+fn further_keys_are_refused(rt: HostRuntime) {
+    let alloc = rt.alloc();
+    for more in FURTHER {
+        holds(
+            rt,
+            is_refused(alloc, with_required(rt, alloc, more).as_bytes()),
+            more,
+        );
+    }
+}
+
+const REFUSED: &[&[u8]] = &[
+    b"",
+    b"database",
+    b"database = \"app\"\n",
+    b"database = \"app\"\n[lease]\nhostname = \"h\"\n",
+    b"database = \"app\"\n[lease]\nadvertise-url = \"http://h:1\"\n",
+    b"[lease]\nadvertise-url = \"http://h:1\"\nhostname = \"h\"\n",
+    b"database = 5\n[lease]\nadvertise-url = \"http://h:1\"\nhostname = \"h\"\n",
+    b"database = \"app-wal\"\n[lease]\nadvertise-url = \"http://h:1\"\nhostname = \"h\"\n",
+    b"database = \"app\"\nfuse = \"s\"\n[lease]\nadvertise-url = \"http://h:1\"\nhostname = \"h\"\n",
+    b"database = \"app\"\nlease = \"static\"\n",
+    b"database = \"app\"\n[lease]\nadvertise-url = \"http://:1\"\nhostname = \"h\"\n",
+    b"database = \"app\"\n[lease]\nadvertise-url = \"http://h\"\nhostname = \"h\"\n",
+    b"database = \"app\"\n[lease]\nadvertise-url = \"http://h:1/\"\nhostname = \"h\"\n",
+    b"database = \"app\"\n[lease]\nadvertise-url = \"http://h:1\"\nhostname = \"\xff\"\n",
+];
+
+/// Texts without a required key, and texts that are no TOML.
+#[test]
+fn texts_are_refused(rt: HostRuntime) {
+    let alloc = rt.alloc();
+    for bytes in REFUSED {
+        same(rt, (*bytes, is_refused(alloc, bytes)), (*bytes, true));
+    }
+}
+
+fn is_refused(alloc: Global, bytes: &[u8]) -> bool {
+    judged(alloc, bytes).1
+}
+
+/// Whether a text is a configuration, and whether it is refused as none.
+fn judged(alloc: Global, bytes: &[u8]) -> (bool, bool) {
+    let read = read_settings(alloc, bytes);
+    (
+        read.is_ok(),
+        read.is_err_and(|fault| fault == SettingsFault::Config),
+    )
+}
+
+/// A configuration has at most 65,536 bytes.
+#[test]
+fn configurations_have_an_end(rt: HostRuntime) {
+    let alloc = rt.alloc();
+    for (size, taken) in [(65_536usize, true), (65_537, false)] {
+        let mut bytes = Vec::from_slice(alloc, REQUIRED.as_bytes()).expect(&rt, "memory");
+        bytes.push(b'#').expect(&rt, "memory");
+        bytes.resize(size, b' ').expect(&rt, "memory");
+        same(rt, judged(alloc, bytes.as_slice()), (taken, !taken));
+    }
+}

@@ -1,6 +1,0 @@
-use Rattle.std.specs.List.{All}
-use Rattle.ltx_codec.specs.Format.{IsFile}
-use Rattle.ltx_compact.proofs.tests.files_of.Given as goal
-
-abbrev pub invariant-loop-sample : goal.invariant-loop-sample
-invariant-loop-sample l = All IsFile l.files.items

@@ -1,0 +1,142 @@
+//! The real things, each once: a reader and a writer in threads of their own, over loopback and over
+//! a Unix socket. A test that passes the runtime on names its types of sockets, as the check wants.
+use super::fakes::{Count, accepts, fails, held_again, no_jobs};
+use crate::same::same;
+use lf_base::{
+    Acceptor, Clock, Closing, Dialer, Handles, Job, Link, Pause, SleepPause, Spawner, StreamLink,
+    SystemClock, TcpAccept, TcpDial, Text, ThreadSpawner, UnixAccept, start,
+};
+use std::alloc::Global;
+use std::fs;
+use std::net::{TcpListener, TcpStream};
+use std::os::unix::net::{UnixListener, UnixStream};
+use std::process::Abort;
+use std::sync::Arc;
+use std::sync::atomic::{AtomicU64, Ordering};
+
+/// Sends back what it reads, to the end of input.
+#[derive(Drop)]
+struct Echo<L> {
+    link: L,
+}
+
+impl<R: Copy, L: Link + Drop> Job<R> for Echo<L> {
+    fn go(self, _rt: R) {
+        let mut link = self.link;
+        let mut out = [0u8; 16];
+        for _ in 0..1000 {
+            match link.read(&mut out) {
+                Ok(count) if count > 0 => {
+                    let _ = link.write(&out[..count]);
+                }
+                _ => return,
+            }
+        }
+    }
+}
+
+/// Writes five bytes, and adds up what comes back.
+#[derive(Drop)]
+struct Ask<L> {
+    link: L,
+    sum: Arc<AtomicU64>,
+}
+
+impl<R: Copy, L: Link + Drop> Job<R> for Ask<L> {
+    fn go(self, _rt: R) {
+        let mut link = self.link;
+        let _ = link.write(b"hello");
+        let mut out = [0u8; 1];
+        for _ in 0..5 {
+            if let Ok(1) = link.read(&mut out) {
+                self.sum.fetch_add(u64::from(out[0]), Ordering::SeqCst);
+            }
+        }
+    }
+}
+
+/// The sum of the bytes of `hello`.
+const HELLO: u64 = 532;
+
+/// Asks on a link, and echoes on the one that is accepted for it.
+fn ask_and_echo<R, A, L>(rt: R, alloc: Global, acceptor: &mut A, link: L)
+where
+    R: Handles + Abort + Copy + Send + 'static,
+    A: Acceptor,
+    L: Link + Send + Drop + 'static,
+{
+    let mut spawner = ThreadSpawner::new(alloc).expect(&rt, "memory");
+    let sum = no_jobs(&rt, alloc);
+    let ask = Ask {
+        link,
+        sum: held_again(&rt, &sum),
+    };
+    same(rt, start(rt, &mut spawner, ask), Ok(()));
+    let link = acceptor.accept(&rt).ok().flatten().expect(&rt, "a link");
+    same(rt, start(rt, &mut spawner, Echo { link }), Ok(()));
+    spawner.finish(&rt);
+    same(rt, sum.load(Ordering::SeqCst), HELLO);
+}
+
+/// Where a listener listens.
+fn address_of(rt: &impl Abort, alloc: Global, listener: &TcpListener) -> Text {
+    let address = listener.local_addr().expect(rt, "an address");
+    let address = format!(in alloc; "{}", address).expect(rt, "memory");
+    Text::of(alloc, address.as_str()).expect(rt, "memory")
+}
+
+#[test]
+fn loopback(rt: HostRuntime) {
+    let listener = TcpListener::bind(&rt, "127.0.0.1:0").expect(&rt, "a listener");
+    let address = address_of(&rt, rt.alloc(), &listener);
+    let closing = Closing::new(rt.alloc()).expect(&rt, "memory");
+    let word = closing.another().expect(&rt, "memory");
+    let mut acceptor = TcpAccept::new(listener, word).expect(&rt, "an acceptor");
+    let mut dialer = TcpDial::new();
+
+    let link = dialer.dial(&rt, &address).expect(&rt, "a dial");
+    ask_and_echo(rt, rt.alloc(), &mut acceptor, link);
+
+    closing.close();
+    same(rt, accepts(&rt, &mut acceptor), Ok(false));
+    drop(acceptor);
+    same(rt, fails(&rt, &mut dialer, &address), true);
+}
+
+#[test]
+fn unix_socket(rt: HostRuntime) {
+    let path = "lf_base_test_socket";
+    let _ = fs::remove_file(&rt, path);
+    let listener = UnixListener::bind(&rt, path).expect(&rt, "a listener");
+    let closing = Closing::new(rt.alloc()).expect(&rt, "memory");
+    let mut acceptor = UnixAccept::new(listener, closing).expect(&rt, "an acceptor");
+
+    let stream = UnixStream::connect(&rt, path).expect(&rt, "a stream");
+    ask_and_echo(rt, rt.alloc(), &mut acceptor, StreamLink::new(stream));
+    let _ = fs::remove_file(&rt, path);
+}
+
+#[test]
+fn jobs_in_threads_are_waited_for(rt: HostRuntime) {
+    let _named: Option<(TcpListener, TcpStream)> = None;
+    let went = no_jobs(&rt, rt.alloc());
+    let mut spawner = ThreadSpawner::new(rt.alloc()).expect(&rt, "memory");
+    for _ in 0..4 {
+        let job = Count {
+            went: held_again(&rt, &went),
+        };
+        same(rt, start(rt, &mut spawner, job), Ok(()));
+    }
+    spawner.finish(&rt);
+    same(rt, went.load(Ordering::SeqCst), 4);
+}
+
+/// It is past the first day of 2020.
+#[test]
+fn the_system_tells_the_time(rt: HostRuntime) {
+    let mut clock = SystemClock::new(rt);
+    let before = clock.now_ms();
+    SleepPause::new(rt, 20).nap();
+    assert!(rt; before > 1_577_836_800_000);
+    assert!(rt; clock.now_ms() > before);
+}

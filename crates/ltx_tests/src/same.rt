@@ -1,0 +1,18 @@
+//! Comparisons as calls: a test is proved faster by each `assert_eq!` that does not stand in it.
+use std::fmt::Debug;
+use std::process::Abort;
+
+/// Ends the test where two values differ.
+pub fn same<R: Copy + Abort, T: PartialEq + Debug + Drop>(rt: R, got: T, wanted: T) {
+    assert_eq!(rt; got, wanted);
+}
+
+/// The same at a row of a table, which a difference names.
+pub fn same_at<R: Copy + Abort, D: Debug + Drop, T: PartialEq + Debug + Drop>(
+    rt: R,
+    row: D,
+    got: T,
+    wanted: T,
+) {
+    assert_eq!(rt; got, wanted, "{row:?}");
+}

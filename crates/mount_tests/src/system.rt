@@ -1,0 +1,59 @@
+use crate::same::same;
+use lf_base::{Closing, Name, Text};
+use node_mount::{Maker, System, SystemMaker};
+use std::fs;
+use std::net::{TcpListener, TcpStream};
+use std::os::unix::net::UnixListener;
+use std::process::Abort;
+
+fn maker<R: System + Abort>(rt: R) -> SystemMaker<R> {
+    let closing = Closing::new(rt.alloc()).expect(&rt, "memory");
+    SystemMaker::new(rt, closing).expect(&rt, "a maker")
+}
+
+/// A folder is one maker's until it goes.
+#[test]
+fn a_data_directory_has_one_maker(rt: HostRuntime) {
+    let _named: Option<(TcpListener, TcpStream)> = None;
+    let mut one = maker(rt);
+    let mut other = maker(rt);
+    let name = Name::read(rt.alloc(), b"app").expect(&rt, "a name");
+    same(rt, one.disk(&name).is_ok(), true);
+    same(rt, other.disk(&name).is_err(), true);
+    drop(one);
+    same(rt, other.disk(&name).is_ok(), true);
+}
+
+/// A socket on which somebody listens stays, and so does a file that is no socket. One that was left
+/// behind is replaced.
+#[test]
+fn a_socket_has_one_maker(rt: HostRuntime) {
+    let _named: Option<(TcpListener, TcpStream)> = None;
+    let mut maker = maker(rt);
+    let path = Text::of(rt.alloc(), "node_mount_test_socket").expect(&rt, "memory");
+    fs::write(&rt, path.as_str(), "text").expect(&rt, "a file");
+    same(rt, maker.files(&path).is_err(), true);
+    let text = fs::read_to_string(&rt, path.as_str()).expect(&rt, "the file");
+    same(rt, text.as_str(), "text");
+    fs::remove_file(&rt, path.as_str()).expect(&rt, "removed");
+    let listener = UnixListener::bind(&rt, path.as_str()).expect(&rt, "a listener");
+    same(rt, maker.files(&path).is_err(), true);
+    drop(listener);
+    let first = maker.files(&path);
+    same(rt, first.is_ok(), true);
+    same(rt, maker.files(&path).is_err(), true);
+    fs::remove_file(&rt, path.as_str()).expect(&rt, "removed");
+}
+
+#[test]
+fn http_listens_once_on_a_port(rt: HostRuntime) {
+    let _named: Option<(TcpListener, TcpStream)> = None;
+    let mut maker = maker(rt);
+    let any = Text::of(rt.alloc(), ":0").expect(&rt, "memory");
+    same(rt, maker.http(&any).is_ok(), true);
+    let listener = TcpListener::bind(&rt, "127.0.0.1:0").expect(&rt, "a listener");
+    let address = listener.local_addr().expect(&rt, "its address");
+    let taken = format!(in rt.alloc(); "{address}").expect(&rt, "memory");
+    let taken = Text::of(rt.alloc(), taken.as_str()).expect(&rt, "memory");
+    same(rt, maker.http(&taken).is_err(), true);
+}

@@ -1,5 +1,0 @@
-use Rattle.turn_desk.specs.Seats.{IsOf}
-use Rattle.turn_desk.proofs.tests.count_up.Given as goal
-
-abbrev pub invariant-loop : goal.invariant-loop
-invariant-loop g l = IsOf l.seat l.desk
