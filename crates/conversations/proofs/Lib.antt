@@ -1,2 +1,3 @@
 -- The lemmas that proofs cite.
 pub mod StandingLemmas
+pub mod SumLemmas

@@ -1,2 +1,5 @@
 -- The definitions that contracts cite.
+pub mod AsRecorded
+pub mod Outcomes
+pub mod Replaying
 pub mod Standing

@@ -1,5 +1,5 @@
 -- The served files over the whole of an image.
-use Rattle.std.specs.Prelude.{Some, length}
+use Rattle.std.specs.Prelude.{ℕ, false, Some, length}
 use Rattle.lf_sqlite_pages.specs.Apply.{apply}
 use Rattle.lf_sqlite_pages.specs.Change.{PageChange}
 use Rattle.lf_sqlite_pages.specs.Image.{DatabaseImage}
@@ -7,6 +7,9 @@ use Rattle.file_view.specs.declared.plan.Plan.{Plan}
 use Rattle.file_view.specs.declared.plan.Plan.TheVariants as plan
 use Rattle.file_view.specs.Endings.{committed}
 use Rattle.file_view.specs.Overlay.{StandsOver}
+use Rattle.file_view.specs.declared.role.Role.{Role}
+use Rattle.file_view.specs.declared.scene.Scene.{Scene}
+use Rattle.file_view.specs.Requests.{scene_of}
 use Rattle.file_view.specs.Served.{Served}
 
 -- the files stand over an image
@@ -22,3 +25,7 @@ abbrev pub AwaitWhere : DatabaseImage → Served → Plan → Type 0
 AwaitWhere image files (plan.Reply reply) = Unit {0}
 AwaitWhere image files plan.Silent = Unit {0}
 AwaitWhere image files (plan.Commit reply change) = Await image files change
+
+-- what a request of a session is answered over
+abbrev pub scene_over : DatabaseImage → ℕ → Role → Scene
+scene_over image link role = scene_of link role image.page_size (length image.pages) false

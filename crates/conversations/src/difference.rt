@@ -1,13 +1,17 @@
 //! What differs from the record.
-ghost use Rattle.std.specs.Prelude.{IsTrue};
+ghost use Rattle.std.specs.Prelude.{◌≡◌, ◌↔◌, IsTrue, IfOk, IfSome, map};
+ghost use Rattle.std.specs.List.{flat_map};
+ghost use Rattle.sha2.specs.Sha256.{sha256};
 ghost use Rattle.fuse_msgs.specs.Reply.{IsReply};
+ghost use Rattle.conversations.specs.declared.difference.Difference.TheVariants as difference;
+ghost use Rattle.conversations.specs.AsRecorded.{AsRecorded, SameReply, SameCommit, SameChange, SamePages, SameBytes, SamePosition, OutcomeDiffers, CommitDiffers, ChangeDiffers};
 
 use crate::fault::Fault;
 use crate::outcome::Outcome;
 use crate::turn::{Commit, Message};
 use fuse_msgs::{Reply, encode};
 use lf_base::{Pos, pos_text};
-use lf_sqlite_pages::Change;
+use lf_sqlite_pages::{Change, PageWrite};
 use sha2::{Digest, Sha256};
 use std::alloc::Global;
 use std::fmt;
@@ -56,7 +60,10 @@ pub fn outcome_differs(
     position: Pos,
     unique: u64,
     recorded: &Message,
-) -> Result<Option<Difference>, Fault> {
+) -> Result<Option<Difference>, Fault>
+    ensures same { IfOk result (λ why. (why ≡ None) ↔ AsRecorded outcome.now position unique recorded.now) }
+    ensures differs { IfOk result (λ why. IfSome why (OutcomeDiffers outcome.now position unique recorded.now)) }
+{
     match commit_differs(alloc, &outcome.change, position, &recorded.commit)? {
         Some(why) => Ok(Some(why)),
         None => reply_differs(alloc, &outcome.reply, unique, recorded.reply.as_str()),
@@ -69,21 +76,33 @@ fn reply_differs(
     reply: &Option<Reply>,
     unique: u64,
     recorded: &str,
-) -> Result<Option<Difference>, Fault> {
-    let mut bytes = Vec::new(alloc);
-    if let Some(reply) = reply {
-        if !is_sendable(reply) {
-            return Ok(Some(Difference::Reply));
-        }
-        encode(alloc, reply, unique, &mut bytes)?;
+) -> Result<Option<Difference>, Fault>
+    ensures same { IfOk result (λ why. (why ≡ None) ↔ SameReply reply.now unique recorded.now) }
+    ensures differs { IfOk result (λ why. IfSome why (λ it. it ≡ difference.Reply)) }
+{
+    let same = match reply {
+        None => recorded.is_empty(),
+        Some(reply) => is_recorded(alloc, reply, unique, recorded)?,
+    };
+    Ok((!same).then_some(Difference::Reply))
+}
+
+/// Whether a reply can be written, and its bytes are the recorded ones.
+fn is_recorded(alloc: Global, reply: &Reply, unique: u64, recorded: &str) -> Result<bool, Fault>
+    ensures { IfOk result (λ same. IsTrue same ↔ SameReply (Some reply.now) unique recorded.now) }
+{
+    if !is_sendable(reply) {
+        return Ok(false);
     }
+    let mut bytes = Vec::new(alloc);
+    encode(alloc, reply, unique, &mut bytes)?;
     let written = hex::encode(alloc, bytes)?;
-    Ok((written.as_str() != recorded).then_some(Difference::Reply))
+    Ok(written.as_str() == recorded)
 }
 
 /// Whether a reply can be written as a message.
 fn is_sendable(reply: &Reply) -> bool
-    ensures { IsTrue result → IsReply reply.now }
+    ensures { IsTrue result ↔ IsReply reply.now }
 {
     match reply {
         Reply::Bytes { bytes } => bytes.as_slice().len() <= LONGEST,
@@ -98,7 +117,10 @@ fn commit_differs(
     change: &Option<Change>,
     position: Pos,
     recorded: &Option<Commit>,
-) -> Result<Option<Difference>, Fault> {
+) -> Result<Option<Difference>, Fault>
+    ensures same { IfOk result (λ why. (why ≡ None) ↔ SameCommit change.now position recorded.now) }
+    ensures differs { IfOk result (λ why. IfSome why (CommitDiffers change.now position recorded.now)) }
+{
     match (change, recorded) {
         (None, None) => Ok(None),
         (None, Some(_)) => Ok(Some(Difference::NoCommit)),
@@ -113,7 +135,10 @@ fn change_differs(
     change: &Change,
     position: Pos,
     recorded: &Commit,
-) -> Result<Option<Difference>, Fault> {
+) -> Result<Option<Difference>, Fault>
+    ensures same { IfOk result (λ why. (why ≡ None) ↔ SameChange change.now position recorded.now) }
+    ensures differs { IfOk result (λ why. IfSome why (ChangeDiffers change.now position recorded.now)) }
+{
     if !has_pages(alloc, change, recorded)? {
         return Ok(Some(Difference::Pages));
     }
@@ -125,11 +150,10 @@ fn change_differs(
 }
 
 /// Whether a change has the recorded page size, number of pages, and numbers.
-fn has_pages(alloc: Global, change: &Change, recorded: &Commit) -> Result<bool, Fault> {
-    let mut numbers = Vec::new(alloc);
-    for page in change.pages() {
-        numbers.push(u64::from(page.number))?;
-    }
+fn has_pages(alloc: Global, change: &Change, recorded: &Commit) -> Result<bool, Fault>
+    ensures { IfOk result (λ same. IsTrue same ↔ SamePages change.now recorded.now) }
+{
+    let numbers = numbers_of(alloc, change.pages())?;
     Ok(
         u64::from(change.page_size()) == recorded.page_size
             && u64::from(change.commit()) == recorded.pages
@@ -137,12 +161,33 @@ fn has_pages(alloc: Global, change: &Change, recorded: &Commit) -> Result<bool, 
     )
 }
 
+/// The numbers of pages.
+fn numbers_of(alloc: Global, pages: &[PageWrite]) -> Result<Vec<u64>, Fault>
+    ensures { IfOk result (λ numbers. numbers.items ≡ map (λ w. w.number) pages.now) }
+{
+    let mut numbers = Vec::new(alloc);
+    for page in pages {
+        numbers.push(u64::from(page.number))?;
+    }
+    Ok(numbers)
+}
+
 /// Whether the pages of a change, one after another, have this SHA-256.
-fn has_bytes(alloc: Global, change: &Change, recorded: &str) -> Result<bool, Fault> {
+fn has_bytes(alloc: Global, change: &Change, recorded: &str) -> Result<bool, Fault>
+    ensures { IfOk result (λ same. IsTrue same ↔ SameBytes change.now recorded.now) }
+{
+    let digest = digest_of(change.pages());
+    let found = hex::encode(alloc, digest.as_slice())?;
+    Ok(found.as_str() == recorded)
+}
+
+/// The SHA-256 of pages, one after another.
+fn digest_of(pages: &[PageWrite]) -> [u8; 32]
+    ensures { result ≡ sha256 (flat_map (λ w. w.bytes) pages.now) }
+{
     let mut digest = Sha256::new();
-    for page in change.pages() {
+    for page in pages {
         digest.update(page.bytes.as_slice());
     }
-    let found = hex::encode(alloc, digest.finalize().as_slice())?;
-    Ok(found.as_str() == recorded)
+    digest.finalize()
 }

@@ -1,3 +1,6 @@
+ghost use Rattle.std.specs.Prelude.{◌≡◌};
+ghost use Rattle.conversations.specs.declared.fault.Fault.TheVariants as fault;
+
 use lf_base::NoMemory;
 use std::alloc::{AllocError, AllocFailed};
 use std::io;
@@ -13,6 +16,8 @@ pub enum Fault {
 }
 
 impl From<NoMemory> for Fault {
+    ghost from_gives = { λ _ f. f ≡ fault.NoMemory };
+
     fn from(_want: NoMemory) -> Fault {
         Fault::NoMemory
     }

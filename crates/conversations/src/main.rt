@@ -14,8 +14,8 @@ use fault::Fault;
 use std::fs;
 use tally::Tally;
 
-/// One conversation for each journal mode, and worked rows.
-const RECORDED: [&str; 5] = ["delete", "truncate", "persist", "wal", "rows"];
+/// One conversation for each journal mode, worked rows, and rows of which some were changed.
+const RECORDED: [&str; 6] = ["delete", "truncate", "persist", "wal", "rows", "changed"];
 
 fn main(rt: HostRuntime) -> Result<(), Fault> {
     for mode in RECORDED {

@@ -1,4 +1,6 @@
 //! What becomes of a request.
+ghost use Rattle.std.specs.Prelude.{◌≡◌};
+ghost use Rattle.conversations.specs.Outcomes.{number_of, without_commit, refused};
 
 use file_view::ViewFault;
 use fuse_msgs::Reply;
@@ -14,7 +16,9 @@ pub struct Outcome {
 
 impl Outcome {
     /// A request that committed nothing.
-    pub fn without_commit(reply: Option<Reply>) -> Outcome {
+    pub fn without_commit(reply: Option<Reply>) -> Outcome
+        ensures { result ≡ without_commit reply }
+    {
         Outcome {
             reply,
             change: None,
@@ -22,13 +26,17 @@ impl Outcome {
     }
 
     /// A request that was refused.
-    pub fn refused(fault: ViewFault) -> Outcome {
+    pub fn refused(fault: ViewFault) -> Outcome
+        ensures { result ≡ refused fault }
+    {
         Outcome::without_commit(Some(Reply::Error(number_of(fault))))
     }
 }
 
 /// The error number of a refusal.
-fn number_of(fault: ViewFault) -> Errno {
+fn number_of(fault: ViewFault) -> Errno
+    ensures { result ≡ number_of fault }
+{
     match fault {
         ViewFault::Errno(errno) => errno,
         ViewFault::Page(_) => Errno(5),

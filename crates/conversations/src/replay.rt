@@ -1,5 +1,10 @@
 //! A conversation, as it goes on.
-ghost use Rattle.std.specs.Prelude.{◌≡◌};
+ghost use Rattle.std.specs.Prelude.{◌≡◌, IfOk, OnOk, length};
+ghost use Rattle.lf_sqlite_pages.specs.Apply.{apply};
+ghost use Rattle.lf_sqlite_pages.specs.Complete.{complete};
+ghost use Rattle.lf_sqlite_pages.specs.Image.{empty_image};
+ghost use Rattle.file_view.specs.Endings.{applied, committed};
+ghost use Rattle.conversations.specs.Replaying.{Heard, IsAnswered, IsNew, IsOver, Taken, one_more, position_at, zero_image};
 ghost use Rattle.conversations.specs.Standing.{Await};
 
 use crate::difference::{Difference, outcome_differs};
@@ -8,7 +13,7 @@ use crate::files::Files;
 use crate::outcome::Outcome;
 use crate::turn::{Message, Start, Turn};
 use file_view::Plan;
-use fuse_msgs::{Request, decode};
+use fuse_msgs::{BadMessage, Request, decode};
 use lf_base::{Name, Pos};
 use lf_sqlite_pages::{Change, Image, is_page_size};
 use page_checksum::page_sum;
@@ -26,16 +31,22 @@ pub struct Replay {
 
 impl Replay {
     /// The files of a database that was never written.
-    pub fn new(alloc: Global) -> Result<Replay, Fault> {
+    pub fn new(alloc: Global) -> Result<Replay, Fault>
+        ensures { IfOk result (IsNew empty_image 0) }
+    {
         Replay::over(alloc, Image::empty(alloc), 0)
     }
 
     /// The files of a database of pages of zeros.
-    fn start(alloc: Global, start: Start) -> Result<Replay, Fault> {
+    fn start(alloc: Global, start: Start) -> Result<Replay, Fault>
+        ensures { IfOk result (IsNew (zero_image start) start.transactions) }
+    {
         Replay::over(alloc, zeros(alloc, start)?, start.transactions)
     }
 
-    fn over(alloc: Global, image: Image, transactions: u64) -> Result<Replay, Fault> {
+    fn over(alloc: Global, image: Image, transactions: u64) -> Result<Replay, Fault>
+        ensures { IfOk result (IsNew image transactions) }
+    {
         let Ok(name) = Name::read(alloc, b"app") else {
             return Err(Fault::NoMemory);
         };
@@ -55,7 +66,9 @@ impl Replay {
     }
 
     /// Takes one turn, and says what differs from the record, if anything does.
-    pub fn take(&mut self, alloc: Global, turn: &Turn) -> Result<Option<Difference>, Fault> {
+    pub fn take(&mut self, alloc: Global, turn: &Turn) -> Result<Option<Difference>, Fault>
+        ensures { IfOk result (λ why. Taken self.old turn.now why self.new) }
+    {
         match turn {
             Turn::Start(start) => {
                 *self = Replay::start(alloc, *start)?;
@@ -78,16 +91,23 @@ impl Replay {
     }
 
     /// The committed image is another now, to which so many transactions led.
-    fn apply(&mut self, image: Image, transactions: u64) {
+    fn apply(&mut self, image: Image, transactions: u64)
+        ensures { IsOver image (applied self.old.files.view image.page_size (length image.pages)) transactions self.new }
+    {
         self.files.apply(image);
         self.transactions = transactions;
         let position = self.position();
         self.files.tell(position);
     }
 
-    fn hear(&mut self, alloc: Global, message: &Message) -> Result<Option<Difference>, Fault> {
-        let Ok(request) = decode(alloc, message.request.as_slice()) else {
-            return Ok(Some(Difference::Request));
+    /// Takes a message, and says how what becomes of it differs from the record.
+    fn hear(&mut self, alloc: Global, message: &Message) -> Result<Option<Difference>, Fault>
+        ensures { IfOk result (λ why. Heard self.old message.now why self.new) }
+    {
+        let request = match decode(alloc, message.request.as_slice()) {
+            Ok(request) => request,
+            Err(BadMessage::NoMemory) => return Err(Fault::NoMemory),
+            Err(_) => return Ok(Some(Difference::Request)),
         };
         let outcome = self.answer(alloc, message, &request)?;
         outcome_differs(alloc, &outcome, self.position(), request.unique, message)
@@ -98,7 +118,9 @@ impl Replay {
         alloc: Global,
         message: &Message,
         request: &Request,
-    ) -> Result<Outcome, Fault> {
+    ) -> Result<Outcome, Fault>
+        ensures { IfOk result (λ outcome. IsAnswered self.old message.now request.now outcome self.new) }
+    {
         match self.files.ask(alloc, message.link, message.role, request) {
             Ok(Plan::Reply(reply)) => Ok(Outcome::without_commit(Some(reply))),
             Ok(Plan::Silent) => Ok(Outcome::without_commit(None)),
@@ -116,6 +138,8 @@ impl Replay {
     /// Commits the change for which a request waits, and gives it back complete.
     fn commit(&mut self, change: Change) -> Result<Change, Fault>
         requires { Await self.old.files.image self.old.files.view change }
+        ensures whole { IfOk result (λ whole. whole ≡ complete self.old.files.image change) }
+        ensures over { OnOk result (IsOver (apply self.old.files.image change) (committed self.old.files.view) (one_more self.old.transactions) self.new) }
     {
         let before = self.files.image().commit();
         self.files.commit(&change)?;
@@ -128,18 +152,20 @@ impl Replay {
     }
 
     /// Where the database stands.
-    fn position(&self) -> Pos {
+    fn position(&self) -> Pos
+        ensures { result ≡ position_at self.now.files.image self.now.transactions }
+    {
         position_of(self.files.image(), self.transactions)
     }
 }
 
-/// An image of pages of zeros.
-fn zeros(alloc: Global, start: Start) -> Result<Image, Fault> {
-    let page_size = u32::try_from(start.page_size).unwrap_or(0);
-    let pages = u32::try_from(start.pages).unwrap_or(0);
+/// An image of pages of zeros. It has none where the page size is none of SQLite's.
+fn zeros(alloc: Global, start: Start) -> Result<Image, Fault>
+    ensures { IfOk result (λ image. image ≡ zero_image start) }
+{
     let mut image = Image::empty(alloc);
-    if pages != 0 && is_page_size(page_size) {
-        let mut change = Change::new(alloc, page_size, pages);
+    if start.pages != 0 && is_page_size(start.page_size) {
+        let mut change = Change::new(alloc, start.page_size, start.pages);
         change.complete(0)?;
         image.apply(&change)?;
     }
@@ -147,9 +173,12 @@ fn zeros(alloc: Global, start: Start) -> Result<Image, Fault> {
 }
 
 /// Where a database stands to which so many transactions led.
-fn position_of(image: &Image, transactions: u64) -> Pos {
+fn position_of(image: &Image, transactions: u64) -> Pos
+    ensures { result ≡ position_at image.now transactions }
+{
     let mut sum = 0;
-    for n in 1..=image.commit() {
+    for before in 0..image.commit() {
+        let n = before + 1;
         sum ^= page_sum(n, image.page(n));
     }
     Pos {

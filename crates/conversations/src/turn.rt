@@ -8,8 +8,8 @@ use std::alloc::Global;
 /// A database of pages of zeros.
 #[derive(Clone, Copy, Debug)]
 pub struct Start {
-    pub page_size: u64,
-    pub pages: u64,
+    pub page_size: u32,
+    pub pages: u32,
     pub transactions: u64,
 }
 
@@ -52,6 +52,11 @@ fn number(value: &Value, name: &str) -> u64 {
     value.get(name).and_then(Value::as_u64).unwrap_or(0)
 }
 
+/// A number of 32 bits.
+fn small_number(value: &Value, name: &str) -> u32 {
+    u32::try_from(number(value, name)).unwrap_or(0)
+}
+
 fn text<'a>(value: &'a Value, name: &str) -> Option<&'a str> {
     value.get(name).and_then(Value::as_str)
 }
@@ -85,8 +90,8 @@ fn commit_of(alloc: Global, value: &Value) -> Result<Option<Commit>, Fault> {
 
 fn start_of(value: &Value) -> Start {
     Start {
-        page_size: number(value, "page_size"),
-        pages: number(value, "pages"),
+        page_size: small_number(value, "page_size"),
+        pages: small_number(value, "pages"),
         transactions: number(value, "transactions"),
     }
 }
