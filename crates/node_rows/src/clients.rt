@@ -1,9 +1,11 @@
 //! What the clients of a scene send, one after another, and what they are to be sent.
+ghost use Rattle.std.specs.Prelude.{◌≡◌, ◌↔◌, IfSome, drop, length, take};
+ghost use Rattle.node_rows.specs.AsWanted.{SameBelow, SentAsWanted, SentDiffers, SessionsDiffer, sent_to};
 
+use crate::comparing::{position_differs, replies_differ};
 use crate::difference::Difference;
 use crate::fault::Fault;
-use crate::playing::replies_differ;
-use crate::scene::Scene;
+use crate::scene::{Scene, Session};
 use std::alloc::Global;
 
 /// A primary that keeps three files of its log.
@@ -23,7 +25,13 @@ const POSITION_ASKED: &str = "300000000e0000000100000000000000060000000000000000
     0000000000000000010000000000000000000000000000000010000000000000\
     00000000000000000000000000000000";
 
-/// The same as bytes.
+/// How many bytes come before the position in the replies to these: the reply to OPEN, and the head of that to READ.
+const BEFORE_POSITION: usize = 48;
+
+/// How many bytes a position has in print.
+const POSITION_SIZE: usize = 33;
+
+/// OPEN and READ of the position file as bytes.
 pub fn position_asked(alloc: Global) -> Result<Vec<u8>, Fault> {
     Ok(hex::decode(alloc, POSITION_ASKED)?)
 }
@@ -39,13 +47,47 @@ pub fn requests_of(alloc: Global, scene: &Scene) -> Result<Vec<Vec<u8>>, Fault> 
 }
 
 /// How what these clients were sent differs.
-pub fn sent_differs(replies: &[Vec<u8>], scene: &Scene) -> Option<Difference> {
-    for (number, (sent, session)) in replies.iter().zip(&scene.sessions).enumerate() {
-        if let Some(why) = replies_differ(sent, number, session) {
+pub fn sent_differs(replies: &[Vec<u8>], scene: &Scene) -> Option<Difference>
+    ensures same { (result ≡ None) ↔ SentAsWanted replies.now scene.now }
+    ensures differs { IfSome result (SentDiffers replies.now scene.now) }
+{
+    let sessions = scene.sessions.as_slice();
+    if let Some(why) = sessions_differ(replies, sessions) {
+        return Some(why);
+    }
+    let sent = sent_to(replies, sessions.len());
+    position_differs(position_in(sent), scene.left.position.as_str())
+}
+
+/// How what the clients of these sessions were sent differs.
+fn sessions_differ(replies: &[Vec<u8>], sessions: &[Session]) -> Option<Difference>
+    ensures same { (result ≡ None) ↔ SameBelow replies.now sessions.now (length sessions.now) }
+    ensures differs { IfSome result (SessionsDiffer replies.now sessions.now) }
+{
+    for (number, session) in sessions.iter().enumerate() {
+        if let Some(why) = replies_differ(sent_to(replies, number), number, session) {
             return Some(why);
         }
     }
-    let told = replies.get(scene.sessions.len())?.get(48..81);
-    let same = told == Some(scene.left.position.as_str().as_bytes());
-    (!same).then_some(Difference::Position)
+    None
+}
+
+/// What the client of this number was sent: nothing where there is no such client.
+fn sent_to(replies: &[Vec<u8>], client: usize) -> &[u8]
+    ensures { result.now ≡ sent_to replies.now client }
+{
+    match replies.get(client) {
+        Some(sent) => sent.as_slice(),
+        None => &[],
+    }
+}
+
+/// The position in the replies to the client that asks for it.
+#[tactic(auto, using(std::proofs::lemmas::List::take_min, std::proofs::lemmas::List::drop_min))]
+fn position_in(sent: &[u8]) -> &[u8]
+    ensures { result.now ≡ take 33 (drop 48 sent.now) }
+{
+    let (_, rest) = sent.split_at(BEFORE_POSITION.min(sent.len()));
+    let (position, _) = rest.split_at(POSITION_SIZE.min(rest.len()));
+    position
 }

@@ -1,44 +1,57 @@
 //! The files that are left on a disk.
+ghost use Rattle.std.specs.Prelude.{◌≡◌, ◌↔◌, IfOk, IfSome, IsTrue, Some, length};
+ghost use Rattle.hex.specs.Hex.{encode_lower};
+ghost use Rattle.lf_disk.specs.History.{now};
+ghost use Rattle.lf_disk.specs.MemDisk.{history_of};
+ghost use Rattle.sha2.specs.Sha256.{sha256};
+ghost use Rattle.node_rows.specs.AsWanted.{FilesDiffer, IsAmong, SameFiles};
 
 use crate::difference::Difference;
 use crate::fault::Fault;
 use crate::scene::KeptFile;
+use lf_base::Text;
 use lf_disk::{Disk, FileName, MemDisk};
 use sha2::{Digest, Sha256};
-use std::alloc::{AllocError, Global};
+use std::alloc::Global;
 
 /// The path of a file in the folder of a database.
-fn path_of(alloc: Global, name: FileName) -> Result<String, AllocError> {
-    match name {
-        FileName::Database => String::from_str(alloc, "database"),
-        FileName::Staged => String::from_str(alloc, "staged"),
-        FileName::Snapshot => String::from_str(alloc, "snapshot.ltx"),
-        FileName::Dropped => String::from_str(alloc, "dropped"),
-        FileName::Ltx { min, max } => format!(in alloc; "ltx/{min:016x}-{max:016x}.ltx"),
-    }
+fn path_of(alloc: Global, name: FileName) -> Result<Text, Fault> {
+    Ok(match name {
+        FileName::Database => Text::of(alloc, "database")?,
+        FileName::Staged => Text::of(alloc, "staged")?,
+        FileName::Snapshot => Text::of(alloc, "snapshot.ltx")?,
+        FileName::Dropped => Text::of(alloc, "dropped")?,
+        FileName::Ltx { min, max } => {
+            let path = format!(in alloc; "ltx/{min:016x}-{max:016x}.ltx")?;
+            Text::of(alloc, path.as_str())?
+        }
+    })
 }
 
-fn bytes_of(alloc: Global, disk: &mut MemDisk, name: FileName) -> Result<Vec<u8>, Fault> {
+/// The bytes of a file on a disk.
+fn bytes_of(alloc: Global, disk: &mut MemDisk, name: FileName) -> Result<Vec<u8>, Fault>
+    ensures { IfOk result (λ bytes. now (history_of disk.old) name ≡ Some bytes.items) }
+{
     let Ok(Some(size)) = disk.size(name) else {
         return Err(Fault::Left);
     };
-    let size = usize::try_from(size).unwrap_or(0);
-    let mut bytes = vec![in alloc; 0_u8; size]?;
+    let mut bytes = vec![in alloc; 0_u8; size as usize]?;
     match disk.read(name, 0, &mut bytes) {
         Ok(_) => Ok(bytes),
         Err(_) => Err(Fault::Left),
     }
 }
 
-fn file_of(alloc: Global, disk: &mut MemDisk, name: FileName) -> Result<KeptFile, Fault> {
-    let bytes = bytes_of(alloc, disk, name)?;
-    let size = bytes.len() as u64;
-    let mut digest = Sha256::new();
-    digest.update(bytes.as_slice());
+/// What is compared of a file of these bytes.
+fn kept_file(alloc: Global, name: FileName, bytes: &[u8]) -> Result<KeptFile, Fault>
+    ensures size { IfOk result (λ file. file.size ≡ length bytes.now) }
+    ensures digest { IfOk result (λ file. file.digest ≡ encode_lower (sha256 bytes.now)) }
+{
+    let digest = hex::encode(alloc, Sha256::digest(bytes).as_slice())?;
     Ok(KeptFile {
         name: path_of(alloc, name)?,
-        size,
-        digest: hex::encode(alloc, digest.finalize().as_slice())?,
+        size: bytes.len() as u64,
+        digest: Text::of(alloc, digest.as_str())?,
     })
 }
 
@@ -51,12 +64,37 @@ pub fn folder_differs(
     let Ok(mut disk) = disk.reopen() else {
         return Err(Fault::NoMemory);
     };
-    let names = disk.list()?;
-    for (place, name) in names.iter().enumerate() {
-        if !wanted.contains(&file_of(alloc, &mut disk, *name)?) {
-            return Ok(Some(Difference::File { place }));
+    let mut found = Vec::new(alloc);
+    for name in disk.list()?.iter() {
+        let bytes = bytes_of(alloc, &mut disk, *name)?;
+        found.push(kept_file(alloc, *name, &bytes)?)?;
+    }
+    Ok(files_differ(&found, wanted))
+}
+
+/// How files differ from those that were wanted.
+fn files_differ(found: &[KeptFile], wanted: &[KeptFile]) -> Option<Difference>
+    ensures same { (result ≡ None) ↔ SameFiles found.now wanted.now }
+    ensures differs { IfSome result (FilesDiffer found.now wanted.now) }
+{
+    for (place, file) in found.iter().enumerate() {
+        if !is_among(file, wanted) {
+            return Some(Difference::File { place });
         }
     }
-    let files = names.len();
-    Ok((files != wanted.len()).then_some(Difference::Count { files }))
+    let files = found.len();
+    (files != wanted.len()).then_some(Difference::Count { files })
+}
+
+/// Whether a file is one of those that were wanted.
+#[tactic(auto, unfolding(crate::specs::AsWanted::IsAmong))]
+fn is_among(file: &KeptFile, wanted: &[KeptFile]) -> bool
+    ensures { IsTrue result ↔ IsAmong wanted.now file.now }
+{
+    for one in wanted {
+        if one.equals(file) {
+            return true;
+        }
+    }
+    false
 }

@@ -2,6 +2,7 @@
 
 use crate::fault::Fault;
 use crate::scene::{Ending, KeptFile, Left, Start};
+use lf_base::Text;
 use serde_json::Value;
 use std::alloc::Global;
 
@@ -64,9 +65,9 @@ fn ending_of(alloc: Global, value: &Value) -> Result<Ending, Fault> {
 
 fn file_of(alloc: Global, value: &Value) -> Result<KeptFile, Fault> {
     Ok(KeptFile {
-        name: copy(alloc, value, "name")?,
+        name: Text::of(alloc, text(value, "name").unwrap_or(""))?,
         size: number(value, "size").unwrap_or(0),
-        digest: copy(alloc, value, "sha256")?,
+        digest: Text::of(alloc, text(value, "sha256").unwrap_or(""))?,
     })
 }
 

@@ -4,6 +4,7 @@
 #![tactic(auto)]
 
 mod clients;
+mod comparing;
 mod difference;
 mod fault;
 mod flag;
@@ -35,10 +36,12 @@ use std::net::{TcpListener, TcpStream};
 use two_links::play_two_links;
 use waiting::{MESSAGES, play_waiting};
 
+/// Scenes, and short ones of which each was changed in one respect.
+const RECORDS: [&str; 2] = ["sessions.jsonl", "changed.jsonl"];
+
 fn main(rt: HostRuntime) -> Result<(), Fault> {
     let _named: Option<(TcpListener, TcpStream, File)> = None;
-    let text = fs::read_to_string(&rt, "sessions.jsonl")?;
-    for scene in &scenes_in(rt.alloc(), text.as_str())? {
+    for scene in &all_scenes(&rt)? {
         let name = scene.start.name.as_str();
         let found = play(rt, rt.alloc(), scene)?;
         print_played(&rt, scene, found)?;
@@ -56,6 +59,16 @@ fn main(rt: HostRuntime) -> Result<(), Fault> {
         }
     }
     Ok(())
+}
+
+/// The scenes of all records.
+fn all_scenes(rt: &HostRuntime) -> Result<Vec<Scene>, Fault> {
+    let mut scenes = Vec::new(rt.alloc());
+    for record in RECORDS {
+        let text = fs::read_to_string(rt, record)?;
+        scenes.append(&mut scenes_in(rt.alloc(), text.as_str())?)?;
+    }
+    Ok(scenes)
 }
 
 /// Prints how a scene went at a desk.

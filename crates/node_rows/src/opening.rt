@@ -80,7 +80,7 @@ fn stopped_store(alloc: Global, start: &Start) -> Result<Store<MemDisk>, Fault> 
 }
 
 /// The disk of a start, as a node finds it that was stopped.
-#[tactic(auto, using(crate::proofs::DiskLemmas::rests))]
+#[tactic(auto, using(node_mount::proofs::DiskLemmas::rests))]
 pub fn stored_disk(alloc: Global, start: &Start) -> Result<MemDisk, Fault>
     ensures { IfOk result IsNewDisk }
 {

@@ -1,4 +1,7 @@
 //! A scene: a node, the sessions of its clients one after another, and what is left of it.
+ghost use Rattle.std.specs.Prelude.{◌≡◌, ◌↔◌, IsTrue};
+
+use lf_base::Text;
 
 /// The node that a scene begins with. Its database has pages of zeros, all made by the first of its transactions.
 #[derive(Drop)]
@@ -37,11 +40,21 @@ pub struct Left {
 }
 
 /// A file: its name, its length, and the SHA-256 of its bytes as hex.
-#[derive(Debug, Drop, PartialEq, Eq)]
+#[derive(Debug, Drop)]
 pub struct KeptFile {
-    pub name: String,
+    pub name: Text,
     pub size: u64,
-    pub digest: String,
+    pub digest: Text,
+}
+
+impl KeptFile {
+    pub fn equals(&self, other: &KeptFile) -> bool
+        ensures { IsTrue result ↔ (self.now ≡ other.now) }
+    {
+        self.name.bytes() == other.name.bytes()
+            && self.size == other.size
+            && self.digest.bytes() == other.digest.bytes()
+    }
 }
 
 #[derive(Drop)]

@@ -1,11 +1,14 @@
 //! Two clients of a node that `mount` runs, each with a link through the socket and in a thread of its own, as are the node's
 //! sessions: one waits for a lock until the other unlocks. The unlock is sent some time after the lock was asked for.
+ghost use Rattle.std.specs.Prelude.{◌≡◌, ◌↔◌, IfSome, IsTrue};
+ghost use Rattle.node_rows.specs.declared.difference.Difference.TheVariants as difference;
+ghost use Rattle.node_rows.specs.AsWanted.{ClientAsWanted, RepliesDiffer};
 
+use crate::comparing::replies_differ;
 use crate::difference::Difference;
 use crate::fault::Fault;
 use crate::flag::Flag;
 use crate::making::Jobs;
-use crate::playing::replies_differ;
 use crate::scene::{Session, Start};
 use crate::socket_client::{connect, read_replies, read_to_end};
 use crate::socketed::run_socketed;
@@ -54,13 +57,18 @@ impl Words {
 
 /// What a client was sent, and whether the lock was granted in its turn.
 #[derive(Drop)]
-struct Told {
+struct ClientReplies {
     replies: Vec<u8>,
     in_turn: bool,
 }
 
 /// The client that has the lock first.
-fn hold<R: Handles>(rt: &R, alloc: Global, requests: &[u8], words: &Words) -> Result<Told, Fault> {
+fn hold<R: Handles>(
+    rt: &R,
+    alloc: Global,
+    requests: &[u8],
+    words: &Words,
+) -> Result<ClientReplies, Fault> {
     let (first, unlock) = requests.split_at(requests.len().min(OPEN_AND_LOCK));
     let mut stream = connect(rt)?;
     stream.write_all(first)?;
@@ -71,7 +79,7 @@ fn hold<R: Handles>(rt: &R, alloc: Global, requests: &[u8], words: &Words) -> Re
     words.unlocking.raise();
     stream.write_all(unlock)?;
     read_to_end(&mut stream, &mut replies)?;
-    Ok(Told {
+    Ok(ClientReplies {
         replies,
         in_turn: true,
     })
@@ -83,7 +91,7 @@ fn wait_for<R: Handles>(
     alloc: Global,
     requests: &[u8],
     words: &Words,
-) -> Result<Told, Fault> {
+) -> Result<ClientReplies, Fault> {
     words.held.wait(rt);
     let mut stream = connect(rt)?;
     stream.write_all(requests)?;
@@ -91,7 +99,7 @@ fn wait_for<R: Handles>(
     let mut replies = read_replies(alloc, &mut stream, OPENED_AND_LOCKED)?;
     let in_turn = words.unlocking.is_raised();
     read_to_end(&mut stream, &mut replies)?;
-    Ok(Told { replies, in_turn })
+    Ok(ClientReplies { replies, in_turn })
 }
 
 fn start_holder<R: Handles + Copy + Send + 'static>(
@@ -99,8 +107,8 @@ fn start_holder<R: Handles + Copy + Send + 'static>(
     alloc: Global,
     requests: Vec<u8>,
     words: Words,
-) -> Result<JoinHandle<Result<Told, Fault>>, Fault> {
-    let started = thread::spawn(&rt, move || -> Result<Told, Fault> {
+) -> Result<JoinHandle<Result<ClientReplies, Fault>>, Fault> {
+    let started = thread::spawn(&rt, move || -> Result<ClientReplies, Fault> {
         hold(&rt, alloc, requests.as_slice(), &words)
     });
     match started {
@@ -116,11 +124,11 @@ fn start_waiter<R: Handles + Copy + Send + 'static>(
     requests: Vec<u8>,
     words: Words,
     closing: Closing,
-) -> Result<JoinHandle<Result<Told, Fault>>, Fault> {
-    let started = thread::spawn(&rt, move || -> Result<Told, Fault> {
-        let told = wait_for(&rt, alloc, requests.as_slice(), &words);
+) -> Result<JoinHandle<Result<ClientReplies, Fault>>, Fault> {
+    let started = thread::spawn(&rt, move || -> Result<ClientReplies, Fault> {
+        let sent = wait_for(&rt, alloc, requests.as_slice(), &words);
         closing.close();
-        told
+        sent
     });
     match started {
         Ok(client) => Ok(client),
@@ -129,11 +137,15 @@ fn start_waiter<R: Handles + Copy + Send + 'static>(
 }
 
 /// How what a client was sent differs.
-fn told_differs(told: &Told, number: usize, session: &Session) -> Option<Difference> {
-    if !told.in_turn {
+fn client_differs(sent: &ClientReplies, number: usize, session: &Session) -> Option<Difference>
+    ensures same { (result ≡ None) ↔ ClientAsWanted sent.now session.now }
+    ensures early { (result ≡ Some (difference.Early number)) ↔ (¬ IsTrue sent.now.in_turn) }
+    ensures replies { IsTrue sent.now.in_turn → IfSome result (RepliesDiffer sent.now.replies.items number session.now) }
+{
+    if !sent.in_turn {
         return Some(Difference::Early { session: number });
     }
-    replies_differ(told.replies.as_slice(), number, session)
+    replies_differ(&sent.replies, number, session)
 }
 
 /// Two clients of the node of a start want one lock. Says how what they were sent differs.
@@ -155,6 +167,6 @@ pub fn play_two_links<R: System + Send + 'static>(
     if let Err(fault) = ended {
         return Ok(Some(Difference::Mount(fault)));
     }
-    let differs = told_differs(&held?, 0, &holding);
-    Ok(differs.or(told_differs(&waited?, 1, &waiting)))
+    let differs = client_differs(&held?, 0, &holding);
+    Ok(differs.or(client_differs(&waited?, 1, &waiting)))
 }

@@ -3,12 +3,12 @@
 ghost use Rattle.std.specs.Arc.{arc_value};
 ghost use Rattle.turn_desk.specs.Seats.{IsOf};
 
+use crate::comparing::{end_differs, replies_differ};
 use crate::difference::Difference;
 use crate::fault::Fault;
 use crate::flag::Flag;
 use crate::held_link::HeldLink;
 use crate::opening::open_node;
-use crate::playing::{end_differs, replies_differ};
 use crate::scene::{Ending, Session, Start};
 use crate::stage::NOW;
 use file_session::serve_seat;
@@ -172,16 +172,14 @@ fn serve_two<
 
 /// How what was served differs in one of the sessions.
 fn session_differs(
-    alloc: Global,
     watch: &Watch,
-    end: SessionEnd,
+    ended: SessionEnd,
     number: usize,
     session: &Session,
 ) -> Result<Option<Difference>, Fault> {
-    if let Some(why) = replies_differ(watch.bytes()?.as_slice(), number, session) {
-        return Ok(Some(why));
-    }
-    end_differs(alloc, end, number, session)
+    let replies = watch.bytes()?;
+    let differs = replies_differ(&replies, number, session);
+    Ok(differs.or(end_differs(ended, number, session)))
 }
 
 fn link_of(alloc: Global, requests: &[u8]) -> Result<MemLink, Fault> {
@@ -209,8 +207,8 @@ pub fn play_waiting<R: Handles + Copy + Send + 'static>(
     let (one, other) = (holder.watch(), waiter.watch());
     let node = open_node(alloc, start)?;
     let ends = serve_two(rt, alloc, node, holder, has_lock, waiter, go_on)?;
-    if let Some(why) = session_differs(alloc, &one, ends[0], 0, &holding)? {
+    if let Some(why) = session_differs(&one, ends[0], 0, &holding)? {
         return Ok(Some(why));
     }
-    session_differs(alloc, &other, ends[1], 1, &waiting)
+    session_differs(&other, ends[1], 1, &waiting)
 }
