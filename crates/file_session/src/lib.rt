@@ -12,6 +12,3 @@ mod tries;
 pub use files::serve_files;
 pub use laws::{asked_once, replies_in_order};
 pub use seat::serve_seat;
-
-#[cfg(test)]
-mod tests;

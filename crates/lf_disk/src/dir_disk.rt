@@ -8,7 +8,7 @@ ghost use Rattle.lf_disk.specs.History.{untold};
 mod folder;
 mod kept;
 mod places;
-pub(crate) mod whole;
+pub mod whole;
 
 use crate::disk::Disk;
 use crate::list_fault::ListFault;

@@ -19,11 +19,9 @@ mod record;
 mod slots;
 
 pub use dir_disk::DirDisk;
+pub use dir_disk::whole::{read_from, write_to};
 pub use disk::Disk;
 pub use list_fault::ListFault;
 pub use mem_disk::MemDisk;
 pub use name::FileName;
 pub use publication::{publish, publish_two, put_in_place, stage};
-
-#[cfg(test)]
-mod tests;

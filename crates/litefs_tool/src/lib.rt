@@ -21,11 +21,9 @@ mod report;
 mod top_call;
 
 pub use applying::apply_files;
+pub use command::{Command, read_arguments};
 pub use compact_refusal::CompactRefusal;
 pub use compaction::compact_files;
 pub use laws::{one_answer, one_compaction};
 pub use refusal::Refusal;
 pub use top_call::{Host, run};
-
-#[cfg(test)]
-mod tests;

@@ -1,5 +1,6 @@
 mod crashes;
 mod handles;
+mod parts;
 
 use crate::same::same;
 use lf_base::Failed;

@@ -16,6 +16,3 @@ pub use applying::follow;
 pub use follow_end::FollowEnd;
 pub use following::follow_link;
 pub use seat::follow_seat;
-
-#[cfg(test)]
-mod tests;

@@ -21,6 +21,3 @@ mod wish;
 pub use seat::serve_seat;
 pub use serving::serve_http;
 pub use session::serve_link;
-
-#[cfg(test)]
-mod tests;

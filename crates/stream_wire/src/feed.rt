@@ -90,8 +90,10 @@ impl FrameFeed {
         self.ready.take()
     }
 
-    #[cfg(test)]
-    pub(crate) fn room(&self) -> usize {
+    /// The number of bytes that it has memory for.
+    pub fn room(&self) -> usize
+        ensures { length self.now.held ≤ result }
+    {
         self.bytes.capacity()
     }
 

@@ -31,6 +31,3 @@ pub use request::Heard;
 pub use response::Told;
 pub use stream_line::{read_stream_line, write_stream_line};
 pub use wire_fault::WireFault;
-
-#[cfg(test)]
-mod tests;

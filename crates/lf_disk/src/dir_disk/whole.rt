@@ -4,8 +4,8 @@ ghost use Rattle.std.specs.Prelude.{◌≤◌, length, IfOk};
 use std::io;
 use std::os::unix::fs::FileExt;
 
-/// Reads until `out` is full or the file ends.
-pub(crate) fn read_from<F: FileExt>(file: &F, at: u64, out: &mut [u8]) -> io::Result<usize>
+/// Reads the file's bytes from `at` on until `out` is full or the file ends, and answers how many.
+pub fn read_from<F: FileExt>(file: &F, at: u64, out: &mut [u8]) -> io::Result<usize>
     ensures { IfOk result (λ n. n ≤ length out.new) }
 {
     let mut count = 0;
@@ -19,7 +19,7 @@ pub(crate) fn read_from<F: FileExt>(file: &F, at: u64, out: &mut [u8]) -> io::Re
     Ok(count)
 }
 
-/// Writes all bytes.
-pub(crate) fn write_to<F: FileExt>(file: &F, at: u64, bytes: &[u8]) -> io::Result<()> {
+/// Writes all bytes from `at` on.
+pub fn write_to<F: FileExt>(file: &F, at: u64, bytes: &[u8]) -> io::Result<()> {
     file.write_all_at(bytes, at)
 }

@@ -1,10 +1,12 @@
 //! A table of streams: what came, in pieces of which size, how it ended and what was asked.
-use crate::follow_end::FollowEnd;
-use crate::seat::follow_seat;
-use crate::tests::same::same;
-use crate::tests::scripted::{Scripted, Word};
+mod scripted;
+
+use crate::links::link_of;
+use crate::same::same;
 use lf_base::{FixedClock, MemLink, Name, NoPause, Pos};
 use node_core::Refusal;
+use replica_apply::{FollowEnd, follow_seat};
+use scripted::{Scripted, Word};
 use std::alloc::Global;
 use std::process::Abort;
 use std::sync::Wait;
@@ -153,14 +155,6 @@ fn joined(rt: impl Copy + Abort, alloc: Global, texts: &[&[u8]]) -> Vec<u8> {
     bytes
 }
 
-fn link_of(rt: impl Copy + Abort, alloc: Global, row: &Row) -> MemLink {
-    let input = joined(rt, alloc, row.input);
-    let failing = vec![in alloc; row.failing].expect(&rt, "memory");
-    let mut link = MemLink::new(alloc, input, 4096, failing).expect(&rt, "a link");
-    link.cut_into(row.size.max(1));
-    link
-}
-
 /// How the row's stream ended, and the machine afterwards.
 fn followed<R: Wait + Copy + Abort>(
     rt: R,
@@ -187,7 +181,8 @@ fn streams(rt: HostRuntime) {
 }
 
 fn has_stream<R: Wait + Copy + Abort>(rt: R, alloc: Global, row: &Row) {
-    let mut link = link_of(rt, alloc, row);
+    let input = joined(rt, alloc, row.input);
+    let mut link = link_of(rt, alloc, input, row.size, row.failing);
     let watch = link.watch();
     let (end, machine) = followed(rt, alloc, &mut link, row);
     let written = watch.bytes().expect(&rt, "memory");

@@ -1,5 +1,5 @@
 //! LTX files of pages of zeros, field by field.
-use crate::tests::same::same;
+use crate::same::same;
 use lf_base::NoMemory;
 use ltx_codec::{Encoder, Header};
 use std::alloc::Global;

@@ -1,8 +1,8 @@
 //! What the named call makes of files, and says of those that make no database.
-use crate::tests::files::{DELTA, Fields, ONE_PAGE, SNAPSHOT, TWO_PAGES, encode_all};
-use crate::tests::same::same;
-use crate::{Refusal, apply_files};
+use crate::commands::files::{DELTA, Fields, ONE_PAGE, SNAPSHOT, TWO_PAGES, encode_all};
+use crate::same::same;
 use lf_base::Pos;
+use litefs_tool::{Refusal, apply_files};
 use std::alloc::Global;
 use std::process::Abort;
 

@@ -1,8 +1,11 @@
-//! A table of sessions: what came, what was written, how it ended and what was asked.
-use crate::seat::serve_seat;
-use crate::tests::same::same;
-use crate::tests::scripted::Scripted;
+//! A table of sessions on the served files: what came, what was written, how it ended and what was asked.
+mod scripted;
+
+use crate::links::link_of;
+use crate::same::same;
+use file_session::serve_seat;
 use lf_base::{FixedClock, MemLink, NoPause, SessionEnd};
+use scripted::Scripted;
 use std::alloc::Global;
 use std::process::Abort;
 use std::sync::Wait;
@@ -190,14 +193,6 @@ fn all_hex(rt: impl Copy + Abort, alloc: Global, texts: &[&[u8]]) -> Vec<u8> {
     bytes
 }
 
-fn link_of(rt: impl Copy + Abort, alloc: Global, row: &Row) -> MemLink {
-    let input = all_hex(rt, alloc, row.input);
-    let failing = vec![in alloc; row.failing].expect(&rt, "memory");
-    let mut link = MemLink::new(alloc, input, 4096, failing).expect(&rt, "a link");
-    link.cut_into(row.size.max(1));
-    link
-}
-
 /// The end of the row's session, and the machine afterwards.
 fn served<R: Wait + Copy + Abort>(
     rt: R,
@@ -224,7 +219,8 @@ fn sessions(rt: HostRuntime) {
 }
 
 fn has_session<R: Wait + Copy + Abort>(rt: R, alloc: Global, row: &Row) {
-    let mut link = link_of(rt, alloc, row);
+    let input = all_hex(rt, alloc, row.input);
+    let mut link = link_of(rt, alloc, input, row.size, row.failing);
     let watch = link.watch();
     let (end, machine) = served(rt, alloc, &mut link, row.budget);
     let written = watch.bytes().expect(&rt, "memory");

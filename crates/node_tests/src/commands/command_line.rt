@@ -1,7 +1,7 @@
 //! The words of the command line: a command's name alone, to the letter.
-use crate::command::{Command, read_arguments};
-use crate::tests::same::same;
+use crate::same::same;
 use lf_base::Text;
+use litefs_tool::{Command, read_arguments};
 use std::alloc::Global;
 use std::process::Abort;
 

@@ -1,12 +1,15 @@
-//! A table of sessions: what came, in pieces of which size, what was written, how it ended and where
+//! A table of requests over HTTP: what came, in pieces of which size, what was written, how it ended and where
 //! the node was asked from.
-use crate::seat::serve_seat;
-use crate::tests::same::same;
-use crate::tests::scripted::{Scripted, Word};
+mod scripted;
+
+use crate::links::link_of;
+use crate::same::same;
 use lf_base::{FixedClock, MemLink, Name, NoPause, SessionEnd};
+use scripted::{Scripted, Word};
 use std::alloc::Global;
 use std::process::Abort;
 use std::sync::Wait;
+use stream_primary::serve_seat;
 use turn_desk::Desk;
 
 const NOT_FOUND: &[u8] =
@@ -287,14 +290,6 @@ fn joined(rt: impl Copy + Abort, alloc: Global, texts: &[&[u8]]) -> Vec<u8> {
     bytes
 }
 
-fn link_of(rt: impl Copy + Abort, alloc: Global, row: &Row) -> MemLink {
-    let input = Vec::from_slice(alloc, row.input).expect(&rt, "memory");
-    let failing = vec![in alloc; row.failing].expect(&rt, "memory");
-    let mut link = MemLink::new(alloc, input, 4096, failing).expect(&rt, "a link");
-    link.cut_into(row.size.max(1));
-    link
-}
-
 /// The end of the row's session, and the machine afterwards.
 fn served<R: Wait + Copy + Abort>(
     rt: R,
@@ -321,7 +316,8 @@ fn sessions(rt: HostRuntime) {
 }
 
 fn has_session<R: Wait + Copy + Abort>(rt: R, alloc: Global, row: &Row) {
-    let mut link = link_of(rt, alloc, row);
+    let input = Vec::from_slice(alloc, row.input).expect(&rt, "memory");
+    let mut link = link_of(rt, alloc, input, row.size, row.failing);
     let watch = link.watch();
     let (end, machine) = served(rt, alloc, &mut link, row);
     let written = watch.bytes().expect(&rt, "memory");

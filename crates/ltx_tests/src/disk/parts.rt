@@ -1,6 +1,6 @@
-//! A file of the system of which each call moves a part. The tests of the public calls stand in
-//! `ltx_tests`.
-use crate::dir_disk::whole::{read_from, write_to};
+//! A file of the system of which each call moves a part.
+use crate::same::same;
+use lf_disk::{read_from, write_to};
 use std::fs::{self, File, OpenOptions};
 use std::io;
 use std::os::unix::fs::FileExt;
@@ -32,7 +32,7 @@ fn each_call_moves_a_part(rt: HostRuntime) {
     let slow = SlowFile { file };
     write_to(&slow, 2, b"abcdefgh").expect(&rt, "a write");
     let bytes = fs::read(&rt, "lf_disk_parts").expect(&rt, "a file");
-    assert_eq!(rt; bytes.as_slice(), b"\0\0abcdefgh".as_slice());
+    same(rt, bytes.as_slice(), b"\0\0abcdefgh".as_slice());
     for (at, wanted_count, wanted) in [
         (0, 10, *b"\0\0abcdefgh.."),
         (4, 6, *b"cdefgh......"),
@@ -41,7 +41,7 @@ fn each_call_moves_a_part(rt: HostRuntime) {
     ] {
         let mut out = [b'.'; 12];
         let count = read_from(&slow, at, &mut out).expect(&rt, "a read");
-        assert_eq!(rt; (count, out), (wanted_count, wanted));
+        same(rt, (count, out), (wanted_count, wanted));
     }
     fs::remove_file(&rt, "lf_disk_parts").expect(&rt, "a file");
 }

@@ -1,0 +1,20 @@
+//! Tests of the sessions of a node over links, of what `mount` runs on, and of the commands. They stand
+//! apart, since a crate with tests is proved twice, with them and without.
+#![tactic(auto)]
+
+#[cfg(test)]
+mod commands;
+#[cfg(test)]
+mod files;
+#[cfg(test)]
+mod following;
+#[cfg(test)]
+mod links;
+#[cfg(test)]
+mod memory;
+#[cfg(test)]
+mod same;
+#[cfg(test)]
+mod streams;
+#[cfg(test)]
+mod system;
