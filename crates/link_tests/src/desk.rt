@@ -4,6 +4,8 @@ ghost use Rattle.std.specs.Arc.{arc_value};
 ghost use Rattle.turn_desk.specs.History.{IsLegal, HasEntry};
 ghost use Rattle.turn_desk.specs.Seats.{view, number_of, opened_on, IsOf};
 
+mod busy;
+
 use crate::same::{holds, same};
 use std::alloc::Global;
 use std::process::Abort;

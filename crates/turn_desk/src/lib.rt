@@ -27,6 +27,3 @@ pub use seat::{Seat, SeatOver};
 pub use slot::{LastStep, SlotValue};
 pub use table::DeskOver;
 pub use view::SeatView;
-
-#[cfg(test)]
-mod tests;
