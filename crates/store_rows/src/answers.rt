@@ -1,9 +1,46 @@
 //! What followers at some positions are owed.
-use crate::samples::{A, B, NONE, ONE_PAGE, TWO_PAGES, change, pos};
-use crate::steps::{Step, made};
-use crate::stores::MemStore;
+use crate::samples::{B, ONE_PAGE, TWO_PAGES};
+use crate::steps::{Step, Way};
+use crate::stores::{MemStore, made};
 use lf_base::Pos;
 use std::io;
+
+/// A first commit of a page of zeros.
+const COMMIT: Step = Step::Commit(1, &[(1, 0)]);
+
+/// Each adds a page of zeros.
+const FOUR: &[Step] = &[
+    COMMIT,
+    Step::Apply(B),
+    Step::Commit(3, &[]),
+    Step::Commit(4, &[]),
+];
+
+/// A position that no log has.
+const UNKNOWN: Pos = Pos { txid: 9, sum: 1 };
+
+const NOWHERE: Pos = Pos { txid: 0, sum: 0 };
+
+const FIRST: Pos = Pos {
+    txid: 1,
+    sum: ONE_PAGE,
+};
+
+const SECOND: Pos = Pos {
+    txid: 2,
+    sum: TWO_PAGES,
+};
+
+const FOURTH: Pos = Pos {
+    txid: 4,
+    sum: 0x8138_2ec0_0000_0000,
+};
+
+/// One that the log would have, if another page had been committed first.
+const OTHER: Pos = Pos {
+    txid: 1,
+    sum: TWO_PAGES,
+};
 
 /// Prints what followers at these positions are owed.
 fn print_owed(rt: HostRuntime, store: &MemStore, positions: &[Pos]) -> io::Result<()> {
@@ -14,45 +51,40 @@ fn print_owed(rt: HostRuntime, store: &MemStore, positions: &[Pos]) -> io::Resul
     Ok(())
 }
 
-/// A log of four files, of which each adds a page of zeros, and which then loses two.
-pub fn print_log(rt: HostRuntime) -> io::Result<()> {
-    let third = Step::Commit(change(3, [NONE; 3]));
-    let fourth = Step::Commit(change(4, [NONE; 3]));
-    let steps = [Step::Commit(A), Step::Apply(B), third, fourth];
-    let Some(mut store) = made(rt.alloc(), &steps) else {
-        return println!(rt; "no log of four");
-    };
+/// What followers are owed by a log of four files, and once it lost two.
+fn print_pruned(rt: HostRuntime, store: &mut MemStore) -> io::Result<()> {
     let last = store.pos();
     println!(rt; "a log of four files, at ({}, {:x})", last.txid, last.sum)?;
-    let positions = [
-        pos(9, 1),
-        last,
-        pos(0, 0),
-        pos(1, ONE_PAGE),
-        pos(1, TWO_PAGES),
-    ];
-    print_owed(rt, &store, &positions)?;
+    print_owed(rt, store, &[UNKNOWN, FOURTH, NOWHERE, FIRST, OTHER])?;
     println!(rt; "pruned to two: {:?}", store.prune(2))?;
-    let positions = [pos(0, 0), pos(1, ONE_PAGE), pos(2, TWO_PAGES), last];
-    print_owed(rt, &store, &positions)
+    print_owed(rt, store, &[NOWHERE, FIRST, SECOND, FOURTH])
+}
+
+pub fn print_log(rt: HostRuntime) -> io::Result<()> {
+    match made(rt.alloc(), Way::Whole, FOUR) {
+        Some(mut store) => print_pruned(rt, &mut store),
+        None => println!(rt; "no log of four"),
+    }
 }
 
 /// A database is dropped, and written again.
-pub fn print_drop(rt: HostRuntime) -> io::Result<()> {
-    let positions = [pos(9, 1), pos(0, 0)];
-    let Some(store) = made(rt.alloc(), &[]) else {
-        return println!(rt; "no store");
-    };
-    println!(rt; "never written")?;
-    print_owed(rt, &store, &positions)?;
-    let Some(store) = made(rt.alloc(), &[Step::Commit(A), Step::Drop]) else {
-        return println!(rt; "no drop");
-    };
-    println!(rt; "dropped")?;
-    print_owed(rt, &store, &positions)?;
-    let Some(store) = made(rt.alloc(), &[Step::Commit(A), Step::Drop, Step::Commit(A)]) else {
-        return println!(rt; "no commit");
-    };
-    println!(rt; "written again")?;
-    print_owed(rt, &store, &positions)
+const DROPS: &[(&str, &[Step])] = &[
+    ("never written", &[]),
+    ("dropped", &[COMMIT, Step::Drop]),
+    ("written again", &[COMMIT, Step::Drop, COMMIT]),
+];
+
+fn print_drop(rt: HostRuntime, title: &str, steps: &[Step]) -> io::Result<()> {
+    println!(rt; "{title}")?;
+    match made(rt.alloc(), Way::Whole, steps) {
+        Some(store) => print_owed(rt, &store, &[UNKNOWN, NOWHERE]),
+        None => println!(rt; "  no store"),
+    }
+}
+
+pub fn print_drops(rt: HostRuntime) -> io::Result<()> {
+    for (title, steps) in DROPS {
+        print_drop(rt, *title, *steps)?;
+    }
+    Ok(())
 }

@@ -1,15 +1,9 @@
 //! The script on disks that stop, or fail once, at each of their calls.
-ghost use Rattle.std.specs.Prelude.{◌≡◌, []};
-
-use crate::place::Place;
-use crate::script::{STEPS, Way, around, script};
-use crate::stages::place_of;
-use crate::steps::{Step, Went, does, run};
-use crate::stores::{MemStore, blank, opened, recovered};
-use lf_disk::MemDisk;
-use std::alloc::Global;
+use crate::script::{STAGES, STEPS};
+use crate::steps::Way;
+use crate::stores::Failing;
+use crate::trials::{Script, trial};
 use std::io;
-use txn_log::StoreFault;
 
 /// What is left of each call that is pending: nothing, a part, a part and all in turns, all.
 const CHOICES: [u64; 4] = [0, u64::MAX / 3, 0x6666_6666_6666_6666, u64::MAX];
@@ -17,121 +11,66 @@ const CHOICES: [u64; 4] = [0, u64::MAX / 3, 0x6666_6666_6666_6666, u64::MAX];
 /// More calls than the script makes of its disk.
 const ENOUGH: u64 = 140;
 
-/// What the script is called.
-fn title(way: Way) -> &'static str {
-    match way {
-        Way::Whole => "the script",
-        Way::Source => "the script with files from sources",
-    }
+/// How the script is played.
+#[derive(Clone, Copy)]
+struct Drill {
+    title: &'static str,
+    way: Way,
+    failing: Failing,
 }
 
-/// A disk after the script, and how many steps were done on it.
-#[derive(Drop)]
-struct Ended {
-    disk: MemDisk,
-    done: usize,
-    /// Behind a failure the store refused to do more.
-    closed: bool,
-}
+const DRILLS: &[Drill] = &[
+    Drill {
+        title: "the script, stopped at each call of the disk",
+        way: Way::Whole,
+        failing: Failing::From,
+    },
+    Drill {
+        title: "the script, with a fault at each call of the disk",
+        way: Way::Whole,
+        failing: Failing::At,
+    },
+    Drill {
+        title: "the script with files from sources, stopped at each call of the disk",
+        way: Way::Source,
+        failing: Failing::From,
+    },
+    Drill {
+        title: "the script with files from sources, with a fault at each call of the disk",
+        way: Way::Source,
+        failing: Failing::At,
+    },
+];
 
-/// Whether the store is done, or refuses a prune as it is broken.
-fn is_closed(alloc: Global, store: &mut MemStore, went: Went) -> bool {
-    match went {
-        Went::Done => true,
-        Went::Stopped => {
-            does(alloc, store, Step::Prune) == Went::Refused(Some(StoreFault::Broken))
+/// Prints how many steps were done at the last of many calls that failed, and each call that does not
+/// leave the store before a step or after it.
+fn print_with(rt: HostRuntime, script: &Script, failing: Failing, choice: u64) -> io::Result<()> {
+    let mut last = 0;
+    for call in 0..ENOUGH {
+        match trial(rt.alloc(), script, failing, call, choice) {
+            Some((done, _)) => last = done,
+            None => println!(rt; "  call {call}, choice {choice}: neither")?,
         }
-        Went::Refused(_) => false,
     }
+    println!(rt; "  {last} of {} steps", script.steps.len())
 }
 
-/// The script on a disk on which nothing was called.
-fn run_script(alloc: Global, disk: MemDisk, way: Way) -> Ended
-    requires { disk.calls ≡ [] }
-{
-    let mut store = match opened(alloc, disk) {
-        Ok(store) => store,
-        Err(disk) => {
-            return Ended {
-                disk,
-                done: 0,
-                closed: true,
-            };
-        }
+fn print_drill(rt: HostRuntime, drill: &Drill) -> io::Result<()> {
+    let script = Script {
+        way: drill.way,
+        steps: STEPS,
+        stages: STAGES,
     };
-    let (done, went) = run(alloc, &mut store, &script(way));
-    let closed = is_closed(alloc, &mut store, went);
-    Ended {
-        disk: store.disk,
-        done,
-        closed,
-    }
-}
-
-/// Whether the store that is recovered after the script is the one before the step that was not done,
-/// or the one after it, and how many were done.
-fn holds_behind(alloc: Global, disk: MemDisk, way: Way, choice: u64) -> Option<usize>
-    requires { disk.calls ≡ [] }
-{
-    let ended = run_script(alloc, disk, way);
-    let (before, after) = around(ended.done)?;
-    let mut store = recovered(alloc, ended.disk, choice)?;
-    if ended.closed && place_of(&mut store, &before, &after) != Place::Neither {
-        Some(ended.done)
-    } else {
-        None
-    }
-}
-
-/// How many steps were done on a disk that stops after so many calls.
-fn after_stop(alloc: Global, way: Way, stop: u64, choice: u64) -> Option<usize> {
-    holds_behind(alloc, blank(alloc, None, Some(stop))?, way, choice)
-}
-
-/// How many steps were done on a disk of which one call fails.
-fn after_fault(alloc: Global, way: Way, failing: u64, choice: u64) -> Option<usize> {
-    holds_behind(alloc, blank(alloc, Some(failing), None)?, way, choice)
-}
-
-/// Prints how many steps were done at the last of many stops, and each stop that does not leave the
-/// store before a step or after it.
-fn print_stops_with(rt: HostRuntime, way: Way, choice: u64) -> io::Result<()> {
-    let mut last = 0;
-    for stop in 0..ENOUGH {
-        match after_stop(rt.alloc(), way, stop, choice) {
-            Some(done) => last = done,
-            None => println!(rt; "  stop {stop}, choice {choice}: neither")?,
-        }
-    }
-    println!(rt; "  {last} of {STEPS} steps")
-}
-
-/// The same of a fault at each call.
-fn print_faults_with(rt: HostRuntime, way: Way, choice: u64) -> io::Result<()> {
-    let mut last = 0;
-    for failing in 0..ENOUGH {
-        match after_fault(rt.alloc(), way, failing, choice) {
-            Some(done) => last = done,
-            None => println!(rt; "  fault {failing}, choice {choice}: neither")?,
-        }
-    }
-    println!(rt; "  {last} of {STEPS} steps")
-}
-
-/// The script, stopped at each call.
-pub fn print_stops(rt: HostRuntime, way: Way) -> io::Result<()> {
-    println!(rt; "{}, stopped at each call of the disk", title(way))?;
+    println!(rt; "{}", drill.title)?;
     for choice in CHOICES {
-        print_stops_with(rt, way, choice)?;
+        print_with(rt, &script, drill.failing, choice)?;
     }
     Ok(())
 }
 
-/// The script, with a fault at each call.
-pub fn print_faults(rt: HostRuntime, way: Way) -> io::Result<()> {
-    println!(rt; "{}, with a fault at each call of the disk", title(way))?;
-    for choice in CHOICES {
-        print_faults_with(rt, way, choice)?;
+pub fn print_drills(rt: HostRuntime) -> io::Result<()> {
+    for drill in DRILLS {
+        print_drill(rt, drill)?;
     }
     Ok(())
 }

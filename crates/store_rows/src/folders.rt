@@ -1,8 +1,8 @@
 //! A store in a folder of the system.
 use crate::samples::{A, B, Sample, encoding_of};
-use crate::script::{Way, around, script};
+use crate::script::{STAGES, STEPS};
 use crate::stages::{Stage, is_just};
-use crate::steps::{Step, Went, does};
+use crate::steps::{Step, Way, Went, does};
 use lf_disk::DirDisk;
 use node_recovery::recover;
 use std::{fs, io};
@@ -26,12 +26,15 @@ fn in_folder(rt: HostRuntime) -> Option<FolderStore> {
     }
 }
 
-/// Opens the folder, looks whether its store is at a stage, and does a step.
-fn goes_on(rt: HostRuntime, stage: &Stage, step: Step) -> bool {
+/// Whether the store is at a stage, and does a step.
+fn is_and_does(rt: HostRuntime, store: &mut FolderStore, stage: &Stage, step: &Step) -> bool {
+    is_just(store, stage) && matches!(does(rt.alloc(), store, Way::Whole, step), Went::Done)
+}
+
+/// The same of the store of the folder, which is opened anew.
+fn goes_on(rt: HostRuntime, stage: &Stage, step: &Step) -> bool {
     match in_folder(rt) {
-        Some(mut store) => {
-            is_just(&mut store, stage) && does(rt.alloc(), &mut store, step) == Went::Done
-        }
+        Some(mut store) => is_and_does(rt, &mut store, stage, step),
         None => false,
     }
 }
@@ -39,11 +42,8 @@ fn goes_on(rt: HostRuntime, stage: &Stage, step: Step) -> bool {
 /// The script on a folder that is opened anew before each step.
 pub fn print_script(rt: HostRuntime) -> io::Result<()> {
     let _ = fs::remove_dir_all(&rt, TOP);
-    for (place, step) in script(Way::Whole).iter().enumerate() {
-        let held = match around(place) {
-            Some((before, _)) => goes_on(rt, &before, *step),
-            None => false,
-        };
+    for (place, (stage, step)) in STAGES.iter().zip(STEPS).enumerate() {
+        let held = goes_on(rt, stage, step);
         println!(rt; "folder: step {place}: {held}")?;
     }
     fs::remove_dir_all(&rt, TOP)
@@ -57,13 +57,23 @@ fn has_encoding(rt: HostRuntime, path: &str, sample: &Sample) -> bool {
     }
 }
 
+/// Two files are published.
+fn publishes(rt: HostRuntime, store: &mut FolderStore) -> (bool, bool) {
+    let first = does(rt.alloc(), store, Way::Whole, &Step::Commit(1, &[(1, 0)]));
+    let second = does(rt.alloc(), store, Way::Whole, &Step::Apply(B));
+    (matches!(first, Went::Done), matches!(second, Went::Done))
+}
+
+fn publish(rt: HostRuntime) -> Option<(bool, bool)> {
+    let mut store = in_folder(rt)?;
+    Some(publishes(rt, &mut store))
+}
+
 /// Two files are published, and the first stays as it was.
 pub fn print_two_files(rt: HostRuntime) -> io::Result<()> {
-    let Some(mut store) = in_folder(rt) else {
+    let Some((first, second)) = publish(rt) else {
         return println!(rt; "folder: not opened");
     };
-    let first = does(rt.alloc(), &mut store, Step::Commit(A)) == Went::Done;
-    let second = does(rt.alloc(), &mut store, Step::Apply(B)) == Went::Done;
     println!(rt; "folder: two files: {first} {second}")?;
     let (first, second) = (has_encoding(rt, FIRST, &A), has_encoding(rt, SECOND, &B));
     println!(rt; "folder: their encodings: {first} {second}")?;

@@ -3,12 +3,9 @@
 #![tactic(auto)]
 
 mod answers;
-mod applied;
 mod drills;
 mod folders;
 mod given;
-mod installed;
-mod place;
 mod primaries;
 mod samples;
 mod scenes;
@@ -16,29 +13,19 @@ mod script;
 mod sources;
 mod stages;
 mod steps;
-mod stops;
 mod stores;
+mod trials;
 
-use script::Way;
 use std::io;
 
 fn main(rt: HostRuntime) -> io::Result<()> {
-    scenes::print_commit(rt)?;
-    scenes::print_install(rt)?;
-    scenes::print_commit_from(rt)?;
-    scenes::print_install_from(rt)?;
+    scenes::print_scenes(rt)?;
     answers::print_log(rt)?;
-    answers::print_drop(rt)?;
+    answers::print_drops(rt)?;
     primaries::print_primaries(rt)?;
     sources::print_sources(rt)?;
-    applied::print_applied(rt)?;
-    installed::print_installed(rt)?;
-    installed::print_broken(rt)?;
-    installed::print_replaced(rt)?;
-    drills::print_stops(rt, Way::Whole)?;
-    drills::print_faults(rt, Way::Whole)?;
-    drills::print_stops(rt, Way::Source)?;
-    drills::print_faults(rt, Way::Source)?;
+    given::print_given(rt)?;
+    drills::print_drills(rt)?;
     folders::print_script(rt)?;
     folders::print_two_files(rt)
 }

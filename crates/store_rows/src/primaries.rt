@@ -3,130 +3,102 @@
 ghost use Rattle.std.specs.Prelude.{IfSome};
 ghost use Rattle.ltx_codec.specs.Format.{IsFile};
 
-use crate::samples::{NONE, change, one_and_two_to, zeros_to};
-use crate::steps::{Step, Went, commits, made, outcome_of};
-use crate::stores::MemStore;
-use ltx_codec::{Ltx, decode};
-use snapshot::{install, make};
+use crate::samples::{FILLED_TO_6, Sample, ZEROS_TO_8, file_in};
+use crate::steps::{Step, Taking, Way, Went, does, takes_file};
+use crate::stores::{MemStore, made};
+use ltx_codec::Ltx;
+use snapshot::make;
 use std::alloc::Global;
 use std::io;
+use txn_log::Answer;
 
-/// The file that an encoding is.
-fn read(alloc: Global, encoding: &[u8]) -> Option<Ltx>
-    ensures { IfSome result IsFile }
-{
-    match decode(alloc, encoding) {
-        Ok(file) => Some(file),
-        Err(_) => None,
+/// The steps to transaction 5 of the store that was a primary before, and of the one that is.
+const OLD: &[Step] = &[
+    Step::Apply(Sample {
+        max: 4,
+        ..ZEROS_TO_8
+    }),
+    Step::Commit(2, &[]),
+];
+
+const NEW: &[Step] = &[
+    Step::Apply(Sample {
+        max: 4,
+        ..FILLED_TO_6
+    }),
+    Step::Commit(2, &[(2, 6)]),
+];
+
+/// Appends the file that a store owes, if it owes one.
+fn give(store: &mut MemStore, owed: Answer, out: &mut Vec<u8>) -> bool {
+    match owed {
+        Answer::Snapshot if store.pos().txid > 0 => make(store, out).is_ok(),
+        Answer::Files { first } if first < store.entries.len() => store.file(first, out).is_ok(),
+        _ => false,
     }
 }
 
-/// The snapshot of a store.
-fn snapshot_of(alloc: Global, store: &mut MemStore) -> Option<Ltx>
+/// The file that a store owes.
+fn owed_file(alloc: Global, store: &mut MemStore, owed: Answer) -> Option<Ltx>
     ensures { IfSome result IsFile }
 {
-    if store.pos().txid == 0 {
-        return None;
-    }
     let mut encoding = Vec::new(alloc);
-    match make(store, &mut encoding) {
-        Ok(()) => read(alloc, encoding.as_slice()),
-        Err(_) => None,
+    if give(store, owed, &mut encoding) {
+        file_in(alloc, encoding.as_slice())
+    } else {
+        None
     }
 }
 
-/// The file at a place of the log.
-fn file_at(alloc: Global, store: &mut MemStore, at: usize) -> Option<Ltx>
-    ensures { IfSome result IsFile }
+/// The old store takes a file of the new one: one from transaction 1 on is installed.
+fn take(rt: HostRuntime, old: &mut MemStore, file: &Ltx) -> io::Result<()>
+    requires { IsFile file.now }
 {
-    if at >= store.entries.len() {
-        return None;
-    }
-    let mut encoding = Vec::new(alloc);
-    match store.file(at, &mut encoding) {
-        Ok(()) => read(alloc, encoding.as_slice()),
-        Err(_) => None,
-    }
-}
-
-/// Prints which transactions a file has.
-fn print_file(rt: HostRuntime, file: &Ltx) -> io::Result<()> {
-    println!(rt; "  file {} to {}", file.header.min, file.header.max)
-}
-
-/// Prints where a store is, and what it owes a follower there.
-fn print_owed(rt: HostRuntime, old: &MemStore, new: &MemStore) -> io::Result<()> {
-    let position = old.pos();
-    let answer = new.answer(position);
-    println!(rt;
-        "  old at ({}, {:x}): {answer:?}",
-        position.txid, position.sum
-    )
-}
-
-/// The old store takes the new one's snapshot.
-fn take_snapshot(rt: HostRuntime, old: &mut MemStore, new: &mut MemStore) -> io::Result<()> {
-    let Some(file) = snapshot_of(rt.alloc(), new) else {
-        return println!(rt; "  no snapshot");
+    let first = file.header.min;
+    println!(rt; "  file {first} to {}", file.header.max)?;
+    let taking = if first == 1 {
+        Taking::Install
+    } else {
+        Taking::Apply
     };
-    print_file(rt, &file)?;
-    if file.header.min != 1 || outcome_of(install(old, &file)) != Went::Done {
-        return println!(rt; "  not installed");
-    }
-    Ok(())
-}
-
-/// The old store takes the new one's file at a place of its log.
-fn take_file(rt: HostRuntime, old: &mut MemStore, new: &mut MemStore, at: usize) -> io::Result<()> {
-    let Some(file) = file_at(rt.alloc(), new, at) else {
-        return println!(rt; "  no file");
-    };
-    print_file(rt, &file)?;
-    if outcome_of(old.apply(&file)) != Went::Done {
-        return println!(rt; "  not applied");
-    }
-    Ok(())
-}
-
-/// The store at transaction 5 that was a primary before, and the one that is.
-fn both(alloc: Global) -> Option<(MemStore, MemStore)> {
-    let same = Step::Commit(change(2, [NONE; 3]));
-    let other = Step::Commit(change(2, [(2, 6), NONE, NONE]));
-    let old = made(alloc, &[Step::Apply(zeros_to(4)), same])?;
-    let new = made(alloc, &[Step::Apply(one_and_two_to(4)), other])?;
-    Some((old, new))
-}
-
-/// The new store commits its transaction 6.
-fn commit_next(rt: HostRuntime, new: &mut MemStore) -> io::Result<()> {
-    let next = change(2, [(1, 9), NONE, NONE]);
-    match commits(rt.alloc(), new, &next) {
+    match takes_file(old, taking, file) {
         Went::Done => Ok(()),
-        _ => println!(rt; "  not committed"),
+        _ => println!(rt; "  not taken"),
     }
 }
 
-/// What the old store is owed, and its snapshot.
+/// Prints where the old store is, and what it is owed there, and it takes that.
 fn follow(rt: HostRuntime, old: &mut MemStore, new: &mut MemStore) -> io::Result<()> {
-    print_owed(rt, old, new)?;
-    take_snapshot(rt, old, new)
+    let stands = old.pos();
+    let owed = new.answer(stands);
+    println!(rt; "  old at ({}, {:x}): {owed:?}", stands.txid, stands.sum)?;
+    match owed_file(rt.alloc(), new, owed) {
+        Some(file) => take(rt, old, &file),
+        None => Ok(()),
+    }
 }
 
-/// The new store commits, and the old one takes the file.
-fn follow_on(rt: HostRuntime, old: &mut MemStore, new: &mut MemStore) -> io::Result<()> {
-    print_owed(rt, old, new)?;
-    commit_next(rt, new)?;
-    print_owed(rt, old, new)?;
-    take_file(rt, old, new, 2)
+/// The old store follows, also once the new one commits its transaction 6.
+fn print_following(rt: HostRuntime, old: &mut MemStore, new: &mut MemStore) -> io::Result<()> {
+    println!(rt; "an old primary at 5 and a new one")?;
+    follow(rt, old, new)?;
+    follow(rt, old, new)?;
+    does(rt.alloc(), new, Way::Whole, &Step::Commit(2, &[(1, 9)]));
+    follow(rt, old, new)?;
+    follow(rt, old, new)
+}
+
+fn print_with(rt: HostRuntime, old: &mut MemStore) -> io::Result<()> {
+    match made(rt.alloc(), Way::Whole, NEW) {
+        Some(mut new) => print_following(rt, old, &mut new),
+        None => println!(rt; "no new store"),
+    }
 }
 
 /// An old primary follows a new one.
 pub fn print_primaries(rt: HostRuntime) -> io::Result<()> {
-    let Some((mut old, mut new)) = both(rt.alloc()) else {
-        return println!(rt; "no stores");
-    };
-    println!(rt; "an old primary at 5 and a new one")?;
-    follow(rt, &mut old, &mut new)?;
-    follow_on(rt, &mut old, &mut new)?;
-    print_owed(rt, &old, &new)
+    match made(rt.alloc(), Way::Whole, OLD) {
+        Some(mut old) => print_with(rt, &mut old),
+        None => println!(rt; "no old store"),
+    }
 }

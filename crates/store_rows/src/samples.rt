@@ -3,14 +3,12 @@
 ghost use Rattle.std.specs.Prelude.{IfSome};
 ghost use Rattle.ltx_codec.specs.Format.{IsFile};
 
-use lf_base::{NoMemory, Pos};
+use lf_base::NoMemory;
 use ltx_codec::{Encoder, Header, Ltx, decode};
 use std::alloc::Global;
 
-/// A page that a file holds: its number, 0 for none, and the byte that it is full of.
+/// A page that a file holds: its number, and the byte that it is full of.
 pub type Filled = (u32, u8);
-
-pub const NONE: Filled = (0, 0);
 
 /// A transaction file.
 #[derive(Clone, Copy)]
@@ -19,7 +17,7 @@ pub struct Sample {
     pub max: u64,
     pub commit: u32,
     pub pre: u64,
-    pub pages: [Filled; 3],
+    pub pages: &'static [Filled],
     pub post: u64,
 }
 
@@ -38,7 +36,7 @@ pub const A: Sample = Sample {
     max: 1,
     commit: 1,
     pre: 0,
-    pages: [(1, 0), NONE, NONE],
+    pages: &[(1, 0)],
     post: ONE_PAGE,
 };
 
@@ -48,49 +46,29 @@ pub const B: Sample = Sample {
     max: 2,
     commit: 2,
     pre: ONE_PAGE,
-    pages: [(2, 0), NONE, NONE],
+    pages: &[(2, 0)],
     post: TWO_PAGES,
 };
 
-/// A snapshot of two pages of zeros, up to a transaction.
-pub fn zeros_to(max: u64) -> Sample {
-    Sample {
-        min: 1,
-        max,
-        commit: 2,
-        pre: 0,
-        pages: [(1, 0), (2, 0), NONE],
-        post: TWO_PAGES,
-    }
-}
+/// Two pages of zeros, as the transactions 1 to 8.
+pub const ZEROS_TO_8: Sample = Sample {
+    min: 1,
+    max: 8,
+    commit: 2,
+    pre: 0,
+    pages: &[(1, 0), (2, 0)],
+    post: TWO_PAGES,
+};
 
-/// A snapshot of a page of 1 and one of 2, up to a transaction.
-pub fn one_and_two_to(max: u64) -> Sample {
-    Sample {
-        min: 1,
-        max,
-        commit: 2,
-        pre: 0,
-        pages: [(1, 1), (2, 2), NONE],
-        post: ONE_AND_TWO,
-    }
-}
-
-/// The file of a change to so many pages, of which the numbers and sums do not matter.
-pub fn change(commit: u32, pages: [Filled; 3]) -> Sample {
-    Sample {
-        min: 2,
-        max: 2,
-        commit,
-        pre: NO_PAGES,
-        pages,
-        post: NO_PAGES,
-    }
-}
-
-pub fn pos(txid: u64, sum: u64) -> Pos {
-    Pos { txid, sum }
-}
+/// A page of 1 and one of 2, as the transactions 1 to 6.
+pub const FILLED_TO_6: Sample = Sample {
+    min: 1,
+    max: 6,
+    commit: 2,
+    pre: 0,
+    pages: &[(1, 1), (2, 2)],
+    post: ONE_AND_TWO,
+};
 
 fn header_of(sample: &Sample) -> Header {
     Header {
@@ -108,27 +86,37 @@ fn header_of(sample: &Sample) -> Header {
     }
 }
 
-fn add_page(encoder: &mut Encoder, filled: Filled, out: &mut Vec<u8>) -> Result<(), NoMemory> {
-    let (number, byte) = filled;
-    if number == 0 {
-        return Ok(());
+fn add_pages(encoder: &mut Encoder, pages: &[Filled], out: &mut Vec<u8>) -> Result<(), NoMemory> {
+    for (number, byte) in pages {
+        encoder.page(*number, &[*byte; 512], out)?;
     }
-    encoder.page(number, &[byte; 512], out)
+    Ok(())
+}
+
+fn encode(sample: &Sample, out: &mut Vec<u8>) -> Result<(), NoMemory> {
+    let mut encoder = Encoder::start(&header_of(sample), out)?;
+    add_pages(&mut encoder, sample.pages, out)?;
+    match encoder.finish(sample.post, out) {
+        Ok(()) => Ok(()),
+        Err((want, _)) => Err(want),
+    }
 }
 
 /// The encoding of a file.
 pub fn encoding_of(alloc: Global, sample: &Sample) -> Option<Vec<u8>> {
     let mut out = Vec::new(alloc);
-    let Ok(mut encoder) = Encoder::start(&header_of(sample), &mut out) else {
-        return None;
-    };
-    for filled in sample.pages {
-        if add_page(&mut encoder, filled, &mut out).is_err() {
-            return None;
-        }
-    }
-    match encoder.finish(sample.post, &mut out) {
+    match encode(sample, &mut out) {
         Ok(()) => Some(out),
+        Err(_) => None,
+    }
+}
+
+/// The file that an encoding is.
+pub fn file_in(alloc: Global, encoding: &[u8]) -> Option<Ltx>
+    ensures { IfSome result IsFile }
+{
+    match decode(alloc, encoding) {
+        Ok(file) => Some(file),
         Err(_) => None,
     }
 }
@@ -137,11 +125,8 @@ pub fn encoding_of(alloc: Global, sample: &Sample) -> Option<Vec<u8>> {
 pub fn file_of(alloc: Global, sample: &Sample) -> Option<Ltx>
     ensures { IfSome result IsFile }
 {
-    let Some(encoding) = encoding_of(alloc, sample) else {
-        return None;
-    };
-    match decode(alloc, encoding.as_slice()) {
-        Ok(file) => Some(file),
-        Err(_) => None,
+    match encoding_of(alloc, sample) {
+        Some(encoding) => file_in(alloc, encoding.as_slice()),
+        None => None,
     }
 }

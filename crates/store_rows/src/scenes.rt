@@ -1,66 +1,145 @@
-//! The scenes that are stopped at each call.
-use crate::samples::{NONE, ONE_AND_TWO, Sample, TWO_PAGES, change, one_and_two_to, zeros_to};
-use crate::stages::written;
-use crate::steps::Step;
-use crate::stops::{Scene, print_stops};
+//! Scripts that are stopped at each call of their last step.
+use crate::samples::{FILLED_TO_6, ONE_AND_TWO, Sample, TWO_PAGES, ZEROS_TO_8};
+use crate::stages::{NEVER_WRITTEN, Stage};
+use crate::steps::{Step, Way};
+use crate::stores::{Failing, calls_of};
+use crate::trials::{Script, trial};
+use std::alloc::Global;
 use std::io;
 
-/// A commit of pages 1 and 2 over two pages of zeros.
-pub fn print_commit(rt: HostRuntime) -> io::Result<()> {
-    let first = [Step::Commit(change(2, [NONE; 3]))];
-    let scene = Scene {
+#[derive(Clone, Copy)]
+struct Scene {
+    title: &'static str,
+    script: Script,
+}
+
+/// A commit of two pages of zeros where there are none, and of nothing where they are there.
+const ZEROS: Step = Step::Commit(2, &[]);
+
+/// Two pages of zeros.
+const ZEROS_AT_1: Stage = Stage {
+    txid: 1,
+    sum: TWO_PAGES,
+    pages: &[0, 0],
+    files: 1,
+    dropped: false,
+};
+
+/// A page of 1 and one of 2.
+const FILLED_AT_2: Stage = Stage {
+    txid: 2,
+    sum: ONE_AND_TWO,
+    pages: &[1, 2],
+    files: 2,
+    dropped: false,
+};
+
+/// Pages 1 and 2 are written over two pages of zeros.
+const OVER_ZEROS: &[Stage] = &[NEVER_WRITTEN, ZEROS_AT_1, FILLED_AT_2];
+
+/// Pages 1 and 2 as a file.
+const PAGES: Sample = Sample {
+    min: 2,
+    max: 2,
+    commit: 2,
+    pre: TWO_PAGES,
+    pages: &[(1, 1), (2, 2)],
+    post: ONE_AND_TWO,
+};
+
+/// A snapshot to 6 over a store at 9, whose log has two files.
+const OVER_9: &[Step] = &[Step::Apply(ZEROS_TO_8), ZEROS, Step::Install(FILLED_TO_6)];
+
+const FROM_9_TO_6: &[Stage] = &[
+    NEVER_WRITTEN,
+    Stage {
+        txid: 8,
+        ..ZEROS_AT_1
+    },
+    Stage {
+        txid: 9,
+        files: 2,
+        ..ZEROS_AT_1
+    },
+    Stage {
+        txid: 6,
+        files: 1,
+        ..FILLED_AT_2
+    },
+];
+
+const SCENES: &[Scene] = &[
+    Scene {
         title: "a commit of pages 1 and 2",
-        first: &first,
-        step: Step::Commit(change(2, [(1, 1), (2, 2), NONE])),
-        before: written(1, TWO_PAGES, 2, [0; 4], 1),
-        after: written(2, ONE_AND_TWO, 2, [1, 2, 0, 0], 2),
-    };
-    print_stops(rt, &scene)
-}
-
-/// The snapshot of the transactions 1 to 6 over a store at 9, whose log has two files.
-pub fn print_install(rt: HostRuntime) -> io::Result<()> {
-    let first = [Step::Apply(zeros_to(8)), Step::Commit(change(2, [NONE; 3]))];
-    let scene = Scene {
+        script: Script {
+            way: Way::Whole,
+            steps: &[ZEROS, Step::Commit(2, &[(1, 1), (2, 2)])],
+            stages: OVER_ZEROS,
+        },
+    },
+    Scene {
         title: "a snapshot to 6 over a store at 9",
-        first: &first,
-        step: Step::Install(one_and_two_to(6)),
-        before: written(9, TWO_PAGES, 2, [0; 4], 2),
-        after: written(6, ONE_AND_TWO, 2, [1, 2, 0, 0], 1),
-    };
-    print_stops(rt, &scene)
-}
-
-/// Pages 1 and 2 of transaction 2, from a source, over two pages of zeros.
-pub fn print_commit_from(rt: HostRuntime) -> io::Result<()> {
-    let first = [Step::Commit(change(2, [NONE; 3]))];
-    let file = Sample {
-        min: 2,
-        max: 2,
-        commit: 2,
-        pre: TWO_PAGES,
-        pages: [(1, 1), (2, 2), NONE],
-        post: ONE_AND_TWO,
-    };
-    let scene = Scene {
+        script: Script {
+            way: Way::Whole,
+            steps: OVER_9,
+            stages: FROM_9_TO_6,
+        },
+    },
+    Scene {
         title: "pages 1 and 2 from a source",
-        first: &first,
-        step: Step::ApplyFrom(file),
-        before: written(1, TWO_PAGES, 2, [0; 4], 1),
-        after: written(2, ONE_AND_TWO, 2, [1, 2, 0, 0], 2),
-    };
-    print_stops(rt, &scene)
+        script: Script {
+            way: Way::Source,
+            steps: &[ZEROS, Step::Apply(PAGES)],
+            stages: OVER_ZEROS,
+        },
+    },
+    Scene {
+        title: "a snapshot to 6 from a source, over a store at 9",
+        script: Script {
+            way: Way::Source,
+            steps: OVER_9,
+            stages: FROM_9_TO_6,
+        },
+    },
+];
+
+/// Which store is recovered after a stop.
+fn place(alloc: Global, script: &Script, stop: u64, choice: u64) -> &'static str {
+    match trial(alloc, script, Failing::From, stop, choice) {
+        Some((_, place)) => place,
+        None => "neither",
+    }
 }
 
-/// The snapshot of the transactions 1 to 6, from a source, over a store at 9, whose log has two files.
-pub fn print_install_from(rt: HostRuntime) -> io::Result<()> {
-    let first = [Step::Apply(zeros_to(8)), Step::Commit(change(2, [NONE; 3]))];
-    let scene = Scene {
-        title: "a snapshot to 6 from a source, over a store at 9",
-        first: &first,
-        step: Step::InstallFrom(one_and_two_to(6)),
-        before: written(9, TWO_PAGES, 2, [0; 4], 2),
-        after: written(6, ONE_AND_TWO, 2, [1, 2, 0, 0], 1),
+/// Prints which store is recovered after a stop, where of what is pending nothing, a part or all is left.
+fn print_places(rt: HostRuntime, script: &Script, number: u64, stop: u64) -> io::Result<()> {
+    let nothing = place(rt.alloc(), script, stop, 0);
+    let part = place(rt.alloc(), script, stop, u64::MAX / 3);
+    let all = place(rt.alloc(), script, stop, u64::MAX);
+    println!(rt; "  {number}: {nothing} {part} {all}")
+}
+
+fn print_scene(rt: HostRuntime, scene: &Scene) -> io::Result<()> {
+    let script = &scene.script;
+    let first = script.steps.len().saturating_sub(1);
+    let first = script.steps.get(..first).unwrap_or(&[]);
+    let (Some((begin, before)), Some((end, after))) = (
+        calls_of(rt.alloc(), script.way, first),
+        calls_of(rt.alloc(), script.way, script.steps),
+    ) else {
+        return println!(rt; "{}: not done", scene.title);
     };
-    print_stops(rt, &scene)
+    let changing = after.saturating_sub(before);
+    println!(rt; "{}: {changing} changing calls", scene.title)?;
+    for stop in begin..end {
+        print_places(rt, script, stop - begin, stop)?;
+    }
+    Ok(())
+}
+
+pub fn print_scenes(rt: HostRuntime) -> io::Result<()> {
+    for scene in SCENES {
+        print_scene(rt, scene)?;
+    }
+    Ok(())
 }

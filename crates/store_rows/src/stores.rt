@@ -1,23 +1,37 @@
-//! Stores in memory: made, looked at, stopped and recovered.
+//! Stores in memory: made, stopped and recovered.
 ghost use Rattle.std.specs.Prelude.{◌≡◌, [], IfSome};
 
+use crate::steps::{Step, Way, Went, run};
 use lf_disk::{Disk, MemDisk};
-use lf_sqlite_pages::PageStore;
 use node_recovery::recover;
 use std::alloc::Global;
 use txn_log::Store;
 
 pub type MemStore = Store<MemDisk>;
 
-/// A disk without files. Its calls of the number `failing` fails, and every call from `stop` on.
-pub fn blank(alloc: Global, failing: Option<u64>, stop: Option<u64>) -> Option<MemDisk>
+/// How a disk fails.
+#[derive(Clone, Copy)]
+pub enum Failing {
+    /// At the call of a number alone.
+    At,
+    /// From there on.
+    From,
+}
+
+/// The number of a call that no disk comes to.
+const NEVER: u64 = u64::MAX;
+
+/// A disk without files, which fails at a call.
+pub fn blank(alloc: Global, failing: Failing, call: u64) -> Option<MemDisk>
     ensures { IfSome result (λ disk. disk.calls ≡ []) }
 {
     let mut numbers = Vec::new(alloc);
-    if let Some(number) = failing {
-        if numbers.push(number).is_err() {
-            return None;
-        }
+    let stop = match failing {
+        Failing::At => None,
+        Failing::From => Some(call),
+    };
+    if stop.is_none() && numbers.push(call).is_err() {
+        return None;
     }
     match MemDisk::new(alloc, numbers, stop) {
         Ok(disk) => Some(disk),
@@ -35,13 +49,8 @@ pub fn opened(alloc: Global, disk: MemDisk) -> Result<MemStore, MemDisk>
     }
 }
 
-/// The store of a disk without files.
-pub fn anew(alloc: Global) -> Option<MemStore> {
-    opened(alloc, blank(alloc, None, None)?).ok()
-}
-
 /// What a crash leaves of a disk, where a number chooses what is left of each call that is pending.
-pub fn crashed(disk: MemDisk, choice: u64) -> Option<MemDisk>
+fn crashed(disk: MemDisk, choice: u64) -> Option<MemDisk>
     ensures { IfSome result (λ disk. disk.calls ≡ []) }
 {
     match disk.reopen_as(choice) {
@@ -55,25 +64,22 @@ pub fn recovered(alloc: Global, disk: MemDisk, choice: u64) -> Option<MemStore> 
     opened(alloc, crashed(disk, choice)?).ok()
 }
 
-/// Whether page `n` is full of a byte.
-fn is_full<D: Disk>(store: &mut Store<D>, n: u32, byte: u8) -> bool {
-    if n == 0 || n > store.commit || store.page_size != 512 {
-        return false;
-    }
-    let mut out = [0u8; 512];
-    match store.page(n, &mut out) {
-        Ok(()) => out.iter().all(|b| *b == byte),
-        Err(_) => false,
+/// The store of a disk without files, which stops at a call.
+pub fn stopping(alloc: Global, call: u64) -> Option<MemStore> {
+    opened(alloc, blank(alloc, Failing::From, call)?).ok()
+}
+
+/// A store after some steps.
+pub fn made(alloc: Global, way: Way, steps: &[Step]) -> Option<MemStore> {
+    let mut store = stopping(alloc, NEVER)?;
+    match run(alloc, &mut store, way, steps) {
+        (_, Went::Done) => Some(store),
+        _ => None,
     }
 }
 
-/// Whether the pages are full of these bytes, and there are no others.
-pub fn holds<D: Disk>(store: &mut Store<D>, bytes: &[u8]) -> bool {
-    let mut same = store.commit as usize == bytes.len();
-    let mut n = 0u32;
-    for byte in bytes {
-        n = n.saturating_add(1);
-        same = same && is_full(store, n, *byte);
-    }
-    same
+/// How many calls a disk has had after some steps, and how many of them change something.
+pub fn calls_of(alloc: Global, way: Way, steps: &[Step]) -> Option<(u64, u64)> {
+    let store = made(alloc, way, steps)?;
+    Some((store.disk.calls(), store.disk.moment()))
 }
