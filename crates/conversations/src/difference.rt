@@ -20,7 +20,7 @@ use std::fmt;
 const LONGEST: usize = 0xFFFF_FFEF;
 
 /// How a turn differs from its record.
-#[derive(Clone, Copy, Debug, PartialEq, Eq)]
+#[derive(Clone, Copy)]
 pub enum Difference {
     /// The message is no request.
     Request,

@@ -6,7 +6,7 @@ use std::alloc::{AllocError, AllocFailed};
 use std::io;
 
 /// Why a conversation could not be replayed.
-#[derive(Clone, Copy, Debug, PartialEq, Eq)]
+#[derive(Clone, Copy, Debug)]
 pub enum Fault {
     /// A file was not read, or nothing could be printed.
     Io,

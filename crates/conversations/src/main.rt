@@ -28,10 +28,17 @@ fn main(rt: HostRuntime) -> Result<(), Fault> {
 fn play(rt: &HostRuntime, mode: &str) -> Result<(), Fault> {
     let text = recorded(rt, mode)?;
     let mut tally = Tally::new(rt.alloc())?;
-    for line in text.as_str().lines() {
-        take(rt, mode, &mut tally, line)?;
+    let played = take_all(rt, mode, text.as_str(), &mut tally);
+    drop(tally);
+    played
+}
+
+/// Takes each line, and prints how many differ.
+fn take_all(rt: &HostRuntime, mode: &str, text: &str, tally: &mut Tally) -> Result<(), Fault> {
+    for line in text.lines() {
+        take(rt, mode, tally, line)?;
     }
-    print_tally(rt, mode, &tally)
+    print_tally(rt, mode, tally)
 }
 
 /// The lines of a conversation.

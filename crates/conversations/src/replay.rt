@@ -18,6 +18,7 @@ use lf_base::{Name, Pos};
 use lf_sqlite_pages::{Change, Image, is_page_size};
 use page_checksum::page_sum;
 use std::alloc::Global;
+use std::mem;
 
 /// Bit 63, which every sum carries.
 const FLAG: u64 = 1 << 63;
@@ -35,13 +36,6 @@ impl Replay {
         ensures { IfOk result (IsNew empty_image 0) }
     {
         Replay::over(alloc, Image::empty(alloc), 0)
-    }
-
-    /// The files of a database of pages of zeros.
-    fn start(alloc: Global, start: Start) -> Result<Replay, Fault>
-        ensures { IfOk result (IsNew (zero_image start) start.transactions) }
-    {
-        Replay::over(alloc, zeros(alloc, start)?, start.transactions)
     }
 
     fn over(alloc: Global, image: Image, transactions: u64) -> Result<Replay, Fault>
@@ -70,34 +64,34 @@ impl Replay {
         ensures { IfOk result (λ why. Taken self.old turn.now why self.new) }
     {
         match turn {
-            Turn::Start(start) => {
-                *self = Replay::start(alloc, *start)?;
-                Ok(None)
-            }
-            Turn::Applied(start) => {
-                self.apply(zeros(alloc, *start)?, start.transactions);
-                Ok(None)
-            }
-            Turn::Lost => {
-                self.files.drop_uncommitted();
-                Ok(None)
-            }
-            Turn::Message(message) => self.hear(alloc, message),
-            Turn::End { link } => {
-                self.files.end_session(*link);
-                Ok(None)
-            }
+            Turn::Start(start) => self.begin(alloc, *start)?,
+            Turn::Applied(start) => self.apply(alloc, *start)?,
+            Turn::Lost => self.files.drop_uncommitted(),
+            Turn::Message(message) => return self.hear(alloc, message),
+            Turn::End { link } => self.files.end_session(*link),
         }
+        Ok(None)
     }
 
-    /// The committed image is another now, to which so many transactions led.
-    fn apply(&mut self, image: Image, transactions: u64)
-        ensures { IsOver image (applied self.old.files.view image.page_size (length image.pages)) transactions self.new }
+    /// A conversation begins anew.
+    fn begin(&mut self, alloc: Global, start: Start) -> Result<(), Fault>
+        ensures { OnOk result (IsNew (zero_image start) start.transactions self.new) }
     {
-        self.files.apply(image);
-        self.transactions = transactions;
+        let new = Replay::over(alloc, zeros(alloc, start)?, start.transactions)?;
+        drop(mem::replace(self, new));
+        Ok(())
+    }
+
+    /// The committed image is another now.
+    fn apply(&mut self, alloc: Global, start: Start) -> Result<(), Fault>
+        ensures { OnOk result (IsOver (zero_image start)
+            (applied self.old.files.view (zero_image start).page_size (length (zero_image start).pages)) start.transactions self.new) }
+    {
+        self.files.apply(zeros(alloc, start)?);
+        self.transactions = start.transactions;
         let position = self.position();
         self.files.tell(position);
+        Ok(())
     }
 
     /// Takes a message, and says how what becomes of it differs from the record.

@@ -6,7 +6,7 @@ use serde_json::Value;
 use std::alloc::Global;
 
 /// A database of pages of zeros.
-#[derive(Clone, Copy, Debug)]
+#[derive(Clone, Copy)]
 pub struct Start {
     pub page_size: u32,
     pub pages: u32,
