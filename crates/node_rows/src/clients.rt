@@ -18,8 +18,8 @@ pub const CONFIG: &[u8] = b"database = \"app\"\n\
 /// Where that listens for the clients of its files.
 pub const SOCKET: &str = "node.sock";
 
-/// OPEN and READ of the position file.
-const POSITION_ASKED: &str = "300000000e000000010000000000000006000000000000000000000000000000\
+/// OPEN and READ of the position file, as hex.
+pub const POSITION_ASKED: &str = "300000000e000000010000000000000006000000000000000000000000000000\
     00000000000000000000000000000000\
     500000000f000000020000000000000006000000000000000000000000000000\
     0000000000000000010000000000000000000000000000000010000000000000\
@@ -31,18 +31,13 @@ const BEFORE_POSITION: usize = 48;
 /// How many bytes a position has in print.
 const POSITION_SIZE: usize = 33;
 
-/// OPEN and READ of the position file as bytes.
-pub fn position_asked(alloc: Global) -> Result<Vec<u8>, Fault> {
-    Ok(hex::decode(alloc, POSITION_ASKED)?)
-}
-
 /// What each client of a scene sends. After them comes one that asks where the node stands.
 pub fn requests_of(alloc: Global, scene: &Scene) -> Result<Vec<Vec<u8>>, Fault> {
     let mut requests = Vec::new(alloc);
     for session in &scene.sessions {
         requests.push(Vec::from_slice(alloc, &session.requests)?)?;
     }
-    requests.push(position_asked(alloc)?)?;
+    requests.push(hex::decode(alloc, POSITION_ASKED)?)?;
     Ok(requests)
 }
 

@@ -4,7 +4,7 @@ use node_mount::MountFault;
 use std::fmt;
 
 /// How a scene went otherwise.
-#[derive(Clone, Copy, Debug, PartialEq, Eq)]
+#[derive(Clone, Copy)]
 pub enum Difference {
     /// From this byte on other replies were written in the session of this number.
     Replies { session: usize, at: usize },

@@ -5,7 +5,7 @@ use std::io;
 use txn_log::StoreFault;
 
 /// Why the sessions could not be played.
-#[derive(Clone, Copy, Debug, PartialEq, Eq)]
+#[derive(Clone, Copy, Debug)]
 pub enum Fault {
     /// A file was not read, or nothing could be printed.
     Io,
@@ -17,13 +17,18 @@ pub enum Fault {
     Left,
     /// The desk took no more steps.
     Worn,
-    /// No thread was to be had.
-    Thread,
     NoMemory,
 }
 
 impl From<NoMemory> for Fault {
     fn from(_want: NoMemory) -> Fault {
+        Fault::NoMemory
+    }
+}
+
+/// What could not be used for want of memory comes back with it.
+impl<T: Drop> From<(NoMemory, T)> for Fault {
+    fn from(_want: (NoMemory, T)) -> Fault {
         Fault::NoMemory
     }
 }

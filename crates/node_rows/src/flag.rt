@@ -1,8 +1,5 @@
 //! A word that two threads share.
 
-use crate::fault::Fault;
-use std::alloc::Global;
-use std::sync::Arc;
 use std::sync::atomic::{AtomicBool, Ordering};
 use std::thread;
 use std::time::{Clock, Duration};
@@ -12,15 +9,15 @@ const LOOKS: u32 = 30_000;
 
 #[derive(Drop)]
 pub struct Flag {
-    raised: Arc<AtomicBool>,
+    raised: AtomicBool,
 }
 
 impl Flag {
-    /// One that is not raised, held twice.
-    pub fn two(alloc: Global) -> Result<(Flag, Flag), Fault> {
-        let raised = Arc::new(alloc, AtomicBool::new(false))?;
-        let theirs = Arc::try_clone(&raised)?;
-        Ok((Flag { raised }, Flag { raised: theirs }))
+    /// One that is not raised.
+    pub fn new() -> Flag {
+        Flag {
+            raised: AtomicBool::new(false),
+        }
     }
 
     pub fn raise(&self) {

@@ -16,16 +16,20 @@ use std::alloc::Global;
 
 /// The path of a file in the folder of a database.
 fn path_of(alloc: Global, name: FileName) -> Result<Text, Fault> {
-    Ok(match name {
-        FileName::Database => Text::of(alloc, "database")?,
-        FileName::Staged => Text::of(alloc, "staged")?,
-        FileName::Snapshot => Text::of(alloc, "snapshot.ltx")?,
-        FileName::Dropped => Text::of(alloc, "dropped")?,
-        FileName::Ltx { min, max } => {
-            let path = format!(in alloc; "ltx/{min:016x}-{max:016x}.ltx")?;
-            Text::of(alloc, path.as_str())?
-        }
-    })
+    let path = match name {
+        FileName::Database => "database",
+        FileName::Staged => "staged",
+        FileName::Snapshot => "snapshot.ltx",
+        FileName::Dropped => "dropped",
+        FileName::Ltx { min, max } => return ltx_path(alloc, min, max),
+    };
+    Ok(Text::of(alloc, path)?)
+}
+
+/// The path of the file of these transactions.
+fn ltx_path(alloc: Global, min: u64, max: u64) -> Result<Text, Fault> {
+    let path = format!(in alloc; "ltx/{min:016x}-{max:016x}.ltx")?;
+    Ok(Text::of(alloc, path.as_str())?)
 }
 
 /// The bytes of a file on a disk.
@@ -61,15 +65,25 @@ pub fn folder_differs(
     disk: MemDisk,
     wanted: &[KeptFile],
 ) -> Result<Option<Difference>, Fault> {
-    let Ok(mut disk) = disk.reopen() else {
-        return Err(Fault::NoMemory);
-    };
+    let mut disk = disk.reopen()?;
+    let found = files_on(alloc, &mut disk);
+    drop(disk);
+    Ok(files_differ(&found?, wanted))
+}
+
+/// What is compared of the files on a disk.
+fn files_on(alloc: Global, disk: &mut MemDisk) -> Result<Vec<KeptFile>, Fault> {
+    let names = disk.list()?;
     let mut found = Vec::new(alloc);
-    for name in disk.list()?.iter() {
-        let bytes = bytes_of(alloc, &mut disk, *name)?;
-        found.push(kept_file(alloc, *name, &bytes)?)?;
+    for name in &names {
+        found.push(file_on(alloc, disk, *name)?)?;
     }
-    Ok(files_differ(&found, wanted))
+    Ok(found)
+}
+
+fn file_on(alloc: Global, disk: &mut MemDisk, name: FileName) -> Result<KeptFile, Fault> {
+    let bytes = bytes_of(alloc, disk, name)?;
+    kept_file(alloc, name, &bytes)
 }
 
 /// How files differ from those that were wanted.

@@ -10,6 +10,7 @@ use std::mem;
 #[derive(Drop)]
 struct Gathering {
     alloc: Global,
+    name: String,
     start: Option<Start>,
     sessions: Vec<Session>,
     messages: u64,
@@ -21,6 +22,7 @@ impl Gathering {
     fn new(alloc: Global) -> Gathering {
         Gathering {
             alloc,
+            name: String::new(alloc),
             start: None,
             sessions: Vec::new(alloc),
             messages: 0,
@@ -29,15 +31,29 @@ impl Gathering {
         }
     }
 
-    /// Takes a line, and gives the scene that it ends.
-    fn take(&mut self, line: Line) -> Result<Option<Scene>, Fault> {
-        match line {
-            Line::Start(start) => self.start = Some(start),
-            Line::Message { request, reply } => self.add(&request, &reply)?,
-            Line::End(ending) => self.end_session(ending)?,
-            Line::Left(left) => return Ok(Some(self.end(left)?)),
+    /// Takes each line, and gives the scenes that they end.
+    fn take_all(&mut self, text: &str, scenes: &mut Vec<Scene>) -> Result<(), Fault> {
+        for line in text.lines() {
+            self.take(Line::read(self.alloc, line)?, scenes)?;
         }
-        Ok(None)
+        Ok(())
+    }
+
+    fn take(&mut self, line: Line, scenes: &mut Vec<Scene>) -> Result<(), Fault> {
+        match line {
+            Line::Start { name, start } => {
+                self.begin(name, start);
+                Ok(())
+            }
+            Line::Message { request, reply } => self.add(&request, &reply),
+            Line::End(ending) => self.end_session(ending),
+            Line::Left(left) => self.end(left, scenes),
+        }
+    }
+
+    fn begin(&mut self, name: String, start: Start) {
+        self.name = name;
+        self.start = Some(start);
     }
 
     fn add(&mut self, request: &[u8], reply: &[u8]) -> Result<(), Fault> {
@@ -60,16 +76,20 @@ impl Gathering {
         Ok(())
     }
 
-    fn end(&mut self, left: Left) -> Result<Scene, Fault> {
+    fn end(&mut self, left: Left, scenes: &mut Vec<Scene>) -> Result<(), Fault> {
         let Some(start) = self.start.take() else {
+            drop(left);
             return Err(Fault::Record);
         };
+        let name = mem::replace(&mut self.name, String::new(self.alloc));
         let sessions = mem::replace(&mut self.sessions, Vec::new(self.alloc));
-        Ok(Scene {
+        scenes.push(Scene {
+            name,
             start,
             sessions,
             left,
-        })
+        })?;
+        Ok(())
     }
 }
 
@@ -77,10 +97,8 @@ impl Gathering {
 pub fn scenes_in(alloc: Global, text: &str) -> Result<Vec<Scene>, Fault> {
     let mut scenes = Vec::new(alloc);
     let mut gathering = Gathering::new(alloc);
-    for line in text.lines() {
-        if let Some(scene) = gathering.take(Line::read(alloc, line)?)? {
-            scenes.push(scene)?;
-        }
-    }
+    let gathered = gathering.take_all(text, &mut scenes);
+    drop(gathering);
+    gathered?;
     Ok(scenes)
 }

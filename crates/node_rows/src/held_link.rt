@@ -8,18 +8,24 @@ use std::time::Clock;
 
 /// Once all is answered that came first it raises one flag, and gives the rest after another is raised.
 #[derive(Drop)]
-pub struct HeldLink<R> {
+pub struct HeldLink<'a, R> {
     rt: R,
     first: MemLink,
     rest: MemLink,
-    answered: Flag,
-    go_on: Flag,
+    answered: &'a Flag,
+    go_on: &'a Flag,
     faults: u64,
     moves: u64,
 }
 
-impl<R: Clock> HeldLink<R> {
-    pub fn new(rt: R, first: MemLink, rest: MemLink, answered: Flag, go_on: Flag) -> HeldLink<R> {
+impl<'a, R: Clock> HeldLink<'a, R> {
+    pub fn new(
+        rt: R,
+        first: MemLink,
+        rest: MemLink,
+        answered: &'a Flag,
+        go_on: &'a Flag,
+    ) -> HeldLink<'a, R> {
         HeldLink {
             rt,
             first,
@@ -55,7 +61,7 @@ impl<R: Clock> HeldLink<R> {
     }
 }
 
-impl<R: Clock> Link for HeldLink<R> {
+impl<R: Clock> Link for HeldLink<'_, R> {
     ghost left = { λ _. None };
 
     ghost given = { λ _. None };

@@ -11,8 +11,8 @@ const TURNS: u64 = 1_000;
 
 #[derive(Drop)]
 pub enum Line {
-    /// A scene begins.
-    Start(Start),
+    /// A scene of this name begins.
+    Start { name: String, start: Start },
     /// A message, and its reply, which is empty where there is none.
     Message { request: Vec<u8>, reply: Vec<u8> },
     /// The session ends.
@@ -37,14 +37,21 @@ fn bytes(alloc: Global, value: &Value, name: &str) -> Result<Vec<u8>, Fault> {
     Ok(hex::decode(alloc, text(value, name).unwrap_or(""))?)
 }
 
-fn start_of(alloc: Global, value: &Value) -> Result<Start, Fault> {
-    Ok(Start {
-        name: copy(alloc, value, "start")?,
+fn start_of(value: &Value) -> Start {
+    Start {
         page_size: number(value, "page_size").unwrap_or(0),
         pages: number(value, "pages").unwrap_or(0),
         transactions: number(value, "transactions").unwrap_or(0),
         is_primary: text(value, "role").is_none(),
+        at_one_time: number(value, "clients").is_some(),
         stop: number(value, "stop"),
+    }
+}
+
+fn scene_of(alloc: Global, value: &Value) -> Result<Line, Fault> {
+    Ok(Line::Start {
+        name: copy(alloc, value, "start")?,
+        start: start_of(value),
     })
 }
 
@@ -55,12 +62,12 @@ fn message_of(alloc: Global, value: &Value) -> Result<Line, Fault> {
     })
 }
 
-fn ending_of(alloc: Global, value: &Value) -> Result<Ending, Fault> {
-    Ok(Ending {
+fn ending_of(alloc: Global, value: &Value) -> Result<Line, Fault> {
+    Ok(Line::End(Ending {
         end: copy(alloc, value, "end")?,
         asked: number(value, "asked").unwrap_or(0),
         budget: number(value, "budget").unwrap_or(TURNS),
-    })
+    }))
 }
 
 fn file_of(alloc: Global, value: &Value) -> Result<KeptFile, Fault> {
@@ -81,25 +88,29 @@ fn files_of(alloc: Global, value: &Value) -> Result<Vec<KeptFile>, Fault> {
     Ok(files)
 }
 
-fn left_of(alloc: Global, value: &Value) -> Result<Left, Fault> {
-    Ok(Left {
+fn left_of(alloc: Global, value: &Value) -> Result<Line, Fault> {
+    Ok(Line::Left(Left {
         position: copy(alloc, value, "position")?,
         files: files_of(alloc, value)?,
-    })
+    }))
 }
 
 impl Line {
     pub fn read(alloc: Global, line: &str) -> Result<Line, Fault> {
         let value = Value::from_str(alloc, line)?;
-        if value.get("start").is_some() {
-            return Ok(Line::Start(start_of(alloc, &value)?));
-        }
-        if value.get("request").is_some() {
-            return message_of(alloc, &value);
-        }
-        if value.get("end").is_some() {
-            return Ok(Line::End(ending_of(alloc, &value)?));
-        }
-        Ok(Line::Left(left_of(alloc, &value)?))
+        line_of(alloc, &value)
     }
+}
+
+fn line_of(alloc: Global, value: &Value) -> Result<Line, Fault> {
+    if value.get("start").is_some() {
+        return scene_of(alloc, value);
+    }
+    if value.get("request").is_some() {
+        return message_of(alloc, value);
+    }
+    if value.get("end").is_some() {
+        return ending_of(alloc, value);
+    }
+    left_of(alloc, value)
 }

@@ -23,79 +23,67 @@ mod socketed;
 mod stage;
 mod two_links;
 mod waiting;
+mod way;
 
 use difference::Difference;
 use fault::Fault;
 use gathering::scenes_in;
-use mounted::play_mounted;
-use playing::play;
+use node_mount::System;
 use scene::Scene;
-use socketed::play_over_socket;
 use std::fs::{self, File};
 use std::net::{TcpListener, TcpStream};
-use two_links::play_two_links;
-use waiting::{MESSAGES, play_waiting};
+use way::{WAYS, Way};
 
 /// Scenes, and short ones of which each was changed in one respect.
 const RECORDS: [&str; 2] = ["sessions.jsonl", "changed.jsonl"];
 
 fn main(rt: HostRuntime) -> Result<(), Fault> {
     let _named: Option<(TcpListener, TcpStream, File)> = None;
-    for scene in &all_scenes(&rt)? {
-        let name = scene.start.name.as_str();
-        let found = play(rt, rt.alloc(), scene)?;
-        print_played(&rt, scene, found)?;
-        if scene.has_waiting() {
-            let found = play_waiting(rt, rt.alloc(), &scene.start)?;
-            print_again(&rt, name, "by two threads", MESSAGES, found)?;
-            let found = play_two_links(rt, rt.alloc(), &scene.start)?;
-            print_again(&rt, name, "by two links of mount", MESSAGES, found)?;
-        }
-        if scene.is_for_mount() {
-            let found = play_mounted(rt, rt.alloc(), scene)?;
-            print_again(&rt, name, "through mount", scene.messages(), found)?;
-            let found = play_over_socket(rt, rt.alloc(), scene)?;
-            print_again(&rt, name, "through a socket", scene.messages(), found)?;
-        }
-    }
-    Ok(())
-}
-
-/// The scenes of all records.
-fn all_scenes(rt: &HostRuntime) -> Result<Vec<Scene>, Fault> {
-    let mut scenes = Vec::new(rt.alloc());
     for record in RECORDS {
-        let text = fs::read_to_string(rt, record)?;
-        scenes.append(&mut scenes_in(rt.alloc(), text.as_str())?)?;
+        play_record(rt, record)?;
     }
-    Ok(scenes)
+    Ok(())
 }
 
-/// Prints how a scene went at a desk.
-fn print_played(rt: &HostRuntime, scene: &Scene, found: Option<Difference>) -> Result<(), Fault> {
-    let name = scene.start.name.as_str();
-    match found {
-        Some(why) => println!(rt; "{name}: {why}")?,
-        None => {
-            let messages = scene.messages();
-            let files = scene.left.files.len();
-            println!(rt; "{name}: {messages} messages, {files} files left")?;
+/// Plays the scenes of a record.
+fn play_record<R: System + Print + Send + 'static>(rt: R, record: &str) -> Result<(), Fault> {
+    let text = fs::read_to_string(&rt, record)?;
+    let scenes = scenes_in(rt.alloc(), text.as_str())?;
+    play_scenes(rt, &scenes)
+}
+
+fn play_scenes<R: System + Print + Send + 'static>(rt: R, scenes: &[Scene]) -> Result<(), Fault> {
+    for scene in scenes {
+        play_scene(rt, scene)?;
+    }
+    Ok(())
+}
+
+/// Plays a scene in each way that is for it, and prints how it went.
+fn play_scene<R: System + Print + Send + 'static>(rt: R, scene: &Scene) -> Result<(), Fault> {
+    for way in WAYS {
+        if way.is_for(scene) {
+            let found = way.play(rt, rt.alloc(), scene)?;
+            print(&rt, scene, way, found)?;
         }
     }
     Ok(())
 }
 
-/// Prints how a scene went that was played once more.
-fn print_again(
-    rt: &HostRuntime,
-    name: &str,
-    how: &str,
-    messages: u64,
+/// Prints how a scene went in a way: what differs, or how many messages it has, and at a desk how many files it leaves.
+fn print<R: Print>(
+    rt: &R,
+    scene: &Scene,
+    way: Way,
     found: Option<Difference>,
 ) -> Result<(), Fault> {
-    match found {
-        Some(why) => println!(rt; "{name}, {how}: {why}")?,
-        None => println!(rt; "{name}, {how}: {messages} messages")?,
+    let (name, how) = (scene.name.as_str(), way.words());
+    let messages = scene.messages();
+    let files = scene.left.files.len();
+    match (found, way) {
+        (Some(why), _) => println!(rt; "{name}{how}: {why}")?,
+        (None, Way::Desk) => println!(rt; "{name}: {messages} messages, {files} files left")?,
+        (None, _) => println!(rt; "{name}{how}: {messages} messages")?,
     }
     Ok(())
 }

@@ -3,17 +3,18 @@ ghost use Rattle.std.specs.Prelude.{All, IfOk};
 ghost use Rattle.node_mount.specs.MemMaker.{IsNewDisk, IsNewDoor, IsNewSpawner};
 
 use crate::clients::CONFIG;
+use crate::difference::Difference;
 use crate::fault::Fault;
 use crate::stage::NOW;
 use lf_base::{
     CallSpawner, FixedClock, Handles, ListAcceptor, MemLink, SliceSource, ThreadSpawner,
 };
 use lf_disk::MemDisk;
-use node_mount::{Maker, MemMaker, MemSpawn, MountFault, mount};
+use node_mount::{Maker, MemMaker, MemSpawn, mount};
 use std::alloc::Global;
 
 /// Where the jobs of a node run.
-#[derive(Clone, Copy, Debug, PartialEq, Eq)]
+#[derive(Clone, Copy)]
 pub enum Jobs {
     /// Each in place, so a session ends before the next link is accepted.
     InPlace,
@@ -75,12 +76,15 @@ pub fn maker_of(
     )?)
 }
 
-/// Runs a node to its end.
+/// Runs a node to its end, and says how it ended, if not well.
 pub fn run<R: Handles + Copy + Send + 'static, M: Maker>(
     rt: R,
     alloc: Global,
     maker: &mut M,
-) -> Result<Result<(), MountFault>, Fault> {
+) -> Result<Option<Difference>, Fault> {
     let mut config = SliceSource::new(CONFIG, Vec::new(alloc))?;
-    Ok(mount(rt, alloc, &mut config, maker))
+    match mount(rt, alloc, &mut config, maker) {
+        Ok(()) => Ok(None),
+        Err(fault) => Ok(Some(Difference::Mount(fault))),
+    }
 }

@@ -1,28 +1,42 @@
 //! A scene is played once more through `mount`, over objects in memory, with a link for each of its clients. The jobs run in
 //! place, so each session ends before the next link is accepted.
 
-use crate::clients::{position_asked, requests_of, sent_differs};
+use crate::clients::{POSITION_ASKED, requests_of, sent_differs};
 use crate::difference::Difference;
 use crate::fault::Fault;
 use crate::making::{Jobs, maker_of, run};
 use crate::opening::stored_disk;
-use crate::scene::Scene;
+use crate::scene::{Scene, Start};
 use lf_base::{Handles, MemLink, Watch};
 use std::alloc::Global;
 
 /// For how many bytes a link has room.
 const ROOM: usize = 65_536;
 
-/// Links that end badly: one fails, the bytes of one are no message, and one takes no reply.
+/// Bytes that are no message.
+const BROKEN: &str = "ffffffffffffffffffffffffffffffffffffffffffffffffffffffffffffffff\
+    ffffffffffffffffffffffffffffffffffffffffffffffffffffffffffffffff";
+
+/// Links that end badly, by what is sent on them, their room, and their calls that fail: one fails, the bytes of one are no
+/// message, and one takes no reply.
+const UNFIT: [(&str, usize, &[u64]); 3] = [
+    ("", 0, &[0]),
+    (BROKEN, 64, &[]),
+    (POSITION_ASKED, 0, &[]),
+];
+
 fn unfit_links(alloc: Global) -> Result<Vec<MemLink>, Fault> {
     let mut links = Vec::new(alloc);
-    let failing = vec![in alloc; 0u64]?;
-    links.push(MemLink::new(alloc, Vec::new(alloc), 0, failing)?)?;
-    let broken = vec![in alloc; 0xff_u8; 64]?;
-    links.push(MemLink::new(alloc, broken, 64, Vec::new(alloc))?)?;
-    let asked = position_asked(alloc)?;
-    links.push(MemLink::new(alloc, asked, 0, Vec::new(alloc))?)?;
+    for (sent, room, failing) in UNFIT {
+        links.push(unfit_link(alloc, sent, room, failing)?)?;
+    }
     Ok(links)
+}
+
+fn unfit_link(alloc: Global, sent: &str, room: usize, failing: &[u64]) -> Result<MemLink, Fault> {
+    let failing = Vec::from_slice(alloc, failing)?;
+    let sent = hex::decode(alloc, sent)?;
+    Ok(MemLink::new(alloc, sent, room, failing)?)
 }
 
 /// The links of the clients of a scene behind those that end badly, and what shows the replies to these clients.
@@ -52,10 +66,22 @@ pub fn play_mounted<R: Handles + Copy + Send + 'static>(
     scene: &Scene,
 ) -> Result<Option<Difference>, Fault> {
     let (links, watches) = links_of(alloc, scene)?;
-    let disk = stored_disk(alloc, &scene.start)?;
-    let mut maker = maker_of(alloc, disk, links, Jobs::InPlace)?;
-    match run(rt, alloc, &mut maker)? {
-        Ok(()) => Ok(sent_differs(&bytes_of(alloc, &watches)?, scene)),
-        Err(fault) => Ok(Some(Difference::Mount(fault))),
+    match run_linked(rt, alloc, scene.start, links)? {
+        None => Ok(sent_differs(&bytes_of(alloc, &watches)?, scene)),
+        ended => Ok(ended),
     }
+}
+
+/// Runs the node of a start to its end, to which these links come.
+fn run_linked<R: Handles + Copy + Send + 'static>(
+    rt: R,
+    alloc: Global,
+    start: Start,
+    links: Vec<MemLink>,
+) -> Result<Option<Difference>, Fault> {
+    let disk = stored_disk(alloc, start)?;
+    let mut maker = maker_of(alloc, disk, links, Jobs::InPlace)?;
+    let ended = run(rt, alloc, &mut maker);
+    drop(maker);
+    ended
 }

@@ -18,7 +18,7 @@ const NODE: u64 = 3;
 /// How many files of the log it keeps.
 const RETENTION: u64 = 3;
 
-fn config(alloc: Global, start: &Start) -> Result<NodeConfig, Fault> {
+fn config(alloc: Global, start: Start) -> Result<NodeConfig, Fault> {
     let Ok(name) = Name::read(alloc, b"app") else {
         return Err(Fault::NoMemory);
     };
@@ -37,7 +37,7 @@ fn config(alloc: Global, start: &Start) -> Result<NodeConfig, Fault> {
 fn commit_next<D: Disk>(
     alloc: Global,
     store: &mut Store<D>,
-    start: &Start,
+    start: Start,
     txid: u64,
 ) -> Result<(), Fault> {
     let page_size = u32::try_from(start.page_size).unwrap_or(0);
@@ -50,30 +50,41 @@ fn commit_next<D: Disk>(
     Ok(())
 }
 
+fn commit_all<D: Disk>(alloc: Global, store: &mut Store<D>, start: Start) -> Result<(), Fault> {
+    for txid in 1..=start.transactions {
+        commit_next(alloc, store, start, txid)?;
+    }
+    Ok(())
+}
+
 /// The store of a start, on a disk of which every call from a number on fails.
-fn store_of(alloc: Global, start: &Start, stop: Option<u64>) -> Result<Store<MemDisk>, Fault> {
+fn store_of(alloc: Global, start: Start, stop: Option<u64>) -> Result<Store<MemDisk>, Fault> {
     let disk = MemDisk::new(alloc, Vec::new(alloc), stop)?;
     store_on(alloc, disk, start)
 }
 
 /// The store of a start, on a disk without files.
-pub fn store_on<D: Disk + Drop>(alloc: Global, disk: D, start: &Start) -> Result<Store<D>, Fault>
+pub fn store_on<D: Disk + Drop>(alloc: Global, disk: D, start: Start) -> Result<Store<D>, Fault>
     requires { IsTrue (D.honest disk) → IsBlank (D.history disk) }
 {
     let mut store = Store::on_blank(alloc, disk);
-    for txid in 1..=start.transactions {
-        commit_next(alloc, &mut store, start, txid)?;
+    match commit_all(alloc, &mut store, start) {
+        Ok(()) => Ok(store),
+        Err(fault) => {
+            drop(store);
+            Err(fault)
+        }
     }
-    Ok(store)
 }
 
 /// The same, where the disk fails after the start, if it is to.
-fn stopped_store(alloc: Global, start: &Start) -> Result<Store<MemDisk>, Fault> {
+fn stopped_store(alloc: Global, start: Start) -> Result<Store<MemDisk>, Fault> {
     let store = store_of(alloc, start, None)?;
     match start.stop {
         None => Ok(store),
         Some(calls) => {
             let stop = store.disk.calls().saturating_add(calls);
+            drop(store);
             store_of(alloc, start, Some(stop))
         }
     }
@@ -81,20 +92,16 @@ fn stopped_store(alloc: Global, start: &Start) -> Result<Store<MemDisk>, Fault> 
 
 /// The disk of a start, as a node finds it that was stopped.
 #[tactic(auto, using(node_mount::proofs::DiskLemmas::rests))]
-pub fn stored_disk(alloc: Global, start: &Start) -> Result<MemDisk, Fault>
+pub fn stored_disk(alloc: Global, start: Start) -> Result<MemDisk, Fault>
     ensures { IfOk result IsNewDisk }
 {
-    match store_of(alloc, start, None)?.disk.reopen() {
-        Ok(disk) => Ok(disk),
-        Err(_) => Err(Fault::NoMemory),
-    }
+    let store = store_of(alloc, start, None)?;
+    Ok(store.disk.reopen()?)
 }
 
 /// The node of a start.
-pub fn open_node(alloc: Global, start: &Start) -> Result<Node<MemDisk>, Fault> {
+pub fn open_node(alloc: Global, start: Start) -> Result<Node<MemDisk>, Fault> {
+    let config = config(alloc, start)?;
     let store = stopped_store(alloc, start)?;
-    match Node::open(alloc, store, config(alloc, start)?) {
-        Ok(node) => Ok(node),
-        Err(_) => Err(Fault::NoMemory),
-    }
+    Ok(Node::open(alloc, store, config)?)
 }

@@ -29,17 +29,27 @@ fn play_session<R: Wait + Copy>(
     session: &Session,
 ) -> Result<Option<Difference>, Fault> {
     let mut link = link_of(alloc, session)?;
-    let watch = link.watch();
+    let served = serve(rt, alloc, stage, &mut link, session.ending.budget);
+    drop(link);
+    Ok(session_differs(&served?, number, session))
+}
+
+/// Serves the client of a link, and says what became of its session.
+fn serve<R: Wait + Copy>(
+    rt: R,
+    alloc: Global,
+    stage: &mut Stage,
+    link: &mut MemLink,
+    budget: u64,
+) -> Result<Served, Fault> {
     let before = stage.steps();
-    let ended = stage.serve(rt, alloc, &mut link, session.ending.budget)?;
+    let ended = stage.serve(rt, alloc, link, budget)?;
     let asked = stage.steps().saturating_sub(before);
-    let replies = watch.bytes()?;
-    let served = Served {
-        replies,
+    Ok(Served {
+        replies: link.watch().bytes()?,
         asked,
         ended,
-    };
-    Ok(session_differs(&served, number, session))
+    })
 }
 
 /// Plays the sessions of a scene, and says where they first differ.
@@ -64,9 +74,12 @@ pub fn play<R: Wait + Copy>(
     alloc: Global,
     scene: &Scene,
 ) -> Result<Option<Difference>, Fault> {
-    let mut stage = Stage::new(alloc, open_node(alloc, &scene.start)?)?;
-    if let Some(why) = play_sessions(rt, alloc, &mut stage, scene)? {
-        return Ok(Some(why));
+    let mut stage = Stage::new(alloc, open_node(alloc, scene.start)?)?;
+    match play_sessions(rt, alloc, &mut stage, scene) {
+        Ok(None) => folder_differs(alloc, stage.close(rt), &scene.left.files),
+        differs => {
+            drop(stage);
+            differs
+        }
     }
-    folder_differs(alloc, stage.close(rt), &scene.left.files)
 }

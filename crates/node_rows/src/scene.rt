@@ -1,16 +1,17 @@
-//! A scene: a node, the sessions of its clients one after another, and what is left of it.
+//! A scene: a node, the sessions of its clients, and what is left of it.
 ghost use Rattle.std.specs.Prelude.{◌≡◌, ◌↔◌, IsTrue};
 
 use lf_base::Text;
 
 /// The node that a scene begins with. Its database has pages of zeros, all made by the first of its transactions.
-#[derive(Drop)]
+#[derive(Clone, Copy)]
 pub struct Start {
-    pub name: String,
     pub page_size: u64,
     pub pages: u64,
     pub transactions: u64,
     pub is_primary: bool,
+    /// Whether its clients are served at one time, each in a thread of its own.
+    pub at_one_time: bool,
     /// How many calls of the disk succeed after the start.
     pub stop: Option<u64>,
 }
@@ -40,7 +41,7 @@ pub struct Left {
 }
 
 /// A file: its name, its length, and the SHA-256 of its bytes as hex.
-#[derive(Debug, Drop)]
+#[derive(Drop)]
 pub struct KeptFile {
     pub name: Text,
     pub size: u64,
@@ -59,27 +60,26 @@ impl KeptFile {
 
 #[derive(Drop)]
 pub struct Scene {
+    pub name: String,
     pub start: Start,
     pub sessions: Vec<Session>,
     pub left: Left,
 }
 
 impl Scene {
-    /// Whether its node is a primary over a disk that goes on, and none of its sessions is out of turns.
+    /// Whether its node is a primary over a disk that goes on, its clients come one after another, and none is out of turns.
     pub fn is_for_mount(&self) -> bool {
         let stays = self.start.is_primary && self.start.stop.is_none();
-        stays
-            && self
-                .sessions
-                .iter()
-                .all(|session| session.ending.end.as_str() == "Closed")
+        stays && !self.start.at_one_time && self.is_closed()
     }
 
-    /// Whether a session waits for a lock until its turns are used up.
-    pub fn has_waiting(&self) -> bool {
-        self.sessions
-            .iter()
-            .any(|session| session.ending.end.as_str() == "Turns")
+    fn is_closed(&self) -> bool {
+        for session in &self.sessions {
+            if session.ending.end.as_str() != "Closed" {
+                return false;
+            }
+        }
+        true
     }
 
     /// How many messages its clients send.

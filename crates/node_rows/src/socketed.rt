@@ -1,5 +1,5 @@
-//! A scene is played once more through `mount` and a Unix socket: the clients are in a thread of their own, and each connects
-//! once the link of the one before has ended.
+//! A scene is played once more through `mount` and a Unix socket, with the clients in a thread of their own. They come one
+//! after another, each once the link of the one before has ended, or are served at one time.
 
 use crate::clients::{SOCKET, requests_of, sent_differs};
 use crate::difference::Difference;
@@ -9,15 +9,12 @@ use crate::opening::stored_disk;
 use crate::scene::{Scene, Start};
 use crate::socket_client::{connect, read_to_end};
 use crate::socket_maker::SocketMaker;
+use crate::two_links::play_two_clients;
 use lf_base::{Closing, Handles};
-use node_mount::{MountFault, System};
+use node_mount::System;
 use std::alloc::Global;
-use std::fs;
 use std::io::Write;
-use std::thread::{self, JoinHandle};
-
-/// What the clients of a scene were sent.
-type Replies = Result<Vec<Vec<u8>>, Fault>;
+use std::{fs, thread};
 
 /// A client sends all that it has to send, and reads to the end.
 fn replies_to<R: Handles>(rt: &R, alloc: Global, requests: &[u8]) -> Result<Vec<u8>, Fault> {
@@ -28,7 +25,11 @@ fn replies_to<R: Handles>(rt: &R, alloc: Global, requests: &[u8]) -> Result<Vec<
     Ok(replies)
 }
 
-fn all_replies_to<R: Handles>(rt: &R, alloc: Global, requests: &[Vec<u8>]) -> Replies {
+fn all_replies_to<R: Handles>(
+    rt: &R,
+    alloc: Global,
+    requests: &[Vec<u8>],
+) -> Result<Vec<Vec<u8>>, Fault> {
     let mut replies = Vec::new(alloc);
     for sent in requests {
         replies.push(replies_to(rt, alloc, sent)?)?;
@@ -36,36 +37,68 @@ fn all_replies_to<R: Handles>(rt: &R, alloc: Global, requests: &[Vec<u8>]) -> Re
     Ok(replies)
 }
 
-/// Plays the clients in a thread. Then no more links come.
-fn start_clients<R: Handles + Copy + Send + 'static>(
+/// Plays the clients of a scene one after another. Says how what they were sent differs.
+fn play_in_order<R: Handles>(
+    rt: &R,
+    alloc: Global,
+    scene: &Scene,
+) -> Result<Option<Difference>, Fault> {
+    let requests = requests_of(alloc, scene)?;
+    let replies = all_replies_to(rt, alloc, &requests)?;
+    Ok(sent_differs(&replies, scene))
+}
+
+/// Plays the clients of a scene. Then no more links come.
+fn play_clients<R: Handles + Copy + Send>(
     rt: R,
     alloc: Global,
-    requests: Vec<Vec<u8>>,
-    closing: Closing,
-) -> Result<JoinHandle<Replies>, Fault> {
-    let started = thread::spawn(&rt, move || -> Replies {
-        let replies = all_replies_to(&rt, alloc, requests.as_slice());
-        closing.close();
-        replies
-    });
-    match started {
-        Ok(clients) => Ok(clients),
-        Err(_) => Err(Fault::Thread),
+    scene: &Scene,
+    closing: &Closing,
+) -> Result<Option<Difference>, Fault> {
+    let differs = if scene.start.at_one_time {
+        play_two_clients(rt, alloc, scene)
+    } else {
+        play_in_order(&rt, alloc, scene)
+    };
+    closing.close();
+    differs
+}
+
+/// Plays the clients of a scene in a thread of their own, while the node runs. Says where it first differs.
+fn play_beside<R: Handles + Copy + Send, N: FnOnce() -> Result<Option<Difference>, Fault>>(
+    rt: R,
+    alloc: Global,
+    scene: &Scene,
+    closing: &Closing,
+    node: N,
+) -> Result<Option<Difference>, Fault>
+    requires { N.pre node }
+{
+    let (differs, ended) = thread::join(&rt, move || play_clients(rt, alloc, scene, closing), node);
+    match ended? {
+        None => differs,
+        ended => Ok(ended),
     }
 }
 
 /// Runs the node of a start to its end. Its links come through the socket, until the word is closed.
-pub fn run_socketed<R: System + Send + 'static>(
+fn run_socketed<R: System + Send + 'static>(
     rt: R,
     alloc: Global,
-    start: &Start,
-    jobs: Jobs,
-    closing: Closing,
-) -> Result<Result<(), MountFault>, Fault> {
+    start: Start,
+    closing: &Closing,
+) -> Result<Option<Difference>, Fault> {
+    let jobs = if start.at_one_time {
+        Jobs::InThreads
+    } else {
+        Jobs::InPlace
+    };
+    let word = closing.another()?;
     let disk = stored_disk(alloc, start)?;
     let memory = maker_of(alloc, disk, Vec::new(alloc), jobs)?;
-    let mut maker = SocketMaker::new(rt, memory, closing);
+    let mut maker = SocketMaker::new(rt, memory, word);
     let ended = run(rt, alloc, &mut maker);
+    drop(maker);
     let _ = fs::remove_file(&rt, SOCKET);
     ended
 }
@@ -77,12 +110,8 @@ pub fn play_over_socket<R: System + Send + 'static>(
     scene: &Scene,
 ) -> Result<Option<Difference>, Fault> {
     let closing = Closing::new(alloc)?;
-    let word = closing.another()?;
-    let clients = start_clients(rt, alloc, requests_of(alloc, scene)?, closing)?;
-    let ended = run_socketed(rt, alloc, &scene.start, Jobs::InPlace, word)?;
-    let replies = clients.join(&rt);
-    match ended {
-        Ok(()) => Ok(sent_differs(&replies?, scene)),
-        Err(fault) => Ok(Some(Difference::Mount(fault))),
-    }
+    let (start, word) = (scene.start, &closing);
+    play_beside(rt, alloc, scene, word, move || {
+        run_socketed(rt, alloc, start, word)
+    })
 }

@@ -22,10 +22,8 @@ pub struct Stage {
 
 impl Stage {
     pub fn new(alloc: Global, node: Node<MemDisk>) -> Result<Stage, Fault> {
-        match Desk::open(alloc, node) {
-            Ok((desk, seat)) => Ok(Stage { desk, seat }),
-            Err(_) => Err(Fault::NoMemory),
-        }
+        let (desk, seat) = Desk::open(alloc, node)?;
+        Ok(Stage { desk, seat })
     }
 
     /// Serves the client of a link by a seat of its own.
@@ -39,7 +37,9 @@ impl Stage {
         let Ok(mut seat) = self.desk.split(rt, &mut self.seat) else {
             return Err(Fault::Worn);
         };
-        serve_seat(rt, alloc, &self.desk, &mut seat, link, budget)
+        let ended = serve_seat(rt, alloc, &self.desk, &mut seat, link, budget);
+        drop(seat);
+        ended
     }
 
     /// How many steps the node has made.

@@ -8,20 +8,17 @@ use crate::comparing::replies_differ;
 use crate::difference::Difference;
 use crate::fault::Fault;
 use crate::flag::Flag;
-use crate::making::Jobs;
-use crate::scene::{Session, Start};
+use crate::scene::{Scene, Session};
 use crate::socket_client::{connect, read_replies, read_to_end};
-use crate::socketed::run_socketed;
-use crate::waiting::{OPEN_AND_LOCK, two_sessions};
-use lf_base::{Closing, Handles};
-use node_mount::System;
+use crate::waiting::first_two;
+use lf_base::Handles;
 use std::alloc::Global;
 use std::io::Write;
-use std::thread::{self, JoinHandle};
+use std::thread;
 use std::time::Duration;
 
-/// How many bytes the replies to OPEN and a lock have.
-const OPENED_AND_LOCKED: usize = 48;
+/// How many bytes the replies to the first two messages have.
+const FIRST_REPLIES: usize = 48;
 
 /// How long the lock is held after the other client has asked for it, in milliseconds.
 const HELD_MS: u64 = 50;
@@ -32,27 +29,6 @@ struct Words {
     held: Flag,
     asked: Flag,
     unlocking: Flag,
-}
-
-impl Words {
-    /// The same words, held twice.
-    fn two(alloc: Global) -> Result<(Words, Words), Fault> {
-        let ((held, is_held), (asked, is_asked)) = (Flag::two(alloc)?, Flag::two(alloc)?);
-        let (unlocking, is_unlocking) = Flag::two(alloc)?;
-        let theirs = Words {
-            held: is_held,
-            asked: is_asked,
-            unlocking: is_unlocking,
-        };
-        Ok((
-            Words {
-                held,
-                asked,
-                unlocking,
-            },
-            theirs,
-        ))
-    }
 }
 
 /// What a client was sent, and whether the lock was granted in its turn.
@@ -69,10 +45,10 @@ fn hold<R: Handles>(
     requests: &[u8],
     words: &Words,
 ) -> Result<ClientReplies, Fault> {
-    let (first, unlock) = requests.split_at(requests.len().min(OPEN_AND_LOCK));
+    let (first, unlock) = first_two(requests);
     let mut stream = connect(rt)?;
     stream.write_all(first)?;
-    let mut replies = read_replies(alloc, &mut stream, OPENED_AND_LOCKED)?;
+    let mut replies = read_replies(alloc, &mut stream, FIRST_REPLIES)?;
     words.held.raise();
     words.asked.wait(rt);
     thread::sleep(rt, Duration::from_millis(HELD_MS));
@@ -96,44 +72,10 @@ fn wait_for<R: Handles>(
     let mut stream = connect(rt)?;
     stream.write_all(requests)?;
     words.asked.raise();
-    let mut replies = read_replies(alloc, &mut stream, OPENED_AND_LOCKED)?;
+    let mut replies = read_replies(alloc, &mut stream, FIRST_REPLIES)?;
     let in_turn = words.unlocking.is_raised();
     read_to_end(&mut stream, &mut replies)?;
     Ok(ClientReplies { replies, in_turn })
-}
-
-fn start_holder<R: Handles + Copy + Send + 'static>(
-    rt: R,
-    alloc: Global,
-    requests: Vec<u8>,
-    words: Words,
-) -> Result<JoinHandle<Result<ClientReplies, Fault>>, Fault> {
-    let started = thread::spawn(&rt, move || -> Result<ClientReplies, Fault> {
-        hold(&rt, alloc, requests.as_slice(), &words)
-    });
-    match started {
-        Ok(client) => Ok(client),
-        Err(_) => Err(Fault::Thread),
-    }
-}
-
-/// After this client no more links come.
-fn start_waiter<R: Handles + Copy + Send + 'static>(
-    rt: R,
-    alloc: Global,
-    requests: Vec<u8>,
-    words: Words,
-    closing: Closing,
-) -> Result<JoinHandle<Result<ClientReplies, Fault>>, Fault> {
-    let started = thread::spawn(&rt, move || -> Result<ClientReplies, Fault> {
-        let sent = wait_for(&rt, alloc, requests.as_slice(), &words);
-        closing.close();
-        sent
-    });
-    match started {
-        Ok(client) => Ok(client),
-        Err(_) => Err(Fault::Thread),
-    }
 }
 
 /// How what a client was sent differs.
@@ -148,25 +90,45 @@ fn client_differs(sent: &ClientReplies, number: usize, session: &Session) -> Opt
     replies_differ(&sent.replies, number, session)
 }
 
-/// Two clients of the node of a start want one lock. Says how what they were sent differs.
-pub fn play_two_links<R: System + Send + 'static>(
+fn play_holder<R: Handles>(
+    rt: &R,
+    alloc: Global,
+    session: &Session,
+    words: &Words,
+) -> Result<Option<Difference>, Fault> {
+    let sent = hold(rt, alloc, &session.requests, words)?;
+    Ok(client_differs(&sent, 0, session))
+}
+
+fn play_waiter<R: Handles>(
+    rt: &R,
+    alloc: Global,
+    session: &Session,
+    words: &Words,
+) -> Result<Option<Difference>, Fault> {
+    let sent = wait_for(rt, alloc, &session.requests, words)?;
+    Ok(client_differs(&sent, 1, session))
+}
+
+/// Plays the two clients of a scene. Says how what they were sent differs.
+pub fn play_two_clients<R: Handles + Copy + Send>(
     rt: R,
     alloc: Global,
-    start: &Start,
+    scene: &Scene,
 ) -> Result<Option<Difference>, Fault> {
-    let (holding, waiting) = two_sessions(alloc)?;
-    let (words, theirs) = Words::two(alloc)?;
-    let closing = Closing::new(alloc)?;
-    let word = closing.another()?;
-    let requests = Vec::from_slice(alloc, &holding.requests)?;
-    let holder = start_holder(rt, alloc, requests, words)?;
-    let requests = Vec::from_slice(alloc, &waiting.requests)?;
-    let waiter = start_waiter(rt, alloc, requests, theirs, closing)?;
-    let ended = run_socketed(rt, alloc, start, Jobs::InThreads, word)?;
-    let (held, waited) = (holder.join(&rt), waiter.join(&rt));
-    if let Err(fault) = ended {
-        return Ok(Some(Difference::Mount(fault)));
-    }
-    let differs = client_differs(&held?, 0, &holding);
-    Ok(differs.or(client_differs(&waited?, 1, &waiting)))
+    let [holding, waiting] = scene.sessions.as_slice() else {
+        return Err(Fault::Record);
+    };
+    let words = Words {
+        held: Flag::new(),
+        asked: Flag::new(),
+        unlocking: Flag::new(),
+    };
+    let said = &words;
+    let (held, waited) = thread::join(
+        &rt,
+        move || play_holder(&rt, alloc, holding, said),
+        move || play_waiter(&rt, alloc, waiting, said),
+    );
+    Ok(held?.or(waited?))
 }
