@@ -1,88 +1,67 @@
 //! Replicas that lack what their primary has: each gets it by one stream, from where it stands on.
 
-use crate::clients::{commit, unlink_of};
+use crate::clients::commit;
 use crate::fault::Fault;
 use crate::lines::{ends, line};
-use crate::links::{follows, reply_to};
-use crate::nodes::Part;
-use crate::stage::{Stage, position};
-use std::alloc::Global;
+use crate::links::catches_up;
+use crate::stage::{Stage, renew_both};
+use crate::wishes::Wish;
 use std::io::Print;
 use std::sync::Wait;
 
 /// The replica asks for a stream and follows it.
-fn catches_up<R: Wait + Print + Copy>(
+fn follows_up<R: Wait + Print + Copy>(
     rt: R,
-    alloc: Global,
     primary: &mut Stage,
     replica: &mut Stage,
 ) -> Result<(), Fault> {
-    let reply = reply_to(rt, alloc, primary, replica)?;
-    let (_, end) = follows(rt, alloc, replica, &reply)?;
-    ends(&rt, reply.len(), end, position(rt, replica)?)
+    ends(&rt, catches_up(rt, primary, replica)?)
 }
 
-/// The primary of another database sends it to the replica.
-fn sends_other<R: Wait + Copy>(
-    rt: R,
-    alloc: Global,
-    other: &mut Stage,
-    replica: &mut Stage,
-) -> Result<(), Fault> {
-    commit(rt, alloc, other, &[(1, 9)])?;
-    let reply = reply_to(rt, alloc, other, replica)?;
-    follows(rt, alloc, replica, &reply)?;
+/// The stranger becomes a replica of another database.
+fn stray<R: Wait + Copy>(rt: R, other: &mut Stage, stranger: &mut Stage) -> Result<(), Fault> {
+    renew_both(other, stranger)?;
+    commit(rt, other, &[(1, 9)])?;
+    catches_up(rt, other, stranger)?;
     Ok(())
 }
 
-/// A replica of another database.
-fn stranger<R: Wait + Copy>(rt: R, alloc: Global) -> Result<Stage, Fault> {
-    let mut other = Stage::new(alloc, Part::Primary)?;
-    let mut replica = Stage::new(alloc, Part::Replica)?;
-    match sends_other(rt, alloc, &mut other, &mut replica) {
-        Ok(()) => Ok(replica),
-        Err(why) => Err(why),
-    }
-}
-
-/// The replica of another database gets all pages as one file.
-fn print_stranger<R: Wait + Print + Copy>(
+/// Three files, none, and one.
+fn send_files<R: Wait + Print + Copy>(
     rt: R,
-    alloc: Global,
-    primary: &mut Stage,
-) -> Result<(), Fault> {
-    let mut replica = stranger(rt, alloc)?;
-    catches_up(rt, alloc, primary, &mut replica)
-}
-
-/// Three files.
-fn commits<R: Wait + Copy>(rt: R, alloc: Global, primary: &mut Stage) -> Result<(), Fault> {
-    commit(rt, alloc, primary, &[(1, 1)])?;
-    commit(rt, alloc, primary, &[(2, 2)])?;
-    commit(rt, alloc, primary, &[(1, 4)])
-}
-
-/// Three files, none, one, all pages as one file, and a drop.
-fn play<R: Wait + Print + Copy>(
-    rt: R,
-    alloc: Global,
     primary: &mut Stage,
     replica: &mut Stage,
 ) -> Result<(), Fault> {
-    commits(rt, alloc, primary)?;
-    catches_up(rt, alloc, primary, replica)?;
-    catches_up(rt, alloc, primary, replica)?;
-    commit(rt, alloc, primary, &[(2, 8)])?;
-    catches_up(rt, alloc, primary, replica)?;
-    print_stranger(rt, alloc, primary)?;
-    primary.ask(rt, &unlink_of(alloc, b"app")?)?;
-    catches_up(rt, alloc, primary, replica)
+    commit(rt, primary, &[(1, 1)])?;
+    commit(rt, primary, &[(2, 2)])?;
+    commit(rt, primary, &[(1, 4)])?;
+    follows_up(rt, primary, replica)?;
+    follows_up(rt, primary, replica)?;
+    commit(rt, primary, &[(2, 8)])?;
+    follows_up(rt, primary, replica)
 }
 
-/// What a primary sends replicas that are behind it.
-pub fn print_behind<R: Wait + Print + Copy>(rt: R, alloc: Global) -> Result<(), Fault> {
+/// A drop.
+fn send_drop<R: Wait + Print + Copy>(
+    rt: R,
+    primary: &mut Stage,
+    replica: &mut Stage,
+) -> Result<(), Fault> {
+    primary.ask(rt, Wish::Unlink(b"app"))?;
+    follows_up(rt, primary, replica)
+}
+
+/// What a primary sends replicas that are behind it: files, all pages as one file, and a drop.
+pub fn print_behind<R: Wait + Print + Copy>(
+    rt: R,
+    primary: &mut Stage,
+    replica: &mut Stage,
+    stranger: &mut Stage,
+) -> Result<(), Fault> {
     line(&rt, "replicas that are behind")?;
-    let mut primary = Stage::new(alloc, Part::Primary)?;
-    let mut replica = Stage::new(alloc, Part::Replica)?;
-    play(rt, alloc, &mut primary, &mut replica)
+    stray(rt, primary, stranger)?;
+    renew_both(primary, replica)?;
+    send_files(rt, primary, replica)?;
+    follows_up(rt, primary, stranger)?;
+    send_drop(rt, primary, replica)
 }

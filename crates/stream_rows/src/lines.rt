@@ -1,8 +1,7 @@
 //! What is printed.
 
 use crate::fault::Fault;
-use lf_base::Pos;
-use replica_apply::FollowEnd;
+use crate::links::Followed;
 use std::io::Print;
 
 /// One line.
@@ -17,14 +16,9 @@ pub fn shows(rt: &impl Print, what: &str, so: bool) -> Result<(), Fault> {
     Ok(())
 }
 
-/// Where a node stands.
-pub fn stands(rt: &impl Print, who: &str, at: Pos) -> Result<(), Fault> {
-    println!(rt; "  {who}: at {:x}/{:016x}", at.txid, at.sum)?;
-    Ok(())
-}
-
-/// How a replica that was given so many bytes ends, and where it stands then.
-pub fn ends(rt: &impl Print, given: usize, end: FollowEnd, at: Pos) -> Result<(), Fault> {
+/// How a replica ends, and where it stands.
+pub fn ends(rt: &impl Print, followed: Followed) -> Result<(), Fault> {
+    let Followed { given, end, at } = followed;
     println!(rt;
         "  replica, given {given} bytes: {end:?}, at {:x}/{:016x}",
         at.txid, at.sum

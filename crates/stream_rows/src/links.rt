@@ -1,8 +1,8 @@
 //! What is written on links in memory.
 
 use crate::fault::Fault;
-use crate::stage::Stage;
-use lf_base::{MemLink, SessionEnd};
+use crate::stage::{Stage, position};
+use lf_base::{MemLink, Pos, SessionEnd};
 use replica_apply::FollowEnd;
 use std::alloc::Global;
 use std::sync::Wait;
@@ -10,58 +10,80 @@ use std::sync::Wait;
 /// How many bytes a link takes.
 const ROOM: usize = 4_096;
 
-/// How many turns a session has.
-pub const TURNS: u64 = 40;
+/// How a replica ends that was given so many bytes, and where it stands then.
+#[derive(Clone, Copy)]
+pub struct Followed {
+    pub given: usize,
+    pub end: FollowEnd,
+    pub at: Pos,
+}
 
 fn link_of(alloc: Global, input: &[u8]) -> Result<MemLink, Fault> {
     let input = Vec::from_slice(alloc, input)?;
     Ok(MemLink::new(alloc, input, ROOM, Vec::new(alloc))?)
 }
 
+/// The bytes that a link took.
+fn taken(link: &MemLink) -> Result<Vec<u8>, Fault> {
+    Ok(link.watch().bytes()?)
+}
+
 /// What a primary writes to a request, and how its session ends.
 pub fn serves<R: Wait + Copy>(
     rt: R,
-    alloc: Global,
     primary: &mut Stage,
     request: &[u8],
 ) -> Result<(Vec<u8>, SessionEnd), Fault> {
-    let mut link = link_of(alloc, request)?;
-    let watch = link.watch();
-    let end = primary.serve(rt, alloc, &mut link, TURNS)?;
-    Ok((watch.bytes()?, end))
-}
-
-/// What a replica writes that is given a reply, and how it ends.
-pub fn follows<R: Wait + Copy>(
-    rt: R,
-    alloc: Global,
-    replica: &mut Stage,
-    reply: &[u8],
-) -> Result<(Vec<u8>, FollowEnd), Fault> {
-    let mut link = link_of(alloc, reply)?;
-    let watch = link.watch();
-    let end = replica.follow(rt, alloc, &mut link, TURNS)?;
-    Ok((watch.bytes()?, end))
+    let mut link = link_of(primary.alloc, request)?;
+    let end = primary.serve(rt, &mut link)?;
+    Ok((taken(&link)?, end))
 }
 
 /// The request that a replica writes where it stands.
-pub fn request_by<R: Wait + Copy>(
-    rt: R,
-    alloc: Global,
-    replica: &mut Stage,
-) -> Result<Vec<u8>, Fault> {
-    let (request, _) = follows(rt, alloc, replica, &[])?;
-    Ok(request)
+fn request_by<R: Wait + Copy>(rt: R, replica: &mut Stage) -> Result<Vec<u8>, Fault> {
+    let mut link = link_of(replica.alloc, &[])?;
+    replica.follow(rt, &mut link)?;
+    taken(&link)
 }
 
 /// What the primary writes to the request of a replica.
 pub fn reply_to<R: Wait + Copy>(
     rt: R,
-    alloc: Global,
     primary: &mut Stage,
     replica: &mut Stage,
 ) -> Result<Vec<u8>, Fault> {
-    let request = request_by(rt, alloc, replica)?;
-    let (reply, _) = serves(rt, alloc, primary, &request)?;
+    let request = request_by(rt, replica)?;
+    let (reply, _) = serves(rt, primary, &request)?;
     Ok(reply)
+}
+
+/// How a replica ends that is given a reply.
+fn ends_by<R: Wait + Copy>(rt: R, replica: &mut Stage, reply: &[u8]) -> Result<FollowEnd, Fault> {
+    let mut link = link_of(replica.alloc, reply)?;
+    replica.follow(rt, &mut link)
+}
+
+/// A replica follows a reply to its end.
+pub fn follows<R: Wait + Copy>(
+    rt: R,
+    replica: &mut Stage,
+    reply: &[u8],
+) -> Result<Followed, Fault> {
+    let end = ends_by(rt, replica, reply)?;
+    let at = position(rt, replica)?;
+    Ok(Followed {
+        given: reply.len(),
+        end,
+        at,
+    })
+}
+
+/// A replica asks for a stream, and follows it.
+pub fn catches_up<R: Wait + Copy>(
+    rt: R,
+    primary: &mut Stage,
+    replica: &mut Stage,
+) -> Result<Followed, Fault> {
+    let reply = reply_to(rt, primary, replica)?;
+    follows(rt, replica, &reply)
 }

@@ -1,70 +1,77 @@
 //! A node at its desk, with a seat of which others are split.
+ghost use Rattle.std.specs.Prelude.{IfOk};
 ghost use Rattle.turn_desk.specs.Seats.{IsOf};
 
 use crate::fault::Fault;
 use crate::nodes::{MemNode, Part, name, new_node};
-use lf_base::{FixedClock, MemLink, NoPause, Pos, SessionEnd};
-use node_core::{Answer, Ask};
+use crate::wishes::{NOW, Wish, ask_of};
+use lf_base::{FixedClock, Link, Name, NoPause, Pos, SessionEnd};
+use lf_disk::Disk;
+use node_core::{Answer, Node};
 use replica_apply::{FollowEnd, follow};
 use std::alloc::Global;
 use std::sync::Wait;
 use stream_primary::serve_http;
-use turn_desk::{Desk, Seat};
+use turn_desk::{Desk, Machine, Seat};
 
-/// The moment at which everything is asked.
-pub const NOW: u64 = 0;
+/// How many turns a session has.
+const TURNS: u64 = 40;
 
 #[derive(Drop)]
 pub struct Stage {
+    pub alloc: Global,
     desk: Desk<MemNode>,
     seat: Seat<MemNode>,
+    name: Name,
     ghost of: { IsOf seat desk },
 }
 
 impl Stage {
     /// The desk of a node of a database that was never written.
     pub fn new(alloc: Global, part: Part) -> Result<Stage, Fault> {
+        let name = name(alloc)?;
         let node = new_node(alloc, part)?;
-        match Desk::open(alloc, node) {
-            Ok((desk, seat)) => Ok(Stage { desk, seat }),
-            Err(_) => Err(Fault::NoMemory),
-        }
+        let (desk, seat) = desk_of(alloc, node)?;
+        Ok(Stage {
+            alloc,
+            desk,
+            seat,
+            name,
+        })
     }
 
     /// One step of the node.
-    pub fn ask<R: Wait + Copy>(&mut self, rt: R, ask: &Ask) -> Result<Answer, Fault> {
-        match self.desk.step(rt, &mut self.seat, ask) {
-            Ok(answer) => Ok(answer),
-            Err(_) => Err(Fault::Worn),
-        }
+    pub fn ask<R: Wait + Copy>(&mut self, rt: R, wish: Wish) -> Result<Answer, Fault> {
+        ask_by(rt, self.alloc, &self.desk, &mut self.seat, wish)
+    }
+
+    /// One step for each wish.
+    pub fn asks<R: Wait + Copy>(&mut self, rt: R, wishes: &[Wish]) -> Result<(), Fault> {
+        ask_each(rt, self.alloc, &self.desk, &mut self.seat, wishes)
     }
 
     /// Serves one request over a link, by a seat of its own.
-    pub fn serve<R: Wait + Copy>(
+    pub fn serve<R: Wait + Copy, L: Link>(
         &mut self,
         rt: R,
-        alloc: Global,
-        link: &mut MemLink,
-        budget: u64,
+        link: &mut L,
     ) -> Result<SessionEnd, Fault> {
         let Ok(mut seat) = self.desk.split(rt, &mut self.seat) else {
             return Err(Fault::Worn);
         };
-        serve_by(rt, alloc, &self.desk, &mut seat, link, budget)
+        Ok(serve_by(rt, self.alloc, &self.desk, &mut seat, &self.name, link))
     }
 
     /// Follows the stream of a link, by a seat of its own.
-    pub fn follow<R: Wait + Copy>(
+    pub fn follow<R: Wait + Copy, L: Link>(
         &mut self,
         rt: R,
-        alloc: Global,
-        link: &mut MemLink,
-        budget: u64,
+        link: &mut L,
     ) -> Result<FollowEnd, Fault> {
         let Ok(mut seat) = self.desk.split(rt, &mut self.seat) else {
             return Err(Fault::Worn);
         };
-        follow_by(rt, alloc, &self.desk, &mut seat, link, budget)
+        Ok(follow_by(rt, self.alloc, &self.desk, &mut seat, &self.name, link))
     }
 
     /// A second session makes its first ask, this one makes its asks, and then the second one, whose
@@ -72,110 +79,136 @@ impl Stage {
     pub fn ask_after<R: Wait + Copy>(
         &mut self,
         rt: R,
-        asks: &[Ask],
-        first: &Ask,
-        second: &Ask,
+        wishes: &[Wish],
+        first: Wish,
+        second: Wish,
     ) -> Result<Answer, Fault> {
-        let Stage { desk, seat } = self;
-        ask_between(rt, desk, seat, asks, first, second)
+        let Ok(mut other) = self.desk.split(rt, &mut self.seat) else {
+            return Err(Fault::Worn);
+        };
+        ask_by(rt, self.alloc, &self.desk, &mut other, first)?;
+        ask_each(rt, self.alloc, &self.desk, &mut self.seat, wishes)?;
+        meet(rt, &self.desk, &mut self.seat, &mut other)?;
+        ask_by(rt, self.alloc, &self.desk, &mut other, second)
     }
+}
+
+/// The desk of a machine, and its first seat.
+fn desk_of<M: Machine + Drop>(alloc: Global, machine: M) -> Result<(Desk<M>, Seat<M>), Fault>
+where
+    M::Ask: Drop,
+    M::Answer: Drop,
+    ensures { IfOk result (λ made. IsOf made.1 made.0) }
+{
+    match Desk::open(alloc, machine) {
+        Ok(made) => Ok(made),
+        Err(_) => Err(Fault::NoMemory),
+    }
+}
+
+/// The node becomes one of a database that was never written.
+pub fn renew(stage: &mut Stage, part: Part) -> Result<(), Fault> {
+    *stage = Stage::new(stage.alloc, part)?;
+    Ok(())
+}
+
+/// A primary and a replica of a database that was never written.
+pub fn renew_both(primary: &mut Stage, replica: &mut Stage) -> Result<(), Fault> {
+    renew(primary, Part::Primary)?;
+    renew(replica, Part::Replica)
 }
 
 /// Where the node stands.
 pub fn position<R: Wait + Copy>(rt: R, stage: &mut Stage) -> Result<Pos, Fault> {
-    match stage.ask(rt, &Ask::Where)? {
+    match stage.ask(rt, Wish::Where)? {
         Answer::At(position) => Ok(position),
         _ => Err(Fault::Worn),
     }
 }
 
-fn serve_by<R: Wait + Copy>(
+fn serve_by<R: Wait + Copy, D: Disk, L: Link>(
     rt: R,
     alloc: Global,
-    desk: &Desk<MemNode>,
-    seat: &mut Seat<MemNode>,
-    link: &mut MemLink,
-    budget: u64,
-) -> Result<SessionEnd, Fault>
+    desk: &Desk<Node<D>>,
+    seat: &mut Seat<Node<D>>,
+    name: &Name,
+    link: &mut L,
+) -> SessionEnd
     requires { IsOf seat.old desk.now }
 {
-    let name = name(alloc)?;
     let mut clock = FixedClock::new(NOW);
     let mut pause = NoPause::new();
-    Ok(serve_http(
-        rt, alloc, desk, seat, &name, link, &mut clock, &mut pause, budget,
-    ))
+    serve_http(
+        rt, alloc, desk, seat, name, link, &mut clock, &mut pause, TURNS,
+    )
 }
 
-fn follow_by<R: Wait + Copy>(
+fn follow_by<R: Wait + Copy, D: Disk, L: Link>(
     rt: R,
     alloc: Global,
-    desk: &Desk<MemNode>,
-    seat: &mut Seat<MemNode>,
-    link: &mut MemLink,
-    budget: u64,
-) -> Result<FollowEnd, Fault>
+    desk: &Desk<Node<D>>,
+    seat: &mut Seat<Node<D>>,
+    name: &Name,
+    link: &mut L,
+) -> FollowEnd
     requires { IsOf seat.old desk.now }
 {
-    let name = name(alloc)?;
     let mut clock = FixedClock::new(NOW);
     let mut pause = NoPause::new();
-    Ok(follow(
-        rt, alloc, desk, seat, &name, link, &mut clock, &mut pause, budget,
-    ))
+    follow(
+        rt, alloc, desk, seat, name, link, &mut clock, &mut pause, TURNS,
+    )
 }
 
 fn ask_by<R: Wait + Copy>(
     rt: R,
+    alloc: Global,
     desk: &Desk<MemNode>,
     seat: &mut Seat<MemNode>,
-    ask: &Ask,
+    wish: Wish,
 ) -> Result<Answer, Fault>
     requires { IsOf seat.old desk.now }
     ensures { IsOf seat.new desk.now }
 {
-    match desk.step(rt, seat, ask) {
+    let ask = ask_of(alloc, wish)?;
+    match desk.step(rt, seat, &ask) {
         Ok(answer) => Ok(answer),
         Err(_) => Err(Fault::Worn),
     }
 }
 
-/// One step for each ask.
+/// One step for each wish.
 fn ask_each<R: Wait + Copy>(
     rt: R,
+    alloc: Global,
     desk: &Desk<MemNode>,
     seat: &mut Seat<MemNode>,
-    asks: &[Ask],
+    wishes: &[Wish],
 ) -> Result<(), Fault>
     requires { IsOf seat.old desk.now }
     ensures { IsOf seat.new desk.now }
 {
-    for ask in asks {
-        ask_by(rt, desk, seat, ask)?;
+    for wish in wishes {
+        ask_by(rt, alloc, desk, seat, *wish)?;
     }
     Ok(())
 }
 
-/// What another seat is answered to its second ask, between whose asks this one's stand.
-fn ask_between<R: Wait + Copy>(
+/// The other seat joins a split of this one.
+fn meet<R: Wait + Copy>(
     rt: R,
     desk: &Desk<MemNode>,
     seat: &mut Seat<MemNode>,
-    asks: &[Ask],
-    first: &Ask,
-    second: &Ask,
-) -> Result<Answer, Fault>
-    requires { IsOf seat.old desk.now }
-    ensures { IsOf seat.new desk.now }
+    other: &mut Seat<MemNode>,
+) -> Result<(), Fault>
+    requires this { IsOf seat.old desk.now }
+    requires that { IsOf other.old desk.now }
+    ensures this { IsOf seat.new desk.now }
+    ensures that { IsOf other.new desk.now }
 {
-    let Ok(mut other) = desk.split(rt, seat) else {
-        return Err(Fault::Worn);
-    };
-    ask_by(rt, desk, &mut other, first)?;
-    ask_each(rt, desk, seat, asks)?;
     let Ok(word) = desk.split(rt, seat) else {
         return Err(Fault::Worn);
     };
-    desk.join(&mut other, word);
-    ask_by(rt, desk, &mut other, second)
+    desk.join(other, word);
+    Ok(())
 }

@@ -31,21 +31,22 @@ fn append_zeros(bytes: &mut Vec<u8>, count: usize) -> Result<(), Fault> {
     Ok(())
 }
 
-/// Puts the file behind the bytes.
-fn append_file(bytes: &mut Vec<u8>) -> Result<(), Fault> {
-    bytes.extend_from_slice(FIRST)?;
-    append_zeros(bytes, 71)?;
-    bytes.push(1)?;
-    append_zeros(bytes, 516)?;
-    bytes.extend_from_slice(LAST)?;
-    Ok(())
-}
+/// The reply: its head, the file, and that the follower is level. Each piece, and how many zeros follow it.
+const REPLY: &[(&[u8], usize)] = &[
+    (HEAD, 0),
+    (FRONT, 0),
+    (FIRST, 71),
+    (b"\x01", 516),
+    (LAST, 0),
+    (READY, 0),
+];
 
-/// The reply: its head, the file, and that the follower is level.
+/// The bytes of the reply.
 pub fn reply(alloc: Global) -> Result<Vec<u8>, Fault> {
-    let mut bytes = Vec::from_slice(alloc, HEAD)?;
-    bytes.extend_from_slice(FRONT)?;
-    append_file(&mut bytes)?;
-    bytes.extend_from_slice(READY)?;
+    let mut bytes = Vec::new(alloc);
+    for (piece, zeros) in REPLY {
+        bytes.extend_from_slice(piece)?;
+        append_zeros(&mut bytes, *zeros)?;
+    }
     Ok(bytes)
 }
