@@ -1,7 +1,7 @@
 //! Numbers that a seed chooses.
 
 /// A linear congruential generator.
-#[derive(Clone, Copy, Debug, PartialEq, Eq)]
+#[derive(Clone, Copy)]
 pub struct Chance {
     state: u64,
 }

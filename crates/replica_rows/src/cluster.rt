@@ -1,14 +1,14 @@
 //! A primary and two replicas.
 
 use crate::fault::Fault;
+use crate::levels::gets_level;
 use crate::likeness::{image, is_as};
 use crate::lineage::Lineage;
 use crate::nodes::{MemNode, Part, position, renew, restart};
-use crate::turns::gets_level;
 use std::alloc::Global;
 
 /// One of the nodes.
-#[derive(Clone, Copy, Debug, PartialEq, Eq)]
+#[derive(Clone, Copy)]
 pub enum Who {
     Primary,
     Left,

@@ -15,7 +15,7 @@ pub const PAGES: u32 = 4;
 const FLAG: u64 = 1 << 63;
 
 /// A position, and the byte that each page is full of there. Those past the count are of no account.
-#[derive(Clone, Copy, Debug, PartialEq, Eq)]
+#[derive(Clone, Copy)]
 pub struct Stage {
     pub position: Pos,
     pub pages: [u8; 4],

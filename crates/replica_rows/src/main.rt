@@ -5,46 +5,32 @@
 mod chance;
 mod clients;
 mod cluster;
-mod drops;
 mod fault;
-mod following;
-mod given;
+mod files;
+mod levels;
 mod likeness;
 mod lineage;
-mod lines;
-mod log;
 mod nodes;
-mod primaries;
 mod readers;
-mod refusals;
 mod road;
+mod scenes;
 mod seeds;
 mod stops;
-mod tally;
 mod told;
 mod turns;
 
 use cluster::Cluster;
 use fault::Fault;
-use nodes::{MemNode, Part, new_node};
+use nodes::{MemNode, Part, new_node, stop};
 
-/// The scenes of two nodes. Each begins them anew.
-fn play_two(rt: HostRuntime, one: &mut MemNode, other: &mut MemNode) -> Result<(), Fault> {
-    following::print_following(rt, one, other)?;
-    primaries::print_primaries(rt, one, other)?;
-    log::print_log(rt, one)?;
-    readers::print_reader(rt, one, other)?;
-    drops::print_drop(rt, one, other)?;
-    refusals::print_refusals(rt, one, other)
-}
-
-/// The scenes of three.
-fn play_three(
+/// All scenes.
+fn play_all(
     rt: HostRuntime,
     one: &mut MemNode,
     other: &mut MemNode,
     third: &mut MemNode,
 ) -> Result<(), Fault> {
+    scenes::print_scenes(rt, one, other)?;
     stops::print_stops(rt, one, other, third)?;
     let mut cluster = Cluster {
         primary: one,
@@ -57,22 +43,22 @@ fn play_three(
 /// With a third node.
 fn play_with_third(rt: HostRuntime, one: &mut MemNode, other: &mut MemNode) -> Result<(), Fault> {
     let mut third = new_node(rt.alloc(), Part::Replica)?;
-    play_three(rt, one, other, &mut third)
-}
-
-/// All scenes.
-fn play_all(rt: HostRuntime, one: &mut MemNode, other: &mut MemNode) -> Result<(), Fault> {
-    play_two(rt, one, other)?;
-    play_with_third(rt, one, other)
+    let played = play_all(rt, one, other, &mut third);
+    stop(third);
+    played
 }
 
 /// With a second node.
 fn play_with_second(rt: HostRuntime, one: &mut MemNode) -> Result<(), Fault> {
     let mut other = new_node(rt.alloc(), Part::Replica)?;
-    play_all(rt, one, &mut other)
+    let played = play_with_third(rt, one, &mut other);
+    stop(other);
+    played
 }
 
 fn main(rt: HostRuntime) -> Result<(), Fault> {
     let mut one = new_node(rt.alloc(), Part::Primary)?;
-    play_with_second(rt, &mut one)
+    let played = play_with_second(rt, &mut one);
+    stop(one);
+    played
 }

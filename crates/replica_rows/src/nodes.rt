@@ -23,11 +23,23 @@ pub const NOWHERE: Pos = Pos { txid: 0, sum: 0 };
 const RETENTION: u64 = 100;
 
 /// What a node is in its cluster.
-#[derive(Clone, Copy, Debug, PartialEq, Eq)]
+#[derive(Clone, Copy)]
 pub enum Part {
     Primary,
     Replica,
 }
+
+/// How a disk fails.
+#[derive(Clone, Copy)]
+pub enum Failing {
+    /// At the call of a number alone.
+    At,
+    /// From there on.
+    From,
+}
+
+/// The number of a call that no disk comes to.
+pub const NEVER: u64 = u64::MAX;
 
 fn config(alloc: Global, part: Part) -> Result<NodeConfig, Fault> {
     let Ok(name) = Name::read(alloc, b"app") else {
@@ -36,20 +48,24 @@ fn config(alloc: Global, part: Part) -> Result<NodeConfig, Fault> {
     Ok(NodeConfig {
         name,
         node: 3,
-        candidate: part == Part::Primary,
+        candidate: matches!(part, Part::Primary),
         primary_host: Text::of(alloc, "")?,
         halt_ttl: 1_000,
         retention: RETENTION,
     })
 }
 
-/// A disk without files. Its call of the number `failing` fails, and every call from `stop` on.
-pub fn blank(alloc: Global, failing: Option<u64>, stop: Option<u64>) -> Result<MemDisk, Fault>
+/// A disk without files, which fails at a call.
+fn blank(alloc: Global, failing: Failing, call: u64) -> Result<MemDisk, Fault>
     ensures { IfOk result (λ disk. disk.calls ≡ []) }
 {
     let mut numbers = Vec::new(alloc);
-    if let Some(number) = failing {
-        numbers.push(number)?;
+    let stop = match failing {
+        Failing::At => None,
+        Failing::From => Some(call),
+    };
+    if stop.is_none() {
+        numbers.push(call)?;
     }
     match MemDisk::new(alloc, numbers, stop) {
         Ok(disk) => Ok(disk),
@@ -83,24 +99,41 @@ fn opened(alloc: Global, disk: MemDisk, part: Part) -> Result<MemNode, Fault>
     node_over(alloc, store, part)
 }
 
-/// A node of a database that was never written.
-pub fn new_node(alloc: Global, part: Part) -> Result<MemNode, Fault> {
-    let disk = blank(alloc, None, None)?;
-    opened(alloc, disk, part)
+/// A node of a database that was never written, on a disk that fails at a call.
+fn node_on(alloc: Global, part: Part, failing: Failing, call: u64) -> Result<MemNode, Fault> {
+    opened(alloc, blank(alloc, failing, call)?, part)
 }
 
-/// The node becomes one of a disk on which nothing was called.
-pub fn reopen(alloc: Global, node: &mut MemNode, disk: MemDisk, part: Part) -> Result<(), Fault>
-    requires { disk.calls ≡ [] }
-{
-    *node = opened(alloc, disk, part)?;
+/// A node of a database that was never written.
+pub fn new_node(alloc: Global, part: Part) -> Result<MemNode, Fault> {
+    node_on(alloc, part, Failing::From, NEVER)
+}
+
+/// The node is stopped. Elsewhere no node is dropped: that is long to prove.
+pub fn stop(node: MemNode) {
+    node.into_store();
+}
+
+/// Another node comes in its place.
+fn put(node: &mut MemNode, next: MemNode) {
+    stop(mem::replace(node, next));
+}
+
+/// The node becomes one of a database that was never written, on a disk that fails at a call.
+pub fn renew_on(
+    alloc: Global,
+    node: &mut MemNode,
+    part: Part,
+    failing: Failing,
+    call: u64,
+) -> Result<(), Fault> {
+    put(node, node_on(alloc, part, failing, call)?);
     Ok(())
 }
 
 /// The node becomes one of a database that was never written.
 pub fn renew(alloc: Global, node: &mut MemNode, part: Part) -> Result<(), Fault> {
-    let disk = blank(alloc, None, None)?;
-    reopen(alloc, node, disk, part)
+    renew_on(alloc, node, part, Failing::From, NEVER)
 }
 
 /// The node is stopped, and gives its disk. It becomes one of a database that was never written.
@@ -122,7 +155,8 @@ fn crashed(disk: MemDisk, choice: u64) -> Result<MemDisk, Fault>
 /// The node is stopped, its disk crashed, and it is opened again.
 pub fn restart(alloc: Global, node: &mut MemNode, part: Part, choice: u64) -> Result<(), Fault> {
     let disk = crashed(take_disk(alloc, node)?, choice)?;
-    reopen(alloc, node, disk, part)
+    put(node, opened(alloc, disk, part)?);
+    Ok(())
 }
 
 /// One step of a node.

@@ -15,7 +15,7 @@ pub struct Sent {
 }
 
 /// How often what happened.
-#[derive(Clone, Copy, Debug, PartialEq, Eq)]
+#[derive(Clone, Copy)]
 pub struct Counts {
     pub sent: u64,
     pub applied: u64,

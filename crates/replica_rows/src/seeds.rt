@@ -3,11 +3,10 @@
 use crate::clients::{Filled, commit};
 use crate::cluster::{Cluster, Who};
 use crate::fault::Fault;
+use crate::levels::asked_by;
 use crate::lineage::PAGES;
-use crate::lines::line;
 use crate::nodes::{NOW, ask, position};
 use crate::road::{Road, Sent, count};
-use crate::turns::asked_by;
 use lf_base::Pos;
 use node_core::{Answer, Ask};
 use std::alloc::Global;
@@ -152,17 +151,14 @@ fn print_end(
     let is_last = stands == road.lineage.last().position;
     let counts = road.counts;
     println!(rt;
-        "  seed {seed}: {} sent, {} applied, {} refused, {} lost, {} pruned, {} restarts, {} astray",
+        "  seed {seed}: {} sent, {} applied, {} refused, {} lost, {} pruned, {} restarts, {} astray\n    all three at {:x}/{:016x}: {}",
         counts.sent,
         counts.applied,
         counts.refused,
         counts.lost,
         counts.pruned,
         counts.restarts,
-        counts.astray
-    )?;
-    println!(rt;
-        "    all three at {:x}/{:016x}: {}",
+        counts.astray,
         stands.txid,
         stands.sum,
         together && is_last
@@ -188,10 +184,7 @@ fn print_seed(rt: HostRuntime, seed: u64, cluster: &mut Cluster<'_>) -> Result<(
 
 /// The seeds, one after another.
 pub fn print_seeds(rt: HostRuntime, cluster: &mut Cluster<'_>) -> Result<(), Fault> {
-    line(
-        rt,
-        "three nodes whose files are lost, repeated and overtaken",
-    )?;
+    println!(rt; "three nodes whose files are lost, repeated and overtaken")?;
     for seed in 1..=SEEDS {
         print_seed(rt, seed, cluster)?;
     }

@@ -1,15 +1,11 @@
 //! A replica at transaction 9 installs a snapshot of the transactions 1 to 6, and each call that it
 //! makes of its disk for it fails in turn. Then its disk is crashed, and it is restarted.
-ghost use Rattle.std.specs.Prelude.{◌≡◌, []};
 
 use crate::fault::Fault;
-use crate::given::{Files, Given, files_of};
+use crate::files::{Files, files_of};
+use crate::levels::gets_level;
 use crate::likeness::is_as;
-use crate::lines::line;
-use crate::nodes::{MemNode, Part, ask, blank, reopen, restart, take_disk};
-use crate::tally::{Outcome, Place, Tally};
-use crate::turns::gets_level;
-use lf_disk::MemDisk;
+use crate::nodes::{Failing, MemNode, NEVER, Part, ask, renew_on, restart, take_disk};
 use node_core::{Answer, Refusal};
 use std::alloc::Global;
 use txn_log::StoreFault;
@@ -17,20 +13,49 @@ use txn_log::StoreFault;
 /// What is left of each call that is pending: nothing, a part, a part and all in turns, all.
 const CHOICES: [u64; 4] = [0, u64::MAX / 3, 0x6666_6666_6666_6666, u64::MAX];
 
-/// How the disk fails.
-#[derive(Clone, Copy, Debug, PartialEq, Eq)]
-enum Failing {
-    /// At the call of a number alone.
-    At,
-    /// From there on.
-    From,
+/// Two primaries, at transaction 9 and at transaction 6, what they sent, and a replica.
+#[derive(Drop)]
+struct Install<'a> {
+    old: &'a mut MemNode,
+    new: &'a mut MemNode,
+    replica: &'a mut MemNode,
+    files: &'a Files,
 }
 
-/// The replica becomes one at transaction 9, on a disk without files.
-fn prepare(alloc: Global, files: &Files, replica: &mut MemNode, disk: MemDisk) -> Result<(), Fault>
-    requires { disk.calls ≡ [] }
-{
-    reopen(alloc, replica, disk, Part::Replica)?;
+/// How often each outcome came.
+#[derive(Clone, Copy)]
+struct Tally {
+    runs: u64,
+    /// The snapshot was refused for the disk, and once more since the store is broken.
+    refused: u64,
+    /// After its restart the replica is as the old primary, or as the new one.
+    before: u64,
+    after: u64,
+    /// It is as the new one after all that it is owed then.
+    level: u64,
+}
+
+const NONE: Tally = Tally {
+    runs: 0,
+    refused: 0,
+    before: 0,
+    after: 0,
+    level: 0,
+};
+
+fn count_if(number: &mut u64, so: bool) {
+    *number = number.saturating_add(u64::from(so));
+}
+
+/// The replica becomes one at transaction 9, on a disk that fails at a call.
+fn prepare(
+    alloc: Global,
+    files: &Files,
+    replica: &mut MemNode,
+    failing: Failing,
+    call: u64,
+) -> Result<(), Fault> {
+    renew_on(alloc, replica, Part::Replica, failing, call)?;
     ask(replica, 0, &files.base);
     ask(replica, 0, &files.ninth);
     Ok(())
@@ -38,26 +63,11 @@ fn prepare(alloc: Global, files: &Files, replica: &mut MemNode, disk: MemDisk) -
 
 /// How many calls of the disk there are before the install, and with it.
 fn counts(alloc: Global, files: &Files, replica: &mut MemNode) -> Result<(u64, u64), Fault> {
-    prepare(alloc, files, replica, blank(alloc, None, None)?)?;
+    prepare(alloc, files, replica, Failing::From, NEVER)?;
     let before = take_disk(alloc, replica)?.calls();
-    prepare(alloc, files, replica, blank(alloc, None, None)?)?;
+    prepare(alloc, files, replica, Failing::From, NEVER)?;
     ask(replica, 0, &files.snapshot);
     Ok((before, take_disk(alloc, replica)?.calls()))
-}
-
-/// The replica becomes one whose disk fails at a call.
-fn prepare_failing(
-    alloc: Global,
-    files: &Files,
-    replica: &mut MemNode,
-    how: Failing,
-    call: u64,
-) -> Result<(), Fault> {
-    let disk = match how {
-        Failing::At => blank(alloc, Some(call), None)?,
-        Failing::From => blank(alloc, None, Some(call))?,
-    };
-    prepare(alloc, files, replica, disk)
 }
 
 /// Whether the replica refuses the snapshot for its disk, and once more since its store is broken.
@@ -68,92 +78,70 @@ fn refuses(replica: &mut MemNode, files: &Files) -> bool {
         && matches!(second, Answer::Refused(Refusal::Store(StoreFault::Broken)))
 }
 
-fn place_of(replica: &mut MemNode, given: &mut Given<'_>) -> Place {
-    if is_as(replica, given.old) {
-        Place::Before
-    } else if is_as(replica, given.new) {
-        Place::After
-    } else {
-        Place::Elsewhere
-    }
-}
-
 /// Where the replica is after its restart, and whether it is level after what it is owed there.
-fn outcome_of(replica: &mut MemNode, given: &mut Given<'_>, is_refused: bool) -> Outcome {
-    let place = place_of(replica, given);
-    let is_level = gets_level(given.new, replica) && is_as(replica, given.new);
-    Outcome {
-        is_refused,
-        place,
-        is_level,
-    }
+fn judge(install: &mut Install<'_>, tally: &mut Tally) {
+    count_if(&mut tally.before, is_as(install.replica, install.old));
+    count_if(&mut tally.after, is_as(install.replica, install.new));
+    let is_level = gets_level(install.new, install.replica) && is_as(install.replica, install.new);
+    count_if(&mut tally.level, is_level);
 }
 
 /// One run: the call that fails, and what the crash leaves.
 fn run(
     alloc: Global,
-    given: &mut Given<'_>,
-    replica: &mut MemNode,
-    how: Failing,
+    install: &mut Install<'_>,
+    failing: Failing,
     call: u64,
     choice: u64,
-) -> Result<Outcome, Fault> {
-    prepare_failing(alloc, given.files, replica, how, call)?;
-    let is_refused = refuses(replica, given.files);
-    restart(alloc, replica, Part::Replica, choice)?;
-    Ok(outcome_of(replica, given, is_refused))
+    tally: &mut Tally,
+) -> Result<(), Fault> {
+    prepare(alloc, install.files, install.replica, failing, call)?;
+    count_if(&mut tally.runs, true);
+    count_if(&mut tally.refused, refuses(install.replica, install.files));
+    restart(alloc, install.replica, Part::Replica, choice)?;
+    judge(install, tally);
+    Ok(())
 }
 
-/// The runs of one call.
-fn runs_at(
-    alloc: Global,
-    given: &mut Given<'_>,
-    replica: &mut MemNode,
-    how: Failing,
-    call: u64,
-    tally: Tally,
-) -> Result<Tally, Fault> {
-    let mut tally = tally;
-    for choice in CHOICES {
-        tally = tally.with(run(alloc, given, replica, how, call, choice)?);
+/// All runs.
+fn runs(alloc: Global, install: &mut Install<'_>, failing: Failing) -> Result<Tally, Fault> {
+    let (before, end) = counts(alloc, install.files, install.replica)?;
+    let mut tally = NONE;
+    for call in before..end {
+        for choice in CHOICES {
+            run(alloc, install, failing, call, choice, &mut tally)?;
+        }
     }
     Ok(tally)
 }
 
-fn print_tally(rt: HostRuntime, tally: Tally) -> Result<(), Fault> {
-    println!(rt; "  runs: {}", tally.runs)?;
+fn print_failing(
+    rt: HostRuntime,
+    title: &str,
+    install: &mut Install<'_>,
+    failing: Failing,
+) -> Result<(), Fault> {
+    let tally = runs(rt.alloc(), install, failing)?;
     println!(rt;
-        "  refused, and broken until the restart: {}",
-        tally.refused
+        "{title}\n  runs: {}\n  refused, and broken until the restart: {}\n  at transaction 9 after it: {}\n  at transaction 6 after it: {}\n  level with the sender in the end: {}",
+        tally.runs, tally.refused, tally.before, tally.after, tally.level
     )?;
-    println!(rt; "  at transaction 9 after it: {}", tally.before)?;
-    println!(rt; "  at transaction 6 after it: {}", tally.after)?;
-    println!(rt; "  level with the sender in the end: {}", tally.level)?;
     Ok(())
 }
 
-fn print_failing(
-    rt: HostRuntime,
-    given: &mut Given<'_>,
-    replica: &mut MemNode,
-    how: Failing,
-) -> Result<(), Fault> {
-    let (before, end) = counts(rt.alloc(), given.files, replica)?;
-    let mut tally = Tally::none();
-    for call in before..end {
-        tally = runs_at(rt.alloc(), given, replica, how, call, tally)?;
-    }
-    print_tally(rt, tally)
-}
-
-fn print_both(rt: HostRuntime, given: &mut Given<'_>, replica: &mut MemNode) -> Result<(), Fault> {
-    line(
+fn print_both(rt: HostRuntime, install: &mut Install<'_>) -> Result<(), Fault> {
+    print_failing(
         rt,
         "a replica stops at each call of its disk while it installs a snapshot",
+        install,
+        Failing::From,
     )?;
-    print_failing(rt, given, replica, Failing::From)?;
-    line(rt, "one call of its disk fails meanwhile")?;
-    print_failing(rt, given, replica, Failing::At)
+    print_failing(
+        rt,
+        "one call of its disk fails meanwhile",
+        install,
+        Failing::At,
+    )
 }
 
 /// A stop at each call, and a fault of each call alone.
@@ -164,10 +152,11 @@ pub fn print_stops(
     replica: &mut MemNode,
 ) -> Result<(), Fault> {
     let files = files_of(rt.alloc(), old, new)?;
-    let mut given = Given {
+    let mut install = Install {
         old,
         new,
+        replica,
         files: &files,
     };
-    print_both(rt, &mut given, replica)
+    print_both(rt, &mut install)
 }

@@ -9,18 +9,14 @@ use std::fmt;
 use txn_log::StoreFault;
 
 /// An answer without the bytes that it has.
-#[derive(Clone, Copy, Debug, PartialEq, Eq)]
+#[derive(Clone, Copy)]
 pub enum Told {
-    Done,
+    Word(&'static str),
     /// A request on the files is refused with this number.
     Number(u32),
-    At(Pos),
-    Level(Pos),
+    At(&'static str, Pos),
     /// A file of these transactions, which leads to a position.
     File { min: u64, max: u64, after: Pos },
-    NoFile,
-    Gone,
-    Applied(Pos),
     Held(LockId),
     Pruned(u64),
     /// The file leads on from another position.
@@ -36,51 +32,41 @@ fn file_of(alloc: Global, bytes: &Bytes, after: Pos) -> Told {
             max: file.header.max,
             after,
         },
-        Err(_) => Told::NoFile,
-    }
-}
-
-/// Why a node refused.
-fn refused(why: Refusal) -> Told {
-    match why {
-        Refusal::Store(StoreFault::NotNext { have, want }) => Told::NotNext { have, want },
-        other => Told::Refused(other),
+        Err(_) => Told::Word("bytes that are no file"),
     }
 }
 
 /// What a node answered.
 pub fn told_by(alloc: Global, answer: &Answer) -> Told {
     match answer {
-        Answer::Done(_) | Answer::Quiet => Told::Done,
+        Answer::Done(_) | Answer::Quiet => Told::Word("done"),
         Answer::Refuse(number) => Told::Number(number.0),
-        Answer::At(at) => Told::At(*at),
-        Answer::Level(at) => Told::Level(*at),
+        Answer::At(at) => Told::At("at", *at),
+        Answer::Level(at) => Told::At("level at", *at),
         Answer::Item { ltx, after } => file_of(alloc, ltx, *after),
-        Answer::Gone => Told::Gone,
-        Answer::Applied(at) => Told::Applied(*at),
+        Answer::Gone => Told::Word("dropped"),
+        Answer::Applied(at) => Told::At("applied, at", *at),
         Answer::Held(lock) => Told::Held(*lock),
         Answer::Pruned(count) => Told::Pruned(*count),
-        Answer::Refused(why) => refused(*why),
+        Answer::Refused(Refusal::Store(StoreFault::NotNext { have, want })) => Told::NotNext {
+            have: *have,
+            want: *want,
+        },
+        Answer::Refused(why) => Told::Refused(*why),
     }
 }
 
 impl fmt::Display for Told {
     fn fmt<W: fmt::Write>(&self, f: &mut fmt::Formatter<W>) -> Result<(), fmt::Error> {
         match self {
-            Told::Done => f.write_str("done"),
+            Told::Word(word) => f.write_str(*word),
             Told::Number(number) => write!(f, "refused with {number}"),
-            Told::At(at) => write!(f, "at {:x}/{:016x}", at.txid, at.sum),
-            Told::Level(at) => write!(f, "level at {:x}/{:016x}", at.txid, at.sum),
-            Told::File { min, max, after } => {
-                write!(
-                    f,
-                    "file {min} to {max}, then at {:x}/{:016x}",
-                    after.txid, after.sum
-                )
-            }
-            Told::NoFile => f.write_str("bytes that are no file"),
-            Told::Gone => f.write_str("dropped"),
-            Told::Applied(at) => write!(f, "applied, at {:x}/{:016x}", at.txid, at.sum),
+            Told::At(word, at) => write!(f, "{word} {:x}/{:016x}", at.txid, at.sum),
+            Told::File { min, max, after } => write!(
+                f,
+                "file {min} to {max}, then at {:x}/{:016x}",
+                after.txid, after.sum
+            ),
             Told::Held(lock) => write!(f, "held back by {lock:?}"),
             Told::Pruned(count) => write!(f, "{count} files pruned"),
             Told::NotNext { have, want } => write!(

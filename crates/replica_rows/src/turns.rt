@@ -1,94 +1,168 @@
-//! A replica and its primary, one ask after another. Each answer is printed.
+//! What happens to a primary and its replica, one turn after another. Each answer is printed.
 
-use crate::clients::{Filled, commit};
+use crate::clients::{FOLDER, Filled, bytes, commit, creates, does};
 use crate::fault::Fault;
-use crate::lines::says;
-use crate::nodes::{MemNode, NOW, ask, position};
-use crate::told::{Told, told_by};
+use crate::levels::asked_by;
+use crate::nodes::{MemNode, NOW, Part, ask, position, renew, restart};
+use crate::readers::{opens, reads_around, wishes};
+use crate::told::told_by;
+use fuse_msgs::{LockWish, Op};
 use lf_base::Pos;
 use node_core::{Answer, Ask};
 
-/// More files than any of the followers here is owed.
+/// More files than a replica here is owed.
 const ENOUGH: u64 = 100;
 
-/// A client commits pages at the primary.
-pub fn commits(rt: HostRuntime, primary: &mut MemNode, pages: &[Filled]) -> Result<(), Fault> {
-    let answer = commit(rt.alloc(), primary, pages)?;
-    says(rt, "commit", told_by(rt.alloc(), &answer))?;
-    says(rt, "primary", Told::At(position(primary)))
+/// One of two nodes.
+#[derive(Clone, Copy)]
+pub enum Who {
+    Primary,
+    Replica,
 }
 
-/// What the primary owes a follower at a position.
-pub fn owes(rt: HostRuntime, primary: &mut MemNode, pos: Pos) -> Result<Answer, Fault> {
-    let answer = ask(primary, 0, &Ask::Hello { now: NOW, pos });
-    says(rt, "primary", told_by(rt.alloc(), &answer))?;
-    Ok(answer)
+#[derive(Clone, Copy)]
+pub enum Turn {
+    Title(&'static str),
+    /// The node becomes one of a database that was never written.
+    Begin(Who, Part),
+    /// It is stopped, its disk crashed, and it is opened again.
+    Restart(Who, Part),
+    /// A client commits these pages.
+    Commit(Who, &'static [Filled]),
+    /// The replica is given what it is owed, until it is owed nothing or doesn't take it.
+    Follow,
+    /// The node is asked what it owes at a position.
+    Ask(Who, Pos),
+    /// The primary is asked what it owes the replica.
+    Owe,
+    /// The node is given what was owed last.
+    Take(Who),
+    /// The primary is told that the database was dropped elsewhere.
+    Drop,
+    /// The primary's log keeps so many files.
+    Prune(u64),
+    /// A client unlinks the database file at the primary.
+    Unlink,
+    /// A client begins a journal at the replica.
+    Journal,
+    /// A reader opens the files of the replica.
+    Open,
+    /// It wishes its lock, or to be without.
+    Lock(LockWish),
+    /// It reads before the replica is given what was owed last, and after it.
+    ReadAround,
 }
 
-/// The replica is asked to take something. Whether it did.
-pub fn takes(rt: HostRuntime, replica: &mut MemNode, asked: &Ask) -> Result<bool, Fault> {
-    let told = told_by(rt.alloc(), &ask(replica, 0, asked));
-    says(rt, "replica", told)?;
-    Ok(matches!(told, Told::Applied(_)))
+/// Two nodes, what the primary owed the replica last, and whether a node took it.
+#[derive(Drop)]
+pub struct Pair<'a> {
+    pub primary: &'a mut MemNode,
+    pub replica: &'a mut MemNode,
+    pub owed: Option<Ask>,
+    pub took: bool,
 }
 
-/// The ask by which a replica takes what it is owed, if it is owed anything.
-pub fn asked_by(owed: Answer) -> Option<Ask> {
-    match owed {
-        Answer::Item { ltx, .. } => Some(Ask::Frame {
-            now: NOW,
-            bytes: ltx,
-        }),
-        Answer::Gone => Some(Ask::Drop { now: NOW }),
-        _ => None,
+impl Pair<'_> {
+    fn node(&mut self, who: Who) -> &mut MemNode {
+        match who {
+            Who::Primary => self.primary,
+            Who::Replica => self.replica,
+        }
     }
 }
 
-/// The replica is given what it is owed next. Whether it took something.
-fn follows_once(
-    rt: HostRuntime,
-    primary: &mut MemNode,
-    replica: &mut MemNode,
-) -> Result<bool, Fault> {
-    let pos = position(replica);
-    says(rt, "replica", Told::At(pos))?;
-    match asked_by(owes(rt, primary, pos)?) {
-        Some(asked) => takes(rt, replica, &asked),
-        None => Ok(false),
-    }
+/// What one of the nodes answered.
+pub fn says(rt: HostRuntime, who: &str, answer: &Answer) -> Result<(), Fault> {
+    println!(rt; "  {who}: {}", told_by(rt.alloc(), answer))?;
+    Ok(())
 }
 
-/// The replica is given what it is owed, until it is owed nothing or doesn't take it.
-pub fn follows(rt: HostRuntime, primary: &mut MemNode, replica: &mut MemNode) -> Result<(), Fault> {
+fn asks(rt: HostRuntime, who: &str, node: &mut MemNode, asked: Ask) -> Result<(), Fault> {
+    says(rt, who, &ask(node, 0, &asked))
+}
+
+fn commits(rt: HostRuntime, node: &mut MemNode, pages: &[Filled]) -> Result<(), Fault> {
+    says(rt, "commit", &commit(rt.alloc(), node, pages)?)?;
+    asks(rt, "primary", node, Ask::Where)
+}
+
+fn owes(rt: HostRuntime, pair: &mut Pair<'_>) -> Result<(), Fault> {
+    let pos = position(pair.replica);
+    let answer = ask(pair.primary, 0, &Ask::Hello { now: NOW, pos });
+    says(rt, "primary", &answer)?;
+    pair.owed = asked_by(answer);
+    Ok(())
+}
+
+/// The node is given what was owed.
+pub fn takes(rt: HostRuntime, pair: &mut Pair<'_>, who: Who) -> Result<(), Fault> {
+    pair.took = false;
+    let Some(asked) = &pair.owed else {
+        return Ok(());
+    };
+    let answer = match who {
+        Who::Primary => ask(pair.primary, 0, asked),
+        Who::Replica => ask(pair.replica, 0, asked),
+    };
+    pair.took = matches!(answer, Answer::Applied(_));
+    says(rt, "replica", &answer)
+}
+
+/// The replica is given what it is owed next.
+fn follows_once(rt: HostRuntime, pair: &mut Pair<'_>) -> Result<(), Fault> {
+    asks(rt, "replica", pair.replica, Ask::Where)?;
+    owes(rt, pair)?;
+    takes(rt, pair, Who::Replica)
+}
+
+fn follows(rt: HostRuntime, pair: &mut Pair<'_>) -> Result<(), Fault> {
     for _ in 0..ENOUGH {
-        if !follows_once(rt, primary, replica)? {
+        follows_once(rt, pair)?;
+        if !pair.took {
             return Ok(());
         }
     }
     Ok(())
 }
 
-/// The follower is given what it is owed next. Whether it took something, and whether it is level.
-fn gives_next(primary: &mut MemNode, follower: &mut MemNode) -> (bool, bool) {
-    let pos = position(follower);
-    let owed = ask(primary, 0, &Ask::Hello { now: NOW, pos });
-    let is_level = matches!(owed, Answer::Level(_));
-    match asked_by(owed) {
-        Some(asked) => (
-            matches!(ask(follower, 0, &asked), Answer::Applied(_)),
-            false,
-        ),
-        None => (false, is_level),
+fn unlinks(rt: HostRuntime, primary: &mut MemNode) -> Result<(), Fault> {
+    let name = bytes(rt.alloc(), b"app")?;
+    says(rt, "unlink", &does(primary, 1, FOLDER, Op::Unlink { name }))
+}
+
+fn begins_journal(rt: HostRuntime, replica: &mut MemNode) -> Result<(), Fault> {
+    let answer = creates(rt.alloc(), replica, 1, b"app-journal")?;
+    says(rt, "journal at a replica", &answer)
+}
+
+fn prints(rt: HostRuntime, title: &str) -> Result<(), Fault> {
+    println!(rt; "{title}")?;
+    Ok(())
+}
+
+fn happens(rt: HostRuntime, pair: &mut Pair<'_>, turn: &Turn) -> Result<(), Fault> {
+    match *turn {
+        Turn::Title(title) => prints(rt, title),
+        Turn::Begin(who, part) => renew(rt.alloc(), pair.node(who), part),
+        Turn::Restart(who, part) => restart(rt.alloc(), pair.node(who), part, 0),
+        Turn::Commit(who, pages) => commits(rt, pair.node(who), pages),
+        Turn::Follow => follows(rt, pair),
+        Turn::Ask(who, pos) => asks(rt, "primary", pair.node(who), Ask::Hello { now: NOW, pos }),
+        Turn::Owe => owes(rt, pair),
+        Turn::Take(who) => takes(rt, pair, who),
+        Turn::Drop => asks(rt, "replica", pair.primary, Ask::Drop { now: NOW }),
+        Turn::Prune(keep) => asks(rt, "primary", pair.primary, Ask::Prune { keep }),
+        Turn::Unlink => unlinks(rt, pair.primary),
+        Turn::Journal => begins_journal(rt, pair.replica),
+        Turn::Open => opens(rt, pair.replica),
+        Turn::Lock(kind) => wishes(rt, pair.replica, kind),
+        Turn::ReadAround => reads_around(rt, pair),
     }
 }
 
-/// The follower is given all that it is owed. Whether it is level then. Nothing is printed.
-pub fn gets_level(primary: &mut MemNode, follower: &mut MemNode) -> bool {
-    for _ in 0..ENOUGH {
-        let (took, is_level) = gives_next(primary, follower);
-        if !took {
-            return is_level;
-        }
+pub fn play(rt: HostRuntime, pair: &mut Pair<'_>, turns: &[Turn]) -> Result<(), Fault> {
+    for turn in turns {
+        happens(rt, pair, turn)?;
     }
-    false
+    Ok(())
 }

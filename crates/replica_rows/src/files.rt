@@ -1,24 +1,17 @@
-//! What the replica of an install is given, and by whom.
+//! What two primaries send to a replica.
 
 use crate::clients::commit;
 use crate::fault::Fault;
+use crate::levels::asked_by;
 use crate::nodes::{MemNode, NOW, Part, ask, position, renew};
 use lf_base::Pos;
-use node_core::{Answer, Ask};
+use node_core::Ask;
 use std::alloc::Global;
 
 /// A position that no log has.
 const UNKNOWN: Pos = Pos { txid: 99, sum: 1 };
 
-/// Two primaries, at transaction 9 and at transaction 6, and what they sent.
-#[derive(Drop)]
-pub struct Given<'a> {
-    pub old: &'a mut MemNode,
-    pub new: &'a mut MemNode,
-    pub files: &'a Files,
-}
-
-/// What they sent.
+/// What two primaries sent, one at transaction 9 and one at transaction 6.
 #[derive(Drop)]
 pub struct Files {
     /// The transactions 1 to 8 of the old one as one file, and its ninth.
@@ -39,19 +32,17 @@ fn goes_on(alloc: Global, primary: &mut MemNode, from: u8, count: u8) -> Result<
 
 /// The file that a primary owes at a position.
 fn owed_at(primary: &mut MemNode, pos: Pos) -> Result<Ask, Fault> {
-    match ask(primary, 0, &Ask::Hello { now: NOW, pos }) {
-        Answer::Item { ltx, .. } => Ok(Ask::Frame {
-            now: NOW,
-            bytes: ltx,
-        }),
-        _ => Err(Fault::Owed),
+    match asked_by(ask(primary, 0, &Ask::Hello { now: NOW, pos })) {
+        Some(frame) => Ok(frame),
+        None => Err(Fault::Owed),
     }
 }
 
-/// The node becomes a primary after so many transactions.
-fn begins(alloc: Global, primary: &mut MemNode, from: u8, count: u8) -> Result<(), Fault> {
+/// The node becomes a primary after so many transactions. All of them as one file.
+fn begins(alloc: Global, primary: &mut MemNode, from: u8, count: u8) -> Result<Ask, Fault> {
     renew(alloc, primary, Part::Primary)?;
-    goes_on(alloc, primary, from, count)
+    goes_on(alloc, primary, from, count)?;
+    owed_at(primary, UNKNOWN)
 }
 
 /// The primary commits once more. The file of that.
@@ -63,11 +54,9 @@ fn next_of(alloc: Global, primary: &mut MemNode) -> Result<Ask, Fault> {
 
 /// The nodes become the two primaries. What they send.
 pub fn files_of(alloc: Global, old: &mut MemNode, new: &mut MemNode) -> Result<Files, Fault> {
-    begins(alloc, old, 0, 8)?;
-    begins(alloc, new, 100, 6)?;
-    let base = owed_at(old, UNKNOWN)?;
+    let base = begins(alloc, old, 0, 8)?;
     let ninth = next_of(alloc, old)?;
-    let snapshot = owed_at(new, UNKNOWN)?;
+    let snapshot = begins(alloc, new, 100, 6)?;
     Ok(Files {
         base,
         ninth,

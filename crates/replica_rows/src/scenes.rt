@@ -1,0 +1,148 @@
+//! The scenes of a primary and its replica.
+
+use crate::fault::Fault;
+use crate::nodes::{MemNode, NOWHERE, Part};
+use crate::turns::{Pair, Turn, Who, play};
+use fuse_msgs::LockWish;
+use lf_base::Pos;
+
+/// Both become ones of a database that was never written.
+const PRIMARY: Turn = Turn::Begin(Who::Primary, Part::Primary);
+
+const REPLICA: Turn = Turn::Begin(Who::Replica, Part::Replica);
+
+/// A page of zeros, and a second one.
+const FIRST: Turn = Turn::Commit(Who::Primary, &[(1, 0)]);
+
+const SECOND: Turn = Turn::Commit(Who::Primary, &[(2, 0)]);
+
+/// The primary commits one page of zeros, and a second one; the replica gets both files.
+const FOLLOWING: &[Turn] = &[
+    Turn::Title("a replica follows a primary"),
+    PRIMARY,
+    REPLICA,
+    Turn::Follow,
+    FIRST,
+    SECOND,
+    Turn::Follow,
+];
+
+/// An old primary, restarted as a replica, gets the new one's pages as one file, and then its next
+/// file.
+const PRIMARIES: &[Turn] = &[
+    Turn::Title("an old primary at transaction 5"),
+    Turn::Begin(Who::Replica, Part::Primary),
+    Turn::Commit(Who::Replica, &[(1, 1)]),
+    Turn::Commit(Who::Replica, &[(2, 2)]),
+    Turn::Commit(Who::Replica, &[(1, 4)]),
+    Turn::Commit(Who::Replica, &[(2, 8)]),
+    Turn::Commit(Who::Replica, &[(1, 16)]),
+    Turn::Restart(Who::Replica, Part::Replica),
+    Turn::Title("a new primary at transaction 5"),
+    PRIMARY,
+    Turn::Commit(Who::Primary, &[(1, 1)]),
+    Turn::Commit(Who::Primary, &[(2, 2)]),
+    Turn::Commit(Who::Primary, &[(1, 4)]),
+    Turn::Commit(Who::Primary, &[(2, 8)]),
+    Turn::Commit(Who::Primary, &[(2, 32)]),
+    Turn::Title("the old one follows the new one"),
+    Turn::Follow,
+    Turn::Commit(Who::Primary, &[(1, 64)]),
+    Turn::Follow,
+];
+
+/// A position that no log has.
+const UNKNOWN: Pos = Pos { txid: 9, sum: 1 };
+
+/// The position of four pages of zeros, committed one after another.
+const FOURTH: Pos = Pos {
+    txid: 4,
+    sum: 0x8138_2ec0_0000_0000,
+};
+
+/// What a primary owes whose log has four files, and then two: at an unknown position, at its own and
+/// at none.
+const LOG: &[Turn] = &[
+    Turn::Title("a log of four files"),
+    PRIMARY,
+    FIRST,
+    SECOND,
+    Turn::Commit(Who::Primary, &[(3, 0)]),
+    Turn::Commit(Who::Primary, &[(4, 0)]),
+    Turn::Ask(Who::Primary, UNKNOWN),
+    Turn::Ask(Who::Primary, FOURTH),
+    Turn::Ask(Who::Primary, NOWHERE),
+    Turn::Prune(2),
+    Turn::Ask(Who::Primary, NOWHERE),
+];
+
+/// A database in WAL mode: byte 18 of its first page is 2. A file is held back while a reader has its
+/// lock, and applied afterwards.
+const READER: &[Turn] = &[
+    Turn::Title("a reader at a replica in WAL mode"),
+    PRIMARY,
+    REPLICA,
+    Turn::Commit(Who::Primary, &[(1, 2), (2, 1)]),
+    Turn::Follow,
+    Turn::Commit(Who::Primary, &[(2, 3)]),
+    Turn::Owe,
+    Turn::Open,
+    Turn::Lock(LockWish::Read),
+    Turn::ReadAround,
+    Turn::Lock(LockWish::Unlock),
+    Turn::ReadAround,
+];
+
+/// The replica drops what the primary dropped, and begins anew with its next file.
+const DROP: &[Turn] = &[
+    Turn::Title("a database is dropped, and written again"),
+    PRIMARY,
+    REPLICA,
+    FIRST,
+    Turn::Follow,
+    Turn::Unlink,
+    Turn::Follow,
+    Turn::Commit(Who::Primary, &[(1, 1)]),
+    Turn::Follow,
+];
+
+/// The first file is given to its own primary and to the replica, and the second one to the replica
+/// twice, and once it was never written.
+const REFUSALS: &[Turn] = &[
+    Turn::Title("what is refused"),
+    PRIMARY,
+    REPLICA,
+    FIRST,
+    SECOND,
+    Turn::Ask(Who::Replica, NOWHERE),
+    Turn::Drop,
+    Turn::Owe,
+    Turn::Take(Who::Primary),
+    Turn::Take(Who::Replica),
+    Turn::Owe,
+    Turn::Take(Who::Replica),
+    Turn::Take(Who::Replica),
+    REPLICA,
+    Turn::Take(Who::Replica),
+    Turn::Journal,
+];
+
+const SCENES: &[&[Turn]] = &[FOLLOWING, PRIMARIES, LOG, READER, DROP, REFUSALS];
+
+/// The scenes, one after another. Each begins its nodes anew.
+pub fn print_scenes(
+    rt: HostRuntime,
+    primary: &mut MemNode,
+    replica: &mut MemNode,
+) -> Result<(), Fault> {
+    let mut pair = Pair {
+        primary,
+        replica,
+        owed: None,
+        took: false,
+    };
+    for turns in SCENES {
+        play(rt, &mut pair, *turns)?;
+    }
+    Ok(())
+}
