@@ -42,6 +42,13 @@ const OTHER: Pos = Pos {
     sum: TWO_PAGES,
 };
 
+/// Where followers stand before the prune, after it, and around a drop.
+const BEFORE: &[Pos] = &[UNKNOWN, FOURTH, NOWHERE, FIRST, OTHER];
+
+const AFTER: &[Pos] = &[NOWHERE, FIRST, SECOND, FOURTH];
+
+const AROUND: &[Pos] = &[UNKNOWN, NOWHERE];
+
 /// Prints what followers at these positions are owed.
 fn print_owed(rt: HostRuntime, store: &MemStore, positions: &[Pos]) -> io::Result<()> {
     for position in positions {
@@ -55,9 +62,9 @@ fn print_owed(rt: HostRuntime, store: &MemStore, positions: &[Pos]) -> io::Resul
 fn print_pruned(rt: HostRuntime, store: &mut MemStore) -> io::Result<()> {
     let last = store.pos();
     println!(rt; "a log of four files, at ({}, {:x})", last.txid, last.sum)?;
-    print_owed(rt, store, &[UNKNOWN, FOURTH, NOWHERE, FIRST, OTHER])?;
+    print_owed(rt, store, BEFORE)?;
     println!(rt; "pruned to two: {:?}", store.prune(2))?;
-    print_owed(rt, store, &[NOWHERE, FIRST, SECOND, FOURTH])
+    print_owed(rt, store, AFTER)
 }
 
 pub fn print_log(rt: HostRuntime) -> io::Result<()> {
@@ -77,7 +84,7 @@ const DROPS: &[(&str, &[Step])] = &[
 fn print_drop(rt: HostRuntime, title: &str, steps: &[Step]) -> io::Result<()> {
     println!(rt; "{title}")?;
     match made(rt.alloc(), Way::Whole, steps) {
-        Some(store) => print_owed(rt, &store, &[UNKNOWN, NOWHERE]),
+        Some(store) => print_owed(rt, &store, AROUND),
         None => println!(rt; "  no store"),
     }
 }

@@ -2,7 +2,7 @@
 use crate::samples::{A, B, Sample, encoding_of};
 use crate::script::{STAGES, STEPS};
 use crate::stages::{Stage, is_just};
-use crate::steps::{Step, Way, Went, does};
+use crate::steps::{Step, Way, Went, does, run};
 use lf_disk::DirDisk;
 use node_recovery::recover;
 use std::{fs, io};
@@ -26,15 +26,13 @@ fn in_folder(rt: HostRuntime) -> Option<FolderStore> {
     }
 }
 
-/// Whether the store is at a stage, and does a step.
-fn is_and_does(rt: HostRuntime, store: &mut FolderStore, stage: &Stage, step: &Step) -> bool {
-    is_just(store, stage) && matches!(does(rt.alloc(), store, Way::Whole, step), Went::Done)
-}
-
-/// The same of the store of the folder, which is opened anew.
+/// Opens the folder, looks whether its store is at a stage, and does a step.
 fn goes_on(rt: HostRuntime, stage: &Stage, step: &Step) -> bool {
     match in_folder(rt) {
-        Some(mut store) => is_and_does(rt, &mut store, stage, step),
+        Some(mut store) => {
+            is_just(&mut store, stage)
+                && matches!(does(rt.alloc(), &mut store, Way::Whole, step), Went::Done)
+        }
         None => false,
     }
 }
@@ -42,8 +40,11 @@ fn goes_on(rt: HostRuntime, stage: &Stage, step: &Step) -> bool {
 /// The script on a folder that is opened anew before each step.
 pub fn print_script(rt: HostRuntime) -> io::Result<()> {
     let _ = fs::remove_dir_all(&rt, TOP);
-    for (place, (stage, step)) in STAGES.iter().zip(STEPS).enumerate() {
-        let held = goes_on(rt, stage, step);
+    for (place, step) in STEPS.iter().enumerate() {
+        let held = match STAGES.get(place) {
+            Some(stage) => goes_on(rt, stage, step),
+            None => false,
+        };
         println!(rt; "folder: step {place}: {held}")?;
     }
     fs::remove_dir_all(&rt, TOP)
@@ -57,24 +58,21 @@ fn has_encoding(rt: HostRuntime, path: &str, sample: &Sample) -> bool {
     }
 }
 
-/// Two files are published.
-fn publishes(rt: HostRuntime, store: &mut FolderStore) -> (bool, bool) {
-    let first = does(rt.alloc(), store, Way::Whole, &Step::Commit(1, &[(1, 0)]));
-    let second = does(rt.alloc(), store, Way::Whole, &Step::Apply(B));
-    (matches!(first, Went::Done), matches!(second, Went::Done))
-}
+/// Two files.
+const TWO: &[Step] = &[Step::Commit(1, &[(1, 0)]), Step::Apply(B)];
 
-fn publish(rt: HostRuntime) -> Option<(bool, bool)> {
-    let mut store = in_folder(rt)?;
-    Some(publishes(rt, &mut store))
+/// How many of them are published.
+fn publishes(rt: HostRuntime) -> usize {
+    match in_folder(rt) {
+        Some(mut store) => run(rt.alloc(), &mut store, Way::Whole, TWO).0,
+        None => 0,
+    }
 }
 
 /// Two files are published, and the first stays as it was.
 pub fn print_two_files(rt: HostRuntime) -> io::Result<()> {
-    let Some((first, second)) = publish(rt) else {
-        return println!(rt; "folder: not opened");
-    };
-    println!(rt; "folder: two files: {first} {second}")?;
+    let done = publishes(rt);
+    println!(rt; "folder: two files: {} {}", done > 0, done > 1)?;
     let (first, second) = (has_encoding(rt, FIRST, &A), has_encoding(rt, SECOND, &B));
     println!(rt; "folder: their encodings: {first} {second}")?;
     fs::remove_dir_all(&rt, TOP)

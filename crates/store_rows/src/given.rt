@@ -2,8 +2,8 @@
 use crate::samples::{A, B, FILLED_TO_6, ONE_AND_TWO, Sample, ZEROS_TO_8, encoding_of};
 use crate::sources::take_from;
 use crate::stages::{Stage, is_just};
-use crate::steps::{Step, Taking, Way, Went, run};
-use crate::stores::{MemStore, calls_of, made, stopping};
+use crate::steps::{Step, Taking, Way};
+use crate::stores::{MemStore, calls_of, made, stopped};
 use lf_base::Pos;
 use std::alloc::Global;
 use std::io;
@@ -106,9 +106,6 @@ const REPLACED: Stage = Stage {
     dropped: false,
 };
 
-/// A first commit, of a page of zeros.
-const FIRST: Step = Step::Commit(1, &[(1, 0)]);
-
 /// What a store answers.
 fn answer(alloc: Global, store: &mut MemStore, gift: &Gift) -> Option<Result<Pos, FromFault>> {
     let encoding = encoding_of(alloc, &gift.file)?;
@@ -117,18 +114,17 @@ fn answer(alloc: Global, store: &mut MemStore, gift: &Gift) -> Option<Result<Pos
     take_from(alloc, store, gift.taking, gift.room, bytes, gift.failing)
 }
 
-/// Prints what a store answers, and where it stands then.
-fn print_gift(rt: HostRuntime, store: &mut MemStore, gift: &Gift) -> io::Result<()> {
+/// Prints what a store answers.
+fn print_answer(rt: HostRuntime, store: &mut MemStore, gift: &Gift) -> io::Result<()> {
     let room = gift.room;
     match answer(rt.alloc(), store, gift) {
-        Some(Ok(told)) => println!(rt; "  room for {room}: ({}, {:x})", told.txid, told.sum)?,
-        Some(Err(why)) => println!(rt; "  room for {room}: {why:?}")?,
-        None => println!(rt; "  no memory")?,
+        Some(Ok(told)) => println!(rt; "  room for {room}: ({}, {:x})", told.txid, told.sum),
+        Some(Err(why)) => println!(rt; "  room for {room}: {why:?}"),
+        None => println!(rt; "  no memory"),
     }
-    let stands = store.pos();
-    println!(rt; "    at ({}, {:x})", stands.txid, stands.sum)
 }
 
+/// Prints what a store answers to each, and where it stands then.
 fn print_gifts(
     rt: HostRuntime,
     title: &str,
@@ -137,62 +133,70 @@ fn print_gifts(
 ) -> io::Result<()> {
     println!(rt; "{title}")?;
     for gift in gifts {
-        print_gift(rt, store, gift)?;
+        print_answer(rt, store, gift)?;
+        let stands = store.pos();
+        println!(rt; "    at ({}, {:x})", stands.txid, stands.sum)?;
     }
     Ok(())
 }
 
-/// A store at transaction 1 that a failed call of its disk broke.
-fn broken(alloc: Global) -> Option<MemStore> {
-    let (calls, _) = calls_of(alloc, Way::Whole, &[FIRST])?;
-    let mut store = stopping(alloc, calls)?;
-    match run(alloc, &mut store, Way::Whole, &[FIRST, Step::Apply(B)]) {
-        (1, Went::Stopped) => Some(store),
-        _ => None,
-    }
-}
-
-/// On an empty store: files are applied, or installed.
-fn print_empty(rt: HostRuntime, title: &str, gifts: &[Gift]) -> io::Result<()> {
-    match made(rt.alloc(), Way::Whole, &[]) {
+/// A store, if it was made, is given files.
+fn print_to(
+    rt: HostRuntime,
+    title: &str,
+    store: Option<MemStore>,
+    gifts: &[Gift],
+) -> io::Result<()> {
+    match store {
         Some(mut store) => print_gifts(rt, title, &mut store, gifts),
         None => println!(rt; "no store"),
     }
 }
 
-fn print_broken(rt: HostRuntime) -> io::Result<()> {
-    match broken(rt.alloc()) {
-        Some(mut store) => print_gifts(
-            rt,
-            "a source installed in a broken store",
-            &mut store,
-            INSTALLED_IN_BROKEN,
-        ),
-        None => println!(rt; "no broken store"),
-    }
+/// A first commit, of a page of zeros, and a file behind it.
+const BREAKING: &[Step] = &[Step::Commit(1, &[(1, 0)]), Step::Apply(B)];
+
+/// A store at transaction 1 that a failed call of its disk broke.
+fn broken(alloc: Global) -> Option<MemStore> {
+    let (calls, _) = calls_of(alloc, Way::Whole, BREAKING.get(..1)?)?;
+    stopped(alloc, calls, Way::Whole, BREAKING, 1)
 }
 
-/// On a store at 9, whose log has two files and other pages.
+/// To transaction 9, with two files in the log.
+const TO_NINE: &[Step] = &[Step::Apply(ZEROS_TO_8), Step::Commit(2, &[])];
+
 fn print_replaced(rt: HostRuntime, store: &mut MemStore) -> io::Result<()> {
     print_gifts(rt, "a source installed in a store at 9", store, REPLACING)?;
     println!(rt; "  its pages and its log: {}", is_just(store, &REPLACED))
 }
 
 fn print_at_nine(rt: HostRuntime) -> io::Result<()> {
-    let steps = [Step::Apply(ZEROS_TO_8), Step::Commit(2, &[])];
-    match made(rt.alloc(), Way::Whole, &steps) {
+    match made(rt.alloc(), Way::Whole, TO_NINE) {
         Some(mut store) => print_replaced(rt, &mut store),
         None => println!(rt; "no store"),
     }
 }
 
 pub fn print_given(rt: HostRuntime) -> io::Result<()> {
-    print_empty(rt, "a source applied to an empty store", APPLIED_TO_EMPTY)?;
-    print_empty(
+    let empty = made(rt.alloc(), Way::Whole, &[]);
+    print_to(
+        rt,
+        "a source applied to an empty store",
+        empty,
+        APPLIED_TO_EMPTY,
+    )?;
+    let empty = made(rt.alloc(), Way::Whole, &[]);
+    print_to(
         rt,
         "a source installed in an empty store",
+        empty,
         INSTALLED_IN_EMPTY,
     )?;
-    print_broken(rt)?;
+    print_to(
+        rt,
+        "a source installed in a broken store",
+        broken(rt.alloc()),
+        INSTALLED_IN_BROKEN,
+    )?;
     print_at_nine(rt)
 }

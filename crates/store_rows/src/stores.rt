@@ -1,7 +1,7 @@
 //! Stores in memory: made, stopped and recovered.
 ghost use Rattle.std.specs.Prelude.{◌≡◌, [], IfSome};
 
-use crate::steps::{Step, Way, Went, run};
+use crate::steps::{Step, Way, run};
 use lf_disk::{Disk, MemDisk};
 use node_recovery::recover;
 use std::alloc::Global;
@@ -64,18 +64,22 @@ pub fn recovered(alloc: Global, disk: MemDisk, choice: u64) -> Option<MemStore> 
     opened(alloc, crashed(disk, choice)?).ok()
 }
 
-/// The store of a disk without files, which stops at a call.
-pub fn stopping(alloc: Global, call: u64) -> Option<MemStore> {
-    opened(alloc, blank(alloc, Failing::From, call)?).ok()
+/// A store after steps of which just so many are done, since its disk stops at a call.
+pub fn stopped(
+    alloc: Global,
+    call: u64,
+    way: Way,
+    steps: &[Step],
+    count: usize,
+) -> Option<MemStore> {
+    let mut store = opened(alloc, blank(alloc, Failing::From, call)?).ok()?;
+    let (done, _) = run(alloc, &mut store, way, steps);
+    if done == count { Some(store) } else { None }
 }
 
 /// A store after some steps.
 pub fn made(alloc: Global, way: Way, steps: &[Step]) -> Option<MemStore> {
-    let mut store = stopping(alloc, NEVER)?;
-    match run(alloc, &mut store, way, steps) {
-        (_, Went::Done) => Some(store),
-        _ => None,
-    }
+    stopped(alloc, NEVER, way, steps, steps.len())
 }
 
 /// How many calls a disk has had after some steps, and how many of them change something.
