@@ -22,6 +22,15 @@ pub enum Jobs {
     InThreads,
 }
 
+fn disks(alloc: Global, disk: MemDisk) -> Result<Vec<MemDisk>, Fault>
+    requires { IsNewDisk disk }
+    ensures { IfOk result (λ made. All IsNewDisk made.items) }
+{
+    let mut all = Vec::new(alloc);
+    all.push(disk)?;
+    Ok(all)
+}
+
 fn acceptor(alloc: Global, links: Vec<MemLink>) -> Result<Vec<ListAcceptor>, Fault>
     ensures { IfOk result (λ made. All IsNewDoor made.items) }
 {
@@ -56,8 +65,7 @@ pub fn maker_of(
 ) -> Result<MemMaker, Fault>
     requires { IsNewDisk disk }
 {
-    let mut disks = Vec::new(alloc);
-    disks.push(disk)?;
+    let disks = disks(alloc, disk)?;
     let files = acceptor(alloc, links)?;
     let http = acceptor(alloc, Vec::new(alloc))?;
     let spawners = spawners(alloc, jobs)?;
