@@ -2,12 +2,12 @@
 ghost use Rattle.std.specs.Prelude.{◌≡◌, true, OnOk};
 ghost use Rattle.node_mount.specs.Serving.{CountsServing, GivesLimit};
 
+use crate::means::Means;
 use crate::mount_fault::MountFault;
 use crate::place::Place;
 use crate::sessions::{LINKS, open_session};
 use lf_base::{Acceptor, Clock, Handles, Pause, Spawner};
 use node_core::{Answer, Ask};
-use std::alloc::Global;
 use turn_desk::Machine;
 
 /// Starts a session for each link, until no more come.
@@ -19,11 +19,8 @@ pub fn serve_file_links<
     C: Clock + Copy + Send + 'static,
     P: Pause + Copy + Send + 'static,
 >(
-    rt: R,
-    alloc: Global,
+    means: Means<R, C, P>,
     place: &mut Place<K>,
-    clock: C,
-    pause: P,
     accept: &mut A,
     spawner: &mut S,
 ) -> Result<(), MountFault>
@@ -33,12 +30,12 @@ pub fn serve_file_links<
     ensures cause { CountsServing (A.faults accept.old) (A.faults accept.new) (S.faults spawner.old) (S.faults spawner.new) result }
 {
     for _ in 0..LINKS {
-        let link = match accept.accept(&rt) {
+        let link = match accept.accept(&means.rt) {
             Ok(Some(link)) => link,
             Ok(None) => return Ok(()),
             Err(_) => return Err(MountFault::Network),
         };
-        match open_session(rt, alloc, place, link, clock, pause, spawner) {
+        match open_session(means, place, link, spawner) {
             Ok(()) => {}
             Err(_) => return Err(MountFault::NoThread),
         }

@@ -5,12 +5,13 @@ ghost use Rattle.node_mount.specs.Following.{IsFollowed};
 ghost use Rattle.node_mount.specs.Serving.{CountsStarts};
 
 use crate::hall::{Links, two_holds};
+use crate::means::Means;
 use crate::mount_fault::MountFault;
 use crate::place::Place;
 use crate::sessions::{BUDGET, LINKS};
 use crate::work::{Work, start_work};
 use lf_base::{
-    Clock, Closing, Dialer, Failed, Handles, Link, Name, NoMemory, Pause, Spawner, Text, start_call,
+    Clock, Closing, Dialer, Failed, Handles, Job, Link, Name, NoMemory, Pause, Spawner, Text, start,
 };
 use node_core::{Answer, Ask};
 use node_settings::Settings;
@@ -47,7 +48,7 @@ pub fn primary_of<T: Dialer>(
     }))
 }
 
-/// Starts the two jobs of a replica, the one that follows at a seat of its own.
+/// Starts the jobs of a replica, where there is a primary that it follows.
 pub fn start_replica<
     R: Handles + Copy + Send + 'static,
     K: Machine<Ask = Ask, Answer = Answer> + Send + Drop + 'static,
@@ -57,92 +58,134 @@ pub fn start_replica<
     C: Clock + Copy + Send + 'static,
     P: Pause + Copy + Send + 'static,
 >(
-    rt: R,
-    alloc: Global,
+    means: Means<R, C, P>,
     place: &mut Place<K>,
-    clock: C,
-    pause: P,
-    primary: Primary<T>,
-    closing: Closing,
+    primary: Option<Primary<T>>,
+    closing: &Closing,
     spawner: &mut S,
 ) -> Result<(), MountFault>
     ensures cause { CountsStarts (S.faults spawner.old) (S.faults spawner.new) result }
 {
-    let (Some(place), Ok((links, theirs))) = (place.another(rt), two_holds(alloc)) else {
+    match primary {
+        Some(primary) => start_following(means, place, primary, closing, spawner),
+        None => Ok(()),
+    }
+}
+
+/// Starts the two jobs of a replica, the one that follows at a seat of its own.
+fn start_following<
+    R: Handles + Copy + Send + 'static,
+    K: Machine<Ask = Ask, Answer = Answer> + Send + Drop + 'static,
+    L: Link + Send + Drop + 'static,
+    T: Dialer<L = L> + Send + Drop + 'static,
+    S: Spawner,
+    C: Clock + Copy + Send + 'static,
+    P: Pause + Copy + Send + 'static,
+>(
+    means: Means<R, C, P>,
+    place: &mut Place<K>,
+    primary: Primary<T>,
+    closing: &Closing,
+    spawner: &mut S,
+) -> Result<(), MountFault>
+    ensures cause { CountsStarts (S.faults spawner.old) (S.faults spawner.new) result }
+{
+    let Some(place) = place.another(means.rt) else {
         return Err(MountFault::NoMemory);
     };
-    let Primary {
-        name,
-        address,
-        dialer,
-    } = primary;
-    match start_dialing(rt, dialer, address, pause, theirs, closing, spawner) {
-        Ok(()) => {}
-        Err(_) => return Err(MountFault::NoThread),
-    }
-    let work = Streams { links, name };
-    match start_work(
-        rt, alloc, place.desk, place.seat, work, clock, pause, spawner,
-    ) {
+    let Ok((dialing, streams)) = jobs_of(means.alloc, primary, means.pause, closing) else {
+        return Err(MountFault::NoMemory);
+    };
+    match start_both(means, place, dialing, streams, spawner) {
         Ok(()) => Ok(()),
         Err(_) => Err(MountFault::NoThread),
     }
 }
 
-/// Starts the job that dials a primary.
-fn start_dialing<
+/// The job that dials a primary, and the work of the one that follows the streams.
+fn jobs_of<L: Drop, T: Drop, P: Copy>(
+    alloc: Global,
+    primary: Primary<T>,
+    pause: P,
+    closing: &Closing,
+) -> Result<(Dialing<L, T, P>, Streams<L>), NoMemory> {
+    let closing = closing.another()?;
+    let (links, theirs) = two_holds(alloc)?;
+    let Primary {
+        name,
+        address,
+        dialer,
+    } = primary;
+    let dialing = Dialing {
+        dialer,
+        address,
+        pause,
+        links: theirs,
+        closing,
+    };
+    Ok((dialing, Streams { links, name }))
+}
+
+/// Starts one job, and then another at this seat.
+fn start_both<
     R: Handles + Copy + Send + 'static,
-    L: Link + Send + Drop + 'static,
-    T: Dialer<L = L> + Send + Drop + 'static,
+    K: Machine<Ask = Ask, Answer = Answer> + Send + Drop + 'static,
+    J: Job<R> + Send + Drop + 'static,
+    W: Work + Send + Drop + 'static,
     S: Spawner,
+    C: Clock + Copy + Send + 'static,
     P: Pause + Copy + Send + 'static,
->(
-    rt: R,
+>(means: Means<R, C, P>, place: Place<K>, job: J, work: W, spawner: &mut S) -> Result<(), Failed>
+    ensures cause { CountsFaults (S.faults spawner.old) (S.faults spawner.new) result }
+{
+    start(means.rt, spawner, job)?;
+    start_work(means, place, work, spawner)
+}
+
+/// A job that dials a primary.
+#[derive(Drop)]
+struct Dialing<L, T, P> {
     dialer: T,
     address: Text,
     pause: P,
     links: Links<L>,
     closing: Closing,
-    spawner: &mut S,
-) -> Result<(), Failed>
-    ensures cause { CountsFaults (S.faults spawner.old) (S.faults spawner.new) result }
-{
-    start_call(rt, spawner, move || {
-        dial_primary(rt, dialer, address, pause, links, closing, LINKS)
-    })
 }
 
-/// Dials one time after another, with a nap between them, until the word is closed or it was dialed so
-/// often. Each link is lent out, and hung up when it is back. A dial that fails is only another turn.
-pub fn dial_primary<
+impl<
     R: Handles + Copy,
     L: Link + Send + Drop + 'static,
     T: Dialer<L = L> + Drop,
     P: Pause + Copy,
->(rt: R, dialer: T, address: Text, pause: P, links: Links<L>, closing: Closing, dials: u64) {
-    let (mut dialer, mut pause) = (dialer, pause);
-    for _ in 0..dials {
-        if closing.is_closed() {
-            break;
-        }
-        if let Ok(link) = dialer.dial(&rt, &address) {
-            if links.put(&rt, link).is_ok() {
-                match links.take_back(&rt) {
-                    Some(link) => dialer.hang_up(link),
-                    None => break,
+> Job<R> for Dialing<L, T, P> {
+    /// Dials one time after another, with a nap between them, until the word is closed or it was dialed
+    /// so often. Each link is lent out, and hung up when it is back. A dial that fails is only another
+    /// turn.
+    fn go(self, rt: R) {
+        let mut job = self;
+        for _ in 0..LINKS {
+            if job.closing.is_closed() {
+                break;
+            }
+            if let Ok(link) = job.dialer.dial(&rt, &job.address) {
+                if job.links.put(&rt, link).is_ok() {
+                    match job.links.take_back(&rt) {
+                        Some(link) => job.dialer.hang_up(link),
+                        None => break,
+                    }
                 }
             }
+            job.pause.nap();
         }
-        pause.nap();
+        job.links.close(&rt);
     }
-    links.close(&rt);
 }
 
 /// The work of a job that follows the stream on each link that is lent to it.
 #[derive(Drop)]
-pub struct Streams<L> {
-    pub links: Links<L>,
-    pub name: Name,
+struct Streams<L> {
+    links: Links<L>,
+    name: Name,
 }
 
 impl<L: Link + Drop> Work for Streams<L> {
@@ -152,48 +195,39 @@ impl<L: Link + Drop> Work for Streams<L> {
         K: Machine<Ask = Ask, Answer = Answer> + Drop,
         C: Clock + Copy,
         P: Pause + Copy,
-    >(self, rt: R, alloc: Global, place: Place<K>, clock: C, pause: P) {
-        let (mut place, mut clock, mut pause) = (place, clock, pause);
+    >(self, means: Means<R, C, P>, place: Place<K>) {
+        let (mut means, mut place) = (means, place);
         for _ in 0..LINKS {
-            let Some(link) = self.links.take(&rt) else {
+            if !follow_next(&mut means, &mut place, &self) {
                 break;
-            };
-            let link = follow_link(
-                rt, alloc, &mut place, &self.name, link, &mut clock, &mut pause,
-            );
-            self.links.give_back(&rt, link);
+            }
         }
-        self.links.close(&rt);
+        self.links.close(&means.rt);
     }
 }
 
-/// Follows the stream on a link to its end, and gives the link back.
-fn follow_link<
+/// Follows the stream on the next link to its end, and gives the link back. Answers whether one came.
+fn follow_next<
     R: Handles + Copy,
     K: Machine<Ask = Ask, Answer = Answer>,
-    L: Link,
+    L: Link + Drop,
     C: Clock,
     P: Pause,
->(
-    rt: R,
-    alloc: Global,
-    place: &mut Place<K>,
-    name: &Name,
-    link: L,
-    clock: &mut C,
-    pause: &mut P,
-) -> L {
-    let mut link = link;
+>(means: &mut Means<R, C, P>, place: &mut Place<K>, streams: &Streams<L>) -> bool {
+    let Some(mut link) = streams.links.take(&means.rt) else {
+        return false;
+    };
     follow_seat(
-        rt,
-        alloc,
+        means.rt,
+        means.alloc,
         &*place.desk,
         &mut place.seat,
-        name,
+        &streams.name,
         &mut link,
-        clock,
-        pause,
+        &mut means.clock,
+        &mut means.pause,
         BUDGET,
     );
-    link
+    streams.links.give_back(&means.rt, link);
+    true
 }

@@ -1,13 +1,15 @@
 //! HTTP links are accepted by one job, and served by a fixed number of others.
-ghost use Rattle.lf_base.specs.Faults.{CountsFaults};
 ghost use Rattle.node_mount.specs.Serving.{CountsStarts};
 
 use crate::hall::{Links, two_holds};
+use crate::means::Means;
 use crate::mount_fault::MountFault;
 use crate::place::Place;
 use crate::sessions::{BUDGET, LINKS};
 use crate::work::{Work, start_work};
-use lf_base::{Acceptor, Clock, Closing, Failed, Handles, Link, Name, Pause, Spawner, start_call};
+use lf_base::{
+    Acceptor, Clock, Closing, Handles, Job, Link, Name, NoMemory, Pause, Spawner, start,
+};
 use node_core::{Answer, Ask};
 use std::alloc::Global;
 use stream_primary::serve_seat;
@@ -26,72 +28,76 @@ pub fn start_http<
     C: Clock + Copy + Send + 'static,
     P: Pause + Copy + Send + 'static,
 >(
-    rt: R,
-    alloc: Global,
+    means: Means<R, C, P>,
     place: &mut Place<K>,
-    clock: C,
-    pause: P,
     accept: A,
     name: &Name,
-    closing: Closing,
+    closing: &Closing,
     spawner: &mut S,
 ) -> Result<(), MountFault>
     ensures cause { CountsStarts (S.faults spawner.old) (S.faults spawner.new) result }
 {
-    let Ok((links, theirs)) = two_holds(alloc) else {
+    let Ok((job, links)) = accepting_job(means.alloc, accept, means.pause, closing) else {
         return Err(MountFault::NoMemory);
     };
-    match start_accepting(rt, accept, pause, theirs, closing, spawner) {
-        Ok(()) => start_serving(rt, alloc, place, clock, pause, name, &links, spawner),
+    match start(means.rt, spawner, job) {
+        Ok(()) => start_serving(means, place, name, &links, spawner),
         Err(_) => Err(MountFault::NoThread),
     }
 }
 
-/// Starts the job that accepts HTTP links.
-fn start_accepting<
-    R: Handles + Copy + Send + 'static,
-    L: Link + Send + Drop + 'static,
-    A: Acceptor<L = L> + Send + Drop + 'static,
-    S: Spawner,
-    P: Pause + Copy + Send + 'static,
->(
-    rt: R,
+/// The job that accepts HTTP links, and the links that it accepts.
+fn accepting_job<L: Drop, A: Drop, P: Copy>(
+    alloc: Global,
+    accept: A,
+    pause: P,
+    closing: &Closing,
+) -> Result<(Accepting<L, A, P>, Links<L>), NoMemory> {
+    let closing = closing.another()?;
+    let (links, theirs) = two_holds(alloc)?;
+    let job = Accepting {
+        accept,
+        pause,
+        links: theirs,
+        closing,
+    };
+    Ok((job, links))
+}
+
+/// A job that accepts links.
+#[derive(Drop)]
+struct Accepting<L, A, P> {
     accept: A,
     pause: P,
     links: Links<L>,
     closing: Closing,
-    spawner: &mut S,
-) -> Result<(), Failed>
-    ensures cause { CountsFaults (S.faults spawner.old) (S.faults spawner.new) result }
-{
-    start_call(rt, spawner, move || {
-        accept_links(rt, accept, pause, links, closing)
-    })
 }
 
-/// Accepts one link after another, until no more come or the word is closed. After a link that could not
-/// be accepted it naps, and goes on. A link for which there is no memory is let go.
-fn accept_links<
+impl<
     R: Handles + Copy,
     L: Link + Send + Drop + 'static,
     A: Acceptor<L = L> + Drop,
     P: Pause + Copy,
->(rt: R, accept: A, pause: P, links: Links<L>, closing: Closing) {
-    let (mut accept, mut pause) = (accept, pause);
-    for _ in 0..LINKS {
-        let next = accept.accept(&rt);
-        if closing.is_closed() {
-            break;
-        }
-        match next {
-            Ok(Some(link)) => {
-                let _ = links.put(&rt, link);
+> Job<R> for Accepting<L, A, P> {
+    /// Accepts one link after another, until no more come or the word is closed. After a link that could
+    /// not be accepted it naps, and goes on. A link for which there is no memory is let go.
+    fn go(self, rt: R) {
+        let mut job = self;
+        for _ in 0..LINKS {
+            let next = job.accept.accept(&rt);
+            if job.closing.is_closed() {
+                break;
             }
-            Ok(None) => break,
-            Err(_) => pause.nap(),
+            match next {
+                Ok(Some(link)) => {
+                    let _ = job.links.put(&rt, link);
+                }
+                Ok(None) => break,
+                Err(_) => job.pause.nap(),
+            }
         }
+        job.links.close(&rt);
     }
-    links.close(&rt);
 }
 
 /// Starts the jobs that serve HTTP links, each with a seat of its own.
@@ -103,11 +109,8 @@ fn start_serving<
     C: Clock + Copy + Send + 'static,
     P: Pause + Copy + Send + 'static,
 >(
-    rt: R,
-    alloc: Global,
+    means: Means<R, C, P>,
     place: &mut Place<K>,
-    clock: C,
-    pause: P,
     name: &Name,
     links: &Links<L>,
     spawner: &mut S,
@@ -115,19 +118,22 @@ fn start_serving<
     ensures cause { CountsStarts (S.faults spawner.old) (S.faults spawner.new) result }
 {
     for _ in 0..JOBS {
-        let (Some(place), Ok(name), Ok(links)) = (place.another(rt), name.copy(), links.another())
-        else {
+        let (Some(place), Ok(work)) = (place.another(means.rt), callers_of(name, links)) else {
             return Err(MountFault::NoMemory);
         };
-        let work = Callers { links, name };
-        match start_work(
-            rt, alloc, place.desk, place.seat, work, clock, pause, spawner,
-        ) {
+        match start_work(means, place, work, spawner) {
             Ok(()) => {}
             Err(_) => return Err(MountFault::NoThread),
         }
     }
     Ok(())
+}
+
+/// The work of one more job that serves these links.
+fn callers_of<L: Drop>(name: &Name, links: &Links<L>) -> Result<Callers<L>, NoMemory> {
+    let name = name.copy()?;
+    let links = links.another()?;
+    Ok(Callers { links, name })
 }
 
 /// The work of a job that serves HTTP links.
@@ -144,15 +150,13 @@ impl<L: Link + Drop> Work for Callers<L> {
         K: Machine<Ask = Ask, Answer = Answer> + Drop,
         C: Clock + Copy,
         P: Pause + Copy,
-    >(self, rt: R, alloc: Global, place: Place<K>, clock: C, pause: P) {
-        let (mut place, mut clock, mut pause) = (place, clock, pause);
+    >(self, means: Means<R, C, P>, place: Place<K>) {
+        let (mut means, mut place) = (means, place);
         for _ in 0..LINKS {
-            let Some(link) = self.links.take(&rt) else {
+            let Some(link) = self.links.take(&means.rt) else {
                 break;
             };
-            serve_caller(
-                rt, alloc, &mut place, &self.name, link, &mut clock, &mut pause,
-            );
+            serve_caller(&mut means, &mut place, &self.name, link);
         }
     }
 }
@@ -164,17 +168,17 @@ fn serve_caller<
     L: Link + Drop,
     C: Clock,
     P: Pause,
->(rt: R, alloc: Global, place: &mut Place<K>, name: &Name, link: L, clock: &mut C, pause: &mut P) {
+>(means: &mut Means<R, C, P>, place: &mut Place<K>, name: &Name, link: L) {
     let mut link = link;
     serve_seat(
-        rt,
-        alloc,
+        means.rt,
+        means.alloc,
         &*place.desk,
         &mut place.seat,
         name,
         &mut link,
-        clock,
-        pause,
+        &mut means.clock,
+        &mut means.pause,
         BUDGET,
     );
 }

@@ -15,6 +15,7 @@ mod http_links;
 mod keeping;
 mod listening;
 mod maker;
+mod means;
 mod mem_maker;
 mod mem_spawn;
 mod mount_fault;

@@ -9,6 +9,7 @@ ghost use Rattle.node_mount.specs.Returns.{CameBack};
 use crate::configuring::read_configuration;
 use crate::following::primary_of;
 use crate::maker::Maker;
+use crate::means::Means;
 use crate::mount_fault::MountFault;
 use crate::opening::{OpenFault, config_of, open_place, open_recovered};
 use crate::place::Place;
@@ -124,17 +125,20 @@ fn serve_place<R: Handles + Copy + Send + 'static, M: Maker>(
 {
     let mut files = files;
     let (clock, pause) = (make.clock(), make.pause());
+    let means = Means {
+        rt,
+        alloc,
+        clock,
+        pause,
+    };
     let dialer = make.dialer();
     let Ok(primary) = primary_of(settings, &dialer) else {
         return Err(MountFault::NoMemory);
     };
     let mut spawner = make.spawner();
     let served = serve_links(
-        rt,
-        alloc,
+        means,
         place,
-        clock,
-        pause,
         &mut files,
         http,
         &settings.database,

@@ -11,15 +11,15 @@ ghost use Rattle.world_laws.specs.Store.{StoreState};
 use crate::place::Place;
 use lf_base::{NoMemory, Text};
 use lf_disk::Disk;
-use node_core::{Node, NodeConfig};
+use node_core::{Answer, Ask, Node, NodeConfig};
 use node_recovery::{RecoverFault, recover};
 use node_settings::Settings;
 use std::alloc::Global;
 use std::sync::Arc;
-use turn_desk::{Desk, Seat};
+use turn_desk::{Desk, Machine, Seat};
 
 /// Why no node is opened.
-#[derive(Debug, Drop)]
+#[derive(Drop)]
 pub enum OpenFault<D> {
     /// The disk was not recovered, and comes back.
     Unrecovered(RecoverFault, D),
@@ -49,19 +49,19 @@ pub fn open_recovered<D: Disk + Drop>(
 }
 
 /// The first seat at the desk of a node.
-pub fn open_place<D: Disk + Drop>(
+pub fn open_place<K: Machine<Ask = Ask, Answer = Answer> + Drop>(
     alloc: Global,
-    node: Node<D>,
-) -> Result<Place<Node<D>>, NoMemory> {
+    node: K,
+) -> Result<Place<K>, NoMemory> {
     let (desk, seat) = open_desk(alloc, node)?;
     let desk = Arc::new(alloc, desk)?;
     Ok(Place { desk, seat })
 }
 
-fn open_desk<D: Disk + Drop>(
+fn open_desk<K: Machine<Ask = Ask, Answer = Answer> + Drop>(
     alloc: Global,
-    node: Node<D>,
-) -> Result<(Desk<Node<D>>, Seat<Node<D>>), NoMemory>
+    node: K,
+) -> Result<(Desk<K>, Seat<K>), NoMemory>
     ensures { IfOk result (λ opened. IsOf opened.1 opened.0) }
 {
     match Desk::open(alloc, node) {

@@ -1,5 +1,5 @@
 /// An object that a maker took back.
-#[derive(Debug, Drop)]
+#[derive(Drop)]
 pub enum Returned<D, F, H, T, S> {
     Disk(D),
     /// Where file links came from.

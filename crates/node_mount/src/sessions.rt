@@ -1,15 +1,13 @@
 //! The sessions of links, each in a job of its own.
-ghost use Rattle.std.specs.Arc.{arc_value};
 ghost use Rattle.lf_base.specs.Faults.{CountsFaults};
-ghost use Rattle.turn_desk.specs.Seats.{IsOf};
 
+use crate::means::Means;
 use crate::place::Place;
+use crate::work::{Work, start_work};
 use file_session::serve_seat;
-use lf_base::{Clock, Failed, Handles, Link, Pause, Spawner, start_call};
+use lf_base::{Clock, Failed, Handles, Link, Pause, Spawner};
 use node_core::{Answer, Ask};
-use std::alloc::Global;
-use std::sync::Arc;
-use turn_desk::{Desk, Machine, Seat};
+use turn_desk::Machine;
 
 /// The turns of a session.
 pub const BUDGET: u64 = 1 << 62;
@@ -25,71 +23,40 @@ pub fn open_session<
     S: Spawner,
     C: Clock + Copy + Send + 'static,
     P: Pause + Copy + Send + 'static,
->(
-    rt: R,
-    alloc: Global,
-    place: &mut Place<K>,
-    link: L,
-    clock: C,
-    pause: P,
-    spawner: &mut S,
-) -> Result<(), Failed>
+>(means: Means<R, C, P>, place: &mut Place<K>, link: L, spawner: &mut S) -> Result<(), Failed>
     ensures cause { CountsFaults (S.faults spawner.old) (S.faults spawner.new) result }
 {
-    match place.another(rt) {
-        Some(place) => start_session(
-            rt, alloc, place.desk, place.seat, link, clock, pause, spawner,
-        ),
+    match place.another(means.rt) {
+        Some(place) => start_work(means, place, Client { link }, spawner),
         None => Ok(()),
     }
 }
 
-fn start_session<
-    R: Handles + Copy + Send + 'static,
-    K: Machine<Ask = Ask, Answer = Answer> + Send + Drop + 'static,
-    L: Link + Send + Drop + 'static,
-    S: Spawner,
-    C: Clock + Copy + Send + 'static,
-    P: Pause + Copy + Send + 'static,
->(
-    rt: R,
-    alloc: Global,
-    desk: Arc<Desk<K>, Global>,
-    seat: Seat<K>,
+/// The work of a job that serves the files on a link.
+#[derive(Drop)]
+struct Client<L> {
     link: L,
-    clock: C,
-    pause: P,
-    spawner: &mut S,
-) -> Result<(), Failed>
-    requires { IsOf seat (arc_value desk) }
-    ensures cause { CountsFaults (S.faults spawner.old) (S.faults spawner.new) result }
-{
-    start_call(
-        rt,
-        spawner,
-        move ||
-            requires { IsOf seat (arc_value desk) }
-        {
-            serve_client(rt, alloc, &*desk, seat, link, clock, pause);
-        },
-    )
 }
 
-/// Serves the files on a link, to the end of its session.
-fn serve_client<
-    R: Handles + Copy,
-    K: Machine<Ask = Ask, Answer = Answer> + Drop,
-    L: Link + Drop,
-    C: Clock + Copy,
-    P: Pause + Copy,
->(rt: R, alloc: Global, desk: &Desk<K>, seat: Seat<K>, link: L, clock: C, pause: P)
-    requires { IsOf seat desk.now }
-{
-    let mut seat = seat;
-    let mut link = link;
-    let mut clock = clock;
-    let mut pause = pause;
-    serve_seat(
-        rt, alloc, desk, &mut seat, &mut link, &mut clock, &mut pause, BUDGET,
-    );
+impl<L: Link + Drop> Work for Client<L> {
+    /// Serves them, to the end of the session.
+    fn go<
+        R: Handles + Copy,
+        K: Machine<Ask = Ask, Answer = Answer> + Drop,
+        C: Clock + Copy,
+        P: Pause + Copy,
+    >(self, means: Means<R, C, P>, place: Place<K>) {
+        let (mut link, mut seat) = (self.link, place.seat);
+        let (mut clock, mut pause) = (means.clock, means.pause);
+        serve_seat(
+            means.rt,
+            means.alloc,
+            &*place.desk,
+            &mut seat,
+            &mut link,
+            &mut clock,
+            &mut pause,
+            BUDGET,
+        );
+    }
 }

@@ -1,6 +1,7 @@
 //! A maker of the system's objects.
-ghost use Rattle.std.specs.Prelude.{◌≡◌};
+ghost use Rattle.std.specs.Prelude.{◌≡◌, IfOk};
 ghost use Rattle.node_mount.specs.Keeping.{told_by};
+ghost use Rattle.node_mount.specs.Making.{IsNew};
 
 use crate::counts::Counts;
 use crate::data_directory::open_directory;
@@ -64,6 +65,26 @@ fn random_number<R: System>(rt: &R) -> u64 {
     }
 }
 
+fn accept_at<R: System>(rt: &R, path: &str, closing: &Closing) -> Result<UnixAccept, Failed>
+    ensures { IfOk result (λ accept. IsNew accept.given accept.faults accept.ended) }
+{
+    let listener = listen_at(rt, path)?;
+    match closing.another() {
+        Ok(closing) => UnixAccept::new(listener, closing),
+        Err(_) => Err(Failed),
+    }
+}
+
+fn accept_on<R: System>(rt: &R, address: &str, closing: &Closing) -> Result<TcpAccept, Failed>
+    ensures { IfOk result (λ accept. IsNew accept.given accept.faults accept.ended) }
+{
+    let listener = listen_on(rt, address)?;
+    match closing.another() {
+        Ok(closing) => TcpAccept::new(listener, closing),
+        Err(_) => Err(Failed),
+    }
+}
+
 impl<R: System + Send + 'static> Maker for SystemMaker<R> {
     type Disk = DirDisk<R>;
 
@@ -100,28 +121,23 @@ impl<R: System + Send + 'static> Maker for SystemMaker<R> {
     }
 
     fn files(&mut self, path: &Text) -> Result<UnixAccept, Failed> {
-        let made = match (listen_at(&self.rt, path.as_str()), self.closing.another()) {
-            (Ok(listener), Ok(closing)) => UnixAccept::new(listener, closing),
-            _ => Err(Failed),
-        };
-        if made.is_err() {
-            self.counts.fail_network();
+        match accept_at(&self.rt, path.as_str(), &self.closing) {
+            Ok(accept) => Ok(accept),
+            Err(failed) => {
+                self.counts.fail_network();
+                Err(failed)
+            }
         }
-        made
     }
 
     fn http(&mut self, address: &Text) -> Result<TcpAccept, Failed> {
-        let made = match (
-            listen_on(&self.rt, address.as_str()),
-            self.closing.another(),
-        ) {
-            (Ok(listener), Ok(closing)) => TcpAccept::new(listener, closing),
-            _ => Err(Failed),
-        };
-        if made.is_err() {
-            self.counts.fail_network();
+        match accept_on(&self.rt, address.as_str(), &self.closing) {
+            Ok(accept) => Ok(accept),
+            Err(failed) => {
+                self.counts.fail_network();
+                Err(failed)
+            }
         }
-        made
     }
 
     fn dialer(&mut self) -> TcpDial {

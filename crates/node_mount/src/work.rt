@@ -3,12 +3,11 @@ ghost use Rattle.std.specs.Arc.{arc_value};
 ghost use Rattle.lf_base.specs.Faults.{CountsFaults};
 ghost use Rattle.turn_desk.specs.Seats.{IsOf};
 
+use crate::means::Means;
 use crate::place::Place;
 use lf_base::{Clock, Failed, Handles, Pause, Spawner, start_call};
 use node_core::{Answer, Ask};
-use std::alloc::Global;
-use std::sync::Arc;
-use turn_desk::{Desk, Machine, Seat};
+use turn_desk::Machine;
 
 /// The work of a job.
 pub trait Work {
@@ -18,7 +17,7 @@ pub trait Work {
         K: Machine<Ask = Ask, Answer = Answer> + Drop,
         C: Clock + Copy,
         P: Pause + Copy,
-    >(self, rt: R, alloc: Global, place: Place<K>, clock: C, pause: P);
+    >(self, means: Means<R, C, P>, place: Place<K>);
 }
 
 /// Starts a job.
@@ -29,26 +28,17 @@ pub fn start_work<
     S: Spawner,
     C: Clock + Copy + Send + 'static,
     P: Pause + Copy + Send + 'static,
->(
-    rt: R,
-    alloc: Global,
-    desk: Arc<Desk<K>, Global>,
-    seat: Seat<K>,
-    work: W,
-    clock: C,
-    pause: P,
-    spawner: &mut S,
-) -> Result<(), Failed>
-    requires { IsOf seat (arc_value desk) }
+>(means: Means<R, C, P>, place: Place<K>, work: W, spawner: &mut S) -> Result<(), Failed>
     ensures cause { CountsFaults (S.faults spawner.old) (S.faults spawner.new) result }
 {
+    let Place { desk, seat } = place;
     start_call(
-        rt,
+        means.rt,
         spawner,
         move ||
             requires { IsOf seat (arc_value desk) }
         {
-            work.go(rt, alloc, Place { desk, seat }, clock, pause);
+            work.go(means, Place { desk, seat });
         },
     )
 }
