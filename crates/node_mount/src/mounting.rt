@@ -15,10 +15,11 @@ use crate::opening::{OpenFault, config_of, open_place, open_recovered};
 use crate::place::Place;
 use crate::serving::serve_links;
 use lf_base::{Handles, Source};
-use node_core::Node;
+use node_core::{Answer, Ask};
 use node_recovery::RecoverFault;
 use node_settings::Settings;
 use std::alloc::Global;
+use turn_desk::Machine;
 
 /// Runs the node that a configuration says, until no more file links come.
 ///
@@ -81,13 +82,11 @@ fn fault_of(why: RecoverFault) -> MountFault
 }
 
 /// Makes where links come from.
-fn mount_node<R: Handles + Copy + Send + 'static, M: Maker>(
-    rt: R,
-    alloc: Global,
-    settings: &Settings,
-    node: Node<M::Disk>,
-    make: &mut M,
-) -> Result<(), MountFault>
+fn mount_node<
+    R: Handles + Copy + Send + 'static,
+    K: Machine<Ask = Ask, Answer = Answer> + Send + Drop + 'static,
+    M: Maker,
+>(rt: R, alloc: Global, settings: &Settings, node: K, make: &mut M) -> Result<(), MountFault>
     ensures back { CameBack M.FileAccept.ended M.FileAccept.given (M.back make.old) (M.back make.new) result }
     ensures cause { RaisesFor (M.counts make.old) (M.counts make.new) result }
     ensures kind { IsServing result }
@@ -109,11 +108,15 @@ fn mount_node<R: Handles + Copy + Send + 'static, M: Maker>(
 }
 
 /// Makes what else a node serves by, serves, and takes back all.
-fn serve_place<R: Handles + Copy + Send + 'static, M: Maker>(
+fn serve_place<
+    R: Handles + Copy + Send + 'static,
+    K: Machine<Ask = Ask, Answer = Answer> + Send + Drop + 'static,
+    M: Maker,
+>(
     rt: R,
     alloc: Global,
     settings: &Settings,
-    place: Place<Node<M::Disk>>,
+    place: Place<K>,
     files: M::FileAccept,
     http: M::HttpAccept,
     make: &mut M,
