@@ -2,66 +2,77 @@
 
 use crate::clients::commit;
 use crate::fault::Fault;
-use crate::lines::{ends, line};
+use crate::lines::ends;
 use crate::links::catches_up;
-use crate::stage::{Stage, renew_both};
-use crate::wishes::Wish;
+use crate::nodes::Part;
+use crate::stage::{Stage, renew};
+use crate::wishes::{Filled, Wish};
 use std::io::Print;
 use std::sync::Wait;
 
-/// The replica asks for a stream and follows it.
-fn follows_up<R: Wait + Print + Copy>(
-    rt: R,
-    primary: &mut Stage,
-    replica: &mut Stage,
-) -> Result<(), Fault> {
-    ends(&rt, catches_up(rt, primary, replica)?)
+/// A turn of the scene.
+#[derive(Clone, Copy)]
+enum Turn {
+    /// A session of the primary commits pages.
+    Commit(&'static [Filled]),
+    /// The database is dropped.
+    Drop,
+    /// The replica asks for a stream and follows it.
+    Follow,
+    /// So does the stranger.
+    Stray,
 }
+
+/// Three files, none, one, all pages as one file, and a drop.
+const TURNS: &[Turn] = &[
+    Turn::Commit(&[(1, 1)]),
+    Turn::Commit(&[(2, 2)]),
+    Turn::Commit(&[(1, 4)]),
+    Turn::Follow,
+    Turn::Follow,
+    Turn::Commit(&[(2, 8)]),
+    Turn::Follow,
+    Turn::Stray,
+    Turn::Drop,
+    Turn::Follow,
+];
+
+/// The database is unlinked.
+const DROPS: &[Wish] = &[Wish::Unlink(b"app")];
 
 /// The stranger becomes a replica of another database.
 fn stray<R: Wait + Copy>(rt: R, other: &mut Stage, stranger: &mut Stage) -> Result<(), Fault> {
-    renew_both(other, stranger)?;
     commit(rt, other, &[(1, 9)])?;
     catches_up(rt, other, stranger)?;
     Ok(())
 }
 
-/// Three files, none, and one.
-fn send_files<R: Wait + Print + Copy>(
+fn take<R: Wait + Print + Copy>(
     rt: R,
+    turn: Turn,
     primary: &mut Stage,
     replica: &mut Stage,
+    stranger: &mut Stage,
 ) -> Result<(), Fault> {
-    commit(rt, primary, &[(1, 1)])?;
-    commit(rt, primary, &[(2, 2)])?;
-    commit(rt, primary, &[(1, 4)])?;
-    follows_up(rt, primary, replica)?;
-    follows_up(rt, primary, replica)?;
-    commit(rt, primary, &[(2, 8)])?;
-    follows_up(rt, primary, replica)
+    match turn {
+        Turn::Commit(pages) => commit(rt, primary, pages),
+        Turn::Drop => primary.asks(rt, DROPS),
+        Turn::Follow => ends(&rt, catches_up(rt, primary, replica)?),
+        Turn::Stray => ends(&rt, catches_up(rt, primary, stranger)?),
+    }
 }
 
-/// A drop.
-fn send_drop<R: Wait + Print + Copy>(
-    rt: R,
-    primary: &mut Stage,
-    replica: &mut Stage,
-) -> Result<(), Fault> {
-    primary.ask(rt, Wish::Unlink(b"app"))?;
-    follows_up(rt, primary, replica)
-}
-
-/// What a primary sends replicas that are behind it: files, all pages as one file, and a drop.
-pub fn print_behind<R: Wait + Print + Copy>(
+/// What a primary sends replicas that are behind it.
+pub fn play<R: Wait + Print + Copy>(
     rt: R,
     primary: &mut Stage,
     replica: &mut Stage,
     stranger: &mut Stage,
 ) -> Result<(), Fault> {
-    line(&rt, "replicas that are behind")?;
     stray(rt, primary, stranger)?;
-    renew_both(primary, replica)?;
-    send_files(rt, primary, replica)?;
-    follows_up(rt, primary, stranger)?;
-    send_drop(rt, primary, replica)
+    renew(primary, Part::Primary)?;
+    for turn in TURNS {
+        take(rt, *turn, primary, replica, stranger)?;
+    }
+    Ok(())
 }

@@ -44,23 +44,15 @@ pub fn commit<R: Wait + Copy>(rt: R, stage: &mut Stage, pages: &[Filled]) -> Res
     stage.asks(rt, ENDS)
 }
 
-/// The bytes of an answer, if it has any.
-pub fn bytes_of(answer: Answer) -> Option<Bytes> {
+/// The bytes of an answer.
+pub fn bytes_of(answer: Answer) -> Result<Bytes, Fault> {
     match answer {
-        Answer::Done(Reply::Bytes { bytes }) => Some(bytes),
-        _ => None,
+        Answer::Done(Reply::Bytes { bytes }) => Ok(bytes),
+        _ => Err(Fault::Answer),
     }
 }
 
 /// What is read of the database file by the first handle.
-pub fn reads<R: Wait + Copy>(rt: R, stage: &mut Stage) -> Result<Option<Bytes>, Fault> {
-    Ok(bytes_of(stage.ask(rt, Wish::Read)?))
-}
-
-/// Whether both were read, and are the same.
-pub fn is_same(one: &Option<Bytes>, other: &Option<Bytes>) -> bool {
-    match (one, other) {
-        (Some(one), Some(other)) => one.as_slice() == other.as_slice(),
-        _ => false,
-    }
+pub fn reads<R: Wait + Copy>(rt: R, stage: &mut Stage) -> Result<Bytes, Fault> {
+    bytes_of(stage.ask(rt, Wish::Read)?)
 }

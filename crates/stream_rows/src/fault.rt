@@ -11,6 +11,8 @@ pub enum Fault {
     Recovery,
     /// The desk took no more steps.
     Worn,
+    /// A node gave no answer of the kind that was wanted.
+    Answer,
     NoMemory,
 }
 

@@ -16,10 +16,27 @@ mod wishes;
 mod worked;
 
 use fault::Fault;
+use lines::line;
 use nodes::Part;
-use stage::Stage;
+use stage::{Stage, renew_both};
 use std::io::Print;
 use std::sync::Wait;
+
+/// A scene. Each begins with nodes of databases that were never written.
+#[derive(Clone, Copy)]
+enum Scene {
+    Sessions,
+    Behind,
+    Readers,
+    OneFile,
+}
+
+const SCENES: &[(Scene, &str)] = &[
+    (Scene::Sessions, "two sessions and a follower at one desk"),
+    (Scene::Behind, "replicas that are behind"),
+    (Scene::Readers, "a reader holds a stream back"),
+    (Scene::OneFile, "the stream of one file"),
+];
 
 /// The scene of a third node.
 fn play_with_stranger<R: Wait + Print + Copy>(
@@ -28,19 +45,34 @@ fn play_with_stranger<R: Wait + Print + Copy>(
     replica: &mut Stage,
 ) -> Result<(), Fault> {
     let mut stranger = Stage::new(primary.alloc, Part::Replica)?;
-    behind::print_behind(rt, primary, replica, &mut stranger)
+    behind::play(rt, primary, replica, &mut stranger)
 }
 
-/// The scenes. Each begins its nodes anew.
+fn play_scene<R: Wait + Print + Copy>(
+    rt: R,
+    scene: Scene,
+    primary: &mut Stage,
+    replica: &mut Stage,
+) -> Result<(), Fault> {
+    match scene {
+        Scene::Sessions => sessions::play(rt, primary, replica),
+        Scene::Behind => play_with_stranger(rt, primary, replica),
+        Scene::Readers => readers::play(rt, primary, replica),
+        Scene::OneFile => one_file::play(rt, primary, replica),
+    }
+}
+
 fn play<R: Wait + Print + Copy>(
     rt: R,
     primary: &mut Stage,
     replica: &mut Stage,
 ) -> Result<(), Fault> {
-    sessions::print_sessions(rt, primary, replica)?;
-    play_with_stranger(rt, primary, replica)?;
-    readers::print_reader(rt, primary, replica)?;
-    one_file::print_one_file(rt, primary, replica)
+    for (scene, title) in SCENES {
+        line(&rt, title)?;
+        renew_both(primary, replica)?;
+        play_scene(rt, *scene, primary, replica)?;
+    }
+    Ok(())
 }
 
 fn play_with_replica<R: Wait + Print + Copy>(rt: R, primary: &mut Stage) -> Result<(), Fault> {

@@ -2,7 +2,7 @@
 
 use crate::clients::commit;
 use crate::fault::Fault;
-use crate::lines::{ends, line, shows};
+use crate::lines::{ends, shows};
 use crate::links::{Followed, follows, serves};
 use crate::nodes::Part;
 use crate::stage::{Stage, renew};
@@ -97,13 +97,11 @@ fn print_stream<R: Wait + Print + Copy>(
 }
 
 /// What a primary writes that has committed one page of zeros.
-pub fn print_one_file<R: Wait + Print + Copy>(
+pub fn play<R: Wait + Print + Copy>(
     rt: R,
     primary: &mut Stage,
     replica: &mut Stage,
 ) -> Result<(), Fault> {
-    line(&rt, "the stream of one file")?;
-    renew(primary, Part::Primary)?;
     commit(rt, primary, &[(1, 0)])?;
     let (stream, end) = serves(rt, primary, REQUEST)?;
     println!(&rt; "  primary: {} bytes, {end:?}", stream.len())?;

@@ -1,10 +1,10 @@
 //! A reader at a replica holds a stream back.
 
-use crate::clients::{ENTERS, LEAVES, commit, is_same, reads};
+use crate::clients::{ENTERS, LEAVES, commit, reads};
 use crate::fault::Fault;
-use crate::lines::{ends, line, shows};
+use crate::lines::{ends, shows};
 use crate::links::{catches_up, follows, reply_to};
-use crate::stage::{Stage, renew_both};
+use crate::stage::Stage;
 use std::io::Print;
 use std::sync::Wait;
 
@@ -17,7 +17,11 @@ fn follows_between<R: Wait + Print + Copy>(
     let before = reads(rt, replica)?;
     ends(&rt, follows(rt, replica, reply)?)?;
     let after = reads(rt, replica)?;
-    shows(&rt, "the reader reads the same", is_same(&before, &after))
+    shows(
+        &rt,
+        "the reader reads the same",
+        before.as_slice() == after.as_slice(),
+    )
 }
 
 /// While the reader has READ1 the replica asks until its turns are used up; then it applies the file.
@@ -32,7 +36,8 @@ fn follows_twice<R: Wait + Print + Copy>(
     follows_between(rt, replica, reply)
 }
 
-fn play<R: Wait + Print + Copy>(
+/// The database is in WAL mode, since byte 18 of its first page is 2.
+pub fn play<R: Wait + Print + Copy>(
     rt: R,
     primary: &mut Stage,
     replica: &mut Stage,
@@ -42,15 +47,4 @@ fn play<R: Wait + Print + Copy>(
     commit(rt, primary, &[(2, 3)])?;
     let reply = reply_to(rt, primary, replica)?;
     follows_twice(rt, replica, &reply)
-}
-
-/// The database is in WAL mode, since byte 18 of its first page is 2.
-pub fn print_reader<R: Wait + Print + Copy>(
-    rt: R,
-    primary: &mut Stage,
-    replica: &mut Stage,
-) -> Result<(), Fault> {
-    line(&rt, "a reader holds a stream back")?;
-    renew_both(primary, replica)?;
-    play(rt, primary, replica)
 }

@@ -122,7 +122,7 @@ pub fn renew_both(primary: &mut Stage, replica: &mut Stage) -> Result<(), Fault>
 pub fn position<R: Wait + Copy>(rt: R, stage: &mut Stage) -> Result<Pos, Fault> {
     match stage.ask(rt, Wish::Where)? {
         Answer::At(position) => Ok(position),
-        _ => Err(Fault::Worn),
+        _ => Err(Fault::Answer),
     }
 }
 
@@ -160,6 +160,22 @@ fn follow_by<R: Wait + Copy, D: Disk, L: Link>(
     )
 }
 
+/// One step of a machine.
+fn step<R: Wait + Copy, M: Machine>(
+    rt: R,
+    desk: &Desk<M>,
+    seat: &mut Seat<M>,
+    ask: &M::Ask,
+) -> Result<M::Answer, Fault>
+    requires { IsOf seat.old desk.now }
+    ensures { IsOf seat.new desk.now }
+{
+    match desk.step(rt, seat, ask) {
+        Ok(answer) => Ok(answer),
+        Err(_) => Err(Fault::Worn),
+    }
+}
+
 fn ask_by<R: Wait + Copy>(
     rt: R,
     alloc: Global,
@@ -171,10 +187,7 @@ fn ask_by<R: Wait + Copy>(
     ensures { IsOf seat.new desk.now }
 {
     let ask = ask_of(alloc, wish)?;
-    match desk.step(rt, seat, &ask) {
-        Ok(answer) => Ok(answer),
-        Err(_) => Err(Fault::Worn),
-    }
+    step(rt, desk, seat, &ask)
 }
 
 /// One step for each wish.
