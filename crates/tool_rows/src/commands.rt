@@ -1,110 +1,113 @@
 //! Runs of `apply` and `compact`, and of words that are no command.
 
-/// A run: its words, and how many of the first bytes of which files are its input.
+/// The front of a file: its name, and how many bytes at most.
+pub type Front = (&'static str, usize);
+
+/// A run: its command line, and what its input is.
 #[derive(Clone, Copy)]
 pub struct CommandRow {
-    pub words: &'static [&'static str],
-    pub input: &'static [(&'static str, usize)],
+    pub line: &'static str,
+    pub input: &'static [Front],
 }
 
 /// All of a file: more bytes than any of them has.
 pub const ALL: usize = 2_000;
 
-const SNAPSHOT: (&str, usize) = ("snapshot.ltx", ALL);
+const SNAPSHOT: Front = ("snapshot.ltx", ALL);
 
-const DELTA: (&str, usize) = ("delta.ltx", ALL);
+const DELTA: Front = ("delta.ltx", ALL);
 
-pub const COMMANDS: [CommandRow; 23] = [
+pub const COMMANDS: &[CommandRow] = &[
     CommandRow {
-        words: &["apply"],
+        line: "litefs apply",
         input: &[SNAPSHOT],
     },
     CommandRow {
-        words: &["apply"],
+        line: "litefs apply",
         input: &[SNAPSHOT, DELTA],
     },
     CommandRow {
-        words: &["apply"],
+        line: "litefs apply",
         input: &[("empty.ltx", ALL)],
     },
     CommandRow {
-        words: &["apply"],
+        line: "litefs apply",
         input: &[("compacted.ltx", ALL)],
     },
     CommandRow {
-        words: &["apply"],
+        line: "litefs apply",
         input: &[],
     },
     CommandRow {
-        words: &["apply"],
+        line: "litefs apply",
         input: &[("snapshot.ltx", 99)],
     },
     CommandRow {
-        words: &["apply"],
+        line: "litefs apply",
         input: &[("snapshot.ltx", 630)],
     },
     CommandRow {
-        words: &["apply"],
+        line: "litefs apply",
         input: &[SNAPSHOT, ("delta.ltx", 1)],
     },
     CommandRow {
-        words: &["apply"],
+        line: "litefs apply",
         input: &[DELTA],
     },
     CommandRow {
-        words: &["compact"],
+        line: "litefs compact",
         input: &[SNAPSHOT, DELTA],
     },
     CommandRow {
-        words: &["compact"],
+        line: "litefs compact",
         input: &[DELTA, SNAPSHOT],
     },
     CommandRow {
-        words: &["compact"],
+        line: "litefs compact",
         input: &[DELTA, ("snapshot.ltx", 64)],
     },
     CommandRow {
-        words: &["compact"],
+        line: "litefs compact",
         input: &[],
     },
     CommandRow {
-        words: &[],
+        line: "litefs",
         input: &[SNAPSHOT],
     },
     CommandRow {
-        words: &["mend"],
+        line: "litefs mend",
         input: &[SNAPSHOT],
     },
     CommandRow {
-        words: &["Apply"],
+        line: "litefs Apply",
         input: &[SNAPSHOT],
     },
     CommandRow {
-        words: &["--help"],
+        line: "litefs --help",
         input: &[SNAPSHOT],
     },
     CommandRow {
-        words: &["-h"],
+        line: "litefs -h",
         input: &[SNAPSHOT],
     },
     CommandRow {
-        words: &["help"],
+        line: "litefs help",
         input: &[SNAPSHOT],
     },
     CommandRow {
-        words: &["--", "apply"],
+        line: "litefs -- apply",
         input: &[SNAPSHOT],
     },
     CommandRow {
-        words: &["apply", "--"],
+        line: "litefs apply --",
         input: &[SNAPSHOT],
     },
     CommandRow {
-        words: &["apply", "x"],
+        line: "litefs apply x",
         input: &[SNAPSHOT],
     },
     CommandRow {
-        words: &["mount", "x"],
+        line: "litefs mount x",
         input: &[],
     },
 ];

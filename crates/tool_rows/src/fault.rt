@@ -3,7 +3,7 @@ use std::alloc::{AllocError, AllocFailed};
 use std::io;
 
 /// Why a run could not be made.
-#[derive(Clone, Copy, Debug, PartialEq, Eq)]
+#[derive(Clone, Copy, Debug)]
 pub enum Fault {
     /// A file was not read, or nothing could be printed.
     Io,
@@ -33,11 +33,5 @@ impl<T: Drop> From<AllocFailed<T>> for Fault {
 impl From<io::Error> for Fault {
     fn from(_error: io::Error) -> Fault {
         Fault::Io
-    }
-}
-
-impl From<hex::FromHexError> for Fault {
-    fn from(_error: hex::FromHexError) -> Fault {
-        Fault::Row
     }
 }

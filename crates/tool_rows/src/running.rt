@@ -1,61 +1,56 @@
 //! A run over memory.
 
 use crate::fault::Fault;
-use lf_base::{Handles, SliceSource, Status, Text, VecSink};
+use lf_base::{Handles, Sink, SliceSource, Source, Status, Text, VecSink};
 use litefs_tool::{Host, run};
-use node_mount::MemMaker;
+use node_mount::Maker;
 use std::alloc::Global;
 
 /// What a run reads from, writes to, and says its failure on.
-pub type MemHost<'a> = Host<SliceSource<'a>, VecSink, VecSink, SliceSource<'a>, MemMaker>;
+pub type MemHost<'a, M> = Host<SliceSource<'a>, VecSink, VecSink, SliceSource<'a>, M>;
 
-/// How a run ended, what it wrote, and what it said.
-#[derive(Drop)]
-pub struct Ended {
-    pub status: Status,
-    pub output: Vec<u8>,
-    pub said: Vec<u8>,
-}
-
-fn arguments_of(alloc: Global, words: &[&str]) -> Result<Vec<Text>, Fault> {
+/// The words behind the name of the program.
+fn arguments_of(alloc: Global, line: &str) -> Result<Vec<Text>, Fault> {
     let mut arguments = Vec::new(alloc);
-    for word in words {
+    for word in line.split_whitespace().skip(1) {
         arguments.push(Text::of(alloc, word)?)?;
     }
     Ok(arguments)
 }
 
-/// Runs `litefs` by these words.
-pub fn run_words<R: Handles + Copy + Send + 'static>(
-    rt: R,
-    alloc: Global,
-    words: &[&str],
-    host: &mut MemHost<'_>,
-) -> Result<Status, Fault> {
-    let arguments = arguments_of(alloc, words)?;
+/// Runs `litefs` by this command line.
+pub fn run_line<
+    R: Handles + Copy + Send + 'static,
+    I: Source,
+    O: Sink,
+    E: Sink,
+    G: Source,
+    M: Maker,
+>(rt: R, alloc: Global, line: &str, host: &mut Host<I, O, E, G, M>) -> Result<Status, Fault> {
+    let arguments = arguments_of(alloc, line)?;
     Ok(run(rt, alloc, arguments.as_slice(), host))
 }
 
-/// Runs `litefs` over this input, this configuration and this maker.
-pub fn run_over<R: Handles + Copy + Send + 'static>(
-    rt: R,
+/// What a run writes to, and what it says its failure on.
+fn sinks(alloc: Global) -> Result<(VecSink, VecSink), Fault> {
+    let output = VecSink::new(alloc, 4_096, Vec::new(alloc))?;
+    let errors = VecSink::new(alloc, 256, Vec::new(alloc))?;
+    Ok((output, errors))
+}
+
+/// A host over this input, this configuration and this maker.
+pub fn host_over<'a, M: Drop>(
     alloc: Global,
-    words: &[&str],
-    input: &[u8],
-    config: SliceSource<'_>,
-    make: MemMaker,
-) -> Result<Ended, Fault> {
-    let mut host = Host {
-        input: SliceSource::new(input, Vec::new(alloc))?,
-        output: VecSink::new(alloc, 4_096, Vec::new(alloc))?,
-        errors: VecSink::new(alloc, 256, Vec::new(alloc))?,
+    input: &'a [u8],
+    config: SliceSource<'a>,
+    make: M,
+) -> Result<MemHost<'a, M>, Fault> {
+    let (output, errors) = sinks(alloc)?;
+    Ok(Host {
+        input: SliceSource::new(input, Vec::new(alloc)).unwrap(),
+        output,
+        errors,
         config,
         make,
-    };
-    let status = run_words(rt, alloc, words, &mut host)?;
-    Ok(Ended {
-        status,
-        output: Vec::from_slice(alloc, host.output.taken())?,
-        said: Vec::from_slice(alloc, host.errors.taken())?,
     })
 }

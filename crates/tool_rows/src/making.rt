@@ -1,0 +1,138 @@
+//! What a node is made of.
+ghost use Rattle.std.specs.Prelude.{◌≡◌, ◌∷◌, [], All, IfOk};
+ghost use Rattle.node_mount.specs.MemMaker.{IsNewDisk, IsNewDoor, IsNewSpawner};
+
+use crate::fault::Fault;
+use crate::nodes::{NEVER, NodeRow, ROOM};
+use lf_base::{CallSpawner, FixedClock, ListAcceptor, MemLink, NoMemory, Watch};
+use lf_disk::{Disk, FileName, MemDisk};
+use node_mount::{MemMaker, MemSpawn};
+use std::alloc::Global;
+
+/// OPEN of the position file, and READ of it.
+const ASKED: &[u8] = b"\x30\0\0\0\x0e\0\0\0\x06\0\0\0\0\0\0\0\x06\0\0\0\0\0\0\0\0\0\0\0\0\0\0\0\
+    \0\0\0\0\0\0\0\0\0\0\0\0\0\0\0\0\
+    \x50\0\0\0\x0f\0\0\0\x07\0\0\0\0\0\0\0\x06\0\0\0\0\0\0\0\0\0\0\0\0\0\0\0\
+    \0\0\0\0\0\0\0\0\x01\0\0\0\0\0\0\0\0\0\0\0\0\0\0\0\0\x10\0\0\0\0\0\0\
+    \0\0\0\0\0\0\0\0\0\0\0\0\0\0\0\0";
+
+/// What shows what the two links of a node took.
+#[derive(Drop)]
+pub struct Links {
+    pub files: Watch,
+    pub http: Watch,
+}
+
+/// A list of one item.
+pub fn one<T: Drop>(alloc: Global, item: T) -> Result<Vec<T>, NoMemory>
+    ensures { IfOk result (λ list. list.items ≡ item ∷ []) }
+{
+    let mut list = Vec::new(alloc);
+    list.push(item)?;
+    Ok(list)
+}
+
+/// Writes a file of the log.
+fn write_log<D: Disk>(disk: &mut D, file: &[u8]) -> Result<(), Fault> {
+    let name = FileName::Ltx { min: 1, max: 1 };
+    if disk.write(name, 0, file).is_err() || disk.sync(name).is_err() {
+        return Err(Fault::Row);
+    }
+    Ok(())
+}
+
+/// A disk that has one file of the log, or a part of it, as a node finds it that was stopped.
+#[tactic(auto, using(node_mount::proofs::DiskLemmas::rests))]
+fn disk_with(alloc: Global, file: &[u8]) -> Result<MemDisk, Fault>
+    ensures { IfOk result IsNewDisk }
+{
+    let mut disk = MemDisk::new(alloc, Vec::new(alloc), None).unwrap();
+    write_log(&mut disk, file)?;
+    match disk.reopen() {
+        Ok(disk) => Ok(disk),
+        Err(_) => Err(Fault::NoMemory),
+    }
+}
+
+/// An acceptor that gives one link.
+fn acceptor(alloc: Global, link: MemLink, failing: u64) -> Result<Vec<ListAcceptor>, Fault>
+    ensures { IfOk result (λ made. All IsNewDoor made.items) }
+{
+    let links = one(alloc, link)?;
+    let acceptor = ListAcceptor::new(links, one(alloc, failing)?).unwrap();
+    Ok(one(alloc, acceptor)?)
+}
+
+/// The same for a link that gives these bytes, and what shows what is written on it.
+fn door(
+    alloc: Global,
+    input: &[u8],
+    room: usize,
+    failing: u64,
+) -> Result<(Vec<ListAcceptor>, Watch), Fault>
+    ensures { IfOk result (λ made. All IsNewDoor made.0.items) }
+{
+    let input = Vec::from_slice(alloc, input)?;
+    let link = MemLink::new(alloc, input, room, Vec::new(alloc))?;
+    let watch = link.watch();
+    Ok((acceptor(alloc, link, failing)?, watch))
+}
+
+/// A spawner that runs each job in place, or none.
+fn spawners(alloc: Global, refused: bool) -> Result<Vec<MemSpawn>, Fault>
+    ensures { IfOk result (λ made. All IsNewSpawner made.items) }
+{
+    if refused {
+        return Ok(Vec::new(alloc));
+    }
+    let spawner = CallSpawner::new(Vec::new(alloc)).unwrap();
+    Ok(one(alloc, MemSpawn::Call(spawner))?)
+}
+
+/// A row's maker of these objects.
+fn maker_over(
+    alloc: Global,
+    row: &NodeRow,
+    disks: Vec<MemDisk>,
+    files: Vec<ListAcceptor>,
+    http: Vec<ListAcceptor>,
+) -> Result<MemMaker, Fault>
+    requires disks { All IsNewDisk disks.items }
+    requires files { All IsNewDoor files.items }
+    requires http { All IsNewDoor http.items }
+{
+    let spawners = spawners(alloc, row.refused)?;
+    let failing = one(alloc, row.made)?;
+    let (none, clock) = (Vec::new(alloc), FixedClock::new(7));
+    Ok(MemMaker::new(
+        alloc, disks, files, http, none, spawners, clock, 9, 8, failing,
+    )?)
+}
+
+/// What a row's node is made of, over a disk with this file.
+pub fn maker_of(alloc: Global, row: &NodeRow, file: &[u8]) -> Result<(MemMaker, Links), Fault> {
+    let disks = one(alloc, disk_with(alloc, row.log_of(file))?)?;
+    let (files, file_link) = door(alloc, ASKED, ROOM, row.accepted)?;
+    let (http, http_link) = door(alloc, row.request, row.room, NEVER)?;
+    let links = Links {
+        files: file_link,
+        http: http_link,
+    };
+    Ok((maker_over(alloc, row, disks, files, http)?, links))
+}
+
+/// What a run has that mounts nothing.
+pub fn empty_maker(alloc: Global) -> Result<MemMaker, Fault> {
+    Ok(MemMaker::new(
+        alloc,
+        Vec::new(alloc),
+        Vec::new(alloc),
+        Vec::new(alloc),
+        Vec::new(alloc),
+        Vec::new(alloc),
+        FixedClock::new(0),
+        1,
+        8,
+        Vec::new(alloc),
+    )?)
+}
