@@ -3,65 +3,73 @@ ghost use Rattle.turn_desk.specs.Seats.{IsOf};
 
 use super::{Counter, Device};
 use crate::same::same;
-use lf_base::Closing;
+use lf_base::{Closing, Pause, SleepPause};
 use std::alloc::Global;
 use std::process::Abort;
 use std::sync::Wait;
-use std::thread;
-use std::thread::Threads;
+use std::thread::{self, Threads};
+use std::time::Clock;
 use turn_desk::{Desk, Seat, Tried};
+
+// How often one that waits looks again, after a nap of a millisecond.
+const LOOKS: u32 = 30_000;
 
 // It tells that a step goes on, which ends once it may.
 #[derive(Drop)]
-struct Held {
+struct Held<P> {
     begun: Closing,
     may_end: Closing,
+    pause: P,
 }
 
-impl Device for Held {
+impl<P: Pause> Device for Held<P> {
     fn extra(&mut self) -> u64 {
         self.begun.close();
-        wait_for(&self.may_end);
+        wait_for(&self.may_end, &mut self.pause);
         0
     }
 }
 
-// Returns once it is closed, or after many looks.
-fn wait_for(word: &Closing) {
-    for _ in 0..1_000_000_000u64 {
+// Waits until the word is closed, for half a minute at most.
+fn wait_for<P: Pause>(word: &Closing, pause: &mut P) {
+    for _ in 0..LOOKS {
         if word.is_closed() {
             break;
         }
+        pause.nap();
     }
 }
 
 // A step that is held.
-fn steps<R: Wait + Copy>(rt: R, desk: &Desk<Counter<Held>>, mut seat: Seat<Counter<Held>>) -> bool
+fn steps<D: Device, R: Wait + Copy>(rt: R, desk: &Desk<Counter<D>>, seat: Seat<Counter<D>>) -> bool
     requires { IsOf seat desk.now }
 {
+    let mut seat = seat;
     desk.step(rt, &mut seat, &1).is_ok()
 }
 
 // What a try comes to during that step, which ends after it.
-fn tries(
-    desk: &Desk<Counter<Held>>,
-    mut seat: Seat<Counter<Held>>,
+fn tries<D: Device, P: Pause + Drop>(
+    desk: &Desk<Counter<D>>,
+    seat: Seat<Counter<D>>,
     begun: &Closing,
     may_end: &Closing,
+    pause: P,
 ) -> Result<u64, Tried>
     requires { IsOf seat desk.now }
 {
-    wait_for(begun);
+    let (mut seat, mut pause) = (seat, pause);
+    wait_for(begun, &mut pause);
     let tried = desk.try_step(&mut seat, &1);
     may_end.close();
     tried
 }
 
-fn try_during_a_step<R: Threads + Wait + Sync + Copy>(
+fn try_during_a_step<D: Device + Send + Drop, R: Threads + Wait + Clock + Copy + Send>(
     rt: R,
-    desk: &Desk<Counter<Held>>,
-    one: Seat<Counter<Held>>,
-    two: Seat<Counter<Held>>,
+    desk: &Desk<Counter<D>>,
+    one: Seat<Counter<D>>,
+    two: Seat<Counter<D>>,
     begun: &Closing,
     may_end: &Closing,
 ) -> (bool, Result<u64, Tried>)
@@ -70,25 +78,21 @@ fn try_during_a_step<R: Threads + Wait + Sync + Copy>(
 {
     thread::join(
         &rt,
-        || -> bool
+        move || -> bool
             requires { IsOf one desk.now }
         { steps(rt, desk, one) },
-        || -> Result<u64, Tried>
+        move || -> Result<u64, Tried>
             requires { IsOf two desk.now }
-        { tries(desk, two, begun, may_end) },
+        { tries(desk, two, begun, may_end, SleepPause::new(rt, 1)) },
     )
 }
 
 // A desk with two seats.
-fn opened(
+fn opened<D: Device + Drop>(
     rt: impl Copy + Abort + Wait,
     alloc: Global,
-    device: Held,
-) -> (
-    Desk<Counter<Held>>,
-    Seat<Counter<Held>>,
-    Seat<Counter<Held>>,
-)
+    device: D,
+) -> (Desk<Counter<D>>, Seat<Counter<D>>, Seat<Counter<D>>)
     ensures one { IsOf result.1 result.0 }
     ensures two { IsOf result.2 result.0 }
 {
@@ -110,6 +114,7 @@ fn busy_while_another_steps(rt: HostRuntime) {
     let device = Held {
         begun: begun.another().expect(&rt, "memory"),
         may_end: may_end.another().expect(&rt, "memory"),
+        pause: SleepPause::new(rt, 1),
     };
     let (desk, one, two) = opened(rt, rt.alloc(), device);
     let found = try_during_a_step(rt, &desk, one, two, &begun, &may_end);
