@@ -6,11 +6,10 @@ ghost use Rattle.fuse_msgs.specs.Reply.{IsReply};
 ghost use Rattle.conversations.specs.declared.difference.Difference.TheVariants as difference;
 ghost use Rattle.conversations.specs.AsRecorded.{AsRecorded, SameReply, SameCommit, SameChange, SamePages, SameBytes, SamePosition, OutcomeDiffers, CommitDiffers, ChangeDiffers};
 
-use crate::fault::Fault;
 use crate::outcome::Outcome;
 use crate::turn::{Commit, Message};
 use fuse_msgs::{Reply, encode};
-use lf_base::{Pos, pos_text};
+use lf_base::{NoMemory, Pos, pos_text};
 use lf_sqlite_pages::{Change, PageWrite};
 use sha2::{Digest, Sha256};
 use std::alloc::Global;
@@ -60,7 +59,7 @@ pub fn outcome_differs(
     position: Pos,
     unique: u64,
     recorded: &Message,
-) -> Result<Option<Difference>, Fault>
+) -> Result<Option<Difference>, NoMemory>
     ensures same { IfOk result (λ why. (why ≡ None) ↔ AsRecorded outcome.now position unique recorded.now) }
     ensures differs { IfOk result (λ why. IfSome why (OutcomeDiffers outcome.now position unique recorded.now)) }
 {
@@ -76,7 +75,7 @@ fn reply_differs(
     reply: &Option<Reply>,
     unique: u64,
     recorded: &str,
-) -> Result<Option<Difference>, Fault>
+) -> Result<Option<Difference>, NoMemory>
     ensures same { IfOk result (λ why. (why ≡ None) ↔ SameReply reply.now unique recorded.now) }
     ensures differs { IfOk result (λ why. IfSome why (λ it. it ≡ difference.Reply)) }
 {
@@ -88,7 +87,7 @@ fn reply_differs(
 }
 
 /// Whether a reply can be written, and its bytes are the recorded ones.
-fn is_recorded(alloc: Global, reply: &Reply, unique: u64, recorded: &str) -> Result<bool, Fault>
+fn is_recorded(alloc: Global, reply: &Reply, unique: u64, recorded: &str) -> Result<bool, NoMemory>
     ensures { IfOk result (λ same. IsTrue same ↔ SameReply (Some reply.now) unique recorded.now) }
 {
     if !is_sendable(reply) {
@@ -117,7 +116,7 @@ fn commit_differs(
     change: &Option<Change>,
     position: Pos,
     recorded: &Option<Commit>,
-) -> Result<Option<Difference>, Fault>
+) -> Result<Option<Difference>, NoMemory>
     ensures same { IfOk result (λ why. (why ≡ None) ↔ SameCommit change.now position recorded.now) }
     ensures differs { IfOk result (λ why. IfSome why (CommitDiffers change.now position recorded.now)) }
 {
@@ -135,7 +134,7 @@ fn change_differs(
     change: &Change,
     position: Pos,
     recorded: &Commit,
-) -> Result<Option<Difference>, Fault>
+) -> Result<Option<Difference>, NoMemory>
     ensures same { IfOk result (λ why. (why ≡ None) ↔ SameChange change.now position recorded.now) }
     ensures differs { IfOk result (λ why. IfSome why (ChangeDiffers change.now position recorded.now)) }
 {
@@ -150,7 +149,7 @@ fn change_differs(
 }
 
 /// Whether a change has the recorded page size, number of pages, and numbers.
-fn has_pages(alloc: Global, change: &Change, recorded: &Commit) -> Result<bool, Fault>
+fn has_pages(alloc: Global, change: &Change, recorded: &Commit) -> Result<bool, NoMemory>
     ensures { IfOk result (λ same. IsTrue same ↔ SamePages change.now recorded.now) }
 {
     let numbers = numbers_of(alloc, change.pages())?;
@@ -162,7 +161,7 @@ fn has_pages(alloc: Global, change: &Change, recorded: &Commit) -> Result<bool, 
 }
 
 /// The numbers of pages.
-fn numbers_of(alloc: Global, pages: &[PageWrite]) -> Result<Vec<u64>, Fault>
+fn numbers_of(alloc: Global, pages: &[PageWrite]) -> Result<Vec<u64>, NoMemory>
     ensures { IfOk result (λ numbers. numbers.items ≡ map (λ w. w.number) pages.now) }
 {
     let mut numbers = Vec::new(alloc);
@@ -173,7 +172,7 @@ fn numbers_of(alloc: Global, pages: &[PageWrite]) -> Result<Vec<u64>, Fault>
 }
 
 /// Whether the pages of a change, one after another, have this SHA-256.
-fn has_bytes(alloc: Global, change: &Change, recorded: &str) -> Result<bool, Fault>
+fn has_bytes(alloc: Global, change: &Change, recorded: &str) -> Result<bool, NoMemory>
     ensures { IfOk result (λ same. IsTrue same ↔ SameBytes change.now recorded.now) }
 {
     let digest = digest_of(change.pages());

@@ -1,5 +1,5 @@
 //! The served files over a committed image in memory.
-ghost use Rattle.std.specs.Prelude.{◌≡◌, IfOk, IfErr, OnOk, OnErr, length, Some, false};
+ghost use Rattle.std.specs.Prelude.{◌≡◌, ◌≢◌, IfOk, IfErr, OnOk, OnErr, length, Some, false};
 ghost use Rattle.lf_sqlite_pages.specs.Apply.{Fits, apply};
 ghost use Rattle.file_view.specs.Done.{IsDone};
 ghost use Rattle.file_view.specs.Endings.{applied, committed, dropped, ended};
@@ -110,6 +110,7 @@ impl Files {
         ensures view { OnOk result (self.new.view ≡ committed self.old.view) }
         ensures fits { OnOk result (Fits self.old.image change.now) }
         ensures record_fault { result ≡ Err fault.Record → ¬ Fits self.old.image change.now }
+        ensures fault { IfErr result (λ why. why ≢ fault.Io) }
         ensures err { OnErr result (self.new ≡ self.old) }
     {
         if !self.image.fits(change) {

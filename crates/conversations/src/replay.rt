@@ -1,11 +1,12 @@
 //! A conversation, as it goes on.
-ghost use Rattle.std.specs.Prelude.{◌≡◌, IfOk, OnOk, length};
+ghost use Rattle.std.specs.Prelude.{◌≡◌, ◌≢◌, IfErr, IfOk, OnOk, length};
 ghost use Rattle.lf_sqlite_pages.specs.Apply.{apply};
 ghost use Rattle.lf_sqlite_pages.specs.Complete.{complete};
 ghost use Rattle.lf_sqlite_pages.specs.Image.{empty_image};
 ghost use Rattle.file_view.specs.Endings.{applied, committed};
 ghost use Rattle.conversations.specs.Replaying.{Heard, IsAnswered, IsNew, IsOver, Taken, one_more, position_at, zero_image};
 ghost use Rattle.conversations.specs.Standing.{Await};
+ghost use Rattle.conversations.specs.declared.fault.Fault.TheVariants as fault;
 
 use crate::difference::{Difference, outcome_differs};
 use crate::fault::Fault;
@@ -14,7 +15,7 @@ use crate::outcome::Outcome;
 use crate::turn::{Message, Start, Turn};
 use file_view::Plan;
 use fuse_msgs::{BadMessage, Request, decode};
-use lf_base::{Name, Pos};
+use lf_base::{Name, NoMemory, Pos};
 use lf_sqlite_pages::{Change, Image, is_page_size};
 use page_checksum::page_sum;
 use std::alloc::Global;
@@ -32,17 +33,17 @@ pub struct Replay {
 
 impl Replay {
     /// The files of a database that was never written.
-    pub fn new(alloc: Global) -> Result<Replay, Fault>
+    pub fn new(alloc: Global) -> Result<Replay, NoMemory>
         ensures { IfOk result (IsNew empty_image 0) }
     {
         Replay::over(alloc, Image::empty(alloc), 0)
     }
 
-    fn over(alloc: Global, image: Image, transactions: u64) -> Result<Replay, Fault>
+    fn over(alloc: Global, image: Image, transactions: u64) -> Result<Replay, NoMemory>
         ensures { IfOk result (IsNew image transactions) }
     {
         let Ok(name) = Name::read(alloc, b"app") else {
-            return Err(Fault::NoMemory);
+            return Err(NoMemory);
         };
         let position = position_of(&image, transactions);
         let mut files = Files::new(alloc, &name, image)?;
@@ -61,7 +62,8 @@ impl Replay {
 
     /// Takes one turn, and says what differs from the record, if anything does.
     pub fn take(&mut self, alloc: Global, turn: &Turn) -> Result<Option<Difference>, Fault>
-        ensures { IfOk result (λ why. Taken self.old turn.now why self.new) }
+        ensures turn { IfOk result (λ why. Taken self.old turn.now why self.new) }
+        ensures fault { IfErr result (λ why. why ≢ fault.Io) }
     {
         match turn {
             Turn::Start(start) => self.begin(alloc, *start)?,
@@ -74,7 +76,7 @@ impl Replay {
     }
 
     /// A conversation begins anew.
-    fn begin(&mut self, alloc: Global, start: Start) -> Result<(), Fault>
+    fn begin(&mut self, alloc: Global, start: Start) -> Result<(), NoMemory>
         ensures { OnOk result (IsNew (zero_image start) start.transactions self.new) }
     {
         let new = Replay::over(alloc, zeros(alloc, start)?, start.transactions)?;
@@ -83,7 +85,7 @@ impl Replay {
     }
 
     /// The committed image is another now.
-    fn apply(&mut self, alloc: Global, start: Start) -> Result<(), Fault>
+    fn apply(&mut self, alloc: Global, start: Start) -> Result<(), NoMemory>
         ensures { OnOk result (IsOver (zero_image start)
             (applied self.old.files.view (zero_image start).page_size (length (zero_image start).pages)) start.transactions self.new) }
     {
@@ -96,7 +98,8 @@ impl Replay {
 
     /// Takes a message, and says how what becomes of it differs from the record.
     fn hear(&mut self, alloc: Global, message: &Message) -> Result<Option<Difference>, Fault>
-        ensures { IfOk result (λ why. Heard self.old message.now why self.new) }
+        ensures heard { IfOk result (λ why. Heard self.old message.now why self.new) }
+        ensures fault { IfErr result (λ why. why ≢ fault.Io) }
     {
         let request = match decode(alloc, message.request.as_slice()) {
             Ok(request) => request,
@@ -104,7 +107,8 @@ impl Replay {
             Err(_) => return Ok(Some(Difference::Request)),
         };
         let outcome = self.answer(alloc, message, &request)?;
-        outcome_differs(alloc, &outcome, self.position(), request.unique, message)
+        let position = self.position();
+        Ok(outcome_differs(alloc, &outcome, position, request.unique, message)?)
     }
 
     fn answer(
@@ -113,7 +117,8 @@ impl Replay {
         message: &Message,
         request: &Request,
     ) -> Result<Outcome, Fault>
-        ensures { IfOk result (λ outcome. IsAnswered self.old message.now request.now outcome self.new) }
+        ensures answered { IfOk result (λ outcome. IsAnswered self.old message.now request.now outcome self.new) }
+        ensures fault { IfErr result (λ why. why ≢ fault.Io) }
     {
         match self.files.ask(alloc, message.link, message.role, request) {
             Ok(Plan::Reply(reply)) => Ok(Outcome::without_commit(Some(reply))),
@@ -134,6 +139,7 @@ impl Replay {
         requires { Await self.old.files.image self.old.files.view change }
         ensures whole { IfOk result (λ whole. whole ≡ complete self.old.files.image change) }
         ensures over { OnOk result (IsOver (apply self.old.files.image change) (committed self.old.files.view) (one_more self.old.transactions) self.new) }
+        ensures fault { IfErr result (λ why. why ≢ fault.Io) }
     {
         let before = self.files.image().commit();
         self.files.commit(&change)?;
@@ -154,7 +160,7 @@ impl Replay {
 }
 
 /// An image of pages of zeros. It has none where the page size is none of SQLite's.
-fn zeros(alloc: Global, start: Start) -> Result<Image, Fault>
+fn zeros(alloc: Global, start: Start) -> Result<Image, NoMemory>
     ensures { IfOk result (λ image. image ≡ zero_image start) }
 {
     let mut image = Image::empty(alloc);

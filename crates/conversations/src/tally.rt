@@ -6,6 +6,7 @@ use crate::difference::Difference;
 use crate::fault::Fault;
 use crate::replay::Replay;
 use crate::turn::Turn;
+use lf_base::NoMemory;
 use std::alloc::Global;
 
 /// A conversation, how many of its lines were taken, and how many of these differ.
@@ -17,7 +18,7 @@ pub struct Tally {
 }
 
 impl Tally {
-    pub fn new(alloc: Global) -> Result<Tally, Fault>
+    pub fn new(alloc: Global) -> Result<Tally, NoMemory>
         ensures turns { IfOk result (λ tally. tally.turns ≡ 0) }
         ensures differ { IfOk result (λ tally. tally.differ ≡ 0) }
     {

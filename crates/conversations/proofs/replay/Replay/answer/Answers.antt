@@ -20,7 +20,7 @@ returns-in-Ok-Reply c =
       done = rw c.in-Ok-Reply.field-0-is at c.in-Ok-Reply.ensures.done;
       follows = (c.without_commit.ensures, record { image_is = c.ask.ensures.image; files_are = refl; transactions_are = refl });
     } in
-    inl (p, c.ask.new.self.view, went)
+    record { answered = inl (p, c.ask.new.self.view, went); fault = tt }
 
 pub returns-in-Ok-Silent : goal.returns-in-Ok-Silent
 returns-in-Ok-Silent c =
@@ -30,7 +30,7 @@ returns-in-Ok-Silent c =
       done = rw c.in-Ok-Silent.field-0-is at c.in-Ok-Silent.ensures.done;
       follows = (c.without_commit-in-Ok-Silent.ensures, record { image_is = c.ask.ensures.image; files_are = refl; transactions_are = refl });
     } in
-    inl (p, c.ask.new.self.view, went)
+    record { answered = inl (p, c.ask.new.self.view, went); fault = tt }
 
 pub returns-in_ok-change-in-Ok-Commit : goal.returns-in_ok-change-in-Ok-Commit
 returns-in_ok-change-in-Ok-Commit c =
@@ -49,4 +49,4 @@ returns-in_ok-change-in-Ok-Commit c =
             c.ask.ensures.image c.in_ok-change-in-Ok-Commit.ensures.over,
       );
     } in
-    inl (p, c.ask.new.self.view, went)
+    record { answered = inl (p, c.ask.new.self.view, went); fault = tt }
