@@ -17,3 +17,6 @@ pub mod Ended
 pub mod NeverEnds
 pub mod StreamLines
 pub mod FrameFronts
+pub mod NumberParts
+pub mod LastFields
+pub mod StreamHeads

@@ -43,7 +43,7 @@ reply_read status len more answer is fits hears =
     ∙ ap (λ (n : ℕ). Ok (told.Whole n (status_code h) len)) (sym text)
     ∙ ap (λ (n : ℕ). Ok (told.Whole (length (reply_head status len)) n len)) (code_value status is)
 
-asks : (bytes : List ℕ) (h : RequestHead) (rest : List ℕ) (c : Call) (len : ℕ) (answer : Result Heard WireFault)
+pub asks : (bytes : List ℕ) (h : RequestHead) (rest : List ℕ) (c : Call) (len : ℕ) (answer : Result Heard WireFault)
     → ReadsRequest bytes h rest → IsTaken (length (print_request h)) h.fields (Some len) → IsNamed c → h.method ≡ method_of c → h.target ≡ target_of c → HearsRequest bytes answer
     → (answer ≡ Ok (heard.Whole (length (print_request h)) c len)) ⊎ (answer ≡ Err fault.NoMemory)
 asks bytes h rest c len (Ok heard.Part) reads taken named method target hears = absurd (hears.0 h rest reads)

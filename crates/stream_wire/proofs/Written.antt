@@ -36,13 +36,13 @@ length_field n = field (codes "Content-Length") (decimal n)
 abbrev pub connection_field : Field
 connection_field = field (codes "Connection") (codes "close")
 
-is_field : (name value : List ℕ) → 0 < length name → list_all is_token_byte name ≡ true → AllPass is_value_byte value → IsField (field name value)
+pub is_field : (name value : List ℕ) → 0 < length name → list_all is_token_byte name ≡ true → AllPass is_value_byte value → IsField (field name value)
 is_field name value some token all = record {
   name = (some, passes is_token_byte name token);
   raw = All-cons (λ b. IsTrue (is_value_byte b)) 32 value refl all;
 }
 
-is_length_field : (n : ℕ) → n < 2 ^ 64 → IsField (length_field n)
+pub is_length_field : (n : ℕ) → n < 2 ^ 64 → IsField (length_field n)
 unfolding is_token_byte
 is_length_field n h = is_field (codes "Content-Length") (decimal n) (omega arith) refl (All-weaker (λ b. IsTrue (is_ascii_digit b)) (λ b. IsTrue (is_value_byte b)) is_value (decimal n) (decimal_pass n h))
 
@@ -50,7 +50,7 @@ is_connection_field : IsField connection_field
 unfolding is_token_byte
 is_connection_field = is_field (codes "Connection") (codes "close") (omega arith) refl (passes is_value_byte (codes "close") refl)
 
-says_length : (n : ℕ) → n < 2 ^ 64 → with_field None (name_and_value (length_field n)) ≡ Some (Some n)
+pub says_length : (n : ℕ) → n < 2 ^ 64 → with_field None (name_and_value (length_field n)) ≡ Some (Some n)
 unfolding with_field
 says_length n h = let t = trim_ows-decimal n h in let d = decimal_of-decimal n h in rw (t, d) refl
 
@@ -247,7 +247,7 @@ pub request_head-text : (c : Call) (host : List ℕ) (len : ℕ) → request_hea
 unfolding request_head request_line version blank end_line line print_request
 request_head-text c host len = regroup_request (method_of c) (target_of c) (codes "HTTP/1.1") crlf_bytes (line (codes "Host") host) (line (codes "Content-Length") (decimal len))
 
-is_host_field : (host : List ℕ) → AllPass is_value_byte host → IsField (host_field host)
+pub is_host_field : (host : List ℕ) → AllPass is_value_byte host → IsField (host_field host)
 unfolding is_token_byte
 is_host_field host fits = is_field (codes "Host") host (omega arith) refl fits
 
@@ -266,7 +266,7 @@ reads_request c host len more named host_fits len_fits =
       ap (λ (l : List ℕ). l ++ more) (request_head-text c host len),
     )
 
-host_says_nothing : (host : List ℕ) → with_field None (name_and_value (host_field host)) ≡ Some None
+pub host_says_nothing : (host : List ℕ) → with_field None (name_and_value (host_field host)) ≡ Some None
 unfolding with_field
 host_says_nothing host = refl
 

@@ -6,3 +6,5 @@ pub mod Writing
 pub mod Feeding
 pub mod Ends
 pub mod StreamLine
+pub mod LastFile
+pub mod NumberLines

@@ -3,7 +3,10 @@ use Rattle.std.specs.Prelude.{ℕ, List, [], ◌++◌, codes, decimal, Option, S
 use Rattle.httparse.specs.Ascii.{crlf_bytes}
 use Rattle.http.specs.StatusCode.{code_digits, reason_phrase}
 use Rattle.stream_wire.specs.declared.call.Call.{Call}
+use Rattle.stream_wire.specs.declared.call.Call.TheVariants.{Stream}
+use Rattle.stream_wire.specs.declared.last_file.LastFile.{LastFile}
 use Rattle.stream_wire.specs.Call.{method_of, target_of}
+use Rattle.stream_wire.specs.LastFile.{last_file_text}
 
 -- a field's line
 unfoldable pub line : List ℕ → List ℕ → List ℕ
@@ -42,3 +45,13 @@ request_line call = method_of call ++ blank ++ target_of call ++ blank ++ versio
 unfoldable pub request_head : Call → List ℕ → ℕ → List ℕ
 request_head call host len =
     request_line call ++ line (codes "Host") host ++ line (codes "Content-Length") (decimal len) ++ crlf_bytes
+
+-- what is said of the last file, if anything is
+abbrev pub last_line : Option LastFile → List ℕ
+last_line None = []
+last_line (Some last) = line (codes "Litefs-Last-File") (last_file_text last)
+
+-- the head of a request for a stream, with a body of so many bytes
+unfoldable pub stream_head : List ℕ → ℕ → Option LastFile → List ℕ
+stream_head host len last =
+    request_line Stream ++ line (codes "Host") host ++ line (codes "Content-Length") (decimal len) ++ last_line last ++ crlf_bytes

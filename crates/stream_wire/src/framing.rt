@@ -40,7 +40,7 @@ fn with_field(bytes: &[u8], header: HeaderSpan, so_far: Option<u64>) -> Option<O
     Some(Some(length))
 }
 
-fn is_called(word: &[u8], name: &[u8]) -> bool
+pub(crate) fn is_called(word: &[u8], name: &[u8]) -> bool
     requires { map to_ascii_lowercase word.now ≡ word.now }
     ensures { result ≡ is_called word.now name.now }
 {

@@ -110,7 +110,7 @@ fn put_request(
 }
 
 #[tactic(auto, unfolding(crate::specs::Writing::request_line))]
-fn put_request_line(out: &mut Vec<u8>, call: &Call) -> Result<(), NoMemory>
+pub(crate) fn put_request_line(out: &mut Vec<u8>, call: &Call) -> Result<(), NoMemory>
     ensures ok { OnOk result (out.new.items ≡ out.old.items ++ request_line call.now) }
     ensures grows { StartsWith out.new.items out.old.items }
 {
@@ -189,7 +189,7 @@ fn put_both(out: &mut Vec<u8>, path: &[u8], name: &[u8]) -> Result<(), NoMemory>
     put(out, name)
 }
 
-fn put_length(alloc: Global, length: u64, out: &mut Vec<u8>) -> Result<(), NoMemory>
+pub(crate) fn put_length(alloc: Global, length: u64, out: &mut Vec<u8>) -> Result<(), NoMemory>
     ensures ok { OnOk result (out.new.items ≡ out.old.items ++ line (codes "Content-Length") (decimal length)) }
     ensures grows { StartsWith out.new.items out.old.items }
 {
@@ -198,7 +198,7 @@ fn put_length(alloc: Global, length: u64, out: &mut Vec<u8>) -> Result<(), NoMem
 }
 
 #[tactic(auto, unfolding(crate::specs::Writing::line))]
-fn put_line(out: &mut Vec<u8>, name: &[u8], value: &[u8]) -> Result<(), NoMemory>
+pub(crate) fn put_line(out: &mut Vec<u8>, name: &[u8], value: &[u8]) -> Result<(), NoMemory>
     ensures ok { OnOk result (out.new.items ≡ out.old.items ++ line name.now value.now) }
     ensures grows { StartsWith out.new.items out.old.items }
 {
@@ -208,7 +208,7 @@ fn put_line(out: &mut Vec<u8>, name: &[u8], value: &[u8]) -> Result<(), NoMemory
     put(out, b"\r\n")
 }
 
-fn put(out: &mut Vec<u8>, bytes: &[u8]) -> Result<(), NoMemory>
+pub(crate) fn put(out: &mut Vec<u8>, bytes: &[u8]) -> Result<(), NoMemory>
     ensures ok { OnOk result (out.new.items ≡ out.old.items ++ bytes.now) }
     ensures err { OnErr result (out.new.items ≡ out.old.items) }
     ensures grows { StartsWith out.new.items out.old.items }

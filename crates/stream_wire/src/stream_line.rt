@@ -39,7 +39,7 @@ pub fn read_stream_line(alloc: Global, line: &[u8]) -> Result<Option<(Name, Pos)
 }
 
 /// The bytes as a name, where they are one.
-fn name_of(alloc: Global, bytes: &[u8]) -> Result<Option<Name>, NoMemory>
+pub(crate) fn name_of(alloc: Global, bytes: &[u8]) -> Result<Option<Name>, NoMemory>
     ensures { IfOk result (ReadsName bytes.now) }
 {
     match Name::read(alloc, bytes) {
@@ -64,7 +64,7 @@ fn read_line_end(end: &[u8]) -> Option<Pos>
     read_pos(text)
 }
 
-fn is_same(bytes: &[u8], word: &[u8]) -> bool
+pub(crate) fn is_same(bytes: &[u8], word: &[u8]) -> bool
     ensures { IsTrue result ↔ (bytes.now ≡ word.now) }
 {
     bytes == word
