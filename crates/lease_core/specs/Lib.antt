@@ -1,3 +1,4 @@
 pub mod Leases
 pub mod Belief
 pub mod Bodies
+pub mod LeaseRun

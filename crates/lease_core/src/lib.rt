@@ -21,7 +21,7 @@ mod writing;
 pub use belief::Belief;
 pub use body_fault::BodyFault;
 pub use grant::Grant;
-pub use laws::{belief_ends_first, one_live_lease, one_reading};
+pub use laws::{belief_ends_first, holder_believes, one_live_lease, one_reading};
 pub use lease_ask::LeaseAsk;
 pub use lease_fault::LeaseFault;
 pub use lease_reply::{LeaseKind, LeaseReply};
