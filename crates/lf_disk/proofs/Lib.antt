@@ -9,3 +9,4 @@ mod SlotLemmas
 pub mod Stretches
 pub mod Reading
 pub mod Crashes
+mod SyncBoth

@@ -21,6 +21,10 @@ pub record OnFile (name : FileName) (edit : Edit) (old new : Folder) : Type 0 wh
 abbrev pub Perhaps : Step → Step
 Perhaps step old new = Same old new ⊎ step old new
 
+-- one step and then another
+abbrev pub Both : Step → Step → Step
+Both first second old new = (between : Folder) × first old between × second between new
+
 -- the file has become this one
 abbrev pub Becomes : Option (List ℕ) → Edit
 Becomes file old new = new ≡ file

@@ -2,7 +2,7 @@
 use Rattle.std.specs.Prelude.{◌≡◌, ℕ, ◌+◌, ◌^◌, ◌≤◌, Result, IsErr, OnOk, None}
 use Rattle.lf_disk.specs.declared.name.FileName.{FileName}
 use Rattle.lf_disk.specs.Folder.{Folder, SameBut}
-use Rattle.lf_disk.specs.Change.{Step}
+use Rattle.lf_disk.specs.Change.{Step, SetsFile}
 
 -- The moment is the number of changing calls so far. At each moment up to it every file read as `seen`
 -- says, and a crash then, or during the call before or after, leaves a folder of `leaves`.
@@ -54,6 +54,20 @@ pub record EachMoment (old new : History) (P : Folder → Type 0) : Type 0 where
   pub later : old.moment ≤ new.moment
   pub each : Since old.moment new P
   pub past : KeepsPast old new
+
+-- the past stays, and the clock goes on by two at most
+pub record Passes (old new : History) : Type 0 where
+  pub later : old.moment ≤ new.moment
+  pub by_two : new.moment ≤ old.moment + 2
+  pub past : KeepsPast old new
+
+-- of this file a crash leaves what a read gave at that time
+abbrev pub Keeps : FileName → History → Step
+Keeps name h = SetsFile name (now h name)
+
+-- a crash leaves a folder that it could leave then, after a step
+abbrev pub MayLeave : Step → History → Folder → Type 0
+MayLeave step h c = (d : Folder) × may_leave h d × step d c
 
 -- nothing is pending but on one file: a crash leaves every other file as it reads
 abbrev pub IsSettledBut : FileName → History → Type 0

@@ -4,13 +4,15 @@ use Rattle.std.specs.List.{list_any}
 use Rattle.lf_base.specs.Faults.{one_more}
 
 -- the numbers of the calls that fail, and the number from which on all do; the calls and the faults so far, and how many
--- of the changing calls found no memory
+-- of the changing calls found no memory; whether calls that fail say that there is no room, and whether the last one said so
 pub record Plan : Type 0 where
   pub failing : List ℕ
   pub stop_after : Option ℕ
   pub calls : ℕ
   pub faults : ℕ
   pub short : ℕ
+  pub roomless : Bool
+  pub full : Bool
 
 -- whether the call of this number comes at the stop or after it
 abbrev pub is_after : Option ℕ → ℕ → Bool
@@ -37,3 +39,5 @@ pub record Follows {T E : Type 0} (result : Result T E) (old new : Plan) : Type 
   pub failing : new.failing ≡ old.failing
   pub stop_after : new.stop_after ≡ old.stop_after
   pub short : OnOk result (new.short ≡ old.short)
+  pub roomless : new.roomless ≡ old.roomless
+  pub full : OnOk result (new.full ≡ old.full)

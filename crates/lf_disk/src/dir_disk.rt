@@ -1,6 +1,6 @@
 //! A folder of the system as a disk. What its files hold is known to no contract: it tells its
 //! moment and its count of faults alone.
-ghost use Rattle.std.specs.Prelude.{◌≡◌, ◌==◌, ◌+◌, ◌<◌, ◌^◌, not, false, IfOk};
+ghost use Rattle.std.specs.Prelude.{◌≡◌, ◌==◌, ◌+◌, ◌<◌, ◌^◌, not, false, IfOk, OnOk};
 ghost use Rattle.std.proofs.lemmas.Bool.{false≢true};
 ghost use Rattle.lf_base.specs.Faults.{Rose, CountsFaults};
 ghost use Rattle.lf_disk.specs.History.{untold};
@@ -31,6 +31,7 @@ pub struct DirDisk<R: Files<File = File> + AllocGlobal + Copy> {
     folder: Folder<R>,
     moment: u64,
     faults: u64,
+    full: bool,
 }
 
 impl<R: Files<File = File> + AllocGlobal + Copy> DirDisk<R> {
@@ -44,6 +45,7 @@ impl<R: Files<File = File> + AllocGlobal + Copy> DirDisk<R> {
                 folder,
                 moment: 0,
                 faults: 0,
+                full: false,
             }),
             Err(_) => Err(Failed),
         }
@@ -56,12 +58,13 @@ impl<R: Files<File = File> + AllocGlobal + Copy> DirDisk<R> {
         self.faults != 0
     }
 
-    /// Counts a fault.
-    fn fail(&mut self) -> Failed
+    /// Counts a fault, and notes whether it is want of room.
+    fn fail(&mut self, full: bool) -> Failed
         ensures rose { Rose self.old.faults self.new.faults }
         ensures moment { self.new.moment ≡ self.old.moment }
     {
         self.faults = self.faults.saturating_add(1);
+        self.full = full;
         Failed
     }
 
@@ -70,10 +73,11 @@ impl<R: Files<File = File> + AllocGlobal + Copy> DirDisk<R> {
         ensures value { IfOk result (λ answer. outcome ≡ Ok answer) }
         ensures moment { self.new.moment ≡ self.old.moment }
         ensures cause { CountsFaults self.old.faults self.new.faults result }
+        ensures full { OnOk result (self.new.full ≡ self.old.full) }
     {
         match outcome {
             Ok(answer) => Ok(answer),
-            Err(_) => Err(self.fail()),
+            Err(error) => Err(self.fail(is_want_of_room(&error))),
         }
     }
 
@@ -82,6 +86,7 @@ impl<R: Files<File = File> + AllocGlobal + Copy> DirDisk<R> {
         requires { self.old.moment < 2 ^ 62 }
         ensures moment { self.new.moment ≡ self.old.moment + 1 }
         ensures cause { CountsFaults self.old.faults self.new.faults result }
+        ensures full { OnOk result (self.new.full ≡ self.old.full) }
     {
         self.moment += 1;
         self.answer(outcome)
@@ -94,6 +99,8 @@ impl<R: Files<File = File> + AllocGlobal + Copy> Disk for DirDisk<R> {
     ghost history = { λ d. untold d.moment };
 
     ghost faults = { λ d. d.faults };
+
+    ghost full = { λ d. d.full };
 
     ghost as_it_read = { λ _ _ honest _. absurd (false≢true honest) };
 
@@ -109,7 +116,7 @@ impl<R: Files<File = File> + AllocGlobal + Copy> Disk for DirDisk<R> {
 
     fn write(&mut self, name: FileName, at: u64, bytes: &[u8]) -> Result<(), Failed> {
         if self.moment >= LAST_MOMENT {
-            return Err(self.fail());
+            return Err(self.fail(false));
         }
         let outcome = self.folder.write(name, at, bytes);
         self.settle(outcome)
@@ -117,7 +124,7 @@ impl<R: Files<File = File> + AllocGlobal + Copy> Disk for DirDisk<R> {
 
     fn cut(&mut self, name: FileName, len: u64) -> Result<(), Failed> {
         if self.moment >= LAST_MOMENT {
-            return Err(self.fail());
+            return Err(self.fail(false));
         }
         let outcome = self.folder.cut(name, len);
         self.settle(outcome)
@@ -125,7 +132,7 @@ impl<R: Files<File = File> + AllocGlobal + Copy> Disk for DirDisk<R> {
 
     fn sync(&mut self, name: FileName) -> Result<(), Failed> {
         if self.moment >= LAST_MOMENT {
-            return Err(self.fail());
+            return Err(self.fail(false));
         }
         let outcome = self.folder.sync(name);
         self.settle(outcome)
@@ -133,7 +140,7 @@ impl<R: Files<File = File> + AllocGlobal + Copy> Disk for DirDisk<R> {
 
     fn rename(&mut self, from: FileName, to: FileName) -> Result<(), Failed> {
         if self.moment >= LAST_MOMENT {
-            return Err(self.fail());
+            return Err(self.fail(false));
         }
         let outcome = self.folder.rename(from, to);
         self.settle(outcome)
@@ -141,7 +148,7 @@ impl<R: Files<File = File> + AllocGlobal + Copy> Disk for DirDisk<R> {
 
     fn remove(&mut self, name: FileName) -> Result<(), Failed> {
         if self.moment >= LAST_MOMENT {
-            return Err(self.fail());
+            return Err(self.fail(false));
         }
         let outcome = self.folder.remove(name);
         self.settle(outcome)
@@ -151,14 +158,26 @@ impl<R: Files<File = File> + AllocGlobal + Copy> Disk for DirDisk<R> {
         match self.folder.list() {
             Ok(names) => Ok(names),
             Err(error) if error.kind() == ErrorKind::OutOfMemory => Err(ListFault::NoMemory),
-            Err(_) => {
-                let _ = self.fail();
+            Err(error) => {
+                let _ = self.fail(is_want_of_room(&error));
                 Err(ListFault::Failed)
             }
         }
     }
 
+    fn is_full(&self) -> bool {
+        self.full
+    }
+
     fn moment(&self) -> u64 {
         self.moment
     }
+}
+
+/// Whether the system says that the device or the user's share of it has no room.
+fn is_want_of_room(error: &io::Error) -> bool {
+    matches!(
+        error.kind(),
+        ErrorKind::StorageFull | ErrorKind::QuotaExceeded
+    )
 }

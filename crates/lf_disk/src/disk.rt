@@ -5,8 +5,8 @@ ghost use Rattle.std.specs.List.{IsDistinct};
 ghost use Rattle.lf_base.specs.Faults.{CountsFaults};
 ghost use Rattle.lf_base.specs.FileBytes.{Reads};
 ghost use Rattle.lf_disk.specs.Folder.{same_name, Same, bytes_of};
-ghost use Rattle.lf_disk.specs.Change.{OnFile, Perhaps, Writes, Cuts, Renames, TearsFile, CropsFile, SetsFile};
-ghost use Rattle.lf_disk.specs.History.{History, now, Rests, Ticks, Moves};
+ghost use Rattle.lf_disk.specs.Change.{Both, OnFile, Perhaps, Writes, Cuts, Renames, TearsFile, CropsFile, SetsFile};
+ghost use Rattle.lf_disk.specs.History.{History, now, Rests, Ticks, Moves, EachMoment, Keeps, MayLeave, Passes};
 
 use crate::list_fault::ListFault;
 use crate::name::FileName;
@@ -16,7 +16,7 @@ use lf_base::Failed;
 /// A call that changes something may fail with all of its effect, none of it or a part.
 pub trait Disk {
     ghost use Rattle.lf_disk.specs.declared.name.FileName.{FileName as Name};
-    ghost use Rattle.lf_disk.specs.ListFault.{CountsListFaults};
+    ghost use Rattle.lf_disk.specs.ListFault.{CountsListFaults, KeepsUnlessFailed};
 
     /// Whether its history is true. No call changes it.
     ghost honest: { Self → Bool };
@@ -27,13 +27,17 @@ pub trait Disk {
     /// How many of its calls have failed; it stays at the last number of a u64.
     ghost faults: { Self → ℕ };
 
+    /// Whether the system said of the call that failed last that there is no room.
+    ghost full: { Self → Bool };
+
     /// The length of a file in bytes, None where it is absent.
     fn size(&mut self, name: FileName) -> Result<Option<u64>, Failed>
         ensures size { IsTrue (honest self.old) → IfOk result
             (λ size. size ≡ option_map length (now (history self.old) name)) }
         ensures rests { Rests (history self.old) (history self.new) }
         ensures honest { honest self.new ≡ honest self.old }
-        ensures cause { CountsFaults (faults self.old) (faults self.new) result };
+        ensures cause { CountsFaults (faults self.old) (faults self.new) result }
+        ensures full { OnOk result (full self.new ≡ full self.old) };
 
     /// Puts the bytes from an offset on in front of `out`, as many as there are, and answers how
     /// many. An absent file has none.
@@ -43,7 +47,8 @@ pub trait Disk {
         ensures count { IfOk result (λ n. n ≤ length out.new) }
         ensures rests { Rests (history self.old) (history self.new) }
         ensures honest { honest self.new ≡ honest self.old }
-        ensures cause { CountsFaults (faults self.old) (faults self.new) result };
+        ensures cause { CountsFaults (faults self.old) (faults self.new) result }
+        ensures full { OnOk result (full self.new ≡ full self.old) };
 
     /// Writes bytes at an offset. It makes a file that is absent, and fills a gap with zeros.
     fn write(&mut self, name: FileName, at: u64, bytes: &[u8]) -> Result<(), Failed>
@@ -55,7 +60,8 @@ pub trait Disk {
             (history self.old) (history self.new)) }
         ensures ticks { Ticks result (history self.old) (history self.new) }
         ensures honest { honest self.new ≡ honest self.old }
-        ensures cause { CountsFaults (faults self.old) (faults self.new) result };
+        ensures cause { CountsFaults (faults self.old) (faults self.new) result }
+        ensures full { OnOk result (full self.new ≡ full self.old) };
 
     /// Gives a file this length. It makes one that is absent, and what is new is zeros.
     fn cut(&mut self, name: FileName, len: u64) -> Result<(), Failed>
@@ -67,7 +73,8 @@ pub trait Disk {
             (history self.old) (history self.new)) }
         ensures ticks { Ticks result (history self.old) (history self.new) }
         ensures honest { honest self.new ≡ honest self.old }
-        ensures cause { CountsFaults (faults self.old) (faults self.new) result };
+        ensures cause { CountsFaults (faults self.old) (faults self.new) result }
+        ensures full { OnOk result (full self.new ≡ full self.old) };
 
     /// After Ok a crash leaves of this file what a read gives.
     fn sync(&mut self, name: FileName) -> Result<(), Failed>
@@ -79,7 +86,29 @@ pub trait Disk {
             (history self.old) (history self.new)) }
         ensures ticks { Ticks result (history self.old) (history self.new) }
         ensures honest { honest self.new ≡ honest self.old }
-        ensures cause { CountsFaults (faults self.old) (faults self.new) result };
+        ensures cause { CountsFaults (faults self.old) (faults self.new) result }
+        ensures full { OnOk result (full self.new ≡ full self.old) };
+
+    /// Syncs two files. After Ok a crash leaves of both what a read gives; on the way and after a failure
+    /// of none, of one, or of both.
+    fn sync_both(&mut self, one: FileName, other: FileName) -> Result<(), Failed>
+        ensures done { IsTrue (honest self.old) → OnOk result
+            (Moves Same (Both (Keeps one (history self.old)) (Keeps other (history self.old)))
+            (history self.old) (history self.new)) }
+        ensures failed { IsTrue (honest self.old) → OnErr result
+            (Moves Same (Both (Perhaps (Keeps one (history self.old))) (Perhaps (Keeps other (history self.old))))
+            (history self.old) (history self.new)) }
+        ensures moments { IsTrue (honest self.old) → EachMoment (history self.old) (history self.new)
+            (MayLeave (Both (Perhaps (Keeps one (history self.old))) (Perhaps (Keeps other (history self.old))))
+            (history self.old)) }
+        ensures passes { Passes (history self.old) (history self.new) }
+        ensures honest { honest self.new ≡ honest self.old }
+        ensures cause { CountsFaults (faults self.old) (faults self.new) result }
+        ensures full { OnOk result (full self.new ≡ full self.old) }
+    {
+        self.sync(one)?;
+        self.sync(other)
+    }
 
     /// Gives a file that is there another name, in place of what has that name. It is done at once
     /// and stays after Ok.
@@ -93,7 +122,8 @@ pub trait Disk {
             (history self.old) (history self.new)) }
         ensures ticks { Ticks result (history self.old) (history self.new) }
         ensures honest { honest self.new ≡ honest self.old }
-        ensures cause { CountsFaults (faults self.old) (faults self.new) result };
+        ensures cause { CountsFaults (faults self.old) (faults self.new) result }
+        ensures full { OnOk result (full self.new ≡ full self.old) };
 
     /// Removes a file, which may be absent. It is done at once and stays after Ok.
     fn remove(&mut self, name: FileName) -> Result<(), Failed>
@@ -105,7 +135,8 @@ pub trait Disk {
             (history self.old) (history self.new)) }
         ensures ticks { Ticks result (history self.old) (history self.new) }
         ensures honest { honest self.new ≡ honest self.old }
-        ensures cause { CountsFaults (faults self.old) (faults self.new) result };
+        ensures cause { CountsFaults (faults self.old) (faults self.new) result }
+        ensures full { OnOk result (full self.new ≡ full self.old) };
 
     /// The name of every file, in any order.
     fn list(&mut self) -> Result<Vec<FileName>, ListFault>
@@ -115,7 +146,12 @@ pub trait Disk {
             (λ names. IsDistinct same_name names.items) }
         ensures rests { Rests (history self.old) (history self.new) }
         ensures honest { honest self.new ≡ honest self.old }
-        ensures cause { CountsListFaults (faults self.old) (faults self.new) result };
+        ensures cause { CountsListFaults (faults self.old) (faults self.new) result }
+        ensures full { KeepsUnlessFailed (full self.old) (full self.new) result };
+
+    /// Whether the call that failed last did so for want of room. Only a call that fails changes it.
+    fn is_full(&self) -> bool
+        ensures { result ≡ full self.now };
 
     /// The number of changing calls so far.
     fn moment(&self) -> u64

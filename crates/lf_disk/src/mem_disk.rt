@@ -46,7 +46,7 @@ impl MemDisk {
         stop_after: Option<u64>,
     ) -> Result<MemDisk, NoMemory>
         ensures empty { IfOk result (λ disk. disk ≡ record (fresh []) {
-          plan = record { failing = failing.items; stop_after = stop_after; calls = 0; faults = 0; short = 0 };
+          plan = record { failing = failing.items; stop_after = stop_after; calls = 0; faults = 0; short = 0; roomless = false; full = false };
         }) }
         ensures made { IsOk result }
     {
@@ -64,6 +64,13 @@ impl MemDisk {
         ensures { self.new ≡ record self.old { plan = stopped_in calls self.old.plan } }
     {
         self.schedule.stop_in(calls);
+    }
+
+    /// Lets its calls that fail from here on say that there is no room.
+    pub fn lose_room(&mut self)
+        ensures { self.new ≡ record self.old { plan = record self.old.plan { roomless = true } } }
+    {
+        self.schedule.lose_room();
     }
 
     /// The number of its calls so far.

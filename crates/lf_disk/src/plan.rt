@@ -1,5 +1,5 @@
 //! Which calls of a disk in memory fail.
-ghost use Rattle.std.specs.Prelude.{◌≡◌, ◌==◌, not};
+ghost use Rattle.std.specs.Prelude.{◌≡◌, ◌==◌, not, true, false};
 ghost use Rattle.lf_base.specs.Faults.{one_more, Rose};
 ghost use Rattle.lf_disk.specs.Plan.{fails_next, stopped_in};
 
@@ -14,6 +14,8 @@ pub struct Schedule {
     calls: u64,
     faults: u64,
     short: u64,
+    roomless: bool,
+    full: bool,
 }
 
 impl Model for Schedule {
@@ -21,12 +23,12 @@ impl Model for Schedule {
 
     ghost Value = { Plan };
 
-    ghost view = { λ s. record { failing = s.failing.items; stop_after = s.stop_after; calls = s.calls; faults = s.faults; short = s.short } };
+    ghost view = { λ s. record { failing = s.failing.items; stop_after = s.stop_after; calls = s.calls; faults = s.faults; short = s.short; roomless = s.roomless; full = s.full } };
 }
 
 impl Schedule {
     pub fn new(failing: Vec<u64>, stop_after: Option<u64>) -> Schedule
-        ensures { result ≡ record { failing = failing.items; stop_after = stop_after; calls = 0; faults = 0; short = 0 } }
+        ensures { result ≡ record { failing = failing.items; stop_after = stop_after; calls = 0; faults = 0; short = 0; roomless = false; full = false } }
     {
         Schedule {
             failing,
@@ -34,6 +36,8 @@ impl Schedule {
             calls: 0,
             faults: 0,
             short: 0,
+            roomless: false,
+            full: false,
         }
     }
 
@@ -60,19 +64,21 @@ impl Schedule {
 
     /// Counts a fault.
     pub fn fail(&mut self) -> Failed
-        ensures counted { self.new ≡ record self.old { faults = one_more self.old.faults } }
+        ensures counted { self.new ≡ record self.old { faults = one_more self.old.faults; full = self.old.roomless } }
         ensures rose { Rose self.old.faults self.new.faults }
     {
         self.faults = self.faults.saturating_add(1);
+        self.full = self.roomless;
         Failed
     }
 
     /// Counts a fault of a call that found no memory.
     pub fn lack(&mut self) -> Failed
-        ensures counted { self.new ≡ record self.old { faults = one_more self.old.faults; short = one_more self.old.short } }
+        ensures counted { self.new ≡ record self.old { faults = one_more self.old.faults; short = one_more self.old.short; full = self.old.roomless } }
         ensures rose { Rose self.old.faults self.new.faults }
     {
         self.faults = self.faults.saturating_add(1);
+        self.full = self.roomless;
         self.short = self.short.saturating_add(1);
         Failed
     }
@@ -82,6 +88,20 @@ impl Schedule {
         ensures { result ≡ not (self.now.faults == 0) }
     {
         self.faults != 0
+    }
+
+    /// Lets the calls that fail from here on say that there is no room.
+    pub fn lose_room(&mut self)
+        ensures { self.new ≡ record self.old { roomless = true } }
+    {
+        self.roomless = true;
+    }
+
+    /// Whether the call that failed last said that there is no room.
+    pub fn is_full(&self) -> bool
+        ensures { result ≡ self.now.full }
+    {
+        self.full
     }
 
     /// How many calls found no memory.

@@ -58,6 +58,23 @@ fn a_disk_in_memory(rt: HostRuntime) {
     same(rt, (disk.calls(), disk.short()), (17, 0));
 }
 
+/// Two files are synced. A disk that has lost its room says so of a call that fails, and of none before.
+#[test]
+fn want_of_room_is_told(rt: HostRuntime) {
+    let alloc = rt.alloc();
+    let failing = Vec::from_slice(alloc, &[0, 4]).expect(&rt, "memory");
+    let mut disk = MemDisk::new(alloc, failing, None).unwrap();
+    same(rt, disk.write(DATABASE, 0, b"a"), Err(Failed));
+    disk.lose_room();
+    same(rt, disk.is_full(), false);
+    same(rt, disk.write(DATABASE, 0, b"a"), Ok(()));
+    same(rt, disk.sync_both(DATABASE, STAGED), Ok(()));
+    same(rt, (disk.calls(), disk.moment()), (4, 4));
+    same(rt, disk.is_full(), false);
+    same(rt, disk.sync_both(DATABASE, STAGED), Err(Failed));
+    same(rt, disk.is_full(), true);
+}
+
 /// Bytes of which no two neighbours are the same.
 fn many(rt: &impl Abort, alloc: Global) -> Vec<u8> {
     let mut bytes = Vec::new(alloc);
@@ -132,6 +149,8 @@ fn a_folder(rt: HostRuntime) {
     write_and_read(&rt, &mut disk);
     name_and_remove(&rt, &mut disk);
     list_only(&rt, &mut disk, LTX);
+    same(&rt, disk.sync_both(DATABASE, LTX), Ok(()));
+    same(&rt, disk.is_full(), false);
     let path = "lf_disk_test/dbs/x/ltx/0000000000000001-000000000000001a.ltx";
     file_holds(rt, path, "s");
     fs::remove_dir_all(&rt, "lf_disk_test").expect(&rt, "a folder");

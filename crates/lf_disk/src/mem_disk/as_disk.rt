@@ -2,7 +2,7 @@
 ghost use Rattle.std.specs.Prelude.{◌≡◌, ◌↔◌, ◌≤◌, length, true, None, option_map, IsTrue, IsSome, IsErr, IsErrOf, IfOk, OnOk, OnErr, Contains};
 ghost use Rattle.std.specs.List.{IsDistinct};
 ghost use Rattle.lf_base.specs.Faults.{CountsFaults, one_more};
-ghost use Rattle.lf_disk.specs.ListFault.{CountsListFaults};
+ghost use Rattle.lf_disk.specs.ListFault.{CountsListFaults, KeepsUnlessFailed};
 ghost use Rattle.lf_disk.specs.declared.name.FileName.{FileName as Name};
 ghost use Rattle.lf_base.specs.FileBytes.{Reads};
 ghost use Rattle.lf_disk.specs.Folder.{same_name, Same, bytes_of};
@@ -27,6 +27,8 @@ impl Disk for MemDisk {
 
     ghost faults = { λ d. d.plan.faults };
 
+    ghost full = { λ d. d.plan.full };
+
     ghost as_it_read = { λ d t _ _. as_it_read d t };
 
     fn size(&mut self, name: FileName) -> Result<Option<u64>, Failed>
@@ -36,6 +38,7 @@ impl Disk for MemDisk {
         ensures plan { Follows result self.old.plan self.new.plan }
         ensures only { IsErr result → IsTrue (fails_next self.old.plan) }
         ensures one { IsErr result → self.new.plan.faults ≡ one_more self.old.plan.faults }
+        ensures kind { IsErr result → self.new.plan.full ≡ self.old.plan.roomless }
     {
         if self.schedule.begin() {
             return Err(self.schedule.fail());
@@ -51,6 +54,7 @@ impl Disk for MemDisk {
         ensures plan { Follows result self.old.plan self.new.plan }
         ensures only { IsErr result → IsTrue (fails_next self.old.plan) }
         ensures one { IsErr result → self.new.plan.faults ≡ one_more self.old.plan.faults }
+        ensures kind { IsErr result → self.new.plan.full ≡ self.old.plan.roomless }
     {
         if self.schedule.begin() {
             return Err(self.schedule.fail());
@@ -142,6 +146,8 @@ impl Disk for MemDisk {
         ensures rests { Rests (history_of self.old) (history_of self.new) }
         ensures cause { CountsListFaults self.old.plan.faults self.new.plan.faults result }
         ensures only { IsErrOf result ListFault.Failed → IsTrue (fails_next self.old.plan) }
+        ensures full { KeepsUnlessFailed self.old.plan.full self.new.plan.full result }
+        ensures kind { IsErrOf result ListFault.Failed → self.new.plan.full ≡ self.old.plan.roomless }
         ensures plan { Follows result self.old.plan self.new.plan }
     {
         if self.schedule.begin() {
@@ -149,6 +155,10 @@ impl Disk for MemDisk {
             return Err(ListFault::Failed);
         }
         Ok(slots::names(self.alloc, &self.files)?)
+    }
+
+    fn is_full(&self) -> bool {
+        self.schedule.is_full()
     }
 
     fn moment(&self) -> u64 {
