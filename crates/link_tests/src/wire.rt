@@ -1,5 +1,6 @@
 //! Frames of a stream: written, read in pieces, refused.
 mod heads;
+mod last_files;
 
 use crate::same::{holds, same};
 use lf_base::{Bytes, Name, Pos};
