@@ -15,6 +15,9 @@ number_of status.NoMemory = 6
 number_of status.NetworkFault = 7
 number_of status.NoThread = 8
 number_of status.Limit = 9
+number_of (status.Program number) = number
+number_of status.NotStarted = 10
+number_of status.LockRefused = 11
 
 -- what is said of it after the program's name; after a refused input the fault's name follows
 abbrev pub text_of : Status → List ℕ
@@ -28,3 +31,6 @@ text_of status.NoMemory = codes "out of memory"
 text_of status.NetworkFault = codes "network failed"
 text_of status.NoThread = codes "cannot start a thread"
 text_of status.Limit = codes "limit reached"
+text_of (status.Program number) = []
+text_of status.NotStarted = codes "cannot start the program"
+text_of status.LockRefused = codes "halt refused"

@@ -9,7 +9,8 @@ use crate::text::Text;
 
 /// What links are opened by.
 pub trait Dialer {
-    type L: Link + Send + Drop + 'static;
+    /// That a link can go to another thread is said where a job is started.
+    type L: Link + Drop;
 
     /// How often it, or a link that it took back, has failed.
     ghost faults: { Self → ℕ };

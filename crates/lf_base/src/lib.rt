@@ -41,6 +41,7 @@ mod text;
 mod thread_spawner;
 mod vec_sink;
 mod watch;
+mod watched_stream;
 
 pub use acceptor::Acceptor;
 pub use bytes::Bytes;
@@ -80,3 +81,4 @@ pub use text::Text;
 pub use thread_spawner::ThreadSpawner;
 pub use vec_sink::VecSink;
 pub use watch::Watch;
+pub use watched_stream::WatchedStream;

@@ -22,6 +22,12 @@ pub enum Status {
     NoThread,
     /// The input is longer than allowed.
     Limit,
+    /// A program that was run has ended with this number.
+    Program(u8),
+    /// A program could not be started.
+    NotStarted,
+    /// The lock that stops other nodes' writes was refused.
+    LockRefused,
 }
 
 impl Status {
@@ -40,15 +46,19 @@ impl Status {
             Status::NetworkFault => 7,
             Status::NoThread => 8,
             Status::Limit => 9,
+            Status::Program(number) => number,
+            Status::NotStarted => 10,
+            Status::LockRefused => 11,
         }
     }
 
-    /// What standard error says after `litefs: `. After `input refused: ` the fault's name follows.
+    /// What standard error says after `litefs: `: nothing after Ok, nor of a program that was run. After
+    /// `input refused: ` the fault's name follows.
     pub fn text(self) -> &'static str
         ensures { result.now ≡ text_of self }
     {
         match self {
-            Status::Ok => "",
+            Status::Ok | Status::Program(_) => "",
             Status::ReadFault => "cannot read",
             Status::WordsRefused => "words refused",
             Status::InputRefused => "input refused: ",
@@ -58,6 +68,8 @@ impl Status {
             Status::NetworkFault => "network failed",
             Status::NoThread => "cannot start a thread",
             Status::Limit => "limit reached",
+            Status::NotStarted => "cannot start the program",
+            Status::LockRefused => "halt refused",
         }
     }
 }

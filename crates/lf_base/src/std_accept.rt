@@ -7,6 +7,7 @@ use crate::handles::Handles;
 use crate::polling_stream::PollingStream;
 use crate::source::Failed;
 use crate::stream_link::{StreamLink, TcpLink, UnixLink};
+use crate::watched_stream::WatchedStream;
 use std::net::{TcpListener, TcpStream};
 use std::os::unix::net::{UnixListener, UnixStream};
 use std::time::Duration;
@@ -66,6 +67,7 @@ fn next_stream<R: Handles, T: Listen>(
 pub struct TcpAccept {
     listener: TcpListener,
     closing: Closing,
+    patience: u64,
     faults: u64,
     given: u64,
     ended: bool,
@@ -83,10 +85,18 @@ impl TcpAccept {
         Ok(TcpAccept {
             listener,
             closing,
+            patience: 0,
             faults: 0,
             given: 0,
             ended: false,
         })
+    }
+
+    /// Its links fail where a read or a write waits longer than so many milliseconds. 0 is no limit.
+    pub fn patient(self, patience: u64) -> TcpAccept
+        ensures { result ≡ record self { patience = patience } }
+    {
+        TcpAccept { patience, ..self }
     }
 
     /// Whether its count of faults is not 0.
@@ -113,6 +123,7 @@ impl Acceptor for TcpAccept {
         match next_stream(rt, &self.listener, &self.closing) {
             Ok(Some(stream)) => {
                 self.given = self.given.saturating_add(1);
+                let stream = WatchedStream::new(stream, self.patience);
                 Ok(Some(StreamLink::new(stream)))
             }
             Ok(None) => {

@@ -6,10 +6,14 @@ use crate::pause::Pause;
 use std::time::Duration;
 use std::{thread, time};
 
-/// The system's clock, as milliseconds since 1970. Where it cannot be read, the last number stands.
+/// The system's clock, as milliseconds since 1970. It reads the time of day once, when it is made, and
+/// goes on by the time that has passed since: so it never goes back, and stands while the machine is
+/// suspended. Where the passing time cannot be read, the last number stands.
 #[derive(Clone, Copy, Drop)]
 pub struct SystemClock<R: time::Clock> {
     rt: R,
+    /// What the time of day was ahead of the system's time.
+    ahead: u64,
     last: u64,
 }
 
@@ -17,8 +21,22 @@ impl<R: time::Clock> SystemClock<R> {
     pub fn new(rt: R) -> SystemClock<R>
         ensures { result.last ≡ 0 }
     {
-        SystemClock { rt, last: 0 }
+        let ahead = ahead_of(&rt);
+        SystemClock { rt, ahead, last: 0 }
     }
+}
+
+/// How far the time of day is ahead of the system's time, in milliseconds, and 0 where one of them
+/// cannot be read.
+fn ahead_of<R: time::Clock>(rt: &R) -> u64 {
+    match (rt.since_1970(), rt.monotonic()) {
+        (Ok(day), Ok(passed)) => millis(day).saturating_sub(millis(passed)),
+        _ => 0,
+    }
+}
+
+fn millis(time: Duration) -> u64 {
+    u64::try_from(time.as_millis()).unwrap_or(u64::MAX)
 }
 
 impl<R: time::Clock> Clock for SystemClock<R> {
@@ -27,8 +45,8 @@ impl<R: time::Clock> Clock for SystemClock<R> {
     ghost may_give = { λ _ _. true };
 
     fn now_ms(&mut self) -> u64 {
-        if let Ok(now) = self.rt.since_1970() {
-            self.last = u64::try_from(now.as_millis()).unwrap_or(u64::MAX);
+        if let Ok(passed) = self.rt.monotonic() {
+            self.last = self.ahead.saturating_add(millis(passed));
         }
         self.last
     }

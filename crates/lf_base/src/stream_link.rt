@@ -3,8 +3,8 @@ ghost use Rattle.std.specs.Prelude.{◌≡◌, ◌==◌, not, None};
 use crate::link::Link;
 use crate::polling_stream::PollingStream;
 use crate::source::Failed;
+use crate::watched_stream::WatchedStream;
 use std::io;
-use std::net::TcpStream;
 
 /// A stream of the system as a link. It tells its counts alone: of what the other end sends and gets
 /// no contract knows.
@@ -15,8 +15,8 @@ pub struct StreamLink<S: io::Read + io::Write> {
     moves: u64,
 }
 
-/// A TCP stream as a link.
-pub type TcpLink = StreamLink<TcpStream>;
+/// A TCP stream as a link. A write of no bytes finds out whether its peer is gone.
+pub type TcpLink = StreamLink<WatchedStream>;
 
 /// A stream of a Unix socket as a link.
 pub type UnixLink = StreamLink<PollingStream>;

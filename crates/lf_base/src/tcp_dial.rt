@@ -5,19 +5,35 @@ use crate::handles::Handles;
 use crate::source::Failed;
 use crate::stream_link::{StreamLink, TcpLink};
 use crate::text::Text;
-use std::net::TcpStream;
+use crate::watched_stream::WatchedStream;
+use std::io;
+use std::net::{TcpStream, ToSocketAddrs};
+use std::time::Duration;
 
 /// A dialer over TCP.
 #[derive(Debug, Drop)]
 pub struct TcpDial {
     faults: u64,
+    patience: u64,
 }
 
 impl TcpDial {
+    /// It waits for as long as it takes.
     pub fn new() -> TcpDial
         ensures { result.faults ≡ 0 }
     {
-        TcpDial { faults: 0 }
+        TcpDial {
+            faults: 0,
+            patience: 0,
+        }
+    }
+
+    /// It fails where it waits longer than so many milliseconds for an address to answer, and so do its
+    /// links where a read or a write does. 0 is no limit.
+    pub fn patient(self, patience: u64) -> TcpDial
+        ensures { result ≡ record self { patience = patience } }
+    {
+        TcpDial { patience, ..self }
     }
 
     /// Whether its count of faults is not 0.
@@ -36,8 +52,8 @@ impl Dialer for TcpDial {
     ghost dials = { λ _. None };
 
     fn dial<R: Handles>(&mut self, rt: &R, address: &Text) -> Result<TcpLink, Failed> {
-        match TcpStream::connect(rt, address.as_str()) {
-            Ok(stream) => Ok(StreamLink::new(stream)),
+        match connected(rt, address, self.patience) {
+            Ok(stream) => Ok(StreamLink::new(WatchedStream::new(stream, self.patience))),
             Err(_) => {
                 self.faults = self.faults.saturating_add(1);
                 Err(Failed)
@@ -52,6 +68,20 @@ impl Dialer for TcpDial {
     }
 
     fn another(&self) -> TcpDial {
-        TcpDial::new()
+        TcpDial::new().patient(self.patience)
     }
+}
+
+/// A stream to this address. Of several, each is given so many milliseconds; 0 is no limit.
+fn connected<R: Handles>(rt: &R, address: &Text, patience: u64) -> io::Result<TcpStream> {
+    if patience == 0 {
+        return TcpStream::connect(rt, address.as_str());
+    }
+    let limit = Duration::from_millis(patience);
+    for address in address.as_str().to_socket_addrs(rt)? {
+        if let Ok(stream) = TcpStream::connect_timeout(rt, &address, limit) {
+            return Ok(stream);
+        }
+    }
+    Err(io::ErrorKind::NotFound.into())
 }

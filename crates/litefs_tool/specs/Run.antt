@@ -78,6 +78,9 @@ CommandOutcome command input status.WordsRefused written name = ⊥
 CommandOutcome command input status.DiskFault written name = ⊥
 CommandOutcome command input status.NetworkFault written name = ⊥
 CommandOutcome command input status.NoThread written name = ⊥
+CommandOutcome command input (status.Program number) written name = ⊥
+CommandOutcome command input status.NotStarted written name = ⊥
+CommandOutcome command input status.LockRefused written name = ⊥
 
 -- no command has these arguments, and the run reads and writes nothing
 pub record RefusesArguments (arguments : List (List ℕ)) (input : List ℕ) (ended : Status) (written : List ℕ) : Type 0 where

@@ -144,6 +144,10 @@ fn text_and_statuses(rt: HostRuntime) {
     same(rt, again.bytes(), b"apply".as_slice());
     same(rt, Status::InputRefused.number(), 3);
     same(rt, Status::WriteFault.text(), "cannot write");
+    same(rt, Status::Program(7).number(), 7);
+    same(rt, Status::Program(7).text(), "");
+    same(rt, Status::NotStarted.number(), 10);
+    same(rt, Status::LockRefused.text(), "halt refused");
 }
 
 /// Bytes and texts print as what they hold.

@@ -2,7 +2,7 @@ ghost use Rattle.std.specs.Prelude.{◌≡◌, Option, List, IfOk};
 ghost use Rattle.node_mount.specs.declared.counts.Counts.{Counts};
 ghost use Rattle.node_mount.specs.Making.{DisksRose, NetworkRose, SpawnersRose, FailsBy, TellsBy, IsAtRest, IsNew, TakesBack};
 
-use lf_base::{Acceptor, Clock, Dialer, Failed, Name, Pause, Spawner, Text};
+use lf_base::{Acceptor, Clock, Dialer, Failed, Link, Name, Pause, Spawner, Text};
 use lf_disk::Disk;
 
 /// Makes what a node runs on, and takes it back. Each object is made without a fault.
@@ -16,7 +16,10 @@ pub trait Maker {
 
     type HttpAccept: Acceptor + Send + Drop + 'static;
 
-    type Dial: Dialer + Send + Drop + 'static;
+    /// A link that it dials.
+    type Line: Link + Send + Drop + 'static;
+
+    type Dial: Dialer<L = Self::Line> + Send + Drop + 'static;
 
     type Spawn: Spawner + Send + Drop + 'static;
 

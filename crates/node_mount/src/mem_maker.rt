@@ -12,7 +12,9 @@ use crate::keeping::Keeping;
 use crate::maker::Maker;
 use crate::mem_spawn::MemSpawn;
 use crate::returned::Returned;
-use lf_base::{Dialer, Failed, FixedClock, ListAcceptor, MemDialer, Name, NoMemory, NoPause, Text};
+use lf_base::{
+    Dialer, Failed, FixedClock, ListAcceptor, MemDialer, MemLink, Name, NoMemory, NoPause, Text,
+};
 use lf_disk::MemDisk;
 use std::alloc::Global;
 use std::marker::Model;
@@ -126,6 +128,8 @@ impl Maker for MemMaker {
     type FileAccept = ListAcceptor;
 
     type HttpAccept = ListAcceptor;
+
+    type Line = MemLink;
 
     type Dial = MemDialer;
 

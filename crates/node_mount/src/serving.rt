@@ -8,7 +8,7 @@ use crate::http_links::start_http;
 use crate::means::Means;
 use crate::mount_fault::MountFault;
 use crate::place::Place;
-use lf_base::{Acceptor, Clock, Closing, Dialer, Handles, Name, Pause, Spawner};
+use lf_base::{Acceptor, Clock, Closing, Dialer, Handles, Link, Name, Pause, Spawner};
 use node_core::{Answer, Ask};
 use turn_desk::Machine;
 
@@ -19,7 +19,8 @@ pub fn serve_links<
     K: Machine<Ask = Ask, Answer = Answer> + Send + Drop + 'static,
     A: Acceptor,
     B: Acceptor + Send + Drop + 'static,
-    T: Dialer + Send + Drop + 'static,
+    L: Link + Send + Drop + 'static,
+    T: Dialer<L = L> + Send + Drop + 'static,
     S: Spawner,
     C: Clock + Copy + Send + 'static,
     P: Pause + Copy + Send + 'static,
@@ -58,7 +59,8 @@ fn serve_all<
     K: Machine<Ask = Ask, Answer = Answer> + Send + Drop + 'static,
     A: Acceptor,
     B: Acceptor + Send + Drop + 'static,
-    T: Dialer + Send + Drop + 'static,
+    L: Link + Send + Drop + 'static,
+    T: Dialer<L = L> + Send + Drop + 'static,
     S: Spawner,
     C: Clock + Copy + Send + 'static,
     P: Pause + Copy + Send + 'static,

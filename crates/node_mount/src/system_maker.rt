@@ -12,7 +12,7 @@ use crate::mem_spawn::MemSpawn;
 use crate::returned::Returned;
 use crate::system::System;
 use lf_base::{
-    Closing, Failed, Name, NoMemory, SleepPause, SystemClock, TcpAccept, TcpDial, Text,
+    Closing, Failed, Name, NoMemory, SleepPause, SystemClock, TcpAccept, TcpDial, TcpLink, Text,
     ThreadSpawner, UnixAccept,
 };
 use lf_disk::DirDisk;
@@ -91,6 +91,8 @@ impl<R: System + Send + 'static> Maker for SystemMaker<R> {
     type FileAccept = UnixAccept;
 
     type HttpAccept = TcpAccept;
+
+    type Line = TcpLink;
 
     type Dial = TcpDial;
 

@@ -2,7 +2,8 @@
 ghost use Rattle.std.specs.Prelude.{None};
 
 use lf_base::{
-    Closing, Failed, FixedClock, ListAcceptor, MemDialer, Name, SleepPause, Text, UnixAccept,
+    Closing, Failed, FixedClock, ListAcceptor, MemDialer, MemLink, Name, SleepPause, Text,
+    UnixAccept,
 };
 use lf_disk::MemDisk;
 use node_mount::{Counts, Maker, MemMaker, MemSpawn, System};
@@ -39,6 +40,8 @@ impl<R: System + Send + 'static> Maker for SocketMaker<R> {
     type FileAccept = UnixAccept;
 
     type HttpAccept = ListAcceptor;
+
+    type Line = MemLink;
 
     type Dial = MemDialer;
 

@@ -3,8 +3,8 @@
 use super::fakes::{Count, accepts, fails, held_again, no_jobs};
 use crate::same::same;
 use lf_base::{
-    Acceptor, Clock, Closing, Dialer, Handles, Job, Link, Pause, SleepPause, Spawner, StreamLink,
-    SystemClock, TcpAccept, TcpDial, Text, ThreadSpawner, UnixAccept, start,
+    Acceptor, Clock, Closing, Dialer, Failed, Handles, Job, Link, Pause, SleepPause, Spawner,
+    StreamLink, SystemClock, TcpAccept, TcpDial, TcpLink, Text, ThreadSpawner, UnixAccept, start,
 };
 use std::alloc::Global;
 use std::fs;
@@ -101,6 +101,45 @@ fn loopback(rt: HostRuntime) {
     same(rt, accepts(&rt, &mut acceptor), Ok(false));
     drop(acceptor);
     same(rt, fails(&rt, &mut dialer, &address), true);
+}
+
+/// An acceptor and a dialer on loopback that wait for so many milliseconds, and a link from one to the other.
+fn both_ends<R: Handles + Abort>(rt: &R, alloc: Global, patience: u64) -> (TcpLink, TcpLink) {
+    let listener = TcpListener::bind(rt, "127.0.0.1:0").expect(rt, "a listener");
+    let address = address_of(rt, alloc, &listener);
+    let closing = Closing::new(alloc).expect(rt, "memory");
+    let acceptor = TcpAccept::new(listener, closing).expect(rt, "an acceptor");
+    let mut acceptor = acceptor.patient(patience);
+    let mut dialer = TcpDial::new().patient(patience);
+    let link = dialer.dial(rt, &address).expect(rt, "a dial");
+    let other = acceptor.accept(rt).ok().flatten().expect(rt, "a link");
+    (link, other)
+}
+
+/// A write of no bytes fails once the other end is gone, and not before, whether it has sent bytes or not.
+#[test]
+fn a_peer_that_is_gone_is_seen(rt: HostRuntime) {
+    let _named: Option<(TcpListener, TcpStream)> = None;
+    let (mut link, mut other) = both_ends(&rt, rt.alloc(), 0);
+    same(rt, link.write(b""), Ok(0));
+    same(rt, other.write(b"x"), Ok(1));
+    same(rt, link.write(b""), Ok(0));
+    same(rt, link.read(&mut [0; 4]), Ok(1));
+    drop(other);
+    SleepPause::new(rt, 50).nap();
+    same(rt, link.write(b""), Err(Failed));
+    assert!(rt; link.has_failed());
+}
+
+/// A patient link gives up waiting, at both ends.
+#[test]
+fn patience_ends(rt: HostRuntime) {
+    let _named: Option<(TcpListener, TcpStream)> = None;
+    let (mut link, mut other) = both_ends(&rt, rt.alloc(), 30);
+    same(rt, link.read(&mut [0; 4]), Err(Failed));
+    same(rt, other.read(&mut [0; 4]), Err(Failed));
+    same(rt, other.write(b"x"), Ok(1));
+    same(rt, link.read(&mut [0; 4]), Ok(1));
 }
 
 #[test]
