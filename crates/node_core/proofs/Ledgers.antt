@@ -2,7 +2,7 @@
 use Rattle.std.proofs.Common.{◌≡◌, ◌≢◌, ℕ, ◌+◌, ◌≤◌, ◌-◌, Bool, true, false, cond, eqb, List, [], ◌∷◌, ◌++◌, length, Option, Some, None, IsSome, inl, inr, refl, sym, ap, subst, ◌∙◌, arith, append_assoc, length-append}
 use Rattle.std.proofs.lemmas.List.{append-nil}
 use Rattle.ltx_codec.specs.declared.file.Ltx.{Ltx}
-use Rattle.world_laws.specs.Answers.{Answers, LeavesUndone}
+use Rattle.world_laws.specs.Answers.{Answers, LeavesUndone, completed_over}
 use Rattle.world_laws.specs.Events.{Turns}
 use Rattle.world_laws.specs.Lineage.{Lineage, Names}
 use Rattle.world_laws.specs.Node.{Answer, Ask, Disk, Done, Drop, File, Forward, Forwarded, Frame, Import, IsPlain, NodeState, Primary, Prune, Refused, Replica, Role}
@@ -108,14 +108,14 @@ fails-so store (unlinks {waits = w}) front call rest same =
 fails-so store (imports {waits = w} {file = f}) front call rest same =
     at-only (FailsSo store Primary w Import) (Commit f) front call rest same record { makes = imports; answer = Refused Disk; answers = λ old new. tt; refused = refl; sends = refl; accepts = refl }
 fails-so store (accepts {waits = w} {file = f}) front call rest same =
-    at-only (FailsSo store Primary w (Forward f)) (Commit f) front call rest same record { makes = accepts; answer = Refused Disk; answers = λ old new. tt; refused = refl; sends = refl; accepts = refl }
+    at-only (FailsSo store Primary w (Forward f)) _ front call rest same record { makes = accepts; answer = Refused Disk; answers = λ old new. tt; refused = refl; sends = refl; accepts = refl }
 fails-so store (takes {role = r} {waits = w} {file = f} other) front call rest same =
     at-only (FailsSo store r w (Frame f)) _ front call rest same record { makes = takes other; answer = Refused Disk; answers = λ old new. refl; refused = refl; sends = refl; accepts = refl }
 fails-so store (drops {role = r} {waits = w} other) front call rest same =
     at-only (FailsSo store r w Drop) DropAll front call rest same record { makes = drops other; answer = Refused Disk; answers = λ old new. refl; refused = refl; sends = refl; accepts = refl }
 fails-so store (finishes {role = r} {file = f}) front call rest same =
-    at-only (FailsSo store r (Some f) (Forwarded true)) (Apply f) front call rest same
-    record { makes = finishes; answer = Refused Disk; answers = λ old new none. absurd (some_none (FailedIn (Apply f)) none); refused = refl; sends = refl; accepts = refl }
+    at-only (FailsSo store r (Some f) (Forwarded true)) _ front call rest same
+    record { makes = finishes; answer = Refused Disk; answers = λ old new none. absurd (some_none (FailedIn (Apply (completed_over store f))) none); refused = refl; sends = refl; accepts = refl }
 fails-so store (prunes {role = r} {waits = w} {keep = n}) front call rest same =
     at-only (FailsSo store r w (Prune n)) (PruneTo n) front call rest same record { makes = prunes; answer = Refused Disk; answers = λ old new. tt; refused = refl; sends = refl; accepts = refl }
 
@@ -239,7 +239,7 @@ grows-with tree store named (commits {file = f}) = let g = grown-by tree store f
 grows-with tree store named (commits_and_prunes {file = f}) = let g = grown-by tree store f named in (g.0, (g.0, g.1, (g.0, refl, refl)))
 grows-with tree store named unlinks = (tree, (tree, refl, refl))
 grows-with tree store named (imports {file = f}) = let g = grown-by tree store f named in (g.0, (g.0, g.1, refl))
-grows-with tree store named (accepts {file = f}) = let g = grown-by tree store f named in (g.0, (g.0, g.1, refl))
+grows-with tree store named (accepts {file = f}) = let g = grown-by tree store (completed_over store f) named in (g.0, (g.0, g.1, refl))
 grows-with tree store named (takes {file = f} other) = (tree, (tree, grows-if tree store _ _ (eqb f.header.min 1), refl))
 grows-with tree store named (drops other) = (tree, (tree, refl, refl))
 grows-with tree store named finishes = (tree, (tree, refl, refl))

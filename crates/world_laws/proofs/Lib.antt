@@ -18,3 +18,4 @@ pub mod Scenes
 pub mod StoryParts
 pub mod Story
 pub mod SnapshotFile
+pub mod Moments

@@ -9,7 +9,7 @@ use Rattle.lf_sqlite_pages.proofs.Completing.{apply-complete}
 use Rattle.ltx_codec.specs.Sums.{image_sum}
 use Rattle.ltx_codec.specs.declared.file.Ltx.{Ltx}
 use Rattle.world_laws.specs.Answers.{completed_over}
-use Rattle.world_laws.specs.Lineage.{IsOfTree, Lineage, Suits, image_of}
+use Rattle.world_laws.specs.Lineage.{IsAccepted, IsOfTree, Lineage, Suits, completed_at, image_of}
 use Rattle.world_laws.specs.Node.{Ask, IsSoundNode, NodeState, Role}
 use Rattle.world_laws.specs.Premises.{FindsACandidate, IsFoundDone, IsFoundPruned, IsFoundUndone, OneImagePerPosition, WasSent}
 use Rattle.world_laws.specs.Safe.{IsAllowed, IsAtTip, IsLed, IsPending, IsSafe, IsSafeNode, TakesOfTree}
@@ -100,6 +100,15 @@ completed-of_tree tree store file one allowed of can =
       sum = ap image_sum same ∙ of.sum;
     }
 
+-- and so is one that was accepted
+accepted-of_tree : (tree : List Lineage) (store : StoreState) (file : Ltx) → OneImagePerPosition tree → IsAllowed tree store → IsAccepted tree file → CanDo store (Apply (completed_over store file)) →
+    IsOfTree tree (completed_over store file)
+accepted-of_tree tree store file one allowed was can =
+    let image : SameImage (image_of was.is.lineage) store.image =
+    one was.is.lineage allowed.named.lineage was.is.stands allowed.named.stands (was.is.before_at ∙ can.1.next ∙ sym allowed.named.position_is) ∙ allowed.named.image_is
+    in
+    subst (λ (n : ℕ). IsOfTree tree (completed_at n file)) (was.over ∙ ap length image) (Committed-of_tree tree (completed_at was.count file) was.is)
+
 takes_if : (tree : List Lineage) (store : StoreState) (file : Ltx) (b : Bool) → OneImagePerPosition tree → IsAllowed tree store → IsOfTree tree file →
     CanDo store (cond b (Install file) (Apply (completed_over store file))) → TakesOfTree tree (cond b (Install file) (Apply (completed_over store file)))
 takes_if tree store file true one allowed of can = of
@@ -116,7 +125,7 @@ makes-take w safe one allowed imports comes can = (tt, tt)
 makes-take w safe one allowed accepts comes can = (tt, tt)
 makes-take w safe one {store = s} allowed (takes {file = f} not_primary) comes can = (takes_if w.tree s f (eqb f.header.min 1) one allowed (safe.sent f comes).of_tree can.0, tt)
 makes-take w safe one allowed (drops not_primary) comes can = (tt, tt)
-makes-take w safe one allowed (finishes {file = f}) comes can = (Committed-of_tree w.tree f (safe.accepted f (comes f refl)), tt)
+makes-take w safe one {store = s} allowed (finishes {file = f}) comes can = (accepted-of_tree w.tree s f one allowed (safe.accepted f (comes f refl)) can.0, tt)
 makes-take w safe one allowed prunes comes can = (tt, tt)
 
 pub some_none : (failure : Failure) → Some failure ≡ None → ⊥

@@ -74,7 +74,7 @@ makes-front (commits {waits = w} {file = f}) did call rest same = single _ Prima
 makes-front (commits_and_prunes {waits = w} {file = f} {keep = k}) did call rest same = double _ w f k did call rest same
 makes-front (unlinks {waits = w}) did call rest same = single _ Primary w File DropAll unlinks did call rest same
 makes-front (imports {waits = w} {file = f}) did call rest same = single _ Primary w Import (Commit f) imports did call rest same
-makes-front (accepts {waits = w} {file = f}) did call rest same = single _ Primary w (Forward f) (Commit f) accepts did call rest same
+makes-front (accepts {waits = w} {file = f}) did call rest same = single _ Primary w (Forward f) _ accepts did call rest same
 makes-front (takes {role = r} {waits = w} {file = f} other) did call rest same = single _ r w (Frame f) _ (takes other) did call rest same
 makes-front (drops {role = r} {waits = w} other) did call rest same = single _ r w Drop DropAll (drops other) did call rest same
 makes-front (finishes {role = r} {file = f}) did call rest same = single _ r (Some f) (Forwarded true) _ finishes did call rest same
@@ -109,7 +109,7 @@ cut-later (commits {file = f}) d ds call same old new = absurd (too_long (Commit
 cut-later commits_and_prunes d ds call same old new = record { answer = Done; answers = tt; refused = tt }
 cut-later unlinks d ds call same old new = absurd (too_long DropAll d ds call same)
 cut-later (imports {file = f}) d ds call same old new = absurd (too_long (Commit f) d ds call same)
-cut-later (accepts {file = f}) d ds call same old new = absurd (too_long (Commit f) d ds call same)
+cut-later (accepts {file = f}) d ds call same old new = absurd (too_long _ d ds call same)
 cut-later (takes {file = f} other) d ds call same old new = absurd (too_long _ d ds call same)
 cut-later (drops other) d ds call same old new = absurd (too_long DropAll d ds call same)
 cut-later (finishes {file = f}) d ds call same old new = absurd (too_long _ d ds call same)

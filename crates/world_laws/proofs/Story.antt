@@ -1,12 +1,14 @@
 -- The scenario, step by step.
-use Rattle.std.proofs.Common.{◌≡◌, ◌≢◌, ℕ, ◌≤◌, true, List, [], ◌∷◌, Some, None, inl, inr, refl, sym, ap, subst, ◌∙◌, arith}
+use Rattle.std.proofs.Common.{◌≡◌, ◌≢◌, ℕ, ◌≤◌, true, List, [], ◌∷◌, length, Some, None, inl, inr, refl, sym, ap, subst, ◌∙◌, arith}
 use Rattle.std.specs.List.{Contains}
 use Rattle.std.proofs.lemmas.List.Elements.{Contains-push, Contains-append_left}
 use Rattle.lf_base.specs.declared.pos.Pos.{Pos}
 use Rattle.ltx_codec.specs.Format.{IsFile}
 use Rattle.ltx_codec.specs.declared.file.Ltx.{Ltx}
 use Rattle.ltx_codec.specs.Positions.{after, nowhere}
-use Rattle.world_laws.specs.Answers.{by_file, by_snapshot, snapshot_of}
+use Rattle.lf_sqlite_pages.specs.Change.{PageChange}
+use Rattle.lf_sqlite_pages.proofs.Completing.{completed-whole_change}
+use Rattle.world_laws.specs.Answers.{by_file, by_snapshot, completed_over, snapshot_of}
 use Rattle.world_laws.specs.Events.{Leases, Reopens, Turns, ends, goes}
 use Rattle.world_laws.specs.Lineage.{Lineage}
 use Rattle.world_laws.specs.Node.{Applied, Disk, Done, Drop, File, Forward, Forwarded, Frame, Gone, Halted, Hello, Item, NodeState, Permit, Primary, Refused, Replica, Send}
@@ -53,16 +55,23 @@ sends-commit store file =
     made Halted Halted Halted store store None (Some file) File (Send file) [] nothing tt refl
     (record { halted = refl; waits = refl; undone = (refl, refl); served = (refl, refl) }) tt
 
+-- the second file writes every page, so it is complete over any store
+whole-over : (store : StoreState) (first file : Ltx) → IsSecond first file → completed_over store file ≡ file
+whole-over store first file second =
+    ap (λ (c : PageChange). record file { change = c }) (completed-whole_change file.change (length store.image.pages) second.sound.block.pages second.every)
+
 accepts-commit : (first file : Ltx) → IsSecond first file →
     Made (node Primary (store_of first) None) (node Primary (with_file (store_of first) file) None) (Forward file) (Applied (after file)) (Commit file ∷ []) None
 accepts-commit first file second =
-    made Primary Primary Primary (store_of first) (with_file (store_of first) file) None None (Forward file) (Applied (after file)) (Commit file ∷ []) accepts
-    ((second.sound, joins-store first file second, second.max ∙ sym second.min), tt) refl (refl, refl) tt
+    made Primary Primary Primary (store_of first) (with_file (store_of first) file) None None (Forward file) (Applied (after file)) (Commit file ∷ [])
+    (subst (λ (f : Ltx). Makes (store_of first) Primary None (Forward file) (Commit f ∷ [])) (whole-over (store_of first) first file second) accepts)
+    ((second.sound, joins-store first file second, second.max ∙ sym second.min), tt) refl (ap (λ (f : Ltx). Commit f ∷ []) (sym (whole-over (store_of first) first file second)), refl) tt
 
 is-told : (first file : Ltx) → IsFirst first → IsSecond first file →
     Made (node Halted (copy_of first) (Some file)) (node Replica (with_file (copy_of first) file) None) (Forwarded true) Done (Apply file ∷ []) None
 is-told first file is second =
-    made Halted Halted Replica (copy_of first) (with_file (copy_of first) file) (Some file) None (Forwarded true) Done (Apply file ∷ []) finishes
+    made Halted Halted Replica (copy_of first) (with_file (copy_of first) file) (Some file) None (Forwarded true) Done (Apply file ∷ [])
+    (subst (λ (f : Ltx). Makes (copy_of first) Halted (Some file) (Forwarded true) (Apply f ∷ [])) (whole-over (copy_of first) first file second) finishes)
     ((second.sound, joins-copy first file is second), tt) refl (file, refl, end_of-push (copy_of first).log file) tt
 
 written-second : (store : StoreState) (first file : Ltx) → IsSecond first file → 1 ≤ (at (with_file store file)).txid

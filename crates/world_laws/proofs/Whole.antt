@@ -5,9 +5,9 @@ use Rattle.std.proofs.lemmas.List.Elements.{Contains-push, Contains-append_cases
 use Rattle.std.proofs.lemmas.Bool.{cases_eq}
 use Rattle.ltx_codec.specs.declared.file.Ltx.{Ltx}
 use Rattle.ltx_codec.specs.Positions.{before}
-use Rattle.world_laws.specs.Answers.{Answers}
+use Rattle.world_laws.specs.Answers.{Answers, completed_over}
 use Rattle.world_laws.specs.Events.{Event, Grants, Happens, IsStart, Leases, Loses, Opens, Renews, Reopens, Runs, Steps, Turns, ends, goes}
-use Rattle.world_laws.specs.Lineage.{IsCommitted, Lineage}
+use Rattle.world_laws.specs.Lineage.{IsAccepted, Lineage}
 use Rattle.world_laws.specs.Node.{Answer, Applied, Ask, Forward, Gone, Hello, IsSoundNode, Item, NodeState, Role}
 use Rattle.world_laws.specs.Premises.{OneImagePerPosition}
 use Rattle.world_laws.specs.Safe.{IsAllowed, IsAtTip, IsPending, IsSafe, IsSafeNode, IsSendable}
@@ -16,8 +16,8 @@ use Rattle.world_laws.specs.Served.{MeetsOverlay, Served, ShareForReading, untou
 use Rattle.world_laws.specs.Store.{CanDoAll, Commit, Failure, StoreCall, StoreState, all_done, at, begun_by, broken_by, empty_store}
 use Rattle.world_laws.specs.Terms.{AreInLine, holder_of, tip}
 use Rattle.world_laws.specs.World.{Act, DropFrame, FileFrame, GrowsAlong, OthersStay, SentFrame, World, accepted_by, acts_along, failing_by, sent_by}
-use Rattle.world_laws.proofs.Calls.{AllTake-split, Allowed-all_done, Allowed-nothing, CanDoAll-split, GrowsAlong-extends, Sendable-more, commit-committed, owed-sendable}
-use Rattle.world_laws.proofs.Lineages.{Committed-more, Extends, One-fewer}
+use Rattle.world_laws.proofs.Calls.{AllTake-split, Allowed-all_done, Allowed-nothing, CanDoAll-split, GrowsAlong-extends, Sendable-more, commit-accepted, owed-sendable}
+use Rattle.world_laws.proofs.Lineages.{Accepted-more, Extends, One-fewer}
 use Rattle.world_laws.proofs.Nodes.{FoundSafe, Node-at, Node-granted, Node-kept, Node-moved, finds-extends, found-safe, makes-take, pending-after}
 use Rattle.world_laws.proofs.Scenes.{node}
 use Rattle.world_laws.proofs.Terms.{AllLed-commit, AllLed-split, AtTip-along, Holds-led, InLine-along, InLine-more, holder-new, tip-other_along}
@@ -75,23 +75,21 @@ sent_of tree old new role did failed never allowed (Hello position) Gone answers
 sent_of tree old new role did failed never allowed ask answer answers file here = absurd (omega (arith, here.1))
 
 one_commit : (tree grown : List Lineage) (store : StoreState) (file : Ltx) (did : List StoreCall) → OneImagePerPosition grown → IsAllowed tree store → CanDoAll store did →
-    GrowsAlong tree store did grown → did ≡ Commit file ∷ [] → IsCommitted grown file
+    GrowsAlong tree store did grown → did ≡ Commit (completed_over store file) ∷ [] → IsAccepted grown file
 one_commit tree grown store file did one allowed can grows is =
-    let can_one : CanDoAll store (Commit file ∷ []) = subst (λ (ds : List StoreCall). CanDoAll store ds) is can in
-    let grows_one : GrowsAlong tree store (Commit file ∷ []) grown = subst (λ (ds : List StoreCall). GrowsAlong tree store ds grown) is grows in
-    let here : IsCommitted grows_one.0 file =
-    commit-committed tree grows_one.0 store file
-    (One-fewer tree grown (GrowsAlong-extends tree store (Commit file ∷ []) grown grows_one) one) allowed can_one.0 grows_one.1
-    in
-    subst (λ (t : List Lineage). IsCommitted t file) (sym grows_one.2) here
+    let whole : Ltx = completed_over store file in
+    let can_one : CanDoAll store (Commit whole ∷ []) = subst (λ (ds : List StoreCall). CanDoAll store ds) is can in
+    let grows_one : GrowsAlong tree store (Commit whole ∷ []) grown = subst (λ (ds : List StoreCall). GrowsAlong tree store ds grown) is grows in
+    let one_tree : OneImagePerPosition tree = One-fewer tree grown (GrowsAlong-extends tree store (Commit whole ∷ []) grown grows_one) one in
+    subst (λ (t : List Lineage). IsAccepted t file) (sym grows_one.2) (commit-accepted tree grows_one.0 store file one_tree allowed can_one.0 grows_one.1)
 
 -- a forwarded file that a step says it applied
 accepted_of : (tree grown : List Lineage) (old new : NodeState) (role : Role) (did : List StoreCall) (failed : Option Failure) → OneImagePerPosition grown → IsAllowed tree old.store →
     CanDoAll old.store did → GrowsAlong tree old.store did grown → (ask : Ask) (answer : Answer) → Answers old role ask did failed answer new →
-    (file : Ltx) → Contains (accepted_by ask answer) file → IsCommitted grown file
+    (file : Ltx) → Contains (accepted_by ask answer) file → IsAccepted grown file
 accepted_of tree grown old new role did failed one allowed can grows (Forward other) (Applied position) answers file here = elim (Contains-push_cases [] other file here) [
   | inl none_at ↦ absurd (omega (arith, none_at.1))
-  | inr same ↦ subst (λ (f : Ltx). IsCommitted grown f) same (one_commit tree grown old.store other did one allowed can grows answers.0)
+  | inr same ↦ subst (λ (f : Ltx). IsAccepted grown f) same (one_commit tree grown old.store other did one allowed can grows answers.0)
 ]
 accepted_of tree grown old new role did failed one allowed can grows ask answer answers file here = absurd (omega (arith, here.1))
 
@@ -111,7 +109,7 @@ turn-safe w v k ask answer one safe turn =
         | inr now ↦ sent_of w.tree old (v.nodes k) facts.role facts.did facts.failed safe.never_written (safe.nodes k).allowed ask answer facts.answers file now
       ]);
       accepted = λ file here. elim (Contains-append_cases w.accepted (accepted_by ask answer) file (subst (λ (s : List Ltx). Contains s file) turn.accepted here)) [
-        | inl before ↦ Committed-more w.tree v.tree file extends (safe.accepted file before)
+        | inl before ↦ Accepted-more w.tree v.tree file extends (safe.accepted file before)
         | inr now ↦ accepted_of w.tree v.tree old (v.nodes k) facts.role facts.did facts.failed one (safe.nodes k).allowed can.0 turn.tree ask answer facts.answers file now
       ];
       holder = subst (λ (h : Option ℕ). IfSome h (λ j. holder_of v.granted (length v.granted) ≡ Some j)) (sym turn.lease.1)
@@ -137,7 +135,7 @@ opens-safe w v k found one safe opens =
       nodes = others-safe w v k is.extends safe opens.lease.0 is.others opens.others
           (Node-at v.tree v.granted v.acts (v.failing k) k (v.nodes k) found None opens.store opens.whole (is.allowed one) tt is.last (opened-sound (v.nodes k) found opens.store opens.served));
       sent = λ file here. Sendable-more w.tree v.tree file is.extends (safe.sent file (subst (λ (s : List SentFrame). Contains s (FileFrame file)) opens.frames.0 here));
-      accepted = λ file here. Committed-more w.tree v.tree file is.extends (safe.accepted file (subst (λ (s : List Ltx). Contains s file) opens.frames.1 here));
+      accepted = λ file here. Accepted-more w.tree v.tree file is.extends (safe.accepted file (subst (λ (s : List Ltx). Contains s file) opens.frames.1 here));
       holder = subst (λ (h : Option ℕ). IfSome h (λ j. holder_of v.granted (length v.granted) ≡ Some j)) (sym opens.lease.1)
           (subst (λ (g : List ℕ). IfSome w.holder (λ j. holder_of g (length g) ≡ Some j)) (sym opens.lease.0) safe.holder);
       line = subst (λ (g : List ℕ). AreInLine g v.acts) (sym opens.lease.0) is.line;
@@ -151,7 +149,7 @@ lease-safe w v granted holder safe lease held nodes line =
       never_written = extends [] safe.never_written;
       nodes = λ j. Node-moved w.tree v.tree granted v.granted w.acts v.acts (w.failing j) (v.failing j) j (w.nodes j) (v.nodes j) lease.tree lease.granted lease.acts (lease.nodes j).1 (lease.nodes j).0 (nodes j);
       sent = λ file here. Sendable-more w.tree v.tree file extends (safe.sent file (subst (λ (s : List SentFrame). Contains s (FileFrame file)) lease.frames.0 here));
-      accepted = λ file here. Committed-more w.tree v.tree file extends (safe.accepted file (subst (λ (s : List Ltx). Contains s file) lease.frames.1 here));
+      accepted = λ file here. Accepted-more w.tree v.tree file extends (safe.accepted file (subst (λ (s : List Ltx). Contains s file) lease.frames.1 here));
       holder = subst (λ (h : Option ℕ). IfSome h (λ j. holder_of v.granted (length v.granted) ≡ Some j)) (sym lease.holder)
           (subst (λ (g : List ℕ). IfSome holder (λ j. holder_of g (length g) ≡ Some j)) (sym lease.granted) held);
       line = subst (λ (g : List ℕ). AreInLine g v.acts) (sym lease.granted) (subst (λ (a : List Act). AreInLine granted a) (sym lease.acts) line);

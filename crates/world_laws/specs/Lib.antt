@@ -16,3 +16,4 @@ pub mod ForwardLaw
 pub mod StopLaw
 pub mod SnapshotLaw
 pub mod Scenario
+pub mod MomentLaw

@@ -12,7 +12,7 @@ use Rattle.lf_sqlite_pages.specs.Image.{IsImage}
 use Rattle.ltx_codec.specs.Format.{IsFile}
 use Rattle.ltx_codec.specs.declared.file.Ltx.{Ltx}
 use Rattle.ltx_codec.specs.Sums.{image_sum}
-use Rattle.world_laws.specs.Lineage.{IsCommitted, IsOfTree, Lineage, Names}
+use Rattle.world_laws.specs.Lineage.{IsAccepted, IsOfTree, Lineage, Names}
 use Rattle.world_laws.specs.Node.{IsSoundNode, NodeState}
 use Rattle.world_laws.specs.Store.{Apply, CanDo, Commit, FailedBefore, FailedIn, Failure, Install, LeadTo, StoreCall, StoreState, at}
 use Rattle.world_laws.specs.Terms.{AreInLine, holder_of, tip}
@@ -63,6 +63,6 @@ pub record IsSafe (w : World) : Type 0 where
   pub never_written : Contains w.tree []
   pub nodes : (k : ℕ) → IsSafeNode w.tree w.granted w.acts (w.failing k) k (w.nodes k)
   pub sent : (file : Ltx) → Contains w.sent (FileFrame file) → IsSendable w.tree file
-  pub accepted : (file : Ltx) → Contains w.accepted file → IsCommitted w.tree file
+  pub accepted : (file : Ltx) → Contains w.accepted file → IsAccepted w.tree file
   pub holder : IfSome w.holder (λ k. holder_of w.granted (length w.granted) ≡ Some k)
   pub line : AreInLine w.granted w.acts

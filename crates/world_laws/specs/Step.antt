@@ -6,7 +6,7 @@ use Rattle.std.specs.Prelude.{◌≡◌, ◌≢◌, ℕ, List, [], ◌∷◌, �
 use Rattle.lf_base.specs.Faults.{Rose}
 use Rattle.byte_locks.specs.declared.lock_id.LockId.{LockId}
 use Rattle.ltx_codec.specs.declared.file.Ltx.{Ltx}
-use Rattle.world_laws.specs.Answers.{Answers, LeavesUndone, call_of}
+use Rattle.world_laws.specs.Answers.{Answers, LeavesUndone, call_of, completed_over}
 use Rattle.world_laws.specs.Node.{Answer, Ask, Drop, File, Forward, Forwarded, Frame, Import, IsPlain, IsSoundNode, NodeState, Primary, Prune, Role}
 use Rattle.world_laws.specs.Served.{HoldsBack}
 use Rattle.world_laws.specs.Store.{Apply, CanDoAll, Commit, DropAll, FailedBefore, Failure, PruneTo, StoreCall, StoreState, all_done, at, begun_by, broken_by}
@@ -18,10 +18,10 @@ pub data Makes (store : StoreState) : Role → Option Ltx → Ask → List Store
   commits_and_prunes : {waits : Option Ltx} {file : Ltx} {keep : ℕ} → Makes store Primary waits File (Commit file ∷ PruneTo keep ∷ [])
   unlinks : {waits : Option Ltx} → Makes store Primary waits File (DropAll ∷ [])
   imports : {waits : Option Ltx} {file : Ltx} → Makes store Primary waits Import (Commit file ∷ [])
-  accepts : {waits : Option Ltx} {file : Ltx} → Makes store Primary waits (Forward file) (Commit file ∷ [])
+  accepts : {waits : Option Ltx} {file : Ltx} → Makes store Primary waits (Forward file) (Commit (completed_over store file) ∷ [])
   takes : {role : Role} {waits : Option Ltx} {file : Ltx} → role ≢ Primary → Makes store role waits (Frame file) (call_of store file ∷ [])
   drops : {role : Role} {waits : Option Ltx} → role ≢ Primary → Makes store role waits Drop (DropAll ∷ [])
-  finishes : {role : Role} {file : Ltx} → Makes store role (Some file) (Forwarded true) (Apply file ∷ [])
+  finishes : {role : Role} {file : Ltx} → Makes store role (Some file) (Forwarded true) (Apply (completed_over store file) ∷ [])
   prunes : {role : Role} {waits : Option Ltx} {keep : ℕ} → Makes store role waits (Prune keep) (PruneTo keep ∷ [])
 
 -- a call that failed before it published anything is one that the ask may make after these

@@ -4,6 +4,7 @@ ghost use Rattle.world_laws.specs.ReaderLaw.{ReaderSteady};
 ghost use Rattle.world_laws.specs.CatchUpLaw.{AnswersByWhole, SnapshotInstalls, DropInstalls, SentFileApplies};
 ghost use Rattle.world_laws.specs.ForwardLaw.{ForwardedStands, SendLeaves, RefusalLeaves};
 ghost use Rattle.world_laws.specs.StopLaw.{StopsAreCuts, StopIsTwoEvents, StopOfBroken, EachIsFound, StopIsReached};
+ghost use Rattle.world_laws.specs.MomentLaw.{MomentIsOfStep};
 ghost use Rattle.world_laws.specs.SnapshotLaw.{SnapshotIsSound};
 ghost use Rattle.world_laws.specs.Scenario.{SomethingHappens, PagesDiffer};
 
@@ -56,4 +57,10 @@ pub fn snapshot_is_sound()
 pub fn something_happens()
     ensures run { SomethingHappens }
     ensures pages { PagesDiffer }
+{}
+
+/// Before a node does what it is asked, what has expired at the moment ends. A step of the node as it is then
+/// is a step of the node as it was.
+pub fn moment_is_of_step()
+    ensures { MomentIsOfStep }
 {}
