@@ -19,7 +19,7 @@ use Rattle.world_laws.proofs.Terms.{other_test, same_test}
 use Rattle.world_laws.proofs.Whole.{event-safe}
 use Rattle.node_core.specs.declared.answer.Answer.{Answer}
 use Rattle.node_core.specs.declared.ask.Ask.{Ask}
-use Rattle.node_core.specs.Cluster.{Cluster, Program, FindsAlong, GoesAlong, IsLeftBetween, IsOpenedOn, IsRestart, Stops, TakesStep, calls_of, world}
+use Rattle.node_core.specs.Cluster.{Cluster, Program, FindsAlong, GoesAlong, IsLeftBetween, IsOpenedOn, IsRestart, Leads, Stops, TakesStep, calls_of, stops, takes_step, world}
 use Rattle.node_core.specs.ClusterLaws.{BegunIsStart, no_files, RestartsAreMoves, StepsAreMoves, StopsAreMoves}
 use Rattle.node_core.specs.Safely.{law_answer, law_ask}
 use Rattle.node_core.proofs.Ledgers.{begun-short, failing-failed, failing-here, failing-in, failing-other, failing-store, failing_nodes, failing_world, fails-turn, finds-over, front_of, grows-split, grows-with, holder-front}
@@ -75,11 +75,16 @@ module _ {M : Type 0} (p : Program M) where
     failing = v.failing;
   }
 
+  -- a move that takes this step, and that leads where the step does
+  abbrev IsMove : (c : Cluster p) (k caller : ℕ) (ask : Ask) (answer : Answer) (new : M) → p.steps (c.nodes k) caller ask answer new → Type 0
+  IsMove c k caller ask answer new step =
+      (d : Cluster p) × (d.nodes k ≡ new) × (taken : TakesStep p c k caller ask answer d) ×
+      (CommitsAsHolder (world_of c) k (calls_of (p.tells step (c.disks k)).facts) → Leads p (takes_step taken))
+
   -- a step to the node that stands there, and so to any
   step-moves-there : (c : Cluster p) (k caller : ℕ) (ask : Ask) (answer : Answer) (new : M) (disk : IsTrue (p.honest new)) → IsSafe (world_of c) →
-      (step : p.steps (c.nodes k) caller ask answer (place k new c.nodes k)) → WasSent (world_of c) (p.seen (c.nodes k)).waits (law_ask ask) → CommitsAsHolder (world_of c) k (calls_of (p.tells step (c.disks k)).facts) →
-      (d : Cluster p) × (d.nodes k ≡ place k new c.nodes k) × TakesStep p c k caller ask answer d
-  step-moves-there c k caller ask answer new disk safe step comes leads =
+      (step : p.steps (c.nodes k) caller ask answer (place k new c.nodes k)) → WasSent (world_of c) (p.seen (c.nodes k)).waits (law_ask ask) → IsMove c k caller ask answer (place k new c.nodes k) step
+  step-moves-there c k caller ask answer new disk safe step comes =
       let w : World = world_of c in
       let facts = (p.tells step (c.disks k)).facts in
       let all = grows-with w.tree (w.nodes k).store (safe.nodes k).allowed.named facts.makes in
@@ -101,7 +106,6 @@ module _ {M : Type 0} (p : Program M) where
           step = step;
           along = record {
             comes = comes;
-            leads = leads;
             tree = grows.1;
             acts = refl;
             failing = failing-here k (failing_by (length w.granted) (w.failing k) facts.failed) w.failing;
@@ -112,12 +116,13 @@ module _ {M : Type 0} (p : Program M) where
           accepted = refl;
           others = λ other differs. place-other k new c.nodes other differs;
         },
+        λ leads. leads,
       )
 
   pub steps-are-moves : ((old new : M) (caller : ℕ) (ask : Ask) (answer : Answer) → p.steps old caller ask answer new → p.honest new ≡ p.honest old) → StepsAreMoves p
-  steps-are-moves stays c k caller ask answer new safe step comes leads =
-      subst (λ (n : M). (taken : p.steps (c.nodes k) caller ask answer n) → CommitsAsHolder (world_of c) k (calls_of (p.tells taken (c.disks k)).facts) → (d : Cluster p) × (d.nodes k ≡ n) × TakesStep p c k caller ask answer d)
-      (place-here k new c.nodes) (λ taken leads_it. step-moves-there c k caller ask answer new (stays (c.nodes k) new caller ask answer step ∙ c.disks k) safe taken comes leads_it) step leads
+  steps-are-moves stays c k caller ask answer new safe step comes =
+      subst (λ (n : M). (taken : p.steps (c.nodes k) caller ask answer n) → IsMove c k caller ask answer n taken)
+      (place-here k new c.nodes) (λ taken. step-moves-there c k caller ask answer new (stays (c.nodes k) new caller ask answer step ∙ c.disks k) safe taken comes) step
 
   after-finds : (c : Cluster p) (w : World) (k : ℕ) (new : M) (disk : IsTrue (p.honest new)) (left : StoreState) (v : World) → Reopens w k left v → FindsAlong w k left (world_of (after c k new disk v))
   after-finds c w k new disk left v opens = record {
@@ -158,7 +163,7 @@ module _ {M : Type 0} (p : Program M) where
         (x : TakesStep p c k caller ask answer e) (folder : Folder) (left : IsLeftBetween p (c.nodes k) (e.nodes k) folder)
         (new : M) (disk : IsTrue (p.honest new)) (on : IsOpenedOn folder (p.seen new)) (found : StoreState) (stands : Durable folder found) where
       abbrev IsStopped : Type 0
-      IsStopped = (d : Cluster p) × (d.nodes k ≡ new) × Stops p c k d
+      IsStopped = (d : Cluster p) × (d.nodes k ≡ new) × (stopped : Stops p c k d) × (Leads p (takes_step x) → Leads p (stops stopped))
 
       -- found as it could be before the step
       stop-before : MayBeFound (p.seen (c.nodes k)).store (p.seen (c.nodes k)).failed found → IsStopped
@@ -178,6 +183,7 @@ module _ {M : Type 0} (p : Program M) where
               restart = after-restarts c k new disk folder found opens.0 stands on;
               ledger = inl (after-finds c (world_of c) k new disk found opens.0 opens.1);
             },
+            λ leads. tt,
           )
 
       -- found as it is in the midst of the step
@@ -189,13 +195,10 @@ module _ {M : Type 0} (p : Program M) where
           let grows =
           grows-split w.tree (w.nodes k).store cut.did front.0 e.tree (subst (λ (ds : List StoreCall). GrowsAlong w.tree (w.nodes k).store ds e.tree) front.1 x.along.tree) in
           let regroup : calls_of facts ≡ (cut.did ++ cut.call ∷ []) ++ cut.rest = cut.split ∙ sym (append_assoc cut.did (cut.call ∷ []) cut.rest) in
-          let leads : CommitsAsHolder w k (cut.did ++ cut.call ∷ []) =
-          holder-front w k (cut.did ++ cut.call ∷ []) cut.rest (subst (λ (ds : List StoreCall). CommitsAsHolder w k ds) regroup x.along.leads) in
           let nodes : ℕ → NodeState = failing_nodes w k (law_ask ask) facts whole cut.did cut.call cut.rest cut.split in
           let mid : World = failing_world w k nodes cut.did grows.0 in
           let along : GoesAlong w k (law_ask ask) cut.did (Some (FailedIn cut.call)) mid = record {
             comes = x.along.comes;
-            leads = leads;
             tree = grows.1;
             acts = refl;
             failing = failing-here k (length w.granted) w.failing;
@@ -235,6 +238,7 @@ module _ {M : Type 0} (p : Program M) where
                 finds = after-finds c mid k new disk found opens.0 opens.1;
               };
             },
+            λ leads. holder-front w k (cut.did ++ cut.call ∷ []) cut.rest (subst (λ (ds : List StoreCall). CommitsAsHolder w k ds) regroup leads),
           )
 
       stop-found : StopsAreCuts → (failed : Option Failure) → (p.seen (c.nodes k)).failed ≡ failed → MayFind (p.seen (c.nodes k)).store failed (calls_of (p.tells x.step (c.disks k)).facts) found → IsStopped

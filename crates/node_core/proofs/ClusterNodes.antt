@@ -6,7 +6,7 @@ use Rattle.txn_log.specs.Store.{failed_of}
 use Rattle.world_laws.specs.CatchUpLaw.{AnswersByWhole, DropInstalls, SentFileApplies, SnapshotInstalls}
 use Rattle.world_laws.specs.Node.{IsSoundNode, NodeState}
 use Rattle.world_laws.specs.ReaderLaw.{ReaderSteady}
-use Rattle.world_laws.specs.SafetyLaw.{SafeKept}
+use Rattle.world_laws.specs.SafetyLaw.{LedKept, SafeKept}
 use Rattle.world_laws.specs.Served.{untouched}
 use Rattle.world_laws.specs.StopLaw.{EachIsFound, StopsAreCuts}
 use Rattle.world_laws.specs.Store.{MayBeFound, StoreState}
@@ -14,11 +14,11 @@ use Rattle.node_core.specs.declared.answer.Answer.{Answer}
 use Rattle.node_core.specs.declared.ask.Ask.{Ask}
 use Rattle.node_core.specs.declared.node.Node.{Node}
 use Rattle.node_core.specs.Cluster.{Program}
-use Rattle.node_core.specs.ClusterLaws.{BegunIsStart, ClusterIsKept, MovesAreEvents, DeliveredDropInstalls, DeliveredFileApplies, DeliveredSnapshotInstalls, ReaderIsSteady, RecoveredIsOpened, RestartsAreMoves, StepAnswersByWhole, StepsAreMoves, StopsAreMoves, program}
+use Rattle.node_core.specs.ClusterLaws.{BegunIsStart, ClusterIsKept, ClusterIsLed, MovesAreEvents, DeliveredDropInstalls, DeliveredFileApplies, DeliveredSnapshotInstalls, ReaderIsSteady, RecoveredIsOpened, RestartsAreMoves, StepAnswersByWhole, StepsAreMoves, StopsAreMoves, program}
 use Rattle.node_core.specs.Nodes.{history, parts_of}
 use Rattle.node_core.specs.Steps.{IsStep}
 use Rattle.node_core.specs.Stores.{fields_of, state}
-use Rattle.node_core.proofs.Clusters.{cluster-is-kept, moves-are-events}
+use Rattle.node_core.proofs.Clusters.{cluster-is-kept, cluster-is-led, moves-are-events}
 use Rattle.node_core.proofs.ClusterMoves.{begun-is-start, restarts-are-moves, steps-are-moves, stops-are-moves}
 use Rattle.node_core.proofs.Deliveries.{drop-installs, file-applies, reader-is-steady, snapshot-installs, step-answers-by-whole}
 use Rattle.node_core.proofs.Sound.{sound}
@@ -60,6 +60,9 @@ module _ {D : Type 0} {G : Ghosts D} where
 
   pub kept : SafeKept → ClusterIsKept nodes
   kept law = cluster-is-kept nodes law
+
+  pub led : LedKept → ClusterIsLed nodes
+  led law = cluster-is-led nodes law
 
   pub steps : StepsAreMoves nodes
   steps = steps-are-moves nodes stays

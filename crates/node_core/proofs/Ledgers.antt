@@ -3,7 +3,7 @@ use Rattle.std.proofs.Common.{◌≡◌, ◌≢◌, ℕ, ◌+◌, ◌≤◌, ◌
 use Rattle.std.proofs.lemmas.List.{append-nil}
 use Rattle.ltx_codec.specs.declared.file.Ltx.{Ltx}
 use Rattle.world_laws.specs.Answers.{Answers, LeavesUndone, completed_over}
-use Rattle.world_laws.specs.Events.{Turns}
+use Rattle.world_laws.specs.Events.{Leads, Steps, Turns}
 use Rattle.world_laws.specs.Lineage.{Lineage, Names}
 use Rattle.world_laws.specs.Node.{Answer, Ask, Disk, Done, Drop, File, Forward, Forwarded, Frame, Import, IsPlain, NodeState, Primary, Prune, Refused, Replica, Role}
 use Rattle.world_laws.specs.Premises.{CommitsAsHolder, FindsACandidate}
@@ -184,8 +184,6 @@ module _ (w : World) (k : ℕ) (ask : Ask) {answer : Answer} {new : NodeState} (
     fails-turn = record {
       comes = along.comes;
       facts = there.facts;
-      leads = subst (λ (ds : List StoreCall). CommitsAsHolder w k (ds ++ begun_by there.facts.failed)) (sym there.did_is)
-          (subst (λ (f : Option Failure). CommitsAsHolder w k (front ++ begun_by f)) (sym there.failed_is) along.leads);
       tree = subst (λ (ds : List StoreCall). GrowsAlong w.tree (w.nodes k).store ds mid.tree) (sym there.did_is) along.tree;
       acts = along.acts ∙ ap (λ (ds : List StoreCall). acts_along (length w.granted) k ds w.acts) (sym there.did_is);
       failing = along.failing ∙ sym (ap (λ (f : Option Failure). failing_by (length w.granted) (w.failing k) f) there.failed_is);
@@ -194,6 +192,12 @@ module _ (w : World) (k : ℕ) (ask : Ask) {answer : Answer} {new : NodeState} (
       others = λ other differs. (put-other k failing_node w.nodes other differs, along.others other differs);
       lease = along.lease;
     }
+
+    -- it leads where these calls are the holder's
+    pub fails-leads : CommitsAsHolder w k (front ++ call ∷ []) → Leads w (with_nodes mid failing_nodes) (Steps k ask failing-answer) fails-turn
+    unfolding failing-answer, fails-turn
+    fails-leads leads = subst (λ (ds : List StoreCall). CommitsAsHolder w k (ds ++ begun_by there.facts.failed)) (sym there.did_is)
+        (subst (λ (f : Option Failure). CommitsAsHolder w k (front ++ begun_by f)) (sym there.failed_is) leads)
 
 -- the calls in front of the one that is cut off are a front of those that were done
 pub front_of : (xs ys zs : List StoreCall) (c : StoreCall) (ws : List StoreCall) → length ys ≤ 1 → xs ++ ys ≡ zs ++ c ∷ ws → (more : List StoreCall) × (xs ≡ zs ++ more)

@@ -3,7 +3,8 @@
 -- The nodes are the program's own, each over an honest disk. Beside them goes the ledger: all that was committed, sent, accepted
 -- and granted, as a world of the laws has it. Nobody writes into it what a step did: the ledger goes along with the calls that
 -- the step's own relation tells.
-use Rattle.std.specs.Prelude.{◌≡◌, ◌≢◌, ◌⊎◌, ℕ, ◌≤◌, Bool, IsTrue, List, ◌∷◌, ◌++◌, length, Option, None, Some}
+use Rattle.std.specs.Prelude.{◌≡◌, ◌≢◌, ◌⊎◌, ℕ, ◌≤◌, Bool, IsTrue, List, [], ◌∷◌, ◌++◌, length, Option, None, Some}
+use Rattle.std.proofs.Common.{inl, inr}
 use Rattle.ltx_codec.specs.declared.file.Ltx.{Ltx}
 use Rattle.lf_disk.specs.Folder.{Folder}
 use Rattle.lf_disk.specs.History.{History, may_leave}
@@ -34,7 +35,6 @@ pub record Program (M : Type 0) : Type 1 where
 -- the ledger goes along with these calls of node k: what `Turns` says, but for the facts of the step
 pub record GoesAlong (w : World) (k : ℕ) (ask : laws.Ask) (did : List StoreCall) (failed : Option Failure) (v : World) : Type 0 where
   pub comes : WasSent w (w.nodes k).waits ask
-  pub leads : CommitsAsHolder w k (did ++ begun_by failed)
   pub tree : GrowsAlong w.tree (w.nodes k).store did v.tree
   pub acts : v.acts ≡ acts_along (length w.granted) k did w.acts
   pub failing : v.failing k ≡ failing_by (length w.granted) (w.failing k) failed
@@ -60,6 +60,11 @@ pub record IsCutOff (w : World) (k : ℕ) (ask : laws.Ask) (calls : List StoreCa
   pub along : GoesAlong w k ask front (Some (FailedIn call)) mid
   pub frames : (mid.sent ≡ w.sent) × (mid.accepted ≡ w.accepted)
   pub finds : FindsAlong mid k found v
+
+-- the calls of its step that a stop had come to
+abbrev pub begun_in : {w v : World} {k : ℕ} {ask : laws.Ask} {calls : List StoreCall} {found : StoreState} → FindsAlong w k found v ⊎ IsCutOff w k ask calls found v → List StoreCall
+begun_in (inl before) = []
+begun_in (inr cut) = cut.front ++ cut.call ∷ []
 
 -- a node was opened on a store: it is whole, nothing waits, and nobody has used its files
 pub record IsOpened (found : StoreState) (node : NodeState) : Type 0 where
@@ -162,7 +167,21 @@ module _ {M : Type 0} (p : Program M) where
     renews : LeasesAre c c.granted c.holder d → Move c d
     loses : LeasesAre c c.granted None d → Move c d
 
+  -- a move leads: what a node commits in it, it commits as the holder of the lease
+  abbrev pub Leads : {c d : Cluster p} → Move c d → Type 0
+  Leads {c = c} (takes_step {k = k} x) = CommitsAsHolder (world c) k (calls_of (p.tells x.step (c.disks k)).facts)
+  Leads {c = c} (stops {k = k} x) = CommitsAsHolder (world c) k (begun_in x.ledger)
+  Leads (restarts x) = Unit {0}
+  Leads (grants k x) = Unit {0}
+  Leads (renews x) = Unit {0}
+  Leads (loses x) = Unit {0}
+
   -- a list of moves, one after another
   pub data Moves : Cluster p → Cluster p → Type 0 where
     none : {c : Cluster p} → Moves c c
     more : {c d e : Cluster p} → Move c d → Moves d e → Moves c e
+
+  -- each of which leads
+  abbrev pub AreLed : {c d : Cluster p} → Moves c d → Type 0
+  AreLed none = Unit {0}
+  AreLed (more move moves) = Leads move × AreLed moves

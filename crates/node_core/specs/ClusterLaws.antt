@@ -1,7 +1,8 @@
 -- THE LAWS OF A CLUSTER of nodes that run this program.
 --
--- Their premises are those of world_laws, by name: `CommitsAsHolder` and `WasSent` in what goes along with a step,
--- `OneImagePerPosition` here, and of the third that a disk is honest; what a restart may find is proved.
+-- Their premises are those of world_laws, by name: `WasSent` in what goes along with a step, `OneImagePerPosition` here,
+-- and of the third that a disk is honest; what a restart may find is proved. `CommitsAsHolder` is a premise of led moves
+-- alone (`AreLed`), and so of what is said of terms.
 use Rattle.std.specs.Prelude.{◌≡◌, ◌≢◌, ◌⊎◌, ℕ, false, IsTrue, List, [], ◌∷◌, None}
 use Rattle.byte_locks.specs.declared.owner.Owner.{Owner}
 use Rattle.lf_base.specs.declared.pos.Pos.{Pos}
@@ -14,18 +15,19 @@ use Rattle.ltx_codec.specs.Positions.{after, before, nowhere}
 use Rattle.txn_log.specs.Durable.{Durable}
 use Rattle.world_laws.specs.Answers.{Knows, snapshot_of}
 use Rattle.world_laws.specs.CatchUpLaw.{IsFreeRefusal, IsHeldBack, IsWhole}
+use Rattle.world_laws.specs.Events as events
 use Rattle.world_laws.specs.Events.{Event, IsStart, Runs}
 use Rattle.world_laws.specs.Node as laws
 use Rattle.world_laws.specs.Premises.{CommitsAsHolder, OneImagePerPosition, WasSent}
 use Rattle.world_laws.specs.ReaderLaw.{IsRead}
 use Rattle.world_laws.specs.Safe.{IsSafe}
-use Rattle.world_laws.specs.SafetyLaw.{IsKept}
+use Rattle.world_laws.specs.SafetyLaw.{IsKept, IsKeptLed}
 use Rattle.world_laws.specs.Served.{over}
 use Rattle.world_laws.specs.Step.{Steady}
 use Rattle.world_laws.specs.Store.{StoreState, at}
 use Rattle.node_core.specs.declared.answer.Answer.{Answer}
 use Rattle.node_core.specs.declared.ask.Ask.{Ask}
-use Rattle.node_core.specs.Cluster.{Cluster, IsLeftBetween, IsOpenedOn, Moves, Program, Restarts, Stops, TakesStep, calls_of, world}
+use Rattle.node_core.specs.Cluster.{AreLed, Cluster, IsLeftBetween, IsOpenedOn, Leads, Moves, Program, Restarts, Stops, TakesStep, calls_of, stops, takes_step, world}
 use Rattle.node_core.specs.declared.config.NodeConfig.{NodeConfig}
 use Rattle.node_core.specs.declared.node.Node.{Node}
 use Rattle.node_core.specs.Nodes.{history, parts_of, seen}
@@ -34,29 +36,35 @@ use Rattle.node_core.specs.Safely.{StepsSafely, law_answer, law_ask}
 use Rattle.node_core.specs.Stores.{fields_of, state}
 
 module _ {M : Type 0} (p : Program M) where
-  -- a list of moves is a list of events of the laws
+  -- a list of moves is a list of events of the laws, which is led where the moves are
   abbrev pub MovesAreEvents : Type 0
-  MovesAreEvents = (c d : Cluster p) → Moves p c d → (events : List Event) × Runs (world p c) events (world p d)
+  MovesAreEvents = (c d : Cluster p) → (moves : Moves p c d) → (es : List Event) × (runs : Runs (world p c) es (world p d)) × (AreLed p moves → events.AreLed runs)
 
   -- after every list of moves from nodes with empty disks, the invariant holds: each node's committed pages are those of every
-  -- lineage that its position names
+  -- lineage that its position names, whoever commits
   abbrev pub ClusterIsKept : Type 0
   ClusterIsKept = (c d : Cluster p) → IsStart (world p c) → Moves p c d → OneImagePerPosition d.tree →
       IsKept (world p d)
 
-  -- every step of a node is a move, where what is delivered was sent and what is committed is the holder's
+  -- and after every list of moves that lead, only a term's holder has committed in it, and the commits of a term are one line
+  abbrev pub ClusterIsLed : Type 0
+  ClusterIsLed = (c d : Cluster p) → IsStart (world p c) → (moves : Moves p c d) → AreLed p moves → OneImagePerPosition d.tree →
+      IsKeptLed (world p d)
+
+  -- every step of a node is a move, where what is delivered was sent. It leads where what is committed is the holder's
   abbrev pub StepsAreMoves : Type 0
   StepsAreMoves = (c : Cluster p) (k caller : ℕ) (ask : Ask) (answer : Answer) (new : M) → IsSafe (world p c) → (step : p.steps (c.nodes k) caller ask answer new) →
-      WasSent (world p c) (p.seen (c.nodes k)).waits (law_ask ask) → CommitsAsHolder (world p c) k (calls_of (p.tells step (c.disks k)).facts) →
-      (d : Cluster p) × (d.nodes k ≡ new) × TakesStep p c k caller ask answer d
+      WasSent (world p c) (p.seen (c.nodes k)).waits (law_ask ask) →
+      (d : Cluster p) × (d.nodes k ≡ new) × (taken : TakesStep p c k caller ask answer d) ×
+      (CommitsAsHolder (world p c) k (calls_of (p.tells step (c.disks k)).facts) → Leads p (takes_step taken))
 
   -- wherever a node may take a step, a stop at any of its moments is a move, whatever folder the crash leaves and whatever node is
-  -- opened on it
+  -- opened on it. It leads where the step does
   abbrev pub StopsAreMoves : Type 0
   StopsAreMoves = (c e : Cluster p) (k caller : ℕ) (ask : Ask) (answer : Answer) → IsSafe (world p c) → OneImagePerPosition e.tree →
-      TakesStep p c k caller ask answer e →
+      (taken : TakesStep p c k caller ask answer e) →
       (folder : Folder) → IsLeftBetween p (c.nodes k) (e.nodes k) folder → (new : M) → IsTrue (p.honest new) → IsOpenedOn folder (p.seen new) →
-      ∥ ((d : Cluster p) × (d.nodes k ≡ new) × Stops p c k d) ∥₁
+      ∥ ((d : Cluster p) × (d.nodes k ≡ new) × (stopped : Stops p c k d) × (Leads p (takes_step taken) → Leads p (stops stopped))) ∥₁
 
   -- and so is a stop between two steps
   abbrev pub RestartsAreMoves : Type 0

@@ -1,6 +1,6 @@
 -- Restarts, and the runs that come to what a stop leaves.
 use Rattle.std.proofs.Common.{◌≡◌, ◌≢◌, ℕ, ◌≤◌, cond, eqb, List, [], ◌∷◌, ◌++◌, length, Option, Some, None, inl, inr, refl, sym, ap, subst, ◌∙◌, arith, append_assoc, length-append}
-use Rattle.world_laws.specs.Events.{Reopens, Steps, Turns, ends, goes}
+use Rattle.world_laws.specs.Events.{AreLed, Leads, Opens, Reopens, Steps, Turns, ends, goes}
 use Rattle.world_laws.specs.Lineage.{Lineage}
 use Rattle.world_laws.specs.Node.{Answer, Ask, NodeState, Replica}
 use Rattle.world_laws.specs.Premises.{CommitsAsHolder, FindsACandidate, OneImagePerPosition, WasSent}
@@ -141,48 +141,65 @@ failing-here w k = rw (same_test k)
 failing-other : (w : World) (k other : ℕ) → other ≢ k → cond (eqb other k) (length w.granted) (w.failing other) ≡ w.failing other
 failing-other w k other differs = rw (other_test other k differs)
 
+-- a turn in which this call fails, after these went well. It leads where they are the holder's
+record FailingTurn (w : World) (k : ℕ) (ask : Ask) (answer : Answer) (did : List StoreCall) (call : StoreCall) (v : World) : Type 0 where
+  pub turn : Turns w k ask answer v
+  pub leads : CommitsAsHolder w k (did ++ call ∷ []) → Leads w v (Steps k ask answer) turn
+
 failing-turn : (w : World) (k : ℕ) (ask : Ask) (answer : Answer) (mid : NodeState) (did : List StoreCall) (call : StoreCall) (tree : List Lineage) → WasSent w (w.nodes k).waits ask →
-    Made (w.nodes k) mid ask answer did (Some (FailedIn call)) → CommitsAsHolder w k (did ++ call ∷ []) → GrowsAlong w.tree (w.nodes k).store did tree →
-    Turns w k ask answer (failing_world w k ask answer mid did tree)
-failing-turn w k ask answer mid did call tree comes made leads grows =
+    Made (w.nodes k) mid ask answer did (Some (FailedIn call)) → GrowsAlong w.tree (w.nodes k).store did tree → FailingTurn w k ask answer did call (failing_world w k ask answer mid did tree)
+failing-turn w k ask answer mid did call tree comes made grows =
     let here = put-here k mid w.nodes in
     let step : Made (w.nodes k) (put k mid w.nodes k) ask answer did (Some (FailedIn call)) =
     subst (λ (n : NodeState). Made (w.nodes k) n ask answer did (Some (FailedIn call))) (sym here) made
     in
     record {
-      comes = comes;
-      facts = step.facts;
-      leads = subst (λ (ds : List StoreCall). CommitsAsHolder w k (ds ++ begun_by step.facts.failed)) (sym step.did_is)
+      turn = record {
+        comes = comes;
+        facts = step.facts;
+        tree = subst (λ (ds : List StoreCall). GrowsAlong w.tree (w.nodes k).store ds tree) (sym step.did_is) grows;
+        acts = ap (λ (ds : List StoreCall). acts_along (length w.granted) k ds w.acts) (sym step.did_is);
+        failing = failing-here w k ∙ sym (ap (λ (f : Option Failure). failing_by (length w.granted) (w.failing k) f) step.failed_is);
+        sent = refl;
+        accepted = refl;
+        others = λ other differs. (put-other k mid w.nodes other differs, failing-other w k other differs);
+        lease = (refl, refl);
+      };
+      leads = λ leads. subst (λ (ds : List StoreCall). CommitsAsHolder w k (ds ++ begun_by step.facts.failed)) (sym step.did_is)
           (subst (λ (f : Option Failure). CommitsAsHolder w k (did ++ begun_by f)) (sym step.failed_is) leads);
-      tree = subst (λ (ds : List StoreCall). GrowsAlong w.tree (w.nodes k).store ds tree) (sym step.did_is) grows;
-      acts = ap (λ (ds : List StoreCall). acts_along (length w.granted) k ds w.acts) (sym step.did_is);
-      failing = failing-here w k ∙ sym (ap (λ (f : Option Failure). failing_by (length w.granted) (w.failing k) f) step.failed_is);
-      sent = refl;
-      accepted = refl;
-      others = λ other differs. (put-other k mid w.nodes other differs, failing-other w k other differs);
-      lease = (refl, refl);
     }
+
+-- what a stop comes to, and that its run is led where the step leads
+abbrev IsStopped : (w v : World) (k : ℕ) (ask : Ask) (answer : Answer) (left : StoreState) → Turns w k ask answer v → Type 0
+IsStopped w v k ask answer left turn = (reached : IsReached w k ask left) × (Leads w v (Steps k ask answer) turn → AreLed reached.runs)
 
 -- a stop in one of the calls
 cut-reached : (w v : World) (k : ℕ) (ask : Ask) (answer : Answer) (left : StoreState) → IsSafe w → OneImagePerPosition v.tree → (turn : Turns w k ask answer v) →
-    FailedStep (w.nodes k) ask (turn.facts.did ++ begun_by turn.facts.failed) left → IsReached w k ask left
+    FailedStep (w.nodes k) ask (turn.facts.did ++ begun_by turn.facts.failed) left → IsStopped w v k ask answer left turn
 cut-reached w v k ask answer left safe one turn step =
     let old : NodeState = w.nodes k in
     let front = front_of turn.facts.did (begun_by turn.facts.failed) step.did step.call step.rest (begun-short turn.facts.failed) step.split in
     let grows = GrowsAlong-split w.tree old.store step.did front.0 v.tree (subst (λ (ds : List StoreCall). GrowsAlong w.tree old.store ds v.tree) front.1 turn.tree) in
     let regroup : turn.facts.did ++ begun_by turn.facts.failed ≡ (step.did ++ step.call ∷ []) ++ step.rest = step.split ∙ sym (append_assoc step.did (step.call ∷ []) step.rest) in
-    let leads : CommitsAsHolder w k (step.did ++ step.call ∷ []) =
-    holder-front w k (step.did ++ step.call ∷ []) step.rest (subst (λ (ds : List StoreCall). CommitsAsHolder w k ds) regroup turn.leads)
-    in
     let mid : World = failing_world w k ask step.answer step.mid step.did grows.0 in
-    let fails_there : Turns w k ask step.answer mid = failing-turn w k ask step.answer step.mid step.did step.call grows.0 turn.comes step.made leads grows.1 in
+    let fails_there : FailingTurn w k ask step.answer step.did step.call mid = failing-turn w k ask step.answer step.mid step.did step.call grows.0 turn.comes step.made grows.1 in
     let one_mid : OneImagePerPosition mid.tree = One-fewer grows.0 v.tree (GrowsAlong-extends grows.0 (all_done old.store step.did) front.0 v.tree grows.2) one in
-    let mid_safe : IsSafe mid = event-safe w mid (Steps k ask step.answer) one_mid safe fails_there in
+    let mid_safe : IsSafe mid = event-safe w mid (Steps k ask step.answer) one_mid safe fails_there.turn in
     let leaves : MayBeFound (mid.nodes k).store (mid.nodes k).failed left =
     subst (λ (n : NodeState). MayBeFound n.store n.failed left) (sym (put-here k step.mid w.nodes)) step.leaves
     in
-    let opens = each_is_found-of mid k left mid_safe leaves in
-    record { answer = step.answer; last = opens.0; runs = inr (goes {v = mid} fails_there (goes {v = opens.0} opens.1 ends)) }
+    let opens = each_is_found-of mid k left mid_safe leaves in (
+      record {
+        events = Steps k ask step.answer ∷ Opens k left ∷ [];
+        stop = inr (step.answer, refl);
+        last = opens.0;
+        runs = goes {v = mid} fails_there.turn (goes {v = opens.0} opens.1 ends);
+      },
+      λ leads. (
+        fails_there.leads (holder-front w k (step.did ++ step.call ∷ []) step.rest (subst (λ (ds : List StoreCall). CommitsAsHolder w k ds) regroup leads)),
+        (tt, tt),
+      ),
+    )
 
 pub stop_is_reached-of : StopIsReached
 stop_is_reached-of w v k ask answer left safe one turn whole candidate =
@@ -190,8 +207,10 @@ stop_is_reached-of w v k ask answer left safe one turn whole candidate =
     elim (stops_are_cuts-of old.store left (turn.facts.did ++ begun_by turn.facts.failed) candidate) [
       | inl none_at ↦
           let may : MayBeFound old.store old.failed left = subst (λ (f : Option Failure). MayBeFound old.store f left) (sym whole) none_at.1 in
-          let opens = each_is_found-of w k left safe may in
-          record { answer = answer; last = opens.0; runs = inl (goes {v = opens.0} opens.1 ends) }
+          let opens = each_is_found-of w k left safe may in (
+            record { events = Opens k left ∷ []; stop = inl refl; last = opens.0; runs = goes {v = opens.0} opens.1 ends },
+            λ leads. (tt, tt),
+          )
       | inr cut ↦
           cut-reached w v k ask answer left safe one turn
           (failed-step old ask turn.facts.role (turn.facts.did ++ begun_by turn.facts.failed) left whole turn.facts.makes turn.facts.can cut)

@@ -127,68 +127,79 @@ pub record Goes (k term : ℕ) (store : StoreState) (tree grown : List Lineage) 
   pub tree_is : GrowsAlong tree store did grown
   pub failing : failing_by term 2 failed ≡ 2
 
+-- a turn, and that it leads
+pub record LedTurn (w : World) (k : ℕ) (ask : Ask) (answer : Answer) (v : World) : Type 0 where
+  pub turn : Turns w k ask answer v
+  pub leads : CommitsAsHolder w k (turn.facts.did ++ begun_by turn.facts.failed)
+
 -- the node at each place
 pub turn-0 : (a b c x : NodeState) (tree grown : List Lineage) (sent : List SentFrame) (accepted : List Ltx) (granted : List ℕ) (holder : Option ℕ) (acts : List Act) (ask : Ask) (answer : Answer)
     (did : List StoreCall) (failed : Option Failure) → Made a x ask answer did failed → WasSent (world a b c tree sent accepted granted holder acts) a.waits ask →
     Goes 0 (length granted) a.store tree grown holder did failed →
-    Turns (world a b c tree sent accepted granted holder acts) 0 ask answer
+    LedTurn (world a b c tree sent accepted granted holder acts) 0 ask answer
     (world x b c grown (sent ++ sent_by ask answer) (accepted ++ accepted_by ask answer) granted holder (acts_along (length granted) 0 did acts))
 turn-0 a b c x tree grown sent accepted granted holder acts ask answer did failed step comes on =
     let w : World = world a b c tree sent accepted granted holder acts in
     record {
-      comes = comes;
-      facts = step.facts;
+      turn = record {
+        comes = comes;
+        facts = step.facts;
+        tree = subst (λ (ds : List StoreCall). GrowsAlong tree a.store ds grown) (sym step.did_is) on.tree_is;
+        acts = ap (λ (ds : List StoreCall). acts_along (length granted) 0 ds acts) (sym step.did_is);
+        failing = sym (ap (λ (f : Option Failure). failing_by (length granted) 2 f) step.failed_is ∙ on.failing);
+        sent = refl;
+        accepted = refl;
+        others = λ other differs. (stays-0 a b c x other differs, refl);
+        lease = (refl, refl);
+      };
       leads = subst (λ (ds : List StoreCall). CommitsAsHolder w 0 (ds ++ begun_by step.facts.failed)) (sym step.did_is)
           (subst (λ (f : Option Failure). CommitsAsHolder w 0 (did ++ begun_by f)) (sym step.failed_is) (on.leads w refl));
-      tree = subst (λ (ds : List StoreCall). GrowsAlong tree a.store ds grown) (sym step.did_is) on.tree_is;
-      acts = ap (λ (ds : List StoreCall). acts_along (length granted) 0 ds acts) (sym step.did_is);
-      failing = sym (ap (λ (f : Option Failure). failing_by (length granted) 2 f) step.failed_is ∙ on.failing);
-      sent = refl;
-      accepted = refl;
-      others = λ other differs. (stays-0 a b c x other differs, refl);
-      lease = (refl, refl);
     }
 
 pub turn-1 : (a b c x : NodeState) (tree grown : List Lineage) (sent : List SentFrame) (accepted : List Ltx) (granted : List ℕ) (holder : Option ℕ) (acts : List Act) (ask : Ask) (answer : Answer)
     (did : List StoreCall) (failed : Option Failure) → Made b x ask answer did failed → WasSent (world a b c tree sent accepted granted holder acts) b.waits ask →
     Goes 1 (length granted) b.store tree grown holder did failed →
-    Turns (world a b c tree sent accepted granted holder acts) 1 ask answer
+    LedTurn (world a b c tree sent accepted granted holder acts) 1 ask answer
     (world a x c grown (sent ++ sent_by ask answer) (accepted ++ accepted_by ask answer) granted holder (acts_along (length granted) 1 did acts))
 turn-1 a b c x tree grown sent accepted granted holder acts ask answer did failed step comes on =
     let w : World = world a b c tree sent accepted granted holder acts in
     record {
-      comes = comes;
-      facts = step.facts;
+      turn = record {
+        comes = comes;
+        facts = step.facts;
+        tree = subst (λ (ds : List StoreCall). GrowsAlong tree b.store ds grown) (sym step.did_is) on.tree_is;
+        acts = ap (λ (ds : List StoreCall). acts_along (length granted) 1 ds acts) (sym step.did_is);
+        failing = sym (ap (λ (f : Option Failure). failing_by (length granted) 2 f) step.failed_is ∙ on.failing);
+        sent = refl;
+        accepted = refl;
+        others = λ other differs. (stays-1 a b c x other differs, refl);
+        lease = (refl, refl);
+      };
       leads = subst (λ (ds : List StoreCall). CommitsAsHolder w 1 (ds ++ begun_by step.facts.failed)) (sym step.did_is)
           (subst (λ (f : Option Failure). CommitsAsHolder w 1 (did ++ begun_by f)) (sym step.failed_is) (on.leads w refl));
-      tree = subst (λ (ds : List StoreCall). GrowsAlong tree b.store ds grown) (sym step.did_is) on.tree_is;
-      acts = ap (λ (ds : List StoreCall). acts_along (length granted) 1 ds acts) (sym step.did_is);
-      failing = sym (ap (λ (f : Option Failure). failing_by (length granted) 2 f) step.failed_is ∙ on.failing);
-      sent = refl;
-      accepted = refl;
-      others = λ other differs. (stays-1 a b c x other differs, refl);
-      lease = (refl, refl);
     }
 
 pub turn-2 : (a b c x : NodeState) (tree grown : List Lineage) (sent : List SentFrame) (accepted : List Ltx) (granted : List ℕ) (holder : Option ℕ) (acts : List Act) (ask : Ask) (answer : Answer)
     (did : List StoreCall) (failed : Option Failure) → Made c x ask answer did failed → WasSent (world a b c tree sent accepted granted holder acts) c.waits ask →
     Goes 2 (length granted) c.store tree grown holder did failed →
-    Turns (world a b c tree sent accepted granted holder acts) 2 ask answer
+    LedTurn (world a b c tree sent accepted granted holder acts) 2 ask answer
     (world a b x grown (sent ++ sent_by ask answer) (accepted ++ accepted_by ask answer) granted holder (acts_along (length granted) 2 did acts))
 turn-2 a b c x tree grown sent accepted granted holder acts ask answer did failed step comes on =
     let w : World = world a b c tree sent accepted granted holder acts in
     record {
-      comes = comes;
-      facts = step.facts;
+      turn = record {
+        comes = comes;
+        facts = step.facts;
+        tree = subst (λ (ds : List StoreCall). GrowsAlong tree c.store ds grown) (sym step.did_is) on.tree_is;
+        acts = ap (λ (ds : List StoreCall). acts_along (length granted) 2 ds acts) (sym step.did_is);
+        failing = sym (ap (λ (f : Option Failure). failing_by (length granted) 2 f) step.failed_is ∙ on.failing);
+        sent = refl;
+        accepted = refl;
+        others = λ other differs. (stays-2 a b c x other differs, refl);
+        lease = (refl, refl);
+      };
       leads = subst (λ (ds : List StoreCall). CommitsAsHolder w 2 (ds ++ begun_by step.facts.failed)) (sym step.did_is)
           (subst (λ (f : Option Failure). CommitsAsHolder w 2 (did ++ begun_by f)) (sym step.failed_is) (on.leads w refl));
-      tree = subst (λ (ds : List StoreCall). GrowsAlong tree c.store ds grown) (sym step.did_is) on.tree_is;
-      acts = ap (λ (ds : List StoreCall). acts_along (length granted) 2 ds acts) (sym step.did_is);
-      failing = sym (ap (λ (f : Option Failure). failing_by (length granted) 2 f) step.failed_is ∙ on.failing);
-      sent = refl;
-      accepted = refl;
-      others = λ other differs. (stays-2 a b c x other differs, refl);
-      lease = (refl, refl);
     }
 
 -- a step that makes no call, or one that commits nothing

@@ -1,8 +1,9 @@
--- What may happen in a cluster, and its runs.
+-- What may happen in a cluster, its runs, and those that are led.
 --
 -- A delivery is a step that asks Frame or Drop, and a reply is one that asks Forwarded; a loss is a frame that is
 -- never delivered. A stop inside a step is two events, a step of the same ask that fails and a restart: that this
--- covers every stop is a law of its own. Steps of one node follow one another, as its machine takes them in turn.
+-- covers every stop is a law of its own. Steps of one node follow one another, as its machine takes them in turn. Nothing
+-- that happens asks who holds the lease; a run is led where each of its turns commits as the holder.
 use Rattle.std.specs.Prelude.{◌≡◌, ℕ, List, [], ◌∷◌, ◌++◌, length, Option, None, Some}
 use Rattle.world_laws.specs.Node.{Answer, Ask}
 use Rattle.world_laws.specs.Premises.{CommitsAsHolder, FindsACandidate, WasSent}
@@ -22,7 +23,6 @@ pub data Event : Type 0 where
 pub record Turns (w : World) (k : ℕ) (ask : Ask) (answer : Answer) (v : World) : Type 0 where
   pub comes : WasSent w (w.nodes k).waits ask
   pub facts : StepFacts (w.nodes k) ask answer (v.nodes k)
-  pub leads : CommitsAsHolder w k (facts.did ++ begun_by facts.failed)
   pub tree : GrowsAlong w.tree (w.nodes k).store facts.did v.tree
   pub acts : v.acts ≡ acts_along (length w.granted) k facts.did w.acts
   pub failing : v.failing k ≡ failing_by (length w.granted) (w.failing k) facts.failed
@@ -64,6 +64,19 @@ Happens w Loses v = Leases w w.granted None v
 pub data Runs : World → List Event → World → Type 0 where
   ends : {w : World} → Runs w [] w
   goes : {w v u : World} {event : Event} {events : List Event} → Happens w event v → Runs v events u → Runs w (event ∷ events) u
+
+-- a turn leads: what it commits, it commits as the holder of the lease
+abbrev pub Leads : (w v : World) (event : Event) → Happens w event v → Type 0
+Leads w v (Steps k ask answer) turn = CommitsAsHolder w k (turn.facts.did ++ begun_by turn.facts.failed)
+Leads w v (Opens k found) happens = Unit {0}
+Leads w v (Grants k) happens = Unit {0}
+Leads w v Renews happens = Unit {0}
+Leads w v Loses happens = Unit {0}
+
+-- a led run: each of its turns leads
+abbrev pub AreLed : {w v : World} {events : List Event} → Runs w events v → Type 0
+AreLed ends = Unit {0}
+AreLed (goes {w = w} {v = v} {event = event} happens rest) = Leads w v event happens × AreLed rest
 
 -- every disk empty, nobody at the files, and nothing committed but the lineage of no transaction
 pub record IsStart (w : World) : Type 0 where

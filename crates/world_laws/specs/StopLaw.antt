@@ -2,7 +2,7 @@
 -- stops of their own, for every call, and for a commit that is followed by its prune. It is said of one node, and then of
 -- a cluster: whatever a stop leaves, a run of one or two events comes to it.
 use Rattle.std.specs.Prelude.{◌≡◌, ◌⊎◌, ℕ, List, [], ◌∷◌, ◌++◌, None, Some, IsSome}
-use Rattle.world_laws.specs.Events.{Happens, Opens, Runs, Steps}
+use Rattle.world_laws.specs.Events.{AreLed, Event, Happens, Leads, Opens, Runs, Steps}
 use Rattle.world_laws.specs.Node.{Answer, Ask, NodeState}
 use Rattle.world_laws.specs.Premises.{OneImagePerPosition}
 use Rattle.world_laws.specs.Safe.{IsSafe}
@@ -46,14 +46,19 @@ StopOfBroken = (old new : NodeState) (ask : Ask) (answer : Answer) → (facts : 
 abbrev pub EachIsFound : Type 0
 EachIsFound = (w : World) (k : ℕ) (left : StoreState) → IsSafe w → MayBeFound (w.nodes k).store (w.nodes k).failed left → (v : World) × Happens w (Opens k left) v
 
--- a run comes to this store by a restart, or by a step of this ask that fails and a restart
-pub record IsReached (w : World) (k : ℕ) (ask : Ask) (left : StoreState) : Type 0 where
-  pub answer : Answer
-  pub last : World
-  pub runs : Runs w (Opens k left ∷ []) last ⊎ Runs w (Steps k ask answer ∷ Opens k left ∷ []) last
+-- a restart that finds this store, or a step of this ask that fails and then this restart
+abbrev pub IsStopAt : ℕ → Ask → StoreState → List Event → Type 0
+IsStopAt k ask left events = (events ≡ Opens k left ∷ []) ⊎ ((answer : Answer) × (events ≡ Steps k ask answer ∷ Opens k left ∷ []))
 
--- wherever a step may happen, a run comes to each store that a stop inside it may leave
+-- a run of these events comes to this store
+pub record IsReached (w : World) (k : ℕ) (ask : Ask) (left : StoreState) : Type 0 where
+  pub events : List Event
+  pub stop : IsStopAt k ask left events
+  pub last : World
+  pub runs : Runs w events last
+
+-- wherever a step may happen, a run comes to each store that a stop inside it may leave. It is led where the step leads
 abbrev pub StopIsReached : Type 0
 StopIsReached = (w v : World) (k : ℕ) (ask : Ask) (answer : Answer) (left : StoreState) → IsSafe w → OneImagePerPosition v.tree →
     (turn : Happens w (Steps k ask answer) v) → (w.nodes k).failed ≡ None → IsCandidate (w.nodes k).store (turn.facts.did ++ begun_by turn.facts.failed) left →
-    IsReached w k ask left
+    (reached : IsReached w k ask left) × (Leads w v (Steps k ask answer) turn → AreLed reached.runs)

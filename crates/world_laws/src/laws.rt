@@ -1,5 +1,5 @@
 //! Laws of the definitions, each the contract of a function that does nothing.
-ghost use Rattle.world_laws.specs.SafetyLaw.{SafeKept};
+ghost use Rattle.world_laws.specs.SafetyLaw.{LedKept, SafeKept};
 ghost use Rattle.world_laws.specs.ReaderLaw.{ReaderSteady};
 ghost use Rattle.world_laws.specs.CatchUpLaw.{AnswersByWhole, SnapshotInstalls, DropInstalls, SentFileApplies};
 ghost use Rattle.world_laws.specs.ForwardLaw.{ForwardedStands, SendLeaves, RefusalLeaves};
@@ -9,9 +9,11 @@ ghost use Rattle.world_laws.specs.SnapshotLaw.{SnapshotIsSound};
 ghost use Rattle.world_laws.specs.Scenario.{SomethingHappens, PagesDiffer};
 
 /// After every list of events that meets the premises, each node's committed pages are those of the lineage
-/// that its position names, and all else that `IsSafe` says holds.
+/// that its position names, and all else that `IsSafe` says holds, whoever commits. After one whose turns
+/// lead, only a term's holder has committed in it, and the commits of a term are one line (`IsLed`).
 pub fn safe_kept()
-    ensures { SafeKept }
+    ensures kept { SafeKept }
+    ensures led { LedKept }
 {}
 
 /// While an owner is inside at a plain replica, position, image, database file and committed frames stay.
