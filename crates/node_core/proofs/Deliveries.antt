@@ -1,7 +1,7 @@
 -- A reader of a node, and deliveries to it, by the laws of the cluster.
-use Rattle.std.proofs.Common.{◌≡◌, ◌≢◌, ◌⊎◌, ℕ, IsTrue, inl, inr, sym, subst, ◌∙◌}
+use Rattle.std.proofs.Common.{◌≡◌, ◌⊎◌, ℕ, IsTrue, inl, inr, subst, ◌∙◌}
 use Rattle.byte_locks.specs.declared.owner.Owner.{Owner}
-use Rattle.world_laws.specs.CatchUpLaw.{AnswersByWhole, DropInstalls, IsFreeRefusal, IsWhole, SentFileApplies, SnapshotInstalls}
+use Rattle.world_laws.specs.CatchUpLaw.{AnswersByWhole, DropInstalls, SentFileApplies, SnapshotInstalls}
 use Rattle.world_laws.specs.Events.{Turns}
 use Rattle.world_laws.specs.Node as laws
 use Rattle.world_laws.specs.Node.{IsSoundNode}
@@ -36,23 +36,18 @@ module _ {M : Type 0} (p : Program M) where
 
   pub step-answers-by-whole : AnswersByWhole → StepAnswersByWhole p
   step-answers-by-whole law old new caller ask answer position asks disk step role lacks =
-      subst (λ (a : laws.Ask). (facts : StepFacts (p.seen old) a (law_answer answer) (p.seen new)) → facts.role ≡ laws.Primary → IsWhole (p.seen old).store (law_answer answer) ⊎ IsFreeRefusal (p.seen old) (p.seen new) (law_answer answer)) (sym asks)
-      (λ facts leads. law (p.seen old) (p.seen new) position (law_answer answer) facts leads lacks) (p.tells step disk).facts role
+      law (p.seen old) (p.seen new) position (law_answer answer) (subst (λ (a : laws.Ask). StepFacts (p.seen old) a (law_answer answer) (p.seen new)) asks (p.tells step disk).facts) role lacks
 
   -- a delivery is a step of the laws
-  delivered : {c d : Cluster p} {k : ℕ} {frame : laws.Ask} {answer : Answer} {Result : Type 0} → (x : Delivers p c k frame answer d) →
-      ((turn : Turns (world_of c) k frame (law_answer answer) (world_of d)) → turn.facts.role ≢ laws.Primary → Result) → Result
-  delivered {c = c} {d = d} {k = k} {answer = answer} {Result = Result} x law =
-      subst (λ (a : laws.Ask). (turn : Turns (world_of c) k a (law_answer answer) (world_of d)) → turn.facts.role ≢ laws.Primary → Result) (sym x.asks) law
-      (step-turns p c d k x.caller x.ask answer x.takes) x.role
+  delivered : {c d : Cluster p} {k : ℕ} {frame : laws.Ask} {answer : Answer} → Delivers p c k frame answer d → Turns (world_of c) k frame (law_answer answer) (world_of d)
+  delivered {c = c} {d = d} {k = k} {answer = answer} x =
+      subst (λ (a : laws.Ask). Turns (world_of c) k a (law_answer answer) (world_of d)) x.asks (step-turns p c d k x.caller x.ask answer x.takes)
 
   pub snapshot-installs : SnapshotInstalls → DeliveredSnapshotInstalls p
-  snapshot-installs law c d k from answer image x =
-      delivered x (λ turn role. waits-or (law (world_of c) (world_of d) k from (law_answer answer) x.safe image turn role))
+  snapshot-installs law c d k from answer image x = waits-or (law (world_of c) (world_of d) k from (law_answer answer) x.safe image (delivered x) x.role)
 
   pub drop-installs : DropInstalls → DeliveredDropInstalls p
-  drop-installs law c d k answer x = delivered x (λ turn role. waits-or (law (world_of c) (world_of d) k (law_answer answer) x.safe turn role))
+  drop-installs law c d k answer x = waits-or (law (world_of c) (world_of d) k (law_answer answer) x.safe (delivered x) x.role)
 
   pub file-applies : SentFileApplies → DeliveredFileApplies p
-  file-applies law c d k file answer one follows x =
-      delivered x (λ turn role. waits-or (law (world_of c) (world_of d) k file (law_answer answer) x.safe one turn role follows))
+  file-applies law c d k file answer one follows x = waits-or (law (world_of c) (world_of d) k file (law_answer answer) x.safe one (delivered x) x.role follows)

@@ -2,10 +2,10 @@
 use Rattle.std.proofs.Common.{◌≡◌, ◌≢◌, ℕ, ◌+◌, ◌≤◌, ◌-◌, Bool, true, false, cond, eqb, List, [], ◌∷◌, ◌++◌, length, Option, Some, None, IsSome, inl, inr, refl, sym, ap, subst, ◌∙◌, arith, append_assoc, length-append}
 use Rattle.std.proofs.lemmas.List.{append-nil}
 use Rattle.ltx_codec.specs.declared.file.Ltx.{Ltx}
-use Rattle.world_laws.specs.Answers.{Answers, LeavesUndone, completed_over}
+use Rattle.world_laws.specs.Answers.{Answers, LeavesUndone, completed_over, snapshot_of}
 use Rattle.world_laws.specs.Events.{Leads, Steps, Turns}
 use Rattle.world_laws.specs.Lineage.{Lineage, Names}
-use Rattle.world_laws.specs.Node.{Answer, Ask, Disk, Done, Drop, File, Forward, Forwarded, Frame, Import, IsPlain, NodeState, Primary, Prune, Refused, Replica, Role}
+use Rattle.world_laws.specs.Node.{Answer, Ask, Disk, Done, Drop, File, Forward, Forwarded, Frame, Import, IsPlain, NodeState, Primary, Prune, Refused, Role}
 use Rattle.world_laws.specs.Premises.{CommitsAsHolder, FindsACandidate}
 use Rattle.world_laws.specs.Step.{Makes, StepFacts, accepts, commits, commits_and_prunes, drops, finishes, imports, nothing, prunes, takes, unlinks}
 use Rattle.world_laws.specs.Store.{Apply, CanDoAll, Commit, DropAll, FailedBefore, FailedIn, Failure, Install, PruneTo, StoreCall, StoreState, all_done, at, begun_by, broken_by, done, without_front}
@@ -14,6 +14,7 @@ use Rattle.world_laws.specs.World.{Grown, GrowsAlong, GrowsBy, SentFrame, World,
 use Rattle.world_laws.proofs.Calls.{CanDoAll-split}
 use Rattle.world_laws.proofs.Made.{Made}
 use Rattle.world_laws.proofs.Restarting.{put}
+use Rattle.world_laws.proofs.Stopping.{role-stays}
 use Rattle.world_laws.proofs.Terms.{other_test, same_test}
 use Rattle.node_core.specs.Cluster.{GoesAlong, calls_of}
 
@@ -66,8 +67,8 @@ none_some some = cc
 before_not_in : (call : StoreCall) → Some (FailedIn call) ≡ Some FailedBefore → ⊥
 before_not_in call same = cc
 
-primary_plain : (n : NodeState) → n.role ≡ Primary → IsPlain n → ⊥
-primary_plain n primary plain = let other : Primary ≡ Replica = sym primary ∙ plain.role in cc
+waiting_plain : (n : NodeState) (file : Ltx) → n.waits ≡ Some file → IsPlain n → ⊥
+waiting_plain n file waits plain = let none : Some file ≡ None = sym waits ∙ plain.waits in cc
 
 -- one call is cut off at itself, and two at the first or at the second
 at-only : (P : List StoreCall → StoreCall → Type 0) (only : StoreCall) (front : List StoreCall) (call : StoreCall) (rest : List StoreCall) → only ∷ [] ≡ front ++ call ∷ rest → P [] only → P front call
@@ -122,14 +123,14 @@ fails-so store (prunes {role = r} {waits = w} {keep = n}) front call rest same =
 -- a step that fails in one of its calls, after those in front of it
 module _ (w : World) (k : ℕ) (ask : Ask) {answer : Answer} {new : NodeState} (facts : StepFacts (w.nodes k) ask answer new) (whole : (w.nodes k).failed ≡ None)
     (front : List StoreCall) (call : StoreCall) (rest : List StoreCall) (split : calls_of facts ≡ front ++ call ∷ rest) where
-  -- the node once it has failed. Nothing is told of its role and its files
+  -- the node once it has failed. Nothing is told of its files, nor of what waits there
   abbrev pub failing_node : NodeState
   failing_node = record {
     store = all_done (w.nodes k).store front;
     failed = Some (FailedIn call);
     faults = (w.nodes k).faults + 1;
-    role = Primary;
-    waits = (w.nodes k).waits;
+    role = facts.role;
+    waits = Some (snapshot_of (w.nodes k).store);
     served = untouched (all_done (w.nodes k).store front).image;
   }
 
@@ -148,6 +149,8 @@ module _ (w : World) (k : ℕ) (ask : Ask) {answer : Answer} {new : NodeState} (
       record {
         facts = record {
           role = facts.role;
+          role_was = facts.role_was;
+          role_is = role-stays ask facts.role;
           did = front;
           failed = Some (FailedIn call);
           makes = so.makes;
@@ -159,7 +162,7 @@ module _ (w : World) (k : ℕ) (ask : Ask) {answer : Answer} {new : NodeState} (
           rose = λ some. (omega arith, omega arith);
           answers = so.answers (w.nodes k) failing_node;
           refused = so.refused;
-          steady = λ plain again lock held. absurd (primary_plain failing_node refl again);
+          steady = λ plain again lock held. absurd (waiting_plain failing_node (snapshot_of (w.nodes k).store) refl again);
           keeps = λ sound. record { overlay = refl; shares = λ j d within. absurd (omega arith); replica = λ same. refl };
         };
         did_is = refl;

@@ -81,20 +81,20 @@ module _ {M : Type 0} (p : Program M) where
   ReaderIsSteady = (owner : Owner) (old new : M) → IsTrue (p.honest old) → ReadsOn owner old new →
       Steady (p.seen old) (p.seen new) × SameImage (over (p.seen new).served.file (p.seen new).served.frames) (p.seen new).store.image
 
-  -- a primary answers a position that its log lacks by one snapshot, or by word of the drop
+  -- a node that is primary once the step is done answers a position that its log lacks by one snapshot, or by word of the drop
   abbrev pub StepAnswersByWhole : Type 0
   StepAnswersByWhole = (old new : M) (caller : ℕ) (ask : Ask) (answer : Answer) (position : Pos) → law_ask ask ≡ laws.Hello position →
-      (disk : IsTrue (p.honest old)) → (step : p.steps old caller ask answer new) → (p.tells step disk).facts.role ≡ laws.Primary → (Knows (p.seen old).store position → ⊥) →
+      IsTrue (p.honest old) → p.steps old caller ask answer new → (p.seen new).role ≡ laws.Primary → (Knows (p.seen old).store position → ⊥) →
       IsWhole (p.seen old).store (law_answer answer) ⊎ IsFreeRefusal (p.seen old) (p.seen new) (law_answer answer)
 
-  -- a delivery of this frame to a node of the cluster that isn't primary
+  -- a delivery of this frame to a node of the cluster that isn't primary once the step is done
   pub record Delivers (c : Cluster p) (k : ℕ) (frame : laws.Ask) (answer : Answer) (d : Cluster p) : Type 0 where
     pub safe : IsSafe (world p c)
     pub caller : ℕ
     pub ask : Ask
     pub asks : law_ask ask ≡ frame
     pub takes : TakesStep p c k caller ask answer d
-    pub role : (p.tells takes.step (c.disks k)).facts.role ≢ laws.Primary
+    pub role : (p.seen (d.nodes k)).role ≢ laws.Primary
 
   -- it is held back by a lock that somebody holds, or refused for the disk, a broken store or want of memory
   abbrev pub IsWaiting : M → M → Answer → Type 0

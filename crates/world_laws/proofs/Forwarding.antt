@@ -192,4 +192,6 @@ refusal-leaves old new role ok did failed (Refused why) other store undone answe
 refusal-leaves old new role ok did failed answer other store undone answers = absurd answers
 
 pub refusal_leaves-of : RefusalLeaves
-refusal_leaves-of old new ok answer facts other = refusal-leaves old new facts.role ok facts.did facts.failed answer other facts.store facts.refused facts.answers
+refusal_leaves-of old new ok answer facts other =
+    let told = refusal-leaves old new facts.role ok facts.did facts.failed answer other facts.store facts.refused facts.answers in
+    (told.0, λ well same. told.1 well (facts.role_is ∙ same))

@@ -20,3 +20,4 @@ pub mod StoryParts
 pub mod Story
 pub mod SnapshotFile
 pub mod Moments
+pub mod Roles

@@ -213,5 +213,5 @@ stop_is_reached-of w v k ask answer left safe one turn whole candidate =
           )
       | inr cut ↦
           cut-reached w v k ask answer left safe one turn
-          (failed-step old ask turn.facts.role (turn.facts.did ++ begun_by turn.facts.failed) left whole turn.facts.makes turn.facts.can cut)
+          (failed-step old ask turn.facts.role (turn.facts.did ++ begun_by turn.facts.failed) left turn.facts.role_was whole turn.facts.makes turn.facts.can cut)
     ]

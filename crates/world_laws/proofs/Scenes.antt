@@ -13,7 +13,7 @@ use Rattle.world_laws.specs.Lineage.{Lineage, position_of}
 use Rattle.world_laws.specs.Node.{Answer, Ask, Disk, File, IsSoundNode, NodeState, Primary, Refused, Replica, Role}
 use Rattle.world_laws.specs.Premises.{CommitsAsHolder, WasSent}
 use Rattle.world_laws.specs.Served.{HoldsBack, untouched}
-use Rattle.world_laws.specs.Step.{Makes, commits}
+use Rattle.world_laws.specs.Step.{KeepsRole, Makes, commits}
 use Rattle.world_laws.specs.Store.{Apply, CanDo, CanDoAll, Commit, DropAll, FailedBefore, FailedIn, Failure, Install, StoreCall, StoreState, all_done, at, begun_by, empty_store}
 use Rattle.world_laws.specs.World.{Act, GrowsAlong, SentFrame, World, accepted_by, acts_along, failing_by, sent_by}
 use Rattle.world_laws.proofs.Made.{Made}
@@ -56,12 +56,14 @@ none_before : (let nothing_there : Option Failure = None in nothing_there ≡ So
 none_before same = cc
 
 -- a step of a whole node that nobody uses
-pub made : (role was is : Role) (old new : StoreState) (waited waits : Option Ltx) (ask : Ask) (answer : Answer) (did : List StoreCall) → Makes old role waited ask did → CanDoAll old did →
-    new ≡ all_done old did → Answers (node was old waited) role ask did None answer (node is new waits) → LeavesUndone answer did →
-    Made (node was old waited) (node is new waits) ask answer did None
-made role was is old new waited waits ask answer did makes can store answers undone = record {
+pub made : (role is : Role) (old new : StoreState) (waited waits : Option Ltx) (ask : Ask) (answer : Answer) (did : List StoreCall) → Makes old role waited ask did → CanDoAll old did →
+    new ≡ all_done old did → Answers (node role old waited) role ask did None answer (node is new waits) → LeavesUndone answer did → KeepsRole ask role is →
+    Made (node role old waited) (node is new waits) ask answer did None
+made role is old new waited waits ask answer did makes can store answers undone keeps = record {
   facts = record {
     role = role;
+    role_was = inl refl;
+    role_is = keeps;
     did = did;
     failed = None;
     makes = subst (λ (calls : List StoreCall). Makes old role waited ask calls) (sym (append-nil did)) makes;
@@ -88,6 +90,8 @@ pub fails : (file : Ltx) → CanDo empty_store (Commit file) → Made (node Prim
 fails file can = record {
   facts = record {
     role = Primary;
+    role_was = inl refl;
+    role_is = refl;
     did = [];
     failed = Some (FailedIn (Commit file));
     makes = commits;

@@ -26,34 +26,34 @@ use Rattle.world_laws.proofs.StoryParts.{at-first, call-first, can-commit-first,
 
 -- the steps
 commits-first : (file : Ltx) → IsFirst file → Made (node Primary empty_store None) (node Primary (store_of file) None) File Done (Commit file ∷ []) None
-commits-first file first = made Primary Primary Primary empty_store (store_of file) None None File Done (Commit file ∷ []) commits (can-commit-first file first, tt) refl tt tt
+commits-first file first = made Primary Primary empty_store (store_of file) None None File Done (Commit file ∷ []) commits (can-commit-first file first, tt) refl tt tt refl
 
 sends-file : (file : Ltx) → IsFirst file → Made (node Primary (store_of file) None) (node Primary (store_of file) None) (Hello nowhere) (Item file) [] None
 sends-file file first =
-    made Primary Primary Primary (store_of file) (store_of file) None None (Hello nowhere) (Item file) [] nothing tt refl
-    (refl, by_file (Contains-push [] file) first.joins.next, first.sound) tt
+    made Primary Primary (store_of file) (store_of file) None None (Hello nowhere) (Item file) [] nothing tt refl
+    (refl, by_file (Contains-push [] file) first.joins.next, first.sound) tt refl
 
 installs : (file : Ltx) (old : StoreState) → IsFile file → file.header.min ≡ 1 → (position : Pos) → at (installed file) ≡ position →
     Made (node Replica old None) (node Replica (installed file) None) (Frame file) (Applied position) (Install file ∷ []) None
 installs file old sound first position here =
-    made Replica Replica Replica old (installed file) None None (Frame file) (Applied position) (Install file ∷ [])
+    made Replica Replica old (installed file) None None (Frame file) (Applied position) (Install file ∷ [])
     (subst (λ (c : StoreCall). Makes old Replica None (Frame file) (c ∷ [])) (call-first old file first) (takes replica_primary))
     ((sound, first), tt) refl
-    (ap (λ (c : StoreCall). c ∷ []) (sym (call-first old file first)), refl, sym here) tt
+    (ap (λ (c : StoreCall). c ∷ []) (sym (call-first old file first)), refl, sym here) tt refl
 
 sends-snapshot : (here there : Ltx) → IsFirst here → IsFirst there → after here ≢ after there →
     Made (node Primary (store_of here) None) (node Primary (store_of here) None) (Hello (after there)) (Item (snapshot_of (store_of here))) [] None
 sends-snapshot here there is other differ =
-    made Primary Primary Primary (store_of here) (store_of here) None None (Hello (after there)) (Item (snapshot_of (store_of here))) [] nothing tt refl
-    (refl, by_snapshot (some-first here is) (lacks-other here there is other differ), snapshot-sent here is) tt
+    made Primary Primary (store_of here) (store_of here) None None (Hello (after there)) (Item (snapshot_of (store_of here))) [] nothing tt refl
+    (refl, by_snapshot (some-first here is) (lacks-other here there is other differ), snapshot-sent here is) tt refl
 
 gets-permit : (store : StoreState) → Made (node Replica store None) (node Halted store None) Permit Done [] None
-gets-permit store = made Replica Replica Halted store store None None Permit Done [] nothing tt refl tt tt
+gets-permit store = made Replica Halted store store None None Permit Done [] nothing tt refl tt tt tt
 
 sends-commit : (store : StoreState) (file : Ltx) → Made (node Halted store None) (node Halted store (Some file)) File (Send file) [] None
 sends-commit store file =
-    made Halted Halted Halted store store None (Some file) File (Send file) [] nothing tt refl
-    (record { halted = refl; waits = refl; undone = (refl, refl); served = (refl, refl) }) tt
+    made Halted Halted store store None (Some file) File (Send file) [] nothing tt refl
+    (record { halted = refl; waits = refl; undone = (refl, refl); served = (refl, refl) }) tt refl
 
 -- the second file writes every page, so it is complete over any store
 whole-over : (store : StoreState) (first file : Ltx) → IsSecond first file → completed_over store file ≡ file
@@ -63,16 +63,16 @@ whole-over store first file second =
 accepts-commit : (first file : Ltx) → IsSecond first file →
     Made (node Primary (store_of first) None) (node Primary (with_file (store_of first) file) None) (Forward file) (Applied (after file)) (Commit file ∷ []) None
 accepts-commit first file second =
-    made Primary Primary Primary (store_of first) (with_file (store_of first) file) None None (Forward file) (Applied (after file)) (Commit file ∷ [])
+    made Primary Primary (store_of first) (with_file (store_of first) file) None None (Forward file) (Applied (after file)) (Commit file ∷ [])
     (subst (λ (f : Ltx). Makes (store_of first) Primary None (Forward file) (Commit f ∷ [])) (whole-over (store_of first) first file second) accepts)
-    ((second.sound, joins-store first file second, second.max ∙ sym second.min), tt) refl (ap (λ (f : Ltx). Commit f ∷ []) (sym (whole-over (store_of first) first file second)), refl) tt
+    ((second.sound, joins-store first file second, second.max ∙ sym second.min), tt) refl (ap (λ (f : Ltx). Commit f ∷ []) (sym (whole-over (store_of first) first file second)), refl) tt refl
 
 is-told : (first file : Ltx) → IsFirst first → IsSecond first file →
-    Made (node Halted (copy_of first) (Some file)) (node Replica (with_file (copy_of first) file) None) (Forwarded true) Done (Apply file ∷ []) None
+    Made (node Halted (copy_of first) (Some file)) (node Halted (with_file (copy_of first) file) None) (Forwarded true) Done (Apply file ∷ []) None
 is-told first file is second =
-    made Halted Halted Replica (copy_of first) (with_file (copy_of first) file) (Some file) None (Forwarded true) Done (Apply file ∷ [])
+    made Halted Halted (copy_of first) (with_file (copy_of first) file) (Some file) None (Forwarded true) Done (Apply file ∷ [])
     (subst (λ (f : Ltx). Makes (copy_of first) Halted (Some file) (Forwarded true) (Apply f ∷ [])) (whole-over (copy_of first) first file second) finishes)
-    ((second.sound, joins-copy first file is second), tt) refl (file, refl, end_of-push (copy_of first).log file) tt
+    ((second.sound, joins-copy first file is second), tt) refl (file, refl, end_of-push (copy_of first).log file) tt refl
 
 written-second : (store : StoreState) (first file : Ltx) → IsSecond first file → 1 ≤ (at (with_file store file)).txid
 written-second store first file second =
@@ -80,17 +80,20 @@ written-second store first file second =
     omega (arith, here, second.max)
 
 drops-it : (store : StoreState) → 1 ≤ (at store).txid → Made (node Primary store None) (node Primary dropped_store None) File Done (DropAll ∷ []) None
-drops-it store some = made Primary Primary Primary store dropped_store None None File Done (DropAll ∷ []) unlinks (some, tt) refl tt tt
+drops-it store some = made Primary Primary store dropped_store None None File Done (DropAll ∷ []) unlinks (some, tt) refl tt tt refl
 
 says-gone : (first file : Ltx) → IsSecond first file → Made (node Primary dropped_store None) (node Primary dropped_store None) (Hello (after file)) Gone [] None
 says-gone first file second =
-    made Primary Primary Primary dropped_store dropped_store None None (Hello (after file)) Gone [] nothing tt refl
-    (refl, refl, λ same. let none : file.header.max ≡ 0 = ap (λ (p : Pos). p.txid) (same ∙ end_of-none) in omega (arith, none, second.max)) tt
+    made Primary Primary dropped_store dropped_store None None (Hello (after file)) Gone [] nothing tt refl
+    (refl, refl, λ same. let none : file.header.max ≡ 0 = ap (λ (p : Pos). p.txid) (same ∙ end_of-none) in omega (arith, none, second.max)) tt refl
 
-drops-too : (store : StoreState) → 1 ≤ (at store).txid → Made (node Replica store None) (node Replica dropped_store None) Drop (Applied nowhere) (DropAll ∷ []) None
+halted_primary : Halted ≡ Primary → ⊥
+halted_primary same = cc
+
+drops-too : (store : StoreState) → 1 ≤ (at store).txid → Made (node Halted store None) (node Halted dropped_store None) Drop (Applied nowhere) (DropAll ∷ []) None
 drops-too store some =
-    made Replica Replica Replica store dropped_store None None Drop (Applied nowhere) (DropAll ∷ []) (drops replica_primary) (some, tt) refl
-    (inl (some, refl), refl, refl) tt
+    made Halted Halted store dropped_store None None Drop (Applied nowhere) (DropAll ∷ []) (drops halted_primary) (some, tt) refl
+    (inl (some, refl), refl, refl) tt refl
 
 told : (lost won next_file : Ltx) → IsFirst lost → IsFirst won → IsSecond won next_file → after lost ≢ after won → IsTold lost won next_file
 told lost won next_file l w n differ =
@@ -121,6 +124,7 @@ told lost won next_file l w n differ =
     let k8 : List Act = Departed 1 ∷ k7 in
     let p : StoreState → NodeState = λ store. node Primary store None in
     let r : StoreState → NodeState = λ store. node Replica store None in
+    let h : StoreState → NodeState = λ store. node Halted store None in
     let e : StoreState = empty_store in
     let w00 : World = world (p e) (r e) (p e) t0 [] [] [] None [] in
     let w01 : World = world (p e) (r e) (p e) t0 [] [] g1 (Some 0) [] in
@@ -138,12 +142,12 @@ told lost won next_file l w n differ =
     let w13 : World = world (p a) (node Halted (copy_of won) None) (p b) t2 s3 [] g2 (Some 2) k4 in
     let w14 : World = world (p a) (node Halted (copy_of won) (Some next_file)) (p b) t2 s3 [] g2 (Some 2) k4 in
     let w15 : World = world (p a) (node Halted (copy_of won) (Some next_file)) (p c) t3 s3 (next_file ∷ []) g2 (Some 2) k5 in
-    let w16 : World = world (p a) (r d) (p c) t3 s3 (next_file ∷ []) g2 (Some 2) k6 in
-    let w17 : World = world (p a) (r d) (p c) t3 s3 (next_file ∷ []) g2 (Some 2) k6 in
-    let w18 : World = world (p a) (r d) (p dropped_store) t3 s3 (next_file ∷ []) g2 (Some 2) k7 in
-    let w19 : World = world (p a) (r d) (p dropped_store) t3 s4 (next_file ∷ []) g2 (Some 2) k7 in
-    let w20 : World = world (p a) (r dropped_store) (p dropped_store) t3 s4 (next_file ∷ []) g2 (Some 2) k8 in
-    let w21 : World = world (p a) (r dropped_store) (p dropped_store) t3 s4 (next_file ∷ []) g2 None k8 in
+    let w16 : World = world (p a) (h d) (p c) t3 s3 (next_file ∷ []) g2 (Some 2) k6 in
+    let w17 : World = world (p a) (h d) (p c) t3 s3 (next_file ∷ []) g2 (Some 2) k6 in
+    let w18 : World = world (p a) (h d) (p dropped_store) t3 s3 (next_file ∷ []) g2 (Some 2) k7 in
+    let w19 : World = world (p a) (h d) (p dropped_store) t3 s4 (next_file ∷ []) g2 (Some 2) k7 in
+    let w20 : World = world (p a) (h dropped_store) (p dropped_store) t3 s4 (next_file ∷ []) g2 (Some 2) k8 in
+    let w21 : World = world (p a) (h dropped_store) (p dropped_store) t3 s4 (next_file ∷ []) g2 None k8 in
     let grown_b : Grown t1 e won t2 = record { lineage = []; stands = Contains-append_left ([] ∷ []) ((lost.change ∷ []) ∷ []) [] (Contains-push [] []); position_is = position_of-nothing ∙ sym end_of-none; is = refl } in
     let h01 : Leases w00 g1 (Some 0) w01 = leased (p e) (r e) (p e) t0 [] [] [] g1 None (Some 0) [] in
     let h02 : LedTurn w01 0 File Done w02 =
@@ -202,23 +206,23 @@ told lost won next_file l w n differ =
     (goes-commit 2 2 b t2 next_file (won.change ∷ []) (Contains-push t1 (won.change ∷ [])) (position-first won w ∙ sym (at-first won)))
     in
     let h16 : LedTurn w15 1 (Forwarded true) Done w16 =
-    turn-1 (p a) (node Halted (copy_of won) (Some next_file)) (p c) (r d) t3 t3 s3 (next_file ∷ []) g2 (Some 2) k5 (Forwarded true) Done (Apply next_file ∷ []) None
+    turn-1 (p a) (node Halted (copy_of won) (Some next_file)) (p c) (h d) t3 t3 s3 (next_file ∷ []) g2 (Some 2) k5 (Forwarded true) Done (Apply next_file ∷ []) None
     (is-told won next_file w n)
     (λ other same. subst (λ (f : Ltx). Contains (next_file ∷ []) f) (some_same next_file other same) (Contains-push [] next_file))
     (goes-apply 1 2 (copy_of won) t3 (Some 2) next_file)
     in
-    let h17 : Leases w16 g2 (Some 2) w17 = leased (p a) (r d) (p c) t3 s3 (next_file ∷ []) g2 g2 (Some 2) (Some 2) k6 in
+    let h17 : Leases w16 g2 (Some 2) w17 = leased (p a) (h d) (p c) t3 s3 (next_file ∷ []) g2 g2 (Some 2) (Some 2) k6 in
     let h18 : LedTurn w17 2 File Done w18 =
-    turn-2 (p a) (r d) (p c) (p dropped_store) t3 t3 s3 (next_file ∷ []) g2 (Some 2) k6 File Done (DropAll ∷ []) None (drops-it c (written-second b won next_file n)) tt (goes-drop 2 2 c t3 (Some 2)) in
+    turn-2 (p a) (h d) (p c) (p dropped_store) t3 t3 s3 (next_file ∷ []) g2 (Some 2) k6 File Done (DropAll ∷ []) None (drops-it c (written-second b won next_file n)) tt (goes-drop 2 2 c t3 (Some 2)) in
     let h19 : LedTurn w18 2 (Hello (after next_file)) Gone w19 =
-    turn-2 (p a) (r d) (p dropped_store) (p dropped_store) t3 t3 s3 (next_file ∷ []) g2 (Some 2) k7 (Hello (after next_file)) Gone [] None (says-gone won next_file n) tt
+    turn-2 (p a) (h d) (p dropped_store) (p dropped_store) t3 t3 s3 (next_file ∷ []) g2 (Some 2) k7 (Hello (after next_file)) Gone [] None (says-gone won next_file n) tt
     (goes-idle 2 2 dropped_store t3 (Some 2))
     in
     let h20 : LedTurn w19 1 Drop (Applied nowhere) w20 =
-    turn-1 (p a) (r d) (p dropped_store) (r dropped_store) t3 t3 s4 (next_file ∷ []) g2 (Some 2) k7 Drop (Applied nowhere) (DropAll ∷ []) None
+    turn-1 (p a) (h d) (p dropped_store) (h dropped_store) t3 t3 s4 (next_file ∷ []) g2 (Some 2) k7 Drop (Applied nowhere) (DropAll ∷ []) None
     (drops-too d (written-second (copy_of won) won next_file n)) (Contains-push s3 DropFrame) (goes-drop 1 2 d t3 (Some 2))
     in
-    let h21 : Leases w20 g2 None w21 = leased (p a) (r dropped_store) (p dropped_store) t3 s4 (next_file ∷ []) g2 g2 (Some 2) None k8 in
+    let h21 : Leases w20 g2 None w21 = leased (p a) (h dropped_store) (p dropped_store) t3 s4 (next_file ∷ []) g2 g2 (Some 2) None k8 in
     record {
       first = w00;
       last = w21;

@@ -54,4 +54,4 @@ SendLeaves = (old new : NodeState) (file : Ltx) → StepFacts old File (Send fil
 -- no write permit
 abbrev pub RefusalLeaves : Type 0
 RefusalLeaves = (old new : NodeState) (ok : Bool) (answer : Answer) → (facts : StepFacts old (Forwarded ok) answer new) → answer ≢ Done →
-    (at new.store ≡ at old.store) × (facts.failed ≡ None → facts.role ≡ old.role → LeavesFiles old new)
+    (at new.store ≡ at old.store) × (facts.failed ≡ None → new.role ≡ old.role → LeavesFiles old new)

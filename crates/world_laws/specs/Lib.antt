@@ -17,3 +17,4 @@ pub mod StopLaw
 pub mod SnapshotLaw
 pub mod Scenario
 pub mod MomentLaw
+pub mod RoleLaw

@@ -2,12 +2,12 @@
 --
 -- A step is a list of calls on the store that went well, and perhaps one more that failed. Everything that the laws of
 -- the cluster know of a node is here; how the node comes to it is of no account.
-use Rattle.std.specs.Prelude.{◌≡◌, ◌≢◌, ℕ, List, [], ◌∷◌, ◌++◌, Option, None, Some, IsSome, true}
+use Rattle.std.specs.Prelude.{◌≡◌, ◌≢◌, ◌⊎◌, ℕ, List, [], ◌∷◌, ◌++◌, Option, None, Some, IsSome, true}
 use Rattle.lf_base.specs.Faults.{Rose}
 use Rattle.byte_locks.specs.declared.lock_id.LockId.{LockId}
 use Rattle.ltx_codec.specs.declared.file.Ltx.{Ltx}
 use Rattle.world_laws.specs.Answers.{Answers, LeavesUndone, call_of, completed_over}
-use Rattle.world_laws.specs.Node.{Answer, Ask, Drop, File, Forward, Forwarded, Frame, Import, IsPlain, IsSoundNode, NodeState, Primary, Prune, Role}
+use Rattle.world_laws.specs.Node.{Answer, Ask, Drop, File, Forward, Forwarded, Frame, Import, IsPlain, IsSoundNode, Lease, NodeState, Permit, Primary, Prune, Replica, Role}
 use Rattle.world_laws.specs.Served.{HoldsBack}
 use Rattle.world_laws.specs.Store.{Apply, CanDoAll, Commit, DropAll, FailedBefore, Failure, PruneTo, StoreCall, StoreState, all_done, at, begun_by, broken_by}
 
@@ -35,9 +35,21 @@ pub record Steady (old new : NodeState) : Type 0 where
   pub file : new.served.file ≡ old.served.file
   pub frames : new.served.frames ≡ old.served.frames
 
+-- the role in a step: the node's own, or Replica where the moment of the step ended a lease or a permit
+abbrev pub IsRoleAt : Role → Role → Type 0
+IsRoleAt before role = (role ≡ before) ⊎ (role ≡ Replica)
+
+-- the node has it afterwards too, unless the ask is news of a lease or of a permit
+abbrev pub KeepsRole : Ask → Role → Role → Type 0
+KeepsRole Lease role later = Unit {0}
+KeepsRole Permit role later = Unit {0}
+KeepsRole ask role later = role ≡ later
+
 -- the facts of a step, which a node publishes with its relation of steps
 pub record StepFacts (old : NodeState) (ask : Ask) (answer : Answer) (new : NodeState) : Type 0 where
   pub role : Role  -- the role in this step, once its moment has ended what expired
+  pub role_was : IsRoleAt old.role role
+  pub role_is : KeepsRole ask role new.role
   pub did : List StoreCall  -- the calls on the store that went well, in order
   pub failed : Option Failure  -- and the one that failed
   pub makes : Makes old.store role old.waits ask (did ++ begun_by failed)

@@ -5,6 +5,7 @@ ghost use Rattle.world_laws.specs.CatchUpLaw.{AnswersByWhole, SnapshotInstalls, 
 ghost use Rattle.world_laws.specs.ForwardLaw.{ForwardedStands, SendLeaves, RefusalLeaves};
 ghost use Rattle.world_laws.specs.StopLaw.{StopsAreCuts, StopIsTwoEvents, StopOfBroken, EachIsFound, StopIsReached};
 ghost use Rattle.world_laws.specs.MomentLaw.{MomentIsOfStep};
+ghost use Rattle.world_laws.specs.RoleLaw.{OnlyPrimariesCommit};
 ghost use Rattle.world_laws.specs.SnapshotLaw.{SnapshotIsSound};
 ghost use Rattle.world_laws.specs.Scenario.{SomethingHappens, PagesDiffer};
 
@@ -65,4 +66,10 @@ pub fn something_happens()
 /// is a step of the node as it was.
 pub fn moment_is_of_step()
     ensures { MomentIsOfStep }
+{}
+
+/// A step that makes a committing call, whether or not it fails, is of a node that was primary before it and
+/// is so after it: no replica commits, whatever a step calls its role.
+pub fn only_primaries_commit()
+    ensures { OnlyPrimariesCommit }
 {}
