@@ -14,12 +14,12 @@ use Rattle.node_core.specs.declared.answer.Answer.{Answer}
 use Rattle.node_core.specs.declared.ask.Ask.{Ask}
 use Rattle.node_core.specs.declared.node.Node.{Node}
 use Rattle.node_core.specs.Cluster.{Program}
-use Rattle.node_core.specs.ClusterLaws.{BegunIsStart, ClusterIsKept, ClusterIsLed, MovesAreEvents, DeliveredDropInstalls, DeliveredFileApplies, DeliveredSnapshotInstalls, ReaderIsSteady, RecoveredIsOpened, RestartsAreMoves, StepAnswersByWhole, StepsAreMoves, StopsAreMoves, program}
+use Rattle.node_core.specs.ClusterLaws.{BegunIsStart, ClusterIsKept, ClusterIsLed, MovesAreEvents, DeliveredDropInstalls, DeliveredFileApplies, DeliveredSnapshotInstalls, InterruptedIsRestart, ReaderIsSteady, RecoveredIsOpened, RestartsAreMoves, StepAnswersByWhole, StepsAreMoves, StopsAreMoves, program}
 use Rattle.node_core.specs.Nodes.{history, parts_of}
 use Rattle.node_core.specs.Steps.{IsStep}
 use Rattle.node_core.specs.Stores.{fields_of, state}
 use Rattle.node_core.proofs.Clusters.{cluster-is-kept, cluster-is-led, moves-are-events}
-use Rattle.node_core.proofs.ClusterMoves.{begun-is-start, restarts-are-moves, steps-are-moves, stops-are-moves}
+use Rattle.node_core.proofs.ClusterMoves.{begun-is-start, interrupted-is-restart, restarts-are-moves, steps-are-moves, stops-are-moves}
 use Rattle.node_core.proofs.Deliveries.{drop-installs, file-applies, reader-is-steady, snapshot-installs, step-answers-by-whole}
 use Rattle.node_core.proofs.Sound.{sound}
 
@@ -51,6 +51,9 @@ module _ {D : Type 0} {G : Ghosts D} where
         waits = ap (λ (s : NodeState). s.waits) seen_so;
         served = ap (λ (s : NodeState). s.served) seen_so ∙ ap (λ (s : StoreState). untouched s.image) here;
       }
+
+  pub interrupted : InterruptedIsRestart nodes
+  interrupted = interrupted-is-restart nodes
 
   pub begins : BegunIsStart nodes
   begins = begun-is-start nodes

@@ -23,11 +23,11 @@ use Rattle.world_laws.specs.ReaderLaw.{IsRead}
 use Rattle.world_laws.specs.Safe.{IsSafe}
 use Rattle.world_laws.specs.SafetyLaw.{IsKept, IsKeptLed}
 use Rattle.world_laws.specs.Served.{over}
-use Rattle.world_laws.specs.Step.{Steady}
+use Rattle.world_laws.specs.Step.{Steady, calls_of}
 use Rattle.world_laws.specs.Store.{StoreState, at}
 use Rattle.node_core.specs.declared.answer.Answer.{Answer}
 use Rattle.node_core.specs.declared.ask.Ask.{Ask}
-use Rattle.node_core.specs.Cluster.{AreLed, Cluster, IsLeftBetween, IsOpenedOn, Leads, Moves, Program, Restarts, Stops, TakesStep, calls_of, stops, takes_step, world}
+use Rattle.node_core.specs.Cluster.{AreLed, Cluster, IsLeftBetween, IsOpenedOn, Leads, Moves, Program, Restarts, Stops, TakesStep, stops, takes_step, world}
 use Rattle.node_core.specs.declared.config.NodeConfig.{NodeConfig}
 use Rattle.node_core.specs.declared.node.Node.{Node}
 use Rattle.node_core.specs.Nodes.{history, parts_of, seen}
@@ -140,6 +140,12 @@ module _ {D : Type 0} {G : Ghosts D} where
   abbrev pub RecoveredIsOpened : Program (Node D G) → Type 0
   RecoveredIsOpened p = (n : Node D G) (config : NodeConfig) (folder : Folder) → p.seen n ≡ seen_opened (history n) (fields_of n.store) config → n.store.broken ≡ false →
       ((left : StoreState) → Durable folder left → state (history n) (fields_of n.store) ≡ left) → IsOpenedOn folder (p.seen n)
+
+-- a recovery that is stopped is a restart: at each of its moments a crash leaves a folder that stands for each store for which the one
+-- stood that it began on (node_recovery's `recover`, moments and gone), and a node that is opened on that is opened on the first
+abbrev pub InterruptedIsRestart : {M : Type 0} → Program M → Type 0
+InterruptedIsRestart {M = M} p = (n : M) (first again : Folder) → ((left : StoreState) → Durable first left → Durable again left) →
+    IsOpenedOn again (p.seen n) → IsOpenedOn first (p.seen n)
 
 -- nodes that were each opened on a folder without files, and a ledger of nothing
 pub record IsBegun {M : Type 0} {p : Program M} (c : Cluster p) : Type 0 where

@@ -1,5 +1,5 @@
 //! Laws of clusters of these nodes, each the contract of a function that calls other laws at most.
-ghost use Rattle.node_core.specs.ClusterLaws.{BegunIsStart, ClusterIsKept, ClusterIsLed, DeliveredDropInstalls, DeliveredFileApplies, DeliveredSnapshotInstalls, MovesAreEvents, ReaderIsSteady, RecoveredIsOpened, RestartsAreMoves, StepAnswersByWhole, StepsAreMoves, StopsAreMoves, program};
+ghost use Rattle.node_core.specs.ClusterLaws.{BegunIsStart, ClusterIsKept, ClusterIsLed, DeliveredDropInstalls, DeliveredFileApplies, DeliveredSnapshotInstalls, InterruptedIsRestart, MovesAreEvents, ReaderIsSteady, RecoveredIsOpened, RestartsAreMoves, StepAnswersByWhole, StepsAreMoves, StopsAreMoves, program};
 
 use crate::node::Node;
 use lf_disk::Disk;
@@ -23,9 +23,11 @@ pub fn cluster_is_safe<D: Disk>()
 }
 
 /// A node that was opened over a store that was recovered from a folder is one that was opened on this
-/// folder; and nodes that were opened on folders without files are a start.
+/// folder, also where a recovery before it was stopped on its way; and nodes that were opened on folders
+/// without files are a start.
 pub fn cluster_opens<D: Disk>()
     ensures node { RecoveredIsOpened (program ⟦<Node<D> as Machine>⟧.steps (λ old new caller ask answer step. step.safe)) }
+    ensures interrupted { InterruptedIsRestart (program ⟦<Node<D> as Machine>⟧.steps (λ old new caller ask answer step. step.safe)) }
     ensures start { BegunIsStart (program ⟦<Node<D> as Machine>⟧.steps (λ old new caller ask answer step. step.safe)) }
 {}
 

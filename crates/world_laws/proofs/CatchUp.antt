@@ -93,7 +93,7 @@ frame-answered old new role from did failed other tree may valid not_primary sto
 
 pub snapshot_installs-of : SnapshotInstalls
 snapshot_installs-of w v k from answer safe valid turn not_primary =
-    frame-answered (w.nodes k) (v.nodes k) turn.facts.role from turn.facts.did turn.facts.failed answer w.tree (safe.sent (snapshot_of from) turn.comes) valid (λ primary. not_primary (sym turn.facts.role_is ∙ primary)) turn.facts.store
+    frame-answered (w.nodes k) (v.nodes k) turn.facts.role from turn.facts.did turn.facts.failed answer w.tree (safe.sent (snapshot_of from) turn.along.comes) valid (λ primary. not_primary (sym turn.facts.role_is ∙ primary)) turn.facts.store
     turn.facts.rose turn.facts.refused turn.facts.answers
 
 -- a store at transaction 0 is blank: a file of a log is at one at least
@@ -175,6 +175,6 @@ sent-answered old new role file did failed other tree may not_primary joins stor
 
 pub sent_file_applies-of : SentFileApplies
 sent_file_applies-of w v k file answer safe one turn not_primary follows =
-    let may : IsSendable w.tree file = safe.sent file turn.comes in
+    let may : IsSendable w.tree file = safe.sent file turn.along.comes in
     sent-answered (w.nodes k) (v.nodes k) turn.facts.role file turn.facts.did turn.facts.failed answer w.tree may (λ primary. not_primary (sym turn.facts.role_is ∙ primary)) (joins-of_tree w k file safe one may follows) turn.facts.store
     turn.facts.rose turn.facts.refused turn.facts.answers

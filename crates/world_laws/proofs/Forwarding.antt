@@ -50,7 +50,7 @@ accepting w v k file position one safe turn =
     let facts = turn.facts in
     let old : NodeState = w.nodes k in
     let can = CanDoAll-split old.store facts.did (begun_by facts.failed) facts.can in
-    let of = accepted_here w.tree v.tree old.store file facts.did one (safe.nodes k).allowed can.0 turn.tree facts.answers.0 in
+    let of = accepted_here w.tree v.tree old.store file facts.did one (safe.nodes k).allowed can.0 turn.along.tree facts.answers.0 in
     record {
       early = [];
       late = [];
@@ -122,11 +122,11 @@ step-accepts w v k ask answer file one safe turn here = absurd (omega (arith, he
 event-accepts : (w v : World) (event : Event) (file : Ltx) → OneImagePerPosition v.tree → IsSafe w → Happens w event v → Contains v.accepted file →
     Contains w.accepted file ⊎ WasAccepted w v file
 event-accepts w v (Steps k ask answer) file one safe happens here =
-    elim (Contains-append_cases w.accepted (accepted_by ask answer) file (subst (λ (a : List Ltx). Contains a file) happens.accepted here)) [
+    elim (Contains-append_cases w.accepted (accepted_by ask answer) file (subst (λ (a : List Ltx). Contains a file) happens.along.accepted here)) [
       | inl before ↦ inl before
       | inr now ↦ inr (step-accepts w v k ask answer file one safe happens now)
     ]
-event-accepts w v (Opens k found) file one safe happens here = inl (subst (λ (a : List Ltx). Contains a file) happens.frames.1 here)
+event-accepts w v (Opens k found) file one safe happens here = inl (subst (λ (a : List Ltx). Contains a file) happens.along.frames.1 here)
 event-accepts w v (Grants k) file one safe happens here = inl (subst (λ (a : List Ltx). Contains a file) happens.frames.1 here)
 event-accepts w v Renews file one safe happens here = inl (subst (λ (a : List Ltx). Contains a file) happens.frames.1 here)
 event-accepts w v Loses file one safe happens here = inl (subst (λ (a : List Ltx). Contains a file) happens.frames.1 here)
@@ -158,7 +158,7 @@ forwarded-of w v u events k start runs happens one =
     let after_safe : IsSafe u = event-safe v u (Steps k (Forwarded true) Done) one safe happens in
     let told = happens.facts.answers in
     let file : Ltx = told.0 in
-    let was : WasAccepted w v file = was_accepted w v events file start runs before_one (happens.comes file told.1) in
+    let was : WasAccepted w v file = was_accepted w v events file start runs before_one (happens.along.comes file told.1) in
     let stands : Contains u.tree (gone_on was.lineage file) =
     event-extends v u (Steps k (Forwarded true) Done) happens (gone_on was.lineage file) (runs-extends was.since (gone_on was.lineage file) was.stands)
     in (

@@ -64,14 +64,14 @@ at-each P k here there j = elim (cases_eq j k) [
   | inr other ↦ there j other
 ]
 
-others-failed : (w v : World) (k : ℕ) → IsLed w → v.granted ≡ w.granted → OthersStay k w v → (j : ℕ) → j ≢ k → FailedAsHolder v.granted (v.failing j) j (v.nodes j).failed
-others-failed w v k led granted stay j other =
-    Failed-moved w.granted v.granted (w.failing j) (v.failing j) j (w.nodes j).failed (v.nodes j).failed granted (stay j other).1 (ap (λ (n : NodeState). n.failed) (stay j other).0) (led.pending j)
+others-failed : (w v : World) (k : ℕ) → IsLed w → v.granted ≡ w.granted → OthersStay k w v → ((j : ℕ) → j ≢ k → v.failing j ≡ w.failing j) → (j : ℕ) → j ≢ k → FailedAsHolder v.granted (v.failing j) j (v.nodes j).failed
+others-failed w v k led granted stay failing j other =
+    Failed-moved w.granted v.granted (w.failing j) (v.failing j) j (w.nodes j).failed (v.nodes j).failed granted (failing j other) (ap (λ (n : NodeState). n.failed) (stay j other)) (led.pending j)
 
 others-tips : (w v : World) (k : ℕ) → IsLed w → ((j : ℕ) → k ≢ j → tip j v.acts ≡ tip j w.acts) → OthersStay k w v → (j : ℕ) → j ≢ k → IsAtTip (tip j v.acts) (at (v.nodes j).store)
 others-tips w v k led tips stay j other =
     subst (λ (o : Option Pos). IsAtTip o (at (v.nodes j).store)) (sym (tips j (λ same. other (sym same))))
-    (subst (λ (n : NodeState). IsAtTip (tip j w.acts) (at n.store)) (sym (stay j other).0) (led.tips j))
+    (subst (λ (n : NodeState). IsAtTip (tip j w.acts) (at n.store)) (sym (stay j other)) (led.tips j))
 
 turn-led : (w v : World) (k : ℕ) (ask : Ask) (answer : Answer) → IsLed w → (turn : Turns w k ask answer v) → Leads w v (Steps k ask answer) turn → IsLed v
 turn-led w v k ask answer led turn leads =
@@ -80,18 +80,18 @@ turn-led w v k ask answer led turn leads =
     let term : ℕ = length w.granted in
     let can = CanDoAll-split old.store facts.did (begun_by facts.failed) facts.can in
     let all = AllLed-split w.granted term k facts.did (begun_by facts.failed) (Holds-led w k (facts.did ++ begun_by facts.failed) led.holder leads) in
-    let tips : (j : ℕ) → k ≢ j → tip j v.acts ≡ tip j w.acts = λ j other. ap (λ (a : List Act). tip j a) turn.acts ∙ tip-other_along j k term facts.did w.acts other in
+    let tips : (j : ℕ) → k ≢ j → tip j v.acts ≡ tip j w.acts = λ j other. ap (λ (a : List Act). tip j a) turn.along.acts ∙ tip-other_along j k term facts.did w.acts other in
     record {
-      holder = Holder-moved w.granted v.granted w.holder v.holder turn.lease.0 turn.lease.1 led.holder;
+      holder = Holder-moved w.granted v.granted w.holder v.holder turn.along.lease.0 turn.along.lease.1 led.holder;
       pending = at-each (λ (j : ℕ). FailedAsHolder v.granted (v.failing j) j (v.nodes j).failed) k
-          (Failed-moved w.granted v.granted (failing_by term (w.failing k) facts.failed) (v.failing k) k (broken_by old.failed facts.failed) (v.nodes k).failed turn.lease.0 turn.failing facts.broken
+          (Failed-moved w.granted v.granted (failing_by term (w.failing k) facts.failed) (v.failing k) k (broken_by old.failed facts.failed) (v.nodes k).failed turn.along.lease.0 turn.along.failing facts.broken
           (failed-after w.granted (w.failing k) k facts.did old.failed facts.failed facts.whole (led.pending k) all.1))
-          (others-failed w v k led turn.lease.0 turn.others);
+          (others-failed w v k led turn.along.lease.0 turn.others turn.along.others);
       tips = at-each (λ (j : ℕ). IsAtTip (tip j v.acts) (at (v.nodes j).store)) k
-          (Tip-moved k (acts_along term k facts.did w.acts) v.acts (all_done old.store facts.did) (v.nodes k).store turn.acts facts.store
+          (Tip-moved k (acts_along term k facts.did w.acts) v.acts (all_done old.store facts.did) (v.nodes k).store turn.along.acts facts.store
           (AtTip-along k term w.acts old.store facts.did (led.tips k) can.0))
           (others-tips w v k led tips turn.others);
-      line = Line-moved w.granted v.granted (acts_along term k facts.did w.acts) v.acts turn.lease.0 turn.acts
+      line = Line-moved w.granted v.granted (acts_along term k facts.did w.acts) v.acts turn.along.lease.0 turn.along.acts
           (InLine-along w.granted k term w.acts old.store facts.did (led.tips k) can.0 all.0 led.line);
     }
 
@@ -144,16 +144,16 @@ found-led w v k found led (Some (FailedIn DropAll)) pending holds is = either-le
 
 opens-led : (w v : World) (k : ℕ) (found : StoreState) → IsSafe w → IsLed w → Reopens w k found v → IsLed v
 opens-led w v k found safe led opens =
-    let is : FoundLed w k found v = found-led w v k found led (w.nodes k).failed (safe.nodes k).pending (led.pending k) opens.finds in
+    let is : FoundLed w k found v = found-led w v k found led (w.nodes k).failed (safe.nodes k).pending (led.pending k) opens.along.finds in
     record {
-      holder = Holder-moved w.granted v.granted w.holder v.holder opens.lease.0 opens.lease.1 led.holder;
+      holder = Holder-moved w.granted v.granted w.holder v.holder opens.along.lease.0 opens.along.lease.1 led.holder;
       pending = at-each (λ (j : ℕ). FailedAsHolder v.granted (v.failing j) j (v.nodes j).failed) k
-          (subst (λ (f : Option Failure). FailedAsHolder v.granted (v.failing k) k f) (sym opens.whole) tt)
-          (others-failed w v k led opens.lease.0 opens.others);
+          (subst (λ (f : Option Failure). FailedAsHolder v.granted (v.failing k) k f) (sym opens.opened.whole) tt)
+          (others-failed w v k led opens.along.lease.0 opens.others (λ j other. opens.along.failing j));
       tips = at-each (λ (j : ℕ). IsAtTip (tip j v.acts) (at (v.nodes j).store)) k
-          (subst (λ (s : StoreState). IsAtTip (tip k v.acts) (at s)) (sym opens.store) is.last)
+          (subst (λ (s : StoreState). IsAtTip (tip k v.acts) (at s)) (sym opens.opened.store) is.last)
           (others-tips w v k led is.others opens.others);
-      line = subst (λ (g : List ℕ). AreInLine g v.acts) (sym opens.lease.0) is.line;
+      line = subst (λ (g : List ℕ). AreInLine g v.acts) (sym opens.along.lease.0) is.line;
     }
 
 lease-led : (w v : World) (terms : List ℕ) (leader : Option ℕ) → IsLed w → Leases w terms leader v → IfSome leader (λ j. holder_of terms (length terms) ≡ Some j) →

@@ -13,7 +13,7 @@ use Rattle.world_laws.specs.Lineage.{Lineage, position_of}
 use Rattle.world_laws.specs.Node.{Answer, Ask, Disk, File, IsSoundNode, NodeState, Primary, Refused, Replica, Role}
 use Rattle.world_laws.specs.Premises.{CommitsAsHolder, WasSent}
 use Rattle.world_laws.specs.Served.{HoldsBack, untouched}
-use Rattle.world_laws.specs.Step.{KeepsRole, Makes, commits}
+use Rattle.world_laws.specs.Step.{KeepsRole, Makes, calls_of, commits}
 use Rattle.world_laws.specs.Store.{Apply, CanDo, CanDoAll, Commit, DropAll, FailedBefore, FailedIn, Failure, Install, StoreCall, StoreState, all_done, at, begun_by, empty_store}
 use Rattle.world_laws.specs.World.{Act, GrowsAlong, SentFrame, World, accepted_by, acts_along, failing_by, sent_by}
 use Rattle.world_laws.proofs.Made.{Made}
@@ -134,7 +134,7 @@ pub record Goes (k term : ℕ) (store : StoreState) (tree grown : List Lineage) 
 -- a turn, and that it leads
 pub record LedTurn (w : World) (k : ℕ) (ask : Ask) (answer : Answer) (v : World) : Type 0 where
   pub turn : Turns w k ask answer v
-  pub leads : CommitsAsHolder w k (turn.facts.did ++ begun_by turn.facts.failed)
+  pub leads : CommitsAsHolder w k (calls_of turn.facts)
 
 -- the node at each place
 pub turn-0 : (a b c x : NodeState) (tree grown : List Lineage) (sent : List SentFrame) (accepted : List Ltx) (granted : List ℕ) (holder : Option ℕ) (acts : List Act) (ask : Ask) (answer : Answer)
@@ -146,15 +146,18 @@ turn-0 a b c x tree grown sent accepted granted holder acts ask answer did faile
     let w : World = world a b c tree sent accepted granted holder acts in
     record {
       turn = record {
-        comes = comes;
         facts = step.facts;
-        tree = subst (λ (ds : List StoreCall). GrowsAlong tree a.store ds grown) (sym step.did_is) on.tree_is;
-        acts = ap (λ (ds : List StoreCall). acts_along (length granted) 0 ds acts) (sym step.did_is);
-        failing = sym (ap (λ (f : Option Failure). failing_by (length granted) 2 f) step.failed_is ∙ on.failing);
-        sent = refl;
-        accepted = refl;
-        others = λ other differs. (stays-0 a b c x other differs, refl);
-        lease = (refl, refl);
+        along = record {
+          comes = comes;
+          tree = subst (λ (ds : List StoreCall). GrowsAlong tree a.store ds grown) (sym step.did_is) on.tree_is;
+          acts = ap (λ (ds : List StoreCall). acts_along (length granted) 0 ds acts) (sym step.did_is);
+          failing = sym (ap (λ (f : Option Failure). failing_by (length granted) 2 f) step.failed_is ∙ on.failing);
+          others = λ other differs. refl;
+          sent = refl;
+          accepted = refl;
+          lease = (refl, refl);
+        };
+        others = λ other differs. stays-0 a b c x other differs;
       };
       leads = subst (λ (ds : List StoreCall). CommitsAsHolder w 0 (ds ++ begun_by step.facts.failed)) (sym step.did_is)
           (subst (λ (f : Option Failure). CommitsAsHolder w 0 (did ++ begun_by f)) (sym step.failed_is) (on.leads w refl));
@@ -169,15 +172,18 @@ turn-1 a b c x tree grown sent accepted granted holder acts ask answer did faile
     let w : World = world a b c tree sent accepted granted holder acts in
     record {
       turn = record {
-        comes = comes;
         facts = step.facts;
-        tree = subst (λ (ds : List StoreCall). GrowsAlong tree b.store ds grown) (sym step.did_is) on.tree_is;
-        acts = ap (λ (ds : List StoreCall). acts_along (length granted) 1 ds acts) (sym step.did_is);
-        failing = sym (ap (λ (f : Option Failure). failing_by (length granted) 2 f) step.failed_is ∙ on.failing);
-        sent = refl;
-        accepted = refl;
-        others = λ other differs. (stays-1 a b c x other differs, refl);
-        lease = (refl, refl);
+        along = record {
+          comes = comes;
+          tree = subst (λ (ds : List StoreCall). GrowsAlong tree b.store ds grown) (sym step.did_is) on.tree_is;
+          acts = ap (λ (ds : List StoreCall). acts_along (length granted) 1 ds acts) (sym step.did_is);
+          failing = sym (ap (λ (f : Option Failure). failing_by (length granted) 2 f) step.failed_is ∙ on.failing);
+          others = λ other differs. refl;
+          sent = refl;
+          accepted = refl;
+          lease = (refl, refl);
+        };
+        others = λ other differs. stays-1 a b c x other differs;
       };
       leads = subst (λ (ds : List StoreCall). CommitsAsHolder w 1 (ds ++ begun_by step.facts.failed)) (sym step.did_is)
           (subst (λ (f : Option Failure). CommitsAsHolder w 1 (did ++ begun_by f)) (sym step.failed_is) (on.leads w refl));
@@ -192,15 +198,18 @@ turn-2 a b c x tree grown sent accepted granted holder acts ask answer did faile
     let w : World = world a b c tree sent accepted granted holder acts in
     record {
       turn = record {
-        comes = comes;
         facts = step.facts;
-        tree = subst (λ (ds : List StoreCall). GrowsAlong tree c.store ds grown) (sym step.did_is) on.tree_is;
-        acts = ap (λ (ds : List StoreCall). acts_along (length granted) 2 ds acts) (sym step.did_is);
-        failing = sym (ap (λ (f : Option Failure). failing_by (length granted) 2 f) step.failed_is ∙ on.failing);
-        sent = refl;
-        accepted = refl;
-        others = λ other differs. (stays-2 a b c x other differs, refl);
-        lease = (refl, refl);
+        along = record {
+          comes = comes;
+          tree = subst (λ (ds : List StoreCall). GrowsAlong tree c.store ds grown) (sym step.did_is) on.tree_is;
+          acts = ap (λ (ds : List StoreCall). acts_along (length granted) 2 ds acts) (sym step.did_is);
+          failing = sym (ap (λ (f : Option Failure). failing_by (length granted) 2 f) step.failed_is ∙ on.failing);
+          others = λ other differs. refl;
+          sent = refl;
+          accepted = refl;
+          lease = (refl, refl);
+        };
+        others = λ other differs. stays-2 a b c x other differs;
       };
       leads = subst (λ (ds : List StoreCall). CommitsAsHolder w 2 (ds ++ begun_by step.facts.failed)) (sym step.did_is)
           (subst (λ (f : Option Failure). CommitsAsHolder w 2 (did ++ begun_by f)) (sym step.failed_is) (on.leads w refl));

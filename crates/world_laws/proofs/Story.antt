@@ -166,15 +166,9 @@ told lost won next_file l w n differ =
     (record { leads = λ v same. (same, tt); tree_is = refl; failing = refl })
     in
     let h07 : Reopens w06 2 b w07 = record {
-      finds = inr (refl, grown_b, refl);
-      store = refl;
-      whole = refl;
-      waits = refl;
-      served = refl;
-      failing = refl;
-      others = λ other differs. (stays-2 (p a) (r (installed lost)) (broken_node (Commit won)) (p b) other differs, refl);
-      frames = (refl, refl);
-      lease = (refl, refl);
+      opened = record { store = refl; whole = refl; waits = refl; served = refl };
+      along = record { finds = inr (refl, grown_b, refl); failing = λ j. refl; frames = (refl, refl); lease = (refl, refl) };
+      others = λ other differs. stays-2 (p a) (r (installed lost)) (broken_node (Commit won)) (p b) other differs;
     } in
     let h08 : LedTurn w07 0 (Hello (after won)) (Item fa) w08 =
     turn-0 (p a) (r (installed lost)) (p b) (p a) t2 t2 s1 [] g2 (Some 2) k3 (Hello (after won)) (Item fa) [] None (sends-snapshot lost won l w differ) tt (goes-idle 0 2 a t2 (Some 2)) in

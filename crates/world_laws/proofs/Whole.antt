@@ -26,10 +26,10 @@ turn-node w v k ask answer one safe turn =
     let facts = turn.facts in
     let old : NodeState = w.nodes k in
     let failed : List StoreCall = begun_by facts.failed in
-    let extends : Extends w.tree v.tree = GrowsAlong-extends w.tree old.store facts.did v.tree turn.tree in
+    let extends : Extends w.tree v.tree = GrowsAlong-extends w.tree old.store facts.did v.tree turn.along.tree in
     let can = CanDoAll-split old.store facts.did failed facts.can in
-    let took = AllTake-split w.tree facts.did failed (makes-take w safe (One-fewer w.tree v.tree extends one) (safe.nodes k).allowed facts.makes turn.comes facts.can) in
-    let allowed : IsAllowed v.tree (all_done old.store facts.did) = Allowed-all_done w.tree v.tree old.store facts.did one safe.never_written (safe.nodes k).allowed can.0 took.0 turn.tree in
+    let took = AllTake-split w.tree facts.did failed (makes-take w safe (One-fewer w.tree v.tree extends one) (safe.nodes k).allowed facts.makes turn.along.comes facts.can) in
+    let allowed : IsAllowed v.tree (all_done old.store facts.did) = Allowed-all_done w.tree v.tree old.store facts.did one safe.never_written (safe.nodes k).allowed can.0 took.0 turn.along.tree in
     let pending : IsPending v.tree (all_done old.store facts.did) (broken_by old.failed facts.failed) =
     pending-after w.tree v.tree old.store facts.did old.failed facts.failed extends facts.whole (safe.nodes k).pending can.1 took.1
     in
@@ -39,7 +39,7 @@ turn-node w v k ask answer one safe turn =
 others-safe : (w v : World) (k : ℕ) → Extends w.tree v.tree → IsSafe w → OthersStay k w v → IsSafeNode v.tree (v.nodes k) → (j : ℕ) → IsSafeNode v.tree (v.nodes j)
 others-safe w v k extends safe stay here j = elim (cases_eq j k) [
   | inl same ↦ subst (λ (i : ℕ). IsSafeNode v.tree (v.nodes i)) (sym same) here
-  | inr other ↦ Node-moved v.tree v.tree (w.nodes j) (v.nodes j) refl (stay j other).0 (Node-kept w.tree v.tree (w.nodes j) extends (safe.nodes j))
+  | inr other ↦ Node-moved v.tree v.tree (w.nodes j) (v.nodes j) refl (stay j other) (Node-kept w.tree v.tree (w.nodes j) extends (safe.nodes j))
 ]
 
 same_file : (one other : Ltx) → FileFrame one ≡ FileFrame other → one ≡ other
@@ -84,18 +84,18 @@ turn-safe : (w v : World) (k : ℕ) (ask : Ask) (answer : Answer) → OneImagePe
 turn-safe w v k ask answer one safe turn =
     let facts = turn.facts in
     let old : NodeState = w.nodes k in
-    let extends : Extends w.tree v.tree = GrowsAlong-extends w.tree old.store facts.did v.tree turn.tree in
+    let extends : Extends w.tree v.tree = GrowsAlong-extends w.tree old.store facts.did v.tree turn.along.tree in
     let can = CanDoAll-split old.store facts.did (begun_by facts.failed) facts.can in
     record {
       never_written = extends [] safe.never_written;
       nodes = others-safe w v k extends safe turn.others (turn-node w v k ask answer one safe turn);
-      sent = λ file here. Sendable-more w.tree v.tree file extends (elim (Contains-append_cases w.sent (sent_by ask answer) (FileFrame file) (subst (λ (s : List SentFrame). Contains s (FileFrame file)) turn.sent here)) [
+      sent = λ file here. Sendable-more w.tree v.tree file extends (elim (Contains-append_cases w.sent (sent_by ask answer) (FileFrame file) (subst (λ (s : List SentFrame). Contains s (FileFrame file)) turn.along.sent here)) [
         | inl before ↦ safe.sent file before
         | inr now ↦ sent_of w.tree old (v.nodes k) facts.role facts.did facts.failed safe.never_written (safe.nodes k).allowed ask answer facts.answers file now
       ]);
-      accepted = λ file here. elim (Contains-append_cases w.accepted (accepted_by ask answer) file (subst (λ (s : List Ltx). Contains s file) turn.accepted here)) [
+      accepted = λ file here. elim (Contains-append_cases w.accepted (accepted_by ask answer) file (subst (λ (s : List Ltx). Contains s file) turn.along.accepted here)) [
         | inl before ↦ Accepted-more w.tree v.tree file extends (safe.accepted file before)
-        | inr now ↦ accepted_of w.tree v.tree old (v.nodes k) facts.role facts.did facts.failed one (safe.nodes k).allowed can.0 turn.tree ask answer facts.answers file now
+        | inr now ↦ accepted_of w.tree v.tree old (v.nodes k) facts.role facts.did facts.failed one (safe.nodes k).allowed can.0 turn.along.tree ask answer facts.answers file now
       ];
     }
 
@@ -110,13 +110,13 @@ opened-sound node found store served = record {
 
 opens-safe : (w v : World) (k : ℕ) (found : StoreState) → OneImagePerPosition v.tree → IsSafe w → Reopens w k found v → IsSafe v
 opens-safe w v k found one safe opens =
-    let is : FoundSafe w found v = found-safe w v k found safe (w.nodes k).failed (safe.nodes k).pending opens.finds in
+    let is : FoundSafe w found v = found-safe w v k found safe (w.nodes k).failed (safe.nodes k).pending opens.along.finds in
     record {
       never_written = is.extends [] safe.never_written;
       nodes = others-safe w v k is.extends safe opens.others
-          (Node-at v.tree (v.nodes k) found None opens.store opens.whole (is.allowed one) tt (opened-sound (v.nodes k) found opens.store opens.served));
-      sent = λ file here. Sendable-more w.tree v.tree file is.extends (safe.sent file (subst (λ (s : List SentFrame). Contains s (FileFrame file)) opens.frames.0 here));
-      accepted = λ file here. Accepted-more w.tree v.tree file is.extends (safe.accepted file (subst (λ (s : List Ltx). Contains s file) opens.frames.1 here));
+          (Node-at v.tree (v.nodes k) found None opens.opened.store opens.opened.whole (is.allowed one) tt (opened-sound (v.nodes k) found opens.opened.store opens.opened.served));
+      sent = λ file here. Sendable-more w.tree v.tree file is.extends (safe.sent file (subst (λ (s : List SentFrame). Contains s (FileFrame file)) opens.along.frames.0 here));
+      accepted = λ file here. Accepted-more w.tree v.tree file is.extends (safe.accepted file (subst (λ (s : List Ltx). Contains s file) opens.along.frames.1 here));
     }
 
 lease-safe : (w v : World) (granted : List ℕ) (holder : Option ℕ) → IsSafe w → Leases w granted holder v → IsSafe v
@@ -137,8 +137,8 @@ event-safe w v Renews one safe happens = lease-safe w v w.granted w.holder safe 
 event-safe w v Loses one safe happens = lease-safe w v w.granted None safe happens
 
 pub event-extends : (w v : World) (event : Event) → Happens w event v → Extends w.tree v.tree
-event-extends w v (Steps k ask answer) happens = GrowsAlong-extends w.tree (w.nodes k).store happens.facts.did v.tree happens.tree
-event-extends w v (Opens k found) happens = finds-extends w v k found (w.nodes k).failed happens.finds
+event-extends w v (Steps k ask answer) happens = GrowsAlong-extends w.tree (w.nodes k).store happens.facts.did v.tree happens.along.tree
+event-extends w v (Opens k found) happens = finds-extends w v k found (w.nodes k).failed happens.along.finds
 event-extends w v (Grants k) happens = λ lineage here. subst (λ (t : List Lineage). Contains t lineage) (sym happens.tree) here
 event-extends w v Renews happens = λ lineage here. subst (λ (t : List Lineage). Contains t lineage) (sym happens.tree) here
 event-extends w v Loses happens = λ lineage here. subst (λ (t : List Lineage). Contains t lineage) (sym happens.tree) here

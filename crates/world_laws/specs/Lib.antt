@@ -6,6 +6,7 @@ pub mod Answers
 pub mod Step
 pub mod World
 pub mod Premises
+pub mod Ledger
 pub mod Events
 pub mod Terms
 pub mod Safe

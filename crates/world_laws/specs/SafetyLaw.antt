@@ -1,6 +1,6 @@
 -- The first law: every list of events keeps the invariant, so each node's committed pages are those of the lineage
 -- that its position names, whoever commits. A led run keeps what is said of terms too.
-use Rattle.std.specs.Prelude.{◌≡◌, ℕ, List, ◌++◌, length, Contains, Some}
+use Rattle.std.specs.Prelude.{◌≡◌, ℕ, List, length, Contains, Some}
 use Rattle.lf_sqlite_pages.specs.Image.{SameImage}
 use Rattle.ltx_codec.specs.declared.file.Ltx.{Ltx}
 use Rattle.world_laws.specs.Events.{AreLed, Event, Happens, IsStart, Leads, Runs, Steps}
@@ -8,7 +8,8 @@ use Rattle.world_laws.specs.Lineage.{Lineage, image_of, position_of}
 use Rattle.world_laws.specs.Node.{Answer, Ask}
 use Rattle.world_laws.specs.Premises.{OneImagePerPosition}
 use Rattle.world_laws.specs.Safe.{IsLed, IsSafe}
-use Rattle.world_laws.specs.Store.{Commit, at, begun_by}
+use Rattle.world_laws.specs.Step.{calls_of}
+use Rattle.world_laws.specs.Store.{Commit, at}
 use Rattle.world_laws.specs.Terms.{holder_of}
 use Rattle.world_laws.specs.World.{World}
 
@@ -20,7 +21,7 @@ ImagesAreOfPositions w = (k : ℕ) (lineage : Lineage) → Contains w.tree linea
 -- was granted
 abbrev pub OnlyHoldersCommit : World → Type 0
 OnlyHoldersCommit w = (v : World) (k : ℕ) (ask : Ask) (answer : Answer) (file : Ltx) → (turn : Happens w (Steps k ask answer) v) →
-    Leads w v (Steps k ask answer) turn → Contains (turn.facts.did ++ begun_by turn.facts.failed) (Commit file) → holder_of w.granted (length w.granted) ≡ Some k
+    Leads w v (Steps k ask answer) turn → Contains (calls_of turn.facts) (Commit file) → holder_of w.granted (length w.granted) ≡ Some k
 
 -- what holds at the end of a run
 pub record IsKept (w : World) : Type 0 where

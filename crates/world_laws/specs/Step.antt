@@ -63,3 +63,7 @@ pub record StepFacts (old : NodeState) (ask : Ask) (answer : Answer) (new : Node
   pub refused : LeavesUndone answer did
   pub steady : IsPlain old → IsPlain new → (lock : LockId) → HoldsBack old.served old.store.image lock → Steady old new
   pub keeps : IsSoundNode old → IsSoundNode new
+
+-- the calls that a step made, with the one that failed
+abbrev pub calls_of : {old new : NodeState} {ask : Ask} {answer : Answer} → StepFacts old ask answer new → List StoreCall
+calls_of facts = facts.did ++ begun_by facts.failed
