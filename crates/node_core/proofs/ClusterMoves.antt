@@ -76,8 +76,8 @@ module _ {M : Type 0} (p : Program M) where
   -- a move that takes this step, and that leads where the step does
   abbrev IsMove : (c : Cluster p) (k caller : ℕ) (ask : Ask) (answer : Answer) (new : M) → p.steps (c.nodes k) caller ask answer new → Type 0
   IsMove c k caller ask answer new step =
-      (d : Cluster p) × (d.nodes k ≡ new) × (taken : TakesStep p c k caller ask answer d) ×
-      (CommitsAsHolder (world_of c) k (calls_of (p.tells step (c.disks k)).facts) → Leads p (takes_step taken))
+      (d : Cluster p) × (d.nodes k ≡ new) × (taken : TakesStep p c k caller ask answer d)
+      × (CommitsAsHolder (world_of c) k (calls_of (p.tells step (c.disks k)).facts) → Leads p (takes_step taken))
 
   -- a step to the node that stands there, and so to any
   step-moves-there : (c : Cluster p) (k caller : ℕ) (ask : Ask) (answer : Answer) (new : M) (disk : IsTrue (p.honest new)) → IsSafe (world_of c) →

@@ -1,18 +1,23 @@
 -- A reader of a node, and deliveries to it, by the laws of the cluster.
-use Rattle.std.proofs.Common.{◌≡◌, ◌⊎◌, ℕ, IsTrue, inl, inr, subst, ◌∙◌}
+use Rattle.std.proofs.Common.{◌≡◌, ◌⊎◌, ℕ, IsTrue, List, Option, inl, inr, sym, ap, subst, ◌∙◌}
+use Rattle.std.specs.List.{concat}
 use Rattle.byte_locks.specs.declared.owner.Owner.{Owner}
+use Rattle.lf_sqlite_pages.specs.Change.{PageChange}
+use Rattle.lf_sqlite_pages.specs.Image.{DatabaseImage, SameImage, image_bytes}
 use Rattle.world_laws.specs.CatchUpLaw.{AnswersByWhole, DropInstalls, SentFileApplies, SnapshotInstalls}
 use Rattle.world_laws.specs.Events.{Turns}
 use Rattle.world_laws.specs.Node as laws
 use Rattle.world_laws.specs.Node.{IsSoundNode}
 use Rattle.world_laws.specs.ReaderLaw.{ReadRuns, ReaderSteady, reads}
 use Rattle.world_laws.specs.ReaderLaw as reader
+use Rattle.world_laws.specs.Served.{over}
 use Rattle.world_laws.specs.Step.{StepFacts}
 use Rattle.world_laws.specs.World.{World}
 use Rattle.node_core.specs.declared.answer.Answer.{Answer}
 use Rattle.node_core.specs.declared.ask.Ask.{Ask}
+use Rattle.node_core.specs.Bytes.{GivesBytes}
 use Rattle.node_core.specs.Cluster.{Cluster, Program, world}
-use Rattle.node_core.specs.ClusterLaws.{DeliveredDropInstalls, DeliveredFileApplies, DeliveredSnapshotInstalls, Delivers, ReaderIsSteady, ReadsOn, StepAnswersByWhole, goes_on, rests}
+use Rattle.node_core.specs.ClusterLaws.{DeliveredDropInstalls, DeliveredFileApplies, DeliveredSnapshotInstalls, Delivers, EachReadGives, ReaderIsSteady, ReadsOn, StepAnswersByWhole, goes_on, rests}
 use Rattle.node_core.specs.Safely.{law_answer}
 use Rattle.node_core.proofs.Clusters.{step-turns}
 
@@ -31,8 +36,30 @@ module _ {M : Type 0} (p : Program M) where
     reads-run disk (goes_on {n = n} {m = m} {caller = caller} {ask = ask} {answer = answer} is step rest) =
         reader.steps is (p.tells step disk).facts (reads-run (stays n m caller ask answer step ∙ disk) rest)
 
-    pub reader-is-steady : ((n : M) → IsTrue (p.honest n) → IsSoundNode (p.seen n)) → ReaderSteady → ReaderIsSteady p
-    reader-is-steady sound law owner old new disk runs = law owner (p.seen old) (p.seen new) (sound old disk) (reads-run disk runs)
+    module _ (sound : (n : M) → IsTrue (p.honest n) → IsSoundNode (p.seen n)) (law : ReaderSteady)
+        (gives : (old new : M) (caller : ℕ) (ask : Ask) (answer : Answer) → IsTrue (p.honest old) → p.steps old caller ask answer new → GivesBytes (image_bytes (p.seen old).served.file) ask answer) where
+      -- the file that the last node serves is that of each before it
+      each-gives : {owner : Owner} {old new : M} → IsTrue (p.honest old) → (runs : ReadsOn p owner old new) → EachReadGives p (image_bytes (p.seen new).served.file) runs
+      each-gives disk (rests is) = tt
+      each-gives {owner = o} disk (goes_on {n = n} {m = m} {u = u} {caller = caller} {ask = ask} {answer = answer} is step rest) =
+          let all : ReadsOn p o n u = goes_on {n = n} {m = m} {u = u} {caller = caller} {ask = ask} {answer = answer} is step rest in
+          let steady = (law o (p.seen n) (p.seen u) (sound n disk) (reads-run disk all)).0 in (
+            subst (λ (file : DatabaseImage). GivesBytes (image_bytes file) ask answer) (sym steady.file) (gives n m caller ask answer disk step),
+            each-gives (stays n m caller ask answer step ∙ disk) rest,
+          )
+
+      pub reader-is-steady : ReaderIsSteady p
+      reader-is-steady owner old new disk runs =
+          let is = law owner (p.seen old) (p.seen new) (sound old disk) (reads-run disk runs) in
+          let each = each-gives disk runs in (
+            is.0,
+            is.1,
+            each,
+            λ none.
+            let same : SameImage (p.seen new).served.file (p.seen new).store.image =
+            subst (λ (frames : Option PageChange). SameImage (over (p.seen new).served.file frames) (p.seen new).store.image) none is.1 in
+            subst (λ (contents : List ℕ). EachReadGives p contents runs) (ap (λ (pages : List (List ℕ)). concat pages) same) each,
+          )
 
   pub step-answers-by-whole : AnswersByWhole → StepAnswersByWhole p
   step-answers-by-whole law old new caller ask answer position asks disk step role lacks =

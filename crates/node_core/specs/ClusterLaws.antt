@@ -9,7 +9,7 @@ use Rattle.lf_base.specs.declared.pos.Pos.{Pos}
 use Rattle.lf_disk.specs.declared.disk.Disk.{Ghosts}
 use Rattle.lf_disk.specs.Folder.{Folder}
 use Rattle.lf_disk.specs.History.{may_leave}
-use Rattle.lf_sqlite_pages.specs.Image.{IsImage, SameImage}
+use Rattle.lf_sqlite_pages.specs.Image.{IsImage, SameImage, image_bytes}
 use Rattle.ltx_codec.specs.declared.file.Ltx.{Ltx}
 use Rattle.ltx_codec.specs.Positions.{after, before, nowhere}
 use Rattle.txn_log.specs.Durable.{Durable}
@@ -28,6 +28,7 @@ use Rattle.world_laws.specs.Store.{StoreState, at}
 use Rattle.node_core.specs.declared.answer.Answer.{Answer}
 use Rattle.node_core.specs.declared.ask.Ask.{Ask}
 use Rattle.node_core.specs.Cluster.{AreLed, Cluster, IsLeftBetween, IsOpenedOn, Leads, Moves, Program, Restarts, Stops, TakesStep, stops, takes_step, world}
+use Rattle.node_core.specs.Bytes.{GivesBytes}
 use Rattle.node_core.specs.declared.config.NodeConfig.{NodeConfig}
 use Rattle.node_core.specs.declared.node.Node.{Node}
 use Rattle.node_core.specs.Nodes.{history, parts_of, seen}
@@ -55,8 +56,8 @@ module _ {M : Type 0} (p : Program M) where
   abbrev pub StepsAreMoves : Type 0
   StepsAreMoves = (c : Cluster p) (k caller : ℕ) (ask : Ask) (answer : Answer) (new : M) → IsSafe (world p c) → (step : p.steps (c.nodes k) caller ask answer new) →
       WasSent (world p c) (p.seen (c.nodes k)).waits (law_ask ask) →
-      (d : Cluster p) × (d.nodes k ≡ new) × (taken : TakesStep p c k caller ask answer d) ×
-      (CommitsAsHolder (world p c) k (calls_of (p.tells step (c.disks k)).facts) → Leads p (takes_step taken))
+      (d : Cluster p) × (d.nodes k ≡ new) × (taken : TakesStep p c k caller ask answer d)
+      × (CommitsAsHolder (world p c) k (calls_of (p.tells step (c.disks k)).facts) → Leads p (takes_step taken))
 
   -- wherever a node may take a step, a stop at any of its moments is a move, whatever folder the crash leaves and whatever node is
   -- opened on it. It leads where the step does
@@ -76,10 +77,18 @@ module _ {M : Type 0} (p : Program M) where
     rests : {n : M} → IsRead (p.seen n) owner → ReadsOn owner n n
     goes_on : {n m u : M} {caller : ℕ} {ask : Ask} {answer : Answer} → IsRead (p.seen n) owner → p.steps n caller ask answer m → ReadsOn owner m u → ReadsOn owner n u
 
-  -- meanwhile position, image, database file and committed frames stay, and file and frames together are the committed image
+  -- each READ of the database file in these steps that is answered with bytes gives these contents at its place
+  abbrev pub EachReadGives : {owner : Owner} {old new : M} → List ℕ → ReadsOn owner old new → Type 0
+  EachReadGives contents (rests is) = Unit {0}
+  EachReadGives contents (goes_on {ask = ask} {answer = answer} is step rest) = GivesBytes contents ask answer × EachReadGives contents rest
+
+  -- meanwhile position, image, database file and committed frames stay, and file and frames together are the committed image. Each READ
+  -- gives the served file's bytes, and where the log has no committed frame those of the committed image
   abbrev pub ReaderIsSteady : Type 0
-  ReaderIsSteady = (owner : Owner) (old new : M) → IsTrue (p.honest old) → ReadsOn owner old new →
+  ReaderIsSteady = (owner : Owner) (old new : M) → IsTrue (p.honest old) → (reads : ReadsOn owner old new) →
       Steady (p.seen old) (p.seen new) × SameImage (over (p.seen new).served.file (p.seen new).served.frames) (p.seen new).store.image
+      × EachReadGives (image_bytes (p.seen new).served.file) reads
+      × ((p.seen new).served.frames ≡ None → EachReadGives (image_bytes (p.seen new).store.image) reads)
 
   -- a node that is primary once the step is done answers a position that its log lacks by one snapshot, or by word of the drop
   abbrev pub StepAnswersByWhole : Type 0
