@@ -56,9 +56,9 @@ module _ {M : Type 0} (p : Program M) where
             is.1,
             each,
             λ none.
-            let same : SameImage (p.seen new).served.file (p.seen new).store.image =
-            subst (λ (frames : Option PageChange). SameImage (over (p.seen new).served.file frames) (p.seen new).store.image) none is.1 in
-            subst (λ (contents : List ℕ). EachReadGives p contents runs) (ap (λ (pages : List (List ℕ)). concat pages) same) each,
+                let same : SameImage (p.seen new).served.file (p.seen new).store.image =
+                subst (λ (frames : Option PageChange). SameImage (over (p.seen new).served.file frames) (p.seen new).store.image) none is.1 in
+                subst (λ (contents : List ℕ). EachReadGives p contents runs) (ap (λ (pages : List (List ℕ)). concat pages) same) each,
           )
 
   pub step-answers-by-whole : AnswersByWhole → StepAnswersByWhole p

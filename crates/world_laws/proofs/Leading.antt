@@ -1,5 +1,5 @@
 -- What led runs keep of terms.
-use Rattle.std.proofs.Common.{◌≡◌, ◌≢◌, ◌⊎◌, ℕ, List, [], ◌∷◌, ◌++◌, length, Option, Some, None, IsSome, IfSome, inl, inr, refl, sym, ap, subst, ◌∙◌}
+use Rattle.std.proofs.Common.{◌≡◌, ◌≢◌, ◌⊎◌, ℕ, List, [], ◌∷◌, ◌++◌, length, Option, Some, None, IsSome, IfSome, inl, inr, sym, ap, subst, ◌∙◌}
 use Rattle.std.proofs.lemmas.Bool.{cases_eq}
 use Rattle.lf_base.specs.declared.pos.Pos.{Pos}
 use Rattle.world_laws.specs.Events.{AreLed, Event, Grants, Happens, IsStart, Leads, Leases, Loses, Opens, Renews, Reopens, Runs, Steps, Turns, ends, goes}
@@ -7,7 +7,7 @@ use Rattle.world_laws.specs.Node.{Answer, Ask, NodeState}
 use Rattle.world_laws.specs.Premises.{FindsACandidate, IsFoundDone, IsFoundPruned, IsFoundUndone, OneImagePerPosition}
 use Rattle.world_laws.specs.Safe.{FailedAsHolder, IsAtTip, IsLed, IsOfHolder, IsPending, IsSafe}
 use Rattle.world_laws.specs.SafetyLaw.{LedKept, OnlyHoldersCommit}
-use Rattle.world_laws.specs.Store.{Apply, CanDo, CanDoAll, Commit, DropAll, FailedBefore, FailedIn, Failure, Install, PruneTo, StoreCall, StoreState, all_done, at, begun_by, broken_by, empty_store}
+use Rattle.world_laws.specs.Store.{Apply, CanDo, Commit, DropAll, FailedBefore, FailedIn, Failure, Install, PruneTo, StoreCall, StoreState, all_done, at, begun_by, broken_by}
 use Rattle.world_laws.specs.Terms.{AreInLine, holder_of, tip}
 use Rattle.world_laws.specs.World.{Act, OthersStay, World, acts_along, acts_by, failing_by}
 use Rattle.world_laws.proofs.Calls.{CanDoAll-split}

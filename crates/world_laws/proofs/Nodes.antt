@@ -1,5 +1,5 @@
 -- What is kept of each node.
-use Rattle.std.proofs.Common.{◌≡◌, ◌≢◌, ℕ, Bool, true, false, cond, eqb, List, [], ◌∷◌, length, Option, Some, None, IsSome, inl, inr, refl, sym, ap, subst, ◌∙◌, ◌⊎◌, ◌≤◌}
+use Rattle.std.proofs.Common.{◌≡◌, ℕ, Bool, true, false, cond, eqb, List, [], length, Option, Some, None, IsSome, inl, inr, refl, sym, ap, subst, ◌∙◌, ◌⊎◌, ◌≤◌}
 use Rattle.std.specs.List.{Contains}
 use Rattle.lf_sqlite_pages.specs.Apply.{apply}
 use Rattle.lf_sqlite_pages.specs.Complete.{complete, completed}

@@ -1,5 +1,5 @@
 -- A step that commits is a primary's.
-use Rattle.std.proofs.Common.{◌≡◌, ◌++◌, Bool, true, false, cond, eqb, List, [], ◌∷◌, Option, inl, inr, refl, sym, ◌∙◌, arith}
+use Rattle.std.proofs.Common.{◌≡◌, Bool, true, false, cond, eqb, List, [], ◌∷◌, Option, inl, inr, refl, sym, ◌∙◌, arith}
 use Rattle.std.specs.List.{Contains}
 use Rattle.std.proofs.lemmas.List.Elements.{Contains-push_cases}
 use Rattle.ltx_codec.specs.declared.file.Ltx.{Ltx}
@@ -7,7 +7,7 @@ use Rattle.world_laws.specs.Answers.{call_of, completed_over}
 use Rattle.world_laws.specs.Node.{Ask, Primary, Replica, Role}
 use Rattle.world_laws.specs.RoleLaw.{OnlyPrimariesCommit}
 use Rattle.world_laws.specs.Step.{IsRoleAt, KeepsRole, Makes, accepts, commits, commits_and_prunes, drops, finishes, imports, nothing, prunes, takes, unlinks}
-use Rattle.world_laws.specs.Store.{Apply, Commit, DropAll, Install, PruneTo, StoreCall, StoreState, begun_by}
+use Rattle.world_laws.specs.Store.{Apply, Commit, DropAll, Install, PruneTo, StoreCall, StoreState}
 
 primary_replica : Primary ≡ Replica → ⊥
 primary_replica same = cc

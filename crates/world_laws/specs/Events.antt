@@ -4,7 +4,7 @@
 -- never delivered. A stop inside a step is two events, a step of the same ask that fails and a restart: that this
 -- covers every stop is a law of its own. Steps of one node follow one another, as its machine takes them in turn. Nothing
 -- that happens asks who holds the lease; a run is led where each of its turns commits as the holder.
-use Rattle.std.specs.Prelude.{◌≡◌, ℕ, List, [], ◌∷◌, length, Option, None, Some}
+use Rattle.std.specs.Prelude.{◌≡◌, ℕ, List, [], ◌∷◌, Option, None, Some}
 use Rattle.world_laws.specs.Ledger.{FindsAlong, GoesAlong}
 use Rattle.world_laws.specs.Node.{Answer, Ask, NodeState}
 use Rattle.world_laws.specs.Premises.{CommitsAsHolder}

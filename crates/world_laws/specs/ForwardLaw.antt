@@ -1,6 +1,6 @@
 -- The fourth law: a commit that a replica forwarded, and that is answered Done there, stands once in the lineage of the
 -- primary that accepted it; one that is refused or not answered changes nothing at the replica.
-use Rattle.std.specs.Prelude.{◌≡◌, ◌≢◌, ℕ, true, List, [], ◌∷◌, ◌++◌, Contains, Some, None, Bool}
+use Rattle.std.specs.Prelude.{◌≡◌, ◌≢◌, ℕ, true, List, Contains, Some, None, Bool}
 use Rattle.lf_base.specs.declared.pos.Pos.{Pos}
 use Rattle.lf_sqlite_pages.specs.Image.{SameImage}
 use Rattle.ltx_codec.specs.declared.file.Ltx.{Ltx}
