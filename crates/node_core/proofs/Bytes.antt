@@ -26,7 +26,6 @@ use Rattle.node_core.specs.Files.{IsPlanned, scene, told}
 use Rattle.node_core.specs.Nodes.{NodeParts, seen}
 use Rattle.node_core.specs.Serving.{ServesFiles}
 use Rattle.node_core.specs.Steps.{AnswersFile, Does, at_moment}
-use Rattle.node_core.specs.Stores.{state}
 use Rattle.node_core.specs.Unlinking.{unlinks}
 use Rattle.node_core.proofs.Answering.{told-image}
 

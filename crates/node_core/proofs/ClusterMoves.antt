@@ -1,5 +1,5 @@
 -- Every step, stop and restart of a node is a move of a cluster.
-use Rattle.std.proofs.Common.{◌≡◌, ◌≢◌, ℕ, Bool, true, false, IsTrue, cond, eqb, List, [], ◌++◌, length, Option, Some, None, inl, inr, refl, sym, subst, ◌∙◌, arith}
+use Rattle.std.proofs.Common.{◌≡◌, ◌≢◌, ℕ, Bool, true, false, IsTrue, cond, eqb, [], ◌++◌, length, Option, Some, None, inl, inr, refl, sym, subst, ◌∙◌, arith}
 use Rattle.std.proofs.Math.Logic.{∥∥₁_map}
 use Rattle.lf_disk.specs.Folder.{Folder}
 use Rattle.txn_log.specs.Calls.{MayFind, RestsAs}

@@ -1,5 +1,5 @@
 -- Moves of a cluster, as events of the laws.
-use Rattle.std.proofs.Common.{◌≡◌, ◌⊎◌, ℕ, List, [], ◌∷◌, ◌++◌, inl, inr, sym, ap, ◌∙◌}
+use Rattle.std.proofs.Common.{◌⊎◌, ℕ, List, [], ◌∷◌, ◌++◌, inl, inr, sym, ap, ◌∙◌}
 use Rattle.lf_disk.specs.Folder.{Folder}
 use Rattle.world_laws.specs.Events as events
 use Rattle.world_laws.specs.Events.{Event, Grants, Loses, Opens, Renews, Reopens, Steps, Turns}
