@@ -14,7 +14,7 @@ use Rattle.world_laws.specs.Served.{HoldsBack}
 use Rattle.world_laws.specs.Step.{Makes, Steady, nothing}
 use Rattle.world_laws.specs.Store.{FailedBefore, FailedIn, Failure, StoreCall, begun_by}
 use Rattle.node_core.specs.Safely.{StepsSafely}
-use Rattle.node_core.proofs.Facts.{steps}
+use Rattle.node_core.proofs.Facts.{keeping, steps}
 use Rattle.node_core.proofs.Reading.{rests_stay}
 
 none_some : {X : Type 0} (x : X) → None ≡ Some x → ⊥
@@ -33,10 +33,13 @@ Ran (Err why) call did failed = (did ≡ []) × (failed ≡ None)
 pub failed-some : (h : History) (broken : Bool) (attempt : Attempt) (tried : ℕ) → broken ≡ true → IsSome (failed_of h broken attempt tried)
 failed-some h broken attempt tried is = subst (λ (b : Bool). IsSome (failed_of h b attempt tried)) (sym is) refl
 
-module _ (old new : NodeState) (ask : Ask) (answer : Answer) (call : StoreCall) (start end : History) (makes : Makes old.store old.role old.waits ask (call ∷ [])) (sound : IsSoundNode new)
-    (steady : IsPlain old → IsPlain new → (lock : LockId) → HoldsBack old.served old.store.image lock → Steady old new) where
+module _ (old now : NodeState) (ask : Ask) (answer : Answer) (call : StoreCall) (start end : History) (makes : Makes old.store old.role old.waits ask (call ∷ [])) (sound : IsSoundNode (keeping old now))
+    (steady : IsPlain old → IsPlain (keeping old now) → (lock : LockId) → HoldsBack old.served old.store.image lock → Steady old (keeping old now)) where
+  abbrev new : NodeState
+  new = keeping old now
+
   undone : Answers old old.role ask [] None answer new × LeavesUndone answer [] → Moved old.store old.failed start [] None new.store new.failed end → StepsSafely old ask answer new start end
-  undone says moved = steps old new ask answer old.role [] None start start end ∣ rests_stay start ∣₁ moved record {
+  undone says moved = steps old now ask answer [] None start start end ∣ rests_stay start ∣₁ moved record {
     makes = nothing;
     tries = λ same. absurd (none_some FailedBefore same);
     rose = λ some. absurd (false_true some);
@@ -48,7 +51,7 @@ module _ (old new : NodeState) (ask : Ask) (answer : Answer) (call : StoreCall) 
 
   fails : (failure : Failure) → Makes old.store old.role old.waits ask ([] ++ begun_by (Some failure)) → Answers old old.role ask [] (Some failure) answer new × LeavesUndone answer [] → Rose old.faults new.faults
       → Moved old.store old.failed start [] (Some failure) new.store new.failed end → StepsSafely old ask answer new start end
-  fails failure begun says rose moved = steps old new ask answer old.role [] (Some failure) start start end ∣ rests_stay start ∣₁ moved record {
+  fails failure begun says rose moved = steps old now ask answer [] (Some failure) start start end ∣ rests_stay start ∣₁ moved record {
     makes = begun;
     tries = λ same. (call, makes);
     rose = λ some. rose;
@@ -63,7 +66,7 @@ module _ (old new : NodeState) (ask : Ask) (answer : Answer) (call : StoreCall) 
       → StepsSafely old ask answer new start end
   called (Ok told) went rose says =
       let said = says (call ∷ []) None (refl, refl) in
-      steps old new ask answer old.role (call ∷ []) None start start end ∣ rests_stay start ∣₁ went record {
+      steps old now ask answer (call ∷ []) None start start end ∣ rests_stay start ∣₁ went record {
         makes = makes;
         tries = λ same. absurd (none_some FailedBefore same);
         rose = λ some. absurd (false_true some);

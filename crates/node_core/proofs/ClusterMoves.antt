@@ -1,28 +1,26 @@
 -- Every step, stop and restart of a node is a move of a cluster.
-use Rattle.std.proofs.Common.{◌≡◌, ◌≢◌, ℕ, Bool, true, false, IsTrue, cond, eqb, List, [], ◌∷◌, ◌++◌, length, Option, Some, None, inl, inr, refl, sym, subst, ◌∙◌, append_assoc, arith}
-use Rattle.std.proofs.lemmas.Bool.{cases_eq}
+use Rattle.std.proofs.Common.{◌≡◌, ◌≢◌, ℕ, Bool, true, false, IsTrue, cond, eqb, [], ◌++◌, length, Option, Some, None, inl, inr, refl, sym, subst, ◌∙◌, arith}
 use Rattle.std.proofs.Math.Logic.{∥∥₁_map}
 use Rattle.lf_disk.specs.Folder.{Folder}
 use Rattle.txn_log.specs.Calls.{MayFind, RestsAs}
 use Rattle.txn_log.specs.Durable.{Durable}
 use Rattle.txn_log.specs.Kept.{LogFile}
-use Rattle.world_laws.specs.Events.{Reopens, Steps}
-use Rattle.world_laws.specs.Node.{NodeState}
+use Rattle.world_laws.specs.Ledger.{FindsAlong}
 use Rattle.world_laws.specs.Premises.{CommitsAsHolder, OneImagePerPosition, WasSent}
 use Rattle.world_laws.specs.Safe.{IsSafe}
+use Rattle.world_laws.specs.Step.{calls_of}
 use Rattle.world_laws.specs.StopLaw.{EachIsFound, IsCut, StopsAreCuts}
-use Rattle.world_laws.specs.Store.{FailedIn, Failure, MayBeFound, StoreCall, StoreState, all_done, begun_by, empty_store}
-use Rattle.world_laws.specs.World.{GrowsAlong, World, accepted_by, acts_along, failing_by, sent_by}
-use Rattle.world_laws.proofs.Calls.{GrowsAlong-extends}
-use Rattle.world_laws.proofs.Lineages.{One-fewer}
+use Rattle.world_laws.specs.Store.{Failure, MayBeFound, StoreState, begun_by, empty_store}
+use Rattle.world_laws.specs.World.{World, accepted_by, acts_along, failing_by, sent_by}
+use Rattle.world_laws.proofs.Restarting.{cut-off}
 use Rattle.world_laws.proofs.Terms.{other_test, same_test}
-use Rattle.world_laws.proofs.Whole.{event-safe}
 use Rattle.node_core.specs.declared.answer.Answer.{Answer}
 use Rattle.node_core.specs.declared.ask.Ask.{Ask}
-use Rattle.node_core.specs.Cluster.{Cluster, Program, FindsAlong, GoesAlong, IsLeftBetween, IsOpenedOn, IsRestart, Stops, TakesStep, calls_of, world}
-use Rattle.node_core.specs.ClusterLaws.{BegunIsStart, no_files, RestartsAreMoves, StepsAreMoves, StopsAreMoves}
+use Rattle.node_core.specs.Cluster.{Cluster, Program, IsLeftBetween, IsOpenedOn, IsRestart, Leads, Stops, TakesStep, stops, takes_step, world}
+use Rattle.node_core.specs.ClusterLaws.{BegunIsStart, InterruptedIsRestart, no_files, RestartsAreMoves, StepsAreMoves, StopsAreMoves}
 use Rattle.node_core.specs.Safely.{law_answer, law_ask}
-use Rattle.node_core.proofs.Ledgers.{begun-short, failing-failed, failing-here, failing-in, failing-other, failing-store, failing_nodes, failing_world, fails-turn, finds-over, front_of, grows-split, grows-with, holder-front}
+use Rattle.node_core.proofs.Clusters.{step-turns}
+use Rattle.node_core.proofs.Ledgers.{failing-here, failing-in, failing-other, finds-over, grows-split, grows-with}
 
 -- a folder without files stands for the store of nothing
 stands-empty : Durable no_files empty_store
@@ -75,11 +73,16 @@ module _ {M : Type 0} (p : Program M) where
     failing = v.failing;
   }
 
+  -- a move that takes this step, and that leads where the step does
+  abbrev IsMove : (c : Cluster p) (k caller : ℕ) (ask : Ask) (answer : Answer) (new : M) → p.steps (c.nodes k) caller ask answer new → Type 0
+  IsMove c k caller ask answer new step =
+      (d : Cluster p) × (d.nodes k ≡ new) × (taken : TakesStep p c k caller ask answer d)
+      × (CommitsAsHolder (world_of c) k (calls_of (p.tells step (c.disks k)).facts) → Leads p (takes_step taken))
+
   -- a step to the node that stands there, and so to any
   step-moves-there : (c : Cluster p) (k caller : ℕ) (ask : Ask) (answer : Answer) (new : M) (disk : IsTrue (p.honest new)) → IsSafe (world_of c) →
-      (step : p.steps (c.nodes k) caller ask answer (place k new c.nodes k)) → WasSent (world_of c) (p.seen (c.nodes k)).waits (law_ask ask) → CommitsAsHolder (world_of c) k (calls_of (p.tells step (c.disks k)).facts) →
-      (d : Cluster p) × (d.nodes k ≡ place k new c.nodes k) × TakesStep p c k caller ask answer d
-  step-moves-there c k caller ask answer new disk safe step comes leads =
+      (step : p.steps (c.nodes k) caller ask answer (place k new c.nodes k)) → WasSent (world_of c) (p.seen (c.nodes k)).waits (law_ask ask) → IsMove c k caller ask answer (place k new c.nodes k) step
+  step-moves-there c k caller ask answer new disk safe step comes =
       let w : World = world_of c in
       let facts = (p.tells step (c.disks k)).facts in
       let all = grows-with w.tree (w.nodes k).store (safe.nodes k).allowed.named facts.makes in
@@ -101,33 +104,30 @@ module _ {M : Type 0} (p : Program M) where
           step = step;
           along = record {
             comes = comes;
-            leads = leads;
             tree = grows.1;
             acts = refl;
             failing = failing-here k (failing_by (length w.granted) (w.failing k) facts.failed) w.failing;
             others = failing-other k (failing_by (length w.granted) (w.failing k) facts.failed) w.failing;
+            sent = refl;
+            accepted = refl;
             lease = (refl, refl);
           };
-          sent = refl;
-          accepted = refl;
           others = λ other differs. place-other k new c.nodes other differs;
         },
+        λ leads. leads,
       )
 
   pub steps-are-moves : ((old new : M) (caller : ℕ) (ask : Ask) (answer : Answer) → p.steps old caller ask answer new → p.honest new ≡ p.honest old) → StepsAreMoves p
-  steps-are-moves stays c k caller ask answer new safe step comes leads =
-      subst (λ (n : M). (taken : p.steps (c.nodes k) caller ask answer n) → CommitsAsHolder (world_of c) k (calls_of (p.tells taken (c.disks k)).facts) → (d : Cluster p) × (d.nodes k ≡ n) × TakesStep p c k caller ask answer d)
-      (place-here k new c.nodes) (λ taken leads_it. step-moves-there c k caller ask answer new (stays (c.nodes k) new caller ask answer step ∙ c.disks k) safe taken comes leads_it) step leads
+  steps-are-moves stays c k caller ask answer new safe step comes =
+      subst (λ (n : M). (taken : p.steps (c.nodes k) caller ask answer n) → IsMove c k caller ask answer n taken)
+      (place-here k new c.nodes) (λ taken. step-moves-there c k caller ask answer new (stays (c.nodes k) new caller ask answer step ∙ c.disks k) safe taken comes) step
 
-  after-finds : (c : Cluster p) (w : World) (k : ℕ) (new : M) (disk : IsTrue (p.honest new)) (left : StoreState) (v : World) → Reopens w k left v → FindsAlong w k left (world_of (after c k new disk v))
-  after-finds c w k new disk left v opens = record {
-    finds = finds-over w v w.nodes (world_of (after c k new disk v)).nodes k left refl (w.nodes k).failed opens.finds;
-    failing = λ j. elim (cases_eq j k) [
-      | inl same ↦ subst (λ (i : ℕ). v.failing i ≡ w.failing i) (sym same) opens.failing
-      | inr other ↦ (opens.others j other).1
-    ];
-    frames = opens.frames;
-    lease = opens.lease;
+  after-finds : (c : Cluster p) (w : World) (k : ℕ) (new : M) (disk : IsTrue (p.honest new)) (left : StoreState) (v : World) → FindsAlong w k left v → FindsAlong w k left (world_of (after c k new disk v))
+  after-finds c w k new disk left v along = record {
+    finds = finds-over w v w.nodes (world_of (after c k new disk v)).nodes k left refl (w.nodes k).failed along.finds;
+    failing = along.failing;
+    frames = along.frames;
+    lease = along.lease;
   }
 
   after-restarts : (c : Cluster p) (k : ℕ) (new : M) (disk : IsTrue (p.honest new)) (folder : Folder) (left : StoreState) (v : World) → Durable folder left → IsOpenedOn folder (p.seen new) →
@@ -150,7 +150,7 @@ module _ {M : Type 0} (p : Program M) where
             left = left;
             found = x.0;
             restart = after-restarts c k new disk folder x.0 opens.0 x.2 on;
-            ledger = after-finds c (world_of c) k new disk x.0 opens.0 opens.1;
+            ledger = after-finds c (world_of c) k new disk x.0 opens.0 opens.1.along;
           },
         ))
 
@@ -158,7 +158,7 @@ module _ {M : Type 0} (p : Program M) where
         (x : TakesStep p c k caller ask answer e) (folder : Folder) (left : IsLeftBetween p (c.nodes k) (e.nodes k) folder)
         (new : M) (disk : IsTrue (p.honest new)) (on : IsOpenedOn folder (p.seen new)) (found : StoreState) (stands : Durable folder found) where
       abbrev IsStopped : Type 0
-      IsStopped = (d : Cluster p) × (d.nodes k ≡ new) × Stops p c k d
+      IsStopped = (d : Cluster p) × (d.nodes k ≡ new) × (stopped : Stops p c k d) × (Leads p (takes_step x) → Leads p (stops stopped))
 
       -- found as it could be before the step
       stop-before : MayBeFound (p.seen (c.nodes k)).store (p.seen (c.nodes k)).failed found → IsStopped
@@ -176,42 +176,16 @@ module _ {M : Type 0} (p : Program M) where
               left = left;
               found = found;
               restart = after-restarts c k new disk folder found opens.0 stands on;
-              ledger = inl (after-finds c (world_of c) k new disk found opens.0 opens.1);
+              ledger = inl (after-finds c (world_of c) k new disk found opens.0 opens.1.along);
             },
+            λ leads. tt,
           )
 
       -- found as it is in the midst of the step
       stop-within : (p.seen (c.nodes k)).failed ≡ None → IsCut (p.seen (c.nodes k)).store (calls_of (p.tells x.step (c.disks k)).facts) found → IsStopped
       stop-within whole cut =
-          let w : World = world_of c in
-          let facts = (p.tells x.step (c.disks k)).facts in
-          let front = front_of facts.did (begun_by facts.failed) cut.did cut.call cut.rest (begun-short facts.failed) cut.split in
-          let grows =
-          grows-split w.tree (w.nodes k).store cut.did front.0 e.tree (subst (λ (ds : List StoreCall). GrowsAlong w.tree (w.nodes k).store ds e.tree) front.1 x.along.tree) in
-          let regroup : calls_of facts ≡ (cut.did ++ cut.call ∷ []) ++ cut.rest = cut.split ∙ sym (append_assoc cut.did (cut.call ∷ []) cut.rest) in
-          let leads : CommitsAsHolder w k (cut.did ++ cut.call ∷ []) =
-          holder-front w k (cut.did ++ cut.call ∷ []) cut.rest (subst (λ (ds : List StoreCall). CommitsAsHolder w k ds) regroup x.along.leads) in
-          let nodes : ℕ → NodeState = failing_nodes w k (law_ask ask) facts whole cut.did cut.call cut.rest cut.split in
-          let mid : World = failing_world w k nodes cut.did grows.0 in
-          let along : GoesAlong w k (law_ask ask) cut.did (Some (FailedIn cut.call)) mid = record {
-            comes = x.along.comes;
-            leads = leads;
-            tree = grows.1;
-            acts = refl;
-            failing = failing-here k (length w.granted) w.failing;
-            others = failing-other k (length w.granted) w.failing;
-            lease = (refl, refl);
-          } in
-          let turn = fails-turn w k (law_ask ask) facts whole cut.did cut.call cut.rest cut.split mid along (refl, refl) in
-          let one_mid : OneImagePerPosition mid.tree = One-fewer grows.0 e.tree (GrowsAlong-extends grows.0 (all_done (w.nodes k).store cut.did) front.0 e.tree grows.2) one in
-          let safe_mid : IsSafe mid = event-safe w mid (Steps k (law_ask ask) _) one_mid safe turn in
-          let store = failing-store w k (law_ask ask) facts whole cut.did cut.call cut.rest cut.split in
-          let failed = failing-failed w k (law_ask ask) facts whole cut.did cut.call cut.rest cut.split in
-          let may : MayBeFound (nodes k).store (nodes k).failed found =
-          subst (λ (s : StoreState). MayBeFound s (nodes k).failed found) (sym store)
-          (subst (λ (f : Option Failure). MayBeFound (all_done (w.nodes k).store cut.did) f found) (sym failed) cut.leaves) in
-          let opens = each mid k found safe_mid may in (
-            after c k new disk opens.0,
+          let stop = cut-off (world_of c) (world_of e) k (law_ask ask) (law_answer answer) found safe one (step-turns p c e k caller ask answer x) whole cut in (
+            after c k new disk stop.last,
             place-here k new c.nodes,
             record {
               caller = caller;
@@ -222,19 +196,19 @@ module _ {M : Type 0} (p : Program M) where
               folder = folder;
               left = left;
               found = found;
-              restart = after-restarts c k new disk folder found opens.0 stands on;
+              restart = after-restarts c k new disk folder found stop.last stands on;
               ledger = inr record {
-                front = cut.did;
-                call = cut.call;
-                rest = cut.rest;
-                split = cut.split;
-                mid = mid;
-                broken = (store, failed);
-                along = along;
-                frames = (refl, refl);
-                finds = after-finds c mid k new disk found opens.0 opens.1;
+                mid = stop.cut.mid;
+                answer = stop.cut.answer;
+                fails = stop.cut.fails;
+                call = stop.cut.call;
+                rest = stop.cut.rest;
+                failed = stop.cut.failed;
+                split = stop.cut.split;
+                finds = after-finds c stop.cut.mid k new disk found stop.last stop.cut.finds;
               };
             },
+            stop.leads,
           )
 
       stop-found : StopsAreCuts → (failed : Option Failure) → (p.seen (c.nodes k)).failed ≡ failed → MayFind (p.seen (c.nodes k)).store failed (calls_of (p.tells x.step (c.disks k)).facts) found → IsStopped
@@ -248,6 +222,9 @@ module _ {M : Type 0} (p : Program M) where
     stops-are-moves cuts c e k caller ask answer safe one x folder left new disk on =
         ∥∥₁_map ((p.tells x.step (c.disks k)).moments left.moment folder left.early left.late left.leaves) (λ f.
         stop-found c e k caller ask answer safe one x folder left new disk on f.0 f.2 cuts (p.seen (c.nodes k)).failed refl f.1)
+
+  pub interrupted-is-restart : InterruptedIsRestart p
+  interrupted-is-restart n first again stands on left stood = on left (stands left stood)
 
   pub begun-is-start : BegunIsStart p
   begun-is-start c begun = record {

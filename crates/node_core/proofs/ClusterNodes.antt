@@ -1,25 +1,28 @@
 -- The nodes of this crate, as those of a cluster.
 use Rattle.std.proofs.Common.{◌≡◌, ◌∙◌, ℕ, Bool, IsTrue, ap}
 use Rattle.lf_disk.specs.declared.disk.Disk.{Ghosts}
+use Rattle.lf_sqlite_pages.specs.Image.{image_bytes}
 use Rattle.txn_log.specs.Calls.{RestsAs}
 use Rattle.txn_log.specs.Store.{failed_of}
 use Rattle.world_laws.specs.CatchUpLaw.{AnswersByWhole, DropInstalls, SentFileApplies, SnapshotInstalls}
 use Rattle.world_laws.specs.Node.{IsSoundNode, NodeState}
 use Rattle.world_laws.specs.ReaderLaw.{ReaderSteady}
-use Rattle.world_laws.specs.SafetyLaw.{SafeKept}
+use Rattle.world_laws.specs.SafetyLaw.{LedKept, SafeKept}
 use Rattle.world_laws.specs.Served.{untouched}
 use Rattle.world_laws.specs.StopLaw.{EachIsFound, StopsAreCuts}
 use Rattle.world_laws.specs.Store.{MayBeFound, StoreState}
 use Rattle.node_core.specs.declared.answer.Answer.{Answer}
 use Rattle.node_core.specs.declared.ask.Ask.{Ask}
 use Rattle.node_core.specs.declared.node.Node.{Node}
+use Rattle.node_core.specs.Bytes.{GivesBytes}
 use Rattle.node_core.specs.Cluster.{Program}
-use Rattle.node_core.specs.ClusterLaws.{BegunIsStart, ClusterIsKept, MovesAreEvents, DeliveredDropInstalls, DeliveredFileApplies, DeliveredSnapshotInstalls, ReaderIsSteady, RecoveredIsOpened, RestartsAreMoves, StepAnswersByWhole, StepsAreMoves, StopsAreMoves, program}
+use Rattle.node_core.specs.ClusterLaws.{BegunIsStart, ClusterIsKept, ClusterIsLed, MovesAreEvents, DeliveredDropInstalls, DeliveredFileApplies, DeliveredSnapshotInstalls, InterruptedIsRestart, ReaderIsSteady, RecoveredIsOpened, RestartsAreMoves, StepAnswersByWhole, StepsAreMoves, StopsAreMoves, program}
 use Rattle.node_core.specs.Nodes.{history, parts_of}
 use Rattle.node_core.specs.Steps.{IsStep}
 use Rattle.node_core.specs.Stores.{fields_of, state}
-use Rattle.node_core.proofs.Clusters.{cluster-is-kept, moves-are-events}
-use Rattle.node_core.proofs.ClusterMoves.{begun-is-start, restarts-are-moves, steps-are-moves, stops-are-moves}
+use Rattle.node_core.proofs.Bytes.{step-gives}
+use Rattle.node_core.proofs.Clusters.{cluster-is-kept, cluster-is-led, moves-are-events}
+use Rattle.node_core.proofs.ClusterMoves.{begun-is-start, interrupted-is-restart, restarts-are-moves, steps-are-moves, stops-are-moves}
 use Rattle.node_core.proofs.Deliveries.{drop-installs, file-applies, reader-is-steady, snapshot-installs, step-answers-by-whole}
 use Rattle.node_core.proofs.Sound.{sound}
 
@@ -52,6 +55,9 @@ module _ {D : Type 0} {G : Ghosts D} where
         served = ap (λ (s : NodeState). s.served) seen_so ∙ ap (λ (s : StoreState). untouched s.image) here;
       }
 
+  pub interrupted : InterruptedIsRestart nodes
+  interrupted = interrupted-is-restart nodes
+
   pub begins : BegunIsStart nodes
   begins = begun-is-start nodes
 
@@ -60,6 +66,9 @@ module _ {D : Type 0} {G : Ghosts D} where
 
   pub kept : SafeKept → ClusterIsKept nodes
   kept law = cluster-is-kept nodes law
+
+  pub led : LedKept → ClusterIsLed nodes
+  led law = cluster-is-led nodes law
 
   pub steps : StepsAreMoves nodes
   steps = steps-are-moves nodes stays
@@ -70,8 +79,12 @@ module _ {D : Type 0} {G : Ghosts D} where
   pub restarts : EachIsFound → RestartsAreMoves nodes
   restarts each = restarts-are-moves nodes each rests-as
 
+  -- a READ gives the file that is seen
+  gives : (old new : Node D G) (caller : ℕ) (ask : Ask) (answer : Answer) → IsTrue (nodes.honest old) → nodes.steps old caller ask answer new → GivesBytes (image_bytes (nodes.seen old).served.file) ask answer
+  gives old new caller ask answer disk taken = step-gives (history old) (history new) (parts_of old) (parts_of new) caller ask answer disk taken.does
+
   pub steady : ReaderSteady → ReaderIsSteady nodes
-  steady law = reader-is-steady nodes stays is-sound law
+  steady law = reader-is-steady nodes stays is-sound law gives
 
   pub by-whole : AnswersByWhole → StepAnswersByWhole nodes
   by-whole law = step-answers-by-whole nodes law

@@ -12,8 +12,9 @@ use Rattle.txn_log.specs.Calls.{Moved, Went, WentPruned}
 use Rattle.world_laws.specs.Answers.{Answers, LeavesUndone}
 use Rattle.world_laws.specs.Node.{Answer, Ask, Done, File, IsPlain, IsSoundNode, NodeState, Other, Primary, Refused, Replica, Role}
 use Rattle.world_laws.specs.Served.{HoldsBack}
-use Rattle.world_laws.specs.Step.{Makes, MayTryMore, Steady, nothing}
+use Rattle.world_laws.specs.Step.{KeepsRole, Makes, MayTryMore, Steady, nothing}
 use Rattle.world_laws.specs.Store.{FailedBefore, FailedIn, Failure, PruneTo, StoreCall, begun_by, broken_by}
+use Rattle.world_laws.proofs.Stopping.{role-stays}
 use Rattle.node_core.specs.Safely.{StepsSafely}
 use Rattle.node_core.specs.Stores.{OnlyRead}
 use Rattle.node_core.proofs.Calls.{Begins}
@@ -45,12 +46,18 @@ pub record Says (old : NodeState) (role : Role) (ask : Ask) (did : List StoreCal
   pub steady : IsPlain old → IsPlain new → (lock : LockId) → HoldsBack old.served old.store.image lock → Steady old new
   pub keeps : IsSoundNode new
 
--- a step that read pages and then made these calls
-pub steps : (old new : NodeState) (ask : Ask) (answer : Answer) (role : Role) (did : List StoreCall) (failed : Option Failure) (start mid end : History) →
-    OnlyRead start mid → Moved old.store old.failed mid did failed new.store new.failed end → Says old role ask did failed answer new → StepsSafely old ask answer new start end
-steps old new ask answer role did failed start mid end read moved says = record {
+-- a node in the role that it had: a step of this node changes no role
+abbrev pub keeping : NodeState → NodeState → NodeState
+keeping old now = record now { role = old.role }
+
+-- a step that read pages and then made these calls, in the role that the node has
+steps-as : (old now : NodeState) (ask : Ask) (answer : Answer) (role : Role) → role ≡ old.role → (did : List StoreCall) (failed : Option Failure) (start mid end : History) →
+    OnlyRead start mid → Moved old.store old.failed mid did failed now.store now.failed end → Says old role ask did failed answer (keeping old now) → StepsSafely old ask answer (keeping old now) start end
+steps-as old now ask answer role same did failed start mid end read moved says = record {
   facts = record {
     role = role;
+    role_was = inl same;
+    role_is = subst (λ (r : Role). KeepsRole ask role r) same (role-stays ask role);
     did = did;
     failed = failed;
     makes = says.makes;
@@ -70,6 +77,10 @@ steps old new ask answer role did failed start mid end read moved says = record 
   moments = λ t c early late left. ∥∥₁_elim read ∥∥₁_prop (λ rests. moved.moments.each t c (omega (arith, rests.moment, early)) late left);
   rests = moved.rests;
 }
+
+pub steps : (old now : NodeState) (ask : Ask) (answer : Answer) (did : List StoreCall) (failed : Option Failure) (start mid end : History) →
+    OnlyRead start mid → Moved old.store old.failed mid did failed now.store now.failed end → Says old old.role ask did failed answer (keeping old now) → StepsSafely old ask answer (keeping old now) start end
+steps old now ask answer did failed start mid end read moved says = steps-as old now ask answer old.role refl did failed start mid end read moved says
 
 -- what is to be said of a step without a call
 pub says-none : (old new : NodeState) (role : Role) (ask : Ask) (answer : Answer) → Answers old role ask [] None answer new → LeavesUndone answer [] → (IsPlain old → IsPlain new → Steady old new)
@@ -94,17 +105,20 @@ answer_for (Ok told) = Done
 answer_for (Err why) = Refused Other
 
 -- a step of a primary that makes one call
-module _ (old new : NodeState) (start mid end : History) (read : OnlyRead start mid) (primary : old.role ≡ Primary) (sound : IsSoundNode new) where
+module _ (old now : NodeState) (start mid end : History) (read : OnlyRead start mid) (primary : old.role ≡ Primary) (sound : IsSoundNode (keeping old now)) where
+  abbrev new : NodeState
+  new = keeping old now
+
   some-now : (failure : Failure) → new.failed ≡ broken_by old.failed (Some failure) → IsSome new.failed
   some-now failure is = subst (λ (f : Option Failure). IsSome f) (sym is) (some-broken old.failed failure)
 
   refuses : Moved old.store old.failed mid [] None new.store new.failed end → StepsSafely old File (Refused Other) new start end
-  refuses moved = steps old new File (Refused Other) Primary [] None start mid end read moved (says-none old new Primary File (Refused Other) tt refl (leading old new primary) sound)
+  refuses moved = steps-as old now File (Refused Other) Primary (sym primary) [] None start mid end read moved (says-none old new Primary File (Refused Other) tt refl (leading old new primary) sound)
 
   module _ (call : StoreCall) (makes : Makes old.store Primary old.waits File (call ∷ [])) where
     fails : (failed : Failure) → Makes old.store Primary old.waits File ([] ++ begun_by (Some failed)) → Rose old.faults new.faults → Moved old.store old.failed mid [] (Some failed) new.store new.failed end
         → StepsSafely old File (Refused Other) new start end
-    fails failed begun rose moved = steps old new File (Refused Other) Primary [] (Some failed) start mid end read moved record {
+    fails failed begun rose moved = steps-as old now File (Refused Other) Primary (sym primary) [] (Some failed) start mid end read moved record {
       makes = begun;
       tries = λ same. (call, makes);
       rose = λ some. rose;
@@ -116,7 +130,7 @@ module _ (old new : NodeState) (start mid end : History) (read : OnlyRead start 
 
     pub calls : {T : Type 0} (result : Result T StoreFault) → Went old.store old.failed mid call result new.store new.failed end → (result ≡ Err fault.Disk → Rose old.faults new.faults)
         → StepsSafely old File (answer_for result) new start end
-    calls (Ok told) went rose = steps old new File Done Primary (call ∷ []) None start mid end read went record {
+    calls (Ok told) went rose = steps-as old now File Done Primary (sym primary) (call ∷ []) None start mid end read went record {
       makes = makes;
       tries = λ same. absurd (none_some FailedBefore same);
       rose = λ some. absurd (false_true some);
@@ -137,7 +151,7 @@ module _ (old new : NodeState) (start mid end : History) (read : OnlyRead start 
     module _ (keep : ℕ) (both : Makes old.store Primary old.waits File (call ∷ PruneTo keep ∷ [])) where
       pruned : (failed : Failure) → Makes old.store Primary old.waits File ((call ∷ []) ++ begun_by (Some failed)) → Rose old.faults new.faults
           → Moved old.store old.failed mid (call ∷ []) (Some failed) new.store new.failed end → StepsSafely old File Done new start end
-      pruned failed begun rose moved = steps old new File Done Primary (call ∷ []) (Some failed) start mid end read moved record {
+      pruned failed begun rose moved = steps-as old now File Done Primary (sym primary) (call ∷ []) (Some failed) start mid end read moved record {
         makes = begun;
         tries = λ same. (PruneTo keep, both);
         rose = λ some. rose;
@@ -150,7 +164,7 @@ module _ (old new : NodeState) (start mid end : History) (read : OnlyRead start 
       -- a call and a prune behind it
       pub calls-pruned : {T : Type 0} (result : Result T StoreFault) → WentPruned old.store old.failed mid call keep result new.store new.failed end → (Begins result → IsSome new.failed → Rose old.faults new.faults)
           → (result ≡ Err fault.Disk → Rose old.faults new.faults) → StepsSafely old File (answer_for result) new start end
-      calls-pruned (Ok told) (inl all) broke rose = steps old new File Done Primary (call ∷ PruneTo keep ∷ []) None start mid end read all record {
+      calls-pruned (Ok told) (inl all) broke rose = steps-as old now File Done Primary (sym primary) (call ∷ PruneTo keep ∷ []) None start mid end read all record {
         makes = both;
         tries = λ same. absurd (none_some FailedBefore same);
         rose = λ some. absurd (false_true some);

@@ -15,6 +15,7 @@ pub mod Committed
 pub mod Ledgers
 pub mod Clusters
 pub mod ClusterMoves
+pub mod Bytes
 pub mod Deliveries
 pub mod ClusterNodes
 pub mod Owing

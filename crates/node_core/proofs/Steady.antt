@@ -10,13 +10,13 @@ use Rattle.world_laws.specs.Store.{Failure, MayBeFound, StoreState, at}
 use Rattle.node_core.specs.Nodes.{NodeParts, file_over, frames_of, seen}
 use Rattle.node_core.specs.Safely.{StepsSafely}
 use Rattle.node_core.specs.Stores.{OnlyRead, StoreFields, state}
-use Rattle.node_core.proofs.Facts.{Says, steps}
+use Rattle.node_core.proofs.Facts.{Says, keeping, steps}
 
 -- a step that reads pages at most
 pub steps-still : (old new : NodeState) (ask : Ask) (answer : Answer) (start end : History) → OnlyRead start end → new.store ≡ old.store → new.failed ≡ old.failed
-    → RestsAs (MayBeFound new.store new.failed) end → Says old old.role ask [] None answer new → StepsSafely old ask answer new start end
+    → RestsAs (MayBeFound new.store new.failed) end → Says old old.role ask [] None answer (keeping old new) → StepsSafely old ask answer (keeping old new) start end
 steps-still old new ask answer start end read store failed rests says =
-    steps old new ask answer old.role [] None start end end read
+    steps old new ask answer [] None start end end read
     (subst (λ (s : StoreState). Moved s old.failed end [] None new.store new.failed end) store
     (subst (λ (f : Option Failure). Moved new.store f end [] None new.store new.failed end) failed (moved-none new.store new.failed end rests)))
     says

@@ -1,22 +1,24 @@
 -- A cluster of nodes that run this program, and what may happen in it.
 --
 -- The nodes are the program's own, each over an honest disk. Beside them goes the ledger: all that was committed, sent, accepted
--- and granted, as a world of the laws has it. Nobody writes into it what a step did: the ledger goes along with the calls that
--- the step's own relation tells.
-use Rattle.std.specs.Prelude.{◌≡◌, ◌≢◌, ◌⊎◌, ℕ, ◌≤◌, Bool, IsTrue, List, ◌∷◌, ◌++◌, length, Option, None, Some}
+-- and granted, as a world of the laws has it. Nobody writes into it what a step did: the ledger goes along (world_laws Ledger) with
+-- the calls that the step's own relation tells.
+use Rattle.std.specs.Prelude.{◌≡◌, ◌≢◌, ◌⊎◌, ℕ, ◌≤◌, Bool, IsTrue, List, [], ◌∷◌, Option, None, Some}
+use Rattle.std.proofs.Common.{inl, inr}
 use Rattle.ltx_codec.specs.declared.file.Ltx.{Ltx}
 use Rattle.lf_disk.specs.Folder.{Folder}
 use Rattle.lf_disk.specs.History.{History, may_leave}
 use Rattle.txn_log.specs.Durable.{Durable}
-use Rattle.world_laws.specs.Events.{Leases}
+use Rattle.world_laws.specs.Events.{IsOpened, Leases}
+use Rattle.world_laws.specs.Ledger.{FindsAlong, GoesAlong}
 use Rattle.world_laws.specs.Lineage.{Lineage}
 use Rattle.world_laws.specs.Node as laws
 use Rattle.world_laws.specs.Node.{NodeState}
-use Rattle.world_laws.specs.Premises.{CommitsAsHolder, FindsACandidate, WasSent}
-use Rattle.world_laws.specs.Served.{untouched}
-use Rattle.world_laws.specs.Step.{StepFacts}
-use Rattle.world_laws.specs.Store.{FailedIn, Failure, StoreCall, StoreState, all_done, begun_by}
-use Rattle.world_laws.specs.World.{Act, GrowsAlong, SentFrame, World, accepted_by, acts_along, failing_by, sent_by}
+use Rattle.world_laws.specs.Premises.{CommitsAsHolder}
+use Rattle.world_laws.specs.Step.{calls_of}
+use Rattle.world_laws.specs.StopLaw.{IsCutOff}
+use Rattle.world_laws.specs.Store.{StoreCall, StoreState}
+use Rattle.world_laws.specs.World.{Act, SentFrame, World}
 use Rattle.node_core.specs.declared.answer.Answer.{Answer}
 use Rattle.node_core.specs.declared.ask.Ask.{Ask}
 use Rattle.node_core.specs.Safely.{StepsSafely, law_answer, law_ask}
@@ -31,50 +33,14 @@ pub record Program (M : Type 0) : Type 1 where
   pub tells : {old new : M} {caller : ℕ} {ask : Ask} {answer : Answer} → steps old caller ask answer new → IsTrue (honest old) →
       StepsSafely (seen old) (law_ask ask) (law_answer answer) (seen new) (history old) (history new)
 
--- the ledger goes along with these calls of node k: what `Turns` says, but for the facts of the step
-pub record GoesAlong (w : World) (k : ℕ) (ask : laws.Ask) (did : List StoreCall) (failed : Option Failure) (v : World) : Type 0 where
-  pub comes : WasSent w (w.nodes k).waits ask
-  pub leads : CommitsAsHolder w k (did ++ begun_by failed)
-  pub tree : GrowsAlong w.tree (w.nodes k).store did v.tree
-  pub acts : v.acts ≡ acts_along (length w.granted) k did w.acts
-  pub failing : v.failing k ≡ failing_by (length w.granted) (w.failing k) failed
-  pub others : (other : ℕ) → other ≢ k → v.failing other ≡ w.failing other
-  pub lease : (v.granted ≡ w.granted) × (v.holder ≡ w.holder)
-
--- and with a restart of node k that finds this store: what `Reopens` says, but for the nodes
-pub record FindsAlong (w : World) (k : ℕ) (found : StoreState) (v : World) : Type 0 where
-  pub finds : FindsACandidate w k (w.nodes k).failed found v
-  pub failing : (j : ℕ) → v.failing j ≡ w.failing j
-  pub frames : (v.sent ≡ w.sent) × (v.accepted ≡ w.accepted)
-  pub lease : (v.granted ≡ w.granted) × (v.holder ≡ w.holder)
-
--- one of these calls was cut off, after those in front of it were done: the ledger goes along with them as if that one had
--- failed, and then with the restart
-pub record IsCutOff (w : World) (k : ℕ) (ask : laws.Ask) (calls : List StoreCall) (found : StoreState) (v : World) : Type 0 where
-  pub front : List StoreCall
-  pub call : StoreCall
-  pub rest : List StoreCall
-  pub split : calls ≡ front ++ call ∷ rest
-  pub mid : World
-  pub broken : ((mid.nodes k).store ≡ all_done (w.nodes k).store front) × ((mid.nodes k).failed ≡ Some (FailedIn call))
-  pub along : GoesAlong w k ask front (Some (FailedIn call)) mid
-  pub frames : (mid.sent ≡ w.sent) × (mid.accepted ≡ w.accepted)
-  pub finds : FindsAlong mid k found v
-
--- a node was opened on a store: it is whole, nothing waits, and nobody has used its files
-pub record IsOpened (found : StoreState) (node : NodeState) : Type 0 where
-  pub store : node.store ≡ found
-  pub whole : node.failed ≡ None
-  pub waits : node.waits ≡ None
-  pub served : node.served ≡ untouched found.image
+-- the calls of its step that a stop had come to
+abbrev pub begun_in : {w v : World} {k : ℕ} {ask : laws.Ask} {calls : List StoreCall} {found : StoreState} → FindsAlong w k found v ⊎ IsCutOff w k ask calls found v → List StoreCall
+begun_in (inl before) = []
+begun_in (inr cut) = calls_of cut.fails.facts
 
 -- it was opened on a folder: on each store that the folder stands for
 abbrev pub IsOpenedOn : Folder → NodeState → Type 0
 IsOpenedOn folder node = (left : StoreState) → Durable folder left → IsOpened left node
-
--- the calls that a step made, with the one that failed
-abbrev pub calls_of : {old new : NodeState} {ask : laws.Ask} {answer : laws.Answer} → StepFacts old ask answer new → List StoreCall
-calls_of facts = facts.did ++ begun_by facts.failed
 
 -- the nodes, whose disks are honest, and the ledger (`World` says what each part of it is)
 pub record Cluster {M : Type 0} (p : Program M) : Type 0 where
@@ -106,12 +72,11 @@ module _ {M : Type 0} (p : Program M) where
   abbrev pub OthersAre : ℕ → Cluster p → Cluster p → Type 0
   OthersAre k c d = (other : ℕ) → other ≢ k → d.nodes other ≡ c.nodes other
 
-  -- node k takes a step, and what it answers is sent. A delivery is a step that asks for a frame, and a loss is one that never comes
+  -- node k takes a step, and the ledger goes along with the calls that this step tells and with its answer. A delivery is a step
+  -- that asks for a frame, and a loss is one that never comes
   pub record TakesStep (c : Cluster p) (k caller : ℕ) (ask : Ask) (answer : Answer) (d : Cluster p) : Type 0 where
     pub step : p.steps (c.nodes k) caller ask answer (d.nodes k)
-    pub along : GoesAlong (world c) k (law_ask ask) (p.tells step (c.disks k)).facts.did (p.tells step (c.disks k)).facts.failed (world d)
-    pub sent : d.sent ≡ c.sent ++ sent_by (law_ask ask) (law_answer answer)
-    pub accepted : d.accepted ≡ c.accepted ++ accepted_by (law_ask ask) (law_answer answer)
+    pub along : GoesAlong (world c) k (law_ask ask) (law_answer answer) (p.tells step (c.disks k)).facts.did (p.tells step (c.disks k)).facts.failed (world d)
     pub others : OthersAre k c d
 
   -- node k is opened anew on this folder, which stands for this store
@@ -162,7 +127,21 @@ module _ {M : Type 0} (p : Program M) where
     renews : LeasesAre c c.granted c.holder d → Move c d
     loses : LeasesAre c c.granted None d → Move c d
 
+  -- a move leads: what a node commits in it, it commits as the holder of the lease
+  abbrev pub Leads : {c d : Cluster p} → Move c d → Type 0
+  Leads {c = c} (takes_step {k = k} x) = CommitsAsHolder (world c) k (calls_of (p.tells x.step (c.disks k)).facts)
+  Leads {c = c} (stops {k = k} x) = CommitsAsHolder (world c) k (begun_in x.ledger)
+  Leads (restarts x) = Unit {0}
+  Leads (grants k x) = Unit {0}
+  Leads (renews x) = Unit {0}
+  Leads (loses x) = Unit {0}
+
   -- a list of moves, one after another
   pub data Moves : Cluster p → Cluster p → Type 0 where
     none : {c : Cluster p} → Moves c c
     more : {c d e : Cluster p} → Move c d → Moves d e → Moves c e
+
+  -- each of which leads
+  abbrev pub AreLed : {c d : Cluster p} → Moves c d → Type 0
+  AreLed none = Unit {0}
+  AreLed (more move moves) = Leads move × AreLed moves

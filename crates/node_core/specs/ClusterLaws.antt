@@ -1,31 +1,34 @@
 -- THE LAWS OF A CLUSTER of nodes that run this program.
 --
--- Their premises are those of world_laws, by name: `CommitsAsHolder` and `WasSent` in what goes along with a step,
--- `OneImagePerPosition` here, and of the third that a disk is honest; what a restart may find is proved.
+-- Their premises are those of world_laws, by name: `WasSent` in what goes along with a step, `OneImagePerPosition` here,
+-- and of the third that a disk is honest; what a restart may find is proved. `CommitsAsHolder` is a premise of led moves
+-- alone (`AreLed`), and so of what is said of terms.
 use Rattle.std.specs.Prelude.{◌≡◌, ◌≢◌, ◌⊎◌, ℕ, false, IsTrue, List, [], ◌∷◌, None}
 use Rattle.byte_locks.specs.declared.owner.Owner.{Owner}
 use Rattle.lf_base.specs.declared.pos.Pos.{Pos}
 use Rattle.lf_disk.specs.declared.disk.Disk.{Ghosts}
 use Rattle.lf_disk.specs.Folder.{Folder}
 use Rattle.lf_disk.specs.History.{may_leave}
-use Rattle.lf_sqlite_pages.specs.Image.{IsImage, SameImage}
+use Rattle.lf_sqlite_pages.specs.Image.{IsImage, SameImage, image_bytes}
 use Rattle.ltx_codec.specs.declared.file.Ltx.{Ltx}
 use Rattle.ltx_codec.specs.Positions.{after, before, nowhere}
 use Rattle.txn_log.specs.Durable.{Durable}
 use Rattle.world_laws.specs.Answers.{Knows, snapshot_of}
 use Rattle.world_laws.specs.CatchUpLaw.{IsFreeRefusal, IsHeldBack, IsWhole}
+use Rattle.world_laws.specs.Events as events
 use Rattle.world_laws.specs.Events.{Event, IsStart, Runs}
 use Rattle.world_laws.specs.Node as laws
 use Rattle.world_laws.specs.Premises.{CommitsAsHolder, OneImagePerPosition, WasSent}
 use Rattle.world_laws.specs.ReaderLaw.{IsRead}
 use Rattle.world_laws.specs.Safe.{IsSafe}
-use Rattle.world_laws.specs.SafetyLaw.{IsKept}
+use Rattle.world_laws.specs.SafetyLaw.{IsKept, IsKeptLed}
 use Rattle.world_laws.specs.Served.{over}
-use Rattle.world_laws.specs.Step.{Steady}
+use Rattle.world_laws.specs.Step.{Steady, calls_of}
 use Rattle.world_laws.specs.Store.{StoreState, at}
 use Rattle.node_core.specs.declared.answer.Answer.{Answer}
 use Rattle.node_core.specs.declared.ask.Ask.{Ask}
-use Rattle.node_core.specs.Cluster.{Cluster, IsLeftBetween, IsOpenedOn, Moves, Program, Restarts, Stops, TakesStep, calls_of, world}
+use Rattle.node_core.specs.Cluster.{AreLed, Cluster, IsLeftBetween, IsOpenedOn, Leads, Moves, Program, Restarts, Stops, TakesStep, stops, takes_step, world}
+use Rattle.node_core.specs.Bytes.{GivesBytes}
 use Rattle.node_core.specs.declared.config.NodeConfig.{NodeConfig}
 use Rattle.node_core.specs.declared.node.Node.{Node}
 use Rattle.node_core.specs.Nodes.{history, parts_of, seen}
@@ -34,29 +37,35 @@ use Rattle.node_core.specs.Safely.{StepsSafely, law_answer, law_ask}
 use Rattle.node_core.specs.Stores.{fields_of, state}
 
 module _ {M : Type 0} (p : Program M) where
-  -- a list of moves is a list of events of the laws
+  -- a list of moves is a list of events of the laws, which is led where the moves are
   abbrev pub MovesAreEvents : Type 0
-  MovesAreEvents = (c d : Cluster p) → Moves p c d → (events : List Event) × Runs (world p c) events (world p d)
+  MovesAreEvents = (c d : Cluster p) → (moves : Moves p c d) → (es : List Event) × (runs : Runs (world p c) es (world p d)) × (AreLed p moves → events.AreLed runs)
 
   -- after every list of moves from nodes with empty disks, the invariant holds: each node's committed pages are those of every
-  -- lineage that its position names
+  -- lineage that its position names, whoever commits
   abbrev pub ClusterIsKept : Type 0
   ClusterIsKept = (c d : Cluster p) → IsStart (world p c) → Moves p c d → OneImagePerPosition d.tree →
       IsKept (world p d)
 
-  -- every step of a node is a move, where what is delivered was sent and what is committed is the holder's
+  -- and after every list of moves that lead, only a term's holder has committed in it, and the commits of a term are one line
+  abbrev pub ClusterIsLed : Type 0
+  ClusterIsLed = (c d : Cluster p) → IsStart (world p c) → (moves : Moves p c d) → AreLed p moves → OneImagePerPosition d.tree →
+      IsKeptLed (world p d)
+
+  -- every step of a node is a move, where what is delivered was sent. It leads where what is committed is the holder's
   abbrev pub StepsAreMoves : Type 0
   StepsAreMoves = (c : Cluster p) (k caller : ℕ) (ask : Ask) (answer : Answer) (new : M) → IsSafe (world p c) → (step : p.steps (c.nodes k) caller ask answer new) →
-      WasSent (world p c) (p.seen (c.nodes k)).waits (law_ask ask) → CommitsAsHolder (world p c) k (calls_of (p.tells step (c.disks k)).facts) →
-      (d : Cluster p) × (d.nodes k ≡ new) × TakesStep p c k caller ask answer d
+      WasSent (world p c) (p.seen (c.nodes k)).waits (law_ask ask) →
+      (d : Cluster p) × (d.nodes k ≡ new) × (taken : TakesStep p c k caller ask answer d)
+      × (CommitsAsHolder (world p c) k (calls_of (p.tells step (c.disks k)).facts) → Leads p (takes_step taken))
 
   -- wherever a node may take a step, a stop at any of its moments is a move, whatever folder the crash leaves and whatever node is
-  -- opened on it
+  -- opened on it. It leads where the step does
   abbrev pub StopsAreMoves : Type 0
   StopsAreMoves = (c e : Cluster p) (k caller : ℕ) (ask : Ask) (answer : Answer) → IsSafe (world p c) → OneImagePerPosition e.tree →
-      TakesStep p c k caller ask answer e →
+      (taken : TakesStep p c k caller ask answer e) →
       (folder : Folder) → IsLeftBetween p (c.nodes k) (e.nodes k) folder → (new : M) → IsTrue (p.honest new) → IsOpenedOn folder (p.seen new) →
-      ∥ ((d : Cluster p) × (d.nodes k ≡ new) × Stops p c k d) ∥₁
+      ∥ ((d : Cluster p) × (d.nodes k ≡ new) × (stopped : Stops p c k d) × (Leads p (takes_step taken) → Leads p (stops stopped))) ∥₁
 
   -- and so is a stop between two steps
   abbrev pub RestartsAreMoves : Type 0
@@ -68,25 +77,33 @@ module _ {M : Type 0} (p : Program M) where
     rests : {n : M} → IsRead (p.seen n) owner → ReadsOn owner n n
     goes_on : {n m u : M} {caller : ℕ} {ask : Ask} {answer : Answer} → IsRead (p.seen n) owner → p.steps n caller ask answer m → ReadsOn owner m u → ReadsOn owner n u
 
-  -- meanwhile position, image, database file and committed frames stay, and file and frames together are the committed image
-  abbrev pub ReaderIsSteady : Type 0
-  ReaderIsSteady = (owner : Owner) (old new : M) → IsTrue (p.honest old) → ReadsOn owner old new →
-      Steady (p.seen old) (p.seen new) × SameImage (over (p.seen new).served.file (p.seen new).served.frames) (p.seen new).store.image
+  -- each READ of the database file in these steps that is answered with bytes gives these contents at its place
+  abbrev pub EachReadGives : {owner : Owner} {old new : M} → List ℕ → ReadsOn owner old new → Type 0
+  EachReadGives contents (rests is) = Unit {0}
+  EachReadGives contents (goes_on {ask = ask} {answer = answer} is step rest) = GivesBytes contents ask answer × EachReadGives contents rest
 
-  -- a primary answers a position that its log lacks by one snapshot, or by word of the drop
+  -- meanwhile position, image, database file and committed frames stay, and file and frames together are the committed image. Each READ
+  -- gives the served file's bytes, and where the log has no committed frame those of the committed image
+  abbrev pub ReaderIsSteady : Type 0
+  ReaderIsSteady = (owner : Owner) (old new : M) → IsTrue (p.honest old) → (reads : ReadsOn owner old new) →
+      Steady (p.seen old) (p.seen new) × SameImage (over (p.seen new).served.file (p.seen new).served.frames) (p.seen new).store.image
+      × EachReadGives (image_bytes (p.seen new).served.file) reads
+      × ((p.seen new).served.frames ≡ None → EachReadGives (image_bytes (p.seen new).store.image) reads)
+
+  -- a node that is primary once the step is done answers a position that its log lacks by one snapshot, or by word of the drop
   abbrev pub StepAnswersByWhole : Type 0
   StepAnswersByWhole = (old new : M) (caller : ℕ) (ask : Ask) (answer : Answer) (position : Pos) → law_ask ask ≡ laws.Hello position →
-      (disk : IsTrue (p.honest old)) → (step : p.steps old caller ask answer new) → (p.tells step disk).facts.role ≡ laws.Primary → (Knows (p.seen old).store position → ⊥) →
+      IsTrue (p.honest old) → p.steps old caller ask answer new → (p.seen new).role ≡ laws.Primary → (Knows (p.seen old).store position → ⊥) →
       IsWhole (p.seen old).store (law_answer answer) ⊎ IsFreeRefusal (p.seen old) (p.seen new) (law_answer answer)
 
-  -- a delivery of this frame to a node of the cluster that isn't primary
+  -- a delivery of this frame to a node of the cluster that isn't primary once the step is done
   pub record Delivers (c : Cluster p) (k : ℕ) (frame : laws.Ask) (answer : Answer) (d : Cluster p) : Type 0 where
     pub safe : IsSafe (world p c)
     pub caller : ℕ
     pub ask : Ask
     pub asks : law_ask ask ≡ frame
     pub takes : TakesStep p c k caller ask answer d
-    pub role : (p.tells takes.step (c.disks k)).facts.role ≢ laws.Primary
+    pub role : (p.seen (d.nodes k)).role ≢ laws.Primary
 
   -- it is held back by a lock that somebody holds, or refused for the disk, a broken store or want of memory
   abbrev pub IsWaiting : M → M → Answer → Type 0
@@ -132,6 +149,12 @@ module _ {D : Type 0} {G : Ghosts D} where
   abbrev pub RecoveredIsOpened : Program (Node D G) → Type 0
   RecoveredIsOpened p = (n : Node D G) (config : NodeConfig) (folder : Folder) → p.seen n ≡ seen_opened (history n) (fields_of n.store) config → n.store.broken ≡ false →
       ((left : StoreState) → Durable folder left → state (history n) (fields_of n.store) ≡ left) → IsOpenedOn folder (p.seen n)
+
+-- a recovery that is stopped is a restart: at each of its moments a crash leaves a folder that stands for each store for which the one
+-- stood that it began on (node_recovery's `recover`, moments and gone), and a node that is opened on that is opened on the first
+abbrev pub InterruptedIsRestart : {M : Type 0} → Program M → Type 0
+InterruptedIsRestart {M = M} p = (n : M) (first again : Folder) → ((left : StoreState) → Durable first left → Durable again left) →
+    IsOpenedOn again (p.seen n) → IsOpenedOn first (p.seen n)
 
 -- nodes that were each opened on a folder without files, and a ledger of nothing
 pub record IsBegun {M : Type 0} {p : Program M} (c : Cluster p) : Type 0 where

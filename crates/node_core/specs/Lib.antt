@@ -18,4 +18,5 @@ pub mod Steps
 pub mod Opening
 pub mod Runs
 pub mod Cluster
+pub mod Bytes
 pub mod ClusterLaws

@@ -1,5 +1,5 @@
 //! Laws of clusters of these nodes, each the contract of a function that calls other laws at most.
-ghost use Rattle.node_core.specs.ClusterLaws.{BegunIsStart, ClusterIsKept, DeliveredDropInstalls, DeliveredFileApplies, DeliveredSnapshotInstalls, MovesAreEvents, ReaderIsSteady, RecoveredIsOpened, RestartsAreMoves, StepAnswersByWhole, StepsAreMoves, StopsAreMoves, program};
+ghost use Rattle.node_core.specs.ClusterLaws.{BegunIsStart, ClusterIsKept, ClusterIsLed, DeliveredDropInstalls, DeliveredFileApplies, DeliveredSnapshotInstalls, InterruptedIsRestart, MovesAreEvents, ReaderIsSteady, RecoveredIsOpened, RestartsAreMoves, StepAnswersByWhole, StepsAreMoves, StopsAreMoves, program};
 
 use crate::node::Node;
 use lf_disk::Disk;
@@ -7,11 +7,13 @@ use turn_desk::Machine;
 use world_laws::{answer_installs, reader_steady, safe_kept, stops_are_failures};
 
 /// After every list of steps, deliveries, losses, lease changes, stops and restarts of nodes over any
-/// honest disks, each node's committed pages are those of the lineage that its position names. A stop
-/// at any moment of a step is among them, whatever the crash leaves, and so is one between two steps.
+/// honest disks, each node's committed pages are those of the lineage that its position names, whoever
+/// commits. A stop at any moment of a step is among them, whatever the crash leaves, and so is one between
+/// two steps. Where each commits as the holder of the lease, the commits of a term are one line.
 pub fn cluster_is_safe<D: Disk>()
     ensures events { MovesAreEvents (program ⟦<Node<D> as Machine>⟧.steps (λ old new caller ask answer step. step.safe)) }
     ensures kept { ClusterIsKept (program ⟦<Node<D> as Machine>⟧.steps (λ old new caller ask answer step. step.safe)) }
+    ensures led { ClusterIsLed (program ⟦<Node<D> as Machine>⟧.steps (λ old new caller ask answer step. step.safe)) }
     ensures steps { StepsAreMoves (program ⟦<Node<D> as Machine>⟧.steps (λ old new caller ask answer step. step.safe)) }
     ensures stops { StopsAreMoves (program ⟦<Node<D> as Machine>⟧.steps (λ old new caller ask answer step. step.safe)) }
     ensures restarts { RestartsAreMoves (program ⟦<Node<D> as Machine>⟧.steps (λ old new caller ask answer step. step.safe)) }
@@ -21,9 +23,11 @@ pub fn cluster_is_safe<D: Disk>()
 }
 
 /// A node that was opened over a store that was recovered from a folder is one that was opened on this
-/// folder; and nodes that were opened on folders without files are a start.
+/// folder, also where a recovery before it was stopped on its way; and nodes that were opened on folders
+/// without files are a start.
 pub fn cluster_opens<D: Disk>()
     ensures node { RecoveredIsOpened (program ⟦<Node<D> as Machine>⟧.steps (λ old new caller ask answer step. step.safe)) }
+    ensures interrupted { InterruptedIsRestart (program ⟦<Node<D> as Machine>⟧.steps (λ old new caller ask answer step. step.safe)) }
     ensures start { BegunIsStart (program ⟦<Node<D> as Machine>⟧.steps (λ old new caller ask answer step. step.safe)) }
 {}
 

@@ -37,6 +37,7 @@ pub record IsFirst (file : Ltx) : Type 0 where
 pub record IsSecond (first file : Ltx) : Type 0 where
   pub sound : IsFile file
   pub joins : Joins (apply empty_image first.change) (after first) file
+  pub every : HoldsEveryPage file.change
   pub min : file.header.min ≡ 2
   pub max : file.header.max ≡ 2
 
@@ -146,6 +147,7 @@ second-is old page was is = record {
     fits = inl refl;
     sum = sym (image_sum-whole (apply empty_image (one_page old)) (one_page page) (is-one_change page is) (holds-one page));
   };
+  every = holds-one page;
   min = refl;
   max = refl;
 }

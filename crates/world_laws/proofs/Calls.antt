@@ -10,8 +10,8 @@ use Rattle.ltx_codec.specs.Format.{IsFile}
 use Rattle.ltx_codec.specs.declared.file.Ltx.{Ltx}
 use Rattle.ltx_codec.specs.Positions.{Joins, after, before, sum_after}
 use Rattle.ltx_codec.specs.Sums.{image_sum}
-use Rattle.world_laws.specs.Answers.{Owes, by_file, by_snapshot, snapshot_of}
-use Rattle.world_laws.specs.Lineage.{IsCommitted, IsOfTree, Lineage, Names, Suits, image_of, position_of}
+use Rattle.world_laws.specs.Answers.{Owes, by_file, by_snapshot, completed_over, snapshot_of}
+use Rattle.world_laws.specs.Lineage.{IsAccepted, IsCommitted, IsOfTree, Lineage, Names, Suits, image_of, position_of}
 use Rattle.world_laws.specs.Premises.{OneImagePerPosition}
 use Rattle.world_laws.specs.Safe.{IsAllowed, IsSendable, TakesOfTree}
 use Rattle.world_laws.specs.Store.{Apply, CanDo, CanDoAll, Commit, DropAll, Install, LeadTo, PruneTo, StoreCall, StoreState, all_done, at, done, end_of, installed, with_file, without_front}
@@ -144,6 +144,12 @@ commit-leads tree store file one allowed can line stands position =
     let sum : image_sum (apply (image_of line) file.change) ≡ file.post = ap image_sum (apply-same (image_of line) store.image file.change image) ∙ can.1.sum in
     position_of-push line file.change ∙ pos_of_parts (record { txid = length line + 1; sum = image_sum (apply (image_of line) file.change) }) (after file) txid sum
 
+-- the lineage that a commit goes on from has the store's pages
+pub grown-image : (tree more : List Lineage) (store : StoreState) (file : Ltx) → OneImagePerPosition tree → IsAllowed tree store → (grown : Grown tree store file more) →
+    SameImage (image_of grown.lineage) store.image
+grown-image tree more store file one allowed grown =
+    one grown.lineage allowed.named.lineage grown.stands allowed.named.stands (grown.position_is ∙ sym allowed.named.position_is) ∙ allowed.named.image_is
+
 -- the file of a commit is a transaction of the tree that the commit grows
 pub commit-committed : (tree more : List Lineage) (store : StoreState) (file : Ltx) → OneImagePerPosition tree → IsAllowed tree store → CanDo store (Commit file) →
     Grown tree store file more → IsCommitted more file
@@ -159,6 +165,16 @@ commit-committed tree more store file one allowed can grown =
       after_at = commit-leads tree store file one allowed can line grown.stands grown.position_is;
       suits = subst (λ (pages : List (List ℕ)). Suits pages file.change) (sym image) (suits-of store.image file.change allowed.image can.1.fits);
     }
+
+-- and so is that of a forwarded file, made complete over the store
+pub commit-accepted : (tree more : List Lineage) (store : StoreState) (file : Ltx) → OneImagePerPosition tree → IsAllowed tree store → CanDo store (Commit (completed_over store file)) →
+    Grown tree store (completed_over store file) more → IsAccepted more file
+unfolding commit-committed
+commit-accepted tree more store file one allowed can grown = record {
+  count = length store.image.pages;
+  is = commit-committed tree more store (completed_over store file) one allowed can grown;
+  over = ap length (sym (grown-image tree more store (completed_over store file) one allowed grown));
+}
 
 pub Allowed-done : (tree more : List Lineage) (store : StoreState) (call : StoreCall) → OneImagePerPosition more → Contains tree [] → IsAllowed tree store → CanDo store call →
     TakesOfTree tree call → GrowsBy tree store call more → IsAllowed more (done store call)

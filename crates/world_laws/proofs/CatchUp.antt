@@ -42,7 +42,7 @@ answered old new role position (Refused NoMemory) answers primary lacks = inr (i
 answered old new role position other answers primary lacks = absurd answers
 
 pub answers_by_whole-of : AnswersByWhole
-answers_by_whole-of old new position answer facts primary lacks = answered old new facts.role position answer facts.answers primary lacks
+answers_by_whole-of old new position answer facts primary lacks = answered old new facts.role position answer facts.answers (facts.role_is ∙ primary) lacks
 
 -- the call that a snapshot asks for, and what it makes
 pub snapshot-call : (old from : StoreState) → call_of old (snapshot_of from) ≡ Install (snapshot_of from)
@@ -93,7 +93,7 @@ frame-answered old new role from did failed other tree may valid not_primary sto
 
 pub snapshot_installs-of : SnapshotInstalls
 snapshot_installs-of w v k from answer safe valid turn not_primary =
-    frame-answered (w.nodes k) (v.nodes k) turn.facts.role from turn.facts.did turn.facts.failed answer w.tree (safe.sent (snapshot_of from) turn.comes) valid not_primary turn.facts.store
+    frame-answered (w.nodes k) (v.nodes k) turn.facts.role from turn.facts.did turn.facts.failed answer w.tree (safe.sent (snapshot_of from) turn.along.comes) valid (λ primary. not_primary (sym turn.facts.role_is ∙ primary)) turn.facts.store
     turn.facts.rose turn.facts.refused turn.facts.answers
 
 -- a store at transaction 0 is blank: a file of a log is at one at least
@@ -127,7 +127,7 @@ drop-answered old new role did failed other tree allowed not_primary store rose 
 
 pub drop_installs-of : DropInstalls
 drop_installs-of w v k answer safe turn not_primary =
-    drop-answered (w.nodes k) (v.nodes k) turn.facts.role turn.facts.did turn.facts.failed answer w.tree (safe.nodes k).allowed not_primary turn.facts.store
+    drop-answered (w.nodes k) (v.nodes k) turn.facts.role turn.facts.did turn.facts.failed answer w.tree (safe.nodes k).allowed (λ primary. not_primary (sym turn.facts.role_is ∙ primary)) turn.facts.store
     turn.facts.rose turn.facts.refused turn.facts.answers
 
 -- what a store whose position is named asks of a file of the tree that follows it
@@ -175,6 +175,6 @@ sent-answered old new role file did failed other tree may not_primary joins stor
 
 pub sent_file_applies-of : SentFileApplies
 sent_file_applies-of w v k file answer safe one turn not_primary follows =
-    let may : IsSendable w.tree file = safe.sent file turn.comes in
-    sent-answered (w.nodes k) (v.nodes k) turn.facts.role file turn.facts.did turn.facts.failed answer w.tree may not_primary (joins-of_tree w k file safe one may follows) turn.facts.store
+    let may : IsSendable w.tree file = safe.sent file turn.along.comes in
+    sent-answered (w.nodes k) (v.nodes k) turn.facts.role file turn.facts.did turn.facts.failed answer w.tree may (λ primary. not_primary (sym turn.facts.role_is ∙ primary)) (joins-of_tree w k file safe one may follows) turn.facts.store
     turn.facts.rose turn.facts.refused turn.facts.answers

@@ -1,20 +1,21 @@
 -- Forwarded commits.
-use Rattle.std.proofs.Common.{◌≡◌, ◌≢◌, ◌⊎◌, ℕ, Bool, true, List, [], ◌∷◌, ◌++◌, Option, None, inl, inr, refl, sym, ap, subst, ◌∙◌, arith}
+use Rattle.std.proofs.Common.{◌≡◌, ◌≢◌, ◌⊎◌, ℕ, Bool, true, List, [], ◌∷◌, ◌++◌, length, Option, None, inl, inr, refl, sym, ap, subst, ◌∙◌, arith}
 use Rattle.std.specs.List.{Contains}
 use Rattle.std.proofs.lemmas.List.Elements.{Contains-append_cases, Contains-push_cases}
 use Rattle.lf_base.specs.declared.pos.Pos.{Pos}
 use Rattle.ltx_codec.specs.declared.file.Ltx.{Ltx}
 use Rattle.ltx_codec.specs.Positions.{after, before}
-use Rattle.world_laws.specs.Answers.{AnswersForwarded, LeavesUndone}
+use Rattle.lf_sqlite_pages.specs.Complete.{completed}
+use Rattle.world_laws.specs.Answers.{AnswersForwarded, LeavesUndone, completed_over}
 use Rattle.world_laws.specs.Events.{Event, Grants, Happens, IsStart, Loses, Opens, Renews, Runs, Steps, Turns, ends, goes}
 use Rattle.world_laws.specs.ForwardLaw.{ForwardedStands, LeavesFiles, RefusalLeaves, SendLeaves, WasAccepted}
-use Rattle.world_laws.specs.Lineage.{Lineage, position_of}
+use Rattle.world_laws.specs.Lineage.{Lineage, gone_on, position_of}
 use Rattle.world_laws.specs.Node.{Answer, Applied, Ask, Done, Forward, Forwarded, NodeState, Refused, Role}
 use Rattle.world_laws.specs.Premises.{OneImagePerPosition}
 use Rattle.world_laws.specs.Safe.{IsAllowed, IsSafe}
 use Rattle.world_laws.specs.Store.{CanDoAll, Commit, Failure, StoreCall, StoreState, all_done, at, begun_by}
 use Rattle.world_laws.specs.World.{Grown, GrowsAlong, World, accepted_by}
-use Rattle.world_laws.proofs.Calls.{CanDoAll-split, Grown-new, GrowsAlong-extends, commit-leads}
+use Rattle.world_laws.proofs.Calls.{CanDoAll-split, Grown-new, GrowsAlong-extends, commit-leads, grown-image}
 use Rattle.world_laws.proofs.Lineages.{One-fewer}
 use Rattle.world_laws.proofs.Stores.{end_of-push}
 use Rattle.world_laws.proofs.Whole.{event-extends, event-safe, images-are, one-before, run-safe, runs-extends, start-safe}
@@ -23,21 +24,24 @@ use Rattle.world_laws.proofs.Whole.{event-extends, event-safe, images-are, one-b
 record AcceptedHere (tree grown : List Lineage) (file : Ltx) : Type 0 where
   pub lineage : Lineage
   pub stood : Contains tree lineage
-  pub stands : Contains grown (lineage ++ file.change ∷ [])
-  pub position_is : position_of (lineage ++ file.change ∷ []) ≡ after file
+  pub stands : Contains grown (gone_on lineage file)
+  pub position_is : position_of (gone_on lineage file) ≡ after file
 
 accepted_here : (tree grown : List Lineage) (store : StoreState) (file : Ltx) (did : List StoreCall) → OneImagePerPosition grown → IsAllowed tree store → CanDoAll store did →
-    GrowsAlong tree store did grown → did ≡ Commit file ∷ [] → AcceptedHere tree grown file
+    GrowsAlong tree store did grown → did ≡ Commit (completed_over store file) ∷ [] → AcceptedHere tree grown file
 accepted_here tree grown store file did one allowed can grows is =
-    let can_one : CanDoAll store (Commit file ∷ []) = subst (λ (ds : List StoreCall). CanDoAll store ds) is can in
-    let grows_one : GrowsAlong tree store (Commit file ∷ []) grown = subst (λ (ds : List StoreCall). GrowsAlong tree store ds grown) is grows in
-    let one_tree : OneImagePerPosition tree = One-fewer tree grown (GrowsAlong-extends tree store (Commit file ∷ []) grown grows_one) one in
-    let more : Grown tree store file grows_one.0 = grows_one.1 in
+    let whole : Ltx = completed_over store file in
+    let can_one : CanDoAll store (Commit whole ∷ []) = subst (λ (ds : List StoreCall). CanDoAll store ds) is can in
+    let grows_one : GrowsAlong tree store (Commit whole ∷ []) grown = subst (λ (ds : List StoreCall). GrowsAlong tree store ds grown) is grows in
+    let one_tree : OneImagePerPosition tree = One-fewer tree grown (GrowsAlong-extends tree store (Commit whole ∷ []) grown grows_one) one in
+    let more : Grown tree store whole grows_one.0 = grows_one.1 in
+    let same : more.lineage ++ whole.change ∷ [] ≡ gone_on more.lineage file =
+    ap (λ (pages : List (List ℕ)). more.lineage ++ completed file.change (length pages) ∷ []) (sym (grown-image tree grows_one.0 store whole one_tree allowed more)) in
     record {
       lineage = more.lineage;
       stood = more.stands;
-      stands = subst (λ (t : List Lineage). Contains t (more.lineage ++ file.change ∷ [])) (sym grows_one.2) (Grown-new tree store file grows_one.0 more);
-      position_is = commit-leads tree store file one_tree allowed can_one.0 more.lineage more.stands more.position_is;
+      stands = subst (λ (t : List Lineage). Contains t (gone_on more.lineage file)) (sym grows_one.2) (subst (λ (l : Lineage). Contains grows_one.0 l) same (Grown-new tree store whole grows_one.0 more));
+      position_is = subst (λ (l : Lineage). position_of l ≡ after file) same (commit-leads tree store whole one_tree allowed can_one.0 more.lineage more.stands more.position_is);
     }
 
 -- the step that accepted a file, in the run up to it
@@ -46,7 +50,7 @@ accepting w v k file position one safe turn =
     let facts = turn.facts in
     let old : NodeState = w.nodes k in
     let can = CanDoAll-split old.store facts.did (begun_by facts.failed) facts.can in
-    let of = accepted_here w.tree v.tree old.store file facts.did one (safe.nodes k).allowed can.0 turn.tree facts.answers.0 in
+    let of = accepted_here w.tree v.tree old.store file facts.did one (safe.nodes k).allowed can.0 turn.along.tree facts.answers.0 in
     record {
       early = [];
       late = [];
@@ -61,7 +65,7 @@ accepting w v k file position one safe turn =
       stood = of.stood;
       stands = of.stands;
       position_is = of.position_is;
-      here = ap (λ (s : StoreState). at s) (facts.store ∙ ap (λ (ds : List StoreCall). all_done old.store ds) facts.answers.0) ∙ end_of-push old.store.log file;
+      here = ap (λ (s : StoreState). at s) (facts.store ∙ ap (λ (ds : List StoreCall). all_done old.store ds) facts.answers.0) ∙ end_of-push old.store.log (completed_over old.store file);
     }
 
 -- an event before, or one after
@@ -118,11 +122,11 @@ step-accepts w v k ask answer file one safe turn here = absurd (omega (arith, he
 event-accepts : (w v : World) (event : Event) (file : Ltx) → OneImagePerPosition v.tree → IsSafe w → Happens w event v → Contains v.accepted file →
     Contains w.accepted file ⊎ WasAccepted w v file
 event-accepts w v (Steps k ask answer) file one safe happens here =
-    elim (Contains-append_cases w.accepted (accepted_by ask answer) file (subst (λ (a : List Ltx). Contains a file) happens.accepted here)) [
+    elim (Contains-append_cases w.accepted (accepted_by ask answer) file (subst (λ (a : List Ltx). Contains a file) happens.along.accepted here)) [
       | inl before ↦ inl before
       | inr now ↦ inr (step-accepts w v k ask answer file one safe happens now)
     ]
-event-accepts w v (Opens k found) file one safe happens here = inl (subst (λ (a : List Ltx). Contains a file) happens.frames.1 here)
+event-accepts w v (Opens k found) file one safe happens here = inl (subst (λ (a : List Ltx). Contains a file) happens.along.frames.1 here)
 event-accepts w v (Grants k) file one safe happens here = inl (subst (λ (a : List Ltx). Contains a file) happens.frames.1 here)
 event-accepts w v Renews file one safe happens here = inl (subst (λ (a : List Ltx). Contains a file) happens.frames.1 here)
 event-accepts w v Loses file one safe happens here = inl (subst (λ (a : List Ltx). Contains a file) happens.frames.1 here)
@@ -154,9 +158,9 @@ forwarded-of w v u events k start runs happens one =
     let after_safe : IsSafe u = event-safe v u (Steps k (Forwarded true) Done) one safe happens in
     let told = happens.facts.answers in
     let file : Ltx = told.0 in
-    let was : WasAccepted w v file = was_accepted w v events file start runs before_one (happens.comes file told.1) in
-    let stands : Contains u.tree (was.lineage ++ file.change ∷ []) =
-    event-extends v u (Steps k (Forwarded true) Done) happens (was.lineage ++ file.change ∷ []) (runs-extends was.since (was.lineage ++ file.change ∷ []) was.stands)
+    let was : WasAccepted w v file = was_accepted w v events file start runs before_one (happens.along.comes file told.1) in
+    let stands : Contains u.tree (gone_on was.lineage file) =
+    event-extends v u (Steps k (Forwarded true) Done) happens (gone_on was.lineage file) (runs-extends was.since (gone_on was.lineage file) was.stands)
     in (
       file,
       told.1,
@@ -165,7 +169,7 @@ forwarded-of w v u events k start runs happens one =
         record {
           stands = stands;
           here = told.2;
-          image = images-are u one after_safe k (was.lineage ++ file.change ∷ []) stands (was.position_is ∙ sym told.2);
+          image = images-are u one after_safe k (gone_on was.lineage file) stands (was.position_is ∙ sym told.2);
         },
       ),
     )
@@ -188,4 +192,6 @@ refusal-leaves old new role ok did failed (Refused why) other store undone answe
 refusal-leaves old new role ok did failed answer other store undone answers = absurd answers
 
 pub refusal_leaves-of : RefusalLeaves
-refusal_leaves-of old new ok answer facts other = refusal-leaves old new facts.role ok facts.did facts.failed answer other facts.store facts.refused facts.answers
+refusal_leaves-of old new ok answer facts other =
+    let told = refusal-leaves old new facts.role ok facts.did facts.failed answer other facts.store facts.refused facts.answers in
+    (told.0, λ well same. told.1 well (facts.role_is ∙ same))

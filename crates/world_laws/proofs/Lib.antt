@@ -5,6 +5,7 @@ pub mod Calls
 pub mod Terms
 pub mod Nodes
 pub mod Whole
+pub mod Leading
 pub mod Reading
 pub mod CatchUp
 pub mod Forwarding
@@ -18,3 +19,5 @@ pub mod Scenes
 pub mod StoryParts
 pub mod Story
 pub mod SnapshotFile
+pub mod Moments
+pub mod Roles

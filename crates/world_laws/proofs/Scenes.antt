@@ -13,7 +13,7 @@ use Rattle.world_laws.specs.Lineage.{Lineage, position_of}
 use Rattle.world_laws.specs.Node.{Answer, Ask, Disk, File, IsSoundNode, NodeState, Primary, Refused, Replica, Role}
 use Rattle.world_laws.specs.Premises.{CommitsAsHolder, WasSent}
 use Rattle.world_laws.specs.Served.{HoldsBack, untouched}
-use Rattle.world_laws.specs.Step.{Makes, commits}
+use Rattle.world_laws.specs.Step.{KeepsRole, Makes, calls_of, commits}
 use Rattle.world_laws.specs.Store.{Apply, CanDo, CanDoAll, Commit, DropAll, FailedBefore, FailedIn, Failure, Install, StoreCall, StoreState, all_done, at, begun_by, empty_store}
 use Rattle.world_laws.specs.World.{Act, GrowsAlong, SentFrame, World, accepted_by, acts_along, failing_by, sent_by}
 use Rattle.world_laws.proofs.Made.{Made}
@@ -56,12 +56,14 @@ none_before : (let nothing_there : Option Failure = None in nothing_there ≡ So
 none_before same = cc
 
 -- a step of a whole node that nobody uses
-pub made : (role was is : Role) (old new : StoreState) (waited waits : Option Ltx) (ask : Ask) (answer : Answer) (did : List StoreCall) → Makes old role waited ask did → CanDoAll old did →
-    new ≡ all_done old did → Answers (node was old waited) role ask did None answer (node is new waits) → LeavesUndone answer did →
-    Made (node was old waited) (node is new waits) ask answer did None
-made role was is old new waited waits ask answer did makes can store answers undone = record {
+pub made : (role is : Role) (old new : StoreState) (waited waits : Option Ltx) (ask : Ask) (answer : Answer) (did : List StoreCall) → Makes old role waited ask did → CanDoAll old did →
+    new ≡ all_done old did → Answers (node role old waited) role ask did None answer (node is new waits) → LeavesUndone answer did → KeepsRole ask role is →
+    Made (node role old waited) (node is new waits) ask answer did None
+made role is old new waited waits ask answer did makes can store answers undone keeps = record {
   facts = record {
     role = role;
+    role_was = inl refl;
+    role_is = keeps;
     did = did;
     failed = None;
     makes = subst (λ (calls : List StoreCall). Makes old role waited ask calls) (sym (append-nil did)) makes;
@@ -88,6 +90,8 @@ pub fails : (file : Ltx) → CanDo empty_store (Commit file) → Made (node Prim
 fails file can = record {
   facts = record {
     role = Primary;
+    role_was = inl refl;
+    role_is = refl;
     did = [];
     failed = Some (FailedIn (Commit file));
     makes = commits;
@@ -127,68 +131,88 @@ pub record Goes (k term : ℕ) (store : StoreState) (tree grown : List Lineage) 
   pub tree_is : GrowsAlong tree store did grown
   pub failing : failing_by term 2 failed ≡ 2
 
+-- a turn, and that it leads
+pub record LedTurn (w : World) (k : ℕ) (ask : Ask) (answer : Answer) (v : World) : Type 0 where
+  pub turn : Turns w k ask answer v
+  pub leads : CommitsAsHolder w k (calls_of turn.facts)
+
 -- the node at each place
 pub turn-0 : (a b c x : NodeState) (tree grown : List Lineage) (sent : List SentFrame) (accepted : List Ltx) (granted : List ℕ) (holder : Option ℕ) (acts : List Act) (ask : Ask) (answer : Answer)
     (did : List StoreCall) (failed : Option Failure) → Made a x ask answer did failed → WasSent (world a b c tree sent accepted granted holder acts) a.waits ask →
     Goes 0 (length granted) a.store tree grown holder did failed →
-    Turns (world a b c tree sent accepted granted holder acts) 0 ask answer
+    LedTurn (world a b c tree sent accepted granted holder acts) 0 ask answer
     (world x b c grown (sent ++ sent_by ask answer) (accepted ++ accepted_by ask answer) granted holder (acts_along (length granted) 0 did acts))
 turn-0 a b c x tree grown sent accepted granted holder acts ask answer did failed step comes on =
     let w : World = world a b c tree sent accepted granted holder acts in
     record {
-      comes = comes;
-      facts = step.facts;
+      turn = record {
+        facts = step.facts;
+        along = record {
+          comes = comes;
+          tree = subst (λ (ds : List StoreCall). GrowsAlong tree a.store ds grown) (sym step.did_is) on.tree_is;
+          acts = ap (λ (ds : List StoreCall). acts_along (length granted) 0 ds acts) (sym step.did_is);
+          failing = sym (ap (λ (f : Option Failure). failing_by (length granted) 2 f) step.failed_is ∙ on.failing);
+          others = λ other differs. refl;
+          sent = refl;
+          accepted = refl;
+          lease = (refl, refl);
+        };
+        others = λ other differs. stays-0 a b c x other differs;
+      };
       leads = subst (λ (ds : List StoreCall). CommitsAsHolder w 0 (ds ++ begun_by step.facts.failed)) (sym step.did_is)
           (subst (λ (f : Option Failure). CommitsAsHolder w 0 (did ++ begun_by f)) (sym step.failed_is) (on.leads w refl));
-      tree = subst (λ (ds : List StoreCall). GrowsAlong tree a.store ds grown) (sym step.did_is) on.tree_is;
-      acts = ap (λ (ds : List StoreCall). acts_along (length granted) 0 ds acts) (sym step.did_is);
-      failing = sym (ap (λ (f : Option Failure). failing_by (length granted) 2 f) step.failed_is ∙ on.failing);
-      sent = refl;
-      accepted = refl;
-      others = λ other differs. (stays-0 a b c x other differs, refl);
-      lease = (refl, refl);
     }
 
 pub turn-1 : (a b c x : NodeState) (tree grown : List Lineage) (sent : List SentFrame) (accepted : List Ltx) (granted : List ℕ) (holder : Option ℕ) (acts : List Act) (ask : Ask) (answer : Answer)
     (did : List StoreCall) (failed : Option Failure) → Made b x ask answer did failed → WasSent (world a b c tree sent accepted granted holder acts) b.waits ask →
     Goes 1 (length granted) b.store tree grown holder did failed →
-    Turns (world a b c tree sent accepted granted holder acts) 1 ask answer
+    LedTurn (world a b c tree sent accepted granted holder acts) 1 ask answer
     (world a x c grown (sent ++ sent_by ask answer) (accepted ++ accepted_by ask answer) granted holder (acts_along (length granted) 1 did acts))
 turn-1 a b c x tree grown sent accepted granted holder acts ask answer did failed step comes on =
     let w : World = world a b c tree sent accepted granted holder acts in
     record {
-      comes = comes;
-      facts = step.facts;
+      turn = record {
+        facts = step.facts;
+        along = record {
+          comes = comes;
+          tree = subst (λ (ds : List StoreCall). GrowsAlong tree b.store ds grown) (sym step.did_is) on.tree_is;
+          acts = ap (λ (ds : List StoreCall). acts_along (length granted) 1 ds acts) (sym step.did_is);
+          failing = sym (ap (λ (f : Option Failure). failing_by (length granted) 2 f) step.failed_is ∙ on.failing);
+          others = λ other differs. refl;
+          sent = refl;
+          accepted = refl;
+          lease = (refl, refl);
+        };
+        others = λ other differs. stays-1 a b c x other differs;
+      };
       leads = subst (λ (ds : List StoreCall). CommitsAsHolder w 1 (ds ++ begun_by step.facts.failed)) (sym step.did_is)
           (subst (λ (f : Option Failure). CommitsAsHolder w 1 (did ++ begun_by f)) (sym step.failed_is) (on.leads w refl));
-      tree = subst (λ (ds : List StoreCall). GrowsAlong tree b.store ds grown) (sym step.did_is) on.tree_is;
-      acts = ap (λ (ds : List StoreCall). acts_along (length granted) 1 ds acts) (sym step.did_is);
-      failing = sym (ap (λ (f : Option Failure). failing_by (length granted) 2 f) step.failed_is ∙ on.failing);
-      sent = refl;
-      accepted = refl;
-      others = λ other differs. (stays-1 a b c x other differs, refl);
-      lease = (refl, refl);
     }
 
 pub turn-2 : (a b c x : NodeState) (tree grown : List Lineage) (sent : List SentFrame) (accepted : List Ltx) (granted : List ℕ) (holder : Option ℕ) (acts : List Act) (ask : Ask) (answer : Answer)
     (did : List StoreCall) (failed : Option Failure) → Made c x ask answer did failed → WasSent (world a b c tree sent accepted granted holder acts) c.waits ask →
     Goes 2 (length granted) c.store tree grown holder did failed →
-    Turns (world a b c tree sent accepted granted holder acts) 2 ask answer
+    LedTurn (world a b c tree sent accepted granted holder acts) 2 ask answer
     (world a b x grown (sent ++ sent_by ask answer) (accepted ++ accepted_by ask answer) granted holder (acts_along (length granted) 2 did acts))
 turn-2 a b c x tree grown sent accepted granted holder acts ask answer did failed step comes on =
     let w : World = world a b c tree sent accepted granted holder acts in
     record {
-      comes = comes;
-      facts = step.facts;
+      turn = record {
+        facts = step.facts;
+        along = record {
+          comes = comes;
+          tree = subst (λ (ds : List StoreCall). GrowsAlong tree c.store ds grown) (sym step.did_is) on.tree_is;
+          acts = ap (λ (ds : List StoreCall). acts_along (length granted) 2 ds acts) (sym step.did_is);
+          failing = sym (ap (λ (f : Option Failure). failing_by (length granted) 2 f) step.failed_is ∙ on.failing);
+          others = λ other differs. refl;
+          sent = refl;
+          accepted = refl;
+          lease = (refl, refl);
+        };
+        others = λ other differs. stays-2 a b c x other differs;
+      };
       leads = subst (λ (ds : List StoreCall). CommitsAsHolder w 2 (ds ++ begun_by step.facts.failed)) (sym step.did_is)
           (subst (λ (f : Option Failure). CommitsAsHolder w 2 (did ++ begun_by f)) (sym step.failed_is) (on.leads w refl));
-      tree = subst (λ (ds : List StoreCall). GrowsAlong tree c.store ds grown) (sym step.did_is) on.tree_is;
-      acts = ap (λ (ds : List StoreCall). acts_along (length granted) 2 ds acts) (sym step.did_is);
-      failing = sym (ap (λ (f : Option Failure). failing_by (length granted) 2 f) step.failed_is ∙ on.failing);
-      sent = refl;
-      accepted = refl;
-      others = λ other differs. (stays-2 a b c x other differs, refl);
-      lease = (refl, refl);
     }
 
 -- a step that makes no call, or one that commits nothing

@@ -1,10 +1,10 @@
 -- A stop inside a step, as a step that fails.
 use Rattle.std.proofs.Common.{◌≡◌, ℕ, ◌+◌, ◌-◌, true, List, [], ◌∷◌, ◌++◌, Option, Some, None, IsSome, inl, inr, refl, sym, ap, subst, ◌∙◌, append_assoc, arith, length}
 use Rattle.ltx_codec.specs.declared.file.Ltx.{Ltx}
-use Rattle.world_laws.specs.Answers.{Answers, LeavesUndone}
-use Rattle.world_laws.specs.Node.{Answer, Ask, Disk, Done, Drop, File, Forward, Forwarded, Frame, Import, IsPlain, NodeState, Primary, Prune, Refused, Replica, Role}
+use Rattle.world_laws.specs.Answers.{Answers, LeavesUndone, snapshot_of}
+use Rattle.world_laws.specs.Node.{Answer, Ask, Disk, Done, Drop, EndSession, Export, File, Forward, Forwarded, Frame, Hello, Import, IsPlain, Lease, NoFile, NodeState, Permit, Primary, Prune, Refused, Role, Where}
 use Rattle.world_laws.specs.Served.{untouched}
-use Rattle.world_laws.specs.Step.{Makes, accepts, commits, commits_and_prunes, drops, finishes, imports, nothing, prunes, takes, unlinks}
+use Rattle.world_laws.specs.Step.{IsRoleAt, KeepsRole, Makes, accepts, commits, commits_and_prunes, drops, finishes, imports, nothing, prunes, takes, unlinks}
 use Rattle.world_laws.specs.StopLaw.{IsCut, StopIsTwoEvents, StopOfBroken, StopsAreCuts}
 use Rattle.world_laws.specs.Store.{Apply, CanDoAll, Commit, DropAll, FailedBefore, FailedIn, Failure, Install, MayBeFound, MayLeave, PruneTo, StoreCall, StoreState, all_done, begun_by, broken_by, done}
 use Rattle.world_laws.proofs.Calls.{CanDoAll-split}
@@ -74,7 +74,7 @@ makes-front (commits {waits = w} {file = f}) did call rest same = single _ Prima
 makes-front (commits_and_prunes {waits = w} {file = f} {keep = k}) did call rest same = double _ w f k did call rest same
 makes-front (unlinks {waits = w}) did call rest same = single _ Primary w File DropAll unlinks did call rest same
 makes-front (imports {waits = w} {file = f}) did call rest same = single _ Primary w Import (Commit f) imports did call rest same
-makes-front (accepts {waits = w} {file = f}) did call rest same = single _ Primary w (Forward f) (Commit f) accepts did call rest same
+makes-front (accepts {waits = w} {file = f}) did call rest same = single _ Primary w (Forward f) _ accepts did call rest same
 makes-front (takes {role = r} {waits = w} {file = f} other) did call rest same = single _ r w (Frame f) _ (takes other) did call rest same
 makes-front (drops {role = r} {waits = w} other) did call rest same = single _ r w Drop DropAll (drops other) did call rest same
 makes-front (finishes {role = r} {file = f}) did call rest same = single _ r (Some f) (Forwarded true) _ finishes did call rest same
@@ -109,7 +109,7 @@ cut-later (commits {file = f}) d ds call same old new = absurd (too_long (Commit
 cut-later commits_and_prunes d ds call same old new = record { answer = Done; answers = tt; refused = tt }
 cut-later unlinks d ds call same old new = absurd (too_long DropAll d ds call same)
 cut-later (imports {file = f}) d ds call same old new = absurd (too_long (Commit f) d ds call same)
-cut-later (accepts {file = f}) d ds call same old new = absurd (too_long (Commit f) d ds call same)
+cut-later (accepts {file = f}) d ds call same old new = absurd (too_long _ d ds call same)
 cut-later (takes {file = f} other) d ds call same old new = absurd (too_long _ d ds call same)
 cut-later (drops other) d ds call same old new = absurd (too_long DropAll d ds call same)
 cut-later (finishes {file = f}) d ds call same old new = absurd (too_long _ d ds call same)
@@ -126,8 +126,25 @@ none_some some = cc
 before_not_in : (call : StoreCall) → Some (FailedIn call) ≡ Some FailedBefore → ⊥
 before_not_in call same = cc
 
-primary_plain : (n : NodeState) → n.role ≡ Primary → IsPlain n → ⊥
-primary_plain n primary plain = let other : Primary ≡ Replica = sym primary ∙ plain.role in cc
+waiting_plain : (n : NodeState) (file : Ltx) → n.waits ≡ Some file → IsPlain n → ⊥
+waiting_plain n file waits plain = let none : Some file ≡ None = sym waits ∙ plain.waits in cc
+
+-- a role stays what it is
+pub role-stays : (ask : Ask) (role : Role) → KeepsRole ask role role
+role-stays File role = refl
+role-stays EndSession role = refl
+role-stays Where role = refl
+role-stays (Hello position) role = refl
+role-stays (Frame file) role = refl
+role-stays Drop role = refl
+role-stays Import role = refl
+role-stays Export role = refl
+role-stays (Forward file) role = refl
+role-stays (Forwarded ok) role = refl
+role-stays NoFile role = refl
+role-stays (Prune keep) role = refl
+role-stays Permit role = tt
+role-stays Lease role = tt
 
 -- a step of the same ask that fails in one of its calls
 pub record FailedStep (old : NodeState) (ask : Ask) (calls : List StoreCall) (left : StoreState) : Type 0 where
@@ -141,15 +158,16 @@ pub record FailedStep (old : NodeState) (ask : Ask) (calls : List StoreCall) (le
   pub failed : mid.failed ≡ Some (FailedIn call)
   pub leaves : MayBeFound mid.store mid.failed left
 
-pub failed-step : (old : NodeState) (ask : Ask) (role : Role) (calls : List StoreCall) (left : StoreState) → old.failed ≡ None → Makes old.store role old.waits ask calls → CanDoAll old.store calls →
+-- the node once it has failed. Nothing is told of its files, nor of what waits there
+pub failed-step : (old : NodeState) (ask : Ask) (role : Role) (calls : List StoreCall) (left : StoreState) → IsRoleAt old.role role → old.failed ≡ None → Makes old.store role old.waits ask calls → CanDoAll old.store calls →
     IsCut old.store calls left → FailedStep old ask calls left
-failed-step old ask role calls left whole makes can cut =
+failed-step old ask role calls left was whole makes can cut =
     let mid : NodeState = record {
       store = all_done old.store cut.did;
       failed = Some (FailedIn cut.call);
       faults = old.faults + 1;
-      role = Primary;
-      waits = old.waits;
+      role = role;
+      waits = Some (snapshot_of old.store);
       served = untouched (all_done old.store cut.did).image;
     } in
     let front : Makes old.store role old.waits ask (cut.did ++ cut.call ∷ []) = makes-front makes cut.did cut.call cut.rest cut.split in
@@ -165,6 +183,8 @@ failed-step old ask role calls left whole makes can cut =
       made = record {
         facts = record {
           role = role;
+          role_was = was;
+          role_is = role-stays ask role;
           did = cut.did;
           failed = Some (FailedIn cut.call);
           makes = front;
@@ -176,7 +196,7 @@ failed-step old ask role calls left whole makes can cut =
           rose = λ some. (omega arith, omega arith);
           answers = told.answers;
           refused = told.refused;
-          steady = λ plain again lock held. absurd (primary_plain mid refl again);
+          steady = λ plain again lock held. absurd (waiting_plain mid (snapshot_of old.store) refl again);
           keeps = λ sound. record { overlay = refl; shares = λ k d within. absurd (omega arith); replica = λ same. refl };
         };
         did_is = refl;
@@ -192,7 +212,7 @@ stop_is_two_events-of old new ask answer left facts whole candidate =
       | inl none_at ↦ inl none_at.1
       | inr cut ↦
           let step : FailedStep old ask (facts.did ++ begun_by facts.failed) left =
-          failed-step old ask facts.role (facts.did ++ begun_by facts.failed) left whole facts.makes facts.can cut
+          failed-step old ask facts.role (facts.did ++ begun_by facts.failed) left facts.role_was whole facts.makes facts.can cut
           in
           inr record { mid = step.mid; call = step.call; answer = step.answer; facts = step.made.facts; failed = step.failed; leaves = step.leaves }
     ]

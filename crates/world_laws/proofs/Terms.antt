@@ -8,7 +8,7 @@ use Rattle.lf_base.specs.declared.pos.Pos.{Pos}
 use Rattle.ltx_codec.specs.declared.file.Ltx.{Ltx}
 use Rattle.ltx_codec.specs.Positions.{after}
 use Rattle.world_laws.specs.Premises.{CommitsAsHolder}
-use Rattle.world_laws.specs.Safe.{IsAtTip, IsLed}
+use Rattle.world_laws.specs.Safe.{IsAtTip, IsOfHolder}
 use Rattle.world_laws.specs.Store.{Apply, CanDo, CanDoAll, Commit, DropAll, Install, PruneTo, StoreCall, StoreState, all_done, at, done, dropped_store, with_file}
 use Rattle.world_laws.specs.Terms.{AreInLine, holder_of, tip}
 use Rattle.world_laws.specs.World.{Act, Committed, Departed, World, acts_along, acts_by}
@@ -76,7 +76,7 @@ AtTip-done k term acts store (PruneTo keep) last can =
 AtTip-done k term acts store DropAll last can = subst (λ (o : Option Pos). IsAtTip o (at dropped_store)) (sym (tip-departed k acts)) tt
 
 pub InLine-done : (granted : List ℕ) (k term : ℕ) (acts : List Act) (store : StoreState) (call : StoreCall) → IsAtTip (tip k acts) (at store) → CanDo store call →
-    IsLed granted term k call → AreInLine granted acts → AreInLine granted (acts_by term k call acts)
+    IsOfHolder granted term k call → AreInLine granted acts → AreInLine granted (acts_by term k call acts)
 InLine-done granted k term acts store (Commit file) last can led line = (led, subst (λ (p : Pos). IsAtTip (tip k acts) p) (sym can.1.next) last, line)
 InLine-done granted k term acts store (Apply file) last can led line = line
 InLine-done granted k term acts store (Install file) last can led line = line
@@ -85,7 +85,7 @@ InLine-done granted k term acts store DropAll last can led line = line
 
 abbrev pub AllLed : List ℕ → ℕ → ℕ → List StoreCall → Type 0
 AllLed granted term k [] = Unit {0}
-AllLed granted term k (call ∷ calls) = IsLed granted term k call × AllLed granted term k calls
+AllLed granted term k (call ∷ calls) = IsOfHolder granted term k call × AllLed granted term k calls
 
 pub AllLed-split : (granted : List ℕ) (term k : ℕ) (front rest : List StoreCall) → AllLed granted term k (front ++ rest) → AllLed granted term k front × AllLed granted term k rest
 AllLed-split granted term k [] rest led = (tt, led)
@@ -93,13 +93,13 @@ AllLed-split granted term k (call ∷ calls) rest led =
     let more = AllLed-split granted term k calls rest led.1 in
     ((led.0, more.0), more.1)
 
-AllLed-each : (granted : List ℕ) (term k : ℕ) (calls : List StoreCall) → AllLed granted term k calls → All (IsLed granted term k) calls
+AllLed-each : (granted : List ℕ) (term k : ℕ) (calls : List StoreCall) → AllLed granted term k calls → All (IsOfHolder granted term k) calls
 AllLed-each granted term k [] led = λ i d within. absurd (omega arith)
-AllLed-each granted term k (call ∷ calls) led = All-cons (IsLed granted term k) call calls led.0 (AllLed-each granted term k calls led.1)
+AllLed-each granted term k (call ∷ calls) led = All-cons (IsOfHolder granted term k) call calls led.0 (AllLed-each granted term k calls led.1)
 
 -- who makes a committing call of these was granted the term
 pub AllLed-commit : (granted : List ℕ) (term k : ℕ) (calls : List StoreCall) (file : Ltx) → AllLed granted term k calls → Contains calls (Commit file) → holder_of granted term ≡ Some k
-AllLed-commit granted term k calls file led here = All-contains (IsLed granted term k) calls (Commit file) (AllLed-each granted term k calls led) here
+AllLed-commit granted term k calls file led here = All-contains (IsOfHolder granted term k) calls (Commit file) (AllLed-each granted term k calls led) here
 
 pub Holds-led : (w : World) (k : ℕ) (calls : List StoreCall) → IfSome w.holder (λ j. holder_of w.granted (length w.granted) ≡ Some j) → CommitsAsHolder w k calls →
     AllLed w.granted (length w.granted) k calls

@@ -135,7 +135,7 @@ Answers old role (Frame file) did failed answer new = AnswersFrame old role file
 Answers old role Drop did failed answer new = AnswersDrop old role did failed answer new
 Answers old role (Hello position) did failed answer new = AnswersHello old new role position answer
 Answers old role (Forwarded ok) did failed answer new = AnswersForwarded old role ok failed answer new
-Answers old role (Forward file) did failed (Applied position) new = (did ≡ Commit file ∷ []) × (failed ≡ None)
+Answers old role (Forward file) did failed (Applied position) new = (did ≡ Commit (completed_over old.store file) ∷ []) × (failed ≡ None)
 Answers old role File did failed (Send file) new = IsSent old new role file did failed
 Answers old role ask did failed answer new = Unit {0}
 

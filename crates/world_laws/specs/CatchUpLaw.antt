@@ -1,6 +1,6 @@
 -- The third law: a position that the primary's log lacks is answered by one snapshot, or by Gone where the database was
 -- dropped; and what is then delivered is applied, once nobody holds a lock against it, unless a disk failed, memory was
--- refused, or the store was broken before.
+-- refused, or the store was broken before. A node is primary in such a step where it is so afterwards.
 use Rattle.std.specs.Prelude.{◌≡◌, ◌≢◌, ◌⊎◌, ℕ, ◌≤◌, true, IsSome, []}
 use Rattle.lf_base.specs.declared.pos.Pos.{Pos}
 use Rattle.lf_base.specs.Faults.{Rose}
@@ -29,7 +29,7 @@ IsWhole store answer = ((1 ≤ (at store).txid) × (answer ≡ Item (snapshot_of
 
 -- a primary answers a position that its log lacks by one of the two, and by nothing else
 abbrev pub AnswersByWhole : Type 0
-AnswersByWhole = (old new : NodeState) (position : Pos) (answer : Answer) → (facts : StepFacts old (Hello position) answer new) → facts.role ≡ Primary →
+AnswersByWhole = (old new : NodeState) (position : Pos) (answer : Answer) → StepFacts old (Hello position) answer new → new.role ≡ Primary →
     (Knows old.store position → ⊥) → IsWhole old.store answer ⊎ IsFreeRefusal old new answer
 
 -- a lock that somebody holds held the frame back, and the store is as it was
@@ -39,22 +39,22 @@ IsHeldBack old new answer = (lock : LockId) × (answer ≡ Held lock) × HoldsBa
 -- a snapshot that was sent, delivered to a node that isn't Primary
 abbrev pub SnapshotInstalls : Type 0
 SnapshotInstalls = (w v : World) (k : ℕ) (from : StoreState) (answer : Answer) → IsSafe w → IsImage from.image →
-    (turn : Happens w (Steps k (Frame (snapshot_of from)) answer) v) → turn.facts.role ≢ Primary →
+    Happens w (Steps k (Frame (snapshot_of from)) answer) v → (v.nodes k).role ≢ Primary →
     IsHeldBack (w.nodes k) (v.nodes k) answer
     ⊎ ((answer ≡ Applied (at from)) × (at (v.nodes k).store ≡ at from) × SameImage (v.nodes k).store.image from.image)
     ⊎ IsFreeRefusal (w.nodes k) (v.nodes k) answer
 
 -- a Drop frame, delivered to a node that isn't Primary
 abbrev pub DropInstalls : Type 0
-DropInstalls = (w v : World) (k : ℕ) (answer : Answer) → IsSafe w → (turn : Happens w (Steps k Drop answer) v) → turn.facts.role ≢ Primary →
+DropInstalls = (w v : World) (k : ℕ) (answer : Answer) → IsSafe w → Happens w (Steps k Drop answer) v → (v.nodes k).role ≢ Primary →
     IsHeldBack (w.nodes k) (v.nodes k) answer
     ⊎ ((answer ≡ Applied nowhere) × (at (v.nodes k).store ≡ nowhere) × ((v.nodes k).store.image.pages ≡ []))
     ⊎ IsFreeRefusal (w.nodes k) (v.nodes k) answer
 
 -- a file that was sent and joins is never refused for its format, its limit, its page size or its sum
 abbrev pub SentFileApplies : Type 0
-SentFileApplies = (w v : World) (k : ℕ) (file : Ltx) (answer : Answer) → IsSafe w → OneImagePerPosition w.tree → (turn : Happens w (Steps k (Frame file) answer) v) →
-    turn.facts.role ≢ Primary → before file ≡ at (w.nodes k).store →
+SentFileApplies = (w v : World) (k : ℕ) (file : Ltx) (answer : Answer) → IsSafe w → OneImagePerPosition w.tree → Happens w (Steps k (Frame file) answer) v →
+    (v.nodes k).role ≢ Primary → before file ≡ at (w.nodes k).store →
     IsHeldBack (w.nodes k) (v.nodes k) answer
     ⊎ ((answer ≡ Applied (after file)) × (at (v.nodes k).store ≡ after file))
     ⊎ IsFreeRefusal (w.nodes k) (v.nodes k) answer

@@ -1,15 +1,17 @@
--- What may happen in a cluster, and its runs.
+-- What may happen in a cluster, its runs, and those that are led.
 --
 -- A delivery is a step that asks Frame or Drop, and a reply is one that asks Forwarded; a loss is a frame that is
 -- never delivered. A stop inside a step is two events, a step of the same ask that fails and a restart: that this
--- covers every stop is a law of its own. Steps of one node follow one another, as its machine takes them in turn.
-use Rattle.std.specs.Prelude.{◌≡◌, ℕ, List, [], ◌∷◌, ◌++◌, length, Option, None, Some}
-use Rattle.world_laws.specs.Node.{Answer, Ask}
-use Rattle.world_laws.specs.Premises.{CommitsAsHolder, FindsACandidate, WasSent}
+-- covers every stop is a law of its own. Steps of one node follow one another, as its machine takes them in turn. Nothing
+-- that happens asks who holds the lease; a run is led where each of its turns commits as the holder.
+use Rattle.std.specs.Prelude.{◌≡◌, ℕ, List, [], ◌∷◌, Option, None, Some}
+use Rattle.world_laws.specs.Ledger.{FindsAlong, GoesAlong}
+use Rattle.world_laws.specs.Node.{Answer, Ask, NodeState}
+use Rattle.world_laws.specs.Premises.{CommitsAsHolder}
 use Rattle.world_laws.specs.Served.{untouched}
-use Rattle.world_laws.specs.Step.{StepFacts}
-use Rattle.world_laws.specs.Store.{StoreState, begun_by, empty_store}
-use Rattle.world_laws.specs.World.{GrowsAlong, OthersStay, World, accepted_by, acts_along, failing_by, sent_by}
+use Rattle.world_laws.specs.Step.{StepFacts, calls_of}
+use Rattle.world_laws.specs.Store.{StoreState, empty_store}
+use Rattle.world_laws.specs.World.{OthersStay, World}
 
 pub data Event : Type 0 where
   Steps : (node : ℕ) → Ask → Answer → Event
@@ -18,30 +20,24 @@ pub data Event : Type 0 where
   Renews : Event
   Loses : Event
 
--- a node takes a step
+-- node k takes a step
 pub record Turns (w : World) (k : ℕ) (ask : Ask) (answer : Answer) (v : World) : Type 0 where
-  pub comes : WasSent w (w.nodes k).waits ask
   pub facts : StepFacts (w.nodes k) ask answer (v.nodes k)
-  pub leads : CommitsAsHolder w k (facts.did ++ begun_by facts.failed)
-  pub tree : GrowsAlong w.tree (w.nodes k).store facts.did v.tree
-  pub acts : v.acts ≡ acts_along (length w.granted) k facts.did w.acts
-  pub failing : v.failing k ≡ failing_by (length w.granted) (w.failing k) facts.failed
-  pub sent : v.sent ≡ w.sent ++ sent_by ask answer
-  pub accepted : v.accepted ≡ w.accepted ++ accepted_by ask answer
+  pub along : GoesAlong w k ask answer facts.did facts.failed v
   pub others : OthersStay k w v
-  pub lease : (v.granted ≡ w.granted) × (v.holder ≡ w.holder)
 
--- a node is opened: on a store that it may find, whole, with nothing that waits and nobody at its files
+-- a node was opened on a store: it is whole, nothing waits, and nobody has used its files
+pub record IsOpened (found : StoreState) (node : NodeState) : Type 0 where
+  pub store : node.store ≡ found
+  pub whole : node.failed ≡ None
+  pub waits : node.waits ≡ None
+  pub served : node.served ≡ untouched found.image
+
+-- node k is opened on a store that it may find
 pub record Reopens (w : World) (k : ℕ) (found : StoreState) (v : World) : Type 0 where
-  pub finds : FindsACandidate w k (w.nodes k).failed found v
-  pub store : (v.nodes k).store ≡ found
-  pub whole : (v.nodes k).failed ≡ None
-  pub waits : (v.nodes k).waits ≡ None
-  pub served : (v.nodes k).served ≡ untouched found.image
-  pub failing : v.failing k ≡ w.failing k
+  pub opened : IsOpened found (v.nodes k)
+  pub along : FindsAlong w k found v
   pub others : OthersStay k w v
-  pub frames : (v.sent ≡ w.sent) × (v.accepted ≡ w.accepted)
-  pub lease : (v.granted ≡ w.granted) × (v.holder ≡ w.holder)
 
 -- these terms were granted and this node holds the lease; all else is as before
 pub record Leases (w : World) (terms : List ℕ) (leader : Option ℕ) (v : World) : Type 0 where
@@ -64,6 +60,19 @@ Happens w Loses v = Leases w w.granted None v
 pub data Runs : World → List Event → World → Type 0 where
   ends : {w : World} → Runs w [] w
   goes : {w v u : World} {event : Event} {events : List Event} → Happens w event v → Runs v events u → Runs w (event ∷ events) u
+
+-- a turn leads: what it commits, it commits as the holder of the lease
+abbrev pub Leads : (w v : World) (event : Event) → Happens w event v → Type 0
+Leads w v (Steps k ask answer) turn = CommitsAsHolder w k (calls_of turn.facts)
+Leads w v (Opens k found) happens = Unit {0}
+Leads w v (Grants k) happens = Unit {0}
+Leads w v Renews happens = Unit {0}
+Leads w v Loses happens = Unit {0}
+
+-- a led run: each of its turns leads
+abbrev pub AreLed : {w v : World} {events : List Event} → Runs w events v → Type 0
+AreLed ends = Unit {0}
+AreLed (goes {w = w} {v = v} {event = event} happens rest) = Leads w v event happens × AreLed rest
 
 -- every disk empty, nobody at the files, and nothing committed but the lineage of no transaction
 pub record IsStart (w : World) : Type 0 where

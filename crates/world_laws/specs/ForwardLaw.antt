@@ -1,13 +1,13 @@
 -- The fourth law: a commit that a replica forwarded, and that is answered Done there, stands once in the lineage of the
 -- primary that accepted it; one that is refused or not answered changes nothing at the replica.
-use Rattle.std.specs.Prelude.{◌≡◌, ◌≢◌, ℕ, true, List, [], ◌∷◌, ◌++◌, Contains, Some, None, Bool}
+use Rattle.std.specs.Prelude.{◌≡◌, ◌≢◌, ℕ, true, List, Contains, Some, None, Bool}
 use Rattle.lf_base.specs.declared.pos.Pos.{Pos}
 use Rattle.lf_sqlite_pages.specs.Image.{SameImage}
 use Rattle.ltx_codec.specs.declared.file.Ltx.{Ltx}
 use Rattle.ltx_codec.specs.Positions.{after}
 use Rattle.world_laws.specs.Answers.{ServesTheSame}
 use Rattle.world_laws.specs.Events.{Event, Happens, IsStart, Runs, Steps}
-use Rattle.world_laws.specs.Lineage.{Lineage, image_of, position_of}
+use Rattle.world_laws.specs.Lineage.{Lineage, gone_on, image_of, position_of}
 use Rattle.world_laws.specs.Node.{Answer, Applied, Done, File, Forward, Forwarded, NodeState, Send}
 use Rattle.world_laws.specs.Premises.{OneImagePerPosition}
 use Rattle.world_laws.specs.Step.{StepFacts}
@@ -28,15 +28,15 @@ pub record WasAccepted (first last : World) (file : Ltx) : Type 0 where
   pub since : Runs new late last
   pub lineage : Lineage
   pub stood : Contains old.tree lineage
-  pub stands : Contains new.tree (lineage ++ file.change ∷ [])
-  pub position_is : position_of (lineage ++ file.change ∷ []) ≡ after file
+  pub stands : Contains new.tree (gone_on lineage file)
+  pub position_is : position_of (gone_on lineage file) ≡ after file
   pub here : at (new.nodes primary).store ≡ after file
 
 -- the replica has the position and the pages that the commit gives
 pub record IsAtCommit (v : World) (k : ℕ) (lineage : Lineage) (file : Ltx) : Type 0 where
-  pub stands : Contains v.tree (lineage ++ file.change ∷ [])
+  pub stands : Contains v.tree (gone_on lineage file)
   pub here : at (v.nodes k).store ≡ after file
-  pub image : SameImage (image_of (lineage ++ file.change ∷ [])) (v.nodes k).store.image
+  pub image : SameImage (image_of (gone_on lineage file)) (v.nodes k).store.image
 
 abbrev pub ForwardedStands : Type 0
 ForwardedStands = (w v u : World) (events : List Event) (k : ℕ) → IsStart w → Runs w events v → Happens v (Steps k (Forwarded true) Done) u → OneImagePerPosition u.tree →
@@ -54,4 +54,4 @@ SendLeaves = (old new : NodeState) (file : Ltx) → StepFacts old File (Send fil
 -- no write permit
 abbrev pub RefusalLeaves : Type 0
 RefusalLeaves = (old new : NodeState) (ok : Bool) (answer : Answer) → (facts : StepFacts old (Forwarded ok) answer new) → answer ≢ Done →
-    (at new.store ≡ at old.store) × (facts.failed ≡ None → facts.role ≡ old.role → LeavesFiles old new)
+    (at new.store ≡ at old.store) × (facts.failed ≡ None → new.role ≡ old.role → LeavesFiles old new)

@@ -6,6 +6,7 @@ pub mod Answers
 pub mod Step
 pub mod World
 pub mod Premises
+pub mod Ledger
 pub mod Events
 pub mod Terms
 pub mod Safe
@@ -16,3 +17,5 @@ pub mod ForwardLaw
 pub mod StopLaw
 pub mod SnapshotLaw
 pub mod Scenario
+pub mod MomentLaw
+pub mod RoleLaw

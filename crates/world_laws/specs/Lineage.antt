@@ -9,6 +9,7 @@ use Rattle.lf_base.specs.declared.pos.Pos.{Pos}
 use Rattle.lf_sqlite_pages.specs.Image.{DatabaseImage, empty_image, SameImage}
 use Rattle.lf_sqlite_pages.specs.Change.{PageChange, HoldsEveryPage}
 use Rattle.lf_sqlite_pages.specs.Apply.{apply}
+use Rattle.lf_sqlite_pages.specs.Complete.{complete, completed}
 use Rattle.ltx_codec.specs.declared.file.Ltx.{Ltx}
 use Rattle.ltx_codec.specs.Positions.{after, before, nowhere, sum_after}
 use Rattle.ltx_codec.specs.Sums.{image_sum}
@@ -61,3 +62,17 @@ pub record IsCommitted (tree : List Lineage) (file : Ltx) : Type 0 where
   pub before_at : position_of lineage ≡ before file
   pub after_at : position_of (lineage ++ file.change ∷ []) ≡ after file
   pub suits : Suits (image_of lineage).pages file.change
+
+-- a file made complete over a count of pages
+abbrev pub completed_at : ℕ → Ltx → Ltx
+completed_at count file = record file { change = completed file.change count }
+
+-- a lineage goes on by a file, which is made complete over its image
+abbrev pub gone_on : Lineage → Ltx → Lineage
+gone_on lineage file = lineage ++ complete (image_of lineage) file.change ∷ []
+
+-- a forwarded file that was accepted is one transaction of the tree, made complete over the lineage that goes on by it
+pub record IsAccepted (tree : List Lineage) (file : Ltx) : Type 0 where
+  pub count : ℕ
+  pub is : IsCommitted tree (completed_at count file)
+  pub over : count ≡ length (image_of is.lineage).pages

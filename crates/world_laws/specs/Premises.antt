@@ -1,6 +1,7 @@
 -- The premises of the laws. There are four, each a definition here:
 --
--- 1. `CommitsAsHolder`: one node holds the lease at a time, and a step that makes a committing call is its holder's.
+-- 1. `CommitsAsHolder`: one node holds the lease at a time, and a step that makes a committing call is its holder's. It is
+--    a premise of led runs, and so of what is said of terms alone: what a node holds and serves needs no lease.
 -- 2. `OneImagePerPosition`: over the lineages of the run, a position has one image.
 -- 3. `FindsACandidate`: each disk is as it is modelled, so that a node that is opened finds the store as it was, or,
 --    after a call that failed, what this call may have left. What the disk does within a step is in `StepFacts`.

@@ -13,7 +13,7 @@ use Rattle.ltx_codec.specs.Sums.{sum_of_writes}
 use Rattle.ltx_codec.specs.Positions.{after, nowhere}
 use Rattle.ltx_codec.specs.declared.file.Ltx.{Ltx}
 use Rattle.world_laws.specs.Answers.{snapshot_of}
-use Rattle.world_laws.specs.Events.{Event, Grants, IsStart, Loses, Opens, Renews, Runs, Steps}
+use Rattle.world_laws.specs.Events.{AreLed, Event, Grants, IsStart, Loses, Opens, Renews, Runs, Steps}
 use Rattle.world_laws.specs.Node.{Applied, Disk, Done, Drop, File, Forward, Forwarded, Frame, Gone, Hello, Item, Permit, Refused, Send}
 use Rattle.world_laws.specs.Premises.{OneImagePerPosition}
 use Rattle.world_laws.specs.Store.{StoreState, empty_store, with_file}
@@ -87,12 +87,14 @@ story lost won next =
     ∷ Loses
     ∷ []
 
--- from a start the story comes to an end at which the second premise holds, with these lineages in the tree
+-- from a start the story comes to an end at which the second premise holds, with these lineages in the tree; each of its
+-- turns leads
 pub record IsTold (lost won next : Ltx) : Type 0 where
   pub first : World
   pub last : World
   pub start : IsStart first
   pub runs : Runs first (story lost won next) last
+  pub led : AreLed runs
   pub one_image : OneImagePerPosition last.tree
   pub tree : last.tree ≡ [] ∷ (lost.change ∷ []) ∷ (won.change ∷ []) ∷ (won.change ∷ next.change ∷ []) ∷ []
 

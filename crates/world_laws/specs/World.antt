@@ -70,7 +70,7 @@ accepted_by ask answer = []
 
 -- the nodes but one are as they were
 abbrev pub OthersStay : ℕ → World → World → Type 0
-OthersStay k old new = (other : ℕ) → other ≢ k → (new.nodes other ≡ old.nodes other) × (new.failing other ≡ old.failing other)
+OthersStay k old new = (other : ℕ) → other ≢ k → new.nodes other ≡ old.nodes other
 
 -- the term of the call that broke a node's store: that of the step in which it failed, also where a restart finds it
 abbrev pub failing_by : ℕ → ℕ → Option Failure → ℕ

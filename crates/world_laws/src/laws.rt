@@ -1,16 +1,20 @@
 //! Laws of the definitions, each the contract of a function that does nothing.
-ghost use Rattle.world_laws.specs.SafetyLaw.{SafeKept};
+ghost use Rattle.world_laws.specs.SafetyLaw.{LedKept, SafeKept};
 ghost use Rattle.world_laws.specs.ReaderLaw.{ReaderSteady};
 ghost use Rattle.world_laws.specs.CatchUpLaw.{AnswersByWhole, SnapshotInstalls, DropInstalls, SentFileApplies};
 ghost use Rattle.world_laws.specs.ForwardLaw.{ForwardedStands, SendLeaves, RefusalLeaves};
 ghost use Rattle.world_laws.specs.StopLaw.{StopsAreCuts, StopIsTwoEvents, StopOfBroken, EachIsFound, StopIsReached};
+ghost use Rattle.world_laws.specs.MomentLaw.{MomentIsOfStep};
+ghost use Rattle.world_laws.specs.RoleLaw.{OnlyPrimariesCommit};
 ghost use Rattle.world_laws.specs.SnapshotLaw.{SnapshotIsSound};
 ghost use Rattle.world_laws.specs.Scenario.{SomethingHappens, PagesDiffer};
 
 /// After every list of events that meets the premises, each node's committed pages are those of the lineage
-/// that its position names, and all else that `IsSafe` says holds.
+/// that its position names, and all else that `IsSafe` says holds, whoever commits. After one whose turns
+/// lead, only a term's holder has committed in it, and the commits of a term are one line (`IsLed`).
 pub fn safe_kept()
-    ensures { SafeKept }
+    ensures kept { SafeKept }
+    ensures led { LedKept }
 {}
 
 /// While an owner is inside at a plain replica, position, image, database file and committed frames stay.
@@ -56,4 +60,16 @@ pub fn snapshot_is_sound()
 pub fn something_happens()
     ensures run { SomethingHappens }
     ensures pages { PagesDiffer }
+{}
+
+/// Before a node does what it is asked, what has expired at the moment ends. A step of the node as it is then
+/// is a step of the node as it was.
+pub fn moment_is_of_step()
+    ensures { MomentIsOfStep }
+{}
+
+/// A step that makes a committing call, whether or not it fails, is of a node that was primary before it and
+/// is so after it: no replica commits, whatever a step calls its role.
+pub fn only_primaries_commit()
+    ensures { OnlyPrimariesCommit }
 {}

@@ -4,6 +4,6 @@
 mod laws;
 
 pub use laws::{
-    answer_installs, forwarded_once, reader_steady, safe_kept, snapshot_is_sound,
-    something_happens, stops_are_failures,
+    answer_installs, forwarded_once, moment_is_of_step, only_primaries_commit, reader_steady,
+    safe_kept, snapshot_is_sound, something_happens, stops_are_failures,
 };

@@ -1,11 +1,14 @@
-use Rattle.node_core.proofs.ClusterNodes.{events, kept, restarts, steps, stops}
+use Rattle.node_core.proofs.ClusterNodes.{events, kept, led, restarts, steps, stops}
 use Rattle.node_core.proofs.cluster_laws.cluster_is_safe.Goals as goal
 
 pub returns-clause-events : goal.returns-clause-events
 returns-clause-events g c = events
 
 pub returns-clause-kept : goal.returns-clause-kept
-returns-clause-kept g c = kept c.safe_kept.ensures
+returns-clause-kept g c = kept c.safe_kept.ensures.kept
+
+pub returns-clause-led : goal.returns-clause-led
+returns-clause-led g c = led c.safe_kept.ensures.led
 
 pub returns-clause-steps : goal.returns-clause-steps
 returns-clause-steps g c = steps

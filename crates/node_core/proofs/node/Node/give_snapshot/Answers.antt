@@ -66,7 +66,7 @@ returns-in-Ok-clause-safe g c honest =
     c.of.ensures ∙ c.in-Ok.ensures.bytes honest ∙ ap (λ (l : List ℕ). l ++ file_encoding (snapshot_of (state h old.store)) no_meaning) c.new-bytes.ensures.items in
     let owes = tells-snapshot h old.store (n.store.kept honest) from c.file_is_read.ensures ltx octets written c.requires.owed (c.snapshot_is_a_file.ensures.sound honest) encoding in
     let went = c.make.ensures.went honest in
-    steps (seen h old) (seen end new) (laws.Hello from) (laws.Item (file_in ltx)) (seen h old).role [] None h h end ∣ rests_stay h ∣₁ went
+    steps (seen h old) (seen end new) (laws.Hello from) (laws.Item (file_in ltx)) [] None h h end ∣ rests_stay h ∣₁ went
     (looks-says h end old (fields_of t) went.store c.requires.primary (n.image honest) n.locked.together n.replica from (laws.Item (file_in ltx)) (leads n.config.candidate c.requires.primary, owes.0, owes.1) tt)
 
 pub returns-in-Err-clause-safe : goal.returns-in-Err-clause-safe
@@ -81,7 +81,7 @@ returns-in-Err-clause-safe g c honest =
     let why = c.in-Err.fault in
     let went = c.make.ensures.went honest in
     let safe : StepsSafely (seen h old) (laws.Hello from) (laws.Refused (law_store_fault why)) (seen end new) h end =
-    steps (seen h old) (seen end new) (laws.Hello from) (laws.Refused (law_store_fault why)) (seen h old).role [] None h h end ∣ rests_stay h ∣₁ went
+    steps (seen h old) (seen end new) (laws.Hello from) (laws.Refused (law_store_fault why)) [] None h h end ∣ rests_stay h ∣₁ went
     (looks-says h end old (fields_of t) went.store c.requires.primary (n.image honest) n.locked.together n.replica from (laws.Refused (law_store_fault why))
     (read-refused (Unit {0}) (seen h old) (seen end new) (seen h old).role from n.store.broken why (failed-some h n.store.broken n.store.attempt n.store.tried) c.in-Err.ensures.cause) refl) in
     subst (λ (r : Refusal). StepsSafely (seen h old) (laws.Hello from) (law_answer (answers.Refused r)) (seen end new) h end) (sym c.refusal_of.ensures)
