@@ -15,11 +15,11 @@ use crate::settling::settle_from;
 use lf_base::Failed;
 use lf_disk::Disk;
 use std::alloc::Global;
-use txn_log::{empty, no_pages, rewrite};
+use txn_log::empty;
 
 /// Does the rest of what a stop left: of an install where a snapshot decides, of a drop where the
-/// mark does; else it writes the last file's pages again, or cuts the database file to no bytes.
-/// The file that decides is read a second time.
+/// mark does; else it writes the last file's pages again. Without a file nothing is left to do. The
+/// file that decides is read a second time.
 pub fn finish<D: Disk>(
     alloc: Global,
     disk: &mut D,
@@ -41,9 +41,6 @@ pub fn finish<D: Disk>(
         }
         Decider::Mark => empty(alloc, disk, found.names.as_slice()),
         Decider::Last(outline) => rewrite_from(disk, reader, outline.name(), &outline.header),
-        Decider::Nothing => {
-            let nothing = no_pages(alloc);
-            rewrite(disk, &nothing)
-        }
+        Decider::Nothing => Ok(()),
     }
 }
