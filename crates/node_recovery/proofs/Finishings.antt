@@ -27,6 +27,8 @@ use Rattle.txn_log.proofs.Puttings.{cases_option, still_decides, page_in-lock, p
 use Rattle.node_recovery.specs.declared.outline.Outline.{Outline}
 use Rattle.node_recovery.specs.declared.tally.Tally.{Tally}
 use Rattle.node_recovery.specs.Finding.{FindsSnapshot, FindsMark, FindsLog, FindsNothing}
+use Rattle.node_recovery.specs.declared.found.Decider.{Decider}
+use Rattle.node_recovery.specs.Finishing.{is_marked}
 use Rattle.node_recovery.specs.Listing.{AreListed}
 use Rattle.node_recovery.specs.Outline.{encoding_under}
 use Rattle.node_recovery.specs.Rewriting.{HoldsFile}
@@ -274,3 +276,11 @@ module _ (names : List Entry) (f : Folder) (entries : List Entry) (tally : Tally
 pub on_ok : {T E P Q : Type 0} (result : Result T E) → (P → Q) → OnOk result P → OnOk result Q
 on_ok (Ok x) follows is = follows is
 on_ok (Err e) follows is = is
+
+pub any_ok : {T E P : Type 0} (result : Result T E) → P → OnOk result P
+any_ok (Ok x) p = p
+any_ok (Err e) p = tt
+
+-- where the mark doesn't decide
+pub not_marked : {X : Type 0} (d e : Decider) → d ≡ e → is_marked e ≡ false → is_marked d ≡ true → X
+not_marked d e is isnt marked = let no : false ≡ true = sym isnt ∙ ap is_marked (sym is) ∙ marked in absurd (cc)
