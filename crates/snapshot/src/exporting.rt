@@ -28,6 +28,9 @@ pub fn export<D: Disk>(store: &mut Store<D>, out: &mut Vec<u8>) -> Result<(), St
         (failed_of (D.history store.new.disk) store.new.broken store.new.attempt store.new.tried) (D.history store.new.disk) }
     ensures fields { (store.new.entries.items ≡ store.old.entries.items) × (store.new.sums.sums ≡ store.old.sums.sums) × (store.new.page_size ≡ store.old.page_size)
         × (store.new.commit ≡ store.old.commit) × (store.new.wal ≡ store.old.wal) × (store.new.broken ≡ store.old.broken) }
+    ensures marks { (store.new.dropped ≡ store.old.dropped) × (store.new.refused ≡ store.old.refused) × (store.new.whole ≡ store.old.whole)
+        × (store.new.attempt ≡ store.old.attempt) × (store.new.tried ≡ store.old.tried) × (store.new.decoder ≡ store.old.decoder) }
+    ensures rests { Rests (D.history store.old.disk) (D.history store.new.disk) }
     ensures honest { D.honest store.new.disk ≡ D.honest store.old.disk }
 {
     if store.broken {

@@ -2,6 +2,7 @@
 ghost use Rattle.std.specs.Prelude.{◌≡◌, ◌<◌, ◌/◌, [], length, None, Some, IsTrue, IfSome, IfNone, IfOk, if◌then◌else◌};
 ghost use Rattle.database_file.specs.Commit.{LeadsTo};
 ghost use Rattle.database_file.specs.CommitParts.{changes_nothing};
+ghost use Rattle.lf_disk.specs.History.{Rests};
 ghost use Rattle.txn_log.specs.Calls.{Moved};
 ghost use Rattle.txn_log.specs.Store.{state_of, failed_of};
 ghost use Rattle.lf_sqlite_pages.specs.PageSize.{IsPageSize};
@@ -35,6 +36,9 @@ pub fn import_change<D: Disk>(
         (failed_of (D.history store.new.disk) store.new.broken store.new.attempt store.new.tried) (D.history store.new.disk) }
     ensures fields { (store.new.entries.items ≡ store.old.entries.items) × (store.new.sums.sums ≡ store.old.sums.sums) × (store.new.page_size ≡ store.old.page_size)
         × (store.new.commit ≡ store.old.commit) × (store.new.wal ≡ store.old.wal) × (store.new.broken ≡ store.old.broken) }
+    ensures marks { (store.new.dropped ≡ store.old.dropped) × (store.new.refused ≡ store.old.refused) × (store.new.whole ≡ store.old.whole)
+        × (store.new.attempt ≡ store.old.attempt) × (store.new.tried ≡ store.old.tried) × (store.new.decoder ≡ store.old.decoder) }
+    ensures rests { Rests (D.history store.old.disk) (D.history store.new.disk) }
     ensures honest { D.honest store.new.disk ≡ D.honest store.old.disk }
 {
     let size = match page_size_in(bytes) {

@@ -1,5 +1,6 @@
 //! The snapshot of a store in memory.
 ghost use Rattle.std.specs.Prelude.{◌≡◌, ◌≤◌, ◌++◌, [], length, None, IfOk, IsTrue, OnOk, OnErr};
+ghost use Rattle.lf_disk.specs.History.{Rests};
 ghost use Rattle.ltx_codec.specs.Format.{file_encoding, no_meaning};
 ghost use Rattle.world_laws.specs.Answers.{snapshot_of};
 ghost use Rattle.txn_log.specs.Calls.{Moved};
@@ -43,7 +44,8 @@ pub fn make<D: Disk>(store: &mut Store<D>, out: &mut Vec<u8>) -> Result<(), Stor
     ensures fields { (store.new.entries.items ≡ store.old.entries.items) × (store.new.sums.sums ≡ store.old.sums.sums) × (store.new.page_size ≡ store.old.page_size)
         × (store.new.commit ≡ store.old.commit) × (store.new.wal ≡ store.old.wal) × (store.new.broken ≡ store.old.broken) }
     ensures marks { (store.new.dropped ≡ store.old.dropped) × (store.new.refused ≡ store.old.refused) × (store.new.whole ≡ store.old.whole)
-        × (store.new.attempt ≡ store.old.attempt) × (store.new.tried ≡ store.old.tried) }
+        × (store.new.attempt ≡ store.old.attempt) × (store.new.tried ≡ store.old.tried) × (store.new.decoder ≡ store.old.decoder) }
+    ensures rests { Rests (D.history store.old.disk) (D.history store.new.disk) }
     ensures honest { D.honest store.new.disk ≡ D.honest store.old.disk }
 {
     if store.broken {
