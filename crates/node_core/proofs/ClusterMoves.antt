@@ -31,6 +31,7 @@ stands-empty = inl record {
     no_snapshot = refl;
     mark = refl;
     decided = record { none = λ same. refl; some = λ file same. absurd (none_file file same) };
+    bare = λ _ _. refl;
   };
   log = refl;
   sound = record { ascends = tt; encodings = λ k d within. absurd (omega (arith, within)); min = λ k d within. absurd (omega (arith, within)); max = λ k d within. absurd (omega (arith, within)); follow = λ k d within. absurd (omega (arith, within)) };

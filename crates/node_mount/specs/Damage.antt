@@ -1,18 +1,12 @@
 -- When a data directory is refused.
-use Rattle.std.specs.Prelude.{◌≡◌, ℕ, Bool, IsTrue, List, [], ◌∷◌, Option, Result, Err}
-use Rattle.lf_disk.specs.Folder.{Folder}
+use Rattle.std.specs.Prelude.{◌≡◌, Bool, IsTrue, List, [], ◌∷◌, Option, Result, Err}
 use Rattle.lf_disk.specs.History.{History, now}
-use Rattle.lf_disk.specs.declared.name.FileName.{FileName}
-use Rattle.node_recovery.specs.Finding.{IsDamaged}
+use Rattle.node_recovery.specs.Finding.{HasDamage}
 use Rattle.node_mount.specs.Returns.{GivesBack}
 use Rattle.node_mount.specs.declared.mount_fault.MountFault.{MountFault}
 use Rattle.node_mount.specs.declared.mount_fault.MountFault.TheVariants as fault
 use Rattle.node_mount.specs.declared.returned.Returned.{Returned}
 use Rattle.node_mount.specs.declared.returned.Returned.TheVariants as returned
-
--- one of its files is damaged
-abbrev pub HasDamage : Folder → Type 0
-HasDamage f = (file : FileName) × (want : ℕ) × (got : ℕ) × IsDamaged f file want got
 
 -- the maker could give a disk that is not honest or has a damaged file; and it came back, as honest as it was
 pub record FindsDamage {D F H T S : Type 0} (honest : D → Bool) (history : D → History) (may_give : D → Type 0) (old new : Option (List (Returned D F H T S))) : Type 0 where

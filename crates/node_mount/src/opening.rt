@@ -2,6 +2,7 @@
 ghost use Rattle.std.specs.Prelude.{◌≡◌, IsTrue, IfOk, IfErr};
 ghost use Rattle.lf_disk.specs.History.{now};
 ghost use Rattle.node_core.specs.Nodes.{history, parts_of, seen};
+ghost use Rattle.node_recovery.specs.Finding.{HasDamage};
 ghost use Rattle.node_mount.specs.Opening.{config_of as given, primary_host as host_of, seen_anew, ComesBack, IsUnopened};
 ghost use Rattle.turn_desk.specs.Seats.{IsOf};
 ghost use Rattle.txn_log.specs.Durable.{Durable};
@@ -36,6 +37,7 @@ pub fn open_recovered<D: Disk + Drop>(
     requires settled { IsTrue (D.honest disk) → IsSettled (D.history disk) }
     ensures seen { IsTrue (D.honest disk) → IfOk result (λ node. (stood : StoreState) → Durable (now (D.history disk)) stood
         → seen (history node) (parts_of node) ≡ seen_anew stood (D.faults disk) config) }
+    ensures exact { IsTrue (D.honest disk) → IfOk result (λ _. HasDamage (now (D.history disk)) → ⊥) }
     ensures why { IsTrue (D.honest disk) → IfErr result (IsUnopened (now (D.history disk))) }
     ensures back { IfErr result (ComesBack D.honest D.faults disk) }
 {

@@ -5,12 +5,12 @@ use Rattle.std.proofs.Props.{props}
 use Rattle.std.proofs.Math.Logic.{∥∥₁_elim}
 use Rattle.std.proofs.lemmas.Bool.{cases_Bool, and_parts, and_from, false≢true}
 use Rattle.std.proofs.lemmas.Map.Keys.{IsDistinct-tail, apart_from_distinct}
+use Rattle.lf_disk.specs.declared.name.FileName.TheVariants.{Ltx as LtxName}
 use Rattle.lf_disk.specs.Folder.{Folder}
 use Rattle.ltx_codec.specs.Format.{IsLtx}
-use Rattle.world_laws.specs.Store.{StoreState}
 use Rattle.txn_log.specs.declared.entry.Entry.{Entry}
 use Rattle.txn_log.specs.Kept.{LogFile, file_of, encoding_of, Ascends}
-use Rattle.txn_log.specs.Durable.{IsEncoding, IsLog, StandsByLog}
+use Rattle.txn_log.specs.Durable.{IsEncoding, IsLog}
 use Rattle.txn_log.specs.Store.{files_in}
 use Rattle.txn_log.proofs.Stores.{encoding_from}
 use Rattle.node_recovery.specs.Listing.{Has, place_of, same_numbers, AreInOrder, AreOnce, AreListed}
@@ -89,13 +89,13 @@ module _ (files : List LogFile) (sound : IsLog files) (f : Folder) where
             (λ a b has. let there = (all a b (inr has)).0 in (there, behind e es a b here.0 there order once has)) order_later (IsDistinct-tail same_numbers e es once),
       )
 
-pub ascends_listed : (names : List Entry) (f : Folder) (store : StoreState) → AreListed names f → StandsByLog f store → Ascends 0 (files_in names f)
-ascends_listed names f store listed by =
-    ascends_in by.files by.sound f 0 names
+pub ascends_listed : (names : List Entry) (f : Folder) (files : List LogFile) → AreListed names f → IsLog files → ((a b : ℕ) → f (LtxName a b) ≡ encoding_of files a b) → Ascends 0 (files_in names f)
+ascends_listed names f files listed sound log =
+    ascends_in files sound f 0 names
     (λ a b has.
-    let some : IsSome (encoding_of by.files a b) = subst (λ (o : Option (List ℕ)). IsSome o) (by.kept.log a b) (listed.there a b has) in
-    elim (is_in None by.files a b some) [
+    let some : IsSome (encoding_of files a b) = subst (λ (o : Option (List ℕ)). IsSome o) (log a b) (listed.there a b has) in
+    elim (is_in None files a b some) [
       | inl none ↦ absurd (false≢true none)
-      | inr there ↦ (there, (bounds 0 by.files a b by.sound.ascends there).0)
+      | inr there ↦ (there, (bounds 0 files a b sound.ascends there).0)
     ])
     listed.order listed.once

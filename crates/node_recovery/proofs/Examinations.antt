@@ -24,7 +24,7 @@ none_there (Some x) none = let no : true ≡ false = none in absurd (cc)
 module _ (names : List Entry) (f : Folder) (listed : AreListed names f) (no_snapshot : f Snapshot ≡ None) (no_mark : f Dropped ≡ None) where
   finds_by : (d : Decider) (entries : List Entry) (tally : Tally) → FindsIn names f d entries tally → FindsBy f d names entries tally
   finds_by (decider.Last outline) entries tally finds = record { no_snapshot = no_snapshot; no_mark = no_mark; entries_are = finds.0; read = finds.1; last_is = finds.2; summed = finds.3 }
-  finds_by decider.Nothing entries tally finds = record { no_snapshot = no_snapshot; no_mark = no_mark; no_names = finds.0; no_entries = finds.1; no_pages = finds.2 }
+  finds_by decider.Nothing entries tally finds = record { no_snapshot = no_snapshot; no_mark = no_mark; no_names = finds.0; no_entries = finds.1; no_pages = finds.2; no_bytes = finds.3 }
   finds_by (decider.Snapshot outline) entries tally finds = absurd finds
   finds_by decider.Mark entries tally finds = absurd finds
 

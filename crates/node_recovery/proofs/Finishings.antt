@@ -5,9 +5,9 @@ use Rattle.std.proofs.Math.Nat.{mul-le-mul_right}
 use Rattle.std.proofs.lemmas.Option.{same_Some}
 use Rattle.std.proofs.lemmas.Bool.{cases_eq, false≢true}
 use Rattle.lf_base.proofs.FileLemmas.{length-resized}
-use Rattle.lf_disk.specs.declared.name.FileName.TheVariants.{Database, Snapshot, Dropped, Ltx}
+use Rattle.lf_disk.specs.declared.name.FileName.TheVariants.{Database, Staged, Snapshot, Dropped, Ltx}
 use Rattle.lf_disk.specs.Folder.{Folder, bytes_of}
-use Rattle.lf_disk.specs.History.{History, now}
+use Rattle.lf_disk.specs.History.{History, now, IsSettledBut}
 use Rattle.lf_sqlite_pages.specs.Image.{DatabaseImage, empty_image, page_at}
 use Rattle.lf_sqlite_pages.specs.Change.{PageChange, IsChange, HoldsEveryPage, written}
 use Rattle.lf_sqlite_pages.specs.LockPage.{lock_page_of}
@@ -27,6 +27,8 @@ use Rattle.txn_log.proofs.Puttings.{cases_option, still_decides, page_in-lock, p
 use Rattle.node_recovery.specs.declared.outline.Outline.{Outline}
 use Rattle.node_recovery.specs.declared.tally.Tally.{Tally}
 use Rattle.node_recovery.specs.Finding.{FindsSnapshot, FindsMark, FindsLog, FindsNothing}
+use Rattle.node_recovery.specs.declared.found.Decider.{Decider}
+use Rattle.node_recovery.specs.Finishing.{is_marked}
 use Rattle.node_recovery.specs.Listing.{AreListed}
 use Rattle.node_recovery.specs.Outline.{encoding_under}
 use Rattle.node_recovery.specs.Rewriting.{HoldsFile}
@@ -37,7 +39,7 @@ use Rattle.node_recovery.proofs.Restored.{page_of, page_there, count}
 use Rattle.node_recovery.proofs.Unique.{one_log}
 
 -- a file cannot both stand and be absent
-clash : {X : Type 0} (o : Option (List ℕ)) → o ≡ None → IsSome o → X
+pub clash : {X : Type 0} (o : Option (List ℕ)) → o ≡ None → IsSome o → X
 clash o none some = let no : IsSome {T = List ℕ} None = subst (λ (x : Option (List ℕ)). IsSome x) none some in absurd (false≢true no)
 
 some_of : (o : Option (List ℕ)) (x : List ℕ) → o ≡ Some x → IsSome o
@@ -94,6 +96,7 @@ module _ (image : DatabaseImage) (files : List LogFile) (named : LogFile) (chang
     decided =
         decided_by image (bytes_of (c Database))
         (still_decides change image (bytes_of (f Database)) (bytes_of (c Database)) (subst (λ (x : PageChange). Decides x image (bytes_of (f Database))) tells (kept.decided.some named last)) worn.database.bytes);
+    bare = λ none. let no : None ≡ Some named = sym none ∙ last in absurd (cc);
   }
 
 -- an image that was written is what the file shows and what the change decides
@@ -245,6 +248,7 @@ module _ (names : List Entry) (f : Folder) (outline : Outline) (entries : List E
               decided_by (restored_image its (bytes_of (f Database))) (files_in names f) last.named its last.last_is tells_last
               (restored_image its (bytes_of (f Database))) (bytes_of (now new Database))
               (decides_restored its (bytes_of (f Database)) (bytes_of (now new Database)) valid is);
+          bare = λ none. let no : None ≡ Some last.named = sym none ∙ last.last_is in absurd (cc);
         };
         shows = shows_restored its (bytes_of (f Database)) (bytes_of (now new Database)) valid is;
         settled = done.settled;
@@ -255,40 +259,28 @@ module _ (names : List Entry) (f : Folder) (entries : List Entry) (tally : Tally
   no_files : files_in names f ≡ []
   no_files = ap (λ (ns : List Entry). files_in ns f) finds.no_names
 
-  ascends_none : Ascends 0 (files_in names f)
-  ascends_none = subst (λ (fs : List LogFile). Ascends 0 fs) (sym no_files) tt
-
-  pub worn_nothing : (change : PageChange) (store : StoreState) → Durable f store → (c : Folder) → IsWorn change f c → Durable c store
-  worn_nothing change store durable c worn =
-      let by = by_log f store finds.no_snapshot finds.no_mark durable in
-      let none : last_of by.files ≡ None = ap last_of (sym (one names f listed ascends_none store by) ∙ no_files) in
-      same_store names f listed ascends_none store by c
-      record {
-        log = λ a b. worn.others (Ltx a b) refl refl ∙ by.kept.log a b;
-        no_snapshot = worn.others Snapshot refl refl ∙ by.kept.no_snapshot;
-        mark = ap is_some (worn.others Dropped refl refl) ∙ by.kept.mark;
-        decided = record { none = by.kept.decided.none; some = λ g some. let no : None ≡ Some g = sym none ∙ some in absurd (cc) };
-      }
-
-  pub rest_nothing : (change : PageChange) (new : History) → change.commit ≡ 0 → IsRewritten change f new → IsAtRest empty_image [] false new
-  rest_nothing change new none done = record {
-    kept = record {
-      log = λ a b. done.others (Ltx a b) refl ∙ log_listed names f listed a b ∙ ap (λ (fs : List LogFile). encoding_of fs a b) no_files;
-      no_snapshot = done.others Snapshot refl ∙ finds.no_snapshot;
-      mark = ap is_some (done.others Dropped refl ∙ finds.no_mark);
+  pub rest_nothing : (h : History) → now h ≡ f → IsSettledBut Staged h → IsAtRest empty_image [] false h
+  rest_nothing h same settled = record {
+    kept = subst (λ (c : Folder). Kept empty_image [] false c) (sym same) record {
+      log = λ a b. log_listed names f listed a b ∙ ap (λ (fs : List LogFile). encoding_of fs a b) no_files;
+      no_snapshot = finds.no_snapshot;
+      mark = ap is_some finds.no_mark;
       decided = record { none = λ _. refl; some = λ g some. let no : None ≡ Some g = some in absurd (cc) };
+      bare = λ _ _. finds.no_bytes;
     };
-    shows = shows_nothing (bytes_of (now new Database))
-        (ap (λ (o : Option (List ℕ)). length (bytes_of o)) done.database
-        ∙ length-resized (change.commit * change.page_size) (patched change.page_size (bytes_of (f Database)) change.pages)
-        ∙ ap (λ (n : ℕ). n * change.page_size) none ∙ no_bytes change.page_size);
-    settled = done.settled;
+    shows = subst (λ (c : Folder). Shows empty_image (bytes_of (c Database))) (sym same) (shows_nothing (bytes_of (f Database)) (ap length finds.no_bytes));
+    settled = settled;
   }
-    where
-      no_bytes : (size : ℕ) → 0 * size ≡ 0
-      no_bytes size = omega arith
 
 -- what follows from what holds after Ok holds after Ok
 pub on_ok : {T E P Q : Type 0} (result : Result T E) → (P → Q) → OnOk result P → OnOk result Q
 on_ok (Ok x) follows is = follows is
 on_ok (Err e) follows is = is
+
+pub any_ok : {T E P : Type 0} (result : Result T E) → P → OnOk result P
+any_ok (Ok x) p = p
+any_ok (Err e) p = tt
+
+-- where the mark doesn't decide
+pub not_marked : {X : Type 0} (d e : Decider) → d ≡ e → is_marked e ≡ false → is_marked d ≡ true → X
+not_marked d e is isnt marked = let no : false ≡ true = sym isnt ∙ ap is_marked (sym is) ∙ marked in absurd (cc)

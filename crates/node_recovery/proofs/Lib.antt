@@ -2,6 +2,7 @@ mod Agreements
 mod Ascending
 mod Examinations
 mod PieceReaders
+mod Findings
 mod Finishings
 mod Judgings
 mod Lasts

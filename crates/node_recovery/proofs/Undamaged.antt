@@ -30,7 +30,7 @@ use Rattle.node_recovery.specs.declared.fault.RecoverFault.{RecoverFault}
 use Rattle.node_recovery.specs.declared.fault.RecoverFault.TheVariants as fault
 use Rattle.node_recovery.specs.Agreeing.{IsSummedOtherwise}
 use Rattle.node_recovery.specs.Damage.{IsUnread, last_file, position_behind, IsFirstRefused}
-use Rattle.node_recovery.specs.Finding.{IsSnapshotRefused, IsLogSummedOtherwise, IsDamaged}
+use Rattle.node_recovery.specs.Finding.{IsSnapshotRefused, IsLogSummedOtherwise, IsLogLost, IsDamaged}
 use Rattle.node_recovery.specs.Listing.{AreListed}
 use Rattle.node_recovery.specs.Opening.{Opens}
 use Rattle.node_recovery.specs.Outcome.{IsBlameless}
@@ -41,7 +41,7 @@ use Rattle.node_recovery.proofs.Lasts.{LastIs, last_named}
 use Rattle.node_recovery.proofs.Openings.{decided_image}
 
 -- the encoding of a file is read
-not_unread : (encoding : List ℕ) (want got : ℕ) → IsEncoding encoding → IsUnread encoding want got → ⊥
+pub not_unread : (encoding : List ℕ) (want got : ℕ) → IsEncoding encoding → IsUnread encoding want got → ⊥
 not_unread encoding want got is unread = ∥∥₁_elim is (λ x y. absurd x) (λ (it : IsLtx encoding (file_of encoding)).
     let place = unread.earliest.place in
     let whole : encoding ++ [] ≡ encoding = append-nil encoding in
@@ -111,15 +111,9 @@ last_has P known [] first all g is = first g is
 last_has P known (x ∷ xs) first all g is =
     last_has P (Some x) xs (λ y same. subst P (same_Some x y same) (all 0 x (omega arith))) (λ k d within. all (suc k) d (omega (arith, within))) g is
 
--- a log
-module _ (names : List Entry) (f : Folder) (listed : AreListed names f) (store : StoreState) (by : StandsByLog f store) (file : FileName) (want got : ℕ) where
-  same : files_in names f ≡ by.files
-  same = one names f listed (ascends_listed names f store listed by) store by
-
-  sound : IsLog (files_in names f)
-  sound = subst (λ (fs : List LogFile). IsLog fs) (sym same) by.sound
-
-  not_first : IsFirstRefused names f file want got → ⊥
+-- no file of a sound log is refused
+module _ (names : List Entry) (f : Folder) (sound : IsLog (files_in names f)) (file : FileName) (want got : ℕ) where
+  pub not_first : IsFirstRefused names f file want got → ⊥
   not_first refused =
       let files = files_in names f in
       let index = refused.index in
@@ -147,6 +141,14 @@ module _ (names : List Entry) (f : Folder) (listed : AreListed names f) (store :
         ]
       ]
 
+-- and the last one's sum is that of the image
+module _ (names : List Entry) (f : Folder) (listed : AreListed names f) (store : StoreState) (by : StandsByLog f store) (file : FileName) (want got : ℕ) where
+  same : files_in names f ≡ by.files
+  same = one names f listed (ascends_listed names f by.files listed by.sound by.kept.log) store by
+
+  sound : IsLog (files_in names f)
+  sound = subst (λ (fs : List LogFile). IsLog fs) (sym same) by.sound
+
   not_last : IsLogSummedOtherwise names f file want got → ⊥
   not_last other =
       let files = files_in names f in
@@ -158,13 +160,22 @@ module _ (names : List Entry) (f : Folder) (listed : AreListed names f) (store :
       not_otherwise named.encoding (bytes_of (f Database)) store.image want got is decides (ap (λ (g : Ltx). g.post) its.tells ∙ said)
       (subst (λ (g : Ltx). IsSummedOtherwise g (bytes_of (f Database)) want got) (sym its.tells) other.sum)
 
+  -- without a file it has no bytes
+  not_lost : IsLogLost names f file want got → ⊥
+  not_lost lost =
+      let none : last_of by.files ≡ None = ap last_of (sym same ∙ ap (λ (ns : List Entry). files_in ns f) lost.no_names) in
+      omega (arith, lost.some, lost.got_is ∙ ap length (by.kept.bare none refl))
+
 undamaged : (f : Folder) (store : StoreState) (file : FileName) (want got : ℕ) → Durable f store → IsDamaged f file want got → ⊥
 undamaged f store file want got durable (inl snapshot) = not_snapshot f store want got snapshot.0 durable snapshot.2
 undamaged f store file want got durable (inr log) =
     let by = by_log f store log.0 log.1 durable in
     elim log.4 [
-      | inl first ↦ not_first log.2 f log.3 store by file want got first
-      | inr last ↦ not_last log.2 f log.3 store by file want got last
+      | inl first ↦ not_first log.2 f (sound log.2 f log.3 store by file want got) file want got first
+      | inr more ↦ elim more [
+        | inl last ↦ not_last log.2 f log.3 store by file want got last
+        | inr lost ↦ not_lost log.2 f log.3 store by file want got lost
+      ]
     ]
 
 pub blameless : (old new : History) (store : StoreState) (why : RecoverFault) → Durable (now old) store → Opens old new (Err why) → IsBlameless why

@@ -1,5 +1,5 @@
 -- What decides in a folder, and what is read of it before anything is changed.
-use Rattle.std.specs.Prelude.{◌≡◌, ◌≢◌, ◌⊎◌, ℕ, false, List, [], ◌∷◌, Option, None, Some, IsSome, Result, Ok, Err}
+use Rattle.std.specs.Prelude.{◌≡◌, ◌≢◌, ◌⊎◌, ℕ, ◌<◌, false, List, [], ◌∷◌, length, Option, None, Some, IsSome, Result, Ok, Err}
 use Rattle.lf_disk.specs.declared.name.FileName.{FileName}
 use Rattle.lf_disk.specs.declared.name.FileName.TheVariants.{Database, Snapshot as SnapshotName, Dropped, Ltx as LtxName}
 use Rattle.lf_disk.specs.Folder.{Folder, bytes_of}
@@ -52,13 +52,14 @@ pub record FindsLog (f : Folder) (outline : Outline) (names entries : List Entry
   pub last_is : Some (file_of (encoding_under outline f)) ≡ last_file (files_in names f)
   pub summed : IsSummed (file_of (encoding_under outline f)) (bytes_of (f Database)) tally
 
--- no file decides
+-- no file decides, and the database file has no bytes
 pub record FindsNothing (f : Folder) (names entries : List Entry) (tally : Tally) : Type 0 where
   pub no_snapshot : f SnapshotName ≡ None
   pub no_mark : f Dropped ≡ None
   pub no_names : names ≡ []
   pub no_entries : entries ≡ []
   pub no_pages : HasNoPages tally
+  pub no_bytes : bytes_of (f Database) ≡ []
 
 abbrev pub FindsBy : Folder → Decider → List Entry → List Entry → Tally → Type 0
 FindsBy f (decider.Snapshot outline) names entries tally = FindsSnapshot f outline entries tally
@@ -91,11 +92,27 @@ pub record IsLogSummedOtherwise (names : List Entry) (f : Folder) (file : FileNa
   pub name : file ≡ LtxName last.header.min last.header.max
   pub sum : IsSummedOtherwise last (bytes_of (f Database)) want got
 
+-- no file of a log is there, and the database file has bytes: its log was lost
+pub record IsLogLost (names : List Entry) (f : Folder) (file : FileName) (want got : ℕ) : Type 0 where
+  pub no_names : names ≡ []
+  pub name : file ≡ Database
+  pub want_is : want ≡ 0
+  pub got_is : got ≡ length (bytes_of (f Database))
+  pub some : 0 < got
+
+-- the first damage of a log: a file that is refused, the sum of the last one's pages, or that no file is left
+abbrev pub IsLogDamaged : List Entry → Folder → FileName → ℕ → ℕ → Type 0
+IsLogDamaged names f file want got = IsFirstRefused names f file want got ⊎ (IsLogSummedOtherwise names f file want got ⊎ IsLogLost names f file want got)
+
 -- THE FIRST DAMAGE OF A FOLDER: of its snapshot where that stands; else, where no mark stands, of its log
 abbrev pub IsDamaged : Folder → FileName → ℕ → ℕ → Type 0
 IsDamaged f file want got =
     IsSome (f SnapshotName) × (file ≡ SnapshotName) × IsSnapshotRefused (bytes_of (f SnapshotName)) (bytes_of (f Database)) want got
-    ⊎ (f SnapshotName ≡ None) × (f Dropped ≡ None) × (names : List Entry) × AreListed names f × (IsFirstRefused names f file want got ⊎ IsLogSummedOtherwise names f file want got)
+    ⊎ (f SnapshotName ≡ None) × (f Dropped ≡ None) × (names : List Entry) × AreListed names f × IsLogDamaged names f file want got
+
+-- one of its files is damaged
+abbrev pub HasDamage : Folder → Type 0
+HasDamage f = (file : FileName) × (want : ℕ) × (got : ℕ) × IsDamaged f file want got
 
 -- over any disk: the entries end behind this file, or there are none
 abbrev pub AreEnded : List Entry → Option Outline → Type 0
@@ -117,12 +134,12 @@ abbrev pub FindsIn : List Entry → Folder → Decider → List Entry → Tally 
 FindsIn names f (decider.Last outline) entries tally =
     AreEntries entries (files_in names f) × IsOutlineIn (encoding_under outline f) outline
     × (Some (file_of (encoding_under outline f)) ≡ last_file (files_in names f)) × IsSummed (file_of (encoding_under outline f)) (bytes_of (f Database)) tally
-FindsIn names f decider.Nothing entries tally = (names ≡ []) × (entries ≡ []) × HasNoPages tally
+FindsIn names f decider.Nothing entries tally = (names ≡ []) × (entries ≡ []) × HasNoPages tally × (bytes_of (f Database) ≡ [])
 FindsIn names f _ entries tally = ⊥
 
 abbrev pub ExaminesLog : List Entry → Folder → Result Found RecoverFault → Type 0
 ExaminesLog names f (Ok found) = (found.names.items ≡ names) × FindsIn names f found.decider found.entries.items found.tally
-ExaminesLog names f (Err (fault.Damaged file want got)) = IsFirstRefused names f file want got ⊎ IsLogSummedOtherwise names f file want got
+ExaminesLog names f (Err (fault.Damaged file want got)) = IsLogDamaged names f file want got
 ExaminesLog names f (Err why) = Unit {0}
 
 -- what examining a folder gives

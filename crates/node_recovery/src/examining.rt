@@ -121,6 +121,52 @@ fn examine_last<D: Disk>(
     }
 }
 
+/// The size of the database file in bytes, 0 where it is absent.
+fn database_size<D: Disk>(disk: &mut D) -> Result<u64, RecoverFault>
+    ensures size { IsTrue (D.honest disk.old) → IfOk result (λ size. size ≡ length (bytes_of (now (D.history disk.old) Name.Database))) }
+    ensures blameless { IfErr result IsBlameless }
+    ensures rests { Rests (D.history disk.old) (D.history disk.new) }
+    ensures honest { D.honest disk.new ≡ D.honest disk.old }
+    ensures cause { HasCause (D.faults disk.old) (D.faults disk.new) result }
+{
+    match disk.size(FileName::Database) {
+        Ok(Some(size)) => Ok(size),
+        Ok(None) => Ok(0),
+        Err(_) => Err(RecoverFault::Disk),
+    }
+}
+
+/// Where there is no file of a log, the database file has no bytes.
+fn examine_none<D: Disk>(
+    alloc: Global,
+    disk: &mut D,
+    names: Vec<Entry>,
+) -> Result<Found, RecoverFault>
+    ensures examines { IsTrue (D.honest disk.old) → names.items ≡ [] → ExaminesLog names.items (now (D.history disk.old)) result }
+    ensures shaped { IfOk result IsShapedBy }
+    ensures rests { Rests (D.history disk.old) (D.history disk.new) }
+    ensures honest { D.honest disk.new ≡ D.honest disk.old }
+    ensures cause { HasCause (D.faults disk.old) (D.faults disk.new) result }
+{
+    let size = match database_size(disk) {
+        Ok(size) => size,
+        Err(why) => return Err(why),
+    };
+    if size > 0 {
+        return Err(RecoverFault::Damaged {
+            file: FileName::Database,
+            want: 0,
+            got: size,
+        });
+    }
+    Ok(Found {
+        names,
+        decider: Decider::Nothing,
+        entries: Vec::new(alloc),
+        tally: Tally::none(alloc),
+    })
+}
+
 /// Reads the log, judges it, and compares the pages that it leaves.
 fn examine_log<D: Disk>(
     alloc: Global,
@@ -140,12 +186,7 @@ fn examine_log<D: Disk>(
     };
     let Log { entries, last } = log;
     match last {
-        None => Ok(Found {
-            names,
-            decider: Decider::Nothing,
-            entries,
-            tally: Tally::none(alloc),
-        }),
+        None => examine_none(alloc, disk, names),
         Some(last) => examine_last(alloc, disk, names, entries, last),
     }
 }

@@ -1,9 +1,10 @@
 //! A folder is examined and gets its last form.
-ghost use Rattle.std.specs.Prelude.{◌≡◌, ◌==◌, false, IsTrue, IfOk, if◌then◌else◌};
-ghost use Rattle.lf_disk.specs.History.{now, EachMoment, IsSettledBut};
+ghost use Rattle.std.specs.Prelude.{◌≡◌, ◌==◌, false, IsTrue, IfOk, IfErr, if◌then◌else◌};
+ghost use Rattle.lf_disk.specs.History.{now, EachMoment, Rests, IsSettledBut};
 ghost use Rattle.lf_disk.specs.declared.name.FileName.{FileName as Name};
 ghost use Rattle.world_laws.specs.Store.{StoreState};
 ghost use Rattle.txn_log.specs.Durable.{Durable};
+ghost use Rattle.node_recovery.specs.Finding.{HasDamage};
 ghost use Rattle.node_recovery.specs.Finishing.{size_left, commit_left, is_marked};
 ghost use Rattle.node_recovery.specs.Opening.{Opens, IsFitting};
 ghost use Rattle.node_recovery.specs.Outcome.{HasCause};
@@ -35,6 +36,9 @@ pub fn reopen<D: Disk>(alloc: Global, disk: &mut D) -> Result<Opened, RecoverFau
     requires { IsTrue (D.honest disk.old) → IsSettledBut Name.Staged (D.history disk.old) }
     ensures opens { IsTrue (D.honest disk.old) → Opens (D.history disk.old) (D.history disk.new) result }
     ensures fits { IfOk result IsFitting }
+    ensures exact { IsTrue (D.honest disk.old) → IfOk result (λ _. HasDamage (now (D.history disk.old)) → ⊥) }
+    ensures untouched { IsTrue (D.honest disk.old) → IfErr result (λ _. HasDamage (now (D.history disk.old))
+        → Rests (D.history disk.old) (D.history disk.new)) }
     ensures moments { IsTrue (D.honest disk.old) → (store : StoreState) → Durable (now (D.history disk.old)) store
         → EachMoment (D.history disk.old) (D.history disk.new) (λ c. Durable c store) }
     ensures honest { D.honest disk.new ≡ D.honest disk.old }

@@ -1,10 +1,10 @@
 //! The bytes of a database: its pages, one after another.
-ghost use Rattle.std.specs.Prelude.{◌≡◌, ◌<◌, ◌≤◌, ◌++◌, ℕ, [], false, None, IsTrue, OnOk, OnErr};
+ghost use Rattle.std.specs.Prelude.{◌≡◌, ◌<◌, ◌≤◌, ◌++◌, ℕ, false, IsTrue, OnOk, OnErr};
 ghost use Rattle.std.specs.Io.{StartsWith};
 ghost use Rattle.lf_disk.specs.History.{now, Rests};
 ghost use Rattle.lf_sqlite_pages.specs.Image.{image_bytes};
-ghost use Rattle.txn_log.specs.Calls.{Moved};
-ghost use Rattle.txn_log.specs.Store.{image_in, state_of, failed_of};
+ghost use Rattle.txn_log.specs.Fields.{NoCall, state_now};
+ghost use Rattle.txn_log.specs.Store.{image_in};
 ghost use Rattle.snapshot.specs.Causes.{ReadsWith};
 ghost use Rattle.snapshot.specs.Pages.{HasPages, AppendsPage};
 
@@ -15,19 +15,18 @@ use txn_log::{Store, StoreFault};
 /// Appends the pages of the database, one after another, with zeros at the lock page. After a fault
 /// `out` is as before. It holds nothing: each page is read straight into `out`.
 pub fn export<D: Disk>(store: &mut Store<D>, out: &mut Vec<u8>) -> Result<(), StoreFault>
-    ensures bytes { IsTrue (D.honest store.old.disk) → OnOk result (out.new.items ≡ out.old.items ++ image_bytes (state_of (D.history store.old.disk)
-        store.old.page_size store.old.commit store.old.entries.items store.old.dropped store.old.broken store.old.whole).image) }
+    ensures bytes { IsTrue (D.honest store.old.disk) → OnOk result
+        (out.new.items ≡ out.old.items ++ image_bytes (state_now store.old).image) }
     ensures err { OnErr result (out.new.items ≡ out.old.items) }
     ensures cause { ReadsWith store.old.broken (D.faults store.old.disk) (D.faults store.new.disk) result }
 
     // The store is as before.
-    ensures went { IsTrue (D.honest store.old.disk) → Moved
-        (state_of (D.history store.old.disk) store.old.page_size store.old.commit store.old.entries.items store.old.dropped store.old.broken store.old.whole)
-        (failed_of (D.history store.old.disk) store.old.broken store.old.attempt store.old.tried) (D.history store.old.disk) [] None
-        (state_of (D.history store.new.disk) store.new.page_size store.new.commit store.new.entries.items store.new.dropped store.new.broken store.new.whole)
-        (failed_of (D.history store.new.disk) store.new.broken store.new.attempt store.new.tried) (D.history store.new.disk) }
+    ensures went { IsTrue (D.honest store.old.disk) → NoCall store.old store.new }
     ensures fields { (store.new.entries.items ≡ store.old.entries.items) × (store.new.sums.sums ≡ store.old.sums.sums) × (store.new.page_size ≡ store.old.page_size)
         × (store.new.commit ≡ store.old.commit) × (store.new.wal ≡ store.old.wal) × (store.new.broken ≡ store.old.broken) }
+    ensures marks { (store.new.dropped ≡ store.old.dropped) × (store.new.refused ≡ store.old.refused) × (store.new.whole ≡ store.old.whole)
+        × (store.new.attempt ≡ store.old.attempt) × (store.new.tried ≡ store.old.tried) × (store.new.decoder ≡ store.old.decoder) }
+    ensures rests { Rests (D.history store.old.disk) (D.history store.new.disk) }
     ensures honest { D.honest store.new.disk ≡ D.honest store.old.disk }
 {
     if store.broken {

@@ -1,9 +1,9 @@
 //! The change that makes a store's database that of some bytes.
-ghost use Rattle.std.specs.Prelude.{◌≡◌, ◌<◌, ◌/◌, [], length, None, Some, IsTrue, IfSome, IfNone, IfOk, if◌then◌else◌};
+ghost use Rattle.std.specs.Prelude.{◌≡◌, ◌<◌, ◌/◌, length, None, Some, IsTrue, IfSome, IfNone, IfOk, if◌then◌else◌};
 ghost use Rattle.database_file.specs.Commit.{LeadsTo};
 ghost use Rattle.database_file.specs.CommitParts.{changes_nothing};
-ghost use Rattle.txn_log.specs.Calls.{Moved};
-ghost use Rattle.txn_log.specs.Store.{state_of, failed_of};
+ghost use Rattle.lf_disk.specs.History.{Rests};
+ghost use Rattle.txn_log.specs.Fields.{NoCall, state_now};
 ghost use Rattle.lf_sqlite_pages.specs.PageSize.{IsPageSize};
 ghost use Rattle.lf_sqlite_pages.specs.LockPage.{IsWithinLimit};
 ghost use Rattle.snapshot.specs.Bytes.{AreDatabase, ImportsWith, image_of_bytes, size_in};
@@ -23,18 +23,17 @@ pub fn import_change<D: Disk>(
     store: &mut Store<D>,
     bytes: &[u8],
 ) -> Result<Option<Change>, ImportFault>
-    ensures leads { IsTrue (D.honest store.old.disk) → IfOk result (LeadsTo (state_of (D.history store.old.disk)
-        store.old.page_size store.old.commit store.old.entries.items store.old.dropped store.old.broken store.old.whole).image (image_of_bytes bytes.now)) }
+    ensures leads { IsTrue (D.honest store.old.disk) → IfOk result
+        (LeadsTo (state_now store.old).image (image_of_bytes bytes.now)) }
     ensures cause { ImportsWith bytes.now store.old.broken (D.faults store.old.disk) (D.faults store.new.disk) result }
 
     // The store is as before.
-    ensures went { IsTrue (D.honest store.old.disk) → Moved
-        (state_of (D.history store.old.disk) store.old.page_size store.old.commit store.old.entries.items store.old.dropped store.old.broken store.old.whole)
-        (failed_of (D.history store.old.disk) store.old.broken store.old.attempt store.old.tried) (D.history store.old.disk) [] None
-        (state_of (D.history store.new.disk) store.new.page_size store.new.commit store.new.entries.items store.new.dropped store.new.broken store.new.whole)
-        (failed_of (D.history store.new.disk) store.new.broken store.new.attempt store.new.tried) (D.history store.new.disk) }
+    ensures went { IsTrue (D.honest store.old.disk) → NoCall store.old store.new }
     ensures fields { (store.new.entries.items ≡ store.old.entries.items) × (store.new.sums.sums ≡ store.old.sums.sums) × (store.new.page_size ≡ store.old.page_size)
         × (store.new.commit ≡ store.old.commit) × (store.new.wal ≡ store.old.wal) × (store.new.broken ≡ store.old.broken) }
+    ensures marks { (store.new.dropped ≡ store.old.dropped) × (store.new.refused ≡ store.old.refused) × (store.new.whole ≡ store.old.whole)
+        × (store.new.attempt ≡ store.old.attempt) × (store.new.tried ≡ store.old.tried) × (store.new.decoder ≡ store.old.decoder) }
+    ensures rests { Rests (D.history store.old.disk) (D.history store.new.disk) }
     ensures honest { D.honest store.new.disk ≡ D.honest store.old.disk }
 {
     let size = match page_size_in(bytes) {

@@ -3,9 +3,9 @@ ghost use Rattle.std.specs.Prelude.{◌≡◌, IsTrue, OnOk, OnErr};
 ghost use Rattle.ltx_codec.specs.Format.{IsFile};
 ghost use Rattle.ltx_codec.specs.Positions.{after};
 ghost use Rattle.world_laws.specs.Store.{Install};
-ghost use Rattle.txn_log.specs.Calls.{Went};
 ghost use Rattle.txn_log.specs.Causes.{Breaks};
-ghost use Rattle.txn_log.specs.Store.{end_of_entries, state_of, failed_of};
+ghost use Rattle.txn_log.specs.Fields.{CallWent};
+ghost use Rattle.txn_log.specs.Store.{end_of_entries};
 ghost use Rattle.snapshot.specs.Installing.{Installs};
 
 use lf_base::Pos;
@@ -25,12 +25,7 @@ pub fn install<D: Disk>(store: &mut Store<D>, ltx: &Ltx) -> Result<Pos, StoreFau
         × (store.new.entries.items ≡ store.old.entries.items)) }
 
     // What a crash leaves at each moment.
-    ensures went { IsTrue (D.honest store.old.disk) → Went
-        (state_of (D.history store.old.disk) store.old.page_size store.old.commit store.old.entries.items store.old.dropped store.old.broken store.old.whole)
-        (failed_of (D.history store.old.disk) store.old.broken store.old.attempt store.old.tried) (D.history store.old.disk)
-        (Install ltx.now) result
-        (state_of (D.history store.new.disk) store.new.page_size store.new.commit store.new.entries.items store.new.dropped store.new.broken store.new.whole)
-        (failed_of (D.history store.new.disk) store.new.broken store.new.attempt store.new.tried) (D.history store.new.disk) }
+    ensures went { IsTrue (D.honest store.old.disk) → CallWent store.old (Install ltx.now) result store.new }
     ensures honest { D.honest store.new.disk ≡ D.honest store.old.disk }
 {
     if store.broken {

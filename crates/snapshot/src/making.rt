@@ -1,12 +1,12 @@
 //! The snapshot of a store.
-ghost use Rattle.std.specs.Prelude.{◌≡◌, ◌≢◌, ◌<◌, ◌≤◌, ◌++◌, ◌^◌, [], false, length, None, IsTrue, OnOk, OnErr};
+ghost use Rattle.std.specs.Prelude.{◌≡◌, ◌≢◌, ◌<◌, ◌≤◌, ◌++◌, ◌^◌, false, length, IsTrue, OnOk, OnErr};
 ghost use Rattle.std.specs.Io.KnownBytes.{Appends};
 ghost use Rattle.lf_disk.specs.History.{now, Rests};
 ghost use Rattle.lf_sqlite_pages.specs.Writes.{data_writes};
 ghost use Rattle.ltx_codec.specs.Format.{file_encoding, no_meaning, pages_encoding};
 ghost use Rattle.world_laws.specs.Answers.{snapshot_of};
-ghost use Rattle.txn_log.specs.Calls.{Moved};
-ghost use Rattle.txn_log.specs.Store.{end_of_entries, image_in, state_of, failed_of};
+ghost use Rattle.txn_log.specs.Fields.{NoCall, state_now};
+ghost use Rattle.txn_log.specs.Store.{end_of_entries, image_in};
 ghost use Rattle.snapshot.specs.Causes.{WritesWith};
 ghost use Rattle.snapshot.specs.Output.{AppendsPrefix, AppendsSome};
 ghost use Rattle.snapshot.specs.Pages.{HasPages};
@@ -30,23 +30,20 @@ pub fn make_into<D: Disk, K: Sink>(
 ) -> Result<(), IntoFault>
     requires room { length page.old ≡ 65536 }
     requires written { 1 ≤ (end_of_entries store.old.entries.items).txid }
-    ensures whole { IsTrue (D.honest store.old.disk) → OnOk result (Appends (K.taken sink.old) (K.taken sink.new) (file_encoding (snapshot_of (state_of (D.history store.old.disk)
-        store.old.page_size store.old.commit store.old.entries.items store.old.dropped store.old.broken store.old.whole)) no_meaning)) }
-    ensures prefix { IsTrue (D.honest store.old.disk) → OnErr result (AppendsPrefix (K.taken sink.old) (K.taken sink.new) (file_encoding (snapshot_of (state_of (D.history store.old.disk)
-        store.old.page_size store.old.commit store.old.entries.items store.old.dropped store.old.broken store.old.whole)) no_meaning)) }
+    ensures whole { IsTrue (D.honest store.old.disk) → OnOk result
+        (Appends (K.taken sink.old) (K.taken sink.new) (file_encoding (snapshot_of (state_now store.old)) no_meaning)) }
+    ensures prefix { IsTrue (D.honest store.old.disk) → OnErr result
+        (AppendsPrefix (K.taken sink.old) (K.taken sink.new) (file_encoding (snapshot_of (state_now store.old)) no_meaning)) }
     ensures grows { AppendsSome (K.taken sink.old) (K.taken sink.new) }
     ensures cause { WritesWith store.old.broken (D.faults store.old.disk) (D.faults store.new.disk) (K.faults sink.old) (K.faults sink.new) result }
 
     // The store is as before.
-    ensures went { IsTrue (D.honest store.old.disk) → Moved
-        (state_of (D.history store.old.disk) store.old.page_size store.old.commit store.old.entries.items store.old.dropped store.old.broken store.old.whole)
-        (failed_of (D.history store.old.disk) store.old.broken store.old.attempt store.old.tried) (D.history store.old.disk) [] None
-        (state_of (D.history store.new.disk) store.new.page_size store.new.commit store.new.entries.items store.new.dropped store.new.broken store.new.whole)
-        (failed_of (D.history store.new.disk) store.new.broken store.new.attempt store.new.tried) (D.history store.new.disk) }
+    ensures went { IsTrue (D.honest store.old.disk) → NoCall store.old store.new }
     ensures fields { (store.new.entries.items ≡ store.old.entries.items) × (store.new.sums.sums ≡ store.old.sums.sums) × (store.new.page_size ≡ store.old.page_size)
         × (store.new.commit ≡ store.old.commit) × (store.new.wal ≡ store.old.wal) × (store.new.broken ≡ store.old.broken) }
     ensures marks { (store.new.dropped ≡ store.old.dropped) × (store.new.refused ≡ store.old.refused) × (store.new.whole ≡ store.old.whole)
-        × (store.new.attempt ≡ store.old.attempt) × (store.new.tried ≡ store.old.tried) }
+        × (store.new.attempt ≡ store.old.attempt) × (store.new.tried ≡ store.old.tried) × (store.new.decoder ≡ store.old.decoder) }
+    ensures rests { Rests (D.history store.old.disk) (D.history store.new.disk) }
     ensures honest { D.honest store.new.disk ≡ D.honest store.old.disk }
 {
     if store.broken {

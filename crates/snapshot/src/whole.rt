@@ -1,9 +1,10 @@
 //! The snapshot of a store in memory.
-ghost use Rattle.std.specs.Prelude.{◌≡◌, ◌≤◌, ◌++◌, [], length, None, IfOk, IsTrue, OnOk, OnErr};
+ghost use Rattle.std.specs.Prelude.{◌≡◌, ◌≤◌, ◌++◌, length, IfOk, IsTrue, OnOk, OnErr};
+ghost use Rattle.lf_disk.specs.History.{Rests};
 ghost use Rattle.ltx_codec.specs.Format.{file_encoding, no_meaning};
 ghost use Rattle.world_laws.specs.Answers.{snapshot_of};
-ghost use Rattle.txn_log.specs.Calls.{Moved};
-ghost use Rattle.txn_log.specs.Store.{end_of_entries, state_of, failed_of};
+ghost use Rattle.txn_log.specs.Fields.{NoCall, state_now};
+ghost use Rattle.txn_log.specs.Store.{end_of_entries};
 ghost use Rattle.snapshot.specs.Causes.{ReadsWith, fault_in_memory};
 
 use crate::fault::IntoFault;
@@ -29,21 +30,18 @@ fn page_room(alloc: Global) -> Result<Vec<u8>, NoMemory>
 /// before.
 pub fn make<D: Disk>(store: &mut Store<D>, out: &mut Vec<u8>) -> Result<(), StoreFault>
     requires written { 1 ≤ (end_of_entries store.old.entries.items).txid }
-    ensures bytes { IsTrue (D.honest store.old.disk) → OnOk result (out.new.items ≡ out.old.items ++ file_encoding (snapshot_of (state_of (D.history store.old.disk)
-        store.old.page_size store.old.commit store.old.entries.items store.old.dropped store.old.broken store.old.whole)) no_meaning) }
+    ensures bytes { IsTrue (D.honest store.old.disk) → OnOk result
+        (out.new.items ≡ out.old.items ++ file_encoding (snapshot_of (state_now store.old)) no_meaning) }
     ensures err { OnErr result (out.new.items ≡ out.old.items) }
     ensures cause { ReadsWith store.old.broken (D.faults store.old.disk) (D.faults store.new.disk) result }
 
     // The store is as before.
-    ensures went { IsTrue (D.honest store.old.disk) → Moved
-        (state_of (D.history store.old.disk) store.old.page_size store.old.commit store.old.entries.items store.old.dropped store.old.broken store.old.whole)
-        (failed_of (D.history store.old.disk) store.old.broken store.old.attempt store.old.tried) (D.history store.old.disk) [] None
-        (state_of (D.history store.new.disk) store.new.page_size store.new.commit store.new.entries.items store.new.dropped store.new.broken store.new.whole)
-        (failed_of (D.history store.new.disk) store.new.broken store.new.attempt store.new.tried) (D.history store.new.disk) }
+    ensures went { IsTrue (D.honest store.old.disk) → NoCall store.old store.new }
     ensures fields { (store.new.entries.items ≡ store.old.entries.items) × (store.new.sums.sums ≡ store.old.sums.sums) × (store.new.page_size ≡ store.old.page_size)
         × (store.new.commit ≡ store.old.commit) × (store.new.wal ≡ store.old.wal) × (store.new.broken ≡ store.old.broken) }
     ensures marks { (store.new.dropped ≡ store.old.dropped) × (store.new.refused ≡ store.old.refused) × (store.new.whole ≡ store.old.whole)
-        × (store.new.attempt ≡ store.old.attempt) × (store.new.tried ≡ store.old.tried) }
+        × (store.new.attempt ≡ store.old.attempt) × (store.new.tried ≡ store.old.tried) × (store.new.decoder ≡ store.old.decoder) }
+    ensures rests { Rests (D.history store.old.disk) (D.history store.new.disk) }
     ensures honest { D.honest store.new.disk ≡ D.honest store.old.disk }
 {
     if store.broken {

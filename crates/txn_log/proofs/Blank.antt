@@ -15,6 +15,7 @@ blank h is = record {
       no_snapshot = is.none Snapshot;
       mark = ap is_some (is.none Dropped);
       decided = record { none = λ none. refl; some = λ file some. absurd (none_some file some) };
+      bare = λ _ _. ap bytes_of (is.none Database);
     };
     shows = record { long = ap (λ (o : Option (List ℕ)). length (bytes_of o)) (is.none Database); pages = λ n first last. absurd (omega (arith, first, last)) };
     settled = is.settled;

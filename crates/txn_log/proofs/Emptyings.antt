@@ -1,5 +1,5 @@
 -- The rest of a drop, call by call.
-use Rattle.std.proofs.Common.{◌≡◌, ℕ, ◌*◌, true, Option, Some, None, IsSome, List, [], length, refl, sym, ◌∙◌, ap, subst, arith}
+use Rattle.std.proofs.Common.{◌≡◌, ℕ, ◌*◌, true, false, Option, Some, None, IsSome, List, [], length, refl, sym, ◌∙◌, ap, subst, arith}
 use Rattle.std.specs.Prelude.{is_some}
 use Rattle.lf_disk.specs.declared.name.FileName.TheVariants.{Database, Snapshot, Dropped, Ltx}
 use Rattle.lf_base.proofs.FileLemmas.{length-resized}
@@ -49,6 +49,7 @@ module _ (entries : List Entry) (h one : History) (is : IsByMark (now h)) where
         no_snapshot = done.others Snapshot refl ∙ by_one.no_snapshot;
         mark = ap is_some (done.others Dropped refl) ∙ is_true (now one Dropped) by_one.stands;
         decided = record { none = λ _. refl; some = λ file some. let no : None ≡ Some file = some in absurd (cc) };
+        bare = λ _ unmarked. let no : true ≡ false = unmarked in absurd (cc);
       };
       shows = shows_nothing (bytes_of (now two Database))
           (ap (λ (o : Option (List ℕ)). length (bytes_of o)) done.database

@@ -23,6 +23,7 @@ kept_same image files dropped f c kept same = record {
   no_snapshot = same Snapshot refl ∙ kept.no_snapshot;
   mark = ap is_some (same Dropped refl) ∙ kept.mark;
   decided = subst (λ (o : Option (List ℕ)). IsDecided (last_of files) image (bytes_of o)) (sym (same Database refl)) kept.decided;
+  bare = λ none unmarked. ap bytes_of (same Database refl) ∙ kept.bare none unmarked;
 }
 
 -- where there is no mark, no snapshot is needed

@@ -39,6 +39,7 @@ module _ (image : DatabaseImage) (file : LogFile) (rest : List LogFile) (some : 
     decided =
         subst (λ (l : Option LogFile). IsDecided l image (bytes_of (c Database))) (last_rest file rest some)
         (subst (λ (o : Option (List ℕ)). IsDecided (last_of (file ∷ rest)) image (bytes_of o)) (sym (sets.elsewhere Database refl)) kept.decided);
+    bare = λ none unmarked. ap bytes_of (sets.elsewhere Database refl) ∙ kept.bare (last_rest file rest some ∙ none) unmarked;
   }
 
   pub at_rest_less : (h new : History) → IsAtRest image (file ∷ rest) false h → Moves (SetsFile (Ltx file.min file.max) None) (SetsFile (Ltx file.min file.max) None) h new → IsAtRest image rest false new

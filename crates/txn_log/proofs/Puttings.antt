@@ -125,6 +125,9 @@ module _ (files : List LogFile) (file : LogFile) where
   pub last_more : last_of (files ++ file ∷ []) ≡ Some file
   last_more = fold-append (λ (_ : Option LogFile) (f : LogFile). Some f) None files (file ∷ [])
 
+  pub some_more : last_of (files ++ file ∷ []) ≡ None → ⊥
+  some_more none = let no : None ≡ Some file = sym none ∙ last_more in absurd (cc)
+
 module _ (image : DatabaseImage) (files : List LogFile) (change : PageChange) (file : LogFile) (tells : change_of file.encoding ≡ change) where
   pub is_decided : (made : DatabaseImage) (bytes : List ℕ) → Decides change made bytes → IsDecided (last_of (files ++ file ∷ [])) made bytes
   is_decided made bytes is = record {
@@ -144,6 +147,7 @@ module _ (image : DatabaseImage) (files : List LogFile) (change : PageChange) (f
     no_snapshot = same Snapshot refl ∙ kept.no_snapshot;
     mark = ap is_some (same Dropped refl) ∙ kept.mark;
     decided = subst (λ (o : Option (List ℕ)). IsDecided (last_of files) image (bytes_of o)) (sym (same Database refl)) kept.decided;
+    bare = λ none unmarked. ap bytes_of (same Database refl) ∙ kept.bare none unmarked;
   }
 
   -- once it is published
@@ -157,6 +161,7 @@ module _ (image : DatabaseImage) (files : List LogFile) (change : PageChange) (f
     decided =
         subst (λ (o : Option (List ℕ)). IsDecided (last_of (files ++ file ∷ [])) (apply image change) (bytes_of o)) (sym (same Database refl))
         (is_decided (apply image change) (bytes_of (f Database)) (decides image change (bytes_of (f Database)) valid shows complete));
+    bare = λ none. absurd (some_more files file none);
   }
 
   pub either : (f c : Folder) → IsChange change → Kept image files false f → Shows image (bytes_of (f Database)) → IsComplete image change → IsOldOrPublished f (Ltx file.min file.max) file.encoding c
@@ -173,6 +178,7 @@ module _ (image : DatabaseImage) (files : List LogFile) (change : PageChange) (f
     no_snapshot = worn.others Snapshot refl refl ∙ kept.no_snapshot;
     mark = ap is_some (worn.others Dropped refl refl) ∙ kept.mark;
     decided = is_decided made (bytes_of (c Database)) (still_decides change made (bytes_of (f Database)) (bytes_of (c Database)) (undecided made (bytes_of (f Database)) kept.decided) worn.database.bytes);
+    bare = λ none. absurd (some_more files file none);
   }
 
 -- pages that are not written stay, whatever else is written over the bytes

@@ -98,6 +98,7 @@ module _ (image : DatabaseImage) (file : LogFile) (h new : History) (written : I
           subst (λ (x : LogFile). Decides (change_of x.encoding) image (bytes_of (c Database))) is
           (subst (λ (o : Option (List ℕ)). Decides (change_of file.encoding) image (bytes_of o)) (sym (same Database refl)) written.by.decides);
     };
+    bare = λ none. let no : None ≡ Some file = sym none in absurd (cc);
   }
 
   here : (d c : Folder) → may_leave h d → Renames Snapshot (Ltx file.min file.max) d c → SameBut Staged (renamed Snapshot (Ltx file.min file.max) (now h)) c

@@ -1,5 +1,5 @@
 -- What a folder holds: a log of transaction files, and the image that the last of them decides.
-use Rattle.std.specs.Prelude.{◌≡◌, ◌≢◌, ℕ, ◌*◌, ◌<◌, ◌≤◌, Bool, ◌==◌, ◌&&◌, List, [], ◌∷◌, length, fold, Option, None, Some, IsSome, is_some, unwrap_or, if◌then◌else◌}
+use Rattle.std.specs.Prelude.{◌≡◌, ◌≢◌, ℕ, ◌*◌, ◌<◌, ◌≤◌, Bool, false, ◌==◌, ◌&&◌, List, [], ◌∷◌, length, fold, Option, None, Some, IsSome, is_some, unwrap_or, if◌then◌else◌}
 use Rattle.std.proofs.Props.{props}
 use Rattle.lf_disk.specs.declared.name.FileName.TheVariants.{Database, Staged, Snapshot, Dropped, Ltx}
 use Rattle.lf_disk.specs.Folder.{Folder, bytes_of, SameBut}
@@ -46,12 +46,14 @@ pub record IsDecided (last : Option LogFile) (image : DatabaseImage) (bytes : Li
   pub none : last ≡ None → image ≡ empty_image
   pub some : (file : LogFile) → last ≡ Some file → Decides (change_of file.encoding) image bytes
 
--- the folder holds this image, this log and this mark, whatever a crash made of the database file
+-- The folder holds this image, this log and this mark, whatever a crash made of the database file. Without a file and a
+-- mark the database file has no bytes.
 pub record Kept (image : DatabaseImage) (files : List LogFile) (dropped : Bool) (f : Folder) : Type 0 where
   pub log : (a b : ℕ) → f (Ltx a b) ≡ encoding_of files a b
   pub no_snapshot : f Snapshot ≡ None
   pub mark : is_some (f Dropped) ≡ dropped
   pub decided : IsDecided (last_of files) image (bytes_of (f Database))
+  pub bare : last_of files ≡ None → dropped ≡ false → bytes_of (f Database) ≡ []
 
 -- a snapshot stands in the folder, and decides whatever else stands there
 pub record IsBySnapshot (image : DatabaseImage) (encoding : List ℕ) (f : Folder) : Type 0 where

@@ -10,6 +10,7 @@ pub mod Dropping
 pub mod Durable
 pub mod Entries
 pub mod FaultNumber
+pub mod Fields
 pub mod From
 pub mod FromFile
 pub mod FromSnapshot

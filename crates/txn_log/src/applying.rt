@@ -3,10 +3,10 @@ ghost use Rattle.std.specs.Prelude.{◌≡◌, IsTrue, IfOk, OnOk, OnErr};
 ghost use Rattle.ltx_codec.specs.Format.{IsFile};
 ghost use Rattle.ltx_codec.specs.Positions.{after};
 ghost use Rattle.world_laws.specs.Store.{Apply};
-ghost use Rattle.txn_log.specs.Apply.{whole_file, Judges, Completes, Applies};
-ghost use Rattle.txn_log.specs.Calls.{Went};
+ghost use Rattle.txn_log.specs.Apply.{whole_file, Judges, Completes};
 ghost use Rattle.txn_log.specs.Causes.{Breaks};
-ghost use Rattle.txn_log.specs.Store.{end_of_entries, state_of, failed_of};
+ghost use Rattle.txn_log.specs.Fields.{AppliesBy, CallWent};
+ghost use Rattle.txn_log.specs.Store.{end_of_entries};
 
 use crate::attempt::Attempt;
 use crate::copying::copy_of;
@@ -75,8 +75,7 @@ impl<D: Disk> Store<D> {
     /// each data page past the old size that it does not write.
     pub fn apply(&mut self, file: &Ltx) -> Result<Pos, StoreFault>
         requires { IsFile file.now }
-        ensures applies { Applies self.old.broken (end_of_entries self.old.entries.items) self.old.page_size self.old.commit
-            self.old.sums.sums file.now result }
+        ensures applies { AppliesBy self.old file.now result }
         ensures cause { Breaks self.old.broken (D.faults self.old.disk) result self.new.broken (D.faults self.new.disk) }
         ensures shape { OnOk result ((self.new.page_size ≡ file.now.header.page_size) × (self.new.commit ≡ file.now.header.commit)) }
         ensures position { OnOk result (end_of_entries self.new.entries.items ≡ after file.now) }
@@ -84,12 +83,8 @@ impl<D: Disk> Store<D> {
             × (self.new.entries.items ≡ self.old.entries.items)) }
 
         // What a crash leaves at each moment.
-        ensures went { IsTrue (D.honest self.old.disk) → Went
-            (state_of (D.history self.old.disk) self.old.page_size self.old.commit self.old.entries.items self.old.dropped self.old.broken self.old.whole)
-            (failed_of (D.history self.old.disk) self.old.broken self.old.attempt self.old.tried) (D.history self.old.disk)
-            (Apply (whole_file self.old.commit file.now)) result
-            (state_of (D.history self.new.disk) self.new.page_size self.new.commit self.new.entries.items self.new.dropped self.new.broken self.new.whole)
-            (failed_of (D.history self.new.disk) self.new.broken self.new.attempt self.new.tried) (D.history self.new.disk) }
+        ensures went { IsTrue (D.honest self.old.disk) → CallWent
+            self.old (Apply (whole_file self.old.commit file.now)) result self.new }
         ensures honest { D.honest self.new.disk ≡ D.honest self.old.disk }
     {
         match self.complete_file(file) {

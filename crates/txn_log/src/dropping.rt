@@ -3,7 +3,7 @@ ghost use Rattle.std.specs.Prelude.{◌≡◌, ◌≤◌, [], IsTrue, OnOk, OnEr
 ghost use Rattle.world_laws.specs.Store.{DropAll};
 ghost use Rattle.txn_log.specs.Calls.{Went};
 ghost use Rattle.txn_log.specs.Causes.{Breaks};
-ghost use Rattle.txn_log.specs.Dropping.{DropsAll};
+ghost use Rattle.txn_log.specs.Dropping.{DropsAll, IsMarked};
 ghost use Rattle.txn_log.specs.Store.{end_of_entries, state_of, failed_of};
 
 use crate::attempt::Attempt;
@@ -20,6 +20,7 @@ impl<D: Disk> Store<D> {
         requires { 1 ≤ (end_of_entries self.old.entries.items).txid }
         ensures drops { DropsAll self.old.broken result }
         ensures cause { Breaks self.old.broken (D.faults self.old.disk) result self.new.broken (D.faults self.new.disk) }
+        ensures mark { IsTrue (D.honest self.old.disk) → OnOk result (IsMarked (D.history self.new.disk)) }
         ensures shape { OnOk result ((self.new.page_size ≡ 0) × (self.new.commit ≡ 0) × (self.new.entries.items ≡ [])) }
         ensures same { OnErr result ((self.new.page_size ≡ self.old.page_size) × (self.new.commit ≡ self.old.commit)
             × (self.new.entries.items ≡ self.old.entries.items)) }

@@ -27,6 +27,7 @@ fn put_mark<D: Disk>(alloc: Global, disk: &mut D, entries: &[Entry]) -> Result<(
     ensures done { IsTrue (D.honest disk.old) → OnOk result ((image : DatabaseImage) (files : List LogFile)
         → IsMarkReady image files (D.history disk.old) → NameAll entries.now files
         → IsAtRest empty_image [] true (D.history disk.new)) }
+    ensures mark { IsTrue (D.honest disk.old) → OnOk result (now (D.history disk.new) Name.Dropped ≡ now (D.history disk.old) Name.Staged) }
     ensures honest { D.honest disk.new ≡ D.honest disk.old }
     ensures cause { CountsFaults (D.faults disk.old) (D.faults disk.new) result }
 {

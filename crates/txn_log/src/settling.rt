@@ -59,6 +59,7 @@ pub fn empty<D: Disk>(alloc: Global, disk: &mut D, entries: &[Entry]) -> Result<
         → EachMoment (D.history disk.old) (D.history disk.new) IsByMark }
     ensures done { IsTrue (D.honest disk.old) → OnOk result (IsByMark (now (D.history disk.old)) → HasNoOthers entries.now (now (D.history disk.old))
         → IsAtRest empty_image [] true (D.history disk.new)) }
+    ensures mark { IsTrue (D.honest disk.old) → OnOk result (now (D.history disk.new) Name.Dropped ≡ now (D.history disk.old) Name.Dropped) }
     ensures honest { D.honest disk.new ≡ D.honest disk.old }
     ensures cause { CountsFaults (D.faults disk.old) (D.faults disk.new) result }
 {

@@ -1,4 +1,4 @@
-use Rattle.std.proofs.Common.{◌∙◌, List, Option, sym, subst}
+use Rattle.std.proofs.Common.{◌≡◌, ◌∙◌, List, [], Option, sym, subst}
 use Rattle.lf_disk.specs.Folder.{Folder}
 use Rattle.lf_disk.specs.History.{now}
 use Rattle.txn_log.specs.declared.entry.Entry.{Entry}
@@ -21,3 +21,13 @@ returns-in-Some-clause-examines g c honest =
     subst (λ (f : Folder). ExaminesLog names f c.examine_last.result) same
     (c.examine_last.ensures.examines (c.judge_log.ensures.honest ∙ honest)
     (subst (λ (f : Folder). AreEntries c.in-Ok.log.entries.items (files_in names f)) (sym same) are) (subst (λ (f : Folder). IsLastRead names f c.in-Some.last) (sym same) last))
+
+pub returns-in-None-clause-examines : goal.returns-in-None-clause-examines
+returns-in-None-clause-examines g c honest =
+    let h = g.D.Disk.history c.args.disk.now in
+    let one = g.D.Disk.history c.judge_log.new.disk in
+    let names = c.args.names.items in
+    let same = same_now h one c.judge_log.ensures.rests in
+    let none : names ≡ [] = subst (λ (o : Option FileSummary). TellsLast names (now h) o) c.in-None.is (subst (λ (ns : List Entry). TellsLast ns (now h) c.in-Ok.log.last) c.as_slice.ensures.value (c.in-Ok.ensures.judges honest).1) in
+    subst (λ (f : Folder). ExaminesLog names f c.examine_none.result) same
+    (c.examine_none.ensures.examines (c.judge_log.ensures.honest ∙ honest) none)

@@ -1,4 +1,4 @@
-use Rattle.std.proofs.Common.{List, sym, subst}
+use Rattle.std.proofs.Common.{List, refl, sym, subst}
 use Rattle.lf_disk.specs.Folder.{bytes_of}
 use Rattle.lf_disk.specs.History.{now}
 use Rattle.lf_disk.specs.declared.name.FileName.TheVariants.{Database, Snapshot}
@@ -14,8 +14,10 @@ use Rattle.txn_log.specs.Kept.{file_of, change_of}
 use Rattle.node_recovery.specs.Outline.{encoding_under}
 use Rattle.node_recovery.specs.Rewriting.{HoldsFile}
 use Rattle.node_recovery.specs.Summing.{restored_image}
-use Rattle.node_recovery.proofs.Finishings.{snapshot_held, last_held, unsettled_store, installed_store, unsettled_left, is_by_mark, worn_store, rest_written, worn_nothing, on_ok}
+use Rattle.node_recovery.proofs.Finishings.{snapshot_held, last_held, unsettled_store, installed_store, unsettled_left, is_by_mark, worn_store, rest_written, rest_nothing, on_ok, any_ok, not_marked}
 use Rattle.node_recovery.proofs.Listed.{no_others_listed}
+use Rattle.node_recovery.proofs.Judgings.{rests_none}
+use Rattle.node_recovery.proofs.Reopenings.{only_read}
 use Rattle.node_recovery.proofs.finishing.finish.Goals as goal
 
 pub returns-in-Snapshot-clause-moments : goal.returns-in-Snapshot-clause-moments
@@ -85,9 +87,26 @@ returns-in-Last-clause-done g c honest =
 pub returns-in-Nothing-clause-moments : goal.returns-in-Nothing-clause-moments
 returns-in-Nothing-clause-moments g c honest store durable =
     let h = g.D.Disk.history c.args.disk.now in
+    only_read store h h (c.requires.settled honest) (rests_none h) durable
+
+pub returns-in-Nothing-clause-done : goal.returns-in-Nothing-clause-done
+returns-in-Nothing-clause-done g c honest =
+    let h = g.D.Disk.history c.args.disk.now in
     let found = c.args.found.now in
     let finds = c.requires.finds honest in
     let by : FindsNothing (now h) found.names.items found.entries.items found.tally =
     subst (λ (d : Decider). FindsBy (now h) d found.names.items found.entries.items found.tally) c.in-Nothing.is finds.by in
-    weakened h (g.D.Disk.history c.rewrite.new.disk) _ (λ f. Durable f store) (c.rewrite.ensures.moments honest)
-    (worn_nothing found.names.items (now h) found.entries.items found.tally finds.names by c.no_pages-nothing.result store durable)
+    subst (λ (d : Decider). IsFinished (now h) d found.names.items h) (sym c.in-Nothing.is)
+    (rest_nothing found.names.items (now h) found.entries.items found.tally finds.names by h refl (c.requires.settled honest))
+
+pub returns-in-Snapshot-clause-mark : goal.returns-in-Snapshot-clause-mark
+returns-in-Snapshot-clause-mark g c honest = any_ok c.settle_from.result (not_marked _ _ c.in-Snapshot.is refl)
+
+pub returns-in-Mark-clause-mark : goal.returns-in-Mark-clause-mark
+returns-in-Mark-clause-mark g c honest = on_ok c.empty.result (λ same marked. same) (c.empty.ensures.mark honest)
+
+pub returns-in-Last-clause-mark : goal.returns-in-Last-clause-mark
+returns-in-Last-clause-mark g c honest = any_ok c.rewrite_from.result (not_marked _ _ c.in-Last.is refl)
+
+pub returns-in-Nothing-clause-mark : goal.returns-in-Nothing-clause-mark
+returns-in-Nothing-clause-mark g c honest = not_marked _ _ c.in-Nothing.is refl

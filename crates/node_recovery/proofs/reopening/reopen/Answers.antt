@@ -1,4 +1,5 @@
-use Rattle.std.proofs.Common.{◌∙◌, false, sym, subst}
+use Rattle.std.proofs.Common.{◌∙◌, false, refl, sym, ap, subst}
+use Rattle.lf_disk.specs.declared.name.FileName.TheVariants.{Dropped}
 use Rattle.lf_disk.specs.Folder.{Folder}
 use Rattle.lf_disk.specs.History.{now, EachMoment}
 use Rattle.txn_log.specs.Durable.{Durable}
@@ -7,6 +8,7 @@ use Rattle.txn_log.specs.Store.{IsStore}
 use Rattle.txn_log.proofs.Resting.{same_now}
 use Rattle.node_recovery.specs.Finding.{Finds}
 use Rattle.node_recovery.specs.Finishing.{image_left, files_left, size_left, commit_left, is_marked, IsFinished}
+use Rattle.node_recovery.proofs.Findings.{whole_found}
 use Rattle.node_recovery.proofs.Openings.{kept_left, mode_left_is, state_is}
 use Rattle.node_recovery.proofs.Reopenings.{only_read, then_finished, then_unstaged, rest_unstaged}
 use Rattle.txn_log.proofs.Settlings.{perhaps}
@@ -78,4 +80,20 @@ returns-clause-opens g c honest =
       state = λ store durable.
           let was : Durable (now one) store = subst (λ (f : Folder). Durable f store) (sym (same_now h one c.examine_by.ensures.rests)) durable in
           rw (shape.0, shape.1, shape.2) (state_is names (now one) entries tally finds.names d finds.by three rest store was);
+      staged = (c.in-Ok-remove.ensures.done yet).seen.here;
+      mark = λ marked.
+          (c.in-Ok-remove.ensures.done yet).seen.elsewhere Dropped refl ∙ c.in-Ok-finish.ensures.mark still (sym shape.2 ∙ marked)
+          ∙ ap (λ (f : Folder). f Dropped) (same_now h one c.examine_by.ensures.rests);
     }
+
+pub returns-in-Err-finish-clause-untouched : goal.returns-in-Err-finish-clause-untouched
+returns-in-Err-finish-clause-untouched g c honest damage =
+    absurd (whole_found (now (g.D.Disk.history c.args.disk.now)) c.in-Ok-examine_by.found (c.in-Ok-examine_by.ensures.examines honest) damage)
+
+pub returns-in-Err-remove-clause-untouched : goal.returns-in-Err-remove-clause-untouched
+returns-in-Err-remove-clause-untouched g c honest damage =
+    absurd (whole_found (now (g.D.Disk.history c.args.disk.now)) c.in-Ok-examine_by.found (c.in-Ok-examine_by.ensures.examines honest) damage)
+
+pub returns-clause-exact : goal.returns-clause-exact
+returns-clause-exact g c honest damage =
+    whole_found (now (g.D.Disk.history c.args.disk.now)) c.in-Ok-examine_by.found (c.in-Ok-examine_by.ensures.examines honest) damage

@@ -15,6 +15,7 @@ returns-in-Ok-put_mark-clause-drops g c honest image files rest all =
     let ready = mark_ready h mid image files rest _ (c.in-Ok.ensures.staged honest) in (
       runs h mid image files rest new (c.stage.ensures.moments honest) (c.put_mark.ensures.moments still image files ready),
       c.in-Ok-put_mark.ensures.done still image files ready all,
+      c.in-Ok-put_mark.ensures.mark still ∙ (c.in-Ok.ensures.staged honest).here,
     )
 
 pub returns-in-Err-put_mark-clause-drops : goal.returns-in-Err-put_mark-clause-drops

@@ -1,7 +1,7 @@
-use Rattle.std.proofs.Common.{◌∙◌, sym}
+use Rattle.std.proofs.Common.{◌∙◌, refl, sym}
 use Rattle.lf_disk.specs.Folder.{bytes_of}
 use Rattle.lf_disk.specs.History.{now}
-use Rattle.lf_disk.specs.declared.name.FileName.TheVariants.{Staged}
+use Rattle.lf_disk.specs.declared.name.FileName.TheVariants.{Staged, Dropped}
 use Rattle.lf_disk.proofs.Moments.{weakened}
 use Rattle.txn_log.proofs.Marks.{by_mark, first, moments, none_other}
 use Rattle.txn_log.proofs.Puttings.{settled_staged}
@@ -45,3 +45,10 @@ returns-clause-done g c honest image files ready all =
     let published = c.in_ok-put_in_place.ensures.published honest ready.before ready.bytes ready.staged in
     c.in_ok-empty.ensures.done (c.put_in_place.ensures.honest ∙ honest) (by_mark h image files ready (now mid) published.seen)
     (none_other h image files ready mid c.args.entries.now published all)
+
+pub returns-clause-mark : goal.returns-clause-mark
+returns-clause-mark g c honest =
+    let h = g.D.Disk.history c.args.disk.now in
+    let staged = settled_staged h (c.requires.settled honest) (c.requires.there honest) in
+    let published = c.in_ok-put_in_place.ensures.published honest (now h) (bytes_of (now h Staged)) staged in
+    c.in_ok-empty.ensures.mark (c.put_in_place.ensures.honest ∙ honest) ∙ published.seen Dropped refl ∙ sym staged.here

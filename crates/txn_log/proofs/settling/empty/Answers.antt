@@ -1,5 +1,8 @@
-use Rattle.std.proofs.Common.{◌∙◌}
+use Rattle.std.proofs.Common.{◌∙◌, refl}
+use Rattle.lf_disk.specs.History.{now}
+use Rattle.lf_disk.specs.declared.name.FileName.TheVariants.{Dropped}
 use Rattle.txn_log.proofs.Emptyings.{clears, writes, at_rest}
+use Rattle.txn_log.proofs.Settlings.{cleared-other}
 use Rattle.txn_log.proofs.settling.empty.Goals as goal
 
 pub rewrite-requires : goal.rewrite-requires
@@ -23,3 +26,8 @@ pub returns-clause-done : goal.returns-clause-done
 returns-clause-done g c honest is others =
     at_rest c.args.entries.now (g.D.Disk.history c.args.disk.now) (g.D.Disk.history c.clear.new.disk) is c.no_pages-nothing.result (g.D.Disk.history c.rewrite.new.disk) (c.in_ok-clear.ensures.done honest)
     c.no_pages-nothing.ensures others (c.in_ok-rewrite.ensures.done (c.clear.ensures.honest ∙ honest))
+
+pub returns-clause-mark : goal.returns-clause-mark
+returns-clause-mark g c honest =
+    (c.in_ok-rewrite.ensures.done (c.clear.ensures.honest ∙ honest)).others Dropped refl
+    ∙ cleared-other c.args.entries.now (now (g.D.Disk.history c.args.disk.now)) (g.D.Disk.history c.clear.new.disk) (c.in_ok-clear.ensures.done honest) Dropped (λ a b. refl)

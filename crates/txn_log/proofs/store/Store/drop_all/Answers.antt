@@ -212,3 +212,18 @@ returns-in-From-clause-went g c honest =
     (name_all h s.page_size s.commit s.entries.items s.sums.sums s.whole s.tried shaped kept c.requires) in
     let drops = c.in-From.ensures.drops honest (old_image h s.page_size s.commit s.entries.items s.sums.sums s.whole s.tried shaped kept c.requires) (files_in s.entries.items (now h)) kept.rest all in
     rw (c.moment-self.ensures, c.if-self.false, isnt) (inr (went_in h s.page_size s.commit s.entries.items s.sums.sums s.whole s.tried shaped kept c.requires new drops.0))
+
+pub returns-in-Whole-clause-mark : goal.returns-in-Whole-clause-mark
+returns-in-Whole-clause-mark g c honest =
+    let s = c.args.self.now in
+    let h = g.D.Disk.history s.disk in
+    let isnt : s.dropped ≡ false = unmarked s.commit s.entries.items s.dropped s.sums.sums s.shaped (some_entries s.entries.items c.requires) in
+    let shaped : IsShaped s.commit s.entries.items false s.sums.sums = subst (λ (d : Bool). IsShaped s.commit s.entries.items d s.sums.sums) isnt s.shaped in
+    let kept : IsStore h s.page_size s.commit s.entries.items false s.sums.sums false s.whole s.tried =
+    subst (λ (d : Bool). IsStore h s.page_size s.commit s.entries.items d s.sums.sums false s.whole s.tried) isnt
+    (subst (λ (b : Bool). IsStore h s.page_size s.commit s.entries.items s.dropped s.sums.sums b s.whole s.tried) c.if-self.false (s.kept honest)) in
+    let all : NameAll c.as_slice.result.now (files_in s.entries.items (now h)) =
+    subst (λ (es : List Entry). NameAll es (files_in s.entries.items (now h))) (sym c.as_slice.ensures.value)
+    (name_all h s.page_size s.commit s.entries.items s.sums.sums s.whole s.tried shaped kept c.requires) in
+    let drops = c.in-Whole.ensures.drops honest (old_image h s.page_size s.commit s.entries.items s.sums.sums s.whole s.tried shaped kept c.requires) (files_in s.entries.items (now h)) kept.rest all in
+    drops.2
