@@ -15,6 +15,7 @@ use Rattle.file_view.specs.declared.plan.Plan.{Plan}
 use Rattle.file_view.specs.declared.plan.Plan.TheVariants as plan
 use Rattle.file_view.specs.Done.{IsDone}
 use Rattle.file_view.specs.Endings.{applied, committed, dropped, ended}
+use Rattle.file_view.specs.Needs.{needs_of}
 use Rattle.file_view.specs.Refusal.{HasCause}
 use Rattle.file_view.specs.Requests.{rows_of}
 use Rattle.file_view.specs.Served.{Served}
@@ -74,7 +75,7 @@ Follows (plan.Commit reply change) old files outcome new =
 
 -- a request of a message was refused, and nothing changed
 pub record IsRefused (old : Replay) (message : Message) (request : Request) (fault : ViewFault) (outcome : Outcome) (new : Replay) : Type 0 where
-  pub cause : HasCause (rows_of old.files.view (scene_over old.files.image message.link message.role) request) fault
+  pub cause : HasCause (needs_of old.files.view request) (rows_of old.files.view (scene_over old.files.image message.link message.role) request) fault
   pub outcome_is : outcome ≡ refused fault
   pub same : IsAt old.files.image old.files.view old.transactions new
 

@@ -3,6 +3,7 @@ ghost use Rattle.std.specs.Prelude.{◌≡◌, ◌≢◌, IfOk, IfErr, OnOk, OnE
 ghost use Rattle.lf_sqlite_pages.specs.Apply.{Fits, apply};
 ghost use Rattle.file_view.specs.Done.{IsDone};
 ghost use Rattle.file_view.specs.Endings.{applied, committed, dropped, ended};
+ghost use Rattle.file_view.specs.Needs.{needs_of};
 ghost use Rattle.file_view.specs.Refusal.{HasCause};
 ghost use Rattle.file_view.specs.Requests.{rows_of};
 ghost use Rattle.file_view.specs.Views.{new_view};
@@ -95,7 +96,7 @@ impl Files {
     ) -> Result<Plan, ViewFault>
         ensures image { self.new.image ≡ self.old.image }
         ensures done { IfOk result (λ plan. IsDone (Some self.old.image) self.old.view (scene_over self.old.image link role) request.now plan self.new.view) }
-        ensures cause { IfErr result (HasCause (rows_of self.old.view (scene_over self.old.image link role) request.now)) }
+        ensures cause { IfErr result (HasCause (needs_of self.old.view request.now) (rows_of self.old.view (scene_over self.old.image link role) request.now)) }
         ensures err { OnErr result (self.new.view ≡ self.old.view) }
         ensures awaits { IfOk result (AwaitWhere self.new.image self.new.view) }
     {

@@ -9,6 +9,7 @@ pub mod LogLawLemmas
 pub mod LogLemmas
 pub mod LogStands
 pub mod LogWriteLemmas
+pub mod NameLemmas
 pub mod PrepareLemmas
 pub mod ReadLemmas
 pub mod RequestLemmas

@@ -22,6 +22,7 @@ use Rattle.file_view.specs.JournalRules.{may_write_journal, finishing_rows, jour
 use Rattle.file_view.specs.JournalState.{reach}
 use Rattle.file_view.specs.LogRules.{log_write_rows}
 use Rattle.file_view.specs.NameRules.{is_there, unlinking_rows}
+use Rattle.file_view.specs.Needs.{Needs, Nothing}
 use Rattle.file_view.specs.Refusal.{Row, first_refusal, HasCause, HasReadCause}
 use Rattle.file_view.specs.Requests.{write_rows, size_rows, rows_at}
 use Rattle.file_view.specs.Roles.{is_replica}
@@ -72,25 +73,25 @@ removal-allowed s scene none =
     rest-allowed third rows (rest-allowed second (third ∷ rows) (rest-allowed (scene.is_broken, EIO) (second ∷ third ∷ rows) none))
 
 -- rows behind two others: those decide first, and where neither of them holds the rest does
-pub cause_first : (a b : Bool) (m n : Errno) (rest : List Row) (before now : ℕ) (f : ViewFault) → HasCause ((a, m) ∷ (b, n) ∷ []) f →
-    HasReadCause ((a, m) ∷ (b, n) ∷ rest) before now f
-cause_first a b m n rest before now (fault.Errno number) h = tested a b h where
+pub cause_first : (needs : Needs) (a b : Bool) (m n : Errno) (rest : List Row) (before now : ℕ) (f : ViewFault) → HasCause Nothing ((a, m) ∷ (b, n) ∷ []) f →
+    HasReadCause needs ((a, m) ∷ (b, n) ∷ rest) before now f
+cause_first needs a b m n rest before now (fault.Errno number) h = tested a b h where
   tested : (a b : Bool) → (if a then Some m else (if b then Some n else None)) ≡ Some number → (if a then Some m else (if b then Some n else first_refusal rest)) ≡ Some number
   tested true b h = h
   tested false true h = h
   tested false false h = absurd cc
-cause_first a b m n rest before now (fault.Page failed) h = absurd h
-cause_first a b m n rest before now fault.NoMemory h = tt
+cause_first needs a b m n rest before now (fault.Page failed) h = absurd h
+cause_first needs a b m n rest before now fault.NoMemory h = absurd h
 
-pub cause_behind : (a b : Bool) (m n : Errno) (rest : List Row) (before now : ℕ) (f : ViewFault) → first_refusal ((a, m) ∷ (b, n) ∷ []) ≡ None → HasReadCause rest before now f →
-    HasReadCause ((a, m) ∷ (b, n) ∷ rest) before now f
-cause_behind a b m n rest before now (fault.Errno number) none h = tested a b none where
+pub cause_behind : (needs : Needs) (a b : Bool) (m n : Errno) (rest : List Row) (before now : ℕ) (f : ViewFault) → first_refusal ((a, m) ∷ (b, n) ∷ []) ≡ None → HasReadCause needs rest before now f →
+    HasReadCause needs ((a, m) ∷ (b, n) ∷ rest) before now f
+cause_behind needs a b m n rest before now (fault.Errno number) none h = tested a b none where
   tested : (a b : Bool) → (if a then Some m else (if b then Some n else None)) ≡ None → (if a then Some m else (if b then Some n else first_refusal rest)) ≡ Some number
   tested true b none = absurd cc
   tested false true none = absurd cc
   tested false false none = h
-cause_behind a b m n rest before now (fault.Page failed) none h = h
-cause_behind a b m n rest before now fault.NoMemory none h = tt
+cause_behind needs a b m n rest before now (fault.Page failed) none h = h
+cause_behind needs a b m n rest before now fault.NoMemory none h = h
 
 -- what holds of the one file that there is
 pub of-file : (o : Option FileKind) (Does : FileKind → Type 0) (f : FileKind) → o ≡ Some f → Does f → IsSomeAnd o Does

@@ -16,6 +16,7 @@ pub mod LogLaws
 pub mod LogParts
 pub mod LogRules
 pub mod NameRules
+pub mod Needs
 pub mod Overlay
 pub mod PlanParts
 pub mod Reading

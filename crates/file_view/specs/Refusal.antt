@@ -4,6 +4,7 @@ use Rattle.lf_base.specs.declared.errno.Errno.{Errno}
 use Rattle.lf_base.specs.Faults.{Rose}
 use Rattle.file_view.specs.declared.fault.ViewFault.{ViewFault}
 use Rattle.file_view.specs.declared.fault.ViewFault.TheVariants as fault
+use Rattle.file_view.specs.Needs.{Needs, ReadsPages, TakesMemory}
 
 abbrev pub Row : Type 0
 Row = Bool × Errno
@@ -17,14 +18,15 @@ first_refusal (row ∷ rows) = if row.0 then Some row.1 else first_refusal rows
 abbrev pub IsAllowed : List Row → Type 0
 IsAllowed rows = first_refusal rows ≡ None
 
--- why a request that reads no page was refused; want of memory has no cause
-abbrev pub HasCause : List Row → ViewFault → Type 0
-HasCause rows (fault.Errno number) = first_refusal rows ≡ Some number
-HasCause rows (fault.Page _) = ⊥
-HasCause rows fault.NoMemory = Unit {0}
+-- why a request that reads no page was refused: by the first row that holds; want of memory has no cause beside that it takes memory
+abbrev pub HasCause : Needs → List Row → ViewFault → Type 0
+HasCause needs rows (fault.Errno number) = first_refusal rows ≡ Some number
+HasCause needs rows (fault.Page _) = ⊥
+HasCause needs rows fault.NoMemory = TakesMemory needs
 
--- the same of one that reads pages, over the counts of a store's faults before and after
-abbrev pub HasReadCause : List Row → ℕ → ℕ → ViewFault → Type 0
-HasReadCause rows before after (fault.Errno number) = first_refusal rows ≡ Some number
-HasReadCause rows before after (fault.Page _) = Rose before after
-HasReadCause rows before after fault.NoMemory = Unit {0}
+-- the same of any request, over the counts of a store's faults before and after: a page was not read where it reads pages and the
+-- count rose
+abbrev pub HasReadCause : Needs → List Row → ℕ → ℕ → ViewFault → Type 0
+HasReadCause needs rows before after (fault.Errno number) = first_refusal rows ≡ Some number
+HasReadCause needs rows before after (fault.Page _) = ReadsPages needs × Rose before after
+HasReadCause needs rows before after fault.NoMemory = TakesMemory needs

@@ -6,6 +6,7 @@ ghost use Rattle.file_handles.specs.Nodes.{file_at as file_number};
 ghost use Rattle.fuse_msgs.specs.declared.reply.Reply.TheVariants as reply;
 ghost use Rattle.file_view.specs.Done.{HasRead, IsWritten};
 ghost use Rattle.file_view.specs.HandleRules.{handle_rows};
+ghost use Rattle.file_view.specs.Needs.{read_needs, write_needs};
 ghost use Rattle.file_view.specs.Overlay.{FitsImage};
 ghost use Rattle.file_view.specs.Refusal.{IsAllowed, HasReadCause};
 ghost use Rattle.file_view.specs.Requests.{write_rows};
@@ -33,6 +34,7 @@ fn written(bytes: &[u8]) -> Reply
 
 impl View {
     /// READ.
+    #[tactic(auto, using(crate::proofs::FaultLemmas::row_cause, crate::proofs::FaultLemmas::reading_cause))]
     pub(crate) fn answer_read<S: PageStore>(
         &self,
         alloc: Global,
@@ -47,7 +49,7 @@ impl View {
         requires fits { FitsShape self.now.database (S.page_size base.old) (S.commit base.old) }
         ensures done { IfOk result (λ plan. IsSomeAnd (file_number node) (λ file. (bytes : List ℕ) × HasRead (S.image base.old) self.now scene.now file at size bytes plan self.now)) }
         ensures allowed { OnOk result (IsAllowed (handle_rows self.now scene.now node fh)) }
-        ensures cause { IfErr result (HasReadCause (handle_rows self.now scene.now node fh) (S.faults base.old) (S.faults base.new)) }
+        ensures cause { IfErr result (HasReadCause (read_needs (file_number node)) (handle_rows self.now scene.now node fh) (S.faults base.old) (S.faults base.new)) }
         ensures base { SameBase (S.image base.old) (S.image base.new) (S.page_size base.old) (S.page_size base.new) (S.commit base.old) (S.commit base.new) (S.wal_mode base.old) (S.wal_mode base.new) (S.is_broken base.old) (S.is_broken base.new) }
     {
         let file = self.handle(scene, node, fh)?;
@@ -71,7 +73,7 @@ impl View {
         requires there { exists self.old scene.now.role file ≡ true }
         ensures done { IfOk result (λ plan. IsWritten (S.image base.old) self.old scene.now (Some file) at bytes.now plan self.new) }
         ensures allowed { OnOk result (IsAllowed (write_rows self.old scene.now (Some file) given at bytes.now)) }
-        ensures cause { IfErr result (HasReadCause (write_rows self.old scene.now (Some file) given at bytes.now) (S.faults base.old) (S.faults base.new)) }
+        ensures cause { IfErr result (HasReadCause (write_needs (Some file)) (write_rows self.old scene.now (Some file) given at bytes.now) (S.faults base.old) (S.faults base.new)) }
         ensures err { OnErr result (self.new ≡ self.old) }
         ensures base { SameBase (S.image base.old) (S.image base.new) (S.page_size base.old) (S.page_size base.new) (S.commit base.old) (S.commit base.new) (S.wal_mode base.old) (S.wal_mode base.new) (S.is_broken base.old) (S.is_broken base.new) }
     {
@@ -115,7 +117,7 @@ impl View {
         requires fits { FitsImage self.old (S.page_size base.old) (S.commit base.old) }
         ensures done { IfOk result (λ plan. IsWritten (S.image base.old) self.old scene.now (file_number node) at bytes.now plan self.new) }
         ensures allowed { OnOk result (IsAllowed (handle_rows self.old scene.now node fh ++ write_rows self.old scene.now (file_number node) given at bytes.now)) }
-        ensures cause { IfErr result (HasReadCause (handle_rows self.old scene.now node fh ++ write_rows self.old scene.now (file_number node) given at bytes.now) (S.faults base.old) (S.faults base.new)) }
+        ensures cause { IfErr result (HasReadCause (write_needs (file_number node)) (handle_rows self.old scene.now node fh ++ write_rows self.old scene.now (file_number node) given at bytes.now) (S.faults base.old) (S.faults base.new)) }
         ensures err { OnErr result (self.new ≡ self.old) }
         ensures base { SameBase (S.image base.old) (S.image base.new) (S.page_size base.old) (S.page_size base.new) (S.commit base.old) (S.commit base.new) (S.wal_mode base.old) (S.wal_mode base.new) (S.is_broken base.old) (S.is_broken base.new) }
     {

@@ -5,6 +5,8 @@ ghost use Rattle.database_file.specs.Fault.{SameBase};
 ghost use Rattle.file_handles.specs.Names.{file_named as named};
 ghost use Rattle.file_view.specs.Done.{IsFound, HasCreated, IsUnlinked};
 ghost use Rattle.file_view.specs.NameRules.{lookup_rows, create_rows, unlinking_rows, unlink_rows};
+ghost use Rattle.file_view.specs.Needs as needs;
+ghost use Rattle.file_view.specs.Needs.{unlink_needs};
 ghost use Rattle.file_view.specs.Refusal.{IsAllowed, HasCause, HasReadCause};
 ghost use Rattle.file_view.specs.Served.{exists};
 
@@ -29,7 +31,7 @@ impl View {
     ) -> Result<Plan, ViewFault>
         ensures done { IfOk result (λ plan. IsSomeAnd (named self.now.name name.now) (λ file. IsFound self.now scene.now file plan self.now)) }
         ensures allowed { OnOk result (IsAllowed (lookup_rows self.now scene.now node name.now)) }
-        ensures cause { IfErr result (HasCause (lookup_rows self.now scene.now node name.now)) }
+        ensures cause { IfErr result (HasCause needs.Nothing (lookup_rows self.now scene.now node name.now)) }
     {
         let file = self.lookup(scene, node, name)?;
         Ok(Plan::Reply(Reply::Entry {
@@ -47,7 +49,7 @@ impl View {
     ) -> Result<Plan, ViewFault>
         ensures done { IfOk result (λ plan. IsSomeAnd (named self.old.name name.now) (λ file. (fh : ℕ) × HasCreated self.old scene.now file fh plan self.new)) }
         ensures allowed { OnOk result (IsAllowed (create_rows self.old scene.now node name.now)) }
-        ensures cause { IfErr result (HasCause (create_rows self.old scene.now node name.now)) }
+        ensures cause { IfErr result (HasCause needs.Memory (create_rows self.old scene.now node name.now)) }
         ensures err { OnErr result (self.new ≡ self.old) }
     {
         let (file, fh) = self.create(scene, node, name)?;
@@ -71,7 +73,7 @@ impl View {
         requires there { exists self.old scene.now.role file ≡ true }
         ensures done { IfOk result (λ plan. IsUnlinked (S.image base.old) self.old scene.now (Some file) plan self.new) }
         ensures allowed { OnOk result (IsAllowed (unlinking_rows self.old scene.now (Some file))) }
-        ensures cause { IfErr result (HasReadCause (unlinking_rows self.old scene.now (Some file)) (S.faults base.old) (S.faults base.new)) }
+        ensures cause { IfErr result (HasReadCause (unlink_needs (Some file)) (unlinking_rows self.old scene.now (Some file)) (S.faults base.old) (S.faults base.new)) }
         ensures err { OnErr result (self.new ≡ self.old) }
         ensures base { SameBase (S.image base.old) (S.image base.new) (S.page_size base.old) (S.page_size base.new) (S.commit base.old) (S.commit base.new) (S.wal_mode base.old) (S.wal_mode base.new) (S.is_broken base.old) (S.is_broken base.new) }
     {
@@ -107,7 +109,7 @@ impl View {
         requires fits { FitsShape self.old.database (S.page_size base.old) (S.commit base.old) }
         ensures done { IfOk result (λ plan. IsUnlinked (S.image base.old) self.old scene.now (named self.old.name name.now) plan self.new) }
         ensures allowed { OnOk result (IsAllowed (unlink_rows self.old scene.now node name.now)) }
-        ensures cause { IfErr result (HasReadCause (unlink_rows self.old scene.now node name.now) (S.faults base.old) (S.faults base.new)) }
+        ensures cause { IfErr result (HasReadCause (unlink_needs (named self.old.name name.now)) (unlink_rows self.old scene.now node name.now) (S.faults base.old) (S.faults base.new)) }
         ensures err { OnErr result (self.new ≡ self.old) }
         ensures base { SameBase (S.image base.old) (S.image base.new) (S.page_size base.old) (S.page_size base.new) (S.commit base.old) (S.commit base.new) (S.wal_mode base.old) (S.wal_mode base.new) (S.is_broken base.old) (S.is_broken base.new) }
     {

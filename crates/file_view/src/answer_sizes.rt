@@ -6,6 +6,8 @@ ghost use Rattle.file_handles.specs.Nodes.{file_at as file_number};
 ghost use Rattle.fuse_msgs.specs.declared.reply.Reply.TheVariants as reply;
 ghost use Rattle.file_view.specs.Done.{IsReplied, IsSized};
 ghost use Rattle.file_view.specs.HandleRules.{size_at, served_rows};
+ghost use Rattle.file_view.specs.Needs as needs;
+ghost use Rattle.file_view.specs.Needs.{size_needs};
 ghost use Rattle.file_view.specs.Refusal.{IsAllowed, HasCause, HasReadCause};
 ghost use Rattle.file_view.specs.Requests.{size_rows};
 ghost use Rattle.file_view.specs.Served.{exists};
@@ -26,7 +28,7 @@ impl View {
     pub(crate) fn answer_setattr(&self, scene: &Scene, node: u64) -> Result<Plan, ViewFault>
         ensures done { IfOk result (λ plan. IsReplied plan (reply.Attr node (size_at self.now scene.now node)) self.now self.now) }
         ensures allowed { OnOk result (IsAllowed (served_rows self.now scene.now node)) }
-        ensures cause { IfErr result (HasCause (served_rows self.now scene.now node)) }
+        ensures cause { IfErr result (HasCause needs.Nothing (served_rows self.now scene.now node)) }
     {
         let file = self.served(scene, node)?;
         let size = self.file_size(scene, file);
@@ -49,7 +51,7 @@ impl View {
         requires there { exists self.old scene.now.role file ≡ true }
         ensures done { IfOk result (λ plan. IsSized (S.image base.old) self.old scene.now node (Some file) len plan self.new) }
         ensures allowed { OnOk result (IsAllowed (size_rows self.old scene.now (Some file) given len)) }
-        ensures cause { IfErr result (HasReadCause (size_rows self.old scene.now (Some file) given len) (S.faults base.old) (S.faults base.new)) }
+        ensures cause { IfErr result (HasReadCause (size_needs (Some file)) (size_rows self.old scene.now (Some file) given len) (S.faults base.old) (S.faults base.new)) }
         ensures err { OnErr result (self.new ≡ self.old) }
         ensures base { SameBase (S.image base.old) (S.image base.new) (S.page_size base.old) (S.page_size base.new) (S.commit base.old) (S.commit base.new) (S.wal_mode base.old) (S.wal_mode base.new) (S.is_broken base.old) (S.is_broken base.new) }
     {
@@ -92,7 +94,7 @@ impl View {
         requires fits { FitsShape self.old.database (S.page_size base.old) (S.commit base.old) }
         ensures done { IfOk result (λ plan. IsSized (S.image base.old) self.old scene.now node (file_number node) len plan self.new) }
         ensures allowed { OnOk result (IsAllowed (served_rows self.old scene.now node ++ size_rows self.old scene.now (file_number node) given len)) }
-        ensures cause { IfErr result (HasReadCause (served_rows self.old scene.now node ++ size_rows self.old scene.now (file_number node) given len) (S.faults base.old) (S.faults base.new)) }
+        ensures cause { IfErr result (HasReadCause (size_needs (file_number node)) (served_rows self.old scene.now node ++ size_rows self.old scene.now (file_number node) given len) (S.faults base.old) (S.faults base.new)) }
         ensures err { OnErr result (self.new ≡ self.old) }
         ensures base { SameBase (S.image base.old) (S.image base.new) (S.page_size base.old) (S.page_size base.new) (S.commit base.old) (S.commit base.new) (S.wal_mode base.old) (S.wal_mode base.new) (S.is_broken base.old) (S.is_broken base.new) }
     {

@@ -2,6 +2,7 @@
 ghost use Rattle.std.specs.Prelude.{◌≡◌, IfOk, IfErr, OnOk, OnErr};
 ghost use Rattle.database_file.specs.Fault.{SameBase};
 ghost use Rattle.file_view.specs.Done.{IsDone};
+ghost use Rattle.file_view.specs.Needs.{needs_of};
 ghost use Rattle.file_view.specs.Overlay.{FitsImage};
 ghost use Rattle.file_view.specs.Refusal.{IsAllowed, HasReadCause};
 ghost use Rattle.file_view.specs.Requests.{rows_of};
@@ -28,7 +29,7 @@ impl View {
         requires shape { FitsImage self.old (S.page_size base.old) (S.commit base.old) }
         ensures done { IfOk result (λ plan. IsDone (S.image base.old) self.old scene.now request.now plan self.new) }
         ensures allowed { OnOk result (IsAllowed (rows_of self.old scene.now request.now)) }
-        ensures cause { IfErr result (HasReadCause (rows_of self.old scene.now request.now) (S.faults base.old) (S.faults base.new)) }
+        ensures cause { IfErr result (HasReadCause (needs_of self.old request.now) (rows_of self.old scene.now request.now) (S.faults base.old) (S.faults base.new)) }
         ensures err { OnErr result (self.new ≡ self.old) }
         ensures base { SameBase (S.image base.old) (S.image base.new) (S.page_size base.old) (S.page_size base.new) (S.commit base.old) (S.commit base.new) (S.wal_mode base.old) (S.wal_mode base.new) (S.is_broken base.old) (S.is_broken base.new) }
     {

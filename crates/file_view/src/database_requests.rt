@@ -5,6 +5,7 @@ ghost use Rattle.database_file.specs.Fault.{SameBase};
 ghost use Rattle.database_file.specs.Writing.{TakesPages, page_in};
 ghost use Rattle.file_view.specs.DatabaseRules.{write_size, are_pages, most_pages, kept_at_most, is_past_uncommitted, states_other, may_checkpoint, holds_frame, hold_frames, uncommitted_rows, checkpoint_rows, sized_write_rows, database_write_rows, writer_after, IsDatabaseWritten};
 ghost use Rattle.file_view.specs.DatabaseParts.{MayWrite};
+ghost use Rattle.file_view.specs.Needs as needs;
 ghost use Rattle.file_view.specs.Refusal.{first_refusal, IsAllowed, HasCause, HasReadCause};
 ghost use Rattle.wal_watch.specs.File.{contents_of};
 ghost use Rattle.wal_watch.specs.News.{HoldsFrame};
@@ -240,7 +241,7 @@ impl View {
         ensures size { IfOk result (λ size. write_size self.now scene.now at bytes.now ≡ Some size) }
         ensures may { IfOk result (MayWrite self.now scene.now at bytes.now) }
         ensures allowed { OnOk result (IsAllowed (database_write_rows self.now scene.now given at bytes.now)) }
-        ensures cause { IfErr result (HasCause (database_write_rows self.now scene.now given at bytes.now)) }
+        ensures cause { IfErr result (HasCause needs.Nothing (database_write_rows self.now scene.now given at bytes.now)) }
     {
         if scene.is_broken {
             return Err(ViewFault::Errno(EIO));
@@ -269,7 +270,7 @@ impl View {
     }
 
     /// WRITE to the database file.
-    #[tactic(auto, using(crate::proofs::FaultLemmas::read_cause, crate::proofs::FaultLemmas::plain_cause))]
+    #[tactic(auto, using(crate::proofs::FaultLemmas::read_cause, crate::proofs::FaultLemmas::row_cause))]
     pub(crate) fn write_database<S: PageStore>(
         &mut self,
         alloc: Global,
@@ -283,7 +284,7 @@ impl View {
         requires fits { FitsShape self.old.database (S.page_size base.old) (S.commit base.old) }
         ensures done { OnOk result ((size : ℕ) → write_size self.old scene.now at bytes.now ≡ Some size → IsDatabaseWritten (S.image base.old) self.old scene.now size at bytes.now self.new) }
         ensures allowed { OnOk result (IsAllowed (database_write_rows self.old scene.now given at bytes.now)) }
-        ensures cause { IfErr result (HasReadCause (database_write_rows self.old scene.now given at bytes.now) (S.faults base.old) (S.faults base.new)) }
+        ensures cause { IfErr result (HasReadCause needs.Pages (database_write_rows self.old scene.now given at bytes.now) (S.faults base.old) (S.faults base.new)) }
         ensures err { OnErr result (self.new ≡ self.old) }
         ensures base { SameBase (S.image base.old) (S.image base.new) (S.page_size base.old) (S.page_size base.new) (S.commit base.old) (S.commit base.new) (S.wal_mode base.old) (S.wal_mode base.new) (S.is_broken base.old) (S.is_broken base.new) }
     {

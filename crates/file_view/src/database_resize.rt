@@ -4,6 +4,7 @@ ghost use Rattle.database_file.specs.DatabaseFile.{FitsShape};
 ghost use Rattle.database_file.specs.Fault.{SameBase, HasCause as HasFileCause};
 ghost use Rattle.file_view.specs.DatabaseRules.{write_size, states_size, is_log_size, most_pages, checkpoint_resize_rows, resize_rows, sized_resize_rows, database_size_rows, resizes, DatabaseSized};
 ghost use Rattle.file_view.specs.DatabaseParts.{MayResize};
+ghost use Rattle.file_view.specs.Needs as needs;
 ghost use Rattle.file_view.specs.Refusal.{first_refusal, IsAllowed, HasCause, HasReadCause};
 ghost use Rattle.lf_sqlite_pages.specs.PageSize.{IsPageSize};
 ghost use Rattle.wal_watch.specs.File.{contents_of};
@@ -107,7 +108,7 @@ impl View {
         ensures size { IfOk result (λ size. write_size self.now scene.now 0 [] ≡ size) }
         ensures may { IfOk result (λ size. IfSome size (MayResize self.now scene.now len)) }
         ensures allowed { OnOk result (IsAllowed (database_size_rows self.now scene.now given len)) }
-        ensures cause { IfErr result (HasCause (database_size_rows self.now scene.now given len)) }
+        ensures cause { IfErr result (HasCause needs.Nothing (database_size_rows self.now scene.now given len)) }
     {
         if scene.is_broken {
             return Err(ViewFault::Errno(EIO));
@@ -166,7 +167,7 @@ impl View {
     }
 
     /// SETATTR of a size of the database file.
-    #[tactic(auto, using(crate::proofs::FaultLemmas::read_cause, crate::proofs::FaultLemmas::plain_cause))]
+    #[tactic(auto, using(crate::proofs::FaultLemmas::read_cause, crate::proofs::FaultLemmas::row_cause))]
     pub(crate) fn resize_database<S: PageStore>(
         &mut self,
         alloc: Global,
@@ -180,7 +181,7 @@ impl View {
         ensures none { OnOk result (write_size self.old scene.now 0 [] ≡ None → self.new ≡ self.old) }
         ensures done { OnOk result ((size : ℕ) → write_size self.old scene.now 0 [] ≡ Some size → DatabaseSized (S.image base.old) self.old scene.now size (len / size) self.new) }
         ensures allowed { OnOk result (IsAllowed (database_size_rows self.old scene.now given len)) }
-        ensures cause { IfErr result (HasReadCause (database_size_rows self.old scene.now given len) (S.faults base.old) (S.faults base.new)) }
+        ensures cause { IfErr result (HasReadCause needs.Pages (database_size_rows self.old scene.now given len) (S.faults base.old) (S.faults base.new)) }
         ensures err { OnErr result (self.new ≡ self.old) }
         ensures base { SameBase (S.image base.old) (S.image base.new) (S.page_size base.old) (S.page_size base.new) (S.commit base.old) (S.commit base.new) (S.wal_mode base.old) (S.wal_mode base.new) (S.is_broken base.old) (S.is_broken base.new) }
     {

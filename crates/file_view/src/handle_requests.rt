@@ -3,6 +3,7 @@ ghost use Rattle.std.specs.Prelude.{◌≡◌, Some, IfSome, IfOk, IfErr, OnOk, 
 ghost use Rattle.file_handles.specs.Nodes.{file_at as file_number};
 ghost use Rattle.file_handles.specs.Handles.{is_open, least_free};
 ghost use Rattle.file_view.specs.HandleRules.{is_served, is_known, is_open_at, known_rows, served_rows, handle_rows, lock_handle_rows, closing_rows, size_at, open_rows, IsOpened, released, flushed};
+ghost use Rattle.file_view.specs.Needs as needs;
 ghost use Rattle.file_view.specs.Refusal.{IsAllowed, HasCause};
 ghost use Rattle.file_view.specs.Served.{exists};
 
@@ -54,7 +55,7 @@ impl View {
         ensures found { IfOk result (λ file. file_number node ≡ Some file) }
         ensures there { IfOk result (λ file. exists self.now scene.now.role file ≡ true) }
         ensures allowed { OnOk result (IsAllowed (served_rows self.now scene.now node)) }
-        ensures cause { IfErr result (HasCause (served_rows self.now scene.now node)) }
+        ensures cause { IfErr result (HasCause needs.Nothing (served_rows self.now scene.now node)) }
     {
         match self.served_at(scene, node) {
             Some(file) => Ok(file),
@@ -65,7 +66,7 @@ impl View {
     /// Whether a node is known.
     pub(crate) fn known(&self, scene: &Scene, node: u64) -> Result<(), ViewFault>
         ensures allowed { OnOk result (IsAllowed (known_rows self.now scene.now node)) }
-        ensures cause { IfErr result (HasCause (known_rows self.now scene.now node)) }
+        ensures cause { IfErr result (HasCause needs.Nothing (known_rows self.now scene.now node)) }
     {
         if self.is_known(scene, node) {
             Ok(())
@@ -79,7 +80,7 @@ impl View {
         ensures found { IfOk result (λ file. file_number node ≡ Some file) }
         ensures there { IfOk result (λ file. exists self.now scene.now.role file ≡ true) }
         ensures allowed { OnOk result (IsAllowed (handle_rows self.now scene.now node fh)) }
-        ensures cause { IfErr result (HasCause (handle_rows self.now scene.now node fh)) }
+        ensures cause { IfErr result (HasCause needs.Nothing (handle_rows self.now scene.now node fh)) }
     {
         if !self.is_known(scene, node) {
             return Err(ViewFault::Errno(ENOENT));
@@ -99,7 +100,7 @@ impl View {
     ) -> Result<FileKind, ViewFault>
         ensures found { IfOk result (λ file. file_number node ≡ Some file) }
         ensures allowed { OnOk result (IsAllowed (lock_handle_rows self.now scene.now node fh)) }
-        ensures cause { IfErr result (HasCause (lock_handle_rows self.now scene.now node fh)) }
+        ensures cause { IfErr result (HasCause needs.Nothing (lock_handle_rows self.now scene.now node fh)) }
     {
         let _file = self.served(scene, node)?;
         match self.open_at(scene, node, fh) {
@@ -112,7 +113,7 @@ impl View {
     fn closing_handle(&self, scene: &Scene, node: u64, fh: u64) -> Result<FileKind, ViewFault>
         ensures found { IfOk result (λ file. file_number node ≡ Some file) }
         ensures allowed { OnOk result (IsAllowed (closing_rows self.now scene.now node fh)) }
-        ensures cause { IfErr result (HasCause (closing_rows self.now scene.now node fh)) }
+        ensures cause { IfErr result (HasCause needs.Nothing (closing_rows self.now scene.now node fh)) }
     {
         match self.open_at(scene, node, fh) {
             Some(file) => Ok(file),
@@ -137,7 +138,7 @@ impl View {
     pub(crate) fn getattr(&self, scene: &Scene, node: u64) -> Result<Reply, ViewFault>
         ensures done { IfOk result (λ reply. reply ≡ Reply.Attr node (size_at self.now scene.now node)) }
         ensures allowed { OnOk result (IsAllowed (known_rows self.now scene.now node)) }
-        ensures cause { IfErr result (HasCause (known_rows self.now scene.now node)) }
+        ensures cause { IfErr result (HasCause needs.Nothing (known_rows self.now scene.now node)) }
     {
         self.known(scene, node)?;
         let size = self.size_at(scene, node);
@@ -147,7 +148,7 @@ impl View {
     /// FSYNC: it is done, and does nothing more. What was committed is on the disk already.
     pub(crate) fn fsync(&self, scene: &Scene, node: u64, fh: u64) -> Result<(), ViewFault>
         ensures allowed { OnOk result (IsAllowed (handle_rows self.now scene.now node fh)) }
-        ensures cause { IfErr result (HasCause (handle_rows self.now scene.now node fh)) }
+        ensures cause { IfErr result (HasCause needs.Nothing (handle_rows self.now scene.now node fh)) }
     {
         let _file = self.handle(scene, node, fh)?;
         Ok(())
@@ -157,7 +158,7 @@ impl View {
     pub(crate) fn open(&mut self, scene: &Scene, node: u64) -> Result<u64, ViewFault>
         ensures done { IfOk result (λ fh. (file : FileKind) → file_number node ≡ Some file → IsOpened self.old scene.now file fh self.new) }
         ensures allowed { OnOk result (IsAllowed (open_rows self.old scene.now node)) }
-        ensures cause { IfErr result (HasCause (open_rows self.old scene.now node)) }
+        ensures cause { IfErr result (HasCause needs.Memory (open_rows self.old scene.now node)) }
         ensures err { OnErr result (self.new ≡ self.old) }
     {
         let file = self.served(scene, node)?;
@@ -172,7 +173,7 @@ impl View {
     pub(crate) fn release(&mut self, scene: &Scene, node: u64, fh: u64) -> Result<(), ViewFault>
         ensures done { OnOk result (self.new ≡ released self.old scene.now fh) }
         ensures allowed { OnOk result (IsAllowed (closing_rows self.old scene.now node fh)) }
-        ensures cause { IfErr result (HasCause (closing_rows self.old scene.now node fh)) }
+        ensures cause { IfErr result (HasCause needs.Nothing (closing_rows self.old scene.now node fh)) }
         ensures err { OnErr result (self.new ≡ self.old) }
     {
         let _file = self.closing_handle(scene, node, fh)?;
@@ -190,7 +191,7 @@ impl View {
     ) -> Result<(), ViewFault>
         ensures done { OnOk result ((file : FileKind) → file_number node ≡ Some file → self.new ≡ flushed self.old owner file) }
         ensures allowed { OnOk result (IsAllowed (closing_rows self.old scene.now node fh)) }
-        ensures cause { IfErr result (HasCause (closing_rows self.old scene.now node fh)) }
+        ensures cause { IfErr result (HasCause needs.Nothing (closing_rows self.old scene.now node fh)) }
         ensures err { OnErr result (self.new ≡ self.old) }
     {
         let file = self.closing_handle(scene, node, fh)?;

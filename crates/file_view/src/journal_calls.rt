@@ -4,6 +4,7 @@ ghost use Rattle.database_file.specs.DatabaseFile.{FitsShape};
 ghost use Rattle.database_file.specs.Fault.{SameBase};
 ghost use Rattle.file_view.specs.declared.journal.JournalCall.TheVariants as call;
 ghost use Rattle.file_view.specs.JournalRules.{journal_rows, journal_unlink_rows, JournalDone};
+ghost use Rattle.file_view.specs.Needs as needs;
 ghost use Rattle.file_view.specs.Refusal.{IsAllowed, HasReadCause};
 
 use crate::fault::ViewFault;
@@ -38,7 +39,7 @@ impl View {
         requires there { IsSome self.old.journal.file }
         ensures done { IfOk result (λ change. JournalDone (S.image base.old) self.old scene.now call change self.new) }
         ensures allowed { OnOk result (IsAllowed (journal_rows self.old scene.now given call)) }
-        ensures cause { IfErr result (HasReadCause (journal_rows self.old scene.now given call) (S.faults base.old) (S.faults base.new)) }
+        ensures cause { IfErr result (HasReadCause needs.Pages (journal_rows self.old scene.now given call) (S.faults base.old) (S.faults base.new)) }
         ensures err { OnErr result (self.new ≡ self.old) }
         ensures base { SameBase (S.image base.old) (S.image base.new) (S.page_size base.old) (S.page_size base.new) (S.commit base.old) (S.commit base.new) (S.wal_mode base.old) (S.wal_mode base.new) (S.is_broken base.old) (S.is_broken base.new) }
     {
@@ -64,7 +65,7 @@ impl View {
         requires there { IsSome self.old.journal.file }
         ensures done { IfOk result (λ change. JournalDone (S.image base.old) self.old scene.now (call.Write at bytes.now) change self.new) }
         ensures allowed { OnOk result (IsAllowed (journal_rows self.old scene.now given (call.Write at bytes.now))) }
-        ensures cause { IfErr result (HasReadCause (journal_rows self.old scene.now given (call.Write at bytes.now)) (S.faults base.old) (S.faults base.new)) }
+        ensures cause { IfErr result (HasReadCause needs.Pages (journal_rows self.old scene.now given (call.Write at bytes.now)) (S.faults base.old) (S.faults base.new)) }
         ensures err { OnErr result (self.new ≡ self.old) }
         ensures base { SameBase (S.image base.old) (S.image base.new) (S.page_size base.old) (S.page_size base.new) (S.commit base.old) (S.commit base.new) (S.wal_mode base.old) (S.wal_mode base.new) (S.is_broken base.old) (S.is_broken base.new) }
     {
@@ -85,7 +86,7 @@ impl View {
         requires there { IsSome self.old.journal.file }
         ensures done { IfOk result (λ change. JournalDone (S.image base.old) self.old scene.now call.Unlink change self.new) }
         ensures allowed { OnOk result (IsAllowed (journal_unlink_rows self.old scene.now)) }
-        ensures cause { IfErr result (HasReadCause (journal_unlink_rows self.old scene.now) (S.faults base.old) (S.faults base.new)) }
+        ensures cause { IfErr result (HasReadCause needs.Pages (journal_unlink_rows self.old scene.now) (S.faults base.old) (S.faults base.new)) }
         ensures err { OnErr result (self.new ≡ self.old) }
         ensures base { SameBase (S.image base.old) (S.image base.new) (S.page_size base.old) (S.page_size base.new) (S.commit base.old) (S.commit base.new) (S.wal_mode base.old) (S.wal_mode base.new) (S.is_broken base.old) (S.is_broken base.new) }
     {

@@ -5,6 +5,8 @@ ghost use Rattle.byte_locks.specs.LockList.{granted, without, conflict};
 ghost use Rattle.file_view.specs.Acting.{with_locks};
 ghost use Rattle.file_view.specs.HandleRules.{lock_handle_rows};
 ghost use Rattle.file_view.specs.LockRules.{locks_at, grant_rows, setlk_rows, after_wish, wish_of, conflict_reply, getlk_reply};
+ghost use Rattle.file_view.specs.Needs as needs;
+ghost use Rattle.file_view.specs.Needs.{lock_needs};
 ghost use Rattle.file_view.specs.Refusal.{IsAllowed, HasCause};
 
 use crate::acting::{settle_database, settle_index, settle_torn};
@@ -47,7 +49,7 @@ impl View {
     ) -> Result<(), ViewFault>
         ensures done { OnOk result (self.new ≡ with_locks self.old (granted self.old.locks owner locks kind)) }
         ensures allowed { OnOk result (IsAllowed (grant_rows self.old scene.now owner locks kind)) }
-        ensures cause { IfErr result (HasCause (grant_rows self.old scene.now owner locks kind)) }
+        ensures cause { IfErr result (HasCause needs.Memory (grant_rows self.old scene.now owner locks kind)) }
         ensures err { OnErr result (self.new ≡ self.old) }
     {
         if scene.role.is_replica() && kind == LockKind::Write && locks.has(LockId::Halt) {
@@ -110,7 +112,7 @@ impl View {
     ) -> Result<(), ViewFault>
         ensures done { OnOk result (self.new ≡ after_wish self.old owner locks wish) }
         ensures allowed { OnOk result (IsAllowed (setlk_rows self.old scene.now node fh owner locks wish)) }
-        ensures cause { IfErr result (HasCause (setlk_rows self.old scene.now node fh owner locks wish)) }
+        ensures cause { IfErr result (HasCause (lock_needs wish) (setlk_rows self.old scene.now node fh owner locks wish)) }
         ensures err { OnErr result (self.new ≡ self.old) }
     {
         let _file = self.lock_handle(scene, node, fh)?;
@@ -162,7 +164,7 @@ impl View {
     ) -> Result<Reply, ViewFault>
         ensures done { IfOk result (λ reply. reply ≡ getlk_reply self.now owner (locks_at node start end) start end wish) }
         ensures allowed { OnOk result (IsAllowed (lock_handle_rows self.now scene.now node fh)) }
-        ensures cause { IfErr result (HasCause (lock_handle_rows self.now scene.now node fh)) }
+        ensures cause { IfErr result (HasCause needs.Nothing (lock_handle_rows self.now scene.now node fh)) }
     {
         let _file = self.lock_handle(scene, node, fh)?;
         let locks = locks_at(node, start, end);

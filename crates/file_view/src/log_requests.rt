@@ -2,6 +2,7 @@
 ghost use Rattle.std.specs.Prelude.{◌≡◌, ◌≤◌, IsSome, OnOk, OnErr, IfErr};
 ghost use Rattle.wal_watch.specs.File.{contents_of};
 ghost use Rattle.file_view.specs.LogRules.{may_cut_log, commits_by_cut, log_cut_rows, log_unlink_rows, log_cut, log_removed};
+ghost use Rattle.file_view.specs.Needs as needs;
 ghost use Rattle.file_view.specs.Refusal.{first_refusal, IsAllowed, HasCause};
 ghost use Rattle.file_view.specs.Served.{log_contents};
 ghost use Rattle.wal_watch.specs.Refusals.{IsSoundCut};
@@ -92,7 +93,7 @@ impl View {
     fn log_cut_allowed(&self, scene: &Scene, len: u64) -> Result<(), ViewFault>
         ensures sound { OnOk result (IsSoundCut (log_contents self.now) len) }
         ensures allowed { OnOk result (IsAllowed (log_cut_rows self.now scene.now len)) }
-        ensures cause { IfErr result (HasCause (log_cut_rows self.now scene.now len)) }
+        ensures cause { IfErr result (HasCause needs.Nothing (log_cut_rows self.now scene.now len)) }
     {
         committed_frames_say();
         match self.log_cut_refusal(scene, len) {
@@ -106,7 +107,7 @@ impl View {
         requires { IsSome self.old.log }
         ensures done { OnOk result (self.new ≡ log_cut self.old len) }
         ensures allowed { OnOk result (IsAllowed (log_cut_rows self.old scene.now len)) }
-        ensures cause { IfErr result (HasCause (log_cut_rows self.old scene.now len)) }
+        ensures cause { IfErr result (HasCause needs.Nothing (log_cut_rows self.old scene.now len)) }
         ensures err { OnErr result (self.new ≡ self.old) }
     {
         self.log_cut_allowed(scene, len)?;
@@ -117,7 +118,7 @@ impl View {
     /// Whether no rule refuses to remove the log.
     fn log_unlink_allowed(&self, scene: &Scene) -> Result<(), ViewFault>
         ensures allowed { OnOk result (IsAllowed (log_unlink_rows self.now scene.now)) }
-        ensures cause { IfErr result (HasCause (log_unlink_rows self.now scene.now)) }
+        ensures cause { IfErr result (HasCause needs.Nothing (log_unlink_rows self.now scene.now)) }
     {
         match self.log_unlink_refusal(scene) {
             Some(errno) => Err(ViewFault::Errno(errno)),
@@ -129,7 +130,7 @@ impl View {
     pub(crate) fn remove_log(&mut self, scene: &Scene) -> Result<(), ViewFault>
         ensures done { OnOk result (self.new ≡ log_removed self.old) }
         ensures allowed { OnOk result (IsAllowed (log_unlink_rows self.old scene.now)) }
-        ensures cause { IfErr result (HasCause (log_unlink_rows self.old scene.now)) }
+        ensures cause { IfErr result (HasCause needs.Nothing (log_unlink_rows self.old scene.now)) }
         ensures err { OnErr result (self.new ≡ self.old) }
     {
         self.log_unlink_allowed(scene)?;

@@ -8,6 +8,7 @@ ghost use Rattle.wal_watch.specs.File.{contents_of};
 ghost use Rattle.wal_watch.specs.Refusals.{wal_limit, IsSoundWrite};
 ghost use Rattle.file_view.specs.LogParts.{begins_anew, log_own_rows, log_owner_rows};
 ghost use Rattle.file_view.specs.LogRules.{log_after, log_commit_rows, log_write_rows, FollowsImage, LogDone};
+ghost use Rattle.file_view.specs.Needs as needs;
 ghost use Rattle.file_view.specs.Refusal.{first_refusal, IsAllowed, HasReadCause};
 ghost use Rattle.file_view.specs.Served.{log_contents, waits};
 
@@ -137,7 +138,7 @@ impl View {
         requires there { IsSome self.old.log }
         ensures done { IfOk result (λ change. LogDone (S.image base.old) self.old scene.now at bytes.now change self.new) }
         ensures allowed { OnOk result (IsAllowed (log_write_rows self.old scene.now given at bytes.now)) }
-        ensures cause { IfErr result (HasReadCause (log_write_rows self.old scene.now given at bytes.now) (S.faults base.old) (S.faults base.new)) }
+        ensures cause { IfErr result (HasReadCause needs.Pages (log_write_rows self.old scene.now given at bytes.now) (S.faults base.old) (S.faults base.new)) }
         ensures err { OnErr result (self.new ≡ self.old) }
         ensures base { SameBase (S.image base.old) (S.image base.new) (S.page_size base.old) (S.page_size base.new) (S.commit base.old) (S.commit base.new) (S.wal_mode base.old) (S.wal_mode base.new) (S.is_broken base.old) (S.is_broken base.new) }
     {

@@ -3,6 +3,7 @@ ghost use Rattle.std.specs.Prelude.{◌≡◌, Some, None, IfSome, IfNone, IfOk,
 ghost use Rattle.file_handles.specs.Handles.{least_free, opened};
 ghost use Rattle.file_handles.specs.Names.{file_named as named};
 ghost use Rattle.file_view.specs.NameRules.{is_there, lookup_rows, creating_rows, create_rows, with_file, IsCreated};
+ghost use Rattle.file_view.specs.Needs as needs;
 ghost use Rattle.file_view.specs.Refusal.{first_refusal, IsAllowed, HasCause};
 ghost use Rattle.file_view.specs.Served.{exists};
 
@@ -39,7 +40,7 @@ impl View {
         ensures found { IfOk result (λ file. named self.now.name name.now ≡ Some file) }
         ensures there { IfOk result (λ file. exists self.now scene.now.role file ≡ true) }
         ensures allowed { OnOk result (IsAllowed (lookup_rows self.now scene.now node name.now)) }
-        ensures cause { IfErr result (HasCause (lookup_rows self.now scene.now node name.now)) }
+        ensures cause { IfErr result (HasCause needs.Nothing (lookup_rows self.now scene.now node name.now)) }
     {
         if node != ROOT {
             return Err(ViewFault::Errno(ENOENT));
@@ -72,7 +73,7 @@ impl View {
         ensures number { IfOk result (λ made. least_free self.now.handles scene.now.session ≡ Some made.1) }
         ensures free { IfOk result (λ made. made.0 ≡ FileKind.Journal → self.now.journal.waiting ≡ None) }
         ensures allowed { OnOk result (IsAllowed (create_rows self.now scene.now node name.now)) }
-        ensures cause { IfErr result (HasCause (create_rows self.now scene.now node name.now)) }
+        ensures cause { IfErr result (HasCause needs.Nothing (create_rows self.now scene.now node name.now)) }
     {
         if node != ROOT {
             return Err(ViewFault::Errno(ENOENT));
@@ -131,7 +132,7 @@ impl View {
         ensures found { IfOk result (λ made. named self.old.name name.now ≡ Some made.0) }
         ensures done { IfOk result (λ made. IsCreated self.old scene.now made.0 made.1 self.new) }
         ensures allowed { OnOk result (IsAllowed (create_rows self.old scene.now node name.now)) }
-        ensures cause { IfErr result (HasCause (create_rows self.old scene.now node name.now)) }
+        ensures cause { IfErr result (HasCause needs.Memory (create_rows self.old scene.now node name.now)) }
         ensures err { OnErr result (self.new ≡ self.old) }
     {
         let (file, number) = self.creation(scene, node, name)?;

@@ -2,6 +2,7 @@
 ghost use Rattle.std.specs.Prelude.{◌≡◌, ◌-◌, [], IfOk, IfErr, length, min, unwrap_or};
 ghost use Rattle.std.specs.Option.{option_map};
 ghost use Rattle.database_file.specs.DatabaseFile.{FitsShape};
+ghost use Rattle.database_file.specs.declared.fault.FileFault.TheVariants as fault;
 ghost use Rattle.database_file.specs.Fault.{SameBase, HasCause as HasFileCause};
 ghost use Rattle.file_handles.specs.Texts.{part, line, position_line};
 ghost use Rattle.file_view.specs.Reading.{is_being_written, hides_journal, file_contents, IsReading};
@@ -122,6 +123,7 @@ impl View {
         requires fits { FitsShape self.now.database (S.page_size base.old) (S.commit base.old) }
         ensures done { IfOk result (IsReading (S.image base.old) self.now scene.now file at size) }
         ensures cause { IfErr result (HasFileCause (S.faults base.old) (S.faults base.new)) }
+        ensures pages { IfErr result (λ e. e ≡ fault.Unread → file ≡ FileKind.Database) }
         ensures base { SameBase (S.image base.old) (S.image base.new) (S.page_size base.old) (S.page_size base.new) (S.commit base.old) (S.commit base.new) (S.wal_mode base.old) (S.wal_mode base.new) (S.is_broken base.old) (S.is_broken base.new) }
     {
         match file {

@@ -1,5 +1,6 @@
 //! WRITE, SETATTR of a size and UNLINK of the shared memory.
 ghost use Rattle.std.specs.Prelude.{◌≡◌, IsSome, IfErr, OnOk, OnErr, length};
+ghost use Rattle.file_view.specs.Needs as needs;
 ghost use Rattle.file_view.specs.SharedRules.{shared_rows, shared_written, shared_cut, shared_removed};
 ghost use Rattle.file_view.specs.Refusal.{IsAllowed, HasCause};
 
@@ -14,7 +15,7 @@ impl View {
         requires { IsSome self.old.shared.file }
         ensures done { OnOk result (self.new ≡ shared_written self.old at bytes.now) }
         ensures allowed { OnOk result (IsAllowed (shared_rows at (length bytes.now))) }
-        ensures cause { IfErr result (HasCause (shared_rows at (length bytes.now))) }
+        ensures cause { IfErr result (HasCause needs.Memory (shared_rows at (length bytes.now))) }
         ensures err { OnErr result (self.new ≡ self.old) }
     {
         let count = bytes.len() as u64;
@@ -30,7 +31,7 @@ impl View {
         requires { IsSome self.old.shared.file }
         ensures done { OnOk result (self.new ≡ shared_cut self.old len) }
         ensures allowed { OnOk result (IsAllowed (shared_rows 0 len)) }
-        ensures cause { IfErr result (HasCause (shared_rows 0 len)) }
+        ensures cause { IfErr result (HasCause needs.Nothing (shared_rows 0 len)) }
         ensures err { OnErr result (self.new ≡ self.old) }
     {
         if len > SHM_LIMIT {

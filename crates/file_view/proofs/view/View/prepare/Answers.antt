@@ -3,6 +3,7 @@ use Rattle.std.proofs.Common.{sym, subst}
 use Rattle.file_view.specs.declared.scene.Scene.{Scene}
 use Rattle.file_view.specs.Overlay.{StandsOver}
 use Rattle.file_view.proofs.AwaitLemmas.{awaits-after}
+use Rattle.file_view.proofs.NameLemmas.{name-after}
 use Rattle.file_view.proofs.RequestStands.{stands-after}
 use Rattle.file_view.proofs.view.View.prepare.Goals as goal
 
@@ -25,3 +26,7 @@ returns-clause-awaits g c =
     let scene = c.scene_over-scene.result in
     let stands = subst (λ (s : Scene). StandsOver told s.page_size s.commit old) (sym c.scene_over-scene.ensures.value) c.requires in
     awaits-after told old new scene c.args.request.now c.answer.result c.answer.ensures.done c.answer.ensures.allowed stands
+
+pub returns-clause-name : goal.returns-clause-name
+returns-clause-name g c =
+    name-after (g.S.PageStore.image c.args.base.now) c.args.self.now c.answer.new.self c.scene_over-scene.result c.args.request.now c.answer.result c.answer.ensures.done c.answer.ensures.allowed c.answer.ensures.err
