@@ -1,5 +1,6 @@
 //! Where the node stands.
 ghost use Rattle.std.specs.Prelude.{◌≡◌, length, IfErr};
+ghost use Rattle.link_session.specs.Stands.{GoesOn};
 ghost use Rattle.replica_apply.specs.declared.follow_end.FollowEnd.TheVariants as ends;
 ghost use Rattle.replica_apply.specs.Following.{Asks, SaysWhere};
 
@@ -14,7 +15,7 @@ pub fn ask_where<S: Steps<Ask = Ask, Answer = Answer>>(
     turns: &mut Turns,
 ) -> Result<Pos, FollowEnd>
     ensures says { SaysWhere (S.number steps.old) (S.entries steps.old) (S.entries steps.new) turns.new result }
-    ensures same { (S.of steps.new ≡ S.of steps.old) × (S.number steps.new ≡ S.number steps.old) × (S.is_legal steps.old → S.is_legal steps.new) }
+    ensures same { (S.of steps.new ≡ S.of steps.old) × (S.number steps.new ≡ S.number steps.old) × GoesOn S.Steps steps.old steps.new }
     ensures spent { Asks turns.old (length (S.entries steps.old)) turns.new (length (S.entries steps.new)) result }
     ensures worn { IfErr result (λ end. end ≡ ends.Worn → S.is_worn steps.new) }
 {

@@ -9,7 +9,7 @@ pub messages-init : goal.messages-init
 messages-init g c = record {
   between = c.requires;
   talked = nothing_said _ _;
-  same = (refl, refl, λ legal. legal, refl);
+  same = (refl, refl, λ front h. h, refl);
   spent = λ below. (omega arith, refl);
   count = refl;
 }
@@ -44,7 +44,7 @@ messages-preserved g c = record {
   same = (
     c.serve_message.ensures.same.0 ∙ c.messages.invariant.same.0,
     c.serve_message.ensures.same.1 ∙ c.messages.invariant.same.1,
-    λ legal. c.serve_message.ensures.same.2 (c.messages.invariant.same.2 legal),
+    λ front h. c.serve_message.ensures.same.2 front (c.messages.invariant.same.2 front h),
     c.serve_message.ensures.same.3 ∙ c.messages.invariant.same.3,
   );
   spent = spent_on _ _ _ (stand_with g.L.Link c.args.inbox.now c.args.link.now (g.S.Steps.entries c.args.steps.now))

@@ -10,7 +10,7 @@ frames-init g c = record {
   between = c.requires.0;
   limit = c.requires.1;
   talked = nothing_said _ _;
-  same = (refl, refl, λ legal. legal, refl);
+  same = (refl, refl, λ front h. h, refl);
   turns = omega arith;
   spent = λ below. (omega arith, refl);
   count = refl;
@@ -33,7 +33,7 @@ frames-preserved g c = record {
   same = (
     c.follow_next.ensures.same.0 ∙ c.frames.invariant.same.0,
     c.follow_next.ensures.same.1 ∙ c.frames.invariant.same.1,
-    λ legal. c.follow_next.ensures.same.2 (c.frames.invariant.same.2 legal),
+    λ front h. c.follow_next.ensures.same.2 front (c.frames.invariant.same.2 front h),
     c.follow_next.ensures.same.3 ∙ c.frames.invariant.same.3,
   );
   turns = omega (arith, c.in-Ok.ensures.spent.0, c.frames.invariant.turns);
