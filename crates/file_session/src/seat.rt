@@ -3,8 +3,8 @@ ghost use Rattle.std.specs.Prelude.{◌≡◌};
 ghost use Rattle.lf_base.specs.declared.session_end.SessionEnd.TheVariants as ends;
 ghost use Rattle.link_session.specs.Seats.{FoundWorn, HasGoneOn};
 ghost use Rattle.turn_desk.specs.Seats.{view, number_of, opened_on, IsOf};
+ghost use Rattle.link_session.specs.Stands.{stand};
 ghost use Rattle.file_session.specs.Session.{IsSession};
-ghost use Rattle.file_session.specs.Stands.{stand};
 
 use crate::session::serve_link;
 use lf_base::{Clock, Link, Pause, SessionEnd};

@@ -2,9 +2,8 @@
 ghost use Rattle.std.specs.Prelude.{◌≡◌};
 ghost use Rattle.lf_base.specs.declared.session_end.SessionEnd.TheVariants as ends;
 ghost use Rattle.link_session.specs.declared.stage.Stage.TheVariants as stages;
-ghost use Rattle.link_session.specs.Stands.{GoesOn};
+ghost use Rattle.link_session.specs.Stands.{asker, stand, stand_with, AsksOn, GoesOn};
 ghost use Rattle.file_session.specs.Session.{AsksEnd, Conversation, IsSession};
-ghost use Rattle.file_session.specs.Stands.{asker, stand, stand_with, AsksOn};
 
 use crate::serving::serve_message;
 use fuse_msgs::MessageFeed;

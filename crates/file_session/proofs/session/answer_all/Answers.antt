@@ -1,8 +1,9 @@
 use Rattle.std.proofs.Common.{refl, ap, ◌∙◌, arith}
 use Rattle.link_session.proofs.Talking.{nothing_said}
 use Rattle.link_session.specs.Reading.{Held}
-use Rattle.file_session.specs.Stands.{stand, stand_with}
-use Rattle.file_session.proofs.Sessions.{same_asker, message_served, read_failed, message_failed, spent_on, spent_reading}
+use Rattle.link_session.specs.Stands.{stand, stand_with}
+use Rattle.link_session.proofs.Stands.{same_asker, spent_on}
+use Rattle.file_session.proofs.Sessions.{message_served, read_failed, message_failed, spent_reading}
 use Rattle.file_session.proofs.session.answer_all.Goals as goal
 
 pub messages-init : goal.messages-init
