@@ -1,5 +1,5 @@
 -- How a request is asked.
-use Rattle.std.specs.Prelude.{ℕ, ◌==◌, Bool, false}
+use Rattle.std.specs.Prelude.{◌==◌, Bool, false}
 use Rattle.fuse_msgs.specs.declared.request.Op.{Op}
 use Rattle.fuse_msgs.specs.declared.request.Op.TheVariants as op
 use Rattle.turn_desk.specs.declared.history.Entry.{Entry}

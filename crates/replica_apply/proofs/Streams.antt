@@ -29,7 +29,7 @@ use Rattle.replica_apply.specs.declared.follow_end.FollowEnd.{FollowEnd}
 use Rattle.replica_apply.specs.declared.follow_end.FollowEnd.TheVariants as ends
 use Rattle.replica_apply.specs.Asking.{IsAskOf, NodeEntry, manner}
 use Rattle.replica_apply.specs.Frames.{applied, said_by, EndsFrame, IsDone, IsRound}
-use Rattle.replica_apply.specs.Following.{asks_where, at_frame, between, declined, end_of, frame_limit, no_memory, no_stream, place_in, reading, stream, unsent_by, Asks, EndsAnswer, EndsFrames, HasReadHead, IsNext, SaysWhere, StopsAt, Uses}
+use Rattle.replica_apply.specs.Following.{asks_where, at_frame, declined, end_of, frame_limit, no_memory, no_stream, place_in, reading, stream, unsent_by, Asks, EndsAnswer, EndsFrames, HasReadHead, IsNext, SaysWhere, StopsAt, Uses}
 
 -- ---- one frame
 
