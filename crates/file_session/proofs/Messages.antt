@@ -8,15 +8,15 @@ use Rattle.fuse_msgs.specs.declared.fault.BadMessage.TheVariants as bad
 use Rattle.fuse_msgs.specs.Message.{IsMessage, refusal}
 use Rattle.turn_desk.specs.History.{entry}
 use Rattle.link_session.specs.Asking.{AskedUntil}
+use Rattle.link_session.specs.Stands.{Asker, Stand}
 use Rattle.node_core.specs.declared.ask.Ask.TheVariants as ask
 use Rattle.node_core.specs.declared.answer.Answer.{Answer}
-use Rattle.file_session.specs.Asking.{Asker, manner}
+use Rattle.file_session.specs.Asking.{FileEntry, manner}
 use Rattle.file_session.specs.Message.{IsRound, served, unserved, EndsMessage}
 use Rattle.file_session.specs.Replying.{has_reply, reply_text, unserved_text, EndsReply}
-use Rattle.file_session.specs.Stands.{FileEntry, Stand}
 
 -- the end of a round's reply is that of its message
-pub replied : {T : Type 0} (who : Asker) (message : List ℕ) (entries : List FileEntry) (reply : List ℕ) (old new : Stand) (turns : ℕ) (r : Result T SessionEnd)
+pub replied : {T : Type 0} (who : Asker) (message : List ℕ) (entries : List FileEntry) (reply : List ℕ) (old new : Stand FileEntry) (turns : ℕ) (r : Result T SessionEnd)
     → IsRound who (record { message = message; entries = entries; reply = reply }) → new.place.entries ≡ old.place.entries ++ entries
     → EndsReply reply old.place.taken new.place.taken old.faults new.faults turns r → EndsMessage who message old new turns r
 replied who message entries reply old new turns (Ok x) i a e = (record { entries = entries; reply = reply; round = i; written = e.0; asked = a }, e.1)
@@ -29,7 +29,7 @@ replied who message entries reply old new turns (Err ends.BadMessage) i a e = ab
 replied who message entries reply old new turns (Err ends.Worn) i a e = absurd e
 
 -- the same of a request that was asked
-pub answered : {T : Type 0} (who : Asker) (message : List ℕ) (request : Request) (given : Answer) (old new : Stand) (turns : ℕ) (r : Result T SessionEnd)
+pub answered : {T : Type 0} (who : Asker) (message : List ℕ) (request : Request) (given : Answer) (old new : Stand FileEntry) (turns : ℕ) (r : Result T SessionEnd)
     → IsMessage message request → AskedUntil (manner who request.op) (ask.File 0 request) old.place.entries new.place.entries given
     → EndsReply (reply_text (has_reply request.op) request.unique given) old.place.taken new.place.taken old.faults new.faults turns r
     → EndsMessage who message old new turns r
@@ -46,7 +46,7 @@ refused_as message fault opcode unique is (inl e) = absurd cc
 refused_as message fault opcode unique is (inr e) = e ∙ ap Some is
 
 -- an opcode that is not served asks nothing
-pub unasked : {T : Type 0} (who : Asker) (message : List ℕ) (opcode unique : ℕ) (old new : Stand) (turns : ℕ) (r : Result T SessionEnd)
+pub unasked : {T : Type 0} (who : Asker) (message : List ℕ) (opcode unique : ℕ) (old new : Stand FileEntry) (turns : ℕ) (r : Result T SessionEnd)
     → refusal message ≡ Some (bad.Opcode opcode unique) → new.place.entries ≡ old.place.entries
     → EndsReply (unserved_text unique) old.place.taken new.place.taken old.faults new.faults turns r → EndsMessage who message old new turns r
 unasked who message opcode unique old new turns r i same e =

@@ -8,14 +8,14 @@ use Rattle.fuse_msgs.proofs.Refusals.{refusal-message}
 use Rattle.turn_desk.specs.History.{entry}
 use Rattle.link_session.specs.Asking.{Manner, IsAgain, AskedUntil}
 use Rattle.link_session.specs.Rounds.{Round}
+use Rattle.link_session.specs.Stands.{Asker}
 use Rattle.node_core.specs.declared.ask.Ask.{Ask}
 use Rattle.node_core.specs.declared.ask.Ask.TheVariants as ask
 use Rattle.node_core.specs.declared.answer.Answer.{Answer}
 use Rattle.file_session.specs.declared.tries.Tries.{Tries}
 use Rattle.file_session.specs.declared.tries.Tries.TheVariants as tries
-use Rattle.file_session.specs.Asking.{Asker, is_again, manner, tries_of}
+use Rattle.file_session.specs.Asking.{FileEntry, is_again, manner, tries_of}
 use Rattle.file_session.specs.Message.{IsRound, served, unserved}
-use Rattle.file_session.specs.Stands.{FileEntry}
 use Rattle.file_session.specs.Written.{IsAskedOnce}
 
 -- no answer means: ask again

@@ -1,5 +1,5 @@
 -- Sessions: what was said so far, and how they end.
-use Rattle.std.proofs.Common.{◌≡◌, ◌⊎◌, inl, inr, ℕ, length, Bool, false, List, [], ◌++◌, Option, Err, refl, ap, ◌∙◌, subst, arith}
+use Rattle.std.proofs.Common.{◌≡◌, ◌⊎◌, inl, inr, ℕ, length, false, List, [], ◌++◌, Option, Err, refl, ap, ◌∙◌, subst, arith}
 use Rattle.std.specs.Io.KnownBytes.{Keeps}
 use Rattle.lf_base.specs.declared.session_end.SessionEnd.{SessionEnd}
 use Rattle.lf_base.specs.declared.session_end.SessionEnd.TheVariants as ends
@@ -10,19 +10,12 @@ use Rattle.link_session.specs.Reading.{Held, coming, EndsReading}
 use Rattle.link_session.specs.Rounds.{Place, Talked, Answered}
 use Rattle.link_session.specs.Spending.{Moves, MovesFor}
 use Rattle.link_session.proofs.Reading.{kept_consumes}
+use Rattle.link_session.proofs.Stands.{spent_on}
 use Rattle.link_session.proofs.Talking.{as_said, nothing_said, round_served, text_kept}
-use Rattle.file_session.specs.Asking.{Asker}
-use Rattle.file_session.specs.Message.{IsRound, IsSilent, IsUnanswered, IsUnwritten, EndsMessage}
+use Rattle.link_session.specs.Stands.{Asker, IsStill, Spends, Spent, Stand}
+use Rattle.file_session.specs.Asking.{FileEntry}
+use Rattle.file_session.specs.Message.{IsRound, IsUnanswered, IsUnwritten, EndsMessage}
 use Rattle.file_session.specs.Session.{starting, reading, answering, Conversation}
-use Rattle.file_session.specs.Stands.{FileEntry, Stand, Spent, Spends}
-
-abbrev ask_by : ℕ → (ℕ → Bool) → Asker
-ask_by caller may = record { caller = caller; may = may }
-
--- the same caller, and a clock of the same test
-pub same_asker : (caller caller_now : ℕ) (may may_now : ℕ → Bool) → caller_now ≡ caller → may_now ≡ may
-    → ask_by caller_now may_now ≡ ask_by caller may
-same_asker caller caller_now may may_now c m = ap (λ (n : ℕ). ask_by n may_now) c ∙ ap (λ (t : ℕ → Bool). ask_by caller t) m
 
 -- a message was read, answered and taken out
 pub message_served : (who who_now : Asker) (start : Place FileEntry) (i0 i1 i2 : Held) (l0 l1 l2 t0 t1 t2 : Option (List ℕ)) (e0 e1 : List FileEntry) (message : List ℕ)
@@ -35,17 +28,17 @@ message_served who who_now start i0 i1 i2 l0 l1 l2 t0 t1 t2 e0 e1 message talked
     (subst (λ (m : List ℕ). Answered (IsRound who) m t1 t2 e0 e1) is (subst (λ (w : Asker). Answered (IsRound w) message t1 t2 e0 e1) same answered)) left next
 
 -- the end of a message says nothing of the text before it, nor of the calls so far
-abbrev aside : (text : Option (List ℕ)) (moves : ℕ) → Stand → Stand
+abbrev aside : (text : Option (List ℕ)) (moves : ℕ) → Stand FileEntry → Stand FileEntry
 aside text moves s = record s { place = record s.place { text = text }; moves = moves }
 
-silent_aside : (text : Option (List ℕ)) (moves : ℕ) (old new : Stand) → IsSilent old.place new.place → IsSilent (aside text moves old).place new.place
+silent_aside : (text : Option (List ℕ)) (moves : ℕ) (old new : Stand FileEntry) → IsStill old.place new.place → IsStill (aside text moves old).place new.place
 silent_aside text moves old new s = record { written = s.written; asked = s.asked }
 
-unanswered_aside : (who : Asker) (message : List ℕ) (text : Option (List ℕ)) (moves : ℕ) (old new : Stand)
+unanswered_aside : (who : Asker) (message : List ℕ) (text : Option (List ℕ)) (moves : ℕ) (old new : Stand FileEntry)
     → IsUnanswered who message old.place new.place → IsUnanswered who message (aside text moves old).place new.place
 unanswered_aside who message text moves old new u = record { request = u.request; is = u.is; asked = u.asked; written = u.written }
 
-unwritten_aside : (who : Asker) (message : List ℕ) (text : Option (List ℕ)) (moves : ℕ) (old new : Stand)
+unwritten_aside : (who : Asker) (message : List ℕ) (text : Option (List ℕ)) (moves : ℕ) (old new : Stand FileEntry)
     → IsUnwritten who message old.place new.place → IsUnwritten who message (aside text moves old).place new.place
 unwritten_aside who message text moves old new u = record { entries = u.entries; reply = u.reply; round = u.round; asked = u.asked; written = u.written }
 
@@ -53,7 +46,7 @@ either : {A B C D : Type 0} → (A → C) → (B → D) → A ⊎ B → C ⊎ D
 either f g (inl a) = inl (f a)
 either f g (inr b) = inr (g b)
 
-end_aside : (who : Asker) (message : List ℕ) (text : Option (List ℕ)) (moves : ℕ) (old new : Stand) (left : ℕ) (end : SessionEnd)
+end_aside : (who : Asker) (message : List ℕ) (text : Option (List ℕ)) (moves : ℕ) (old new : Stand FileEntry) (left : ℕ) (end : SessionEnd)
     → EndsMessage {T = Unit {0}} who message old new left (Err end) → EndsMessage {T = Unit {0}} who message (aside text moves old) new left (Err end)
 end_aside who message text moves old new left ends.Closed e = absurd e
 end_aside who message text moves old new left ends.ReadFault e = absurd e
@@ -65,12 +58,8 @@ end_aside who message text moves old new left ends.Worn e = (unanswered_aside wh
 end_aside who message text moves old new left ends.NoMemory e =
     (either (silent_aside text moves old new) (unwritten_aside who message text moves old new) e.0, e.1)
 
--- the turns of one call and then of another
-pub spent_on : (t0 t1 t2 : ℕ) (s0 s1 s2 : Stand) → Spent t0 s0 t1 s1 → Spent t1 s1 t2 s2 → Spent t0 s0 t2 s2
-spent_on t0 t1 t2 s0 s1 s2 a b =
-    λ below. omega (arith, below, (b below).0, (b below).1, (a (omega (arith, below, (b below).0))).0, (a (omega (arith, below, (b below).0))).1)
-
-spends_on : (t0 t1 t2 : ℕ) (s0 s1 s2 : Stand) (end : SessionEnd) → Spent t0 s0 t1 s1 → Spends {T = Unit {0}} t1 s1 t2 s2 (Err end) → Spends {T = Unit {0}} t0 s0 t2 s2 (Err end)
+-- the turns of one call, and then of one that was ended
+spends_on : (t0 t1 t2 : ℕ) (s0 s1 s2 : Stand FileEntry) (end : SessionEnd) → Spent t0 s0 t1 s1 → Spends {T = Unit {0}} t1 s1 t2 s2 (Err end) → Spends {T = Unit {0}} t0 s0 t2 s2 (Err end)
 spends_on t0 t1 t2 s0 s1 s2 ends.Turns a b = spent_on t0 t1 t2 s0 s1 s2 a b
 spends_on t0 t1 t2 s0 s1 s2 ends.Closed a b = tt
 spends_on t0 t1 t2 s0 s1 s2 ends.ReadFault a b = tt
@@ -80,10 +69,10 @@ spends_on t0 t1 t2 s0 s1 s2 ends.Worn a b = tt
 spends_on t0 t1 t2 s0 s1 s2 ends.NoMemory a b = tt
 
 -- reading makes no entry
-pub spent_reading : (t0 t1 t2 : ℕ) (s0 s1 s2 : Stand) → Spent t0 s0 t1 s1 → Moves t1 s1.moves t2 s2.moves → s2.place.entries ≡ s1.place.entries → Spent t0 s0 t2 s2
+pub spent_reading : (t0 t1 t2 : ℕ) (s0 s1 s2 : Stand FileEntry) → Spent t0 s0 t1 s1 → Moves t1 s1.moves t2 s2.moves → s2.place.entries ≡ s1.place.entries → Spent t0 s0 t2 s2
 spent_reading t0 t1 t2 s0 s1 s2 a m same = spent_on t0 t1 t2 s0 s1 s2 a (λ below. ((m below).0, omega (arith, (m below).1, ap length same)))
 
-spends_reading : (t0 t1 t2 : ℕ) (s0 s1 s2 : Stand) (end : SessionEnd) → Spent t0 s0 t1 s1 → MovesFor {T = Unit {0}} (Err end) t1 s1.moves t2 s2.moves
+spends_reading : (t0 t1 t2 : ℕ) (s0 s1 s2 : Stand FileEntry) (end : SessionEnd) → Spent t0 s0 t1 s1 → MovesFor {T = Unit {0}} (Err end) t1 s1.moves t2 s2.moves
     → s2.place.entries ≡ s1.place.entries → Spends {T = Unit {0}} t0 s0 t2 s2 (Err end)
 spends_reading t0 t1 t2 s0 s1 s2 ends.Turns a m same = spent_reading t0 t1 t2 s0 s1 s2 a m.1 same
 spends_reading t0 t1 t2 s0 s1 s2 ends.Closed a m same = tt
@@ -94,7 +83,7 @@ spends_reading t0 t1 t2 s0 s1 s2 ends.Worn a m same = tt
 spends_reading t0 t1 t2 s0 s1 s2 ends.NoMemory a m same = tt
 
 -- no message could be read
-pub read_failed : (who : Asker) (turns t1 t2 : ℕ) (start s1 s2 : Stand) (end : SessionEnd)
+pub read_failed : (who : Asker) (turns t1 t2 : ℕ) (start s1 s2 : Stand FileEntry) (end : SessionEnd)
     → Talked (IsRound who) start.place s1.place → s1.faults ≡ start.faults → Spent turns start t1 s1
     → EndsReading {T = Unit {0}} false IsPart IsRefused s1.place.text s2.place.text s1.faults s2.faults t2 (Err end)
     → Keeps s1.place.taken s2.place.taken → s2.place.entries ≡ s1.place.entries → MovesFor {T = Unit {0}} (Err end) t1 s1.moves t2 s2.moves
@@ -109,7 +98,7 @@ read_failed who turns t1 t2 start s1 s2 end talked count spent cause taken same 
 }
 
 -- a message was read, and not answered whole
-pub message_failed : (who who_now : Asker) (turns t0 t1 t2 : ℕ) (start s0 s1 s2 : Stand) (held : Held) (message : List ℕ) (end : SessionEnd)
+pub message_failed : (who who_now : Asker) (turns t0 t1 t2 : ℕ) (start s0 s1 s2 : Stand FileEntry) (held : Held) (message : List ℕ) (end : SessionEnd)
     → Talked (IsRound who) start.place s0.place → s0.faults ≡ start.faults → Spent turns start t0 s0
     → Keeps s0.place.text (coming held s1.place.text) → Keeps s0.place.taken s1.place.taken → s1.place.entries ≡ s0.place.entries
     → Moves t0 s0.moves t1 s1.moves → s1.faults ≡ s0.faults
@@ -133,7 +122,7 @@ message_failed who who_now turns t0 t1 t2 start s0 s1 s2 held message end talked
     }
 
 -- there was no memory to begin with
-pub not_begun : (who : Asker) (turns : ℕ) (here : Stand) → Conversation who turns here here ends.NoMemory
+pub not_begun : (who : Asker) (turns : ℕ) (here : Stand FileEntry) → Conversation who turns here here ends.NoMemory
 not_begun who turns here = record {
   place = here.place;
   left = turns;

@@ -9,10 +9,10 @@ use Rattle.lf_base.specs.declared.session_end.SessionEnd.{SessionEnd}
 use Rattle.lf_base.specs.declared.session_end.SessionEnd.TheVariants as ends
 use Rattle.link_session.specs.Rounds.{Round, Place, Talked}
 use Rattle.link_session.proofs.Lists.{all_pushed}
-use Rattle.file_session.specs.Asking.{Asker}
+use Rattle.link_session.specs.Stands.{Asker, Stand}
+use Rattle.file_session.specs.Asking.{FileEntry}
 use Rattle.file_session.specs.Message.{IsRound, IsUnwritten, EndsMessage}
 use Rattle.file_session.specs.Session.{Ends, starting, reading, answering, IsSession}
-use Rattle.file_session.specs.Stands.{FileEntry, Stand}
 use Rattle.file_session.specs.Written.{WritesReplies}
 
 abbrev replies : List (Round FileEntry) → List ℕ
@@ -44,7 +44,7 @@ part_more who message start place new t u =
           (Appends-trans start.taken place.taken new.taken (replies t.rounds) (take u.written.0 u.reply) t.written u.written.2);
     }
 
-message_writes : (who : Asker) (message : List ℕ) (start : Place FileEntry) (old new : Stand) (left : ℕ) (end : SessionEnd) → Talked (IsRound who) start old.place
+message_writes : (who : Asker) (message : List ℕ) (start : Place FileEntry) (old new : Stand FileEntry) (left : ℕ) (end : SessionEnd) → Talked (IsRound who) start old.place
     → EndsMessage {T = Unit {0}} who message old new left (Err end) → WritesReplies who start.taken new.place.taken
 message_writes who message start old new left ends.Closed t e = absurd e
 message_writes who message start old new left ends.ReadFault t e = absurd e
@@ -56,15 +56,15 @@ message_writes who message start old new left ends.Worn t e = nothing_more who s
 message_writes who message start old new left ends.NoMemory t (inl u, more) = nothing_more who start old.place new.place.taken t u.written
 message_writes who message start old new left ends.NoMemory t (inr u, more) = part_more who message start old.place new.place t u
 
-end_writes : (who : Asker) (start old new : Stand) (left : ℕ) (end : SessionEnd) → Talked (IsRound who) start.place old.place → Ends who start old new left end
+end_writes : (who : Asker) (start old new : Stand FileEntry) (left : ℕ) (end : SessionEnd) → Talked (IsRound who) start.place old.place → Ends who start old new left end
     → WritesReplies who start.place.taken new.place.taken
 end_writes who start old new left end t (starting is here same) =
     nothing_more who start.place old.place new.place.taken t
-    (subst (λ (s : Stand). Keeps s.place.taken new.place.taken) (sym here) (subst (λ (s : Stand). Keeps start.place.taken s.place.taken) (sym same) (Keeps-refl start.place.taken)))
+    (subst (λ (s : Stand FileEntry). Keeps s.place.taken new.place.taken) (sym here) (subst (λ (s : Stand FileEntry). Keeps start.place.taken s.place.taken) (sym same) (Keeps-refl start.place.taken)))
 end_writes who start old new left end t (reading cause silent) = nothing_more who start.place old.place new.place.taken t silent.written
 end_writes who start old new left end t (answering message ahead whole read ended) = message_writes who message start.place old new left end t ended
 
-pub session_writes : (who : Asker) (budget : ℕ) (old new : Stand) (end : SessionEnd) → IsSession who budget old new end → WritesReplies who old.place.taken new.place.taken
+pub session_writes : (who : Asker) (budget : ℕ) (old new : Stand FileEntry) (end : SessionEnd) → IsSession who budget old new end → WritesReplies who old.place.taken new.place.taken
 session_writes who budget old new end s =
     end_writes who old (record old { place = s.conversation.place }) (record new { place = record new.place { entries = s.said } }) s.conversation.left s.end
     s.conversation.talked s.conversation.ending

@@ -1,8 +1,10 @@
 -- How a request is asked.
-use Rattle.std.specs.Prelude.{ℕ, ◌==◌, Bool, false}
+use Rattle.std.specs.Prelude.{◌==◌, Bool, false}
 use Rattle.fuse_msgs.specs.declared.request.Op.{Op}
 use Rattle.fuse_msgs.specs.declared.request.Op.TheVariants as op
+use Rattle.turn_desk.specs.declared.history.Entry.{Entry}
 use Rattle.link_session.specs.Asking.{Manner}
+use Rattle.link_session.specs.Stands.{Asker}
 use Rattle.node_core.specs.declared.ask.Ask.{Ask}
 use Rattle.node_core.specs.declared.answer.Answer.{Answer}
 use Rattle.node_core.specs.declared.answer.Answer.TheVariants as answer
@@ -20,10 +22,9 @@ abbrev pub is_again : Tries → Answer → Bool
 is_again tries.UntilGranted (answer.Refuse number) = number.0 == 11
 is_again _ _ = false
 
--- who asks, and at which moments
-pub record Asker : Type 0 where
-  pub caller : ℕ
-  pub may : ℕ → Bool
+-- what the node was asked, and what it answered
+abbrev pub FileEntry : Type 0
+FileEntry = Entry Ask Answer
 
 abbrev pub manner : Asker → Op → Manner Ask Answer
 manner who asked = record { may = who.may; at_moment = ask_at; again = is_again (tries_of asked); caller = who.caller }

@@ -1,6 +1,5 @@
 pub mod Replying
 pub mod Asking
-pub mod Stands
 pub mod Message
 pub mod Session
 pub mod Written

@@ -11,11 +11,11 @@ use Rattle.fuse_msgs.specs.Message.{IsMessage, refusal}
 use Rattle.link_session.specs.Asking.{AskedUntil, AskedInVain}
 use Rattle.link_session.specs.Rounds.{Round, Place, Answered}
 use Rattle.link_session.specs.Writing.{AppendsPart}
+use Rattle.link_session.specs.Stands.{Asker, IsStill, Stand}
 use Rattle.node_core.specs.declared.ask.Ask.TheVariants as ask
 use Rattle.node_core.specs.declared.answer.Answer.{Answer}
-use Rattle.file_session.specs.Asking.{Asker, manner}
+use Rattle.file_session.specs.Asking.{FileEntry, manner}
 use Rattle.file_session.specs.Replying.{has_reply, reply_text, unserved_text}
-use Rattle.file_session.specs.Stands.{FileEntry, Stand}
 
 -- A ROUND. A message is asked, and its answer is its reply, where it has one. A message of an opcode that is not served asks nothing
 pub data IsRound (who : Asker) (round : Round FileEntry) : Type 0 where
@@ -24,11 +24,6 @@ pub data IsRound (who : Asker) (round : Round FileEntry) : Type 0 where
       → round.reply ≡ reply_text (has_reply request.op) request.unique answer → IsRound who round
   unserved : (opcode unique : ℕ) → refusal round.message ≡ Some (bad.Opcode opcode unique) → round.entries ≡ []
       → round.reply ≡ unserved_text unique → IsRound who round
-
--- nothing was written or asked
-pub record IsSilent (old new : Place FileEntry) : Type 0 where
-  pub written : Keeps old.taken new.taken
-  pub asked : new.entries ≡ old.entries
 
 -- the message's request was asked and got no answer that settles it, and nothing was written
 pub record IsUnanswered (who : Asker) (message : List ℕ) (old new : Place FileEntry) : Type 0 where
@@ -54,15 +49,15 @@ is_bad (Some (bad.NameText unique)) = true
 is_bad _ = false
 
 -- what became of a message that was read, and of the count of faults
-abbrev pub EndsMessage : {T : Type 0} → Asker → List ℕ → Stand → Stand → ℕ → Result T SessionEnd → Type 0
+abbrev pub EndsMessage : {T : Type 0} → Asker → List ℕ → Stand FileEntry → Stand FileEntry → ℕ → Result T SessionEnd → Type 0
 EndsMessage who message old new turns (Ok _) =
     Answered (IsRound who) message old.place.taken new.place.taken old.place.entries new.place.entries × (new.faults ≡ old.faults)
 EndsMessage who message old new turns (Err ends.BadMessage) =
-    IsTrue (is_bad (refusal message)) × IsSilent old.place new.place × (new.faults ≡ old.faults)
+    IsTrue (is_bad (refusal message)) × IsStill old.place new.place × (new.faults ≡ old.faults)
 EndsMessage who message old new turns (Err ends.WriteFault) = IsUnwritten who message old.place new.place × Rose old.faults new.faults
 EndsMessage who message old new turns (Err ends.Turns) =
     (IsUnanswered who message old.place new.place ⊎ IsUnwritten who message old.place new.place) × (turns ≡ 0) × (new.faults ≡ old.faults)
 EndsMessage who message old new turns (Err ends.Worn) = IsUnanswered who message old.place new.place × (new.faults ≡ old.faults)
 EndsMessage who message old new turns (Err ends.NoMemory) =
-    (IsSilent old.place new.place ⊎ IsUnwritten who message old.place new.place) × (new.faults ≡ old.faults)
+    (IsStill old.place new.place ⊎ IsUnwritten who message old.place new.place) × (new.faults ≡ old.faults)
 EndsMessage who message old new turns (Err _) = ⊥

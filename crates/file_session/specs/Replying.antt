@@ -18,6 +18,10 @@ use Rattle.node_core.specs.declared.answer.Answer.TheVariants as answer
 abbrev pub EIO : Errno
 EIO = record { 0 = 5 }
 
+-- the node gave an answer that is none to a request, and gives no other such number
+abbrev pub EPROTO : Errno
+EPROTO = record { 0 = 71 }
+
 -- an opcode that is not served
 abbrev pub ENOSYS : Errno
 ENOSYS = record { 0 = 38 }
@@ -37,19 +41,11 @@ has_bytes _ = true
 abbrev pub sendable : Reply → Reply
 sendable r = if has_bytes r then r else reply.Error EIO
 
--- the reply that the node's answer is. An answer to something else than a request is EIO
+-- the reply that the node's answer is. An answer to something else than a request is EPROTO
 abbrev pub reply_of : Answer → Reply
 reply_of (answer.Done r) = sendable r
-reply_of answer.Quiet = reply.Error EIO
 reply_of (answer.Refuse number) = sendable (reply.Error number)
-reply_of (answer.At position) = reply.Error EIO
-reply_of (answer.Level position) = reply.Error EIO
-reply_of (answer.Item ltx after) = reply.Error EIO
-reply_of answer.Gone = reply.Error EIO
-reply_of (answer.Applied position) = reply.Error EIO
-reply_of (answer.Held lock) = reply.Error EIO
-reply_of (answer.Pruned count) = reply.Error EIO
-reply_of (answer.Refused why) = reply.Error EIO
+reply_of _ = reply.Error EPROTO
 
 -- the bytes that answer a request of this number, where it has a reply
 abbrev pub reply_text : Bool → ℕ → Answer → List ℕ

@@ -5,11 +5,11 @@ use Rattle.std.specs.Io.KnownBytes.{Appends}
 use Rattle.fuse_msgs.specs.declared.request.Request.{Request}
 use Rattle.turn_desk.specs.History.{entry}
 use Rattle.link_session.specs.Rounds.{Round}
+use Rattle.link_session.specs.Stands.{Asker}
 use Rattle.node_core.specs.declared.ask.Ask.TheVariants as ask
 use Rattle.node_core.specs.declared.answer.Answer.{Answer}
-use Rattle.file_session.specs.Asking.{Asker}
+use Rattle.file_session.specs.Asking.{FileEntry}
 use Rattle.file_session.specs.Message.{IsRound}
-use Rattle.file_session.specs.Stands.{FileEntry}
 
 -- the bytes that were written are a front of the replies of rounds, one after another
 pub record WritesReplies (who : Asker) (old new : Option (List ℕ)) : Type 0 where

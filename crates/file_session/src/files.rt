@@ -1,10 +1,10 @@
 //! The files of the node, served to one client.
 ghost use Rattle.std.specs.Prelude.{◌≡◌};
 ghost use Rattle.lf_base.specs.declared.session_end.SessionEnd.TheVariants as ends;
-ghost use Rattle.link_session.specs.Seats.{FoundWorn, StaysLegal};
+ghost use Rattle.link_session.specs.Seats.{FoundWorn, HasGoneOn};
 ghost use Rattle.turn_desk.specs.Seats.{view, number_of, opened_on, IsOf};
+ghost use Rattle.link_session.specs.Stands.{stand};
 ghost use Rattle.file_session.specs.Session.{IsSession};
-ghost use Rattle.file_session.specs.Stands.{stand};
 
 use crate::seat::serve_seat;
 use lf_base::{Clock, Dialer, Link, Name, Pause, SessionEnd};
@@ -36,7 +36,7 @@ pub fn serve_files<R: Wait + Copy, D: Disk, L: Link, T: Dialer, C: Clock, P: Pau
     requires { IsOf seat.old desk.now }
     ensures session { IsSession (record { caller = number_of seat.old; may = C.may_give clock.old }) budget (stand L.Link link.old (view seat.old).mine) (stand L.Link link.new (view seat.new).mine) result }
     ensures worn { result ≡ ends.Worn → FoundWorn seat.new }
-    ensures legal { StaysLegal ⟦<Node<D> as Machine>⟧.steps (opened_on desk.now) (view seat.old).seen (view seat.new).seen }
+    ensures history { HasGoneOn ⟦<Node<D> as Machine>⟧.steps (opened_on desk.now) (number_of seat.new) (view seat.old) (view seat.new) }
     ensures seat { IsOf seat.new desk.now × (number_of seat.new ≡ number_of seat.old) }
     ensures clock { C.may_give clock.new ≡ C.may_give clock.old }
     ensures dialer { dialer.new ≡ dialer.old }

@@ -4,16 +4,16 @@ ghost use Rattle.lf_base.specs.declared.session_end.SessionEnd.{SessionEnd};
 ghost use Rattle.fuse_msgs.specs.declared.request.Request.{Request};
 ghost use Rattle.fuse_msgs.specs.Message.{IsMessage};
 ghost use Rattle.link_session.specs.Rounds.{Round};
+ghost use Rattle.link_session.specs.Stands.{Asker, Stand};
 ghost use Rattle.file_session.specs.declared.tries.Tries.TheVariants as tries;
-ghost use Rattle.file_session.specs.Asking.{Asker, tries_of};
+ghost use Rattle.file_session.specs.Asking.{FileEntry, tries_of};
 ghost use Rattle.file_session.specs.Message.{IsRound};
 ghost use Rattle.file_session.specs.Session.{IsSession};
-ghost use Rattle.file_session.specs.Stands.{FileEntry, Stand};
 ghost use Rattle.file_session.specs.Written.{IsAskedOnce, WritesReplies};
 
 /// However a session ends, what it has written is a front of the replies to its messages, in their order.
 pub fn replies_in_order()
-    ensures { (who : Asker) (budget : ℕ) (old new : Stand) (end : SessionEnd) → IsSession who budget old new end → WritesReplies who old.place.taken new.place.taken }
+    ensures { (who : Asker) (budget : ℕ) (old new : Stand FileEntry) (end : SessionEnd) → IsSession who budget old new end → WritesReplies who old.place.taken new.place.taken }
 {}
 
 /// A message of any other request than SETLKW is asked once.

@@ -11,6 +11,9 @@ use std::alloc::Global;
 /// An input/output error, `EIO`.
 const IO_FAILED: Errno = Errno(5);
 
+/// An answer that is none to a request, `EPROTO`.
+const NO_ANSWER: Errno = Errno(71);
+
 /// An opcode that is not served, `ENOSYS`.
 const NOT_SERVED: Errno = Errno(38);
 
@@ -69,7 +72,7 @@ fn reply_of(answer: Answer) -> Reply
         | Answer::Applied(_)
         | Answer::Held(_)
         | Answer::Pruned(_)
-        | Answer::Refused(_) => Reply::Error(IO_FAILED),
+        | Answer::Refused(_) => Reply::Error(NO_ANSWER),
     }
 }
 

@@ -4,9 +4,9 @@ ghost use Rattle.std.specs.Io.KnownBytes.{Keeps};
 ghost use Rattle.lf_base.specs.declared.session_end.SessionEnd.TheVariants as ends;
 ghost use Rattle.fuse_msgs.specs.Message.{IsMessage};
 ghost use Rattle.link_session.specs.Spending.{MovesFor};
+ghost use Rattle.link_session.specs.Stands.{asker, stand, AsksOn, Spends};
 ghost use Rattle.file_session.specs.Message.{EndsMessage};
 ghost use Rattle.file_session.specs.Replying.{reply_text, unserved_text, EndsReply};
-ghost use Rattle.file_session.specs.Stands.{asker, stand, AsksOn, Spends};
 
 use crate::replying::{has_reply, put_reply, put_unserved};
 use crate::tries::tries_of;

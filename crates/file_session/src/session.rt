@@ -2,8 +2,8 @@
 ghost use Rattle.std.specs.Prelude.{◌≡◌};
 ghost use Rattle.lf_base.specs.declared.session_end.SessionEnd.TheVariants as ends;
 ghost use Rattle.link_session.specs.declared.stage.Stage.TheVariants as stages;
+ghost use Rattle.link_session.specs.Stands.{asker, stand, stand_with, AsksOn, GoesOn};
 ghost use Rattle.file_session.specs.Session.{AsksEnd, Conversation, IsSession};
-ghost use Rattle.file_session.specs.Stands.{asker, stand, stand_with, AsksOn};
 
 use crate::serving::serve_message;
 use fuse_msgs::MessageFeed;
@@ -33,7 +33,7 @@ pub fn serve_link<S: Steps<Ask = Ask, Answer = Answer>, L: Link, C: Clock, P: Pa
 fn ask_end<S: Steps<Ask = Ask, Answer = Answer>>(steps: &mut S, end: SessionEnd) -> SessionEnd
     requires { end ≡ ends.Worn → S.is_worn steps.old }
     ensures asked { AsksEnd (S.number steps.old) (S.entries steps.old) (S.entries steps.new) end result }
-    ensures same { (S.of steps.new ≡ S.of steps.old) × (S.number steps.new ≡ S.number steps.old) × (S.is_legal steps.old → S.is_legal steps.new) }
+    ensures same { (S.of steps.new ≡ S.of steps.old) × (S.number steps.new ≡ S.number steps.old) × GoesOn S.Steps steps.old steps.new }
     ensures worn { result ≡ ends.Worn → S.is_worn steps.new }
 {
     if end == SessionEnd::Worn {

@@ -2,7 +2,8 @@
 use Rattle.std.specs.Prelude.{◌≡◌, ℕ, ◌^◌, List, [], ◌∷◌, ◌++◌}
 use Rattle.turn_desk.specs.declared.history.Entry.{Entry}
 use Rattle.turn_desk.specs.declared.seat.SeatOver.{SeatOver}
-use Rattle.turn_desk.specs.History.{IsLegal}
+use Rattle.turn_desk.specs.declared.view.SeatView.{SeatView}
+use Rattle.turn_desk.specs.History.{IsLegal, StartsWith, calls_by}
 use Rattle.turn_desk.specs.Seats.{turn_words}
 
 -- the seat last found 2^62 steps made, after which there is no turn for another
@@ -13,6 +14,14 @@ FoundWorn seat = (words : List ℕ) × (turn_words seat ≡ words ++ 2 ^ 63 ∷ 
 abbrev pub Gives : {M Q A : Type 0} → (M → ℕ → Q → A → M → Type 0) → Q → A → Type 0
 Gives {M} steps ask answer = (before after : M) × (caller : ℕ) × steps before caller ask answer after
 
--- the history that a seat has seen stays one of the machine's steps
-pub record StaysLegal {M Q A : Type 0} (steps : M → ℕ → Q → A → M → Type 0) (opened : M) (before after : List (Entry Q A)) : Type 0 where
-  pub legal : IsLegal steps opened before → IsLegal steps opened after
+-- the history that was seen begins so, and the machine can have made its steps
+pub record HasSeen {M Q A : Type 0} (steps : M → ℕ → Q → A → M → Type 0) (opened : M) (seen front : List (Entry Q A)) : Type 0 where
+  pub legal : IsLegal steps opened seen
+  pub begins : StartsWith seen front
+
+-- A SEAT THAT WAS IN USE. The machine can have made the steps of the history that it has seen, which begins with all that it had
+-- seen before, and has of the seat's number just the seat's own calls
+pub record HasGoneOn {M Q A : Type 0} (steps : M → ℕ → Q → A → M → Type 0) (opened : M) (number : ℕ) (before after : SeatView M Q A) : Type 0 where
+  pub legal : IsLegal steps opened after.seen
+  pub longer : StartsWith after.seen before.seen
+  pub own : calls_by number after.seen ≡ after.mine

@@ -5,6 +5,7 @@ use Rattle.lf_base.specs.declared.clock.Clock.{Ghosts as ClockGhosts}
 use Rattle.lf_base.specs.declared.link.Link.{Ghosts as LinkGhosts}
 use Rattle.lf_base.specs.declared.session_end.SessionEnd.{SessionEnd}
 use Rattle.lf_base.specs.declared.session_end.SessionEnd.TheVariants as ends
+use Rattle.turn_desk.specs.declared.history.Entry.{Entry}
 use Rattle.link_session.specs.declared.steps.Steps.{Ghosts as StepsGhosts}
 use Rattle.link_session.specs.Reading.{Held, coming}
 use Rattle.link_session.specs.Rounds.{Place}
@@ -44,10 +45,14 @@ pub record Asker : Type 0 where
 abbrev pub asker : {S C Q A O : Type 0} → StepsGhosts S Q A O → ClockGhosts C → S → C → Asker
 asker s c steps clock = record { caller = s.number steps; may = c.may_give clock }
 
--- it goes on asking: by the same seat at the same desk, whose history stays legal, and by a clock of the same test
+-- its history goes on: it begins with all that it began with
+abbrev pub GoesOn : {S Q A O : Type 0} → StepsGhosts S Q A O → S → S → Type 0
+GoesOn {S} {Q} {A} s old new = (front : List (Entry Q A)) → s.goes_on old front → s.goes_on new front
+
+-- it goes on asking: by the same seat at the same desk, whose history goes on, and by a clock of the same test
 abbrev pub AsksOn : {S C Q A O : Type 0} → StepsGhosts S Q A O → ClockGhosts C → S → S → C → C → Type 0
 AsksOn s c old new clock clock_now =
-    (s.of new ≡ s.of old) × (s.number new ≡ s.number old) × (s.is_legal old → s.is_legal new) × (c.may_give clock_now ≡ c.may_give clock)
+    (s.of new ≡ s.of old) × (s.number new ≡ s.number old) × GoesOn s old new × (c.may_give clock_now ≡ c.may_give clock)
 
 -- each turn that is gone was a call of the link that moved bytes, or an ask; unless the link's count stands at the last number
 -- of a u64

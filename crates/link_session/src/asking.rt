@@ -1,5 +1,6 @@
 ghost use Rattle.std.specs.Prelude.{length, ◌≡◌, IfOk, OnErr};
 ghost use Rattle.link_session.specs.Spending.{AsksFor};
+ghost use Rattle.link_session.specs.Stands.{GoesOn};
 ghost use Rattle.link_session.specs.Asking.{AskedUntil, AskedInVain, IsGiven, EndsAsking};
 
 use crate::patience::Patience;
@@ -29,7 +30,7 @@ pub fn ask_until<
     ensures answered { IfOk result (λ answer. AskedUntil (record { may = C.may_give clock.old; at_moment = T.at_moment; again = T.again patience.now; caller = S.number steps.old }) ask (S.entries steps.old) (S.entries steps.new) answer) }
     ensures vain { OnErr result (AskedInVain (record { may = C.may_give clock.old; at_moment = T.at_moment; again = T.again patience.now; caller = S.number steps.old }) ask (S.entries steps.old) (S.entries steps.new)) }
     ensures gives { IfOk result (IsGiven (record { may = C.may_give clock.old; at_moment = T.at_moment; again = T.again patience.now; caller = S.number steps.old }) S.gives ask) }
-    ensures same { (S.of steps.new ≡ S.of steps.old) × (S.number steps.new ≡ S.number steps.old) × (S.is_legal steps.old → S.is_legal steps.new) × (C.may_give clock.new ≡ C.may_give clock.old) }
+    ensures same { (S.of steps.new ≡ S.of steps.old) × (S.number steps.new ≡ S.number steps.old) × GoesOn S.Steps steps.old steps.new × (C.may_give clock.new ≡ C.may_give clock.old) }
     ensures spent { AsksFor result turns.old (length (S.entries steps.old)) turns.new (length (S.entries steps.new)) }
     ensures cause { EndsAsking (S.is_worn steps.new) turns.new result }
 {

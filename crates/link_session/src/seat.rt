@@ -1,8 +1,7 @@
 //! A seat of a desk, as one that asks steps.
 ghost use Rattle.std.specs.Prelude.{◌≡◌};
-ghost use Rattle.turn_desk.specs.History.{IsLegal};
 ghost use Rattle.turn_desk.specs.Seats.{view, number_of, opened_on, IsOf};
-ghost use Rattle.link_session.specs.Seats.{FoundWorn, Gives};
+ghost use Rattle.link_session.specs.Seats.{FoundWorn, Gives, HasSeen};
 
 use crate::steps::Steps;
 use std::sync::Wait;
@@ -36,7 +35,7 @@ impl<M: Machine, R: Wait + Copy> Steps for AtSeat<'_, '_, M, R> {
 
     ghost of = { λ s. record { seat = s.seat.ghost_name; desk = s.desk.now } };
 
-    ghost is_legal = { λ s. IsLegal M.steps (opened_on s.desk.now) (view s.seat.now).seen };
+    ghost goes_on = { λ s. HasSeen M.steps (opened_on s.desk.now) (view s.seat.now).seen };
 
     ghost is_worn = { λ s. FoundWorn s.seat.now };
 

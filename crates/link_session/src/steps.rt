@@ -22,8 +22,8 @@ pub trait Steps {
     /// Which of the outside it stands for.
     ghost of: { Self → Self.Outside };
 
-    /// What holds of the history of which its own asks are a part.
-    ghost is_legal: { Self → Type 0 };
+    /// The history of which its own asks are a part begins so, and the machine can have made its steps.
+    ghost goes_on: { Self → List (Entry Self.Ask Self.Answer) → Type 0 };
 
     /// No further step can be taken.
     ghost is_worn: { Self → Type 0 };
@@ -34,7 +34,7 @@ pub trait Steps {
     fn ask(&mut self, ask: &Self::Ask) -> Result<Self::Answer, Worn>
         ensures entry { IfOk result (λ answer. entries self.new ≡ entries self.old ++ entry (number self.old) ask.now answer ∷ []) }
         ensures gives { IfOk result (λ answer. gives ask.now answer) }
-        ensures legal { is_legal self.old → is_legal self.new }
+        ensures on { (front : List (Entry Self.Ask Self.Answer)) → goes_on self.old front → goes_on self.new front }
         ensures same { (of self.new ≡ of self.old) × (number self.new ≡ number self.old) }
         ensures worn { OnErr result (is_worn self.new) }
         ensures still { OnErr result (entries self.new ≡ entries self.old) };

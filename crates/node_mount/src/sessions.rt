@@ -12,6 +12,9 @@ use turn_desk::Machine;
 /// The turns of a session.
 pub const BUDGET: u64 = 1 << 62;
 
+// So many that no client uses them up.
+const _: () = prove!(BUDGET >= 1 << 40);
+
 /// How many links are accepted.
 pub const LINKS: u64 = 1 << 40;
 

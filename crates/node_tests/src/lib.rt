@@ -13,6 +13,8 @@ mod links;
 #[cfg(test)]
 mod memory;
 #[cfg(test)]
+mod mounted;
+#[cfg(test)]
 mod same;
 #[cfg(test)]
 mod streams;

@@ -57,3 +57,27 @@ fn http_listens_once_on_a_port(rt: HostRuntime) {
     let taken = Text::of(rt.alloc(), taken.as_str()).expect(&rt, "memory");
     same(rt, maker.http(&taken).is_err(), true);
 }
+
+/// A node has a number of its own, which is not 0.
+#[test]
+fn numbers_are_drawn(rt: HostRuntime) {
+    let _named: Option<(TcpListener, TcpStream)> = None;
+    let (one, other) = (maker(rt).node_id(), maker(rt).node_id());
+    same(rt, one == 0, false);
+    same(rt, one == other, false);
+}
+
+/// An address without a host is one of every address of the machine: of 127.0.0.2 too.
+#[test]
+fn http_listens_on_every_address(rt: HostRuntime) {
+    let free = TcpListener::bind(&rt, "127.0.0.1:0").expect(&rt, "a listener");
+    let port = free.local_addr().expect(&rt, "its address").port();
+    drop(free);
+    let mut maker = maker(rt);
+    let address = format!(in rt.alloc(); ":{port}").expect(&rt, "memory");
+    let address = Text::of(rt.alloc(), address.as_str()).expect(&rt, "memory");
+    let accept = maker.http(&address);
+    same(rt, accept.is_ok(), true);
+    let other = format!(in rt.alloc(); "127.0.0.2:{port}").expect(&rt, "memory");
+    same(rt, TcpStream::connect(&rt, other.as_str()).is_ok(), true);
+}

@@ -1,6 +1,6 @@
 //! The stream of another node, applied to this one.
 ghost use Rattle.std.specs.Prelude.{◌≡◌};
-ghost use Rattle.link_session.specs.Seats.{FoundWorn, StaysLegal};
+ghost use Rattle.link_session.specs.Seats.{FoundWorn, HasGoneOn};
 ghost use Rattle.link_session.specs.Stands.{stand};
 ghost use Rattle.turn_desk.specs.Seats.{view, number_of, opened_on, IsOf};
 ghost use Rattle.replica_apply.specs.declared.follow_end.FollowEnd.TheVariants as ends;
@@ -34,7 +34,7 @@ pub fn follow<R: Wait + Copy, D: Disk, L: Link, C: Clock, P: Pause>(
     requires { IsOf seat.old desk.now }
     ensures follows { Follows (record { caller = number_of seat.old; may = C.may_give clock.old }) name.now budget (stand L.Link link.old (view seat.old).mine) (stand L.Link link.new (view seat.new).mine) result }
     ensures worn { result ≡ ends.Worn → FoundWorn seat.new }
-    ensures legal { StaysLegal ⟦<Node<D> as Machine>⟧.steps (opened_on desk.now) (view seat.old).seen (view seat.new).seen }
+    ensures history { HasGoneOn ⟦<Node<D> as Machine>⟧.steps (opened_on desk.now) (number_of seat.new) (view seat.old) (view seat.new) }
     ensures seat { IsOf seat.new desk.now × (number_of seat.new ≡ number_of seat.old) }
     ensures clock { C.may_give clock.new ≡ C.may_give clock.old }
 {

@@ -1,7 +1,8 @@
 //! Where the node stands.
 ghost use Rattle.std.specs.Prelude.{◌≡◌, length, IfErr};
+ghost use Rattle.link_session.specs.Stands.{GoesOn};
 ghost use Rattle.replica_apply.specs.declared.follow_end.FollowEnd.TheVariants as ends;
-ghost use Rattle.replica_apply.specs.Following.{Asks, SaysWhere};
+ghost use Rattle.replica_apply.specs.Following.{place_in, Asks, SaysWhere};
 
 use crate::follow_end::FollowEnd;
 use lf_base::Pos;
@@ -14,7 +15,7 @@ pub fn ask_where<S: Steps<Ask = Ask, Answer = Answer>>(
     turns: &mut Turns,
 ) -> Result<Pos, FollowEnd>
     ensures says { SaysWhere (S.number steps.old) (S.entries steps.old) (S.entries steps.new) turns.new result }
-    ensures same { (S.of steps.new ≡ S.of steps.old) × (S.number steps.new ≡ S.number steps.old) × (S.is_legal steps.old → S.is_legal steps.new) }
+    ensures same { (S.of steps.new ≡ S.of steps.old) × (S.number steps.new ≡ S.number steps.old) × GoesOn S.Steps steps.old steps.new }
     ensures spent { Asks turns.old (length (S.entries steps.old)) turns.new (length (S.entries steps.new)) result }
     ensures worn { IfErr result (λ end. end ≡ ends.Worn → S.is_worn steps.new) }
 {
@@ -23,9 +24,26 @@ pub fn ask_where<S: Steps<Ask = Ask, Answer = Answer>>(
         Err(_) => return Err(FollowEnd::Turns),
     }
     match steps.ask(&Ask::Where) {
-        Ok(Answer::At(pos)) => Ok(pos),
-        Ok(Answer::Refused(refusal)) => Err(FollowEnd::Refused(refusal)),
-        Ok(_) => Err(FollowEnd::NoMemory),
+        Ok(answer) => place_in(answer),
         Err(_) => Err(FollowEnd::Worn),
+    }
+}
+
+/// What an answer says of where the node stands.
+fn place_in(answer: Answer) -> Result<Pos, FollowEnd>
+    ensures { result ≡ place_in answer }
+{
+    match answer {
+        Answer::At(pos) => Ok(pos),
+        Answer::Refused(refusal) => Err(FollowEnd::Refused(refusal)),
+        Answer::Done(_)
+        | Answer::Quiet
+        | Answer::Refuse(_)
+        | Answer::Level(_)
+        | Answer::Item { .. }
+        | Answer::Gone
+        | Answer::Applied(_)
+        | Answer::Held(_)
+        | Answer::Pruned(_) => Err(FollowEnd::OddAnswer),
     }
 }

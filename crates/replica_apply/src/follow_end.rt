@@ -17,10 +17,12 @@ pub enum FollowEnd {
     Status(u16),
     /// The node refused what it was asked last.
     Refused(Refusal),
-    /// The turns are used up.
+    /// The turns are used up, or 2^64 - 1 frames were followed.
     Turns,
     /// The desk has no turn left.
     Worn,
-    /// Memory ran out, or the node gave an answer that is none to what it was asked.
+    /// The node gave an answer that is none to what it was asked.
+    OddAnswer,
+    /// Memory ran out.
     NoMemory,
 }

@@ -1,7 +1,7 @@
 -- Streams: what was sent so far, and how they end.
 use Rattle.std.proofs.Common.{◌≡◌, inl, inr, ℕ, ◌+◌, Bool, true, false, IsTrue, List, [], ◌∷◌, ◌++◌, length, take, Option, Result, Ok, Err, OnOk, OnErr, refl, sym, ap, ◌∙◌, subst, append_assoc, append-nil, length-append, arith}
 use Rattle.std.specs.Io.KnownBytes.{Appends, Keeps}
-use Rattle.std.proofs.KnownBytes.{Appends-nil, Appends-trans, Keeps-refl}
+use Rattle.std.proofs.KnownBytes.{Appends-kept, Appends-nil, Appends-trans, Keeps-refl}
 use Rattle.std.proofs.lemmas.List.{take-append-le}
 use Rattle.std.proofs.Math.Seq.{take-append-add}
 use Rattle.lf_base.specs.declared.pos.Pos.{Pos}
@@ -14,7 +14,7 @@ use Rattle.link_session.specs.Writing.{AppendsPart}
 use Rattle.node_core.specs.declared.answer.Answer.{Answer}
 use Rattle.stream_primary.specs.declared.standing.Standing.{Standing}
 use Rattle.stream_primary.specs.Telling.{goes_on, next, standing_at, words}
-use Rattle.stream_primary.specs.Streaming.{NodeEntry, AreHellos, AsksHello, EndsRound, EndsTelling, IsHello, Streamed, Streams, behind, sent_by}
+use Rattle.stream_primary.specs.Streaming.{NodeEntry, AreHellos, AsksHello, EndsRound, EndsTelling, IsHello, OwesStill, Streamed, Streams, behind, sent_by}
 use Rattle.stream_primary.proofs.Wholes.{kept_appends}
 
 -- ---- two texts, one behind the other
@@ -140,3 +140,18 @@ stream_from who name from old mid new turns end kept entries faults s = record {
   };
   last = subst (λ (count : ℕ). EndsRound who name s.at s.place new.place count new.faults turns (Err end)) faults s.last;
 }
+
+-- want of memory drops nothing
+pub owes_still : (who : Asker) (name : List ℕ) (from : Pos) (old new : Stand NodeEntry) (turns : ℕ) → Streams who name from old new turns ends.NoMemory
+    → OwesStill who name from old.place new.place
+owes_still who name from old new turns s =
+    let unsent = s.last.0.1 in
+    let one : NodeEntry = unsent.hello.one in
+    record {
+      sent = s.rounds.hellos;
+      owed = one;
+      each = s.rounds.each;
+      written = Appends-kept old.place.taken s.place.taken new.place.taken (sent_by name (standing_at from) s.rounds.hellos) s.rounds.written unsent.written;
+      asked = unsent.hello.asked ∙ ap (λ (es : List NodeEntry). es ++ one ∷ []) s.rounds.asked ∙ append_assoc old.place.entries s.rounds.hellos (one ∷ []);
+      again = subst (λ (st : Standing). IsHello who st.pos one) s.rounds.stands unsent.hello.hello;
+    }

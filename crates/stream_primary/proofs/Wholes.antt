@@ -11,7 +11,7 @@ use Rattle.httparse.proofs.GrammarLemmas.{cons-append, ReadsRequest-append}
 use Rattle.lf_base.specs.Faults.{Rose}
 use Rattle.lf_base.specs.declared.session_end.SessionEnd.{SessionEnd}
 use Rattle.lf_base.specs.declared.session_end.SessionEnd.TheVariants as ends
-use Rattle.link_session.specs.Reading.{broken, cut, EndsReading, IsCut, IsUnread}
+use Rattle.link_session.specs.Reading.{broken, cut, EndsReading, IsCut, IsUnread, IsUnreadable}
 use Rattle.link_session.specs.Writing.{AppendsPart}
 use Rattle.stream_wire.specs.declared.wire_fault.WireFault.{WireFault}
 use Rattle.stream_wire.specs.declared.wire_fault.WireFault.TheVariants as fault
@@ -26,7 +26,7 @@ use Rattle.stream_wire.specs.declared.call.Call.TheVariants as call
 use Rattle.stream_primary.specs.declared.wish.Wish.{Wish}
 use Rattle.stream_primary.specs.declared.wish.Wish.TheVariants as wish
 use Rattle.stream_primary.specs.Refusing.{reply, EndsReply}
-use Rattle.stream_primary.specs.Request.{in_body, no_line, other_call, other_name, Awaits, AwaitsOn, EndsBody, GaveAtLeast, HasHead, IsFewer, IsPart, IsRest, RefusesHead, Wants, WasRead, body_in, end_by}
+use Rattle.stream_primary.specs.Request.{a_head, a_line, in_body, in_head, no_line, other_call, other_name, Awaits, AwaitsOn, EndsBody, GaveAtLeast, HasHead, IsFewer, IsKept, IsPart, IsRest, RefusesHead, Wants, WasRead, body_in, end_by}
 
 -- a head lies within the bytes that begin with it
 pub head_is_within : (bytes : List ℕ) (size len : ℕ) → HasHead bytes size len → size ≤ length bytes
@@ -74,7 +74,7 @@ never_text (Some t) (Some l) bytes c n = λ more takes. n (l ++ more) (subst Tak
 
 -- bytes that begin no request, of a text that begins with them
 pub unheard : (text left : Option (List ℕ)) (bytes : List ℕ) (before now turns : ℕ) (end : SessionEnd) → Consumes text left bytes → RefusesHead bytes end
-    → now ≡ before → EndsReading {T = Unit {0}} true IsPart NeverTakesRequest text left before now turns (Err end)
+    → now ≡ before → EndsReading {T = Unit {0}} true IsKept NeverTakesRequest text left before now turns (Err end)
 unheard text left bytes before now turns ends.BadMessage c r same = (broken (never_text text left bytes c r), same)
 unheard text left bytes before now turns ends.NoMemory c r same = (refl, (bytes, c), same)
 unheard text left bytes before now turns ends.Closed c r same = absurd r
@@ -159,9 +159,32 @@ awaits_none name bytes size len count wanted h rest none wants =
       wants = λ more fits. subst (λ (body : List ℕ). Wants name call.Stream body wanted) (sym (body_stays bytes more size len all)) wants;
     }
 
--- a head and a part of its body
-pub part_of_body : (bytes : List ℕ) (size len count : ℕ) → HasHead bytes size len → IsRest bytes size len count → 0 < count → IsPart bytes
-part_of_body bytes size len count h rest some = in_body size len h (omega (arith, rest.some some, some))
+-- the head of a stream and a part of its line
+pub part_of_line : (bytes : List ℕ) (size len count : ℕ) → IsRequest bytes size call.Stream len → len ≤ 99 → IsRest bytes size len count → 0 < count → IsKept bytes
+part_of_line bytes size len count h most rest some = a_line size len h most (omega (arith, rest.some some, some))
+
+-- what is kept is a part of a request
+pub kept_is_part : (bytes : List ℕ) → IsKept bytes → IsPart bytes
+kept_is_part bytes (a_head h) = in_head h
+kept_is_part bytes (a_line size len h most less) = in_body size len (call.Stream, h) less
+
+kept_unread : (text left : Option (List ℕ)) → IsUnread IsKept text left → IsUnread IsPart text left
+kept_unread text left u = record { bytes = u.bytes; part = kept_is_part u.bytes u.part; read = u.read }
+
+kept_unreadable : (text left : Option (List ℕ)) → IsUnreadable IsKept NeverTakesRequest text left → IsUnreadable IsPart NeverTakesRequest text left
+kept_unreadable text left (broken b) = broken b
+kept_unreadable text left (cut c) = cut (record { bytes = c.bytes; some = c.some; part = kept_is_part c.bytes c.part; read = c.read; end = c.end })
+
+-- the head could not be read, and so the request could not
+pub head_ends : (T U : Type 0) (text left : Option (List ℕ)) (before now turns : ℕ) (end : SessionEnd)
+    → EndsReading {T = T} true IsKept NeverTakesRequest text left before now turns (Err end) → EndsReading {T = U} true IsPart NeverTakesRequest text left before now turns (Err end)
+head_ends T U text left before now turns ends.Closed e = e
+head_ends T U text left before now turns ends.BadMessage e = (kept_unreadable text left e.0, e.1)
+head_ends T U text left before now turns ends.ReadFault e = (kept_unread text left e.0, e.1)
+head_ends T U text left before now turns ends.Turns e = (kept_unread text left e.0, e.1, e.2)
+head_ends T U text left before now turns ends.NoMemory e = e
+head_ends T U text left before now turns ends.WriteFault e = absurd e
+head_ends T U text left before now turns ends.Worn e = absurd e
 
 abbrev behind_method : RequestHead → List ℕ
 behind_method h = h.target ++ (space ∷ print_version h.minor) ++ print_end h.line_end ++ print_section h.fields h.last

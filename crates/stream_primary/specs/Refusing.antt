@@ -57,10 +57,14 @@ name_of refusal.NoMemory = codes "NoMemory"
 abbrev pub refusal_reply : Refusal → List ℕ
 refusal_reply refused = reply (status_of refused) (name_of refused ++ 10 ∷ [])
 
--- the reply to a request whose answer is no stream. An answer to something else is a failure without a name
+-- the reply where the node's answer is none to a Hello, which no refusal has
+abbrev pub odd_reply : List ℕ
+odd_reply = reply 500 (codes "OddAnswer" ++ 10 ∷ [])
+
+-- the reply to a request whose answer is no stream
 abbrev pub refused_reply : Answer → List ℕ
 refused_reply (answer.Refused refused) = refusal_reply refused
-refused_reply _ = reply 500 []
+refused_reply _ = odd_reply
 
 -- how a request ends that is answered by this text alone, and what became of the count of faults
 abbrev pub EndsReply : List ℕ → Option (List ℕ) → Option (List ℕ) → ℕ → ℕ → ℕ → SessionEnd → Type 0

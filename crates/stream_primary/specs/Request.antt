@@ -55,6 +55,15 @@ pub data IsPart (bytes : List ℕ) : Type 0 where
   in_head : IsHeadPart bytes → IsPart bytes
   in_body : (size len : ℕ) → HasHead bytes size len → length bytes < size + len → IsPart bytes
 
+-- the most bytes of the line that asks for a stream
+abbrev pub line_max : ℕ
+line_max = 99
+
+-- what is kept of a request whose wish isn't known yet: a part of its head, or the head of a stream and a part of its line
+pub data IsKept (bytes : List ℕ) : Type 0 where
+  a_head : IsHeadPart bytes → IsKept bytes
+  a_line : (size len : ℕ) → IsRequest bytes size call.Stream len → len ≤ line_max → length bytes < size + len → IsKept bytes
+
 -- of a request of this size so many bytes are still to come behind these
 pub record IsRest (bytes : List ℕ) (size len count : ℕ) : Type 0 where
   pub most : size + len ≤ length bytes + count

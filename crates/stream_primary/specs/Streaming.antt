@@ -98,6 +98,16 @@ EndsTelling name at given old new before now turns (Err ends.Turns) = AppendsPar
 EndsTelling name at given old new before now turns (Err ends.NoMemory) = Keeps old new × (now ≡ before)
 EndsTelling name at given old new before now turns (Err _) = ⊥
 
+-- WHAT IS OWED STILL: the bytes are those of the Hellos before the last; and that one was asked at the position that they led to, at
+-- which the follower stands, so a stream from there asks it first
+pub record OwesStill (who : Asker) (name : List ℕ) (from : Pos) (old new : Place NodeEntry) : Type 0 where
+  pub sent : List NodeEntry
+  pub owed : NodeEntry
+  pub each : AreHellos who (standing_at from) sent
+  pub written : Appends old.taken new.taken (sent_by name (standing_at from) sent)
+  pub asked : new.entries ≡ old.entries ++ (sent ++ owed ∷ [])
+  pub again : IsHello who (behind (standing_at from) sent).pos owed
+
 -- A STREAM from a position on, to its end: rounds, and then the one that ended it
 pub record Streams (who : Asker) (name : List ℕ) (from : Pos) (old new : Stand NodeEntry) (turns : ℕ) (end : SessionEnd) : Type 0 where
   pub at : Standing

@@ -7,7 +7,7 @@ ghost use Rattle.lf_base.specs.Name.{IsName};
 ghost use Rattle.stream_wire.specs.Head.{IsRequest, NeverTakesRequest};
 ghost use Rattle.stream_wire.specs.StreamLine.{stream_line};
 ghost use Rattle.stream_wire.specs.declared.call.Call.TheVariants as call;
-ghost use Rattle.stream_primary.specs.Request.{Awaits, AwaitsOn, HasHead, IsPart, IsRest, RefusesHead, Wants, end_by};
+ghost use Rattle.stream_primary.specs.Request.{Awaits, AwaitsOn, HasHead, IsKept, IsRest, RefusesHead, Wants, end_by};
 
 use crate::wish::Wish;
 use lf_base::{Link, Name, NoMemory, Pos, SessionEnd};
@@ -25,7 +25,7 @@ const NOT_FOUND: u16 = 404;
 const BAD_REQUEST: u16 = 400;
 
 /// Reads on until it is known what the request wants, and answers that and how many bytes of its body
-/// are still to come.
+/// are still to come. Of a body no more is kept than the line of a stream can have.
 pub fn read_head<L: Link>(
     alloc: Global,
     name: &Name,
@@ -38,7 +38,7 @@ pub fn read_head<L: Link>(
     ensures piece { OnOk result (piece.new ≡ []) }
     ensures taken { Keeps (L.taken link.old) (L.taken link.new) }
     ensures spent { MovesFor result turns.old (L.moves link.old) turns.new (L.moves link.new) }
-    ensures cause { EndsReading true IsPart NeverTakesRequest (L.left link.old) (L.left link.new) (L.faults link.old) (L.faults link.new) turns.new result }
+    ensures cause { EndsReading true IsKept NeverTakesRequest (L.left link.old) (L.left link.new) (L.faults link.old) (L.faults link.new) turns.new result }
 {
     let mut held = Vec::new(alloc);
     loop {
@@ -74,7 +74,7 @@ pub fn read_head<L: Link>(
 /// are known.
 #[tactic(auto, using(crate::proofs::Wholes::refused, crate::proofs::Wholes::awaits_other))]
 fn awaited(alloc: Global, name: &Name, bytes: &[u8]) -> Result<Option<(Wish, u64)>, SessionEnd>
-    ensures part { result ≡ Ok None → IsPart bytes.now }
+    ensures part { result ≡ Ok None → IsKept bytes.now }
     ensures known { IfOk result (λ known. IfSome known (λ p. Awaits name.now bytes.now p.0 p.1)) }
     ensures refused { IfErr result (RefusesHead bytes.now) }
 {
@@ -116,7 +116,7 @@ fn stream_wish(
     length: u64,
 ) -> Result<Option<(Wish, u64)>, SessionEnd>
     requires { IsRequest bytes.now used call.Stream length }
-    ensures part { result ≡ Ok None → IsPart bytes.now }
+    ensures part { result ≡ Ok None → IsKept bytes.now }
     ensures known { IfOk result (λ known. IfSome known (λ p. Awaits name.now bytes.now p.0 p.1)) }
     ensures refused { IfErr result (RefusesHead bytes.now) }
 {

@@ -7,6 +7,7 @@
 mod bodies;
 mod heads;
 mod hello;
+mod laws;
 mod refusals;
 mod replies;
 mod requests;
@@ -18,6 +19,7 @@ mod streaming;
 mod telling;
 mod wish;
 
+pub use laws::owed_again;
 pub use seat::serve_seat;
 pub use serving::serve_http;
 pub use session::serve_link;

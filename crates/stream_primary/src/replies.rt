@@ -3,7 +3,7 @@ ghost use Rattle.std.specs.Prelude.{◌≡◌, ◌++◌, [], Err, OnOk};
 ghost use Rattle.std.specs.Io.KnownBytes.{Keeps};
 ghost use Rattle.http.specs.StatusCode.{IsStatusCode};
 ghost use Rattle.link_session.specs.Spending.{MovesFor};
-ghost use Rattle.stream_primary.specs.Refusing.{refusal_reply, refused_reply, reply, EndsReply};
+ghost use Rattle.stream_primary.specs.Refusing.{odd_reply, refusal_reply, refused_reply, reply, EndsReply};
 
 use crate::refusals::{name_of, status_of};
 use lf_base::{Link, NoMemory, SessionEnd};
@@ -45,8 +45,16 @@ pub fn put_refused(alloc: Global, answer: &Answer, text: &mut Vec<u8>) -> Result
         | Answer::Gone
         | Answer::Applied(_)
         | Answer::Held(_)
-        | Answer::Pruned(_) => put_status(alloc, 500, text),
+        | Answer::Pruned(_) => put_odd(alloc, text),
     }
+}
+
+fn put_odd(alloc: Global, text: &mut Vec<u8>) -> Result<(), NoMemory>
+    ensures { OnOk result (text.new.items ≡ text.old.items ++ odd_reply) }
+{
+    write_head(alloc, 500, Some(10), text)?;
+    text.extend_from_slice(b"OddAnswer\n")?;
+    Ok(())
 }
 
 fn put_refusal(alloc: Global, refusal: Refusal, text: &mut Vec<u8>) -> Result<(), NoMemory>

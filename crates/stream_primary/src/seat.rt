@@ -1,7 +1,7 @@
 //! A session by a seat of a desk, whose machine answers the asks of a node.
 ghost use Rattle.std.specs.Prelude.{◌≡◌};
 ghost use Rattle.lf_base.specs.declared.session_end.SessionEnd.TheVariants as ends;
-ghost use Rattle.link_session.specs.Seats.{FoundWorn, StaysLegal};
+ghost use Rattle.link_session.specs.Seats.{FoundWorn, HasGoneOn};
 ghost use Rattle.link_session.specs.Stands.{stand};
 ghost use Rattle.turn_desk.specs.Seats.{view, number_of, opened_on, IsOf};
 ghost use Rattle.stream_primary.specs.Session.{IsSession};
@@ -35,10 +35,12 @@ pub fn serve_seat<
     requires { IsOf seat.old desk.now }
     ensures session { IsSession (record { caller = number_of seat.old; may = C.may_give clock.old }) name.now budget (stand L.Link link.old (view seat.old).mine) (stand L.Link link.new (view seat.new).mine) result }
     ensures worn { result ≡ ends.Worn → FoundWorn seat.new }
-    ensures legal { StaysLegal M.steps (opened_on desk.now) (view seat.old).seen (view seat.new).seen }
+    ensures history { HasGoneOn M.steps (opened_on desk.now) (number_of seat.new) (view seat.old) (view seat.new) }
     ensures seat { IsOf seat.new desk.now × (number_of seat.new ≡ number_of seat.old) }
     ensures clock { C.may_give clock.new ≡ C.may_give clock.old }
 {
+    // A look at the desk tells that what the seat has seen is the machine's history.
+    desk.edition(seat);
     let mut steps = AtSeat {
         rt: &rt,
         desk,

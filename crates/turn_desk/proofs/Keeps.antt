@@ -11,7 +11,7 @@ use Rattle.turn_desk.specs.declared.history.Entry.{Entry}
 use Rattle.turn_desk.specs.declared.slot.SlotValue.{SlotValue}
 use Rattle.turn_desk.specs.declared.slot.LastStep.{LastStep}
 use Rattle.turn_desk.specs.declared.view.SeatView.{SeatView}
-use Rattle.turn_desk.specs.History.{StartsWith, calls_by, entry, Run}
+use Rattle.turn_desk.specs.History.{StartsWith, calls_by, entry, Run, IsLegal}
 use Rattle.turn_desk.specs.Rule.{Fits, Free, Held, Kept, first_view}
 use Rattle.turn_desk.specs.Moves.{noted, turn_loaded, turn_taken, extended, last_of, given, turn_given, number_loaded, number_drawn, met_told, newcomer, spent, joined}
 use Rattle.turn_desk.proofs.Lists.{starts_refl, starts_more, starts_length, two_starts, kept_between, calls_mine, calls_others, run_more}
@@ -60,7 +60,7 @@ module _ {M Q A : Type 0} where
     St = State (Option (SlotValue M Q A)) (SeatView M Q A)
 
     -- one seat's view changes, and nothing else
-    reviewed : (s : St) (k : Kept steps start s) (id : ℕ) (v w : SeatView M Q A) (ws : List ℕ) → get_elem? s.views id ≡ some v → Calmer w v → ws ≡ s.words → Fits start k.log k.drawn w
+    reviewed : (s : St) (k : Kept steps start s) (id : ℕ) (v w : SeatView M Q A) (ws : List ℕ) → get_elem? s.views id ≡ some v → Calmer w v → ws ≡ s.words → Fits steps start k.log k.drawn w
         → Kept steps start record { words = ws; homes = s.homes; views = set s.views id w }
     reviewed s k id v w ws here calm same fits =
         let old : (j : ℕ) (d : SeatView M Q A) → get_elem? (set s.views id w) j ≡ some d → (e : SeatView M Q A) × (get_elem? s.views j ≡ some e) × Calmer d e = back s.views id v w here calm in
@@ -75,13 +75,13 @@ module _ {M Q A : Type 0} where
               (λ (f : Free steps start k.log k.turn s). inl record { value = f.value; word = f.word; home = f.home; run = f.run; nobody = λ i d at h. let e = old i d at in f.nobody i e.0 e.1 (e.2.1 h) })
               (λ (f : Held k.log k.turn s). inr record { word = f.word; home = f.home; one = λ i j a b at_i at_j ha hb. let x = old i a at_i in let y = old j b at_j in f.one i j x.0 y.0 x.1 y.1 (x.2.1 ha) (y.2.1 hb) })
               k.state;
-          fits = views_all (Fits start k.log k.drawn) s.views id w fits (λ j d other at. k.fits j d at);
+          fits = views_all (Fits steps start k.log k.drawn) s.views id w fits (λ j d other at. k.fits j d at);
           apart = still_apart s.views id v w here calm.0 k.apart;
           undrawn = k.undrawn;
         }
 
-    first_fits : (m : M) → Fits m [] 1 (first_view {Q = Q} {A = A} m)
-    first_fits m = record { opened = λ z e. cc; seen = ([], refl); met = ([], refl); below = λ n e. let z : 0 ≡ n = cc in omega (arith, z); mine = λ n e. refl; own = λ n e. refl; fresh = λ e. refl; whole = λ e. refl; greatest = omega arith; other = λ n e. absurd (some_number n None refl e) }
+    first_fits : (m : M) → Fits steps m [] 1 (first_view {Q = Q} {A = A} m)
+    first_fits m = record { opened = λ z e. cc; seen = ([], refl); legal = (m, refl); met = ([], refl); below = λ n e. let z : 0 ≡ n = cc in omega (arith, z); mine = λ n e. refl; own = λ n e. refl; fresh = λ e. refl; whole = λ e. refl; greatest = omega arith; other = λ n e. absurd (some_number n None refl e) }
 
     pub opens : (value : SlotValue M Q A) → value.machine ≡ start → Kept steps start (opening (0 ∷ 1 ∷ []) (Some value ∷ []) (first_view start))
     opens value is = record {
@@ -92,7 +92,7 @@ module _ {M Q A : Type 0} where
       editions = omega arith;
       numbers = omega arith;
       state = inl record { value = value; word = refl; home = refl; run = sym is; nobody = λ i v at h. not_both {b = v.holds} (ap (λ (z : SeatView M Q A). z.holds) (sym (only _ i v at).1)) h };
-      fits = λ i v at. subst (Fits start [] 1) (only _ i v at).1 (first_fits start);
+      fits = λ i v at. subst (Fits steps start [] 1) (only _ i v at).1 (first_fits start);
       apart = λ i j n v w at_i at_j a b. (only _ i v at_i).0 ∙ sym (only _ j w at_j).0;
       undrawn = λ n h. refl;
     }
@@ -104,9 +104,9 @@ module _ {M Q A : Type 0} where
 
     -- a load of the turn word
     pub looks : (slots id : ℕ) (me : Me (Option (SlotValue M Q A)) (SeatView M Q A))
-        → Allows (Kept steps start) slots id me 0 (λ n. n) (turn_loaded (step slots 0 0 0 none) me)
+        → Allows (Kept steps start) slots id me 0 (λ n. n) (turn_loaded steps (step slots 0 0 0 none) me)
     looks slots id me s k deep here fits =
-        let f : Fits start k.log k.drawn me.0 = k.fits id me.0 here in
+        let f : Fits steps start k.log k.drawn me.0 = k.fits id me.0 here in
         let n : ℕ = get_or s.words 0 0 in
         let is : n ≡ k.turn = ap (λ z. get_or z 0 0) k.words in
         let b = word_bound k.log k.turn s k.editions k.state in
@@ -115,14 +115,14 @@ module _ {M Q A : Type 0} where
           keeps,
           tt,
           reviewed s k id me.0 (noted me.0 n) (set s.words 0 n) here ((λ m e. e), (λ e. e)) (set-get_or s.words 0 0)
-              record { opened = f.opened; seen = f.seen; met = f.met; below = f.below; mine = f.mine; own = f.own; fresh = f.fresh; whole = f.whole; greatest = f.greatest; other = f.other },
-          (refl, omega (arith, is, b.0), omega (arith, is, b.1, l)),
+              record { opened = f.opened; seen = f.seen; legal = f.legal; met = f.met; below = f.below; mine = f.mine; own = f.own; fresh = f.fresh; whole = f.whole; greatest = f.greatest; other = f.other },
+          (refl, omega (arith, is, b.0), omega (arith, is, b.1, l), λ m o. subst (λ z. IsLegal steps z me.0.seen) (sym (f.opened m o)) f.legal),
         )
 
     pub counts : (slots id : ℕ) (me : Me (Option (SlotValue M Q A)) (SeatView M Q A))
         → Allows (Kept steps start) slots id me 1 (λ n. n) (number_loaded (step slots 1 0 0 none) me)
     counts slots id me s k deep here fits =
-        let f : Fits start k.log k.drawn me.0 = k.fits id me.0 here in
+        let f : Fits steps start k.log k.drawn me.0 = k.fits id me.0 here in
         let n : ℕ = get_or s.words 1 0 in
         let is : n ≡ k.drawn = ap (λ z. get_or z 1 0) k.words in
         let m = f.greatest in let top = k.numbers in (
@@ -130,14 +130,14 @@ module _ {M Q A : Type 0} where
           keeps,
           tt,
           reviewed s k id me.0 (record me.0 { greatest_number = n }) (set s.words 1 n) here ((λ m e. e), (λ e. e)) (set-get_or s.words 1 0)
-              record { opened = f.opened; seen = f.seen; met = f.met; below = f.below; mine = f.mine; own = f.own; fresh = f.fresh; whole = f.whole; greatest = omega (arith, is); other = f.other },
+              record { opened = f.opened; seen = f.seen; legal = f.legal; met = f.met; below = f.below; mine = f.mine; own = f.own; fresh = f.fresh; whole = f.whole; greatest = omega (arith, is); other = f.other },
           (refl, omega (arith, is, m), omega (arith, is, top)),
         )
 
     pub meets : (slots id : ℕ) (me : Me (Option (SlotValue M Q A)) (SeatView M Q A))
         → Allows (Kept steps start) slots id me 0 (λ n. n) (met_told (step slots 0 0 0 none) me)
     meets slots id me s k deep here fits =
-        let f : Fits start k.log k.drawn me.0 = k.fits id me.0 here in
+        let f : Fits steps start k.log k.drawn me.0 = k.fits id me.0 here in
         let n : ℕ = get_or s.words 0 0 in (
           me.0,
           keeps,
@@ -146,7 +146,7 @@ module _ {M Q A : Type 0} where
           (refl, f.met, f.own, (λ n m a b. (f.other m b).1 n a)),
         )
 
-    took : (slots id : ℕ) (me : Me (Option (SlotValue M Q A)) (SeatView M Q A)) (old : ℕ) → me.1 ≡ [] → (s : St) (k : Kept steps start s) → get_elem? s.views id ≡ some me.0 → Fits start k.log k.drawn me.0
+    took : (slots id : ℕ) (me : Me (Option (SlotValue M Q A)) (SeatView M Q A)) (old : ℕ) → me.1 ≡ [] → (s : St) (k : Kept steps start s) → get_elem? s.views id ≡ some me.0 → Fits steps start k.log k.drawn me.0
         → Free steps start k.log k.turn s → get_or s.words 0 0 ≡ old → get_or s.words 0 0 ≡ k.turn
         → (w : SeatView M Q A) × (a : Act (Option (SlotValue M Q A))) × Valid s.homes me.1 a × Kept steps start (stepped s 0 (old + 1) id me.1 w a) × turn_taken steps (step slots 0 old (old + 1) none) me (get_or s.words 0 0) (w, carried_after me.1 a)
     took slots id me old empty s k here f r hit is =
@@ -166,8 +166,8 @@ module _ {M Q A : Type 0} where
             editions = k.editions;
             numbers = k.numbers;
             state = inr record { word = omega (arith, e, hit, is); home = ap (λ z. set z 0 none) r.home; one = λ i j a b at_i at_j ha hb. holder i a at_i ha ∙ sym (holder j b at_j hb) };
-            fits = views_all (Fits start k.log k.drawn) s.views id w
-                record { opened = f.opened; seen = starts_refl k.log; met = (k.log, refl); below = f.below; mine = f.mine; own = f.mine; fresh = f.fresh; whole = λ _. refl; greatest = f.greatest; other = f.other }
+            fits = views_all (Fits steps start k.log k.drawn) s.views id w
+                record { opened = f.opened; seen = starts_refl k.log; legal = (r.value.machine, r.run); met = (k.log, refl); below = f.below; mine = f.mine; own = f.mine; fresh = f.fresh; whole = λ _. refl; greatest = f.greatest; other = f.other }
                 (λ j d other at. k.fits j d at);
             apart = still_apart s.views id me.0 w here (λ m e. e) k.apart;
             undrawn = k.undrawn;
@@ -216,7 +216,7 @@ module _ {M Q A : Type 0} where
     pub takes_turn : (slots id : ℕ) (me : Me (Option (SlotValue M Q A)) (SeatView M Q A)) (old : ℕ) → me.1 ≡ [] → old % 2 ≡ 0
         → Allows (Kept steps start) slots id me 0 (λ n. either (eqb n old) (old + 1) n) (turn_taken steps (step slots 0 old (old + 1) none) me)
     takes_turn slots id me old empty even s k deep here fits =
-        let f : Fits start k.log k.drawn me.0 = k.fits id me.0 here in
+        let f : Fits steps start k.log k.drawn me.0 = k.fits id me.0 here in
         let n : ℕ = get_or s.words 0 0 in
         let is : n ≡ k.turn = ap (λ z. get_or z 0 0) k.words in
         let F : ℕ → Type 0 = λ x. (w : SeatView M Q A) × (a : Act (Option (SlotValue M Q A))) × Valid s.homes me.1 a × Kept steps start (stepped s 0 x id me.1 w a) × turn_taken steps (step slots 0 old (old + 1) none) me n (w, carried_after me.1 a) in
@@ -229,7 +229,7 @@ module _ {M Q A : Type 0} where
           keeps,
           tt,
           reviewed s k id me.0 (noted me.0 n) (set s.words 0 n) here ((λ m e. e), (λ e. e)) (set-get_or s.words 0 0)
-              record { opened = f.opened; seen = f.seen; met = f.met; below = f.below; mine = f.mine; own = f.own; fresh = f.fresh; whole = f.whole; greatest = f.greatest; other = f.other },
+              record { opened = f.opened; seen = f.seen; legal = f.legal; met = f.met; below = f.below; mine = f.mine; own = f.own; fresh = f.fresh; whole = f.whole; greatest = f.greatest; other = f.other },
           ((λ e. absurd (miss e)), (λ _. refl)),
         ))
 
@@ -239,7 +239,7 @@ module _ {M Q A : Type 0} where
         → new ≡ 2 * length me.0.seen + 2 → length me.0.seen < 2 ^ 62
         → Allows (Kept steps start) slots id me 0 (λ _. new) (λ _. turn_given (step slots 0 new 0 none) me new)
     gives_turn slots id me new c t l before out holding number last run stepping word room s k deep here fits =
-        let f : Fits start k.log k.drawn me.0 = k.fits id me.0 here in
+        let f : Fits steps start k.log k.drawn me.0 = k.fits id me.0 here in
         let whole : me.0.seen ≡ k.log = f.whole holding in
         let h : Held k.log k.turn s = ⊎_elim (λ (r : Free steps start k.log k.turn s). absurd (r.nobody id me.0 here holding)) (λ (x : Held k.log k.turn s). x) k.state in
         let e : Entry Q A = entry c l.ask.value l.answer.value in
@@ -267,10 +267,11 @@ module _ {M Q A : Type 0} where
               nobody = λ i d at is. ⊎_elim (λ (x : (i ≡ id) × (w ≡ d)). not_both {b = d.holds} (ap (λ (z : SeatView M Q A). z.holds) (sym x.1)) is)
                   (λ (x : (i ≢ id) × (get_elem? s.views i ≡ some d)). x.0 (h.one i id d me.0 x.1 here is holding)) (at_set s.views id i w d at);
             };
-            fits = views_all (Fits start log k.drawn) s.views id w
+            fits = views_all (Fits steps start log k.drawn) s.views id w
                 record {
                   opened = f.opened;
                   seen = subst (λ z. StartsWith (z ++ e ∷ []) (me.0.seen ++ e ∷ [])) whole (starts_refl (me.0.seen ++ e ∷ []));
+                  legal = (t.machine, run_more steps start me.0.seen before c l.ask.value l.answer.value t.machine run stepping);
                   met = starts_more me.0.seen me.0.met (e ∷ []) f.met;
                   below = f.below;
                   mine = λ n is. mine_after c n l.ask.value l.answer.value k.log me.0.mine me.0.number number is (f.mine c number);
@@ -280,9 +281,10 @@ module _ {M Q A : Type 0} where
                   greatest = f.greatest;
                   other = f.other;
                 }
-                (λ j d other at. let o : Fits start k.log k.drawn d = k.fits j d at in record {
+                (λ j d other at. let o : Fits steps start k.log k.drawn d = k.fits j d at in record {
                   opened = o.opened;
                   seen = starts_more k.log d.seen (e ∷ []) o.seen;
+                  legal = o.legal;
                   met = o.met;
                   below = o.below;
                   mine = λ n is. calls_others n c l.ask.value l.answer.value k.log (another j n d other at is) ∙ o.mine n is;
@@ -302,7 +304,7 @@ module _ {M Q A : Type 0} where
     pub draws : (slots id : ℕ) (me : Me (Option (SlotValue M Q A)) (SeatView M Q A)) (old : ℕ) → me.0.number ≡ None → old < 2 ^ 62
         → Allows (Kept steps start) slots id me 1 (λ n. either (eqb n old) (old + 1) n) (number_drawn (step slots 1 old (old + 1) none) me)
     draws slots id me old fresh room s k deep here fits =
-        let f : Fits start k.log k.drawn me.0 = k.fits id me.0 here in
+        let f : Fits steps start k.log k.drawn me.0 = k.fits id me.0 here in
         let n : ℕ = get_or s.words 1 0 in
         let is : n ≡ k.drawn = ap (λ z. get_or z 1 0) k.words in
         let F : ℕ → Type 0 = λ x. (w : SeatView M Q A) × (a : Act (Option (SlotValue M Q A))) × Valid s.homes me.1 a × Kept steps start (stepped s 1 x id me.1 w a) × number_drawn (step slots 1 old (old + 1) none) me n (w, carried_after me.1 a) in
@@ -325,10 +327,11 @@ module _ {M Q A : Type 0} where
                 (λ (r : Free steps start k.log k.turn s). inl record { value = r.value; word = r.word; home = r.home; run = r.run; nobody = λ i d at h. let b = holders s.views id me.0 w here (λ e. e) i d at h in r.nobody i b.0 b.1 b.2 })
                 (λ (r : Held k.log k.turn s). inr record { word = r.word; home = r.home; one = λ i j a b at_i at_j ha hb. let x = holders s.views id me.0 w here (λ e. e) i a at_i ha in let y = holders s.views id me.0 w here (λ e. e) j b at_j hb in r.one i j x.0 y.0 x.1 y.1 x.2 y.2 })
                 k.state;
-            fits = views_all (Fits start k.log (old + 1)) s.views id w
+            fits = views_all (Fits steps start k.log (old + 1)) s.views id w
                 record {
                   opened = f.opened;
                   seen = f.seen;
+                  legal = f.legal;
                   met = f.met;
                   below = λ m e. let z : n ≡ m = cc in omega (arith, z, hit);
                   mine = λ m e. let z : n ≡ m = cc in subst (λ q. calls_by q k.log ≡ me.0.mine) z (nothing k.log (starts_refl k.log) ∙ sym (f.fresh fresh));
@@ -338,9 +341,10 @@ module _ {M Q A : Type 0} where
                   greatest = let m = f.greatest in omega (arith, m, is, hit);
                   other = λ m e. let b = (f.other m e).0 in (omega (arith, b, is, hit), λ q d same. let z : n ≡ q = cc in omega (arith, b, z, same, is));
                 }
-                (λ j d other at. let o : Fits start k.log k.drawn d = k.fits j d at in record {
+                (λ j d other at. let o : Fits steps start k.log k.drawn d = k.fits j d at in record {
                   opened = o.opened;
                   seen = o.seen;
+                  legal = o.legal;
                   met = o.met;
                   below = λ m e. let b = o.below m e in omega (arith, b, is, hit);
                   mine = o.mine;
@@ -363,13 +367,14 @@ module _ {M Q A : Type 0} where
           ((λ e. absurd (miss e)), (λ _. refl)),
         ))
 
-    joined_fits : (b : Bool) (log : List (Entry Q A)) (n : ℕ) (v w : SeatView M Q A) → nat_le (length v.seen) (length w.seen) ≡ b → v.holds ≡ false → Fits start log n v → Fits start log n w → ((k m : ℕ) → v.number ≡ Some k → w.number ≡ Some m → k ≢ m)
-        → Fits start log n (if b then record v { seen = w.seen; met = v.seen; met_number = w.number } else record v { met = w.seen; met_number = w.number })
+    joined_fits : (b : Bool) (log : List (Entry Q A)) (n : ℕ) (v w : SeatView M Q A) → nat_le (length v.seen) (length w.seen) ≡ b → v.holds ≡ false → Fits steps start log n v → Fits steps start log n w → ((k m : ℕ) → v.number ≡ Some k → w.number ≡ Some m → k ≢ m)
+        → Fits steps start log n (if b then record v { seen = w.seen; met = v.seen; met_number = w.number } else record v { met = w.seen; met_number = w.number })
     joined_fits true log n v w test idle f e differ =
         let le : length v.seen ≤ length w.seen = leb-true (length v.seen) (length w.seen) test in
         let pre : StartsWith w.seen v.seen = two_starts log v.seen w.seen f.seen e.seen le in record {
           opened = f.opened;
           seen = e.seen;
+          legal = e.legal;
           met = pre;
           below = f.below;
           mine = f.mine;
@@ -383,6 +388,7 @@ module _ {M Q A : Type 0} where
         let lt : length w.seen < length v.seen = leb-false (length v.seen) (length w.seen) test in record {
           opened = f.opened;
           seen = f.seen;
+          legal = f.legal;
           met = two_starts log w.seen v.seen e.seen f.seen (omega (arith, lt));
           below = f.below;
           mine = f.mine;
@@ -397,25 +403,25 @@ module _ {M Q A : Type 0} where
     joined_calm true v w = ((λ n e. e), (λ e. e))
     joined_calm false v w = ((λ n e. e), (λ e. e))
 
-    spent_fits : (log : List (Entry Q A)) (n : ℕ) → Fits start log n (spent {M = M})
-    spent_fits log n = record { opened = λ m e. cc; seen = (log, refl); met = ([], refl); below = λ k e. cc; mine = λ k e. cc; own = λ k e. cc; fresh = λ e. refl; whole = λ e. cc; greatest = omega arith; other = λ n e. absurd (some_number n None refl e) }
+    spent_fits : (log : List (Entry Q A)) (n : ℕ) → Fits steps start log n (spent {M = M})
+    spent_fits log n = record { opened = λ m e. cc; seen = (log, refl); legal = (start, refl); met = ([], refl); below = λ k e. cc; mine = λ k e. cc; own = λ k e. cc; fresh = λ e. refl; whole = λ e. cc; greatest = omega arith; other = λ n e. absurd (some_number n None refl e) }
 
     pub glues : (id : ℕ) (v : SeatView M Q A) (other : ℕ) (w : SeatView M Q A) → v.holds ≡ false → Joins (Kept steps start) id v other w (joined v w) spent
     unfolding reviewed
     glues id v other w idle s k here apart there =
         let at_w : get_elem? s.views other ≡ some w = ⊎_elim (λ (t : (other ≡ id) × (joined v w ≡ w)). absurd (apart t.0)) (λ (t : (other ≢ id) × (get_elem? s.views other ≡ some w)). t.1) (at_set s.views id other (joined v w) w there) in
-        let f : Fits start k.log k.drawn v = k.fits id v here in
-        let e : Fits start k.log k.drawn w = k.fits other w at_w in
+        let f : Fits steps start k.log k.drawn v = k.fits id v here in
+        let e : Fits steps start k.log k.drawn w = k.fits other w at_w in
         let differ : (n m : ℕ) → v.number ≡ Some n → w.number ≡ Some m → n ≢ m = λ n m a b same. apart (k.apart other id n w v at_w here (b ∙ ap (λ z. Some z) (sym same)) a) in
         let first = reviewed s k id v (joined v w) s.words here (joined_calm (nat_le (length v.seen) (length w.seen)) v w) refl (joined_fits (nat_le (length v.seen) (length w.seen)) k.log k.drawn v w refl idle f e differ) in
         reviewed (record { words = s.words; homes = s.homes; views = set s.views id (joined v w) }) first other w spent s.words there ((λ n h. cc), (λ h. cc)) refl (spent_fits k.log k.drawn)
 
-    new_fits : (log : List (Entry Q A)) (n : ℕ) (v : SeatView M Q A) → Fits start log n v → Fits start log n (newcomer v)
-    new_fits log n v f = record { opened = f.opened; seen = f.seen; met = (v.seen, refl); below = λ k e. cc; mine = λ k e. cc; own = λ k e. cc; fresh = λ e. refl; whole = λ e. cc; greatest = omega arith; other = λ n e. absurd (some_number n None refl e) }
+    new_fits : (log : List (Entry Q A)) (n : ℕ) (v : SeatView M Q A) → Fits steps start log n v → Fits steps start log n (newcomer v)
+    new_fits log n v f = record { opened = f.opened; seen = f.seen; legal = f.legal; met = (v.seen, refl); below = λ k e. cc; mine = λ k e. cc; own = λ k e. cc; fresh = λ e. refl; whole = λ e. cc; greatest = omega arith; other = λ n e. absurd (some_number n None refl e) }
 
     pub cuts : (id : ℕ) (v : SeatView M Q A) → Splits (Kept steps start) id v v (newcomer v)
     cuts id v s k here =
-        let f : Fits start k.log k.drawn v = k.fits id v here in
+        let f : Fits steps start k.log k.drawn v = k.fits id v here in
         let vs : List (SeatView M Q A) = s.views ++ newcomer v ∷ [] in
         let old : (i : ℕ) (d : SeatView M Q A) → get_elem? vs i ≡ some d → (get_elem? s.views i ≡ some d) ⊎ (newcomer v ≡ d) = λ i d at. at_snoc s.views (newcomer v) d i at in
         let bold : (i : ℕ) (d : SeatView M Q A) → get_elem? vs i ≡ some d → d.holds ≡ true → get_elem? s.views i ≡ some d =
@@ -434,7 +440,7 @@ module _ {M Q A : Type 0} where
               (λ (r : Free steps start k.log k.turn s). inl record { value = r.value; word = r.word; home = r.home; run = r.run; nobody = λ i d at h. r.nobody i d (bold i d at h) h })
               (λ (r : Held k.log k.turn s). inr record { word = r.word; home = r.home; one = λ i j a b at_i at_j ha hb. r.one i j a b (bold i a at_i ha) (bold j b at_j hb) ha hb })
               k.state;
-          fits = λ i d at. ⊎_elim (λ (t : get_elem? s.views i ≡ some d). k.fits i d t) (λ (t : newcomer v ≡ d). subst (Fits start k.log k.drawn) t (new_fits k.log k.drawn v f)) (old i d at);
+          fits = λ i d at. ⊎_elim (λ (t : get_elem? s.views i ≡ some d). k.fits i d t) (λ (t : newcomer v ≡ d). subst (Fits steps start k.log k.drawn) t (new_fits k.log k.drawn v f)) (old i d at);
           apart = λ i j n a b at_i at_j na nb. k.apart i j n a b (numbered i n a at_i na) (numbered j n b at_j nb) na nb;
           undrawn = k.undrawn;
         } in

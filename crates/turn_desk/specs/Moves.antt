@@ -4,7 +4,7 @@ use Rattle.atomic_table.specs.Table.{Me, Step}
 use Rattle.turn_desk.specs.declared.slot.SlotValue.{SlotValue}
 use Rattle.turn_desk.specs.declared.slot.LastStep.{LastStep}
 use Rattle.turn_desk.specs.declared.view.SeatView.{SeatView}
-use Rattle.turn_desk.specs.History.{StartsWith, calls_by, entry, Run}
+use Rattle.turn_desk.specs.History.{StartsWith, calls_by, entry, Run, IsLegal}
 
 -- the turn was taken, where the word had n: the seat has seen the whole history, and the slot's value is in its hands
 pub record Took {M Q A : Type 0} (steps : M → ℕ → Q → A → M → Type 0) (v : SeatView M Q A) (n : ℕ) (w : SeatView M Q A) (carried : List (ℕ × Option (SlotValue M Q A))) : Type 0 where
@@ -28,9 +28,10 @@ module _ {M Q A : Type 0} where
   abbrev pub noted : SeatView M Q A → ℕ → SeatView M Q A
   noted v n = record v { turn_words = v.turn_words ++ n ∷ [] }
 
-  -- load of the turn word
-  abbrev pub turn_loaded : At M Q A → Sat M Q A → ℕ → Sat M Q A → Type 0
-  turn_loaded st me n now = (now ≡ (noted me.0 n, me.1)) × (n ≤ 2 ^ 63 + 1) × (2 * length me.0.seen ≤ n)
+  -- load of the turn word. What the seat has seen is a history of the machine
+  abbrev pub turn_loaded : (M → ℕ → Q → A → M → Type 0) → At M Q A → Sat M Q A → ℕ → Sat M Q A → Type 0
+  turn_loaded steps st me n now = (now ≡ (noted me.0 n, me.1)) × (n ≤ 2 ^ 63 + 1) × (2 * length me.0.seen ≤ n)
+      × ((m : M) → me.0.opened ≡ Some m → IsLegal steps m me.0.seen)
 
   -- take: compare-exchange of the turn word; where it finds another number it is a load
   abbrev pub turn_taken : (M → ℕ → Q → A → M → Type 0) → At M Q A → Sat M Q A → ℕ → Sat M Q A → Type 0

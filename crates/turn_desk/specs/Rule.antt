@@ -8,12 +8,13 @@ use Rattle.atomic_table.specs.Table.{State}
 use Rattle.turn_desk.specs.declared.history.Entry.{Entry}
 use Rattle.turn_desk.specs.declared.slot.SlotValue.{SlotValue}
 use Rattle.turn_desk.specs.declared.view.SeatView.{SeatView}
-use Rattle.turn_desk.specs.History.{StartsWith, calls_by, Run}
+use Rattle.turn_desk.specs.History.{StartsWith, calls_by, Run, IsLegal}
 
 -- what one seat knows, where this is the history and so many numbers were drawn
-pub record Fits {M Q A : Type 0} (start : M) (log : List (Entry Q A)) (drawn : ℕ) (v : SeatView M Q A) : Type 0 where
+pub record Fits {M Q A : Type 0} (steps : M → ℕ → Q → A → M → Type 0) (start : M) (log : List (Entry Q A)) (drawn : ℕ) (v : SeatView M Q A) : Type 0 where
   pub opened : (m : M) → v.opened ≡ Some m → m ≡ start
   pub seen : StartsWith log v.seen
+  pub legal : IsLegal steps start v.seen
   pub met : StartsWith v.seen v.met
   pub below : (n : ℕ) → v.number ≡ Some n → n < drawn
   pub mine : (n : ℕ) → v.number ≡ Some n → calls_by n log ≡ v.mine
@@ -46,7 +47,7 @@ pub record Kept {M Q A : Type 0} (steps : M → ℕ → Q → A → M → Type 0
   pub editions : length log ≤ 2 ^ 62
   pub numbers : drawn ≤ 2 ^ 62
   pub state : Free steps start log turn s ⊎ Held log turn s
-  pub fits : (i : ℕ) (v : SeatView M Q A) → get_elem? s.views i ≡ some v → Fits start log drawn v
+  pub fits : (i : ℕ) (v : SeatView M Q A) → get_elem? s.views i ≡ some v → Fits steps start log drawn v
   pub apart : (i j n : ℕ) (v w : SeatView M Q A) → get_elem? s.views i ≡ some v → get_elem? s.views j ≡ some w → v.number ≡ Some n → w.number ≡ Some n → i ≡ j
   pub undrawn : (n : ℕ) → drawn ≤ n → calls_by n log ≡ []
 

@@ -1,6 +1,6 @@
 //! The desk: its calls.
 ghost use Rattle.std.specs.Prelude.{ℕ, ◌≡◌, ◌≢◌, ◌⊎◌, ◌/◌, ◌^◌, ◌<◌, ◌≤◌, ◌++◌, ◌∷◌, [], length, IfOk, OnOk, OnErr, IfErr};
-ghost use Rattle.turn_desk.specs.History.{StartsWith};
+ghost use Rattle.turn_desk.specs.History.{IsLegal, StartsWith};
 ghost use Rattle.turn_desk.specs.Calls.{IsSameHistory, IsTakenTurn, HasStepped, HasCause, EndsAt, EndsRun};
 ghost use Rattle.turn_desk.specs.Rule.{first_view};
 ghost use Rattle.turn_desk.specs.Seats.{view, number_of, turn_words, greatest_number, opened_on, IsOf, IsSameSeat, IsSamePlace, IsNewcomer};
@@ -103,9 +103,10 @@ impl<M: Machine> Desk<M> {
         ensures same { IsSameHistory (view seat.old) (view seat.new) }
         ensures least { length (view seat.old).seen ≤ result }
         ensures turn { (n : ℕ) × (turn_words seat.new ≡ turn_words seat.old ++ n ∷ []) × (result ≡ n / 2) }
+        ensures legal { IsLegal M.steps (opened_on self.now) (view seat.new).seen }
     {
         let top = &self.table.shared;
-        top.load::<LoadTurn>(&mut seat.place, TURN) / 2
+        top.load::<LoadTurn<M>>(&mut seat.place, TURN) / 2
     }
 
     /// A seat with a number of its own, which has seen what this one has. Waits until it has drawn a number.

@@ -8,10 +8,13 @@ use crate::view::SeatView;
 use atomic_table::{Join, Play, Split};
 use std::marker::PhantomData;
 
-pub struct LoadTurn;
+pub struct LoadTurn<M> {
+    machine: PhantomData<M>,
+}
 
-impl<M, Q, A> Play<Option<SlotValue<M, Q, A>>, SeatView<M, Q, A>> for LoadTurn {
-    ghost then = { turn_loaded };
+impl<M: Machine> Play<Option<SlotValue<M, M::Ask, M::Answer>>, SeatView<M, M::Ask, M::Answer>>
+    for LoadTurn<M> {
+    ghost then = { turn_loaded M.steps };
 }
 
 pub struct TakeTurn<M> {

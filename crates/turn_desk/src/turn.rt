@@ -57,7 +57,7 @@ pub(crate) fn take_turn<M: Machine>(top: &Top<M>, place: &mut Place<M>) -> Resul
     ensures same { OnErr result (place.new.me ≡ (record place.old.me.0 { turn_words = place.new.me.0.turn_words }, [])) }
     ensures cause { IfErr result (λ refusal. HasCause refusal place.old.me.0.turn_words place.new.me.0.turn_words) }
 {
-    let found = top.load::<LoadTurn>(place, TURN);
+    let found = top.load::<LoadTurn<M>>(place, TURN);
     if found == LAST {
         return Err(Tried::Worn);
     }
@@ -109,7 +109,7 @@ pub(crate) fn take_out<M: Machine, R: Wait>(rt: &R, top: &Top<M>, place: &mut Pl
     ensures { EndsRun M.steps top.now.key.value place.old.me.0 result.machine }
 {
     for _ in rt.forever() {
-        let found = top.load::<LoadTurn>(place, TURN);
+        let found = top.load::<LoadTurn<M>>(place, TURN);
         if found % 2 == 0 {
             let now = top.compare_exchange::<TakeTurn<M>>(place, TURN, found, found + 1);
             if now == found {

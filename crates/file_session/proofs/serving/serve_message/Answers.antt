@@ -1,5 +1,5 @@
 use Rattle.std.proofs.Common.{refl}
-use Rattle.file_session.specs.Stands.{stand}
+use Rattle.link_session.specs.Stands.{stand}
 use Rattle.file_session.proofs.Messages.{refused_as, unasked}
 use Rattle.file_session.proofs.serving.serve_message.Goals as goal
 

@@ -1,4 +1,4 @@
-use Rattle.file_session.specs.Stands.{stand}
+use Rattle.link_session.specs.Stands.{stand}
 use Rattle.file_session.proofs.Messages.{answered}
 use Rattle.file_session.proofs.serving.serve_request.Goals as goal
 

@@ -1,15 +1,16 @@
 use Rattle.std.proofs.Common.{refl, ap, ◌∙◌, arith}
 use Rattle.link_session.proofs.Talking.{nothing_said}
 use Rattle.link_session.specs.Reading.{Held}
-use Rattle.file_session.specs.Stands.{stand, stand_with}
-use Rattle.file_session.proofs.Sessions.{same_asker, message_served, read_failed, message_failed, spent_on, spent_reading}
+use Rattle.link_session.specs.Stands.{stand, stand_with}
+use Rattle.link_session.proofs.Stands.{same_asker, spent_on}
+use Rattle.file_session.proofs.Sessions.{message_served, read_failed, message_failed, spent_reading}
 use Rattle.file_session.proofs.session.answer_all.Goals as goal
 
 pub messages-init : goal.messages-init
 messages-init g c = record {
   between = c.requires;
   talked = nothing_said _ _;
-  same = (refl, refl, λ legal. legal, refl);
+  same = (refl, refl, λ front h. h, refl);
   spent = λ below. (omega arith, refl);
   count = refl;
 }
@@ -44,7 +45,7 @@ messages-preserved g c = record {
   same = (
     c.serve_message.ensures.same.0 ∙ c.messages.invariant.same.0,
     c.serve_message.ensures.same.1 ∙ c.messages.invariant.same.1,
-    λ legal. c.serve_message.ensures.same.2 (c.messages.invariant.same.2 legal),
+    λ front h. c.serve_message.ensures.same.2 front (c.messages.invariant.same.2 front h),
     c.serve_message.ensures.same.3 ∙ c.messages.invariant.same.3,
   );
   spent = spent_on _ _ _ (stand_with g.L.Link c.args.inbox.now c.args.link.now (g.S.Steps.entries c.args.steps.now))

@@ -1,8 +1,8 @@
 use Rattle.std.proofs.Common.{◌≡◌}
 use Rattle.link_session.specs.Rounds.{Talked}
 use Rattle.link_session.specs.declared.stage.Stage.TheVariants as stages
+use Rattle.link_session.specs.Stands.{asker, stand_with, AsksOn, Spent}
 use Rattle.file_session.specs.Message.{IsRound}
-use Rattle.file_session.specs.Stands.{asker, stand_with, AsksOn, Spent}
 use Rattle.file_session.proofs.session.answer_all.Given as goal
 
 abbrev pub invariant-messages : goal.invariant-messages

@@ -1,5 +1,6 @@
 use Rattle.std.proofs.Common.{◌≡◌, ◌≤◌, ◌+◌, length, ℕ}
 use Rattle.link_session.specs.Asking.{AskedInVain}
+use Rattle.link_session.specs.Stands.{GoesOn}
 use Rattle.link_session.proofs.asking.ask_until.Given as goal
 
 abbrev pub invariant-asks : goal.invariant-asks
@@ -9,7 +10,7 @@ invariant-asks g l = record {
   turns : l.turns ≤ l.initial.turns;
   of : g.S.Steps.of l.steps ≡ g.S.Steps.of l.initial.steps;
   number : g.S.Steps.number l.steps ≡ g.S.Steps.number l.initial.steps;
-  legal : g.S.Steps.is_legal l.initial.steps → g.S.Steps.is_legal l.steps;
+  on : GoesOn g.S.Steps l.initial.steps l.steps;
   spent : l.turns + length (g.S.Steps.entries l.steps) ≡ l.initial.turns + length (g.S.Steps.entries l.initial.steps);
   clock : g.C.Clock.may_give l.clock ≡ g.C.Clock.may_give l.initial.clock;
 }

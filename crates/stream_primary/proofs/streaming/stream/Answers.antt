@@ -15,7 +15,7 @@ hellos-preserved g c = record {
   same = (
     c.greet.ensures.same.0 ∙ c.hellos.invariant.same.0,
     c.greet.ensures.same.1 ∙ c.hellos.invariant.same.1,
-    λ legal. c.greet.ensures.same.2 (c.hellos.invariant.same.2 legal),
+    λ front h. c.greet.ensures.same.2 front (c.hellos.invariant.same.2 front h),
     c.greet.ensures.same.3 ∙ c.hellos.invariant.same.3,
   );
   turns = omega (arith, c.in-Ok.ensures.spent.0, c.hellos.invariant.turns);

@@ -1,0 +1,149 @@
+//! Nodes that are mounted: a replica over the system's sockets, and HTTP links in memory.
+ghost use Rattle.std.specs.Prelude.{◌≡◌, ◌∷◌, [], All, IfOk};
+ghost use Rattle.node_mount.specs.MemMaker.{IsNewDisk, IsNewDoor, IsNewSpawner};
+
+use crate::same::same;
+use lf_base::{
+    CallSpawner, Closing, FixedClock, Handles, ListAcceptor, MemLink, NoMemory, SliceSource, Watch,
+};
+use lf_disk::MemDisk;
+use node_mount::{MemMaker, MemSpawn, SystemMaker, mount};
+use std::alloc::Global;
+use std::net::{TcpListener, TcpStream};
+use std::process::Abort;
+use std::time::Duration;
+use std::{fs, thread};
+
+const PRIMARY: &[u8] = b"database = \"app\"\n[lease]\ncandidate = true\n\
+    advertise-url = \"http://localhost:20202\"\nhostname = \"localhost\"\n";
+
+const REQUEST: &[u8] = b"GET /none HTTP/1.1\r\n\r\n";
+
+const NOT_FOUND: &[u8] =
+    b"HTTP/1.1 404 Not Found\r\nContent-Length: 0\r\nConnection: close\r\n\r\n";
+
+/// How often a peer looks whether it is dialed, and how many milliseconds lie between.
+const LOOKS: u64 = 500;
+
+const NAP: u64 = 20;
+
+/// How often a replica was dialing that is hung up on at once, up to twice. Then its node is ended.
+fn count_dials<R: Handles>(rt: &R, listener: &TcpListener, closing: &Closing) -> u64 {
+    let mut dials: u64 = 0;
+    for _ in 0..LOOKS {
+        if listener.accept().is_ok() {
+            dials = dials.saturating_add(1);
+        }
+        if dials == 2 {
+            break;
+        }
+        thread::sleep(rt, Duration::from_millis(NAP));
+    }
+    closing.close();
+    dials
+}
+
+/// Counts them in a thread of its own.
+fn peer_of<R: Handles + Abort + Copy + Send + 'static>(
+    rt: R,
+    listener: TcpListener,
+    closing: Closing,
+) -> thread::JoinHandle<u64> {
+    let started = thread::spawn(&rt, move || -> u64 {
+        count_dials(&rt, &listener, &closing)
+    });
+    started.ok().expect(&rt, "a thread")
+}
+
+#[test]
+fn a_replica_dials_again(rt: HostRuntime) {
+    let _named: Option<(TcpListener, TcpStream)> = None;
+    let listener = TcpListener::bind(&rt, "127.0.0.1:0").expect(&rt, "a listener");
+    let address = listener.local_addr().expect(&rt, "its address");
+    listener.set_nonblocking(true).expect(&rt, "no waiting");
+    let config = format!(in rt.alloc();
+        "database = \"dialing\"\n[fuse]\nlisten = \"node_mount_dialing_socket\"\n\
+        [http]\naddr = \"127.0.0.1:0\"\n[lease]\nadvertise-url = \"http://{address}\"\nhostname = \"localhost\"\n"
+    )
+    .expect(&rt, "memory");
+    let closing = Closing::new(rt.alloc()).expect(&rt, "memory");
+    let theirs = closing.another().expect(&rt, "memory");
+    let mut maker = SystemMaker::new(rt, closing).expect(&rt, "a maker");
+    let mut source = SliceSource::new(config.as_bytes(), Vec::new(rt.alloc())).expect(
+        &rt, "a source",
+    );
+    let peer = peer_of(rt, listener, theirs);
+    let ended = mount(rt, rt.alloc(), &mut source, &mut maker);
+    same(rt, peer.join(&rt), 2);
+    same(rt, ended, Ok(()));
+    fs::remove_file(&rt, "node_mount_dialing_socket").expect(&rt, "removed");
+}
+
+/// A list of one item.
+fn one<T: Drop>(alloc: Global, item: T) -> Result<Vec<T>, NoMemory>
+    ensures { IfOk result (λ list. list.items ≡ item ∷ []) }
+{
+    let mut list = Vec::new(alloc);
+    list.push(item)?;
+    Ok(list)
+}
+
+/// An acceptor whose first call fails, and the next gives a link, and what shows what is written on it.
+fn door_that_fails_first(rt: impl Copy + Abort, alloc: Global) -> (Vec<ListAcceptor>, Watch)
+    ensures { All IsNewDoor result.0.items }
+{
+    let input = Vec::from_slice(alloc, REQUEST).expect(&rt, "memory");
+    let link = MemLink::new(alloc, input, 4096, Vec::new(alloc)).expect(&rt, "a link");
+    let watch = link.watch();
+    let links = one(alloc, link).expect(&rt, "memory");
+    let failing = one(alloc, 0).expect(&rt, "memory");
+    let accept = ListAcceptor::new(links, failing).unwrap();
+    (one(alloc, accept).expect(&rt, "memory"), watch)
+}
+
+fn no_links(rt: impl Copy + Abort, alloc: Global) -> Vec<ListAcceptor>
+    ensures { All IsNewDoor result.items }
+{
+    let accept = ListAcceptor::new(Vec::new(alloc), Vec::new(alloc)).unwrap();
+    one(alloc, accept).expect(&rt, "memory")
+}
+
+#[tactic(auto, using(node_mount::proofs::DiskLemmas::rests))]
+fn empty_disk(rt: impl Copy + Abort, alloc: Global) -> Vec<MemDisk>
+    ensures { All IsNewDisk result.items }
+{
+    let disk = MemDisk::new(alloc, Vec::new(alloc), None).expect(&rt, "a disk");
+    one(alloc, disk).expect(&rt, "memory")
+}
+
+/// One that runs each job in place.
+fn one_spawner(rt: impl Copy + Abort, alloc: Global) -> Vec<MemSpawn>
+    ensures { All IsNewSpawner result.items }
+{
+    let spawner = CallSpawner::new(Vec::new(alloc)).unwrap();
+    one(alloc, MemSpawn::Call(spawner)).expect(&rt, "memory")
+}
+
+#[test]
+fn http_goes_on_after_a_failed_accept(rt: HostRuntime) {
+    let _named: Option<(TcpListener, TcpStream)> = None;
+    let alloc = rt.alloc();
+    let (http, watch) = door_that_fails_first(rt, alloc);
+    let made = MemMaker::new(
+        alloc,
+        empty_disk(rt, alloc),
+        no_links(rt, alloc),
+        http,
+        Vec::new(alloc),
+        one_spawner(rt, alloc),
+        FixedClock::new(7),
+        9,
+        8,
+        Vec::new(alloc),
+    );
+    let mut maker = made.expect(&rt, "a maker");
+    let mut config = SliceSource::new(PRIMARY, Vec::new(alloc)).expect(&rt, "a source");
+    same(rt, mount(rt, alloc, &mut config, &mut maker), Ok(()));
+    let written = watch.bytes().expect(&rt, "memory");
+    same(rt, written.as_slice(), NOT_FOUND);
+}

@@ -1,0 +1,12 @@
+//! Laws of the definitions, each proved as the contract of a function that does nothing.
+ghost use Rattle.std.specs.Prelude.{ℕ, List};
+ghost use Rattle.lf_base.specs.declared.pos.Pos.{Pos};
+ghost use Rattle.lf_base.specs.declared.session_end.SessionEnd.TheVariants as ends;
+ghost use Rattle.link_session.specs.Stands.{Asker, Stand};
+ghost use Rattle.stream_primary.specs.Streaming.{NodeEntry, OwesStill, Streams};
+
+/// Where memory ran out nothing is lost to the follower: of the answer that it was owed no byte was written, and a stream
+/// from where it stands asks the same first.
+pub fn owed_again()
+    ensures { (who : Asker) (name : List ℕ) (from : Pos) (old new : Stand NodeEntry) (turns : ℕ) → Streams who name from old new turns ends.NoMemory → OwesStill who name from old.place new.place }
+{}
