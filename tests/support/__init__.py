@@ -11,3 +11,4 @@ from .relay import Relay
 from .sqlite import MODES, connect, in_mode, seen_by
 from .waiting import Late, until
 from .wire import Link, Refused
+from .workload import commits, count, fill, in_each_mode, insert

@@ -82,9 +82,7 @@ class Node:
         self.configure(configuration(self.port, None, self.keep, self.database))
 
     def launch(self):
-        """Starts the program and waits for nothing. A socket file that a kill left is in its way."""
-        if os.path.exists(self.socket):
-            os.unlink(self.socket)
+        """Starts the program and waits for nothing."""
         with open(os.path.join(self.folder, 'errors'), 'ab') as errors:
             self.process = subprocess.Popen([self.program, 'mount'], cwd=self.folder, stdin=subprocess.DEVNULL,
                                             stdout=subprocess.DEVNULL, stderr=errors)
