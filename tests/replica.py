@@ -14,6 +14,7 @@ from support import Client, Node, connect, count, fill, holds, in_each_mode, in_
 
 ENDLESS = '''
 import itertools
+c.execute('pragma busy_timeout=500')
 for i in itertools.count(): c.execute('insert into t(b,c) values(?,?)', (i, os.urandom(700)))
 '''
 TURNS = 6

@@ -15,8 +15,10 @@ c.execute('commit')
 said('A')
 c.close()
 '''
+# (of a node that is gone SQLite says in WAL mode that it is busy)
 ENDLESS = '''
 import itertools
+c.execute('pragma busy_timeout=500')
 for i in itertools.count():
     c.execute('insert into t(b,c) values(?,?)', (i, os.urandom(700)))
     said('A')

@@ -5,7 +5,8 @@ to fail. It gives its cases to `run`, which prints one line for each and ends wi
 ran)."""
 from .cases import Skipped, Wrong, holds, refuses, run, same, skip_all
 from .client import Client
-from .node import KEEP_ALL, Node, applied, configuration, free_port
+from .mounted import small_disk
+from .node import KEEP_ALL, Node, applied, configuration, free_port, outcome, read
 from .places import ROOT, TESTS, program, vfs
 from .relay import Relay
 from .sqlite import MODES, connect, in_mode, seen_by

@@ -3,6 +3,8 @@ import fnmatch
 import sys
 import traceback
 
+from . import places
+
 FAILED, NOTHING_RAN = 1, 77
 
 
@@ -50,6 +52,10 @@ def run(cases):
     chosen = [name for name in cases if any(fnmatch.fnmatch(name, it) for it in patterns)]
     if not chosen:
         sys.exit(f'no case fits {" ".join(patterns)}')
+    try:
+        places.program()
+    except FileNotFoundError as lacking:
+        sys.exit(str(lacking))
     ends = [one(name, cases[name]) for name in chosen]
     sys.exit(FAILED if 'failed' in ends else 0 if 'passed' in ends else NOTHING_RAN)
 

@@ -112,10 +112,9 @@ class Node:
         self.kill()
         self.start()
 
-    def ended(self):
-        """Waits for its end, and answers its status."""
-        until(lambda: self.process.poll() is not None, 'the node ends')
-        return self.process.returncode
+    def outcome(self):
+        """Runs the program to its end, which is to come of itself: its status and what it wrote to standard error."""
+        return outcome(self.program, ['mount'], self.folder)
 
     def errors(self):
         """What it wrote to standard error, in all its runs."""
@@ -156,6 +155,12 @@ class Node:
             same(seen == image, True, 'the database file is what SQLite saw')
         self.start()
         same(self.position(), before, 'the position after a restart')
+
+
+def outcome(program, words, folder=None, given=b''):
+    """Runs the program to its end: its status and its standard error."""
+    ran = subprocess.run([program, *words], cwd=folder, input=given, stdout=subprocess.PIPE, stderr=subprocess.PIPE, timeout=60)
+    return ran.returncode, ran.stderr.decode()
 
 
 def read(path):

@@ -32,6 +32,7 @@ class Relay:
         return self
 
     def __exit__(self, *_):
+        ended(self.listener)
         self.listener.close()
         shutil.rmtree(self.folder, ignore_errors=True)
 
