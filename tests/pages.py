@@ -19,6 +19,7 @@ from support.machine import isolated, put
 
 PAGES = ('OPERATING', 'TROUBLESHOOTING')
 LIMIT, PATIENCE = 150, 60
+MACHINE = {'PATH': '/usr/local/bin:/usr/bin:/bin:/usr/sbin:/sbin', 'HOME': '/root', 'LANG': 'C.UTF-8'}
 
 
 def blocks(page):
@@ -45,19 +46,16 @@ def fits(got, wanted):
     return re.fullmatch(pattern, got.strip(), re.S) is not None
 
 
-def shell(root, text):
+def shell(root, text, *options):
     """Runs commands in the machine; what they leave running goes with it."""
-    return subprocess.run(['timeout', '-k', '1', str(LIMIT), 'chroot', root, 'bash', '-e', '-o', 'pipefail', '-c', 'cd /root\n' + text], stdin=subprocess.DEVNULL,
-                          stdout=subprocess.PIPE, stderr=subprocess.STDOUT, text=True, env=MACHINE)
-
-
-MACHINE = {'PATH': '/usr/local/bin:/usr/bin:/bin:/usr/sbin:/sbin', 'HOME': '/root', 'LANG': 'C.UTF-8'}
+    words = ['timeout', '-k', '1', str(LIMIT), 'chroot', root, 'bash', *options, '-c', 'cd /root\n' + text]
+    return subprocess.run(words, stdin=subprocess.DEVNULL, stdout=subprocess.PIPE, stderr=subprocess.STDOUT, text=True, env=MACHINE)
 
 
 def run_block(root, kind, body):
     """Why the block failed, if it did."""
     if kind == 'sh':
-        ran = shell(root, body)
+        ran = shell(root, body, '-e', '-o', 'pipefail')
         return None if ran.returncode == 0 else f'status {ran.returncode}: {ran.stdout}'
     end = time.monotonic() + PATIENCE
     while True:
