@@ -23,15 +23,21 @@ def vfs():
     given = os.environ.get('LITEFS_VFS')
     if given:
         return os.path.abspath(given)
-    made = built_vfs(os.path.join(tempfile.gettempdir(), f'litefs-tests-{os.getuid()}'))
+    made = built_vfs(kept())
     os.environ['LITEFS_VFS'] = made
     return made
+
+
+def kept():
+    """A folder for what is built once on this machine."""
+    folder = os.path.join(tempfile.gettempdir(), f'litefs-tests-{os.getuid()}')
+    os.makedirs(folder, mode=0o700, exist_ok=True)
+    return folder
 
 
 def built_vfs(folder):
     build = os.path.join(ROOT, 'clients/litefs-vfs/build.sh')
     if not os.path.exists(build):
         raise FileNotFoundError('no VFS: set LITEFS_VFS')
-    os.makedirs(folder, exist_ok=True)
     subprocess.run([build, folder], check=True, stdout=subprocess.DEVNULL, timeout=LIMIT)
     return os.path.join(folder, 'litefs-vfs.so')
