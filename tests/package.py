@@ -69,7 +69,7 @@ class Root:
 def started(root, name, following=None):
     """A node of the package: a machine's state folder, made and started by the unit's lines."""
     unit = root.unit()
-    state = root.path(unit['WorkingDirectory']) + name
+    state = root.path(f"{os.path.dirname(unit['WorkingDirectory'])}/{name}")
     etc = root.path(f'etc/litefs/{name}.toml')
     os.makedirs(state)
     same(unit['StateDirectory'], 'litefs/app', 'the state folder of the unit')
