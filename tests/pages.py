@@ -5,7 +5,7 @@ A block fenced as sh is run, and has to end with status 0. In a block fenced as 
 writes has to be what stands below it, where `..` stands for anything; the block is run again until it is so, so it changes nothing.
 
 At most: 600 seconds.
-Seen to fail: HOW"""
+Seen to fail: an output on the page that isn't so (200 for 404), and a failover on the page that leaves the replica a replica."""
 import glob
 import os
 import re

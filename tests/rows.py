@@ -3,7 +3,8 @@
 a rollback is none, and what SQLite sees, the database file and the log applied are the same bytes.
 
 At most: 600 seconds.
-Seen to fail: HOW"""
+Seen to fail: a node whose writes of the file `database` change one bit ("the log applied is the database file"), and one that doesn't rename
+every ninth file into its log ("apply of the log ends well")."""
 import os
 import random
 
