@@ -25,11 +25,8 @@ made = tempfile.TemporaryDirectory(prefix='litefs-package-')
 @functools.cache
 def built():
     """The paths of the package and of the tar."""
-    program = os.environ.get('LITEFS_ELF') or places.program()
-    if read(program)[1:4] != b'ELF':
-        raise Skipped(f'{program} is no program that can be packed, but a script: set LITEFS_ELF')
     said = subprocess.run([f'{places.ROOT}/tools/package', made.name], check=True, stdout=subprocess.PIPE, text=True,
-                          env={**os.environ, 'LITEFS': program})
+                          env={**os.environ, 'LITEFS': places.elf()})
     package, archive = said.stdout.split()
     return package, archive
 

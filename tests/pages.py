@@ -67,13 +67,14 @@ def run_block(root, kind, body):
 
 
 def inside(page, package, root):
-    """Runs a page in the machine, a line for each block. After a failure nothing more of the page is run."""
+    """Runs a page in the machine, a line for each block, and answers 1 where one failed. Behind that nothing of the page is run."""
     furnish(root, package)
     failed = None
     for kind, body, name in blocks(page):
         why = f'not run after {failed}' if failed else run_block(root, kind, body)
         failed = failed or (why and name)
         print(f'failed: {name}: {" / ".join(why.strip().splitlines())[-600:]}' if why else f'passed: {name}', flush=True)
+    return 1 if failed else 0
 
 
 def furnish(root, package):
@@ -87,31 +88,22 @@ def furnish(root, package):
 
 def packed(folder):
     """The package of the program under test."""
-    program = os.environ.get('LITEFS_ELF') or places.program()
-    if read(program)[1:4] != b'ELF':
-        skip_all(f'{program} is no program that can be packed, but a script: set LITEFS_ELF')
-    subprocess.run([f'{places.ROOT}/tools/package', folder], check=True, stdout=subprocess.DEVNULL, env={**os.environ, 'LITEFS': program})
+    subprocess.run([f'{places.ROOT}/tools/package', folder], check=True, stdout=subprocess.DEVNULL, env={**os.environ, 'LITEFS': places.elf()})
     return glob.glob(f'{folder}/*.deb')[0]
 
 
 def main():
     pages = sys.argv[1:] or PAGES
     with tempfile.TemporaryDirectory(prefix='litefs-pages-') as folder:
-        package, said = packed(folder), os.path.join(folder, 'said')
-        for page in pages:
-            with open(said, 'a') as file:
-                file.flush()
-                try:
-                    isolated(['sh', '-c', f'exec "$@" >> {said}', 'sh', sys.executable, os.path.abspath(__file__), '--inside', page, package])
-                except Skipped as skipped:
-                    skip_all(str(skipped))
-        lines = read(said).decode()
-    print(lines, end='')
-    wanted = sum(len(blocks(page)) for page in pages)
-    sys.exit(0 if lines.count('passed: ') == wanted > 0 and 'failed: ' not in lines else 1)
+        try:
+            package = packed(folder)
+            statuses = [isolated([sys.executable, os.path.abspath(__file__), '--inside', page, package]) for page in pages]
+        except Skipped as skipped:
+            skip_all(str(skipped))
+    sys.exit(max(statuses))
 
 
 if sys.argv[1:2] == ['--inside']:
-    inside(*sys.argv[2:])
+    sys.exit(inside(*sys.argv[2:]))
 else:
     main()

@@ -4,7 +4,7 @@ import shutil
 import subprocess
 import tempfile
 
-from .cases import Skipped
+from .outcomes import Skipped
 
 ISOLATED = ('unshare', '--mount', '--net', '--pid', '--fork', '--kill-child')
 MAKE = '''set -e
