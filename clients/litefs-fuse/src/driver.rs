@@ -181,7 +181,7 @@ impl Driver {
     fn on_memory(&mut self, memory: &mut dyn Memory, action: Action) -> Result<()> {
         match action {
             Action::NewShared { node } => memory.renew(node)?,
-            Action::CutShared { size } => memory.cut(size)?,
+            Action::CutShared { size } => complain(memory.cut(size)),
             Action::PutShared { node, pieces } => {
                 if memory.put(node, &pieces)? {
                     self.machine.put_done();
@@ -244,6 +244,12 @@ impl Driver {
         };
         eprintln!("litefs-fuse: mounted, shared memory by {way}");
         Ok(())
+    }
+}
+
+fn complain(result: Result<()>) {
+    if let Err(error) = result {
+        eprintln!("litefs-fuse: {error}");
     }
 }
 

@@ -79,7 +79,6 @@ pub mod open {
 
 /// Kinds of byte-range locks.
 pub mod lock {
-    pub const READ: u32 = 0;
     pub const WRITE: u32 = 1;
     pub const UNLOCK: u32 = 2;
 }

@@ -57,8 +57,8 @@ impl Files {
 
     /// Remembers the database's name by the name of one of its files.
     pub fn learn(&mut self, name: &[u8], kind: Kind) {
-        if self.name.is_none() && kind_of(name) == kind {
-            let ending = ENDINGS.iter().find(|(_, other)| *other == kind).map_or(&b""[..], |(ending, _)| ending);
+        let ending = ENDINGS.iter().find(|(_, other)| *other == kind).map_or(&b""[..], |(ending, _)| ending);
+        if self.name.is_none() && kind != Kind::Primary && kind != Kind::Root {
             self.name = name.strip_suffix(ending).map(<[u8]>::to_vec);
         }
     }

@@ -87,10 +87,6 @@ impl Machine {
         std::mem::take(&mut self.output)
     }
 
-    pub fn is_linked(&self) -> bool {
-        self.link.up
-    }
-
     fn hang_up(&mut self) {
         self.output.actions.push(output::Action::HangUp);
     }

@@ -35,6 +35,7 @@ impl Machine {
 
     pub(super) fn position_opened(&mut self, result: Result<&[u8], u32>) {
         self.position.handle = result.ok().map(|body| u64_at(body, 0));
+        self.ask_position();
     }
 
     /// Asks where the node stands, where it can be asked.
