@@ -24,6 +24,9 @@ mod stale;
 mod then;
 mod waits;
 
+#[cfg(test)]
+mod tests;
+
 
 use files::Files;
 use handles::Handles;
