@@ -112,7 +112,7 @@ impl Driver {
                         self.machine.fetched(&header);
                         continue;
                     }
-                    if self.link.is_none() {
+                    if self.link.is_none() && self.memory.is_some() {
                         self.link = Connection::open(&self.socket).ok();
                         if self.link.is_some() {
                             self.machine.link_up();

@@ -6,6 +6,7 @@ use std::fs::{canonicalize, metadata, File, OpenOptions};
 use std::io::{Error, Result};
 use std::os::fd::AsRawFd;
 use std::os::unix::net::UnixStream;
+use std::path::Path;
 use std::process::{Child, Command, Stdio};
 use std::thread::sleep;
 use std::time::{Duration, Instant};
@@ -35,13 +36,27 @@ enum Watcher {
 /// Mounts the folder, after a dead mount on it was cleared.
 pub fn mount(options: &Options) -> Result<Mounted> {
     clear_dead(&options.folder)?;
-    let folder = canonicalize(&options.folder)?.to_string_lossy().into_owned();
+    let folder = canonicalize(&options.folder)?;
+    outside(&options.socket, &folder)?;
+    let folder = folder.to_string_lossy().into_owned();
     let mounted = match user() {
         (_, _, true) => by_system(folder, options)?,
         _ => by_helper(folder, options)?,
     };
     never_wait(&mounted.device)?;
     Ok(mounted)
+}
+
+/// A socket in the folder would be looked for in the mount, by the program that answers for it.
+fn outside(socket: &str, folder: &Path) -> Result<()> {
+    let beside = match Path::new(socket).parent() {
+        Some(parent) if parent != Path::new("") => parent,
+        _ => Path::new("."),
+    };
+    match canonicalize(beside) {
+        Ok(place) if place.starts_with(folder) => Err(Error::other("the socket lies in the folder that is to be mounted")),
+        _ => Ok(()),
+    }
 }
 
 /// Unmounts the folder; where it stays in use, lazily after two seconds.
