@@ -5,13 +5,16 @@ see one and the same number of rows, and nothing that was acknowledged is lost.
 At most: 240 seconds.
 Seen to fail: in WAL mode with the header not told before WRITE is given up by a killed owner's FLUSH (rows differ, or
 `disk I/O error`)"""
+import mmap
 import os
+import shutil
 import signal
 import sqlite3
 import struct
 
 from support import Node, Relay, holds, run, same, seen_by
 from support.mount import Mount, ended, in_each_way, need_mount
+from support.relay import whole
 
 ROWS, MOST = 25, 400
 CODE = f'''
@@ -30,16 +33,50 @@ ENDING = {18, 25}
 LOOKUP_OF_NOTHING = 1, b'nothing\0'
 
 
-class Deadly(Relay):
-    """Between mount and node. Kills the victim at its n-th changing message, which is then turned into one that changes
-    nothing; the files of a process that dies are closed as they are."""
+class Deadly:
+    """Between mount and node, in a process of its own: this one is held while it starts a client. Kills the victim at its
+    n-th changing message, which is then turned into one that changes nothing; the files of a process that dies are
+    closed as they are."""
 
     def __init__(self, node):
+        self.order = mmap.mmap(-1, 16)
+        said, says = os.pipe()
+        self.process = os.fork()
+        if self.process == 0:
+            serve(node, self.order, says)
+        os.close(says)
+        self.socket = os.read(said, 4096).decode()
+        os.close(said)
+
+    def __enter__(self):
+        return self
+
+    def __exit__(self, *_):
+        os.kill(self.process, signal.SIGKILL)
+        os.waitpid(self.process, 0)
+        shutil.rmtree(os.path.dirname(self.socket))
+
+    def kill(self, victim, at):
+        self.order[:8] = struct.pack('<II', victim, at)
+
+
+def serve(node, order, says):
+    """The other process, until it is killed."""
+    try:
+        relay = Killing(node, order)
+        os.write(says, relay.socket.encode())
+        while True:
+            signal.pause()
+    finally:
+        os._exit(1)
+
+
+class Killing(Relay):
+    def __init__(self, node, order):
+        self.order = order
         super().__init__(node)
-        self.victim, self.left = 0, 0
 
     def requests(self, client, node):
-        from support.relay import whole
         try:
             while message := whole(client):
                 node.sendall(self.passed(message))
@@ -48,10 +85,11 @@ class Deadly(Relay):
 
     def passed(self, message):
         opcode, pid = struct.unpack_from('<I', message, 4)[0], struct.unpack_from('<I', message, 32)[0]
-        if pid != self.victim or opcode not in CHANGING:
+        victim, left = struct.unpack('<II', self.order[:8])
+        if pid != victim or opcode not in CHANGING or left == 0:
             return message
-        self.left -= 1
-        if self.left != 0:
+        self.order[:8] = struct.pack('<II', victim, left - 1)
+        if left > 1:
             return message
         os.kill(pid, signal.SIGKILL)
         return message if opcode in ENDING else harmless(message)
@@ -72,7 +110,7 @@ def deaths(way):
             while at < MOST:
                 before = node.position().txid
                 client = mount.client(CODE, stdin=-1)
-                relay.victim, relay.left = client.pid, at
+                relay.kill(client.pid, at)
                 client.stdin.write('go\n')
                 client.stdin.flush()
                 status, said = ended(client)
