@@ -9,7 +9,6 @@ import os
 import shutil
 import stat
 import subprocess
-import sys
 import tempfile
 
 from support import Node, Skipped, holds, run, same
@@ -25,9 +24,9 @@ if 'mounted' not in said: print('no mount:', said); sys.exit()
 c = sqlite3.connect(folder + '/app', isolation_level=None, timeout=60)
 for mode in ('wal', 'delete'):
     c.execute('pragma journal_mode=' + mode).fetchall()
-    c.execute('create table %s(a)' % mode)
-    c.execute('insert into %s values(1)' % mode)
-print(said.strip().split()[-1], os.stat(folder + '/app').st_uid == os.getuid(), c.execute('select count(*) from wal').fetchall())
+    c.execute('create table in_%s(a)' % mode)
+    c.execute('insert into in_%s values(1)' % mode)
+print(said.strip().split()[-1], os.stat(folder + '/app').st_uid == os.getuid(), c.execute('select count(*) from in_wal').fetchall())
 c.close()
 mount.stdin.close()
 print(mount.wait(60), os.listdir(folder))
@@ -35,13 +34,18 @@ print(mount.wait(60), os.listdir(folder))
 WELL = "notify True [(1,)]\n0 []\n"
 
 
+AS_NOBODY = ['setpriv', f'--reuid={NOBODY}', f'--regid={NOBODY}', '--clear-groups']
+# root's /dev/fuse may be closed to others: a mount namespace gets an open one in its place
+WITH_DEVICE = 'mknod -m 666 "$0" c 10 229 && mount --bind "$0" /dev/fuse && exec "$@"'
+
+
 def as_nobody():
     os.setgid(NOBODY)
     os.setuid(NOBODY)
 
 
-def tried(node, start, before_exec=None):
-    """Runs the script with the node's socket open to all, in a folder of whoever runs it."""
+def tried(node, start):
+    """Runs the script as an ordinary user, with the node's socket open to all, in a folder of that user."""
     place = tempfile.mkdtemp(prefix='litefs-mount-user-')
     try:
         program = shutil.copy(fuse_program(), place)
@@ -50,34 +54,30 @@ def tried(node, start, before_exec=None):
         for path in (place, program, node.folder):
             os.chmod(path, 0o755)
         os.chmod(node.socket, 0o666)
-        if before_exec:
+        command = [*start, '/usr/bin/python3', '-c', SCRIPT, program, node.socket, folder]
+        if os.geteuid() == 0:
             os.chown(folder, NOBODY, NOBODY)
-        ran = subprocess.run([*start, sys.executable, '-c', SCRIPT, program, node.socket, folder], capture_output=True,
-                             text=True, preexec_fn=before_exec, timeout=110)
-        if 'no mount:' in ran.stdout or 'unshare' in ran.stderr or 'Permission denied' in ran.stderr:
-            raise Skipped(f'{ran.stdout} {ran.stderr}')
+            command = ['unshare', '-m', 'sh', '-c', WITH_DEVICE, os.path.join(place, 'fuse'), *AS_NOBODY, *command]
+        elif not os.stat('/dev/fuse').st_mode & stat.S_IWOTH:
+            raise Skipped('/dev/fuse is not open to all users here')
+        ran = subprocess.run(command, capture_output=True, text=True, timeout=110)
+        if any(word in ran.stderr for word in ('unshare', 'mknod', 'setpriv', 'mount:')):
+            raise Skipped(ran.stderr)
         return ran.stdout + ran.stderr
     finally:
         shutil.rmtree(place)
 
 
-def device_for_all():
-    if not os.stat('/dev/fuse').st_mode & stat.S_IWOTH:
-        raise Skipped('/dev/fuse is not open to all users here')
-
-
 def ordinary_user():
-    device_for_all()
     if not shutil.which('fusermount3'):
         raise Skipped('no fusermount3 here')
     with Node() as node:
-        same(tried(node, [], as_nobody if os.geteuid() == 0 else None), WELL, 'a mount of an ordinary user')
+        same(tried(node, []), WELL, 'a mount of an ordinary user')
 
 
 def user_namespace():
-    device_for_all()
     with Node() as node:
-        same(tried(node, ['unshare', '-Urm'], as_nobody if os.geteuid() == 0 else None), WELL, "a mount in a user's namespace")
+        same(tried(node, ['unshare', '-Urm']), WELL, "a mount in a user's namespace")
 
 
 def others():
@@ -86,7 +86,6 @@ def others():
     for options, wanted in (([], 'nothing'), (['allow_other'], 'reads'), (['allow_other', f'uid={NOBODY}'], 'reads writes')):
         with Node() as node, Mount(node, None, options) as mount:
             made = mount.in_mode('delete')
-            os.chmod(mount.folder, 0o755)
             made.close()
             code = '''
 def attempt(flags, word):

@@ -1,4 +1,5 @@
-"""The files of a node as a folder, by `litefs-fuse`: the environment's LITEFS_FUSE, or what cargo makes of its sources."""
+"""The files of a node as a folder, by `litefs-fuse`: the environment's LITEFS_FUSE, or what cargo makes of its sources.
+LITEFS_FUSE_OPTIONS are added to every mount's."""
 import functools
 import os
 import shutil
@@ -41,7 +42,8 @@ class Mount:
     def __init__(self, node, way=None, options=(), socket=None, words=(), starts=True):
         self.node = node
         self.way = way
-        self.options = [f'name={node.database}', *options, *(['notify'] if way == 'notify' else [])]
+        more = os.environ.get('LITEFS_FUSE_OPTIONS', '').split(',')
+        self.options = [f'name={node.database}', *options, *more, *(['notify'] if way == 'notify' else [])]
         self.socket = socket or node.socket
         self.words = list(words)
         self.folder = tempfile.mkdtemp(prefix='litefs-mount-')

@@ -8,7 +8,7 @@ use crate::foreign::{polled, wait_ready, ENDED, READABLE, WRITABLE};
 use crate::machine::output::{Action, Reply};
 use crate::machine::Machine;
 use crate::memory::{Memory, Noted, Passed};
-use crate::notifier::{Notifier, Told};
+use crate::notifier::{Done, Note, Notifier, Told};
 use crate::wire::{errno, opcode, REQUEST_HEAD};
 use std::io::Result;
 use std::time::{Duration, Instant, SystemTime, UNIX_EPOCH};
@@ -28,6 +28,7 @@ pub struct Driver {
     device: Device,
     link: Option<Connection>,
     memory: Option<Box<dyn Memory>>,
+    notifier: Option<Notifier>,
     told: Option<Told>,
     ticked: Instant,
     stopped: bool,
@@ -41,6 +42,7 @@ impl Driver {
             device,
             link: None,
             memory: None,
+            notifier: None,
             told: None,
             ticked: Instant::now(),
             stopped: false,
@@ -79,7 +81,7 @@ impl Driver {
             questions.len() - 1
         });
         let told_at = self.told.as_ref().map(|told| {
-            questions.push(polled(&told.0, READABLE));
+            questions.push(polled(&told.stream, READABLE));
             questions.len() - 1
         });
         let patience = if self.machine.is_waiting() { TICK.as_millis() as i32 } else { -1 };
@@ -89,8 +91,12 @@ impl Driver {
     }
 
     fn take_told(&mut self) {
-        let count = self.told.as_mut().map_or(0, Told::count);
-        (0..count).for_each(|_| self.machine.put_done());
+        for done in self.told.as_mut().map_or(Vec::new(), Told::take) {
+            match done {
+                Done::Put => self.machine.put_done(),
+                Done::Dropped => self.machine.dropped(),
+            }
+        }
     }
 
     fn take_replies(&mut self) {
@@ -165,6 +171,12 @@ impl Driver {
         match action {
             Action::Reply(reply) => self.answer(reply)?,
             Action::Started { passthrough } => self.start_memory(passthrough)?,
+            Action::DropCache { node } => {
+                if let Some(notifier) = &self.notifier {
+                    notifier.send(Note::Drop { node });
+                    notifier.send(Note::Tell(Done::Dropped));
+                }
+            }
             Action::HangUp => self.hang_up(),
             Action::Stop => self.stopped = true,
             other => {
@@ -229,6 +241,9 @@ impl Driver {
 
     /// Chooses the way of the shared memory, and says which it is.
     fn start_memory(&mut self, passthrough: bool) -> Result<()> {
+        let (notifier, told) = Notifier::start(&self.device.file)?;
+        self.notifier = Some(notifier.clone());
+        self.told = Some(told);
         let passed = if passthrough { Passed::attempt(&self.device.file).ok() } else { None };
         let way = match passed {
             Some(passed) => {
@@ -236,9 +251,7 @@ impl Driver {
                 "passthrough"
             }
             None => {
-                let (notifier, told) = Notifier::start(&self.device.file)?;
                 self.memory = Some(Box::new(Noted::new(&self.device.file, notifier)?));
-                self.told = Some(told);
                 "notify"
             }
         };

@@ -59,6 +59,7 @@ fn settings(options: &Options) -> Settings {
         gid: options.gid.unwrap_or(gid),
         read_only_at_replica: options.read_only_at_replica,
         may_drop: options.drop,
+        cache: options.cache,
         passthrough: options.sharing == Sharing::Best,
         name: options.name.as_ref().map(|name| name.clone().into_bytes()),
     }

@@ -9,6 +9,7 @@ use std::os::unix::net::UnixStream;
 use std::sync::mpsc::{channel, Receiver, Sender};
 use std::thread;
 
+const INVALIDATE: u32 = 2;
 const STORE: u32 = 4;
 const RETRIEVE: u32 = 5;
 
@@ -16,26 +17,40 @@ const RETRIEVE: u32 = 5;
 pub enum Note {
     /// these bytes go into the kernel's page of the file
     Store { node: u64, at: u64, bytes: Vec<u8> },
+    /// the kernel forgets the pages of the file
+    Drop { node: u64 },
     /// this program is told that all before is done
-    Tell,
+    Tell(Done),
+}
+
+/// What is done.
+#[derive(Clone, Copy, Debug, PartialEq, Eq)]
+pub enum Done {
+    Put,
+    Dropped,
 }
 
 /// The way to the thread.
+#[derive(Clone)]
 pub struct Notifier {
     to: Sender<Note>,
 }
 
-/// The end at which `Tell` arrives, a byte each.
-pub struct Told(pub UnixStream);
+/// The end at which each `Tell` arrives.
+pub struct Told {
+    pub stream: UnixStream,
+    done: Receiver<Done>,
+}
 
 impl Notifier {
     pub fn start(device: &File) -> Result<(Notifier, Told)> {
         let (to, notes) = channel();
-        let (told, teller) = UnixStream::pair()?;
-        told.set_nonblocking(true)?;
+        let (stream, bell) = UnixStream::pair()?;
+        stream.set_nonblocking(true)?;
+        let (teller, done) = channel();
         let device = device.try_clone()?;
-        thread::spawn(move || send_all(&device, &notes, teller));
-        Ok((Notifier { to }, Told(told)))
+        thread::spawn(move || send_all(&device, &notes, &teller, bell));
+        Ok((Notifier { to }, Told { stream, done }))
     }
 
     pub fn send(&self, note: Note) {
@@ -44,26 +59,38 @@ impl Notifier {
 }
 
 impl Told {
-    /// How often `Tell` has come.
-    pub fn count(&mut self) -> usize {
-        self.0.read(&mut [0; 64]).unwrap_or(0)
+    /// What was done since the last look.
+    pub fn take(&mut self) -> Vec<Done> {
+        let _ = self.stream.read(&mut [0; 64]);
+        self.done.try_iter().collect()
     }
 }
 
-fn send_all(device: &File, notes: &Receiver<Note>, mut teller: UnixStream) {
+fn send_all(device: &File, notes: &Receiver<Note>, teller: &Sender<Done>, mut bell: UnixStream) {
     for note in notes {
         match note {
             Note::Store { node, at, bytes } => {
                 // a file that the kernel has forgotten has no page to change
                 let _ = store(device, node, at, &bytes);
             }
-            Note::Tell => {
-                if teller.write_all(&[0]).is_err() {
+            Note::Drop { node } => {
+                let _ = forget(device, node);
+            }
+            Note::Tell(done) => {
+                if teller.send(done).is_err() || bell.write_all(&[0]).is_err() {
                     return;
                 }
             }
         }
     }
+}
+
+/// The kernel forgets all pages of a file, and its attributes.
+fn forget(device: &File, node: u64) -> Result<()> {
+    let mut body = [0; 24];
+    put_u64(&mut body, 0, node);
+    put_u64(&mut body, 16, u64::MAX);
+    notify(device, INVALIDATE, &body, &[])
 }
 
 fn store(device: &File, node: u64, at: u64, bytes: &[u8]) -> Result<()> {

@@ -17,6 +17,7 @@ pub struct Options {
     pub allow_other: bool,
     pub auto_unmount: bool,
     pub drop: bool,
+    pub cache: bool,
     pub uid: Option<u32>,
     pub gid: Option<u32>,
     pub name: Option<String>,
@@ -30,6 +31,7 @@ pub const USAGE: &str = "litefs-fuse SOCKET FOLDER [-o OPTION[,OPTION..]] [--unt
   uid=N, gid=N   the owner of the files (by default who starts this program)
   auto_unmount   the folder is unmounted however this program ends
   drop           removing the database's name drops the database
+  cache          the kernel caches the database's pages
   name=NAME      the database's name, for listings before its first use
   notify         the shared memory by notifications also where passthrough can be had";
 
@@ -59,6 +61,7 @@ impl Options {
             allow_other: false,
             auto_unmount: false,
             drop: false,
+            cache: false,
             uid: None,
             gid: None,
             name: None,
@@ -90,6 +93,7 @@ impl Options {
             "allow_other" => &mut self.allow_other,
             "auto_unmount" => &mut self.auto_unmount,
             "drop" => &mut self.drop,
+            "cache" => &mut self.cache,
             "notify" => {
                 self.sharing = Sharing::Notify;
                 return Ok(());

@@ -10,6 +10,9 @@ use crate::wire::{errno, opcode, Kind};
 impl Machine {
     pub(super) fn attributes(&mut self, request: &Request, kind: Kind) {
         let then = Then::Attributes { unique: request.unique, kind };
+        if kind == Kind::Database && request.opcode == opcode::SETATTR {
+            self.cache.written = true;
+        }
         self.send(request.caller, request.opcode, kind, &[request.body], then);
     }
 
@@ -18,9 +21,21 @@ impl Machine {
         if request.opcode == opcode::FLUSH {
             self.flushed(request.handle(), u64_at(request.body, 16));
         }
+        if handle.kind == Kind::Database {
+            self.on_database(request);
+        }
         let then = if request.opcode == opcode::READ { Then::Data { unique } } else { Then::Passed { unique } };
         let rest = request.body.get(8..).unwrap_or(&[]);
         self.send(request.caller, request.opcode, handle.kind, &[&handle.fh.to_le_bytes(), rest], then);
+    }
+
+    fn on_database(&mut self, request: &Request) {
+        match request.opcode {
+            opcode::FLUSH => self.database_flushed(u64_at(request.body, 16)),
+            opcode::READ => self.database_read(),
+            opcode::WRITE => self.cache.written = true,
+            _ => {}
+        }
     }
 
     /// After a FLUSH its owner has no lock by this handle.

@@ -74,6 +74,7 @@ impl Machine {
         let shared = self.files.number(Kind::Shared);
         self.files.renew_all();
         self.forget_position();
+        self.cache_lost();
         self.shared_lost(shared);
         for (_, then) in std::mem::take(&mut self.link.waiting) {
             self.answered(then, Err(errno::ENOTCONN));

@@ -23,18 +23,28 @@ impl Machine {
     /// The node's answer to an unlock says nothing: whatever comes after it on the link finds the lock free.
     fn unlock(&mut self, wanted: &LockRequest) {
         let body = wanted.body_until(u64::MAX);
+        self.before_lock(wanted);
         self.send(wanted.caller, opcode::SETLK, wanted.kind, &[&body], Then::Ignored);
+        self.unlocked(wanted);
         self.accept(wanted.unique);
     }
 
     /// A lock that must be waited for is asked for too, again and again: the node would hold the one link.
     pub(super) fn ask_lock(&mut self, wanted: LockRequest) {
         let body = wanted.body_until(u64::MAX);
+        let checked = self.is_checked(&wanted);
+        self.before_lock(&wanted);
         self.send(wanted.caller, opcode::SETLK, wanted.kind, &[&body], Then::Locked(wanted));
+        if checked {
+            self.ask_position_then(Then::Checked(wanted));
+        }
     }
 
     pub(super) fn lock_answered(&mut self, wanted: LockRequest, result: Result<&[u8], u32>) {
         let error = result.err().unwrap_or(0);
+        if self.is_checked(&wanted) {
+            return self.lock_to_check(error);
+        }
         if error == 0 {
             self.keep_owner(&wanted);
         }

@@ -5,6 +5,7 @@
 //! reaches the node; a lock of the shared memory is granted only after the node's changes of the header were put in.
 
 mod attributes;
+mod cache;
 mod data;
 mod dispatch;
 mod files;
@@ -28,6 +29,7 @@ mod waits;
 mod tests;
 
 
+use cache::Cache;
 use files::Files;
 use handles::Handles;
 use link::Link;
@@ -51,6 +53,8 @@ pub struct Settings {
     pub may_drop: bool,
     /// whether the shared memory is passed through where the kernel can
     pub passthrough: bool,
+    /// whether the kernel caches the database's pages
+    pub cache: bool,
     /// the database's name, for listings
     pub name: Option<Vec<u8>>,
 }
@@ -63,6 +67,7 @@ pub struct Machine {
     files: Files,
     handles: Handles,
     position: Position,
+    cache: Cache,
     shared: Shared,
     waits: Waits,
     listings: Vec<Listing>,
@@ -78,6 +83,7 @@ impl Machine {
             link: Link::default(),
             handles: Handles::default(),
             position: Position::default(),
+            cache: Cache::default(),
             shared: Shared::default(),
             waits: Waits::default(),
             listings: Vec::new(),

@@ -91,7 +91,7 @@ impl Machine {
         self.shared_known(kind);
         let number = self.handles.add(kind, generation, self.link.epoch, fh);
         put_u64(reply.body(), at, number);
-        put_u32(reply.body(), at + 8, open::DIRECT_IO);
+        put_u32(reply.body(), at + 8, if self.is_cached(kind) { open::KEEP_CACHE } else { open::DIRECT_IO });
         if kind == Kind::Shared {
             reply.open_at = Some(REPLY_HEAD + at + 8);
         }
@@ -120,6 +120,9 @@ impl Machine {
         if let Some(handle) = self.handles.get(number) {
             if let Some(owner) = handle.lock_owner {
                 self.flush_at_node(handle.kind, handle.fh, owner);
+                if handle.kind == Kind::Database {
+                    self.database_flushed(owner);
+                }
             }
             self.forget_handle(number);
         }

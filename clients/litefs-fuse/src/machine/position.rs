@@ -40,12 +40,17 @@ impl Machine {
 
     /// Asks where the node stands, where it can be asked.
     pub(super) fn ask_position(&mut self) {
-        if let Some(handle) = self.position.handle {
-            let mut body = [0; 40];
-            put_u64(&mut body, 0, handle);
-            put_u32(&mut body, 16, 64);
-            self.send(OWN, opcode::READ, Kind::Position, &[&body], Then::Position);
+        if self.position.handle.is_some() {
+            self.ask_position_then(Then::Position);
         }
+    }
+
+    /// Asks where the node stands. Without a handle the node refuses.
+    pub(super) fn ask_position_then(&mut self, then: Then) {
+        let mut body = [0; 40];
+        put_u64(&mut body, 0, self.position.handle.unwrap_or(0));
+        put_u32(&mut body, 16, 64);
+        self.send(OWN, opcode::READ, Kind::Position, &[&body], then);
     }
 
     pub(super) fn position_read(&mut self, result: Result<&[u8], u32>) {

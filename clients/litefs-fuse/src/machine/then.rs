@@ -37,6 +37,10 @@ pub enum Then {
     /// to the OPEN and a READ of the position file
     PositionOpened,
     Position,
+    /// to a READ of the position file behind a lock of the database
+    Checked(LockRequest),
+    /// to one before EXCLUSIVE is given up
+    ExclusiveLeft,
 }
 
 impl Machine {
@@ -58,6 +62,8 @@ impl Machine {
             Then::Shared(step) => self.shared_answered(step, result),
             Then::PositionOpened => self.position_opened(result),
             Then::Position => self.position_read(result),
+            Then::Checked(wanted) => self.lock_checked(wanted, result),
+            Then::ExclusiveLeft => self.exclusive_left(result),
         }
     }
 }

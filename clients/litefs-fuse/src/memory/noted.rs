@@ -5,7 +5,7 @@
 use super::Memory;
 use crate::machine::output::Piece;
 use crate::machine::HEADER;
-use crate::notifier::{retrieve, Note, Notifier};
+use crate::notifier::{retrieve, Done, Note, Notifier};
 use crate::wire::open;
 use std::fs::File;
 use std::io::{Error, Result};
@@ -76,7 +76,7 @@ impl Memory for Noted {
 
     fn put(&mut self, node: u64, pieces: &[Piece]) -> Result<bool> {
         pieces.iter().try_for_each(|piece| self.put_quietly(node, piece))?;
-        self.notifier.send(Note::Tell);
+        self.notifier.send(Note::Tell(Done::Put));
         Ok(false)
     }
 

@@ -20,6 +20,11 @@ impl Default for Header {
 }
 
 impl Header {
+    /// Whether the node was told a header, or told one.
+    pub fn is_known(&self) -> bool {
+        self.known.is_some()
+    }
+
     /// Nothing is known any more.
     pub fn forget(&mut self) {
         self.known = None;

@@ -4,6 +4,7 @@
 use super::header::{read_body, HEADER};
 use super::job::{Asked, Job};
 use crate::bytes::{put_u32, put_u64, u32_at, u64_at};
+use crate::machine::cache::Granted;
 use crate::machine::link::OWN;
 use crate::machine::lock_request::LockRequest;
 use crate::machine::output::Action;
@@ -168,9 +169,10 @@ impl Machine {
             _ if failure != 0 => self.finish_shared(failure),
             Err(_) => self.give_back_lock(),
             Ok(header) => {
+                let known = self.shared.header.is_known();
                 let pieces = self.shared.header.changes(header);
                 if pieces.is_empty() {
-                    return self.finish_shared(0);
+                    return self.when_fresh(!known, Granted::Shared);
                 }
                 let node = self.files.number(Kind::Shared);
                 self.output.actions.push(Action::PutShared { node, pieces });
@@ -191,7 +193,7 @@ impl Machine {
 
     /// The node's changes of the header stand in the shared memory.
     pub fn put_done(&mut self) {
-        self.finish_shared(0);
+        self.when_fresh(true, Granted::Shared);
         self.shared_next();
     }
 
@@ -208,7 +210,7 @@ impl Machine {
     }
 
     /// Answers the kernel.
-    pub(super) fn finish_shared(&mut self, error: u32) {
+    pub(in crate::machine) fn finish_shared(&mut self, error: u32) {
         let Some(job) = self.shared.queue.current.take() else { return };
         let lost = job.epoch != self.link.epoch;
         match &job.asked {
@@ -245,6 +247,7 @@ impl Machine {
     /// An owner has no locks any more.
     fn owner_left(&mut self, fh: u64, owner: u64, generation: u32, lost: bool) {
         if !lost {
+            self.cache.suspect |= self.shared.writers.writes(owner);
             self.shared.writers.flushed(owner);
             self.shared.dms.set(owner, generation, None);
             self.leave_dms(fh);
