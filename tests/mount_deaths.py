@@ -16,7 +16,7 @@ from support import Node, Relay, holds, run, same, seen_by
 from support.mount import Mount, ended, in_each_way, need_mount
 from support.relay import whole
 
-ROWS, MOST = 25, 400
+ROWS, MOST = 12, 400
 CODE = f'''
 sys.stdin.readline()
 c = connect()
@@ -102,7 +102,7 @@ def harmless(message):
 
 
 def deaths(way):
-    for mode, step in (('wal', 6), ('delete', 4)):
+    for mode, step in (('wal', 9), ('delete', 5)):
         with Node() as node, Deadly(node) as relay, Mount(node, way, socket=relay.socket) as mount:
             watching, working = mount.in_mode(mode), mount.connect()
             working.execute('insert into t values(1,1,1)')
@@ -123,7 +123,7 @@ def deaths(way):
                 if status == 0:
                     break
                 at += step
-            holds(at > 3 * step, f'{at} messages are too few to die at')
+            holds(at > 2 * step, f'{at} messages are too few to die at')
             seen = seen_by(working)
             watching.close()
             working.close()

@@ -6,6 +6,7 @@ mod errors;
 mod files;
 mod locks;
 mod names;
+mod recorded;
 mod shared;
 mod shared_locks;
 mod trial;
