@@ -1,0 +1,102 @@
+//! The machine between the kernel and the node. It has no input or output: a request of the kernel or a reply of the node
+//! goes in, and messages to the node, replies to the kernel and orders for the shared memory come out.
+//!
+//! What always holds: each request of the kernel that has a reply gets one, and one only; no handle of a lost link
+//! reaches the node; a lock of the shared memory is granted only after the node's changes of the header were put in.
+
+mod attributes;
+mod cache;
+mod data;
+mod dispatch;
+mod files;
+mod handles;
+mod link;
+mod listing;
+mod local;
+mod lock_request;
+mod locking;
+mod names;
+mod opening;
+pub mod output;
+mod position;
+mod request;
+mod shared;
+mod stale;
+mod then;
+mod waits;
+
+#[cfg(test)]
+mod tests;
+
+
+use cache::Cache;
+use files::Files;
+use handles::Handles;
+use link::Link;
+use listing::Listing;
+use output::Output;
+use position::{Position, Time};
+use shared::Shared;
+use waits::Waits;
+
+pub use shared::header::HEADER;
+
+/// What the mount was started with.
+#[derive(Clone, Default)]
+pub struct Settings {
+    /// the owner that the attributes tell
+    pub uid: u32,
+    pub gid: u32,
+    /// whether at a replica the database is opened for reading alone
+    pub read_only_at_replica: bool,
+    /// whether the name of the database may be removed, which drops it
+    pub may_drop: bool,
+    /// whether the shared memory is passed through where the kernel can
+    pub passthrough: bool,
+    /// whether the kernel caches the database's pages
+    pub cache: bool,
+    /// the database's name, for listings
+    pub name: Option<Vec<u8>>,
+}
+
+/// The machine.
+pub struct Machine {
+    settings: Settings,
+    now: Time,
+    link: Link,
+    files: Files,
+    handles: Handles,
+    position: Position,
+    cache: Cache,
+    shared: Shared,
+    waits: Waits,
+    listings: Vec<Listing>,
+    output: Output,
+}
+
+impl Machine {
+    pub fn new(settings: Settings) -> Machine {
+        Machine {
+            files: Files::new(settings.name.clone()),
+            settings,
+            now: (0, 0),
+            link: Link::default(),
+            handles: Handles::default(),
+            position: Position::default(),
+            cache: Cache::default(),
+            shared: Shared::default(),
+            waits: Waits::default(),
+            listings: Vec::new(),
+            output: Output::default(),
+        }
+    }
+
+    /// Takes what has come together.
+    pub fn take(&mut self) -> Output {
+        std::mem::take(&mut self.output)
+    }
+
+    fn hang_up(&mut self) {
+        self.output.actions.push(output::Action::HangUp);
+    }
+}

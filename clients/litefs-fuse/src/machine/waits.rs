@@ -1,0 +1,91 @@
+//! Processes that wait for a lock. Each is asked for again at every tick, and a signal ends the wait.
+
+use super::lock_request::LockRequest;
+use super::Machine;
+use crate::wire::{errno, Kind};
+
+/// What is asked again.
+#[derive(Clone, Copy)]
+pub enum Again {
+    Plain(LockRequest),
+    Shared(LockRequest),
+}
+
+struct Wait {
+    unique: u64,
+    again: Again,
+    /// whether the node is being asked
+    asked: bool,
+    interrupted: bool,
+}
+
+#[derive(Default)]
+pub struct Waits(Vec<Wait>);
+
+impl Waits {
+    pub fn begin(&mut self, unique: u64, again: Again) {
+        self.0.push(Wait { unique, again, asked: true, interrupted: false });
+    }
+
+    pub fn end(&mut self, unique: u64) {
+        self.0.retain(|wait| wait.unique != unique);
+    }
+
+    /// The lock is not free. Tells whether the wait has ended by a signal.
+    pub fn refused(&mut self, unique: u64) -> bool {
+        let Some(wait) = self.0.iter_mut().find(|wait| wait.unique == unique) else { return true };
+        wait.asked = false;
+        let ended = wait.interrupted;
+        if ended {
+            self.end(unique);
+        }
+        ended
+    }
+}
+
+impl Machine {
+    /// Whether somebody waits for a lock, so that `tick` is to be called every two milliseconds.
+    pub fn is_waiting(&self) -> bool {
+        !self.waits.0.is_empty()
+    }
+
+    /// Asks for every lock that is waited for.
+    pub fn tick(&mut self) {
+        let idle = self.waits.0.iter_mut().filter(|wait| !wait.asked);
+        let again: Vec<Again> = idle
+            .map(|wait| {
+                wait.asked = true;
+                wait.again
+            })
+            .collect();
+        for next in again {
+            match next {
+                Again::Plain(wanted) => self.ask_lock(wanted),
+                Again::Shared(wanted) => self.lock_shared_again(wanted),
+            }
+        }
+    }
+
+    /// A signal came for the process that waits for this request.
+    pub(super) fn interrupt(&mut self, unique: u64) {
+        let Some(wait) = self.waits.0.iter_mut().find(|wait| wait.unique == unique) else { return };
+        wait.interrupted = true;
+        if !wait.asked {
+            self.waits.end(unique);
+            self.refuse(unique, errno::EINTR);
+        }
+    }
+
+    /// The link is lost: who waits idly is answered, as a request by a lost handle is.
+    pub(super) fn waits_lost(&mut self) {
+        let (idle, asked) = std::mem::take(&mut self.waits.0).into_iter().partition(|wait: &Wait| !wait.asked);
+        self.waits.0 = asked;
+        let idle: Vec<Wait> = idle;
+        for wait in idle {
+            match wait.again {
+                Again::Shared(wanted) if wanted.kind == Kind::Shared => self.accept(wait.unique),
+                _ => self.refuse(wait.unique, errno::ESTALE),
+            }
+        }
+    }
+}

@@ -1,0 +1,137 @@
+//! The folder becomes a mount, and is none again.
+
+use crate::foreign::{keep_on_exec, mount_fuse, never_wait, receive_file, unmount, user};
+use crate::options::Options;
+use std::fs::{canonicalize, metadata, File, OpenOptions};
+use std::io::{Error, Result};
+use std::os::fd::AsRawFd;
+use std::os::unix::net::UnixStream;
+use std::path::Path;
+use std::process::{Child, Command, Stdio};
+use std::thread::sleep;
+use std::time::{Duration, Instant};
+
+/// Transport endpoint is not connected: the program behind a mount is gone.
+const ENOTCONN: i32 = 107;
+
+/// How long an unmount of a folder in use is tried before it is done lazily.
+const PATIENCE: Duration = Duration::from_secs(2);
+
+/// The argument by which this program watches over another run of itself.
+pub const WATCH: &str = "--unmount-when-stdin-ends";
+
+/// A mounted folder, and what must live as long as it does.
+pub struct Mounted {
+    pub device: File,
+    pub folder: String,
+    _watcher: Option<Watcher>,
+}
+
+/// Who unmounts when this program has ended: each sees its end of a pipe or socket close.
+enum Watcher {
+    Helper { _socket: UnixStream },
+    Child { _child: Child },
+}
+
+/// Mounts the folder, after a dead mount on it was cleared.
+pub fn mount(options: &Options) -> Result<Mounted> {
+    clear_dead(&options.folder)?;
+    let folder = canonicalize(&options.folder)?;
+    outside(&options.socket, &folder)?;
+    let folder = folder.to_string_lossy().into_owned();
+    let mounted = match user() {
+        (_, _, true) => by_system(folder, options)?,
+        _ => by_helper(folder, options)?,
+    };
+    never_wait(&mounted.device)?;
+    Ok(mounted)
+}
+
+/// A socket in the folder would be looked for in the mount, by the program that answers for it.
+fn outside(socket: &str, folder: &Path) -> Result<()> {
+    let beside = match Path::new(socket).parent() {
+        Some(parent) if parent != Path::new("") => parent,
+        _ => Path::new("."),
+    };
+    match canonicalize(beside) {
+        Ok(place) if place.starts_with(folder) => Err(Error::other("the socket lies in the folder that is to be mounted")),
+        _ => Ok(()),
+    }
+}
+
+/// Unmounts the folder; where it stays in use, lazily after two seconds.
+pub fn unmount_in_time(folder: &str) {
+    let begin = Instant::now();
+    while let Err(error) = unmount_by(folder, false) {
+        if begin.elapsed() >= PATIENCE || error.kind() != std::io::ErrorKind::ResourceBusy {
+            let _ = unmount_by(folder, true);
+            return;
+        }
+        sleep(Duration::from_millis(20));
+    }
+}
+
+/// Unmounts the folder where it is a mount whose program is gone.
+pub fn clear_dead(folder: &str) -> Result<()> {
+    match metadata(folder) {
+        Err(error) if error.raw_os_error() == Some(ENOTCONN) => unmount_by(folder, true),
+        _ => Ok(()),
+    }
+}
+
+fn by_system(folder: String, options: &Options) -> Result<Mounted> {
+    let device = OpenOptions::new().read(true).write(true).open("/dev/fuse")?;
+    let (uid, gid, _) = user();
+    let descriptor = device.as_raw_fd();
+    let others = for_others(options);
+    mount_fuse(&folder, &format!("fd={descriptor},rootmode=40000,user_id={uid},group_id={gid}{others}"))?;
+    let watcher = if options.auto_unmount { Some(Watcher::Child { _child: watch(&folder)? }) } else { None };
+    Ok(Mounted { device, folder, _watcher: watcher })
+}
+
+/// The kernel asks the files' modes where others may come in.
+fn for_others(options: &Options) -> &'static str {
+    if options.allow_other {
+        ",allow_other,default_permissions"
+    } else {
+        ""
+    }
+}
+
+/// `fusermount3` opens the device, mounts, and sends the descriptor over a socket.
+fn by_helper(folder: String, options: &Options) -> Result<Mounted> {
+    let (ours, theirs) = UnixStream::pair()?;
+    let descriptor = keep_on_exec(&theirs)?;
+    let unmount = if options.auto_unmount { ",auto_unmount" } else { "" };
+    let list = format!("fsname=litefs,subtype=litefs{}{unmount}", for_others(options));
+    let mut child = Command::new("fusermount3")
+        .args(["-o", &list, "--", &folder])
+        .env("_FUSE_COMMFD", descriptor.to_string())
+        .stdin(Stdio::null())
+        .spawn()
+        .map_err(|error| Error::other(format!("fusermount3: {error}")))?;
+    drop(theirs);
+    let device = receive_file(&ours)?;
+    if options.auto_unmount {
+        return Ok(Mounted { device, folder, _watcher: Some(Watcher::Helper { _socket: ours }) });
+    }
+    child.wait()?;
+    Ok(Mounted { device, folder, _watcher: None })
+}
+
+/// A second run of this program, which unmounts the folder when this one has ended.
+fn watch(folder: &str) -> Result<Child> {
+    Command::new(std::env::current_exe()?).args([WATCH, folder]).stdin(Stdio::piped()).spawn()
+}
+
+fn unmount_by(folder: &str, lazily: bool) -> Result<()> {
+    if user().2 {
+        return unmount(folder, lazily);
+    }
+    let how = if lazily { "-uz" } else { "-u" };
+    let status = Command::new("fusermount3").args([how, "--", folder]).stderr(Stdio::null()).status()?;
+    match status.success() {
+        true => Ok(()),
+        false => Err(std::io::ErrorKind::ResourceBusy.into()),
+    }
+}

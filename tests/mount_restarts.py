@@ -1,0 +1,140 @@
+#!/usr/bin/python3
+"""What of a mount ends and comes back: the node is killed and started under it, the program is killed, the folder is
+unmounted in use, the program's standard input ends.
+
+At most: 240 seconds.
+Seen to fail: with locks of a lost link refused (`node`: an open connection in WAL mode stays locked); without the clearing
+of a dead mount (`program`)"""
+import os
+import signal
+import sqlite3
+import subprocess
+
+from support import Node, holds, insert, refuses, run, same, seen_by, until
+from support.mount import Mount, ended, in_each_way, need_mount
+
+MODES = ('delete', 'wal')
+
+
+def node_restarts(way):
+    for mode in MODES:
+        with Node() as node, Mount(node, way) as mount:
+            idle, writer = mount.in_mode(mode), mount.connect(1)
+            writer.execute('begin immediate')
+            writer.execute(*insert(1))
+            node.kill()
+            refuses(lambda: writer.execute('commit'), sqlite3.Error, 'a commit while the node is down')
+            refuses(lambda: mount.connect(1).execute('select * from t').fetchall(), sqlite3.Error, 'a new connection then')
+            node.start()
+            said = refuses(lambda: idle.execute('select * from t').fetchall(), sqlite3.Error, 'a connection from before')
+            same(str(said), 'disk I/O error', 'what it is told')
+            new = mount.connect()
+            same(new.execute('select count(*) from t').fetchone(), (0,), 'rows: the commit was not made')
+            new.execute(*insert(2))
+            other = mount.client('print(connect().execute("select count(*) from t").fetchone()[0])')
+            same(ended(other), (0, '1\n'), 'what another process sees')
+            for one in (idle, writer):
+                one.close()
+            again = mount.connect()
+            again.execute(*insert(3))
+            same(new.execute('select count(*) from t').fetchone(), (2,), 'rows')
+            seen = seen_by(again)
+            for one in (new, again):
+                one.close()
+            node.sound(seen)
+
+
+def node_killed_under_load(way):
+    code = '''
+import itertools
+c = connect()
+for i in itertools.count():
+    c.execute('insert into t(b,c) values(?,zeroblob(700))', (i,))
+    said('A')
+'''
+    for mode in MODES:
+        with Node() as node, Mount(node, way) as mount:
+            mount.in_mode(mode).close()
+            known = 0
+            for _ in range(3):
+                client = mount.client(code + 'c.execute("pragma busy_timeout=500")')
+                before = node.position().txid
+                until(lambda: node.position().txid > before + 3, 'commits')
+                node.kill()
+                said = ended(client)[1]
+                node.start()
+                after = mount.connect()
+                rows = after.execute('select count(*) from t').fetchone()[0]
+                holds(known + said.count('A') <= rows <= known + said.count('A') + 1, f'{rows} rows, {said.count("A")} more were told')
+                known = rows
+                holds('malformed' not in said, said[-200:])
+                after.close()
+            after = mount.connect()
+            seen = seen_by(after)
+            after.close()
+            node.sound(seen)
+
+
+def program_killed(way):
+    for mode in MODES:
+        with Node() as node, Mount(node, way) as mount:
+            writer = mount.in_mode(mode)
+            writer.execute(*insert(1))
+            writer.execute('begin immediate')
+            writer.execute(*insert(2))
+            mount.kill()
+            holds(mount.is_dead(), 'the folder is a dead mount')
+            refuses(lambda: writer.execute('commit'), sqlite3.Error, 'a commit without the program')
+            mount.start()
+            other = mount.connect()
+            same(other.execute('select count(*) from t').fetchone(), (1,), 'rows after the program was started again')
+            other.execute(*insert(3))
+            seen = seen_by(other)
+            other.close()
+            try:
+                writer.close()
+            except sqlite3.Error:
+                pass
+            node.sound(seen)
+
+
+def unmounted_in_use(way):
+    with Node() as node, Mount(node, way) as mount:
+        user = mount.in_mode('wal')
+        busy = subprocess.run(['umount', mount.folder], capture_output=True, text=True)
+        holds(busy.returncode != 0, 'umount of a folder in use is refused')
+        subprocess.run(['umount', '-l', mount.folder], check=True)
+        user.execute(*insert(1))
+        same(user.execute('select count(*) from t').fetchone(), (1,), 'rows of the connection that goes on')
+        holds(mount.process.poll() is None, 'the program goes on')
+        user.close()
+        until(lambda: mount.process.poll() is not None, 'the program ends after the last close')
+        same(mount.process.returncode, 0, 'its status')
+
+
+def ends_in_order(way):
+    for end in ('input', 'input in use', 'signal'):
+        with Node() as node, Mount(node, way) as mount:
+            user = mount.in_mode('wal')
+            if end != 'input in use':
+                user.close()
+            if end == 'signal':
+                mount.process.send_signal(signal.SIGTERM)
+            else:
+                mount.process.stdin.close()
+            until(lambda: mount.process.poll() is not None, 'the program ends')
+            same((mount.process.returncode, os.path.ismount(mount.folder), os.listdir(mount.folder)), (0, False, []), end)
+            if end == 'input in use':
+                refuses(lambda: user.execute(*insert(1)), sqlite3.Error, 'a write without the program')
+
+
+def unmounted_after_a_kill(way):
+    with Node() as node, Mount(node, way, ['auto_unmount']) as mount:
+        mount.in_mode('wal').close()
+        mount.kill()
+        until(lambda: not mount.is_dead() and not os.path.ismount(mount.folder), 'the folder is unmounted')
+
+
+need_mount()
+run(in_each_way(node=node_restarts, node_under_load=node_killed_under_load, program=program_killed,
+                unmount=unmounted_in_use, end=ends_in_order, auto_unmount=unmounted_after_a_kill))
