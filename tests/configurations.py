@@ -1,0 +1,155 @@
+#!/usr/bin/python3
+"""Commands and configurations that are wrong, and places that are taken: the status and the one line on standard error that
+docs/COMMANDS.md has for each. And configurations that are right: the node answers.
+
+At most: 300 seconds.
+Seen to fail: HOW"""
+import os
+import socket
+import tempfile
+
+from support import Node, holds, in_mode, outcome, places, run, same
+
+CONFIG = (3, 'litefs: input refused: Config\n')
+DISK = (5, 'litefs: disk failed\n')
+NETWORK = (7, 'litefs: network failed\n')
+WORDS = (2, 'litefs: words refused\n')
+LEASE = '[lease]\nadvertise-url = "http://127.0.0.1:9"\nhostname = "h"\n'
+RIGHT = 'database = "app"\n' + LEASE
+# what is wrong with the keys of crates/node_settings: each text is refused as Config
+WRONG = {
+    'empty': '',
+    'no_toml': 'database',
+    'no_database': LEASE,
+    'database_no_text': RIGHT.replace('"app"', '5'),
+    'database_named_as_its_log': RIGHT.replace('app', 'app-wal'),
+    'database_with_a_slash': RIGHT.replace('app', 'a/b'),
+    'no_url': 'database = "app"\n[lease]\nhostname = "h"\n',
+    'no_hostname': 'database = "app"\n[lease]\nadvertise-url = "http://h:1"\n',
+    'url_of_another_scheme': RIGHT.replace('http:', 'https:'),
+    'url_without_a_port': RIGHT.replace(':9', ''),
+    'url_with_a_path': RIGHT.replace(':9', ':9/'),
+    'port_past_its_limit': 'http.addr = ":65536"\n' + RIGHT,
+    'address_without_a_port': 'http.addr = "localhost"\n' + RIGHT,
+    'keep_nothing': 'data.retention-files = 0\n' + RIGHT,
+    'compressed': 'data.compress = true\n' + RIGHT,
+    'lease_service': RIGHT + 'type = "service"\n',
+    'candidate_no_boolean': RIGHT + 'candidate = "yes"\n',
+    'key_misspelled': RIGHT + 'candidat = true\n',
+    'key_of_litefs_that_is_not_here': 'proxy.addr = ":8080"\n' + RIGHT,
+    'key_twice': RIGHT + 'hostname = "h"\n',
+    'past_65536_bytes': RIGHT + '#' * (65537 - len(RIGHT)),
+}
+ADDRESS = 'http.addr = "127.0.0.1:0"\n'
+ACCEPTED = {
+    'defaults': (ADDRESS + RIGHT, 'litefs.sock'),
+    'of_65536_bytes': (ADDRESS + RIGHT + '#' * (65536 - len(ADDRESS + RIGHT)), 'litefs.sock'),
+    'inline_tables': ('database = "app"\nhttp = { addr = "127.0.0.1:0" }\nfuse = { listen = "here" }\n'
+                      'lease = { candidate = true, advertise-url = "http://h:1", hostname = "h" }\n', 'here'),
+    'every_key': ('database = "app"\n[fuse]\nlisten = "s"\n[http]\naddr = "[::1]:0"\n[data]\ncompress = false\nretention-files = 0x10\n'
+                  '[lease]\ntype = "static"\ncandidate = true\nadvertise-url = "http://[::1]:1"\nhostname = "h"\n'
+                  'service-url = "http://h:2"\nttl = 1_000\n', 's'),
+}
+
+
+def refused(text):
+    with Node(starts=False) as node:
+        node.configure(text)
+        same(node.outcome(), CONFIG, 'how it ends')
+        same(sorted(os.listdir(node.folder)), ['litefs.toml'], 'the folder')
+
+
+def accepted(text, name):
+    with Node(starts=False) as node:
+        node.configure(text)
+        node.socket = os.path.join(node.folder, name)
+        node.start()
+        same(node.errors(), '', 'standard error')
+
+
+def no_file():
+    with tempfile.TemporaryDirectory() as folder:
+        same(outcome(places.program(), ['mount'], folder), (1, 'litefs: cannot read\n'), 'without litefs.toml')
+
+
+def words():
+    for given in ([], ['--help'], ['--'], ['mount', 'x'], ['apply', 'compact'], ['Mount'], ['']):
+        same(outcome(places.program(), given), WORDS, f'the words {given}')
+
+
+def directory_in_use():
+    with Node() as node:
+        same(node.outcome(), DISK, 'a second node in the folder')
+        node.position()
+
+
+def directory_no_folder():
+    with Node(starts=False) as node:
+        with open(os.path.join(node.folder, 'dbs'), 'w'):
+            pass
+        same(node.outcome(), DISK, 'where dbs is a file')
+
+
+def socket_in_use():
+    with Node() as other, Node(starts=False) as node:
+        node.configure(other_socket(node, other.socket))
+        same(node.outcome(), NETWORK, 'a socket on which another node listens')
+        other.position()
+
+
+def socket_no_socket():
+    with Node(starts=False) as node:
+        with open(node.socket, 'w') as file:
+            file.write('mine')
+        same(node.outcome(), NETWORK, 'a file at the path of the socket')
+        same(open(node.socket).read(), 'mine', 'that file')
+
+
+def socket_without_a_folder():
+    with Node(starts=False) as node:
+        node.configure(other_socket(node, os.path.join(node.folder, 'absent', 'app.sock')))
+        same(node.outcome(), NETWORK, 'a socket in a folder that is not there')
+
+
+def socket_path_too_long():
+    """A path of a Unix socket has at most 107 bytes."""
+    with Node(starts=False) as node:
+        node.configure(other_socket(node, 's' * 108))
+        same(node.outcome(), NETWORK, 'a path of 108 bytes')
+
+
+def socket_left_behind():
+    """The file that a killed node leaves is no hindrance."""
+    with Node() as node:
+        node.kill()
+        holds(os.path.exists(node.socket), 'a kill leaves the socket file')
+        node.start()
+
+
+def port_in_use():
+    with Node(starts=False) as node, socket.create_server(('127.0.0.1', node.port)):
+        same(node.outcome(), NETWORK, 'a port that is taken')
+
+
+def other_socket(node, path):
+    with open(os.path.join(node.folder, 'litefs.toml')) as file:
+        return file.read().replace('app.sock', path)
+
+
+def primary_out_of_reach():
+    """A replica whose primary is not there goes on and answers, and says nothing."""
+    with Node() as primary:
+        in_mode(primary.socket, 'wal').close()
+        primary.kill()
+        with Node(following=primary) as replica:
+            same(replica.position().txid, 0, 'its position')
+            same(replica.errors(), '', 'standard error')
+            primary.start()
+            primary.level(replica)
+
+
+ALONE = (no_file, words, directory_in_use, directory_no_folder, socket_in_use, socket_no_socket, socket_without_a_folder,
+         socket_path_too_long, socket_left_behind, port_in_use, primary_out_of_reach)
+run({**{f'refused-{name}': lambda text=text: refused(text) for name, text in WRONG.items()},
+     **{f'accepted-{name}': lambda given=given: accepted(*given) for name, given in ACCEPTED.items()},
+     **{call.__name__: call for call in ALONE}})

@@ -1,0 +1,75 @@
+#!/usr/bin/python3
+"""A disk that is full, has no inode left, or turns read-only under real SQLite: the write that meets it is refused, every
+later one too until the node is started again, and then each transaction that was answered is there.
+
+At most: 600 seconds.
+Seen to fail: HOW"""
+import sqlite3
+
+from support import Node, connect, count, fill, holds, in_each_mode, in_mode, insert, refuses, run, same, seen_by, small_disk
+
+MOST = 5000
+
+
+def until_refused(connection):
+    """Inserts rows until one is refused: how many were answered, and the refusal."""
+    for key in range(MOST):
+        try:
+            connection.execute(*insert(key, 5000))
+        except sqlite3.Error as refused:
+            return key, refused
+    raise AssertionError(f'{MOST} rows are taken by a disk that has no room for them')
+
+
+def works_again(node, answered, mode):
+    """After a start with room."""
+    node.restart()
+    made = connect(node.socket)
+    found = count(made)
+    holds(found in (answered, answered + 1), f'{found} rows, {answered} of them were answered')
+    fill(made, [MOST + 1])
+    same(count(made), found + 1, 'rows, with a new one')
+    same(made.execute('pragma journal_mode').fetchall(), [(mode if mode == 'wal' else 'delete',)], 'the journal mode')
+    node.sound(seen_by(made))
+
+
+def broken(options, mode, breaks, mends):
+    """`breaks` is called once the node runs; `mends` gives room, or leave to write."""
+    with small_disk(options) as disk, Node(folder=disk.folder) as node:
+        made = in_mode(node.socket, mode)
+        fill(made, range(-3, 0))
+        breaks(disk)
+        answered, refused = until_refused(made)
+        same(str(refused), 'disk I/O error', 'what the application is told')
+        mends(disk)
+        refuses(lambda: fill(made, [MOST]), sqlite3.Error, 'a write before the node is started again')
+        works_again(node, 3 + answered, mode)
+
+
+def nothing(_):
+    pass
+
+
+def full(mode):
+    broken('size=1m', mode, nothing, lambda disk: disk.remount('size=16m'))
+
+
+def no_inode(mode):
+    broken('size=16m,nr_inodes=40', mode, nothing, lambda disk: disk.remount('nr_inodes=1000'))
+
+
+def read_only(mode):
+    """A disk that turns read-only under open files: the kernel refuses that for a mount that is written, so the node is
+    stopped, and what is refused is its start."""
+    with small_disk('size=16m') as disk, Node(folder=disk.folder) as node:
+        made = in_mode(node.socket, mode)
+        fill(made, range(3))
+        made.close()
+        node.kill()
+        disk.remount('ro')
+        same(node.outcome(), (5, 'litefs: disk failed\n'), 'the start over a disk that is read-only')
+        disk.remount('rw')
+        works_again(node, 3, mode)
+
+
+run(in_each_mode(full=full, no_inode=no_inode, read_only=read_only))

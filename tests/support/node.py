@@ -1,0 +1,176 @@
+"""A running node: a folder of its own with a `litefs.toml`, and the program `litefs mount` in it."""
+import collections
+import glob
+import os
+import shutil
+import socket
+import subprocess
+import tempfile
+
+from . import places
+from .cases import Wrong, holds, same
+from .waiting import until
+from .wire import Link
+
+KEEP_ALL = 1000000
+CONFIGURATION = '''database = "{database}"
+[fuse]
+listen = "{database}.sock"
+[http]
+addr = "127.0.0.1:{port}"
+[data]
+retention-files = {keep}
+[lease]
+type = "static"
+candidate = {candidate}
+advertise-url = "http://127.0.0.1:{primary}"
+hostname = "db1"
+'''
+Position = collections.namedtuple('Position', 'txid sum')
+
+
+def free_port():
+    with socket.socket() as tried:
+        tried.bind(('127.0.0.1', 0))
+        return tried.getsockname()[1]
+
+
+def configuration(port, primary=None, keep=KEEP_ALL, database='app'):
+    """The text of `litefs.toml`: of a primary, or of a replica of the node at the port `primary`."""
+    return CONFIGURATION.format(database=database, port=port, keep=keep, primary=primary or port,
+                                candidate='false' if primary else 'true')
+
+
+class Node:
+    """A primary, or a replica of the node `following`. Ended and removed at the end of its block.
+
+    It keeps more files than a script commits, so that its log can be applied from the first on. `folder`: where it
+    runs; a new temporary one where none is given. `program`: another build than the one under test."""
+
+    def __init__(self, following=None, keep=KEEP_ALL, database='app', folder=None, program=None, starts=True):
+        self.program = program or places.program()
+        self.made = folder is None
+        self.folder = folder or tempfile.mkdtemp(prefix='litefs-test-')
+        self.database = database
+        self.keep = keep
+        self.port = free_port()
+        self.socket = os.path.join(self.folder, f'{database}.sock')
+        self.data = os.path.join(self.folder, 'dbs', database)
+        self.process = None
+        self.configure(configuration(self.port, following and following.port, keep, database))
+        if starts:
+            self.start()
+
+    def __enter__(self):
+        return self
+
+    def __exit__(self, *_):
+        self.kill()
+        if self.made:
+            shutil.rmtree(self.folder, ignore_errors=True)
+
+    def configure(self, text):
+        with open(os.path.join(self.folder, 'litefs.toml'), 'w') as file:
+            file.write(text)
+
+    def follow(self, primary):
+        """Makes it a replica of that node from its next start on."""
+        self.configure(configuration(self.port, primary.port, self.keep, self.database))
+
+    def lead(self):
+        """Makes it a primary from its next start on."""
+        self.configure(configuration(self.port, None, self.keep, self.database))
+
+    def launch(self):
+        """Starts the program and waits for nothing."""
+        with open(os.path.join(self.folder, 'errors'), 'ab') as errors:
+            self.process = subprocess.Popen([self.program, 'mount'], cwd=self.folder, stdin=subprocess.DEVNULL,
+                                            stdout=subprocess.DEVNULL, stderr=errors)
+
+    def start(self):
+        """Starts the program and waits until it answers."""
+        self.launch()
+        until(self.answers, 'the node answers')
+
+    def answers(self):
+        if self.process.poll() is not None:
+            raise Wrong(f'the node ended with {self.process.returncode}: {self.errors()}')
+        try:
+            self.position()
+            return True
+        except OSError:
+            return False
+
+    def kill(self):
+        """Ends it at once, as kill -9 does."""
+        if self.process and self.process.poll() is None:
+            self.process.kill()
+        if self.process:
+            self.process.wait()
+
+    def restart(self):
+        self.kill()
+        self.start()
+
+    def outcome(self):
+        """Runs the program to its end, which is to come of itself: its status and what it wrote to standard error."""
+        return outcome(self.program, ['mount'], self.folder)
+
+    def errors(self):
+        """What it wrote to standard error, in all its runs."""
+        with open(os.path.join(self.folder, 'errors')) as file:
+            return file.read()
+
+    def position(self):
+        """What its position file says."""
+        with Link(self.socket) as link:
+            txid, total = link.text(f'{self.database}-pos').strip().split('/')
+        return Position(int(txid, 16), total)
+
+    def image(self):
+        """The bytes of the database in the data directory."""
+        path = os.path.join(self.data, 'database')
+        return read(path) if os.path.exists(path) else b''
+
+    def log(self):
+        """The paths of the log's files, in order."""
+        return sorted(glob.glob(os.path.join(glob.escape(self.data), 'ltx', '*.ltx')))
+
+    def level(self, other):
+        """Waits until the other node stands at this one's position, and compares their pages."""
+        until(lambda: self.position() == other.position(), 'the replica stands where the primary does')
+        same(other.image() == self.image(), True, 'at one position the replica has the primary\'s pages')
+
+    def sound(self, seen=None):
+        """Kills it and compares the database file with its log, and with what SQLite saw; a start answers its position."""
+        before = self.position()
+        self.kill()
+        image = self.image()
+        first = self.log()[:1]
+        if first and os.path.basename(first[0]).startswith(f'{1:016x}-'):
+            same(applied(self.program, self.log()) == image, True, 'the log applied is the database file')
+        else:
+            holds(not first or self.keep < KEEP_ALL, 'the log begins with transaction 1')
+        if seen is not None:
+            same(seen == image, True, 'the database file is what SQLite saw')
+        self.start()
+        same(self.position(), before, 'the position after a restart')
+
+
+def outcome(program, words, folder=None, given=b''):
+    """Runs the program to its end: its status and its standard error."""
+    ran = subprocess.run([program, *words], cwd=folder, input=given, stdout=subprocess.PIPE, stderr=subprocess.PIPE, timeout=60)
+    return ran.returncode, ran.stderr.decode()
+
+
+def read(path):
+    with open(path, 'rb') as file:
+        return file.read()
+
+
+def applied(program, files):
+    """The database that `litefs apply` makes of the files."""
+    text = b''.join(read(it) for it in files)
+    ran = subprocess.run([program, 'apply'], input=text, stdout=subprocess.PIPE, stderr=subprocess.PIPE, timeout=600)
+    same((ran.returncode, ran.stderr), (0, b''), 'apply of the log ends well')
+    return ran.stdout

@@ -1,0 +1,33 @@
+"""Pieces that workloads share."""
+import os
+
+from .cases import same
+from .sqlite import MODES
+
+
+def commits(node, connection, wanted, *statements):
+    """Runs the statements, each a text or a text with its values, and wants that many new transactions of the log."""
+    before = node.position().txid
+    for it in statements:
+        connection.execute(*(it if isinstance(it, tuple) else (it,))).fetchall()
+    same(node.position().txid - before, wanted, f'transactions of {str(statements)[:100]}')
+
+
+def insert(key, size=300):
+    """A row of random bytes for the table t(a, b, c)."""
+    return 'insert into t values(?,?,?)', (key, f'v{key}', os.urandom(size))
+
+
+def fill(connection, keys):
+    """Inserts a row for each key, each in a transaction of its own."""
+    for key in keys:
+        connection.execute(*insert(key))
+
+
+def count(connection):
+    return connection.execute('select count(*) from t').fetchone()[0]
+
+
+def in_each_mode(modes=MODES, **workloads):
+    """The cases of these workloads, `name-mode`, each called with its mode."""
+    return {f'{name}-{mode}': lambda call=call, mode=mode: call(mode) for name, call in workloads.items() for mode in modes}
