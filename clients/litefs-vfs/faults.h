@@ -6,6 +6,8 @@
 /* tells it, and answers the code. text: what was tried, of which file */
 int tell_fault(int code, int error, const char *text, const char *file);
 
+#define MANY_DATABASES "a commit over several databases is done in WAL mode alone"
+
 /* the code of a write that the node refused: the disk is full, or the one given */
 int write_code(int error, int code);
 

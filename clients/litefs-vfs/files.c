@@ -56,8 +56,17 @@ static int refused_write(struct file *file, int error) {
   return fault(file, write_code(error, SQLITE_IOERR_WRITE), error, "writing");
 }
 
+/* In a commit over several databases in a rollback mode SQLite writes the name of a super-journal at the end of each journal, and this
+** behind it. It passes over what fails after that, when the node commits and may have to refuse; so the commit is refused here, and
+** a journal without this is played back as any other. */
+static int ends_super_journal(const struct file *file, const void *bytes, int length, sqlite3_int64 at) {
+  static const unsigned char magic[8] = {0xd9, 0xd5, 0x05, 0xf9, 0x20, 0xa1, 0x63, 0xd7};
+  return file->kind == JOURNAL && at > 0 && length == sizeof magic && !memcmp(bytes, magic, sizeof magic);
+}
+
 static int file_write(sqlite3_file *opened, const void *bytes, int length, sqlite3_int64 at) {
   struct file *file = file_of(opened);
+  if (ends_super_journal(file, bytes, length, at)) return fault(file, SQLITE_CANTOPEN, ENOTSUP, MANY_DATABASES);
   uint32_t done = 0, wanted = (uint32_t)length;
   while (done < wanted) {
     uint32_t part = wanted - done < MOST_DATA ? wanted - done : MOST_DATA;

@@ -31,7 +31,7 @@ static int vfs_open(sqlite3_vfs *vfs, const char *path, sqlite3_file *file, int 
     return open_beside(connection, path, file, flags, told);
   }
   if (path && (flags & SQLITE_OPEN_SUPER_JOURNAL) && is_super_journal(path)) {
-    return tell_fault(SQLITE_CANTOPEN, ENOTSUP, "a commit over several databases needs WAL mode", path);
+    return tell_fault(SQLITE_CANTOPEN, ENOTSUP, MANY_DATABASES, path);
   }
   return system_vfs->xOpen(system_vfs, path, file, flags, told);
 }
