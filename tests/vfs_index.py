@@ -23,7 +23,7 @@ READER = '''
 for line in sys.stdin:
     said('%d %d\\n' % c.execute('select count(*), sum(a) from t').fetchone())
 '''
-MOST = 400
+MOST = 200
 
 
 def for_tests():
@@ -47,8 +47,9 @@ def client_dies(step, when):
             commits = node.position().txid - before
             holds('A' not in said or commits == 1, f'an acknowledged commit is there (dead at message {fatal})')
             rows += 25 * commits
+            other.execute('update t set b=b+1 where a=1')  # it waits until the node has seen the dead client's end
             same((count(one), count(other)), (rows, rows), f'rows of both (dead at message {fatal})')
-            other.execute('update t set b=b+1 where a=1')
+            one.execute('pragma wal_checkpoint(truncate)').fetchall()
             if status == 0:
                 break
         holds(status == 0 and fatal > 30, f'the writer was killed at many messages and came to its end ({fatal}, {status})')
@@ -57,11 +58,11 @@ def client_dies(step, when):
 
 
 def dies_before():
-    client_dies(3, 'before')
+    client_dies(2, 'before')
 
 
 def dies_after():
-    client_dies(4, 'after')
+    client_dies(3, 'after')
 
 
 class Reader:
@@ -114,7 +115,7 @@ def long_log():
         made.execute('pragma wal_autocheckpoint=0')
         made.execute(*insert(0))
         same(reader.sees(), (1, 0), 'what a reader sees first')
-        for turn in range(1, 4):
+        for turn in range(1, 6):
             made.execute('begin')
             made.executemany('insert into t values(?, ?, zeroblob(450))', [(1500 * turn + it, turn) for it in range(1500)])
             made.execute('commit')
