@@ -2,7 +2,7 @@
 use Rattle.std.specs.Prelude.{◌≡◌, ◌≤◌, false, IsTrue, []}
 use Rattle.lf_disk.specs.History.{History, Rests}
 use Rattle.txn_log.specs.declared.attempt.Attempt.TheVariants.{Unpublished}
-unfoldable pub use Rattle.txn_log.specs.Fields.{StoreFields, fields_of, history_of, state, failed, position}
+pub use Rattle.txn_log.specs.Fields.{StoreFields, fields_of, history_of, state, failed, position}
 
 -- of no store
 abbrev pub no_fields : StoreFields
