@@ -19,6 +19,7 @@ PAGES = {'litefs.1': 'LITEFS(1)', 'litefs.toml.5': 'LITEFS.TOML(5)'}
 WANTED = ('usr/bin/litefs', 'usr/lib/systemd/system/litefs@.service', 'usr/lib/sysusers.d/litefs.conf', 'usr/share/man/man1/litefs.1.gz',
           'usr/share/man/man5/litefs.toml.5.gz', 'usr/share/doc/litefs/examples/litefs.toml', 'usr/share/doc/litefs/OPERATING.md',
           'usr/share/doc/litefs/TROUBLESHOOTING.md', 'usr/share/doc/litefs/CHANGELOG.md')
+CLIENTS = {'usr/bin/litefs-fuse': 'clients/litefs-fuse/target/release/litefs-fuse', 'usr/lib/litefs/litefs-vfs.so': 'clients/litefs-vfs/build.sh'}
 made = tempfile.TemporaryDirectory(prefix='litefs-package-')
 
 
@@ -87,7 +88,8 @@ def started(root, name, following=None):
 def installed():
     with Root() as root:
         root.dpkg('-i', built()[0])
-        for name in WANTED:
+        clients = [path for path, source in CLIENTS.items() if os.path.exists(f'{places.ROOT}/{source}')]
+        for name in (*WANTED, *clients):
             holds(os.path.isfile(root.path(name)), f'{name} is there')
             same((os.stat(root.path(name)).st_uid, os.stat(root.path(name)).st_mode & 0o022), (0, 0), f'owner and mode of {name}')
         same(outcome(root.path('usr/bin/litefs'), ['--help']), (2, 'litefs: words refused\n'), 'the program')

@@ -4,7 +4,7 @@ write, shows a reader one position, and comes back from kills of either or both,
 primary that went back to an older copy of its directory.
 
 At most: 600 seconds.
-Seen to fail: nodes whose writes of the file `database` change one bit: the replica's pages are not the primary's."""
+Seen to fail: nodes whose writes of the file `database` change one bit: SQLite takes the replica's schema for malformed."""
 import os
 import shutil
 import sqlite3

@@ -3,7 +3,8 @@
 processes lose no row.
 
 At most: 600 seconds.
-Seen to fail: a VFS that takes every lock for granted without asking the node: two writers begin, and a process ends with an error."""
+Seen to fail: a VFS that takes every lock for granted without asking the node, which refuses the writes:
+"disk I/O error" in place of a lock that is waited for."""
 import sqlite3
 
 from support import Client, Node, commits, connect, count, in_each_mode, in_mode, insert, refuses, run, same, seen_by

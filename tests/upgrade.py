@@ -3,7 +3,8 @@
 turn under a running database, and each opens the other's data directory. LITEFS_OLD names another program as the old one.
 
 At most: 1500 seconds.
-Seen to fail: an older program whose writes of the file `database` change one bit: the pages differ, and its directory isn't opened."""
+Seen to fail: an older program whose writes of the file `database` change one bit: the replica's pages are not the
+primary's, and SQLite takes the schema in its directory for malformed."""
 from support import Node, Skipped, connect, count, fill, in_each_mode, in_mode, places, run, same, seen_by, skip_all
 from support.older import older
 
