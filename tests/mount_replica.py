@@ -10,7 +10,7 @@ import time
 from support import Node, holds, refuses, run, same, until
 from support.mount import Mount, damaged, in_each_way, need_mount
 
-ROUNDS = 15
+ROUNDS = 8
 
 
 def level(mount, other):

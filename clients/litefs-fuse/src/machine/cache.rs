@@ -4,6 +4,7 @@
 //! - in a rollback mode behind each lock of SHARED the position is asked for, and it must be the one that is known. Before
 //!   EXCLUSIVE is given up it is asked for too: the next transaction is then this mount's own;
 //! - in WAL mode a change of another changes the header of the shared memory, which is read behind each lock;
+//! - who opens the file keeps its pages only where they are those of the present position;
 //! - what may have been read or written without a lock, or by a process that died, is never trusted.
 
 use super::lock_request::LockRequest;
@@ -67,6 +68,11 @@ impl Machine {
     /// Whether the file is cached by the kernel.
     pub(super) fn is_cached(&self, kind: Kind) -> bool {
         self.settings.cache && kind == Kind::Database
+    }
+
+    /// Whether the cache has pages of this position alone.
+    pub(super) fn is_fresh_at(&self, position: Result<&[u8], u32>) -> bool {
+        !self.cache.suspect && position == Ok(&self.cache.position[..])
     }
 
     /// Whether the position is to be asked for behind the lock.

@@ -81,14 +81,30 @@ impl Cached {
 }
 
 #[test]
-fn the_database_alone_is_opened_for_the_kernels_cache() {
-    for (name, node, wanted) in [(&b"app"[..], DATABASE, 2), (b"app-wal", LOG, 1), (b"app-journal", JOURNAL, 1)] {
+fn other_files_are_not_cached() {
+    for (name, node) in [(&b"app-wal"[..], LOG), (b"app-journal", JOURNAL)] {
         let mut trial = Trial::linked(Settings { cache: true, ..Settings::default() });
         let number = trial.look_up(name, node);
         trial.ask(opcode::OPEN, number, &[0; 8]);
         trial.answer(Ok(&opened(7)));
-        assert_eq!(u32_at(&trial.reply().1.unwrap(), 8), wanted);
+        assert_eq!(u32_at(&trial.reply().1.unwrap(), 8), 1);
     }
+}
+
+#[test]
+fn who_opens_the_database_keeps_its_pages_only_where_the_node_stands_at_them() {
+    for (position, flags) in [(ONE, 2), (TWO, 0)] {
+        let mut cached = Cached::new();
+        cached.trial.ask(opcode::OPEN, cached.number, &[0; 8]);
+        assert_eq!(cached.trial.asked(), [(opcode::READ, POSITION)]);
+        cached.trial.answer(Ok(position));
+        assert_eq!(u32_at(&cached.trial.reply().1.unwrap(), 8), flags);
+    }
+    let mut cached = Cached::new();
+    cached.does(opcode::READ, &at(cached.handle, 0, 0));
+    cached.trial.ask(opcode::OPEN, cached.number, &[0; 8]);
+    cached.trial.answer(Ok(ONE));
+    assert_eq!(u32_at(&cached.trial.reply().1.unwrap(), 8), 0, "what was read without a lock");
 }
 
 #[test]
