@@ -50,7 +50,7 @@ impl Machine {
 
     /// Who opens the database may read it without a lock. So its pages are kept only where they are those of now.
     fn open_fresh(&mut self, open: Open) {
-        match self.is_cached(open.kind) {
+        match self.settings.cache && open.kind == Kind::Database {
             true => self.ask_position_then(Then::OpenAt(open)),
             false => self.open_at_node(open),
         }
