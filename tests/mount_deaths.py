@@ -3,8 +3,8 @@
 see one and the same number of rows, and nothing that was acknowledged is lost.
 
 At most: 240 seconds.
-Seen to fail: in WAL mode with the header not told before WRITE is given up by a killed owner's FLUSH (rows differ, or
-`disk I/O error`)"""
+Seen to fail: with no header told before WRITE is given up (WAL, killed at its message 30: the two that stay open miss the
+rows of a commit that was made)"""
 import mmap
 import os
 import shutil
@@ -16,7 +16,9 @@ from support import Node, Relay, holds, run, same, seen_by
 from support.mount import Mount, ended, in_each_way, need_mount
 from support.relay import whole
 
-ROWS, MOST = 12, 400
+ROWS = 25
+# at which of its messages the client dies: each one around the commit, others now and then
+POINTS = {'wal': [*range(1, 25, 8), *range(26, 40), *range(44, 200, 16)], 'delete': range(1, 200, 6)}
 CODE = f'''
 sys.stdin.readline()
 c = connect()
@@ -102,12 +104,12 @@ def harmless(message):
 
 
 def deaths(way):
-    for mode, step in (('wal', 9), ('delete', 5)):
+    for mode, points in POINTS.items():
         with Node() as node, Deadly(node) as relay, Mount(node, way, socket=relay.socket) as mount:
             watching, working = mount.in_mode(mode), mount.connect()
             working.execute('insert into t values(1,1,1)')
-            rows, at = 1, 1
-            while at < MOST:
+            rows, tried = 1, 0
+            for at in points:
                 before = node.position().txid
                 client = mount.client(CODE, stdin=-1)
                 relay.kill(client.pid, at)
@@ -122,8 +124,8 @@ def deaths(way):
                 working.execute('update t set b=b+1 where a=1')
                 if status == 0:
                     break
-                at += step
-            holds(at > 2 * step, f'{at} messages are too few to die at')
+                tried += 1
+            holds(tried > 4, f'died {tried} times')
             seen = seen_by(working)
             watching.close()
             working.close()

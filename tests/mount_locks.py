@@ -3,8 +3,8 @@
 process, a fork in a transaction, and what is refused of files.
 
 At most: 180 seconds.
-Seen to fail: with SETLKW sent on (`waits` never ends); without the FLUSH at a RELEASE (`description_locks`); with a handle of
-the node for each open (`many`: `unable to open database file`)"""
+Seen to fail: with a signal that ends no wait (`waits` never ends); without the FLUSH at a RELEASE (`description_locks`: the lock
+stays)"""
 import errno
 import fcntl
 import os

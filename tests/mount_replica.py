@@ -3,14 +3,15 @@
 while it reads, a write is refused, and with `ro` SQLite itself says that the database is read-only.
 
 At most: 180 seconds.
-Seen to fail: with the header not put in behind a lock (`fresh`: an old row); without `ro` (`read_only`)"""
+Seen to fail: with the header not put in behind a lock (`fresh`: an open connection sees the rows of the position before); with
+`ro` that does nothing (`read_only`: `disk I/O error`)"""
 import sqlite3
 import time
 
 from support import Node, holds, refuses, run, same, until
 from support.mount import Mount, damaged, in_each_way, need_mount
 
-ROUNDS = 15
+ROUNDS = 8
 
 
 def level(mount, other):

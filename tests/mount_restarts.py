@@ -3,8 +3,8 @@
 unmounted in use, the program's standard input ends.
 
 At most: 240 seconds.
-Seen to fail: with locks of a lost link refused (`node`: an open connection in WAL mode stays locked); without the clearing
-of a dead mount (`program`)"""
+Seen to fail: with locks of a lost link refused (`node`: an open connection in WAL mode says `database is locked`); without the
+clearing of a dead mount (`program`)"""
 import os
 import signal
 import sqlite3

@@ -12,7 +12,7 @@ import time
 from support import Node, holds, run, same
 from support.mount import Mount, damaged, in_each_way, need_mount
 
-ROWS, SECONDS = 30, 5
+ROWS, SECONDS, LIMIT = 30, 5, 60
 WRITER = '''
 import random
 chance = random.Random(os.getpid())
@@ -68,7 +68,7 @@ def stress(mode, way):
         kinds = [(mount, WRITER), (mount, WRITER), (mount, WRITER), (mount, READER), (other, READER), (other, READER)]
         processes = [place.client(code) for place, code in kinds]
         before, said, begin = node.position().txid, '', time.monotonic()
-        while time.monotonic() < begin + SECONDS or node.position().txid < before + 5:
+        while time.monotonic() < begin + SECONDS or (node.position().txid < before + 5 and time.monotonic() < begin + LIMIT):
             time.sleep(random.random() * .3)
             k = random.randrange(len(kinds))
             said += killed(processes[k])
@@ -76,6 +76,7 @@ def stress(mode, way):
         said += ''.join(map(killed, processes))
         holds('torn' not in said, said[said.find('torn'):][:300])
         holds('other' not in said, said[said.find('other'):][:300])
+        holds(node.position().txid >= before + 5, 'the writers wrote five transactions')
         holds(said.count('.') > 5, f'the readers read {said.count(".")} times')
         node.level(replica)
         for place in (mount, other):

@@ -4,8 +4,7 @@ of several sizes, a cache that spills, rollbacks, VACUUM, checkpoints, several p
 At the end the database file, the log applied and what SQLite saw are the same bytes.
 
 At most: 300 seconds.
-Seen to fail: with the header not told before WRITE is given up (checkpoints, processes and basic in WAL mode: the log is
-not what SQLite saw, or `disk I/O error`)"""
+Seen to fail: HOW"""
 import os
 import random
 import sqlite3

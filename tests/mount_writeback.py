@@ -3,8 +3,7 @@
 lost, and nothing hangs.
 
 At most: 120 seconds.
-Seen to fail: with notifications sent by the thread that answers the kernel (the mount hangs), and with a copy that does
-not take WRITE (rows are lost, or `disk I/O error`)"""
+Seen to fail: with the shared memory opened for direct I/O (notify: `disk I/O error`)"""
 import os
 import subprocess
 import time
@@ -34,7 +33,7 @@ def written_back(way):
         stop = os.path.join(node.folder, 'stop')
         writers = [mount.client(CODE.format(stop=stop)) for _ in range(3)]
         begin, rounds = time.monotonic(), 0
-        while time.monotonic() < begin + SECONDS or rounds < 5 or rows_of(watching) < 20:
+        while time.monotonic() < begin + SECONDS or rounds < 5 or (rows_of(watching) < 20 and rounds < 200):
             subprocess.run(['sync', '-f', mount.folder], check=True)
             with open(DROP, 'w') as file:
                 file.write('3')

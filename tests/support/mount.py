@@ -128,7 +128,7 @@ class Mount:
                                 stderr=subprocess.STDOUT, text=True, **more)
 
 
-def ended(process, limit=120):
+def ended(process, limit=90):
     """Waits for a process of `client`: its status and what it said."""
     try:
         said = process.communicate(timeout=limit)[0]

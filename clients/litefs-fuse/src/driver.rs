@@ -171,9 +171,9 @@ impl Driver {
         match action {
             Action::Reply(reply) => self.answer(reply)?,
             Action::Started { passthrough } => self.start_memory(passthrough)?,
-            Action::DropCache { node } => {
+            Action::DropCache { nodes } => {
                 if let Some(notifier) = &self.notifier {
-                    notifier.send(Note::Drop { node });
+                    nodes.into_iter().for_each(|node| notifier.send(Note::Drop { node }));
                     notifier.send(Note::Tell(Done::Dropped));
                 }
             }

@@ -31,7 +31,7 @@ pub const USAGE: &str = "litefs-fuse SOCKET FOLDER [-o OPTION[,OPTION..]] [--unt
   uid=N, gid=N   the owner of the files (by default who starts this program)
   auto_unmount   the folder is unmounted however this program ends
   drop           removing the database's name drops the database
-  cache          the kernel caches the database's pages
+  cache          the kernel caches the pages of the database and the log
   name=NAME      the database's name, for listings before its first use
   notify         the shared memory by notifications also where passthrough can be had";
 

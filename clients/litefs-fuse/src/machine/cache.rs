@@ -1,9 +1,11 @@
-//! The database's pages in the kernel's cache. They are the node's as long as only this mount has changed the database, so
-//! the cache is dropped before a lock is granted under which another change would be seen:
+//! The pages of the database and of its log in the kernel's cache. They are the node's as long as only this mount has changed
+//! the database, so the cache is dropped before a lock is granted under which another change would be seen:
 //!
 //! - in a rollback mode behind each lock of SHARED the position is asked for, and it must be the one that is known. Before
 //!   EXCLUSIVE is given up it is asked for too: the next transaction is then this mount's own;
 //! - in WAL mode a change of another changes the header of the shared memory, which is read behind each lock;
+//! - who opens the database keeps its pages only where they are those of the present position, and who opens the log keeps
+//!   none;
 //! - what may have been read or written without a lock, or by a process that died, is never trusted.
 
 use super::lock_request::LockRequest;
@@ -66,18 +68,28 @@ fn transaction(position: &[u8]) -> Option<u64> {
 impl Machine {
     /// Whether the file is cached by the kernel.
     pub(super) fn is_cached(&self, kind: Kind) -> bool {
-        self.settings.cache && kind == Kind::Database
+        self.settings.cache && matches!(kind, Kind::Database | Kind::Log)
+    }
+
+    /// Whether the cache has pages of this position alone.
+    pub(super) fn is_fresh_at(&self, position: Result<&[u8], u32>) -> bool {
+        !self.cache.suspect && position == Ok(&self.cache.position[..])
+    }
+
+    /// Whether the request is about the lock SHARED of a database that is cached.
+    fn is_checkable(&self, wanted: &LockRequest) -> bool {
+        self.settings.cache && wanted.kind == Kind::Database && touches_shared(wanted)
     }
 
     /// Whether the position is to be asked for behind the lock.
     pub(super) fn is_checked(&self, wanted: &LockRequest) -> bool {
-        self.is_cached(wanted.kind) && !wanted.is_unlock() && touches_shared(wanted)
+        self.is_checkable(wanted) && !wanted.is_unlock()
     }
 
     /// Before a request that gives EXCLUSIVE up the position is asked for.
     pub(super) fn before_lock(&mut self, wanted: &LockRequest) {
         let given_up = wanted.wish != lock::WRITE && self.cache.has_exclusive(wanted.owner);
-        if self.is_cached(wanted.kind) && touches_shared(wanted) && given_up {
+        if self.is_checkable(wanted) && given_up {
             self.ask_position_then(Then::ExclusiveLeft);
         }
     }
@@ -122,8 +134,8 @@ impl Machine {
         if self.settings.cache && (stale || self.cache.suspect) {
             self.cache.suspect = false;
             self.cache.begun += 1;
-            let node = self.files.number(Kind::Database);
-            self.output.actions.push(Action::DropCache { node });
+            let nodes = [Kind::Database, Kind::Log].map(|kind| self.files.number(kind));
+            self.output.actions.push(Action::DropCache { nodes });
         }
         if self.cache.begun == self.cache.done {
             return self.fresh(granted);
@@ -155,7 +167,7 @@ impl Machine {
 
     /// An owner gives SHARED up.
     pub(super) fn unlocked(&mut self, wanted: &LockRequest) {
-        if self.is_cached(wanted.kind) && touches_shared(wanted) {
+        if self.is_checkable(wanted) {
             self.cache.hold(wanted.owner, None);
         }
     }

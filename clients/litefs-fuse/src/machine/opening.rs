@@ -23,26 +23,43 @@ pub struct Open {
     caller: Caller,
     kind: Kind,
     generation: u32,
+    /// whether the kernel keeps what it has of the file's pages
+    keep: bool,
 }
 
 impl Machine {
     pub(super) fn open(&mut self, request: &Request, kind: Kind) {
-        let open = Open { unique: request.unique, caller: request.caller, kind, generation: self.files.generation(kind) };
+        let generation = self.files.generation(kind);
+        let open = Open { unique: request.unique, caller: request.caller, kind, generation, keep: false };
         let writes = u32_at(request.body, 0) & ACCESS != READ_ONLY;
         if kind == Kind::Database && writes && self.settings.read_only_at_replica {
             let name = [PRIMARY, &[0]].concat();
             return self.send(request.caller, opcode::LOOKUP, Kind::Root, &[&name], Then::Role(open));
         }
-        self.open_at_node(open);
+        self.open_fresh(open);
     }
 
     /// Only a replica has the file that names its primary: there the database is opened for reading alone.
     pub(super) fn role_answered(&mut self, open: Open, result: Result<&[u8], u32>) {
         match result {
             Ok(_) => self.refuse(open.unique, errno::EROFS),
-            Err(errno::ENOENT) => self.open_at_node(open),
+            Err(errno::ENOENT) => self.open_fresh(open),
             Err(error) => self.refuse(open.unique, error),
         }
+    }
+
+    /// Who opens the database may read it without a lock. So its pages are kept only where they are those of now.
+    fn open_fresh(&mut self, open: Open) {
+        match self.settings.cache && open.kind == Kind::Database {
+            true => self.ask_position_then(Then::OpenAt(open)),
+            false => self.open_at_node(open),
+        }
+    }
+
+    pub(super) fn open_at(&mut self, mut open: Open, position: Result<&[u8], u32>) {
+        open.keep = self.is_fresh_at(position);
+        self.position_read(position);
+        self.open_at_node(open);
     }
 
     fn open_at_node(&mut self, open: Open) {
@@ -83,6 +100,9 @@ impl Machine {
     fn add_handle(&mut self, open: &Open, fh: u64) {
         let mut reply = Reply::new(open.unique, &[0; OPENED]);
         self.complete_open(&mut reply, 0, open.kind, open.generation, fh);
+        if open.keep {
+            put_u32(reply.body(), 8, open::KEEP_CACHE);
+        }
         self.output.actions.push(Action::Reply(reply));
     }
 
@@ -91,7 +111,7 @@ impl Machine {
         self.shared_known(kind);
         let number = self.handles.add(kind, generation, self.link.epoch, fh);
         put_u64(reply.body(), at, number);
-        put_u32(reply.body(), at + 8, if self.is_cached(kind) { open::KEEP_CACHE } else { open::DIRECT_IO });
+        put_u32(reply.body(), at + 8, if self.is_cached(kind) { 0 } else { open::DIRECT_IO });
         if kind == Kind::Shared {
             reply.open_at = Some(REPLY_HEAD + at + 8);
         }

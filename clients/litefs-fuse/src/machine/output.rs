@@ -41,8 +41,8 @@ pub enum Action {
     FetchShared { node: u64 },
     /// The header of the shared memory becomes zeros.
     ClearShared { node: u64 },
-    /// The kernel forgets the pages of this file; then `dropped` is called.
-    DropCache { node: u64 },
+    /// The kernel forgets the pages of these files; then `dropped` is called.
+    DropCache { nodes: [u64; 2] },
     /// The link is of no use and is closed; then `link_down` is called.
     HangUp,
     /// The kernel has unmounted.

@@ -22,6 +22,8 @@ pub enum Then {
     Attributes { unique: u64, kind: Kind },
     /// to the LOOKUP that says whether the node is a replica
     Role(Open),
+    /// to a READ of the position file before the database is opened
+    OpenAt(Open),
     /// to OPEN
     Opened(Open),
     /// to CREATE
@@ -54,6 +56,7 @@ impl Machine {
             Then::Entry { unique, name } => self.looked_up(unique, &name, result),
             Then::Attributes { unique, kind } => self.attributes_answered(unique, kind, result),
             Then::Role(open) => self.role_answered(open, result),
+            Then::OpenAt(open) => self.open_at(open, result),
             Then::Opened(open) => self.opened(open, result),
             Then::Created { unique } => self.created(unique, result),
             Then::Removed { unique, kind } => self.removed(unique, kind, result),

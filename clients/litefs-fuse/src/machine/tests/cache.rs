@@ -21,6 +21,7 @@ const THREE: &[u8] = b"0000000000000003/00000000000000cc\n";
 struct Cached {
     trial: Trial,
     number: u64,
+    log: u64,
     handle: u64,
 }
 
@@ -28,8 +29,9 @@ impl Cached {
     /// A mount whose cache has the pages of the first position.
     fn new() -> Cached {
         let mut trial = Trial::linked(Settings { cache: true, ..Settings::default() });
+        let log = trial.look_up(b"app-wal", LOG);
         let (number, handle) = trial.opened(b"app", DATABASE, 5);
-        let mut cached = Cached { trial, number, handle };
+        let mut cached = Cached { trial, number, log, handle };
         assert!(cached.takes(40, READ, ONE));
         cached.gives_up(40);
         cached
@@ -43,13 +45,18 @@ impl Cached {
         assert_eq!(self.trial.actions(), []);
         self.trial.answer(Ok(position));
         let mut actions = self.trial.actions();
-        let drops = actions == [Action::DropCache { node: self.number }];
+        let drops = actions == [self.drop()];
         if drops {
             self.trial.machine.dropped();
             actions = self.trial.actions();
         }
         assert_eq!(actions.iter().filter_map(told).collect::<Vec<_>>(), [(unique, Ok(vec![]))]);
         drops
+    }
+
+    /// The pages of database and log are dropped.
+    fn drop(&self) -> Action {
+        Action::DropCache { nodes: [self.number, self.log] }
     }
 
     fn gives_up(&mut self, owner: u64) {
@@ -81,14 +88,30 @@ impl Cached {
 }
 
 #[test]
-fn the_database_alone_is_opened_for_the_kernels_cache() {
-    for (name, node, wanted) in [(&b"app"[..], DATABASE, 2), (b"app-wal", LOG, 1), (b"app-journal", JOURNAL, 1)] {
+fn the_log_is_cached_from_its_opening_on_and_the_journal_not() {
+    for (name, node, flags) in [(&b"app-wal"[..], LOG, 0), (b"app-journal", JOURNAL, 1)] {
         let mut trial = Trial::linked(Settings { cache: true, ..Settings::default() });
         let number = trial.look_up(name, node);
         trial.ask(opcode::OPEN, number, &[0; 8]);
         trial.answer(Ok(&opened(7)));
-        assert_eq!(u32_at(&trial.reply().1.unwrap(), 8), wanted);
+        assert_eq!(u32_at(&trial.reply().1.unwrap(), 8), flags);
     }
+}
+
+#[test]
+fn who_opens_the_database_keeps_its_pages_only_where_the_node_stands_at_them() {
+    for (position, flags) in [(ONE, 2), (TWO, 0)] {
+        let mut cached = Cached::new();
+        cached.trial.ask(opcode::OPEN, cached.number, &[0; 8]);
+        assert_eq!(cached.trial.asked(), [(opcode::READ, POSITION)]);
+        cached.trial.answer(Ok(position));
+        assert_eq!(u32_at(&cached.trial.reply().1.unwrap(), 8), flags);
+    }
+    let mut cached = Cached::new();
+    cached.does(opcode::READ, &at(cached.handle, 0, 0));
+    cached.trial.ask(opcode::OPEN, cached.number, &[0; 8]);
+    cached.trial.answer(Ok(ONE));
+    assert_eq!(u32_at(&cached.trial.reply().1.unwrap(), 8), 0, "what was read without a lock");
 }
 
 #[test]
@@ -165,7 +188,8 @@ fn a_lock_that_comes_while_the_cache_is_dropped_waits_too() {
         cached.trial.answer(Ok(&[]));
         cached.trial.answer(Ok(TWO));
     }
-    assert_eq!(cached.trial.actions(), [Action::DropCache { node: cached.number }]);
+    let drop = cached.drop();
+    assert_eq!(cached.trial.actions(), [drop]);
     cached.trial.machine.dropped();
     assert_eq!(cached.trial.replies(), [(first, Ok(vec![])), (second, Ok(vec![]))]);
 }
@@ -183,7 +207,7 @@ fn a_refused_lock_and_other_locks_ask_for_nothing() {
 }
 
 #[test]
-fn in_wal_mode_a_header_that_the_node_changed_drops_the_cache_of_the_database() {
+fn in_wal_mode_a_header_that_the_node_changed_drops_the_cache() {
     let mut cached = Cached::new();
     let (shared, handle) = cached.trial.opened(b"app-shm", SHARED, 9);
     let take = |cached: &mut Cached, header: &[u8]| {
@@ -192,7 +216,7 @@ fn in_wal_mode_a_header_that_the_node_changed_drops_the_cache_of_the_database() 
         cached.trial.answer(Ok(header));
         cached.trial.actions()
     };
-    let drop = Action::DropCache { node: cached.number };
+    let drop = cached.drop();
     assert_eq!(take(&mut cached, &[0; HEADER]), [drop.clone()], "no header is known");
     cached.trial.machine.dropped();
     assert!(told(&cached.trial.actions()[0]).is_some());

@@ -1,0 +1,33 @@
+#!/usr/bin/python3
+"""The tests of litefs-fuse without a mount: one for each rule of its machine, and a recorded conversation of the kernel and a
+node. They need cargo and no network.
+
+At most: 300 seconds.
+Seen to fail: with an unlock that tells no header, and with EIO of a READ handed on (the tests of these names)"""
+import os
+import shutil
+import subprocess
+
+from support import Skipped, holds, run
+from support.mount import SOURCES
+
+
+def machine():
+    if not shutil.which('cargo'):
+        raise Skipped('no cargo here')
+    ran = subprocess.run(['cargo', 'test', '--release', '--offline', '--quiet'], cwd=SOURCES, capture_output=True, text=True)
+    holds(ran.returncode == 0 and 'test result: ok' in ran.stdout, (ran.stdout + ran.stderr)[-900:])
+
+
+def one_file_is_unsafe():
+    """All of the unsafe code stands in the file of foreign functions."""
+    found = []
+    for folder, _, names in os.walk(os.path.join(SOURCES, 'src')):
+        for name in names:
+            with open(os.path.join(folder, name)) as file:
+                if 'unsafe' in file.read().replace('unsafe code', ''):
+                    found.append(name)
+    holds(found == ['foreign.rs'], f'unsafe code in {found}')
+
+
+run({'machine': machine, 'unsafe': one_file_is_unsafe})
