@@ -3,7 +3,7 @@
 docs/COMMANDS.md has for each. And configurations that are right: the node answers.
 
 At most: 300 seconds.
-Seen to fail: HOW"""
+Seen to fail: a node that doesn't lock its directory: a second one comes as far as the socket, and says network failed."""
 import os
 import socket
 import tempfile

@@ -3,7 +3,8 @@
 leave, or what no file of the store is, is no damage. What is damage: crates/node_recovery, docs/FORMATS.md.
 
 At most: 300 seconds.
-Seen to fail: HOW"""
+Seen to fail: a program that touches the directory before it refuses it ("the directory is as it was"), and one that takes every directory for
+damaged (each harmless change is refused)."""
 import contextlib
 import os
 import shutil

@@ -3,7 +3,7 @@
 later one too until the node is started again, and then each transaction that was answered is there.
 
 At most: 600 seconds.
-Seen to fail: HOW"""
+Seen to fail: a node that takes a write without room for done: a write is taken before the start, and a row is missing behind it."""
 import sqlite3
 
 from support import Node, connect, count, fill, holds, in_each_mode, in_mode, insert, refuses, run, same, seen_by, small_disk

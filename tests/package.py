@@ -3,7 +3,8 @@
 lines of its unit, of which the one follows the other, and removed and purged, which leaves configurations and data.
 
 At most: 300 seconds.
-Seen to fail: HOW"""
+Seen to fail: a dependency on a later C library; a key of the unit misspelled; another word behind ExecStart; a man page with a macro that
+there isn't; a key of the example misspelled; a postrm that removes the data: each fails its case."""
 import configparser
 import functools
 import os
@@ -18,17 +19,15 @@ PAGES = {'litefs.1': 'LITEFS(1)', 'litefs.toml.5': 'LITEFS.TOML(5)'}
 WANTED = ('usr/bin/litefs', 'usr/lib/systemd/system/litefs@.service', 'usr/lib/sysusers.d/litefs.conf', 'usr/share/man/man1/litefs.1.gz',
           'usr/share/man/man5/litefs.toml.5.gz', 'usr/share/doc/litefs/examples/litefs.toml', 'usr/share/doc/litefs/OPERATING.md',
           'usr/share/doc/litefs/TROUBLESHOOTING.md', 'usr/share/doc/litefs/CHANGELOG.md')
+CLIENTS = {'usr/bin/litefs-fuse': 'clients/litefs-fuse/target/release/litefs-fuse', 'usr/lib/litefs/litefs-vfs.so': 'clients/litefs-vfs/build.sh'}
 made = tempfile.TemporaryDirectory(prefix='litefs-package-')
 
 
 @functools.cache
 def built():
     """The paths of the package and of the tar."""
-    program = os.environ.get('LITEFS_ELF') or places.program()
-    if read(program)[1:4] != b'ELF':
-        raise Skipped(f'{program} is no program that can be packed, but a script: set LITEFS_ELF')
     said = subprocess.run([f'{places.ROOT}/tools/package', made.name], check=True, stdout=subprocess.PIPE, text=True,
-                          env={**os.environ, 'LITEFS': program})
+                          env={**os.environ, 'LITEFS': places.elf()})
     package, archive = said.stdout.split()
     return package, archive
 
@@ -69,7 +68,7 @@ class Root:
 def started(root, name, following=None):
     """A node of the package: a machine's state folder, made and started by the unit's lines."""
     unit = root.unit()
-    state = root.path(unit['WorkingDirectory']) + name
+    state = root.path(f"{os.path.dirname(unit['WorkingDirectory'])}/{name}")
     etc = root.path(f'etc/litefs/{name}.toml')
     os.makedirs(state)
     same(unit['StateDirectory'], 'litefs/app', 'the state folder of the unit')
@@ -89,7 +88,8 @@ def started(root, name, following=None):
 def installed():
     with Root() as root:
         root.dpkg('-i', built()[0])
-        for name in WANTED:
+        clients = [path for path, source in CLIENTS.items() if os.path.exists(f'{places.ROOT}/{source}')]
+        for name in (*WANTED, *clients):
             holds(os.path.isfile(root.path(name)), f'{name} is there')
             same((os.stat(root.path(name)).st_uid, os.stat(root.path(name)).st_mode & 0o022), (0, 0), f'owner and mode of {name}')
         same(outcome(root.path('usr/bin/litefs'), ['--help']), (2, 'litefs: words refused\n'), 'the program')

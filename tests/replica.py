@@ -4,7 +4,7 @@ write, shows a reader one position, and comes back from kills of either or both,
 primary that went back to an older copy of its directory.
 
 At most: 600 seconds.
-Seen to fail: HOW"""
+Seen to fail: nodes whose writes of the file `database` change one bit: the replica's pages are not the primary's."""
 import os
 import shutil
 import sqlite3
@@ -67,23 +67,32 @@ def killed(mode):
         in_mode(primary.socket, mode).close()
         with Node(following=primary) as replica:
             for turn in range(TURNS):
-                before = primary.position().txid
-                writer = Client(primary.socket, ENDLESS)
-                until(lambda: primary.position().txid > before + 15, 'the writer is at work')
-                ended = [(primary,), (replica,), (primary, replica)][turn % 3]
-                for one in ended:
-                    one.kill()
-                if primary not in ended:
-                    primary.kill()
-                writer.ended()
-                for one in {primary, *ended}:
-                    one.start()
+                under_load(primary, [(replica,), (primary,), (primary, replica)][turn % 3])
                 primary.level(replica)
             made = connect(primary.socket)
             seen = seen_by(made)
             made.close()
             replica.sound(seen)
         primary.sound(seen)
+
+
+def under_load(primary, nodes):
+    """Kills the nodes while a writer is at work, which goes on for a while where the primary lives, and starts them."""
+    writer = Client(primary.socket, ENDLESS)
+    working(primary)
+    for one in nodes:
+        one.kill()
+    if primary not in nodes:
+        working(primary)
+        writer.kill()
+    writer.ended()
+    for one in nodes:
+        one.start()
+
+
+def working(primary):
+    before = primary.position().txid
+    until(lambda: primary.position().txid > before + 15, 'the writer is at work')
 
 
 def older_primary(mode):

@@ -3,11 +3,14 @@
 a rollback is none, and what SQLite sees, the database file and the log applied are the same bytes.
 
 At most: 600 seconds.
-Seen to fail: HOW"""
+Seen to fail: a node whose writes of the file `database` change one bit ("the log applied is the database file"), and one that doesn't rename
+every ninth file into its log ("apply of the log ends well")."""
 import os
 import random
 
 from support import Node, commits, in_each_mode, in_mode, insert, run, seen_by
+
+ROWS = 400
 
 
 def rows(mode, page_size):
@@ -41,11 +44,12 @@ def spill(mode):
         made = in_mode(node.socket, mode, 1024)
         made.execute('pragma cache_size=10')
         chosen = random.Random(5)
-        update = lambda: ('update t set c=? where a=?', (os.urandom(600), chosen.randrange(800)))
-        commits(node, made, 1, 'begin', *[insert(key, 500) for key in range(800)], 'commit')
-        commits(node, made, 0, 'begin', *[update() for _ in range(400)], 'rollback')
-        commits(node, made, 1, 'begin', *[update() for _ in range(400)], 'commit')
+        update = lambda: ('update t set c=? where a=?', (os.urandom(600), chosen.randrange(ROWS)))
+        commits(node, made, 1, 'begin', *[insert(key, 500) for key in range(ROWS)], 'commit')
+        commits(node, made, 0, 'begin', *[update() for _ in range(ROWS // 2)], 'rollback')
+        commits(node, made, 1, 'begin', *[update() for _ in range(ROWS // 2)], 'commit')
         node.sound(seen_by(made))
 
 
-run(in_each_mode(small_pages=small_pages, usual_pages=usual_pages, large_pages=large_pages, spill=spill))
+run({**in_each_mode(small_pages=small_pages, usual_pages=usual_pages, spill=spill),
+     **in_each_mode(('delete', 'wal'), large_pages=large_pages)})

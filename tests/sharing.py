@@ -3,7 +3,7 @@
 processes lose no row.
 
 At most: 600 seconds.
-Seen to fail: HOW"""
+Seen to fail: a VFS that takes every lock for granted without asking the node: two writers begin, and a process ends with an error."""
 import sqlite3
 
 from support import Client, Node, commits, connect, count, in_each_mode, in_mode, insert, refuses, run, same, seen_by

@@ -3,7 +3,7 @@
 killed under load and started again. Nothing that was acknowledged is lost, and what was not is whole or not there.
 
 At most: 900 seconds.
-Seen to fail: HOW"""
+Seen to fail: a node that doesn't rename every ninth file into its log: after the kill it doesn't start, or rows are missing."""
 from support import Client, Node, Relay, connect, count, holds, in_each_mode, in_mode, run, same, seen_by, until
 
 ROWS, STEP, MOST = 25, 5, 400

@@ -2,7 +2,7 @@
 """VACUUM, checkpoints, a database that shrinks, and changes of the journal mode, by real SQLite on one node.
 
 At most: 600 seconds.
-Seen to fail: HOW"""
+Seen to fail: a node that doesn't cut the file `database` after VACUUM ("the log applied is the database file")."""
 import os
 
 from support import Node, commits, connect, in_each_mode, in_mode, insert, run, same, seen_by

@@ -3,10 +3,11 @@
 A script is `tests/NAME.py`. Its head says what it tests, `At most: N seconds.`, and by what broken thing it was seen
 to fail. It gives its cases to `run`, which prints one line for each and ends with 0, 1 (a case failed) or 77 (none
 ran)."""
-from .cases import Skipped, Wrong, holds, refuses, run, same, skip_all
+from .cases import holds, refuses, run, same, skip_all
 from .client import Client
 from .mounted import small_disk
 from .node import KEEP_ALL, Node, applied, configuration, free_port, outcome, read
+from .outcomes import Skipped, Wrong
 from .places import ROOT, TESTS, program, vfs
 from .relay import Relay
 from .sqlite import MODES, connect, in_mode, seen_by

@@ -4,16 +4,9 @@ import sys
 import traceback
 
 from . import places
+from .outcomes import Skipped, Wrong
 
 FAILED, NOTHING_RAN = 1, 77
-
-
-class Wrong(Exception):
-    """What a case saw is not what was wanted."""
-
-
-class Skipped(Exception):
-    """A case that this machine cannot run, with the reason."""
 
 
 def holds(fact, what):

@@ -4,7 +4,7 @@ import os
 import subprocess
 import tempfile
 
-from .cases import Skipped
+from .outcomes import Skipped
 
 
 class Disk:

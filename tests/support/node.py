@@ -8,7 +8,8 @@ import subprocess
 import tempfile
 
 from . import places
-from .cases import Wrong, holds, same
+from .cases import holds, same
+from .outcomes import Wrong
 from .waiting import until
 from .wire import Link
 
