@@ -3,11 +3,12 @@
 and what is refused or told where something is missing.
 
 At most: 300 seconds.
-Seen to fail: HOW"""
+Seen to fail: with a library that lets the record of a super-journal through (the commit is not refused), and with one that takes a
+missing socket for a plain file."""
 import os
 import sqlite3
 
-from support import MODES, Node, commits, configuration, connect, count, fill, holds, in_each_mode, in_mode, places, refuses, run, same, seen_by
+from support import (Node, commits, configuration, count, fill, holds, in_each_mode, in_mode, places, refuses, run, same, seen_by)
 from support.preloaded import needs, output, scratch
 
 OPEN = 'unable to open database file'
@@ -34,7 +35,8 @@ def by_uri(node, script):
 
 def shell(mode):
     with Node() as node, scratch() as folder:
-        script = f'pragma journal_mode={mode};\ncreate table t(a, b);\ninsert into t values(1, 2), (3, 4);\n.backup {folder}/copy\nselect * from t;\n'
+        script = (f'pragma journal_mode={mode};\ncreate table t(a, b);\ninsert into t values(1, 2), (3, 4);\n'
+                  f'.backup {folder}/copy\nselect * from t;\n')
         same(by_uri(node.socket, script), (0, f'{mode}\n1|2\n3|4\n', ''), 'status and outputs')
         same(sqlite3.connect(f'{folder}/copy').execute('select * from t').fetchall(), [(1, 2), (3, 4)], 'the backup')
         same(by_uri(node.socket, 'select * from t;\n.dump\n')[1].count('1,2'), 1, 'the row in a dump')
@@ -58,7 +60,8 @@ def named_by_the_folder_or_the_uri():
             os.rename(node.data, f'{node.folder}/dbs/nothing')
             refused = refuses(lambda: at(node.socket), sqlite3.OperationalError, 'a name that is not known')
             same(str(refused), OPEN, 'what it is told')
-            same(at(node.socket, '&name=app').execute('select count(*) from t').fetchall(), [(0,)], 'rows by the name that is given')
+            rows = at(node.socket, '&name=app').execute('select count(*) from t').fetchall()
+            same(rows, [(0,)], 'rows by the name that is given')
         refuses(lambda: at(node.socket, '&name=nothing'), sqlite3.OperationalError, 'a name of no database')
 
 
@@ -118,11 +121,13 @@ def a_commit_over_two_databases(mode):
             connection.execute('begin')
             connection.execute(f'insert into {table} values(1)')
             connection.execute('insert into t values(1, 1, 1)')
-            same(str(refuses(lambda: connection.execute('commit'), sqlite3.OperationalError, 'the commit')), OPEN, 'what it is told')
+            refused = refuses(lambda: connection.execute('commit'), sqlite3.OperationalError, 'the commit')
+            same(str(refused), OPEN, 'what it is told')
             if connection.in_transaction:
                 connection.execute('rollback')
         plain.execute('detach node')
-        same((count(made), plain.execute('select count(*) from p').fetchone(), node.position()), (0, (0,), before), 'what was done')
+        rows = plain.execute('select count(*) from p').fetchone()
+        same((count(made), rows, node.position()), (0, (0,), before), 'what was done')
         commits(node, made, 1, 'insert into t values(2, 2, 2)')
         same(sorted(os.listdir(folder)), ['plain'], 'files that are left')
 
@@ -142,7 +147,7 @@ def what_a_replica_is_told(mode):
         node.level(replica)
         for more in ('', '&ro=1'):
             there = at(replica.socket, more)
-            refused = refuses(lambda: there.execute('insert into t values(9, 9, 9)'), sqlite3.OperationalError, 'a write at a replica')
+            refused = refuses(lambda: there.execute('insert into t values(9, 9, 9)'), sqlite3.OperationalError, 'a write')
             same(str(refused), 'attempt to write a readonly database', 'what it is told')
             same((count(there), there.in_transaction), (5, False), 'rows that it reads on')
             same(there.execute('pragma integrity_check').fetchall(), [('ok',)], 'integrity')
@@ -151,7 +156,8 @@ def what_a_replica_is_told(mode):
         node.level(replica)
 
 
-run({**in_each_mode(shell=shell, what_a_replica_is_told=what_a_replica_is_told), **in_each_mode(('delete', 'wal'), other_databases=other_databases),
+run({**in_each_mode(shell=shell, what_a_replica_is_told=what_a_replica_is_told),
+     **in_each_mode(('delete', 'wal'), other_databases=other_databases),
      **in_each_mode(('delete', 'truncate', 'persist'), a_commit_over_two_databases=a_commit_over_two_databases),
      'a_commit_over_two_databases_in_wal_mode': a_commit_over_two_databases_in_wal_mode,
      'named_by_the_folder_or_the_uri': named_by_the_folder_or_the_uri, 'missing_socket': missing_socket,

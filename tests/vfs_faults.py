@@ -3,7 +3,7 @@
 after a busy timeout; and once it is started again, new connections of the same process find all that was acknowledged.
 
 At most: 180 seconds.
-Seen to fail: HOW"""
+Seen to fail: with a library that answers a failed read by SQLite's code for a damaged file (`database disk image is malformed`)."""
 import sqlite3
 import threading
 import time
@@ -75,11 +75,12 @@ def node_killed_under_load(mode):
             node.start()
             again = connect(node.socket)
             found = count(again)
-            holds(rows + crowd.rows <= found <= rows + crowd.rows + 1, f'{found} rows where {rows} and {crowd.rows} were acknowledged')
+            acknowledged = rows + crowd.rows
+            holds(acknowledged <= found <= acknowledged + 1, f'{found} rows where {acknowledged} were acknowledged')
             rows = found
-            node_sound = seen_by(again)
+            seen = seen_by(again)
             again.close()
-        node.sound(node_sound)
+        node.sound(seen)
 
 
 def idle_connection(mode):
@@ -116,4 +117,5 @@ def inside_a_transaction(mode):
         node.sound(seen_by(again))
 
 
-run(in_each_mode(node_killed_under_load=node_killed_under_load, idle_connection=idle_connection, inside_a_transaction=inside_a_transaction))
+run(in_each_mode(node_killed_under_load=node_killed_under_load, idle_connection=idle_connection,
+                 inside_a_transaction=inside_a_transaction))

@@ -1,14 +1,17 @@
 #!/usr/bin/python3
-"""The shared memory of WAL mode among processes, which the VFS mirrors: a connection that stays open sees what others commit, what a
-checkpoint or a node does to the log, and what a client leaves that dies at any of its messages.
+"""The shared memory of WAL mode among processes, which the VFS mirrors: a connection that stays open sees what others commit, what
+a checkpoint or a node does to the log, and what a client leaves that dies at any of its messages.
 
-At most: 240 seconds.
-Seen to fail: HOW"""
+At most: 600 seconds.
+Seen to fail: with libraries that put in nothing behind a lock, that tell nothing before an unlock, that read the header alone, and
+that read the first region alone (long_log)."""
 import os
 import subprocess
+import sys
 import tempfile
 
 from support import Client, Node, connect, count, fill, holds, in_each_mode, in_mode, insert, places, run, same, seen_by, until
+from support.client import PRELUDE
 
 WRITER = '''
 c.execute('pragma cache_size=5')
@@ -22,6 +25,10 @@ c.close()
 READER = '''
 for line in sys.stdin:
     said('%d %d\\n' % c.execute('select count(*), sum(a) from t').fetchone())
+'''
+COMER = '''
+c.execute('insert into t values({},1,1)')
+said(str(c.execute('select count(*) from t').fetchone()[0]))
 '''
 MOST = 200
 
@@ -58,20 +65,19 @@ def client_dies(step, when):
 
 
 def dies_before():
-    client_dies(2, 'before')
+    client_dies(4, 'before')
 
 
 def dies_after():
-    client_dies(3, 'after')
+    client_dies(5, 'after')
 
 
 class Reader:
     """A process whose one connection stays open, and reads when it is asked."""
 
     def __init__(self, socket):
-        self.process = subprocess.Popen(['/usr/bin/python3', '-c', f'import sys; sys.path.insert(0, {places.TESTS!r})\nimport os\n'
-                                         f'from support import connect\nc = connect({socket!r})\ndef said(text): os.write(1, text.encode())\n'
-                                         + READER], stdin=subprocess.PIPE, stdout=subprocess.PIPE, text=True,
+        self.process = subprocess.Popen([sys.executable, '-c', PRELUDE.format(tests=places.TESTS, socket=socket) + READER],
+                                        stdin=subprocess.PIPE, stdout=subprocess.PIPE, text=True,
                                         env={**os.environ, 'LITEFS_VFS': places.vfs()})
 
     def __enter__(self):
@@ -115,16 +121,14 @@ def long_log():
         made.execute('pragma wal_autocheckpoint=0')
         made.execute(*insert(0))
         same(reader.sees(), (1, 0), 'what a reader sees first')
-        for turn in range(1, 6):
+        for turn, rows in enumerate((3000, 1300, 200, 100), 1):
             made.execute('begin')
-            made.executemany('insert into t values(?, ?, zeroblob(450))', [(1500 * turn + it, turn) for it in range(1500)])
+            made.executemany('insert into t values(?, ?, zeroblob(450))', [(10000 * turn + it, turn) for it in range(rows)])
             made.execute('commit')
             made.execute('update t set b=b+1 where a % 50 = 0')
             same(reader.sees(), wanted(made), 'what a reader of another process sees')
         with Reader(node.socket) as late:
             same(late.sees(), wanted(made), 'what a late one sees')
-        holds(os.path.exists(node.data), 'the node is there')
-        same(made.execute('pragma wal_checkpoint').fetchall()[0][0], 0, 'the checkpoint goes through')
         node.sound(seen_by(made))
 
 
@@ -142,7 +146,8 @@ def replica_sees_each_position(mode):
             until(lambda: replica.position() == node.position(), 'the position arrives')
             for turn, one in enumerate(there):
                 if number % (turn + 1) == 0:
-                    same(one.execute('select min(b), max(b) from t where a % 7 = 0').fetchone(), (number, number), 'what a reader sees')
+                    seen = one.execute('select min(b), max(b) from t where a % 7 = 0').fetchone()
+                    same(seen, (number, number), 'what a reader sees')
         same(seen_by(there[0]) == seen_by(made), True, 'both see the same bytes')
 
 
@@ -153,10 +158,11 @@ def the_last_one_leaves():
         fill(made, range(5))
         made.close()
         for turn in range(5, 8):
-            status, said, errors = Client(node.socket, f"c.execute('insert into t values({turn},1,1)'); said(str(c.execute('select count(*) from t').fetchone()[0]))").ended()
+            status, said, errors = Client(node.socket, COMER.format(turn)).ended()
             same((status, said), (0, str(turn + 1)), f'rows that the next process sees ({errors})')
         node.sound(seen_by(connect(node.socket)))
 
 
 run({'dies_before': dies_before, 'dies_after': dies_after, 'each_commit_is_seen': each_commit_is_seen, 'long_log': long_log,
-     'the_last_one_leaves': the_last_one_leaves, **in_each_mode(('delete', 'wal'), replica_sees_each_position=replica_sees_each_position)})
+     'the_last_one_leaves': the_last_one_leaves,
+     **in_each_mode(('delete', 'wal'), replica_sees_each_position=replica_sees_each_position)})

@@ -3,7 +3,8 @@
 databases of theirs stay plain files.
 
 At most: 300 seconds.
-Seen to fail: HOW"""
+Seen to fail: with a library that does not make itself SQLite's default (the database is a file in the folder), and with one that
+takes every path for the node's."""
 import os
 import sqlite3
 
@@ -12,7 +13,8 @@ from support.preloaded import needs, output, preloaded, scratch
 
 SCRIPT = '''pragma journal_mode={mode};
 create table t(a integer primary key, b, c);
-with recursive n(i) as (select 1 union all select i + 1 from n where i < 300) insert into t select i, i % 7, hex(i * i) || zeroblob(200) from n;
+with recursive n(i) as (select 1 union all select i + 1 from n where i < 300)
+insert into t select i, i % 7, hex(i * i) || zeroblob(200) from n;
 begin; delete from t where a % 3 = 0; savepoint s; update t set b = 9; rollback to s; commit;
 begin; insert into t(b) values(1); rollback;
 create index i on t(b);
@@ -128,8 +130,9 @@ def read_only_at_a_replica():
 DJANGO = '''
 import sys, django
 from django.conf import settings
-settings.configure(DATABASES={'default': {'ENGINE': 'django.db.backends.sqlite3', 'NAME': sys.argv[1]}}, USE_TZ=True, SECRET_KEY='x',
-    INSTALLED_APPS=['django.contrib.auth', 'django.contrib.contenttypes'], DEFAULT_AUTO_FIELD='django.db.models.AutoField')
+settings.configure(DATABASES={'default': {'ENGINE': 'django.db.backends.sqlite3', 'NAME': sys.argv[1]}},
+    USE_TZ=True, SECRET_KEY='x', DEFAULT_AUTO_FIELD='django.db.models.AutoField',
+    INSTALLED_APPS=['django.contrib.auth', 'django.contrib.contenttypes'])
 django.setup()
 from django.core.management import call_command
 from django.contrib.auth.models import Group, User
@@ -152,7 +155,8 @@ def django():
 
 def sqlite_utils():
     with Node() as node:
-        like_a_plain_file(node, [needs('sqlite-utils'), 'insert', '{}', 'people', '-', '--pk', 'id'], '[{"id": 1, "n": "a"}, {"id": 2, "n": "b"}]')
+        people = '[{"id": 1, "n": "a"}, {"id": 2, "n": "b"}]'
+        like_a_plain_file(node, [needs('sqlite-utils'), 'insert', '{}', 'people', '-', '--pk', 'id'], people)
         like_a_plain_file(node, [needs('sqlite-utils'), 'query', '{}', 'select 1 as one'])
         node.sound()
 

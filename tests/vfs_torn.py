@@ -3,7 +3,7 @@
 processes at a primary, and readers at its replica; processes are killed at random.
 
 At most: 180 seconds.
-Seen to fail: HOW"""
+Seen to fail: with a library that reads the header of the shared memory and not its regions (`file is not a database`)."""
 import random
 import time
 
@@ -12,13 +12,14 @@ from support import Client, Node, connect, holds, in_each_mode, in_mode, run, sa
 ROWS, TURNS, SECONDS = 40, 60, 120
 CROWD = '''
 import random, sqlite3, threading
+KINDS = ('passive', 'full', 'restart', 'truncate')
 torn, faults, done = [], set(), [0]
 def writes(mine, chosen):
     mine.execute('begin immediate')
     number = mine.execute('select max(b) from t').fetchone()[0] + 1
     mine.execute('update t set b = ?, c = randomblob(?)', (number, chosen.randrange(10, 300)))
     mine.execute('rollback' if chosen.random() < .1 else 'commit')
-    if chosen.random() < .1: mine.execute('pragma wal_checkpoint(%s)' % chosen.choice(('passive', 'full', 'restart', 'truncate'))).fetchall()
+    if chosen.random() < .1: mine.execute('pragma wal_checkpoint(%s)' % chosen.choice(KINDS)).fetchall()
 def reads(mine, chosen):
     mine.execute('begin')
     one = mine.execute('select min(b), max(b), count(*) from t').fetchone()

@@ -49,16 +49,17 @@ static int file_read(sqlite3_file *opened, void *into, int length, sqlite3_int64
   return had < wanted ? SQLITE_IOERR_SHORT_READ : SQLITE_OK;
 }
 
-/* a replica takes no writes. Where nothing of the database was written yet SQLite may go on from there, and says so in plain words */
+/* a replica takes no writes. Where nothing of the database was written yet SQLite may go on from there, and says so in plain
+** words */
 static int refused_write(struct file *file, int error) {
   int is_begun = file->kind == DATABASE || (file->kind == JOURNAL && file->connection->level > SQLITE_LOCK_RESERVED);
   if (error == EROFS && !is_begun) return fault(file, SQLITE_READONLY, error, "writing");
   return fault(file, write_code(error, SQLITE_IOERR_WRITE), error, "writing");
 }
 
-/* In a commit over several databases in a rollback mode SQLite writes the name of a super-journal at the end of each journal, and this
-** behind it. It passes over what fails after that, when the node commits and may have to refuse; so the commit is refused here, and
-** a journal without this is played back as any other. */
+/* In a commit over several databases in a rollback mode SQLite writes the name of a super-journal at the end of each journal, and
+** this behind it. It passes over what fails after that, when the node commits and may have to refuse; so the commit is refused
+** here, and a journal without this is played back as any other. */
 static int ends_super_journal(const struct file *file, const void *bytes, int length, sqlite3_int64 at) {
   static const unsigned char magic[8] = {0xd9, 0xd5, 0x05, 0xf9, 0x20, 0xa1, 0x63, 0xd7};
   return file->kind == JOURNAL && at > 0 && length == sizeof magic && !memcmp(bytes, magic, sizeof magic);
@@ -70,7 +71,8 @@ static int file_write(sqlite3_file *opened, const void *bytes, int length, sqlit
   uint32_t done = 0, wanted = (uint32_t)length;
   while (done < wanted) {
     uint32_t part = wanted - done < MOST_DATA ? wanted - done : MOST_DATA;
-    int error = link_ask(&file->connection->link, write_request(&file->handle, (uint64_t)at + done, (const char *)bytes + done, part));
+    struct request request = write_request(&file->handle, (uint64_t)at + done, (const char *)bytes + done, part);
+    int error = link_ask(&file->connection->link, request);
     if (error) return refused_write(file, error);
     done += part;
   }
@@ -190,7 +192,8 @@ static int open_or_create(struct connection *connection, const char *name, int f
     return error;
   }
   error = link_ask(&connection->link, lookup_request(name, &entry));
-  if (!error) error = link_ask(&connection->link, open_request(entry.nodeid, flags & SQLITE_OPEN_READONLY ? O_RDONLY : O_RDWR, &opened));
+  int mode = flags & SQLITE_OPEN_READONLY ? O_RDONLY : O_RDWR;
+  if (!error) error = link_ask(&connection->link, open_request(entry.nodeid, mode, &opened));
   if (!error) *handle = (struct handle){entry.nodeid, opened.fh};
   return error;
 }

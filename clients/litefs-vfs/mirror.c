@@ -111,7 +111,8 @@ static void batch_add(struct batch *batch, struct request request) {
 static void tell_run(struct mirror *mirror, struct batch *batch, int region, int from, int to) {
   uint32_t *known = mirror->known[region];
   for (int at = from; at < to; at++) known[at] = word_at(mirror->words[region], at);
-  batch_add(batch, write_request(batch->index, place_of_region(region) + 4u * (uint64_t)from, known + from, 4u * (uint32_t)(to - from)));
+  uint64_t place = place_of_region(region) + 4u * (uint64_t)from;
+  batch_add(batch, write_request(batch->index, place, known + from, 4u * (uint32_t)(to - from)));
 }
 
 static int is_changed(const struct mirror *mirror, int region, int at) {
@@ -152,7 +153,8 @@ static void tell_all(struct mirror *mirror, struct batch *batch, int is_index_ch
   tell_changes(mirror, batch, 0, 0, COPIES_WORDS, COPIES_WORDS);
 }
 
-int mirror_publish(struct mirror *mirror, struct link *link, const struct handle *index, int is_index_changed, struct request last) {
+int mirror_publish(struct mirror *mirror, struct link *link, const struct handle *index, int is_index_changed,
+                   struct request last) {
   struct batch batch;
   batch.link = link;
   batch.index = index;

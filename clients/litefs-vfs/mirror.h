@@ -1,6 +1,6 @@
-/* SQLite's shared memory in WAL mode as the connections of this process see it, and as the node has it. The node's is the truth among
-** processes: after a lock is granted what others changed is put in, before a lock is given up what was changed here is told.
-** A caller holds a mutex over each of these calls. SQLite's own threads write the words meanwhile, by their own locks. */
+/* SQLite's shared memory in WAL mode as the connections of this process see it, and as the node has it. The node's is the truth
+** among processes: after a lock is granted what others changed is put in, before a lock is given up what was changed here is
+** told. A caller holds a mutex over each of these calls. SQLite's own threads write the words meanwhile, by their own locks. */
 #ifndef LITEFS_MIRROR_H
 #define LITEFS_MIRROR_H
 
@@ -29,7 +29,8 @@ int mirror_refresh(struct mirror *mirror, struct link *link, const struct handle
 
 /* tells the node what was changed here, and then asks the last request. The regions are looked at where the caller says so or the
 ** header is another. 0, or the fault of the link or of any of the requests */
-int mirror_publish(struct mirror *mirror, struct link *link, const struct handle *index, int is_index_changed, struct request last);
+int mirror_publish(struct mirror *mirror, struct link *link, const struct handle *index, int is_index_changed,
+                   struct request last);
 
 /* the region in which the index has a frame of the log */
 int region_of_frame(uint32_t frame);

@@ -1,5 +1,6 @@
-/* The start by LD_PRELOAD: where LITEFS_DIR is set, the VFS is registered as SQLite's default before the application opens its first
-** database. Not earlier: an application may still configure SQLite until then. So its calls that open a database come here first. */
+/* The start by LD_PRELOAD: where LITEFS_DIR is set, the VFS is registered as SQLite's default before the application opens its
+** first database. Not earlier: an application may still configure SQLite until then. So its calls that open a database come here
+** first. */
 #define _GNU_SOURCE
 #include "places.h"
 #include "sqlite.h"
@@ -62,19 +63,22 @@ static void start(void) {
 }
 
 int sqlite3_open(const char *path, sqlite3 **database) {
-  int (*real)(const char *, sqlite3 **) = (int (*)(const char *, sqlite3 **))next("sqlite3_open");
+  int (*real)(const char *, sqlite3 **) = NULL;
+  *(void **)&real = next("sqlite3_open");
   start();
   return real ? real(path, database) : SQLITE_MISUSE;
 }
 
 int sqlite3_open16(const void *path, sqlite3 **database) {
-  int (*real)(const void *, sqlite3 **) = (int (*)(const void *, sqlite3 **))next("sqlite3_open16");
+  int (*real)(const void *, sqlite3 **) = NULL;
+  *(void **)&real = next("sqlite3_open16");
   start();
   return real ? real(path, database) : SQLITE_MISUSE;
 }
 
 int sqlite3_open_v2(const char *path, sqlite3 **database, int flags, const char *vfs) {
-  int (*real)(const char *, sqlite3 **, int, const char *) = (int (*)(const char *, sqlite3 **, int, const char *))next("sqlite3_open_v2");
+  int (*real)(const char *, sqlite3 **, int, const char *) = NULL;
+  *(void **)&real = next("sqlite3_open_v2");
   start();
   return real ? real(path, database, flags, vfs) : SQLITE_MISUSE;
 }

@@ -110,10 +110,14 @@ void process_leave(struct process *process) {
   free(process);
 }
 
+static int ask_shared(struct process *process, int type) {
+  return link_ask(&process->link, lock_request(&process->database, type, SHARED_FIRST, SHARED_LAST));
+}
+
 int process_share(struct process *process) {
   int error = process_enter(process);
   if (error) return error;
-  if (!process->sharers) error = link_ask(&process->link, lock_request(&process->database, F_RDLCK, SHARED_FIRST, SHARED_LAST));
+  if (!process->sharers) error = ask_shared(process, F_RDLCK);
   if (!error) process->sharers++;
   process_exit(process);
   return error;
@@ -122,7 +126,7 @@ int process_share(struct process *process) {
 int process_unshare(struct process *process) {
   int error = process_enter(process);
   if (error) return error;
-  if (--process->sharers == 0) error = link_ask(&process->link, lock_request(&process->database, F_UNLCK, SHARED_FIRST, SHARED_LAST));
+  if (--process->sharers == 0) error = ask_shared(process, F_UNLCK);
   process_exit(process);
   return error;
 }

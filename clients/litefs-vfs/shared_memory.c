@@ -62,7 +62,8 @@ static int map(struct connection *connection, int region, int may_extend, void v
 
 static int map_code(const struct connection *connection, int error) {
   if (error == ENOMEM) return SQLITE_NOMEM;
-  return tell_fault(error == ENOSPC ? SQLITE_IOERR_SHMSIZE : SQLITE_IOERR_SHMMAP, error, "mapping the shared memory", connection->path);
+  int code = error == ENOSPC ? SQLITE_IOERR_SHMSIZE : SQLITE_IOERR_SHMMAP;
+  return tell_fault(code, error, "mapping the shared memory", connection->path);
 }
 
 int memory_map(struct connection *connection, int region, int length, int may_extend, void volatile **pages) {
@@ -123,7 +124,8 @@ int memory_lock(struct connection *connection, int offset, int count, int is_for
     process_exit(process);
   }
   if (!error) return SQLITE_OK;
-  return is_lock_taken(error) ? SQLITE_BUSY : tell_fault(SQLITE_IOERR_SHMLOCK, error, "locking the shared memory", connection->path);
+  if (is_lock_taken(error)) return SQLITE_BUSY;
+  return tell_fault(SQLITE_IOERR_SHMLOCK, error, "locking the shared memory", connection->path);
 }
 
 /* a fault leaves the node with less than this process knows of its own changes */
