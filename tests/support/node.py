@@ -60,7 +60,11 @@ class Node:
         self.process = None
         self.configure(configuration(self.port, following and following.port, keep, database))
         if starts:
-            self.start()
+            try:
+                self.start()
+            except BaseException:
+                self.__exit__()
+                raise
 
     def __enter__(self):
         return self
