@@ -114,6 +114,8 @@ REFUSED = {
     'a_bit_of_the_database': in_database(5),
     'the_database_cut_short': lambda node: os.truncate(f'{node.data}/database', 3 * PAGE),
     'the_database_gone': lambda node: os.remove(f'{node.data}/database'),
+    'the_log_gone': lambda node: shutil.rmtree(f'{node.data}/ltx'),
+    'the_log_emptied': lambda node: [os.remove(file) for file in node.log()],
 }
 HARMLESS = {
     'nothing': lambda node: None,
@@ -125,14 +127,5 @@ HARMLESS = {
 }
 
 
-def log_gone():
-    """Without a file of the log a directory stands for an empty database: it is no damage, and the rows are gone."""
-    with stopped() as node:
-        shutil.rmtree(f'{node.data}/ltx')
-        node.start()
-        same((node.position().txid, node.image()), (0, b''), 'position and database')
-
-
 run({**{f'refused-{name}': lambda damage=damage: refused(damage) for name, damage in REFUSED.items()},
-     **{f'harmless-{name}': lambda change=change: harmless(change) for name, change in HARMLESS.items()},
-     'log_gone': log_gone})
+     **{f'harmless-{name}': lambda change=change: harmless(change) for name, change in HARMLESS.items()}})
