@@ -146,6 +146,13 @@ committed-locks s = go s.held_write refl where
   go None none = rw none refl
   go (Some write) some = rw some refl
 
+-- and its database keeps its name
+pub committed-name : (s : Served) → (committed s).name ≡ s.name
+committed-name s = go s.held_write refl where
+  go : (o : Option HeldWrite) → s.held_write ≡ o → (committed s).name ≡ s.name
+  go None none = rw none refl
+  go (Some write) some = rw some refl
+
 -- the files of a request that is done, with the new position
 pub committed-fits : (s : Served) (at : Pos) (page_size commit : ℕ) → FitsImage (committed s) page_size commit → FitsImage (record (committed s) { position = at }) page_size commit
 committed-fits s at page_size commit fits = record { fits = fits.fits; follows = fits.follows }

@@ -1,6 +1,6 @@
 -- A request on the served files: what it is answered over, and what the files' rules did with it.
-use Rattle.std.specs.Prelude.{◌≡◌, ◌⊎◌, ℕ, true, List, Option, Some, None, if◌then◌else◌}
-use Rattle.lf_base.specs.Faults.{Rose}
+use Rattle.std.specs.Prelude.{◌≡◌, ◌⊎◌, ℕ, ◌≤◌, true, List, Option, Some, None, if◌then◌else◌}
+use Rattle.lf_base.specs.Faults.{Rose, one_more}
 use Rattle.fuse_msgs.specs.declared.request.Request.{Request}
 use Rattle.lf_disk.specs.History.{History}
 use Rattle.lf_sqlite_pages.specs.Image.{DatabaseImage}
@@ -9,6 +9,7 @@ use Rattle.file_view.specs.declared.fault.ViewFault.TheVariants as fault
 use Rattle.file_view.specs.declared.plan.Plan.{Plan}
 use Rattle.file_view.specs.declared.scene.Scene.{Scene}
 use Rattle.file_view.specs.Done.{IsDone}
+use Rattle.file_view.specs.Needs.{Needs, ReadsPages, TakesMemory}
 use Rattle.file_view.specs.Refusal.{IsAllowed, Row, first_refusal}
 use Rattle.file_view.specs.Requests.{rows_of, scene_of}
 use Rattle.file_view.specs.Served.{Served}
@@ -29,8 +30,13 @@ pub record IsPlanned (start : History) (old : NodeParts) (caller : ℕ) (request
   pub done : IsDone (told start old.store) old.files (scene old caller) request plan files
   pub allowed : IsAllowed (rows_of old.files (scene old caller) request)
 
--- why a request is refused: by the first row that holds; or a page couldn't be read, since the store is broken or its disk failed
-abbrev pub RefusesBy : List Row → StoreFields → StoreFields → ViewFault → Type 0
-RefusesBy rows old new (fault.Errno number) = first_refusal rows ≡ Some number
-RefusesBy rows old new (fault.Page failed) = (old.broken ≡ true) ⊎ Rose old.faults new.faults
-RefusesBy rows old new fault.NoMemory = Unit {0}
+-- a broken store refused a read, and counted it
+abbrev pub RefusesRead : StoreFields → StoreFields → Type 0
+RefusesRead old new = (old.broken ≡ true) × (one_more old.refused ≤ new.refused)
+
+-- why a request is refused, by what it needs: by the first row that holds; a page that it reads was not read, since the disk failed,
+-- or the store is broken and refused the read; or memory was wanting, where it takes any
+abbrev pub RefusesBy : Needs → List Row → StoreFields → StoreFields → ViewFault → Type 0
+RefusesBy needs rows old new (fault.Errno number) = first_refusal rows ≡ Some number
+RefusesBy needs rows old new (fault.Page failed) = ReadsPages needs × (Rose old.faults new.faults ⊎ RefusesRead old new)
+RefusesBy needs rows old new fault.NoMemory = TakesMemory needs

@@ -7,6 +7,7 @@ use Rattle.lf_disk.specs.History.{History}
 use Rattle.file_view.specs.declared.fault.ViewFault.{ViewFault}
 use Rattle.file_view.specs.declared.plan.Plan.{Plan}
 use Rattle.file_view.specs.declared.plan.Plan.TheVariants as plan
+use Rattle.file_view.specs.Needs.{needs_of}
 use Rattle.file_view.specs.Requests.{rows_of}
 use Rattle.node_core.specs.declared.answer.Answer.{Answer}
 use Rattle.node_core.specs.declared.answer.Answer.TheVariants as answers
@@ -25,7 +26,7 @@ pub record IsServed (start : History) (old : NodeParts) (caller : ℕ) (request 
 -- it is refused, and the files are as before
 pub record IsRefused (start : History) (old : NodeParts) (caller : ℕ) (request : Request) (number : Errno) (end : History) (new : NodeParts) : Type 0 where
   pub why : ViewFault
-  pub cause : RefusesBy (rows_of old.files (scene old caller) request) old.store new.store why
+  pub cause : RefusesBy (needs_of old.files request) (rows_of old.files (scene old caller) request) old.store new.store why
   pub number_is : number ≡ errno_of_view why
   pub read : IsRead start old.store end new.store
   pub same : new ≡ record old { store = new.store }

@@ -7,6 +7,7 @@ ghost use Rattle.std.specs.Prelude.{◌≡◌, ◌≤◌, ℕ, IfOk, OnOk, IfErr
 ghost use Rattle.lf_disk.specs.History.{History, untold};
 ghost use Rattle.file_view.specs.Done.{IsDone};
 ghost use Rattle.file_view.specs.Overlay.{StandsOver, AwaitsOver};
+ghost use Rattle.file_view.specs.Needs.{needs_of};
 ghost use Rattle.file_view.specs.Refusal.{IsAllowed};
 ghost use Rattle.file_view.specs.Requests.{rows_of, scene_of};
 ghost use Rattle.node_core.specs.Files.{RefusesBy, told};
@@ -103,9 +104,10 @@ fn prepare_lent<'a, K: Before, D: Disk>(
     ensures done { IfOk planned.new (λ plan. IsDone (told (history_of store.old) (fields_of store.old)) view.old
         (scene_of caller role store.old.page_size store.old.commit store.old.broken) request.now plan view.new) }
     ensures allowed { OnOk planned.new (IsAllowed (rows_of view.old (scene_of caller role store.old.page_size store.old.commit store.old.broken) request.now)) }
-    ensures cause { IfErr planned.new (RefusesBy (rows_of view.old (scene_of caller role store.old.page_size store.old.commit store.old.broken) request.now)
+    ensures cause { IfErr planned.new (RefusesBy (needs_of view.old request.now) (rows_of view.old (scene_of caller role store.old.page_size store.old.commit store.old.broken) request.now)
         K.fields (fields_of result.now)) }
     ensures err { OnErr planned.new (view.new ≡ view.old) }
+    ensures name { view.new.name ≡ view.old.name }
     ensures stands { StandsOver (told (history_of store.old) (fields_of store.old)) store.old.page_size store.old.commit view.new }
     ensures awaits { IfOk planned.new (AwaitsOver (told (history_of store.old) (fields_of store.old)) view.new) }
 {
@@ -132,9 +134,10 @@ pub fn prepare<D: Disk>(
     ensures done { IfOk result (λ plan. IsDone (told (history_of store.old) (fields_of store.old)) view.old
         (scene_of caller (role_of config.now) store.old.page_size store.old.commit store.old.broken) request.now plan view.new) }
     ensures allowed { OnOk result (IsAllowed (rows_of view.old (scene_of caller (role_of config.now) store.old.page_size store.old.commit store.old.broken) request.now)) }
-    ensures cause { IfErr result (RefusesBy (rows_of view.old (scene_of caller (role_of config.now) store.old.page_size store.old.commit store.old.broken) request.now)
+    ensures cause { IfErr result (RefusesBy (needs_of view.old request.now) (rows_of view.old (scene_of caller (role_of config.now) store.old.page_size store.old.commit store.old.broken) request.now)
         (fields_of store.old) (fields_of store.new)) }
     ensures err { OnErr result (view.new ≡ view.old) }
+    ensures name { view.new.name ≡ view.old.name }
     ensures stands { StandsOver (told (history_of store.old) (fields_of store.old)) store.old.page_size store.old.commit view.new }
     ensures awaits { IfOk result (AwaitsOver (told (history_of store.old) (fields_of store.old)) view.new) }
 {

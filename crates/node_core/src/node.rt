@@ -13,8 +13,8 @@ use txn_log::Store;
 
 /// A node: the served files of a database over its store.
 ///
-/// The files stand over the committed image, and they tell the store's position. At a replica nobody
-/// has uncommitted pages. No request waits between two steps. Different owners share a lock only for
+/// The files are of the database that the node was given. They stand over the committed image, and
+/// tell the store's position. At a replica nobody has uncommitted pages. No request waits between two steps. Different owners share a lock only for
 /// reading.
 #[derive(Drop)]
 pub struct Node<D: Disk> {
@@ -26,6 +26,7 @@ pub struct Node<D: Disk> {
     pub(crate) moment: u64,
     ghost shape: { FitsImage view store.page_size store.commit },
     ghost image: { IsTrue (D.honest store.disk) → IsOverImage view (state (history_of store) (fields_of store)).image } by { Prim.hlevel props },
+    ghost named: { view.name ≡ config.name } by { Prim.hlevel props },
     ghost told: { view.position ≡ position (fields_of store) },
     ghost replica: { config.candidate ≡ false → view.writer ≡ None } by { Prim.hlevel props },
     ghost idle: { waits view ≡ false },

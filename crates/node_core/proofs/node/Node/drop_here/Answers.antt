@@ -71,6 +71,7 @@ invariant_of-self-in-Ok g c =
       shape = subst (λ (s : Served). FitsImage s t.page_size t.commit) (sym is)
           (subst (λ p. FitsImage files p t.commit) (sym shape.0) (subst (λ k. FitsImage files 0 k) (sym shape.1) (dropped-fits n.view at)));
       image = λ honest. let image = (state (history_of t) (fields_of t)).image in subst (λ (s : Served). IsOverImage s image) (sym is) (dropped-over n.view at image);
+      named = ap (λ (s : Served). s.name) is ∙ n.named;
       told = ap (λ (s : Served). s.position) is ∙ c.pos-in-Ok.ensures.value;
       replica = λ not. ap (λ (s : Served). s.writer) is;
       idle = ap waits is ∙ applied-idle n.view 0 0 n.idle;

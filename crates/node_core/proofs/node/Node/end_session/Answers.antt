@@ -23,6 +23,7 @@ invariant_of-self g c =
     record {
       shape = subst (λ (s : Served). FitsImage s n.store.page_size n.store.commit) (sym is) (ended-fits n.view c.args.caller n.store.page_size n.store.commit n.store.sized.pages n.shape);
       image = λ honest. let image = (state (history_of n.store) (fields_of n.store)).image in subst (λ (s : Served). IsOverImage s image) (sym is) (ended-over n.view c.args.caller image (n.image honest));
+      named = ap (λ (s : Served). s.name) is ∙ n.named;
       told = ap (λ (s : Served). s.position) is ∙ n.told;
       replica = λ not. ap (λ (s : Served). s.writer) is ∙ ended-writer n.view c.args.caller (n.replica not);
       idle = ap waits is ∙ n.idle;

@@ -17,6 +17,7 @@ invariant_of-result g c =
     record {
       shape = subst (λ (s : Served). FitsImage s store.page_size store.commit) (sym is) (opened-fits f config store.page_size store.commit store.sized.pages);
       image = λ honest. let image = (state (history_of store) f).image in subst (λ (s : Served). IsOverImage s image) (sym is) (opened-over f config image);
+      named = ap (λ (s : Served). s.name) is;
       told = ap (λ (s : Served). s.position) is;
       replica = λ not. ap (λ (s : Served). s.writer) is;
       idle = ap waits is;

@@ -22,7 +22,7 @@ use Rattle.node_core.specs.Safely.{StepsSafely}
 use Rattle.node_core.specs.Stores.{StoreFields, failed, fields_of, history_of, position, state}
 use Rattle.node_core.proofs.Answering.{Prepared, image-read, left, plan-safely, position-read, primary, quiet, reads-safely, shape-read, told-after}
 use Rattle.node_core.proofs.Calls.{err-same}
-use Rattle.node_core.proofs.Committed.{comes, commits-safely, commits-store, committed-fits, committed-locks, committed-over, image-after, store-changes}
+use Rattle.node_core.proofs.Committed.{comes, commits-safely, commits-store, committed-fits, committed-locks, committed-name, committed-over, image-after, store-changes}
 use Rattle.node_core.proofs.Leaving.{Rests}
 use Rattle.node_core.proofs.Sound.{leads, sound}
 use Rattle.node_core.proofs.node.Node.serve.Goals as goal
@@ -54,6 +54,7 @@ invariant_of-self g c =
     record {
       shape = shape-read law h hm old fm w c.args.caller request p prepared;
       image = image-read law h hm old fm w c.args.caller request p prepared;
+      named = c.prepare.ensures.name ∙ n.named;
       told = position-read law h hm old fm w c.args.caller request p prepared;
       replica = λ not. (quiet law h hm old fm w c.args.caller request p prepared not).1.alone;
       idle = subst (λ (q : Plan). Rests n.store.page_size n.store.commit n.view q w) c.in-Ok-Reply.field-0-is (left law h hm old fm w c.args.caller request p prepared).rests;
@@ -84,6 +85,7 @@ invariant_of-self-in-Ok-Silent g c =
     record {
       shape = shape-read law h hm old fm w c.args.caller request p prepared;
       image = image-read law h hm old fm w c.args.caller request p prepared;
+      named = c.prepare.ensures.name ∙ n.named;
       told = position-read law h hm old fm w c.args.caller request p prepared;
       replica = λ not. (quiet law h hm old fm w c.args.caller request p prepared not).1.alone;
       idle = subst (λ (q : Plan). Rests n.store.page_size n.store.commit n.view q w) c.in-Ok-Silent.field-0-is (left law h hm old fm w c.args.caller request p prepared).rests;
@@ -193,6 +195,7 @@ invariant_of-self-in-Ok g c =
       shape = subst (λ (s : Served). FitsImage s t.page_size t.commit) (sym is)
           (subst (λ (k : ℕ). FitsImage files k t.commit) (sym shape.0) (subst (λ (k : ℕ). FitsImage files change.page_size k) (sym shape.1) (committed-fits w c.in-Ok.position change.page_size change.commit awaits.shape)));
       image = λ still. over (sym (ap (λ (s : StoreFields). s.honest) c.prepare.ensures.read.same) ∙ sym c.in-Ok.ensures.honest ∙ still);
+      named = ap (λ (s : Served). s.name) is ∙ committed-name w ∙ c.prepare.ensures.name ∙ n.named;
       told = ap (λ (s : Served). s.position) is ∙ sym c.in-Ok.ensures.position;
       replica = λ not. absurd (true_false (sym candidate ∙ not));
       idle = ap waits is ∙ rests.1;
@@ -329,6 +332,7 @@ invariant_of-self-in-Err-commit_and_prune g c =
       image = λ now.
           let honest = sym (ap (λ (s : StoreFields). s.honest) read.same) ∙ sym c.in-Err-commit_and_prune.ensures.honest ∙ now in
           subst (λ (s : Served). IsOverImage s (state ht ft).image) (sym is) (subst (λ (s : StoreState). IsOverImage n.view s.image) (sym (still honest)) (n.image honest));
+      named = ap (λ (s : Served). s.name) is ∙ n.named;
       told = ap (λ (s : Served). s.position) is ∙ n.told ∙ sym (ap end_of_entries same.2 ∙ ap position read.same);
       replica = λ not. ap (λ (s : Served). s.writer) is ∙ n.replica not;
       idle = ap waits is ∙ n.idle;

@@ -41,6 +41,7 @@ invariant_of-self g c =
     record {
       shape = subst (λ (s : Served). FitsImage s t.page_size t.commit) (sym is) (took-fits n.view at t.page_size t.commit t.sized.pages);
       image = λ honest. let image = (state (history_of t) (fields_of t)).image in subst (λ (s : Served). IsOverImage s image) (sym is) (took-over n.view at t.page_size t.commit image);
+      named = ap (λ (s : Served). s.name) is ∙ n.named;
       told = ap (λ (s : Served). s.position) is ∙ c.pos.ensures.value;
       replica = λ not. ap (λ (s : Served). s.writer) is;
       idle = ap waits is ∙ applied-idle n.view t.page_size t.commit n.idle;
@@ -59,6 +60,7 @@ invariant_of-self-in-Err-1 g c =
           let honest = sym c.take.ensures.honest ∙ still in
           subst (λ (st : StoreState). IsOverImage n.view st.image)
           (sym (take-same (history_of s) (history_of t) (fields_of s) (fields_of t) c.args.file.now c.in-Err.fault given.answers (given.went honest))) (n.image honest);
+      named = n.named;
       told = n.told ∙ sym given.stands.2;
       replica = n.replica;
       idle = n.idle;
