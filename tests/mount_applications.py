@@ -3,7 +3,7 @@
 (migrations, users, three processes, a replica), sqlite-utils, and a program with an SQLite of its own linked into it.
 What Debian has of them is installed where root may.
 
-At most: 300 seconds.
+At most: 900 seconds.
 Seen to fail: with the database's OPEN refused, and with an unlock lost (Django: `database is locked`)"""
 import os
 import shutil

@@ -2,7 +2,7 @@
 """The kernel's cache of a mounted database (`-o cache`): what another mount of the same node commits is seen, at a replica each
 position is, a copy by `cp` is the present position, and nothing stays of a writer that was killed in its transaction.
 
-At most: 240 seconds.
+At most: 900 seconds.
 Seen to fail: HOW"""
 import os
 import shutil

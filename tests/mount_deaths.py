@@ -2,7 +2,7 @@
 """A client of a mounted database is killed at each of its changing messages, while two other connections stay open: these
 see one and the same number of rows, and nothing that was acknowledged is lost.
 
-At most: 240 seconds.
+At most: 900 seconds.
 Seen to fail: with no header told before WRITE is given up (WAL, killed at its message 30: the two that stay open miss the
 rows of a commit that was made)"""
 import mmap

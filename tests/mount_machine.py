@@ -2,7 +2,7 @@
 """The tests of litefs-fuse without a mount: one for each rule of its machine, and a recorded conversation of the kernel and a
 node. They need cargo and no network.
 
-At most: 300 seconds.
+At most: 600 seconds.
 Seen to fail: with an unlock that tells no header, and with EIO of a READ handed on (the tests of these names)"""
 import os
 import shutil

@@ -2,7 +2,7 @@
 """A mounted replica: connections that stay open see each position as soon as it has arrived, a reader sees one position
 while it reads, a write is refused, and with `ro` SQLite itself says that the database is read-only.
 
-At most: 180 seconds.
+At most: 900 seconds.
 Seen to fail: with the header not put in behind a lock (`fresh`: an open connection sees the rows of the position before); with
 `ro` that does nothing (`read_only`: `disk I/O error`)"""
 import sqlite3

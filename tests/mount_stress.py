@@ -3,7 +3,7 @@
 transaction sets all rows to one number, so a reader that sees two numbers has seen half a transaction. At the end both
 databases are sound, and the replica stands where the primary does.
 
-At most: 240 seconds.
+At most: 600 seconds.
 Seen to fail: in WAL mode with the header not put in behind a lock (a replica's reader sees fewer rows than the position
 says, or `database disk image is malformed`)"""
 import random
