@@ -14,8 +14,8 @@ use txn_log::Store;
 /// A node: the served files of a database over its store.
 ///
 /// The files are of the database that the node was given. They stand over the committed image, and
-/// tell the store's position. At a replica nobody has uncommitted pages. No request waits between two steps. Different owners share a lock only for
-/// reading.
+/// tell the store's position. At a replica nobody has uncommitted pages. No request waits between two
+/// steps. Different owners share a lock only for reading.
 #[derive(Drop)]
 pub struct Node<D: Disk> {
     pub(crate) alloc: Global,
