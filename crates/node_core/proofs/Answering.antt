@@ -28,13 +28,13 @@ use Rattle.world_laws.specs.Node as laws
 use Rattle.world_laws.specs.Served.{ShareForReading}
 use Rattle.world_laws.specs.Store.{MayBeFound, StoreState}
 use Rattle.node_core.specs.Files.{IsPlanned, scene, told}
-use Rattle.node_core.specs.Nodes.{NodeParts, frames_of, seen}
+use Rattle.node_core.specs.Nodes.{frames_of, role_in, seen, NodeParts}
 use Rattle.node_core.specs.Roles.{role_by}
 use Rattle.node_core.specs.Safely.{StepsSafely}
 use Rattle.node_core.specs.Stores.{IsRead, StoreFields, failed, position, state}
 use Rattle.node_core.proofs.Facts.{says-none}
 use Rattle.node_core.proofs.Leaving.{Leaves, leaves}
-use Rattle.node_core.proofs.Sound.{no_candidate, sound}
+use Rattle.node_core.proofs.Sound.{is-replica, sound}
 use Rattle.node_core.proofs.Steady.{steady-files, steps-still}
 
 -- what is told of an image, where the disk is honest
@@ -65,15 +65,15 @@ frames-same old new same = elim (cases_Bool (has_committed_frames old)) [
 
 -- a request that commits nothing, or is refused: pages were read at most, and at a replica a reader sees what it saw
 pub reads-safely : (start mid : History) (old : NodeParts) (store : StoreFields) (files : Served) (answer : laws.Answer) → IsTrue old.store.honest → IsRead start old.store mid store
-    → RestsAs (MayBeFound (state mid store) (failed mid store)) mid → IsOverImage files (state mid store).image → ShareForReading files.locks → (old.config.candidate ≡ false → files.writer ≡ None)
-    → (old.config.candidate ≡ false → (files.database ≡ old.files.database) × (frames_of (log_contents files) ≡ frames_of (log_contents old.files)))
+    → RestsAs (MayBeFound (state mid store) (failed mid store)) mid → IsOverImage files (state mid store).image → ShareForReading files.locks → (role_in old ≡ role.Replica → files.writer ≡ None)
+    → (role_in old ≡ role.Replica → (files.database ≡ old.files.database) × (frames_of (log_contents files) ≡ frames_of (log_contents old.files)))
     → Answers (seen start old) (seen start old).role laws.File [] None answer (seen mid (record old { store = store; files = files })) → LeavesUndone answer []
     → StepsSafely (seen start old) laws.File answer (seen mid (record old { store = store; files = files })) start mid
 reads-safely start mid old store files answer honest read rests over shares replica same answers undone =
     let new : NodeParts = record old { store = store; files = files } in
     steps-still (seen start old) (seen mid new) laws.File answer start mid read.rests (read.state honest) (read.failed honest) rests
     (says-none (seen start old) (seen mid new) (seen start old).role laws.File answer answers undone
-    (λ plain still. let both = same (no_candidate old.config.candidate plain.role) in steady-files start mid old store files (read.state honest) both.0 both.1)
+    (λ plain still. let both = same (is-replica (role_in old) plain.role) in steady-files start mid old store files (read.state honest) both.0 both.1)
     (sound mid new over shares replica))
 
 -- the law of the files at a replica
@@ -87,16 +87,16 @@ pub record Prepared (start : History) (old : NodeParts) (caller : ℕ) (request 
   pub planned : IsPlanned start old caller request p files
   pub stands : StandsOver (told start old.store) old.store.page_size old.store.commit files
   pub told_position : old.files.position ≡ position old.store
-  pub replica : old.config.candidate ≡ false → old.files.writer ≡ None
+  pub replica : role_in old ≡ role.Replica → old.files.writer ≡ None
   pub idle : waits old.files ≡ false
   pub sized : 0 < old.store.commit → IsPageSize old.store.page_size
 
 module _ (law : LeavesReplica) (start mid : History) (old : NodeParts) (store : StoreFields) (files : Served) (caller : ℕ) (request : Request) (p : Plan)
     (prepared : Prepared start old caller request p files mid store) where
   -- at a replica the database stays, nobody writes, and nothing is to be committed
-  pub quiet : old.config.candidate ≡ false → SameDatabase old.files files × IsQuiet files × CommitsNothing p
+  pub quiet : role_in old ≡ role.Replica → SameDatabase old.files files × IsQuiet files × CommitsNothing p
   quiet not =
-      law (told start old.store) old.files files (scene old caller) request p (ap role_by not) (record { alone = prepared.replica not; free = prepared.idle }) prepared.planned.allowed prepared.planned.done
+      law (told start old.store) old.files files (scene old caller) request p not (record { alone = prepared.replica not; free = prepared.idle }) prepared.planned.allowed prepared.planned.done
 
   pub left : Leaves old.store.page_size old.store.commit old.files p files
   left = leaves (told start old.store) old.files (scene old caller) prepared.sized prepared.idle request.node request.op p files prepared.planned.allowed prepared.planned.done
@@ -115,11 +115,11 @@ module _ (law : LeavesReplica) (start mid : History) (old : NodeParts) (store : 
   position-read = left.position ∙ prepared.told_position ∙ sym (ap position prepared.read.same)
 
   -- only a primary commits
-  pub primary : (r : Reply) (change : PageChange) → p ≡ plan.Commit r change → old.config.candidate ≡ true
+  pub primary : (r : Reply) (change : PageChange) → p ≡ plan.Commit r change → role_in old ≡ role.Primary
   primary r change is = go old.config.candidate refl where
-    go : (b : Bool) → old.config.candidate ≡ b → b ≡ true
-    go true candidate = refl
-    go false candidate = absurd (subst CommitsNothing is (quiet candidate).2)
+    go : (b : Bool) → old.config.candidate ≡ b → role_in old ≡ role.Primary
+    go true candidate = ap role_by candidate
+    go false candidate = absurd (subst CommitsNothing is (quiet (ap role_by candidate)).2)
 
   -- a step that commits nothing
   pub plan-safely : (answer : laws.Answer) → IsTrue old.store.honest → RestsAs (MayBeFound (state mid store) (failed mid store)) mid → ShareForReading files.locks

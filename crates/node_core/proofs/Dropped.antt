@@ -5,6 +5,7 @@ use Rattle.lf_base.specs.declared.pos.Pos.{Pos}
 use Rattle.lf_base.specs.Faults.{Rose}
 use Rattle.lf_disk.specs.History.{History}
 use Rattle.lf_sqlite_pages.specs.Image.{DatabaseImage}
+use Rattle.file_view.specs.declared.role.Role.TheVariants as role
 use Rattle.file_view.specs.Endings.{applied, first_blocking}
 use Rattle.file_view.specs.Errno.{EAGAIN, EROFS}
 use Rattle.file_view.specs.Overlay.{FitsImage, IsOverImage}
@@ -18,7 +19,7 @@ use Rattle.txn_log.specs.Causes.{Breaks}
 use Rattle.txn_log.specs.Dropping.{DropsAll}
 use Rattle.world_laws.specs.Store.{DropAll}
 use Rattle.node_core.specs.Calls.{Changes}
-use Rattle.node_core.specs.Nodes.{NodeParts}
+use Rattle.node_core.specs.Nodes.{NodeParts, role_in}
 use Rattle.node_core.specs.Roles.{role_by}
 use Rattle.node_core.specs.Stores.{StoreFields, failed, state}
 use Rattle.node_core.specs.Unlinking.{unlink_rows}
@@ -40,14 +41,14 @@ dropped-over s at image =
     record { differs = over.differs; agrees = over.agrees }
 
 -- only a primary is allowed to
-leads-by : (candidate : Bool) (rows : List Row) → first_refusal ((is_replica (role_by candidate), EROFS) ∷ rows) ≡ None → candidate ≡ true
+leads-by : (candidate : Bool) (rows : List Row) → first_refusal ((is_replica (role_by candidate), EROFS) ∷ rows) ≡ None → role_by candidate ≡ role.Primary
 leads-by true rows allowed = refl
 leads-by false rows allowed = absurd (some_none allowed)
   where
     some_none : Some EROFS ≡ None → ⊥
     some_none same = cc
 
-pub leads-allowed : (n : NodeParts) → IsAllowed (unlink_rows n) → n.config.candidate ≡ true
+pub leads-allowed : (n : NodeParts) → IsAllowed (unlink_rows n) → role_in n ≡ role.Primary
 leads-allowed n allowed = leads-by n.config.candidate ((is_some (first_blocking n.files n.store.wal), EAGAIN) ∷ []) allowed
 
 -- what the drop made of the store

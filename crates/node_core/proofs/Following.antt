@@ -1,5 +1,5 @@
 -- A replica that follows: its role, and the locks that hold a frame back.
-use Rattle.std.proofs.Common.{◌≡◌, ℕ, ◌<◌, ◌≤◌, true, false, Bool, Some, None, Option, Result, Ok, Err, inl, inr, sym, ap, subst, arith}
+use Rattle.std.proofs.Common.{◌≡◌, ◌≢◌, ℕ, ◌<◌, ◌≤◌, true, false, Bool, Some, None, Option, Result, Ok, Err, inl, inr, refl, sym, ap, subst, arith}
 use Rattle.std.proofs.lemmas.Bool.Decides.{nat_tests}
 use Rattle.std.specs.List.{Contains}
 use Rattle.byte_locks.specs.declared.lock_id.LockId.{LockId}
@@ -9,6 +9,8 @@ use Rattle.lf_sqlite_pages.specs.Image.{DatabaseImage}
 use Rattle.lf_sqlite_pages.specs.PageSize.{IsPageSize, is_page_size}
 use Rattle.ltx_codec.specs.Positions.{after}
 use Rattle.ltx_codec.specs.declared.file.Ltx.{Ltx}
+use Rattle.file_view.specs.declared.role.Role.{Role}
+use Rattle.file_view.specs.declared.role.Role.TheVariants as role
 use Rattle.file_view.specs.Endings.{applied, first_blocking}
 use Rattle.file_view.specs.Overlay.{FitsImage, IsOverImage}
 use Rattle.file_view.specs.Served.{Served}
@@ -23,17 +25,18 @@ use Rattle.world_laws.specs.Served.{HoldsBack, blocking_locks}
 use Rattle.world_laws.specs.Store.{Failure, PruneTo, StoreState}
 use Rattle.node_core.specs.Calls.{Changes}
 use Rattle.node_core.specs.Nodes.{served_over}
-use Rattle.node_core.specs.Roles.{law_role, role_by}
+use Rattle.node_core.specs.Roles.{law_role}
 use Rattle.node_core.specs.Framing.{Takes}
 use Rattle.node_core.specs.Stores.{StoreFields, failed, state}
 use Rattle.node_core.proofs.Calls.{Begins, changes, err-same, no_failure}
 use Rattle.node_core.proofs.Endings.{applied-fits, applied-over}
 use Rattle.node_core.proofs.Locks.{held-back, none-held}
 
--- what is no candidate is no primary
-pub not-primary : (candidate : Bool) → candidate ≡ false → law_role (role_by candidate) ≡ laws.Primary → ⊥
-not-primary true is same = absurd (let no : true ≡ false = is in cc)
-not-primary false is same = cc
+-- what is no primary is none to the laws
+pub not-primary : (r : Role) → r ≢ role.Primary → law_role r ≡ laws.Primary → ⊥
+not-primary role.Primary not same = not refl
+not-primary role.Replica not same = cc
+not-primary role.Halted not same = cc
 
 module _ (s : Served) (wal : Bool) (image : DatabaseImage) (mode : wal ≡ image_is_wal image) (which : LockId) where
   -- the lock that was found holds frames back

@@ -2,6 +2,7 @@
 use Rattle.std.proofs.Common.{◌≡◌, ◌∙◌, ℕ, true, false, List, [], None, Option, None, Result, length, refl, sym, ap, subst}
 use Rattle.lf_base.specs.declared.pos.Pos.{Pos}
 use Rattle.lf_disk.specs.History.{History}
+use Rattle.file_view.specs.declared.role.Role.TheVariants as role
 use Rattle.file_view.specs.Overlay.{IsOverImage}
 use Rattle.txn_log.specs.declared.fault.StoreFault.{StoreFault}
 use Rattle.txn_log.specs.Calls.{Went}
@@ -14,7 +15,7 @@ use Rattle.world_laws.specs.Served.{ShareForReading}
 use Rattle.world_laws.specs.Step.{Steady, prunes}
 use Rattle.world_laws.specs.Store.{Failure, PruneTo, StoreCall, StoreState}
 use Rattle.node_core.specs.Calls.{Changes}
-use Rattle.node_core.specs.Nodes.{NodeParts, file_over, seen}
+use Rattle.node_core.specs.Nodes.{file_over, role_in, seen, NodeParts}
 use Rattle.node_core.specs.Safely.{StepsSafely}
 use Rattle.node_core.specs.Stores.{StoreFields, failed, position, state}
 use Rattle.node_core.proofs.Asking.{Ran, called}
@@ -45,13 +46,13 @@ same-but-faults old new honest page_size commit entries sums wal dropped broken 
 }
 
 -- a primary whose store was read at most tells a follower this
-module _ (start end : History) (old : NodeParts) (new : StoreFields) (same : state end new ≡ state start old.store) (primary : old.config.candidate ≡ true) (over : IsOverImage old.files (state start old.store).image)
-    (locks : ShareForReading old.files.locks) (replica : old.config.candidate ≡ false → old.files.writer ≡ None) where
+module _ (start end : History) (old : NodeParts) (new : StoreFields) (same : state end new ≡ state start old.store) (primary : role_in old ≡ role.Primary) (over : IsOverImage old.files (state start old.store).image)
+    (locks : ShareForReading old.files.locks) (replica : role_in old ≡ role.Replica → old.files.writer ≡ None) where
   pub looks-says : (from : Pos) (answer : laws.Answer) → AnswersHello (seen start old) (seen end (record old { store = new })) (seen start old).role from answer → LeavesUndone answer []
       → Says (seen start old) (seen start old).role (laws.Hello from) [] None answer (seen end (record old { store = new }))
   looks-says from answer tells undone =
       says-none (seen start old) (seen end (record old { store = new })) (seen start old).role (laws.Hello from) answer tells undone
-      (leading (seen start old) (seen end (record old { store = new })) (leads old.config.candidate primary))
+      (leading (seen start old) (seen end (record old { store = new })) (leads (role_in old) primary))
       (sound end (record old { store = new }) (subst (λ (t : StoreState). IsOverImage old.files t.image) (sym same) over) locks replica)
 
 module _ (start end : History) (old : NodeParts) (new : StoreFields) (keep : ℕ) (result : Result ℕ StoreFault) (answers : Prunes old.store.broken (length old.store.entries) keep result)
@@ -75,7 +76,7 @@ module _ (start end : History) (old : NodeParts) (new : StoreFields) (keep : ℕ
       frames = refl;
     }
 
-    pub prunes-safely : (answer : laws.Answer) → IsOverImage old.files (state start old.store).image → ShareForReading old.files.locks → (old.config.candidate ≡ false → old.files.writer ≡ None)
+    pub prunes-safely : (answer : laws.Answer) → IsOverImage old.files (state start old.store).image → ShareForReading old.files.locks → (role_in old ≡ role.Replica → old.files.writer ≡ None)
         → Breaks old.store.broken old.store.faults result new.broken new.faults
         → ((did : List StoreCall) (failure : Option Failure) → Ran result (PruneTo keep) did failure → LeavesUndone answer did)
         → StepsSafely (seen start old) (laws.Prune keep) answer (seen end (record old { store = new })) start end

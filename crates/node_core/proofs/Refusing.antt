@@ -1,8 +1,9 @@
 -- The refusals of a store, as those of a node.
-use Rattle.std.proofs.Common.{◌≡◌, ℕ, true, false, Bool, List, [], IsSome, Option, Result, Ok, Err, refl, arith}
+use Rattle.std.proofs.Common.{◌≡◌, ◌≢◌, ℕ, true, false, Bool, List, [], IsSome, Option, Result, Ok, Err, refl, arith}
 use Rattle.lf_base.specs.declared.pos.Pos.{Pos}
 use Rattle.lf_disk.specs.History.{History}
 use Rattle.ltx_codec.specs.declared.file.Ltx.{Ltx}
+use Rattle.file_view.specs.declared.role.Role.TheVariants as role
 use Rattle.txn_log.specs.declared.fault.StoreFault.{StoreFault}
 use Rattle.txn_log.specs.declared.fault.StoreFault.TheVariants as fault
 use Rattle.txn_log.specs.Dropping.{DropsAll}
@@ -16,7 +17,7 @@ use Rattle.node_core.specs.Dropping.{IsFree, RefusesDrop}
 use Rattle.node_core.specs.Errors.{refusal_of}
 use Rattle.node_core.specs.Framing.{IsNotTaken, RefusesFile}
 use Rattle.node_core.specs.Hello.{OwesFile, RefusesHello}
-use Rattle.node_core.specs.Nodes.{NodeParts}
+use Rattle.node_core.specs.Nodes.{NodeParts, role_in}
 use Rattle.node_core.specs.Pruning.{PrunesStore, RefusesPrune, kept_of}
 use Rattle.node_core.specs.Safely.{law_refusal, law_store_fault}
 use Rattle.node_core.specs.Stores.{StoreFields, position}
@@ -55,7 +56,7 @@ refuses-file start old file (fault.SumDiffers want got) end new is = is
 refuses-file start old file (fault.PageSize have want) end new is = is
 
 -- of a drop
-pub refuses-drop : (start : History) (old : NodeParts) (why : StoreFault) (end : History) (new : NodeParts) → old.config.candidate ≡ false → IsFree old → 1 ≤ (position old.store).txid
+pub refuses-drop : (start : History) (old : NodeParts) (why : StoreFault) (end : History) (new : NodeParts) → role_in old ≢ role.Primary → IsFree old → 1 ≤ (position old.store).txid
     → DropsAll {T = Unit {0}} old.store.broken (Err why) → IsNotDropped {T = Unit {0}} start old (Err why) end new → RefusesDrop start old (refusal_of why) end new
 refuses-drop start old fault.Disk end new replica free some answers is = (replica, free, some, is)
 refuses-drop start old fault.Broken end new replica free some answers is = (replica, free, some, is)
@@ -88,7 +89,7 @@ refuses-prune start old keep (fault.SumDiffers want got) end new some is = absur
 refuses-prune start old keep (fault.PageSize have want) end new some is = absurd is.answers
 
 -- of a file of the log that is read, and of the snapshot
-pub refuses-read : (T : Type 0) (old : NodeParts) (from : Pos) (why : StoreFault) (new : StoreFields) → old.config.candidate ≡ true → OwesFile old.store from
+pub refuses-read : (T : Type 0) (old : NodeParts) (from : Pos) (why : StoreFault) (new : StoreFields) → role_in old ≡ role.Primary → OwesFile old.store from
     → ReadsWith {T = T} old.store.broken old.store.faults new.faults (Err why) → RefusesHello old from (refusal_of why) new
 refuses-read T old from fault.Disk new primary owes cause = (primary, owes, cause.1)
 refuses-read T old from fault.Broken new primary owes cause = (primary, owes, cause.0)

@@ -7,13 +7,15 @@ use Rattle.lf_disk.specs.History.{History}
 use Rattle.lf_sqlite_pages.specs.Image.{DatabaseImage}
 use Rattle.database_file.specs.DatabaseFile.{clean}
 use Rattle.database_under_log.specs.Over.{Agrees}
+use Rattle.file_view.specs.declared.role.Role.{Role}
+use Rattle.file_view.specs.declared.role.Role.TheVariants as role
 use Rattle.file_view.specs.Overlay.{IsOverImage}
 use Rattle.file_view.specs.Served.{Served, log_contents}
 use Rattle.world_laws.specs.Node as laws
 use Rattle.world_laws.specs.Node.{IsSoundNode}
 use Rattle.world_laws.specs.Served.{IsUnder, MeetsOverlay, ShareForReading}
-use Rattle.node_core.specs.Nodes.{NodeParts, seen, served_over, writer_in}
-use Rattle.node_core.specs.Roles.{law_role, role_by}
+use Rattle.node_core.specs.Nodes.{NodeParts, role_in, seen, served_over, writer_in}
+use Rattle.node_core.specs.Roles.{law_role}
 use Rattle.node_core.specs.Stores.{state}
 use Rattle.node_core.proofs.Overlay.{agrees-but, agrees-clean, agrees-whole}
 
@@ -33,23 +35,25 @@ under s image (Some owner) some over = (
 pub meets : (s : Served) (image : DatabaseImage) → IsOverImage s image → MeetsOverlay (served_over s image) image
 meets s image over = under s image s.writer refl over
 
--- a replica is no candidate
-pub no_candidate : (candidate : Bool) → law_role (role_by candidate) ≡ laws.Replica → candidate ≡ false
-no_candidate false same = refl
-no_candidate true same = absurd (primary_replica same)
-  where
-    primary_replica : laws.Primary ≡ laws.Replica → ⊥
-    primary_replica same = cc
+-- what the laws name a replica is one
+pub is-replica : (r : Role) → law_role r ≡ laws.Replica → r ≡ role.Replica
+is-replica role.Replica same = refl
+is-replica role.Primary same = absurd cc
+is-replica role.Halted same = absurd cc
 
--- a candidate is no replica
-pub leads : (candidate : Bool) → candidate ≡ true → law_role (role_by candidate) ≡ laws.Primary
-leads candidate is = ap (λ b. law_role (role_by b)) is
+-- a primary is one to the laws
+pub leads : (r : Role) → r ≡ role.Primary → law_role r ≡ laws.Primary
+leads r is = ap law_role is
+
+-- and no replica
+pub apart : role.Primary ≡ role.Replica → ⊥
+apart same = cc
 
 -- what always holds of a node
-pub sound : (h : History) (n : NodeParts) → IsOverImage n.files (state h n.store).image → ShareForReading n.files.locks → (n.config.candidate ≡ false → n.files.writer ≡ None)
+pub sound : (h : History) (n : NodeParts) → IsOverImage n.files (state h n.store).image → ShareForReading n.files.locks → (role_in n ≡ role.Replica → n.files.writer ≡ None)
     → IsSoundNode (seen h n)
 sound h n over shares replica = record {
   overlay = meets n.files (state h n.store).image over;
   shares = shares;
-  replica = λ same. ap (λ w. option_map (writer_in n.files.database (state h n.store).image) w) (replica (no_candidate n.config.candidate same));
+  replica = λ same. ap (λ w. option_map (writer_in n.files.database (state h n.store).image) w) (replica (is-replica (role_in n) same));
 }

@@ -1,13 +1,14 @@
 -- DROP: word that the database was dropped at another node. It takes no memory.
-use Rattle.std.specs.Prelude.{◌≡◌, ◌≤◌, true, false, Some, None, Err}
+use Rattle.std.specs.Prelude.{◌≡◌, ◌≢◌, ◌≤◌, Some, None, Err}
 use Rattle.lf_disk.specs.History.{History}
 use Rattle.ltx_codec.specs.Positions.{nowhere}
+use Rattle.file_view.specs.declared.role.Role.TheVariants as role
 use Rattle.file_view.specs.Endings.{first_blocking}
 use Rattle.node_core.specs.declared.answer.Answer.{Answer}
 use Rattle.node_core.specs.declared.answer.Answer.TheVariants as answers
 use Rattle.node_core.specs.declared.refusal.Refusal.{Refusal}
 use Rattle.node_core.specs.declared.refusal.Refusal.TheVariants as refusals
-use Rattle.node_core.specs.Nodes.{NodeParts}
+use Rattle.node_core.specs.Nodes.{NodeParts, role_in}
 use Rattle.node_core.specs.Stores.{OnlyRead, position}
 use Rattle.node_core.specs.Unlinking.{DropsWhatIsThere, IsNotDropped}
 
@@ -21,9 +22,9 @@ IsFree n = first_blocking n.files n.store.wal ≡ None
 
 -- why it is refused: the node is the primary; or its disk failed, or did before
 abbrev pub RefusesDrop : History → NodeParts → Refusal → History → NodeParts → Type 0
-RefusesDrop start old refusals.NotReplica end new = (old.config.candidate ≡ true) × IsUntouched start old end new
+RefusesDrop start old refusals.NotReplica end new = (role_in old ≡ role.Primary) × IsUntouched start old end new
 RefusesDrop start old (refusals.Store why) end new =
-    (old.config.candidate ≡ false) × IsFree old × (1 ≤ (position old.store).txid) × IsNotDropped {T = Unit {0}} start old (Err why) end new
+    (role_in old ≢ role.Primary) × IsFree old × (1 ≤ (position old.store).txid) × IsNotDropped {T = Unit {0}} start old (Err why) end new
 RefusesDrop start old refusals.NotPrimary end new = ⊥
 RefusesDrop start old (refusals.Ltx why) end new = ⊥
 RefusesDrop start old refusals.Absent end new = ⊥
@@ -31,9 +32,9 @@ RefusesDrop start old refusals.NoMemory end new = ⊥
 
 -- what it answers. A database that was written is dropped; else nothing is done
 abbrev pub AnswersDrop : History → NodeParts → Answer → History → NodeParts → Type 0
-AnswersDrop start old (answers.Applied here) end new = (old.config.candidate ≡ false) × IsFree old × (here ≡ nowhere) × DropsWhatIsThere start old end new
+AnswersDrop start old (answers.Applied here) end new = (role_in old ≢ role.Primary) × IsFree old × (here ≡ nowhere) × DropsWhatIsThere start old end new
 AnswersDrop start old (answers.Held lock) end new =
-    (old.config.candidate ≡ false) × (first_blocking old.files old.store.wal ≡ Some lock) × IsUntouched start old end new
+    (role_in old ≢ role.Primary) × (first_blocking old.files old.store.wal ≡ Some lock) × IsUntouched start old end new
 AnswersDrop start old (answers.Refused why) end new = RefusesDrop start old why end new
 AnswersDrop start old (answers.Done reply) end new = ⊥
 AnswersDrop start old answers.Quiet end new = ⊥

@@ -13,8 +13,7 @@ use Rattle.file_view.specs.Needs.{Needs, ReadsPages, TakesMemory}
 use Rattle.file_view.specs.Refusal.{IsAllowed, Row, first_refusal}
 use Rattle.file_view.specs.Requests.{rows_of, scene_of}
 use Rattle.file_view.specs.Served.{Served}
-use Rattle.node_core.specs.Nodes.{NodeParts}
-use Rattle.node_core.specs.Roles.{role_of}
+use Rattle.node_core.specs.Nodes.{NodeParts, role_in}
 use Rattle.node_core.specs.Stores.{StoreFields, state}
 
 -- the committed image, where the disk tells it
@@ -23,7 +22,7 @@ told h s = if s.honest then Some (state h s).image else None
 
 -- who asks, what the node is, the shape of the committed image, and whether the store is broken
 abbrev pub scene : NodeParts → ℕ → Scene
-scene n caller = scene_of caller (role_of n.config) n.store.page_size n.store.commit n.store.broken
+scene n caller = scene_of caller (role_in n) n.store.page_size n.store.commit n.store.broken
 
 -- no rule refuses the request, it does what it says, and these are the files then; of the store pages were read
 pub record IsPlanned (start : History) (old : NodeParts) (caller : ℕ) (request : Request) (plan : Plan) (files : Served) : Type 0 where

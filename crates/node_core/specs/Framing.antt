@@ -1,11 +1,12 @@
 -- FRAME: an LTX file of another node is installed where it begins with transaction 1, and else applied.
-use Rattle.std.specs.Prelude.{◌≡◌, ◌≢◌, ◌⊎◌, true, false, IsTrue, List, ℕ, Some, Result, Ok, Err}
+use Rattle.std.specs.Prelude.{◌≡◌, ◌≢◌, ◌⊎◌, IsTrue, List, ℕ, Some, Result, Ok, Err}
 use Rattle.lf_base.specs.declared.pos.Pos.{Pos}
 use Rattle.lf_disk.specs.History.{History}
 use Rattle.ltx_codec.specs.Format.{IsLtx}
 use Rattle.ltx_codec.specs.Places.{IsEarliest}
 use Rattle.ltx_codec.specs.Positions.{after}
 use Rattle.ltx_codec.specs.declared.file.Ltx.{Ltx}
+use Rattle.file_view.specs.declared.role.Role.TheVariants as role
 use Rattle.file_view.specs.Endings.{applied, first_blocking}
 use Rattle.txn_log.specs.declared.fault.StoreFault.{StoreFault}
 use Rattle.txn_log.specs.declared.fault.StoreFault.TheVariants as fault
@@ -19,7 +20,7 @@ use Rattle.node_core.specs.declared.refusal.Refusal.{Refusal}
 use Rattle.node_core.specs.declared.refusal.Refusal.TheVariants as refusals
 use Rattle.node_core.specs.Calls.{Changes}
 use Rattle.node_core.specs.Dropping.{IsFree, IsUntouched}
-use Rattle.node_core.specs.Nodes.{NodeParts}
+use Rattle.node_core.specs.Nodes.{NodeParts, role_in}
 use Rattle.node_core.specs.Stores.{StoreFields, failed, position, state}
 
 -- what the store answers: it installs a snapshot, and applies any other file
@@ -99,6 +100,6 @@ RefusesBytes bytes (answers.Pruned count) = ⊥
 -- the primary takes nothing; elsewhere the bytes are no file that can be read, or the file that they are is answered
 abbrev pub AnswersFrame : History → NodeParts → List ℕ → Answer → History → NodeParts → Type 0
 AnswersFrame start old bytes answer end new =
-    ((old.config.candidate ≡ true) × (answer ≡ answers.Refused refusals.NotReplica) × IsUntouched start old end new)
-    ⊎ ((old.config.candidate ≡ false)
+    ((role_in old ≡ role.Primary) × (answer ≡ answers.Refused refusals.NotReplica) × IsUntouched start old end new)
+    ⊎ ((role_in old ≢ role.Primary)
     × ((RefusesBytes bytes answer × IsUntouched start old end new) ⊎ ((file : Ltx) × IsLtx bytes file × AnswersLtx start old file answer end new)))

@@ -1,9 +1,10 @@
 -- HELLO: what is owed to a follower at a position. Files of the store are read at most.
-use Rattle.std.specs.Prelude.{◌≡◌, ◌⊎◌, ℕ, ◌≤◌, true, false, IsTrue, List, get_or}
+use Rattle.std.specs.Prelude.{◌≡◌, ◌≢◌, ◌⊎◌, ℕ, ◌≤◌, true, IsTrue, List, get_or}
 use Rattle.lf_base.specs.Faults.{Rose}
 use Rattle.lf_base.specs.declared.pos.Pos.{Pos}
 use Rattle.lf_disk.specs.History.{History}
 use Rattle.ltx_codec.specs.Format.{file_encoding, no_meaning}
+use Rattle.file_view.specs.declared.role.Role.TheVariants as role
 use Rattle.txn_log.specs.declared.answer.Answer.TheVariants as owed
 use Rattle.txn_log.specs.declared.entry.Entry.{Entry}
 use Rattle.txn_log.specs.declared.fault.StoreFault.TheVariants as fault
@@ -14,7 +15,7 @@ use Rattle.node_core.specs.declared.answer.Answer.{Answer}
 use Rattle.node_core.specs.declared.answer.Answer.TheVariants as answers
 use Rattle.node_core.specs.declared.refusal.Refusal.{Refusal}
 use Rattle.node_core.specs.declared.refusal.Refusal.TheVariants as refusals
-use Rattle.node_core.specs.Nodes.{NodeParts}
+use Rattle.node_core.specs.Nodes.{NodeParts, role_in}
 use Rattle.node_core.specs.Stores.{StoreFields, failed, position, state}
 
 -- files of the store were read, and nothing else was done: only its disk's count of faults may have risen
@@ -45,10 +46,10 @@ OwesFile store from = (IsGone store.dropped from → ⊥) × (IsLevel store.entr
 -- why it is refused: the node is a replica; or a file is owed that the disk didn't give, a broken store doesn't give, or memory is
 -- wanting for
 abbrev pub RefusesHello : NodeParts → Pos → Refusal → StoreFields → Type 0
-RefusesHello old from refusals.NotPrimary new = old.config.candidate ≡ false
-RefusesHello old from (refusals.Store fault.Disk) new = (old.config.candidate ≡ true) × OwesFile old.store from × Rose old.store.faults new.faults
-RefusesHello old from (refusals.Store fault.Broken) new = (old.config.candidate ≡ true) × OwesFile old.store from × (old.store.broken ≡ true)
-RefusesHello old from refusals.NoMemory new = (old.config.candidate ≡ true) × OwesFile old.store from
+RefusesHello old from refusals.NotPrimary new = role_in old ≢ role.Primary
+RefusesHello old from (refusals.Store fault.Disk) new = (role_in old ≡ role.Primary) × OwesFile old.store from × Rose old.store.faults new.faults
+RefusesHello old from (refusals.Store fault.Broken) new = (role_in old ≡ role.Primary) × OwesFile old.store from × (old.store.broken ≡ true)
+RefusesHello old from refusals.NoMemory new = (role_in old ≡ role.Primary) × OwesFile old.store from
 RefusesHello old from (refusals.Store fault.Limit) new = ⊥
 RefusesHello old from (refusals.Store fault.NoMemory) new = ⊥
 RefusesHello old from (refusals.Store (fault.NotNext have want)) new = ⊥
@@ -61,10 +62,10 @@ RefusesHello old from refusals.Absent new = ⊥
 -- what it answers
 abbrev pub TellsFollower : History → NodeParts → Pos → Answer → StoreFields → Type 0
 TellsFollower start old from (answers.Level here) new =
-    (old.config.candidate ≡ true) × (here ≡ position old.store) × Answers old.store.entries old.store.dropped from owed.Level
+    (role_in old ≡ role.Primary) × (here ≡ position old.store) × Answers old.store.entries old.store.dropped from owed.Level
 TellsFollower start old from (answers.Item ltx to) new =
-    (old.config.candidate ≡ true) × (IsFirstFile start old.store from ltx to ⊎ IsWholeDatabase start old.store from ltx to)
-TellsFollower start old from answers.Gone new = (old.config.candidate ≡ true) × Answers old.store.entries old.store.dropped from owed.Gone
+    (role_in old ≡ role.Primary) × (IsFirstFile start old.store from ltx to ⊎ IsWholeDatabase start old.store from ltx to)
+TellsFollower start old from answers.Gone new = (role_in old ≡ role.Primary) × Answers old.store.entries old.store.dropped from owed.Gone
 TellsFollower start old from (answers.Refused why) new = RefusesHello old from why new
 TellsFollower start old from (answers.Done reply) new = ⊥
 TellsFollower start old from answers.Quiet new = ⊥

@@ -11,6 +11,7 @@ use Rattle.lf_sqlite_pages.specs.Image.{DatabaseImage}
 use Rattle.database_file.specs.DatabaseFile.{DatabaseFile, as_read, count_over, size_of}
 use Rattle.wal_watch.specs.Frames.{committed_count}
 use Rattle.wal_watch.specs.News.{change_of}
+use Rattle.file_view.specs.declared.role.Role.{Role}
 use Rattle.file_view.specs.Served.{Served, log_contents}
 use Rattle.txn_log.specs.declared.store.Store.{Store}
 use Rattle.world_laws.specs.Node.{NodeState}
@@ -27,6 +28,10 @@ pub record NodeParts : Type 0 where
   pub store : StoreFields
   pub config : NodeConfig
   pub moment : ℕ
+
+-- what it is in its cluster at that moment
+abbrev pub role_in : NodeParts → Role
+role_in n = role_of n.config
 
 module _ {D : Type 0} {G : Ghosts D} where
   abbrev pub parts_of : Node D G → NodeParts
@@ -73,7 +78,7 @@ seen h n = record {
   store = state h n.store;
   failed = failed h n.store;
   faults = n.store.faults;
-  role = law_role (role_of n.config);
+  role = law_role (role_in n);
   waits = None;
   served = served_over n.files (state h n.store).image;
 }

@@ -5,8 +5,8 @@ use Rattle.file_view.specs.Views.{new_view}
 use Rattle.world_laws.specs.Node.{NodeState}
 use Rattle.world_laws.specs.Served.{untouched}
 use Rattle.node_core.specs.declared.config.NodeConfig.{NodeConfig}
-use Rattle.node_core.specs.Nodes.{NodeParts}
-use Rattle.node_core.specs.Roles.{law_role, role_of}
+use Rattle.node_core.specs.Nodes.{NodeParts, role_in}
+use Rattle.node_core.specs.Roles.{law_role}
 use Rattle.node_core.specs.Stores.{StoreFields, failed, position, state}
 
 -- an empty text names no host
@@ -28,7 +28,7 @@ seen_opened h store config = record {
   store = state h store;
   failed = failed h store;
   faults = store.faults;
-  role = law_role (role_of config);
+  role = law_role (role_in (opened store config));
   waits = None;
   served = untouched (state h store).image;
 }

@@ -1,4 +1,5 @@
--- What a node is in its cluster: until there are leases, what it was given when it was opened.
+-- What a node is in its cluster: until there are leases, what it was given when it was opened. Of a node at one moment it is
+-- `role_in`, and nothing else asks whether it is a candidate.
 use Rattle.std.specs.Prelude.{Bool, true, false}
 use Rattle.file_view.specs.declared.role.Role.{Role}
 use Rattle.file_view.specs.declared.role.Role.TheVariants as role

@@ -22,8 +22,7 @@ use Rattle.node_core.specs.declared.answer.Answer.TheVariants as answers
 use Rattle.node_core.specs.declared.config.NodeConfig.{NodeConfig}
 use Rattle.node_core.specs.Calls.{Changes}
 use Rattle.node_core.specs.Errors.{errno_of_store}
-use Rattle.node_core.specs.Nodes.{NodeParts}
-use Rattle.node_core.specs.Roles.{role_of}
+use Rattle.node_core.specs.Nodes.{NodeParts, role_in}
 use Rattle.node_core.specs.Stores.{OnlyRead, StoreFields, failed, position, state}
 
 -- whether an operation unlinks this name
@@ -37,7 +36,7 @@ unlinks_database config request = (request.node == root) && unlinks config.name 
 
 -- its rows, in order: at a replica the files are read alone; and a lock is held that holds a frame back
 abbrev pub unlink_rows : NodeParts → List Row
-unlink_rows n = (is_replica (role_of n.config), EROFS) ∷ (is_some (first_blocking n.files n.store.wal), EAGAIN) ∷ []
+unlink_rows n = (is_replica (role_in n), EROFS) ∷ (is_some (first_blocking n.files n.store.wal), EAGAIN) ∷ []
 
 -- the store was asked to drop all, and answered this
 pub record DropsStore {T : Type 0} (start : History) (old : StoreFields) (result : Result T StoreFault) (end : History) (new : StoreFields) : Type 0 where

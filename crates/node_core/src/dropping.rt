@@ -24,7 +24,7 @@ impl<D: Disk> Node<D> {
             (law_answer result) (seen (history self.new) (parts_of self.new)) (history self.old) (history self.new) }
         ensures honest { D.honest self.new.store.disk ≡ D.honest self.old.store.disk }
     {
-        if self.config.candidate {
+        if self.leads() {
             return Answer::Refused(Refusal::NotReplica);
         }
         if let Err(lock) = self.view.apply_clear(self.store.wal) {

@@ -1,5 +1,6 @@
 //! An LTX file of another node.
-ghost use Rattle.std.specs.Prelude.{◌≡◌, ℕ, false, IsTrue};
+ghost use Rattle.std.specs.Prelude.{◌≡◌, ◌≢◌, ℕ, false, IsTrue};
+ghost use Rattle.file_view.specs.declared.role.Role.TheVariants as role;
 ghost use Rattle.ltx_codec.specs.Format.{IsFile};
 ghost use Rattle.txn_log.specs.Calls.{Went};
 ghost use Rattle.txn_log.specs.Causes.{Breaks};
@@ -7,7 +8,7 @@ ghost use Rattle.world_laws.specs.Answers.{call_of};
 ghost use Rattle.world_laws.specs.Node as laws;
 ghost use Rattle.node_core.specs.Dropping.{IsFree};
 ghost use Rattle.node_core.specs.Framing.{AnswersFrame, AnswersLtx, Stands, Takes};
-ghost use Rattle.node_core.specs.Nodes.{history, parts_of, seen};
+ghost use Rattle.node_core.specs.Nodes.{history, parts_of, role_in, seen};
 ghost use Rattle.node_core.specs.Safely.{StepsSafely, law_answer, law_frame};
 ghost use Rattle.node_core.specs.Steps.{IsStep};
 ghost use Rattle.node_core.specs.Stores.{failed, fields_of, history_of, state};
@@ -45,7 +46,7 @@ impl<D: Disk> Node<D> {
     /// Takes a file that no lock holds back.
     fn take_file(&mut self, file: &Ltx) -> Answer
         requires valid { IsFile file.now }
-        requires replica { self.old.config.candidate ≡ false }
+        requires replica { role_in (parts_of self.old) ≢ role.Primary }
         requires free { IsFree (parts_of self.old) }
         ensures does { AnswersLtx (history self.old) (parts_of self.old) file.now result (history self.new) (parts_of self.new) }
         ensures safe { IsTrue (D.honest self.old.store.disk) → StepsSafely (seen (history self.old) (parts_of self.old)) (laws.Frame file.now)
@@ -65,7 +66,7 @@ impl<D: Disk> Node<D> {
     /// Answers a file.
     fn answer_ltx(&mut self, file: &Ltx) -> Answer
         requires valid { IsFile file.now }
-        requires replica { self.old.config.candidate ≡ false }
+        requires replica { role_in (parts_of self.old) ≢ role.Primary }
         ensures does { AnswersLtx (history self.old) (parts_of self.old) file.now result (history self.new) (parts_of self.new) }
         ensures safe { IsTrue (D.honest self.old.store.disk) → StepsSafely (seen (history self.old) (parts_of self.old)) (laws.Frame file.now)
             (law_answer result) (seen (history self.new) (parts_of self.new)) (history self.old) (history self.new) }
@@ -84,7 +85,7 @@ impl<D: Disk> Node<D> {
             (law_answer result) (seen (history self.new) (parts_of self.new)) (history self.old) (history self.new) }
         ensures honest { D.honest self.new.store.disk ≡ D.honest self.old.store.disk }
     {
-        if self.config.candidate {
+        if self.leads() {
             return Answer::Refused(Refusal::NotReplica);
         }
         file_is_read();

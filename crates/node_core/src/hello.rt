@@ -1,7 +1,8 @@
 //! What is owed to a follower.
 ghost use Rattle.std.specs.Prelude.{◌≡◌, ◌<◌, ◌≤◌, ℕ, true, IsTrue};
+ghost use Rattle.file_view.specs.declared.role.Role.TheVariants as role;
 ghost use Rattle.node_core.specs.Hello.{AnswersHello};
-ghost use Rattle.node_core.specs.Nodes.{history, parts_of, seen};
+ghost use Rattle.node_core.specs.Nodes.{history, parts_of, role_in, seen};
 ghost use Rattle.node_core.specs.Safely.{StepsSafely, law_answer};
 ghost use Rattle.node_core.specs.Steps.{IsStep};
 ghost use Rattle.txn_log.specs.Answering.{Answers};
@@ -22,7 +23,7 @@ use txn_log::Answer as Owed;
 impl<D: Disk> Node<D> {
     /// Gives the file at a place of the log.
     fn give_file(&mut self, from: Pos, first: usize) -> Answer
-        requires primary { self.old.config.candidate ≡ true }
+        requires primary { role_in (parts_of self.old) ≡ role.Primary }
         requires owed { Answers self.old.store.entries.items self.old.store.dropped from (owed.Files first) }
         ensures does { AnswersHello (history self.old) (parts_of self.old) from result (history self.new) (parts_of self.new) }
         ensures safe { IsTrue (D.honest self.old.store.disk) → StepsSafely (seen (history self.old) (parts_of self.old)) (laws.Hello from)
@@ -46,7 +47,7 @@ impl<D: Disk> Node<D> {
 
     /// Gives the snapshot.
     fn give_snapshot(&mut self, from: Pos) -> Answer
-        requires primary { self.old.config.candidate ≡ true }
+        requires primary { role_in (parts_of self.old) ≡ role.Primary }
         requires owed { Answers self.old.store.entries.items self.old.store.dropped from owed.Snapshot }
         ensures does { AnswersHello (history self.old) (parts_of self.old) from result (history self.new) (parts_of self.new) }
         ensures safe { IsTrue (D.honest self.old.store.disk) → StepsSafely (seen (history self.old) (parts_of self.old)) (laws.Hello from)
@@ -76,7 +77,7 @@ impl<D: Disk> Node<D> {
             (law_answer result) (seen (history self.new) (parts_of self.new)) (history self.old) (history self.new) }
         ensures honest { D.honest self.new.store.disk ≡ D.honest self.old.store.disk }
     {
-        if !self.config.candidate {
+        if !self.leads() {
             return Answer::Refused(Refusal::NotPrimary);
         }
         match self.store.answer(from) {

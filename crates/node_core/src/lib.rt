@@ -13,6 +13,7 @@ mod errno;
 mod framing;
 mod hello;
 mod laws;
+mod leading;
 mod lending;
 mod node;
 mod octets;

@@ -1,8 +1,10 @@
 ghost use Rattle.std.specs.Prelude.{◌≡◌, false, None, IsTrue};
 ghost use Rattle.std.proofs.Props.{props};
+ghost use Rattle.file_view.specs.declared.role.Role.TheVariants as role;
 ghost use Rattle.file_view.specs.Overlay.{FitsImage, IsOverImage};
 ghost use Rattle.file_view.specs.Served.{waits};
 ghost use Rattle.byte_locks.specs.LockList.{IsLockList};
+ghost use Rattle.node_core.specs.Roles.{role_of};
 ghost use Rattle.node_core.specs.Stores.{fields_of, history_of, position, state};
 
 use crate::config::NodeConfig;
@@ -14,8 +16,8 @@ use txn_log::Store;
 /// A node: the served files of a database over its store.
 ///
 /// The files are of the database that the node was given. They stand over the committed image, and
-/// tell the store's position. At a replica nobody has uncommitted pages. No request waits between two steps. Different owners share a lock only for
-/// reading.
+/// tell the store's position. At a replica nobody has uncommitted pages. No request waits between two
+/// steps. Different owners share a lock only for reading.
 #[derive(Drop)]
 pub struct Node<D: Disk> {
     pub(crate) alloc: Global,
@@ -28,7 +30,7 @@ pub struct Node<D: Disk> {
     ghost image: { IsTrue (D.honest store.disk) → IsOverImage view (state (history_of store) (fields_of store)).image } by { Prim.hlevel props },
     ghost named: { view.name ≡ config.name } by { Prim.hlevel props },
     ghost told: { view.position ≡ position (fields_of store) },
-    ghost replica: { config.candidate ≡ false → view.writer ≡ None } by { Prim.hlevel props },
+    ghost replica: { role_of config ≡ role.Replica → view.writer ≡ None } by { Prim.hlevel props },
     ghost idle: { waits view ≡ false },
     ghost locked: { IsLockList view.locks } by { Prim.hlevel props },
 }

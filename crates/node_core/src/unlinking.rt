@@ -38,7 +38,7 @@ impl<D: Disk> Node<D> {
     fn unlink_refusal(&self) -> Option<Errno>
         ensures { result ≡ first_refusal (unlink_rows (parts_of self.now)) }
     {
-        if !self.config.candidate {
+        if self.is_replica() {
             return Some(EROFS);
         }
         match self.view.apply_clear(self.store.wal) {

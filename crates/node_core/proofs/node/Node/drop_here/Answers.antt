@@ -13,7 +13,7 @@ use Rattle.world_laws.specs.Step.{drops}
 use Rattle.world_laws.specs.Store.{DropAll, StoreState, at}
 use Rattle.node_core.specs.declared.answer.Answer.TheVariants as answers
 use Rattle.node_core.specs.declared.refusal.Refusal.{Refusal}
-use Rattle.node_core.specs.Nodes.{NodeParts, parts_of, seen}
+use Rattle.node_core.specs.Nodes.{NodeParts, parts_of, role_in, seen}
 use Rattle.node_core.specs.Safely.{StepsSafely, law_answer, law_store_fault}
 use Rattle.node_core.specs.Stores.{failed, fields_of, history_of, position, state}
 use Rattle.node_core.proofs.Asking.{called, failed-some}
@@ -29,13 +29,13 @@ use Rattle.node_core.proofs.Sound.{leads, sound}
 use Rattle.node_core.proofs.Steady.{steady-files, steps-still}
 use Rattle.node_core.proofs.node.Node.drop_here.Goals as goal
 
-pub returns-then-self-clause-safe : goal.returns-then-self-clause-safe
-returns-then-self-clause-safe g c honest =
+pub returns-then-leads-clause-safe : goal.returns-then-leads-clause-safe
+returns-then-leads-clause-safe g c honest =
     let n = c.args.self.now in
     let h = history_of n.store in
     let old = parts_of n in
     steps-still (seen h old) (seen h old) laws.Drop (laws.Refused laws.NotReplica) h h ∣ rests_stay h ∣₁ refl refl (n.store.left honest)
-    (says-none (seen h old) (seen h old) (seen h old).role laws.Drop (laws.Refused laws.NotReplica) (leads n.config.candidate c.if-self.true) refl
+    (says-none (seen h old) (seen h old) (seen h old).role laws.Drop (laws.Refused laws.NotReplica) (leads (role_in old) (c.leads.ensures.yes c.if-leads.true)) refl
     (λ plain still. steady-files h h old old.store old.files refl refl refl) (sound h old (n.image honest) n.locked.together n.replica))
 
 pub returns-in-Err-clause-safe : goal.returns-in-Err-clause-safe
@@ -89,7 +89,7 @@ returns-in-Ok-clause-does g c =
     let is : c.told_position.new.self ≡ record (applied n.view 0 0) { position = nowhere } =
     c.told_position.ensures ∙ (λ i. record (c.applied.ensures.done i) { position = nowhere_is i }) in
     let first : 1 ≤ (position old.store).txid = omega (arith, ap (λ (p : Pos). p.txid) c.pos.ensures.value, c.if-pos-eq0.false) in (
-      c.if-self.false,
+      c.leads.ensures.no c.if-leads.false,
       c.in_default.ensures.clear,
       refl,
       inl (
@@ -120,7 +120,7 @@ returns-in-Ok-clause-safe g c honest =
     let image = (state end (fields_of t)).image in
     let first : 1 ≤ (position old.store).txid = omega (arith, ap (λ (p : Pos). p.txid) c.pos.ensures.value, c.if-pos-eq0.false) in
     let some : 1 ≤ (at (state h old.store)).txid = subst (λ (p : Pos). 1 ≤ p.txid) (sym (at-position h old.store (n.store.kept honest))) first in
-    called (seen h old) (seen end new) laws.Drop (laws.Applied nowhere) DropAll h end (drops (not-primary n.config.candidate c.if-self.false))
+    called (seen h old) (seen end new) laws.Drop (laws.Applied nowhere) DropAll h end (drops (not-primary (role_in old) (c.leads.ensures.no c.if-leads.false)))
     (sound end new (subst (λ (s : Served). IsOverImage s image) (sym is) (dropped-over n.view c.pos-in-Ok.result image)) (subst (λ (s : Served). IsLockList s.locks) (sym is) n.locked).together
     (λ not. ap (λ (s : Served). s.writer) is))
     (λ plain still lock held. absurd (free n.view n.store.wal (state h old.store).image (n.store.mode honest) lock c.in_default.ensures.clear held))
@@ -139,7 +139,7 @@ returns-in-Err-drop_all-clause-safe g c honest =
     let still : state end (fields_of t) ≡ state h old.store =
     err-same (Unit {0}) (state h old.store) (state end (fields_of t)) (failed h old.store) (failed end (fields_of t)) DropAll why (drop-changes h end old.store (fields_of t) {T = Unit {0}} (Err why) given.drops (given.went honest)) in
     let safe : StepsSafely (seen h old) laws.Drop (laws.Refused (law_store_fault why)) (seen end new) h end =
-    called (seen h old) (seen end new) laws.Drop (laws.Refused (law_store_fault why)) DropAll h end (drops (not-primary n.config.candidate c.if-self.false))
+    called (seen h old) (seen end new) laws.Drop (laws.Refused (law_store_fault why)) DropAll h end (drops (not-primary (role_in old) (c.leads.ensures.no c.if-leads.false)))
     (sound end new (subst (λ (s : StoreState). IsOverImage n.view s.image) (sym still) (n.image honest)) n.locked.together n.replica)
     (λ plain again lock held. steady-files h end old (fields_of t) old.files still refl refl)
     {T = Unit {0}} (Err why) (given.went honest) (disk-rose {T = Unit {0}} n.store.broken t.broken old.store.faults (fields_of t).faults (Err why) given.cause)

@@ -6,12 +6,12 @@ use Rattle.world_laws.specs.Node as laws
 use Rattle.byte_locks.specs.LockList.{IsLockList}
 use Rattle.node_core.specs.declared.answer.Answer.TheVariants as answers
 use Rattle.node_core.specs.declared.ask.Ask.TheVariants as asks
-use Rattle.node_core.specs.Nodes.{parts_of, seen}
+use Rattle.node_core.specs.Nodes.{parts_of, role_in, seen}
 use Rattle.node_core.specs.Steps.{IsStep}
 use Rattle.node_core.specs.Stores.{fields_of, history_of, state}
 use Rattle.node_core.proofs.Endings.{ended-file, ended-fits, ended-over, ended-locked, ended-writer}
 use Rattle.node_core.proofs.Reading.{rests_stay}
-use Rattle.node_core.proofs.Sound.{no_candidate, sound}
+use Rattle.node_core.proofs.Sound.{is-replica, sound}
 use Rattle.node_core.proofs.Facts.{says-none}
 use Rattle.node_core.proofs.Steady.{steady-files, steps-still}
 use Rattle.node_core.proofs.node.Node.end_session.Goals as goal
@@ -44,7 +44,7 @@ returns g c =
             let image = (state h old.store).image in
             steps-still (seen h old) (seen h (record old { files = files })) laws.EndSession laws.Done h h ∣ rests_stay h ∣₁ refl refl (n.store.left honest)
             (says-none (seen h old) (seen h (record old { files = files })) (seen h old).role laws.EndSession laws.Done tt tt
-            (λ plain still. steady-files h h old old.store files refl (ended-file n.view c.args.caller (n.replica (no_candidate n.config.candidate plain.role))) refl)
+            (λ plain still. steady-files h h old old.store files refl (ended-file n.view c.args.caller (n.replica (is-replica (role_in old) plain.role))) refl)
             (sound h (record old { files = files }) (ended-over n.view c.args.caller image (n.image honest)) (ended-locked n.view c.args.caller n.locked).together
             (λ not. ended-writer n.view c.args.caller (n.replica not))));
         honest = refl;

@@ -8,7 +8,7 @@ use Rattle.node_core.specs.declared.refusal.Refusal.{Refusal}
 use Rattle.node_core.specs.Deciding.{is_encoding}
 use Rattle.node_core.specs.Errors.{refusal_of_encoding}
 use Rattle.node_core.specs.Framing.{AnswersFrame}
-use Rattle.node_core.specs.Nodes.{parts_of, seen}
+use Rattle.node_core.specs.Nodes.{parts_of, role_in, seen}
 use Rattle.node_core.specs.Safely.{StepsSafely, law_answer, law_frame}
 use Rattle.node_core.specs.Stores.{history_of}
 use Rattle.node_core.proofs.Facts.{says-none}
@@ -18,16 +18,22 @@ use Rattle.node_core.proofs.Steady.{steady-files, steps-still}
 use Rattle.node_core.proofs.Encodings.{bytes-refused, frame-is, not-replica, refuses-bytes}
 use Rattle.node_core.proofs.node.Node.frame.Goals as goal
 
-pub returns-then-self-clause-safe : goal.returns-then-self-clause-safe
-returns-then-self-clause-safe g c honest =
+pub returns-then-leads-clause-safe : goal.returns-then-leads-clause-safe
+returns-then-leads-clause-safe g c honest =
     let n = c.args.self.now in
     let h = history_of n.store in
     let old = parts_of n in
     let bytes = c.args.bytes.now in
     steps-still (seen h old) (seen h old) (law_frame bytes) (laws.Refused laws.NotReplica) h h ∣ rests_stay h ∣₁ refl refl (n.store.left honest)
     (says-none (seen h old) (seen h old) (seen h old).role (law_frame bytes) (laws.Refused laws.NotReplica)
-    (not-replica (seen h old) (seen h old) (seen h old).role bytes (leads n.config.candidate c.if-self.true) (is_encoding bytes)) refl
+    (not-replica (seen h old) (seen h old) (seen h old).role bytes (leads (role_in old) (c.leads.ensures.yes c.if-leads.true)) (is_encoding bytes)) refl
     (λ plain still. steady-files h h old old.store old.files refl refl refl) (sound h old (n.image honest) n.locked.together n.replica))
+
+pub returns-in-Ok-clause-does : goal.returns-in-Ok-clause-does
+returns-in-Ok-clause-does g c =
+    let bytes : List ℕ = c.args.bytes.now in
+    let is : IsLtx bytes c.in-Ok.file = subst (λ (l : List ℕ). IsLtx l c.in-Ok.file) c.as_slice-2.ensures c.in-Ok.ensures.ok in
+    inr (c.leads.ensures.no c.if-leads.false, inr (c.in-Ok.file, is, c.answer_ltx.ensures.does))
 
 pub returns-in-Ok-clause-safe : goal.returns-in-Ok-clause-safe
 returns-in-Ok-clause-safe g c honest =
@@ -48,7 +54,7 @@ returns-in-Err-clause-does g c =
     let bytes : List ℕ = c.args.bytes.now in
     let refused : IsRefused bytes c.in-Err.fault = subst (λ (l : List ℕ). IsRefused l c.in-Err.fault) c.as_slice-2.ensures c.in-Err.ensures.fault in
     subst (λ (r : Refusal). AnswersFrame h old bytes (answers.Refused r) h old) (sym c.refusal_of_encoding.ensures)
-    (inr (c.if-self.false, inl (refuses-bytes bytes c.in-Err.fault refused, (refl, ∣ rests_stay h ∣₁))))
+    (inr (c.leads.ensures.no c.if-leads.false, inl (refuses-bytes bytes c.in-Err.fault refused, (refl, ∣ rests_stay h ∣₁))))
 
 pub returns-in-Err-clause-safe : goal.returns-in-Err-clause-safe
 returns-in-Err-clause-safe g c honest =

@@ -7,7 +7,7 @@ use Rattle.txn_log.specs.Giving.{IsEncodingAt}
 use Rattle.world_laws.specs.Node as laws
 use Rattle.node_core.specs.declared.answer.Answer.TheVariants as answers
 use Rattle.node_core.specs.declared.refusal.Refusal.{Refusal}
-use Rattle.node_core.specs.Nodes.{NodeParts, parts_of, seen}
+use Rattle.node_core.specs.Nodes.{NodeParts, parts_of, role_in, seen}
 use Rattle.node_core.specs.Safely.{StepsSafely, law_answer, law_store_fault}
 use Rattle.node_core.specs.Stores.{fields_of, history_of, state}
 use Rattle.node_core.proofs.Asking.{failed-some}
@@ -61,7 +61,7 @@ returns-in-Ok-clause-safe g c honest =
     let owes = tells-file h old.store (n.store.kept honest) from c.file_is_read.ensures c.args.first ltx octets c.requires.owed encoding in
     let still = c.file.ensures.store honest in
     steps-still (seen h old) (seen end new) (laws.Hello from) (laws.Item (file_in ltx)) h end ∣ c.file.ensures.rests honest ∣₁ still.0 still.1 (t.left (c.file.ensures.honest ∙ honest))
-    (looks-says h end old (fields_of t) still.0 c.requires.primary (n.image honest) n.locked.together n.replica from (laws.Item (file_in ltx)) (leads n.config.candidate c.requires.primary, owes.0, owes.1) tt)
+    (looks-says h end old (fields_of t) still.0 c.requires.primary (n.image honest) n.locked.together n.replica from (laws.Item (file_in ltx)) (leads (role_in old) c.requires.primary, owes.0, owes.1) tt)
 
 pub returns-in-Err-clause-safe : goal.returns-in-Err-clause-safe
 returns-in-Err-clause-safe g c honest =

@@ -6,7 +6,7 @@ use Rattle.world_laws.specs.Answers.{snapshot_of}
 use Rattle.world_laws.specs.Node as laws
 use Rattle.node_core.specs.declared.answer.Answer.TheVariants as answers
 use Rattle.node_core.specs.declared.refusal.Refusal.{Refusal}
-use Rattle.node_core.specs.Nodes.{NodeParts, parts_of, seen}
+use Rattle.node_core.specs.Nodes.{NodeParts, parts_of, role_in, seen}
 use Rattle.node_core.specs.Safely.{StepsSafely, law_answer, law_store_fault}
 use Rattle.node_core.specs.Stores.{failed, fields_of, history_of, position, state}
 use Rattle.node_core.proofs.Asking.{failed-some}
@@ -67,7 +67,7 @@ returns-in-Ok-clause-safe g c honest =
     let owes = tells-snapshot h old.store (n.store.kept honest) from c.file_is_read.ensures ltx octets written c.requires.owed (c.snapshot_is_a_file.ensures.sound honest) encoding in
     let went = c.make.ensures.went honest in
     steps (seen h old) (seen end new) (laws.Hello from) (laws.Item (file_in ltx)) [] None h h end ∣ rests_stay h ∣₁ went
-    (looks-says h end old (fields_of t) went.store c.requires.primary (n.image honest) n.locked.together n.replica from (laws.Item (file_in ltx)) (leads n.config.candidate c.requires.primary, owes.0, owes.1) tt)
+    (looks-says h end old (fields_of t) went.store c.requires.primary (n.image honest) n.locked.together n.replica from (laws.Item (file_in ltx)) (leads (role_in old) c.requires.primary, owes.0, owes.1) tt)
 
 pub returns-in-Err-clause-safe : goal.returns-in-Err-clause-safe
 returns-in-Err-clause-safe g c honest =

@@ -1,9 +1,10 @@
-use Rattle.std.proofs.Common.{◌≡◌, ◌∙◌, ℕ, true, false, IsTrue, Result, Ok, Err, inr, refl, sym, ap, subst}
+use Rattle.std.proofs.Common.{◌≡◌, ◌∙◌, ℕ, IsTrue, Result, Ok, Err, inr, refl, sym, ap, subst}
 use Rattle.lf_base.specs.declared.pos.Pos.{Pos}
 use Rattle.lf_sqlite_pages.specs.Apply.{apply}
 use Rattle.lf_sqlite_pages.specs.Image.{DatabaseImage}
 use Rattle.file_view.specs.declared.plan.Plan.{Plan}
 use Rattle.file_view.specs.declared.plan.Plan.TheVariants as plan
+use Rattle.file_view.specs.declared.role.Role.TheVariants as role
 use Rattle.file_view.specs.Done.{IsDone}
 use Rattle.file_view.specs.Endings.{committed}
 use Rattle.file_view.specs.Overlay.{AwaitsOver, FitsImage, IsOverImage}
@@ -17,18 +18,15 @@ use Rattle.byte_locks.specs.LockList.{IsLockList}
 use Rattle.world_laws.specs.Store.{Commit, StoreState}
 use Rattle.node_core.specs.Committing.{kept_files}
 use Rattle.node_core.specs.Files.{scene, told}
-use Rattle.node_core.specs.Nodes.{NodeParts, parts_of, seen}
+use Rattle.node_core.specs.Nodes.{NodeParts, parts_of, role_in, seen}
 use Rattle.node_core.specs.Safely.{StepsSafely}
 use Rattle.node_core.specs.Stores.{StoreFields, failed, fields_of, history_of, position, state}
 use Rattle.node_core.proofs.Answering.{Prepared, image-read, left, plan-safely, position-read, primary, quiet, reads-safely, shape-read, told-after}
 use Rattle.node_core.proofs.Calls.{err-same}
 use Rattle.node_core.proofs.Committed.{comes, commits-safely, commits-store, committed-fits, committed-locks, committed-name, committed-over, image-after, store-changes}
 use Rattle.node_core.proofs.Leaving.{Rests}
-use Rattle.node_core.proofs.Sound.{leads, sound}
+use Rattle.node_core.proofs.Sound.{apart, leads, sound}
 use Rattle.node_core.proofs.node.Node.serve.Goals as goal
-
-true_false : true ≡ false → ⊥
-true_false same = cc
 
 pub invariant_of-self : goal.invariant_of-self
 invariant_of-self g c =
@@ -188,7 +186,7 @@ invariant_of-self-in-Ok g c =
     subst (λ (s : Served). IsOverImage s (state ht ft).image) (sym is)
     (subst (λ (i : DatabaseImage). IsOverImage files i) (sym (image-after h old change c.in-Ok.position (state ht ft) (failed ht ft) (store-changes h hm ht old fm ft change result c.prepare.ensures.read c.in-Ok.ensures.commits went c.in-Ok.ensures.cause c.in-Ok.ensures.honest honest)))
     (committed-over w c.in-Ok.position (apply (state h old.store).image change) (told-after h old.store change (λ i. IsOverImage (committed w) i) honest awaits.image))) in
-    let candidate : n.config.candidate ≡ true = primary law h hm old fm w c.args.caller request p prepared c.in-Ok-Commit.reply change is_plan in
+    let primary_is : role_in old ≡ role.Primary = primary law h hm old fm w c.args.caller request p prepared c.in-Ok-Commit.reply change is_plan in
     let rests = subst (λ (q : Plan). Rests n.store.page_size n.store.commit n.view q w) is_plan (left law h hm old fm w c.args.caller request p prepared).rests in
     let shape = c.in-Ok.ensures.shape in
     record {
@@ -197,7 +195,7 @@ invariant_of-self-in-Ok g c =
       image = λ still. over (sym (ap (λ (s : StoreFields). s.honest) c.prepare.ensures.read.same) ∙ sym c.in-Ok.ensures.honest ∙ still);
       named = ap (λ (s : Served). s.name) is ∙ committed-name w ∙ c.prepare.ensures.name ∙ n.named;
       told = ap (λ (s : Served). s.position) is ∙ sym c.in-Ok.ensures.position;
-      replica = λ not. absurd (true_false (sym candidate ∙ not));
+      replica = λ not. absurd (apart (sym primary_is ∙ not));
       idle = ap waits is ∙ rests.1;
       locked = subst (λ (s : Served). IsLockList s.locks) (sym is) (subst IsLockList (sym (committed-locks w)) ((left law h hm old fm w c.args.caller request p prepared).locks n.locked));
     }
@@ -283,12 +281,12 @@ returns-in-Ok-clause-safe g c honest =
     subst (λ (s : Served). IsOverImage s (state ht ft).image) (sym is)
     (subst (λ (i : DatabaseImage). IsOverImage files i) (sym (image-after h old change c.in-Ok.position (state ht ft) (failed ht ft) (store-changes h hm ht old fm ft change result c.prepare.ensures.read c.in-Ok.ensures.commits went c.in-Ok.ensures.cause c.in-Ok.ensures.honest honest)))
     (committed-over w c.in-Ok.position (apply (state h old.store).image change) (told-after h old.store change (λ i. IsOverImage (committed w) i) honest awaits.image))) in
-    let candidate : n.config.candidate ≡ true = primary law h hm old fm w c.args.caller request p prepared c.in-Ok-Commit.reply change is_plan in
+    let primary_is : role_in old ≡ role.Primary = primary law h hm old fm w c.args.caller request p prepared c.in-Ok-Commit.reply change is_plan in
     let new : NodeParts = record old { store = ft; files = c.told_position.new.self } in
-    commits-safely h hm ht old fm ft change result c.prepare.ensures.read c.in-Ok.ensures.commits went c.in-Ok.ensures.cause c.in-Ok.ensures.honest c.told_position.new.self honest (leads n.config.candidate candidate)
+    commits-safely h hm ht old fm ft change result c.prepare.ensures.read c.in-Ok.ensures.commits went c.in-Ok.ensures.cause c.in-Ok.ensures.honest c.told_position.new.self honest (leads (role_in old) primary_is)
     (sound ht new (over honest)
     (subst (λ (s : Served). IsLockList s.locks) (sym is) (subst IsLockList (sym (committed-locks w)) ((left law h hm old fm w c.args.caller request p prepared).locks n.locked))).together
-    (λ not. absurd (true_false (sym candidate ∙ not))))
+    (λ not. absurd (apart (sym primary_is ∙ not))))
 
 pub invariant_of-self-in-Err-commit_and_prune : goal.invariant_of-self-in-Err-commit_and_prune
 invariant_of-self-in-Err-commit_and_prune g c =
@@ -424,8 +422,8 @@ returns-in-Err-commit_and_prune-clause-safe g c honest =
     let read = c.prepare.ensures.read in
     let still : IsTrue old.store.honest → state ht ft ≡ state h old.store = λ honest.
     err-same Pos (state h old.store) (state ht ft) (failed h old.store) (failed ht ft) _ c.in-Err-commit_and_prune.fault (store-changes h hm ht old fm ft change result c.prepare.ensures.read c.in-Err-commit_and_prune.ensures.commits went c.in-Err-commit_and_prune.ensures.cause c.in-Err-commit_and_prune.ensures.honest honest) in
-    let candidate : n.config.candidate ≡ true = primary law h hm old fm w c.args.caller request p prepared c.in-Ok-Commit.reply change is_plan in
+    let primary_is : role_in old ≡ role.Primary = primary law h hm old fm w c.args.caller request p prepared c.in-Ok-Commit.reply change is_plan in
     let new : NodeParts = record old { store = ft; files = c.abandon.new.self } in
-    commits-safely h hm ht old fm ft change result c.prepare.ensures.read c.in-Err-commit_and_prune.ensures.commits went c.in-Err-commit_and_prune.ensures.cause c.in-Err-commit_and_prune.ensures.honest c.abandon.new.self honest (leads n.config.candidate candidate)
+    commits-safely h hm ht old fm ft change result c.prepare.ensures.read c.in-Err-commit_and_prune.ensures.commits went c.in-Err-commit_and_prune.ensures.cause c.in-Err-commit_and_prune.ensures.honest c.abandon.new.self honest (leads (role_in old) primary_is)
     (sound ht new (subst (λ (s : Served). IsOverImage s (state ht ft).image) (sym is) (subst (λ (s : StoreState). IsOverImage n.view s.image) (sym (still honest)) (n.image honest)))
-    (subst (λ (s : Served). IsLockList s.locks) (sym is) n.locked).together (λ not. absurd (true_false (sym candidate ∙ not))))
+    (subst (λ (s : Served). IsLockList s.locks) (sym is) n.locked).together (λ not. absurd (apart (sym primary_is ∙ not))))

@@ -13,7 +13,7 @@ use Rattle.world_laws.specs.Store.{StoreState, at}
 use Rattle.node_core.specs.declared.answer.Answer.TheVariants as answers
 use Rattle.node_core.specs.declared.refusal.Refusal.{Refusal}
 use Rattle.node_core.specs.Framing.{RefusesFile, TakesStore}
-use Rattle.node_core.specs.Nodes.{NodeParts, parts_of, seen}
+use Rattle.node_core.specs.Nodes.{NodeParts, parts_of, role_in, seen}
 use Rattle.node_core.specs.Safely.{StepsSafely, law_answer, law_store_fault}
 use Rattle.node_core.specs.Stores.{fields_of, history_of, state}
 use Rattle.node_core.proofs.Asking.{called}
@@ -111,7 +111,7 @@ returns-in-Ok-clause-safe g c honest =
     let image = (state end (fields_of t)).image in
     let told : c.in-Ok.position ≡ at (state end (fields_of t)) =
     take-told old.store file c.in-Ok.position given.answers ∙ sym (at-position end (fields_of t) (t.kept (c.take.ensures.honest ∙ honest)) ∙ given.stands.2) in
-    called (seen h old) (seen end new) (laws.Frame file) (laws.Applied c.in-Ok.position) (call_of (state h old.store) file) h end (takes (not-primary n.config.candidate c.requires.replica))
+    called (seen h old) (seen end new) (laws.Frame file) (laws.Applied c.in-Ok.position) (call_of (state h old.store) file) h end (takes (not-primary (role_in old) c.requires.replica))
     (sound end new (subst (λ (s : Served). IsOverImage s image) (sym is) (took-over n.view here t.page_size t.commit image)) (subst (λ (s : Served). IsLockList s.locks) (sym is) n.locked).together
     (λ not. ap (λ (s : Served). s.writer) is))
     (λ plain still lock held. absurd (free n.view n.store.wal (state h old.store).image (n.store.mode honest) lock c.requires.free held))
@@ -154,7 +154,7 @@ returns-in-Err-clause-safe g c honest =
     let call = call_of (state h old.store) file in
     let still : state end (fields_of t) ≡ state h old.store = take-same h end old.store (fields_of t) file why given.answers (given.went honest) in
     let safe : StepsSafely (seen h old) (laws.Frame file) (laws.Refused (law_store_fault why)) (seen end new) h end =
-    called (seen h old) (seen end new) (laws.Frame file) (laws.Refused (law_store_fault why)) call h end (takes (not-primary n.config.candidate c.requires.replica))
+    called (seen h old) (seen end new) (laws.Frame file) (laws.Refused (law_store_fault why)) call h end (takes (not-primary (role_in old) c.requires.replica))
     (sound end new (subst (λ (s : StoreState). IsOverImage n.view s.image) (sym still) (n.image honest)) n.locked.together n.replica)
     (λ plain again lock held. steady-files h end old (fields_of t) old.files still refl refl)
     {T = Pos} (Err why) (given.went honest) (disk-rose {T = Pos} n.store.broken t.broken old.store.faults (fields_of t).faults (Err why) given.cause)

@@ -12,7 +12,7 @@ use Rattle.byte_locks.specs.LockList.{IsLockList}
 use Rattle.world_laws.specs.Step.{unlinks}
 use Rattle.txn_log.specs.declared.fault.StoreFault.TheVariants as fault
 use Rattle.world_laws.specs.Store.{DropAll, StoreState}
-use Rattle.node_core.specs.Nodes.{NodeParts, parts_of, seen}
+use Rattle.node_core.specs.Nodes.{NodeParts, parts_of, role_in, seen}
 use Rattle.node_core.specs.Stores.{failed, fields_of, history_of, state}
 use Rattle.node_core.specs.Unlinking.{unlink_rows}
 use Rattle.node_core.proofs.Dropped.{disk-rose, drop-changes, dropped-fits, dropped-over, leads-allowed}
@@ -104,7 +104,7 @@ returns-in-Ok-clause-safe g c honest =
     let new : NodeParts = record old { store = fields_of t; files = c.told_position.new.self } in
     let image = (state end (fields_of t)).image in
     let allowed : IsAllowed (unlink_rows old) = sym c.unlink_refusal.ensures ∙ c.in_default.is in
-    let primary = leads n.config.candidate (leads-allowed old allowed) in
+    let primary = leads (role_in old) (leads-allowed old allowed) in
     calls (seen h old) (seen end new) h h end ∣ rests_stay h ∣₁ primary
     (sound end new (subst (λ (s : Served). IsOverImage s image) (sym is) (dropped-over n.view at image)) (subst (λ (s : Served). IsLockList s.locks) (sym is) n.locked).together
     (λ not. ap (λ (s : Served). s.writer) is))
@@ -147,7 +147,7 @@ returns-in-Err-clause-safe g c honest =
     let end = history_of t in
     let new : NodeParts = record old { store = fields_of t } in
     let allowed : IsAllowed (unlink_rows old) = sym c.unlink_refusal.ensures ∙ c.in_default.is in
-    let primary = leads n.config.candidate (leads-allowed old allowed) in
+    let primary = leads (role_in old) (leads-allowed old allowed) in
     let still : state end (fields_of t) ≡ state h old.store =
     err-same (Unit {0}) (state h old.store) (state end (fields_of t)) (failed h old.store) (failed end (fields_of t)) DropAll c.in-Err.fault (drop-changes h end old.store (fields_of t) {T = Unit {0}} (Err c.in-Err.fault) c.in-Err.ensures.drops (c.in-Err.ensures.went honest)) in
     calls (seen h old) (seen end new) h h end ∣ rests_stay h ∣₁ primary
