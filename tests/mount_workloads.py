@@ -4,7 +4,7 @@ of several sizes, a cache that spills, rollbacks, VACUUM, checkpoints, several p
 At the end the database file, the log applied and what SQLite saw are the same bytes.
 
 At most: 600 seconds.
-Seen to fail: HOW"""
+Seen to fail: with unlocks that are not sent on (`processes`: `database is locked`)"""
 import os
 import random
 import sqlite3
