@@ -41,7 +41,7 @@ def spill(node, mount, mode):
     made = mount.in_mode(mode, 1024)
     made.execute('pragma cache_size=10')
     chance = random.Random(5)
-    rows = [('insert into t values(?,0,?)', (key, chance.randbytes(500))) for key in range(300)]
+    rows = [('insert into t values(?,0,?)', (key, chance.randbytes(500))) for key in range(200)]
     changes = [('update t set c=? where a=?', (chance.randbytes(600), chance.randrange(300))) for _ in range(100)]
     commits(node, made, 1, 'begin', *rows, 'commit')
     commits(node, made, 0, 'begin', *changes, 'rollback')
@@ -115,6 +115,6 @@ def large(node, mount, mode):
 
 
 need_mount()
-run(in_each_way(basic=mounted(basic), spill=mounted(spill), vacuum=mounted(vacuum), two=mounted(two),
+run(in_each_way(basic=mounted(basic), spill=mounted(spill, modes=['delete', 'wal']), vacuum=mounted(vacuum), two=mounted(two),
                 processes=mounted(processes), checkpoints=mounted(checkpoints, modes=['wal']),
                 switching=mounted(switching, modes=['any']), large=mounted(large, modes=['delete', 'wal'])))
