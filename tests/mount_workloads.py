@@ -101,8 +101,8 @@ def switching(node, mount, _):
 
 def large(node, mount, mode):
     made = mount.in_mode(mode)
-    commits(node, made, 1, 'insert into t values(1,2,randomblob(3000000))')
-    same(made.execute('select length(c) from t').fetchall(), [(3000000,)], 'the length of a large value')
+    commits(node, made, 1, 'insert into t values(1,2,randomblob(1000000))')
+    same(made.execute('select length(c) from t').fetchall(), [(1000000,)], 'the length of a large value')
     copy = sqlite3.connect(':memory:')
     made.backup(copy)
     same(bytes(copy.serialize()), bytes(made.serialize()), "SQLite's backup")
