@@ -4,7 +4,7 @@
 What Debian has of them is installed where root may.
 
 At most: 900 seconds.
-Seen to fail: with the database's OPEN refused, and with an unlock lost (Django: `database is locked`)"""
+Seen to fail: with unlocks that are not sent on (`django`: of three processes two end with an error)"""
 import os
 import shutil
 import subprocess

@@ -3,7 +3,8 @@
 position is, a copy by `cp` is the present position, and nothing stays of a writer that was killed in its transaction.
 
 At most: 900 seconds.
-Seen to fail: HOW"""
+Seen to fail: with no drop of the cache (`two_mounts`: rows of the position before); with the pages kept at each opening
+(`copies`)"""
 import os
 import shutil
 import signal

@@ -4,7 +4,7 @@ process, a fork in a transaction, and what is refused of files.
 
 At most: 600 seconds.
 Seen to fail: with a signal that ends no wait (`waits` never ends); without the FLUSH at a RELEASE (`description_locks`: the lock
-stays)"""
+stays); with a handle of the node for each open (`many`: `unable to open database file`)"""
 import errno
 import fcntl
 import os

@@ -3,7 +3,7 @@
 node. They need cargo and no network.
 
 At most: 600 seconds.
-Seen to fail: with an unlock that tells no header, and with EIO of a READ handed on (the tests of these names)"""
+Seen to fail: with an unlock that tells no header, and with EIO of a READ handed on (11 tests of 75)"""
 import os
 import shutil
 import subprocess

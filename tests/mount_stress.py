@@ -4,8 +4,7 @@ transaction sets all rows to one number, so a reader that sees two numbers has s
 databases are sound, and the replica stands where the primary does.
 
 At most: 600 seconds.
-Seen to fail: in WAL mode with the header not put in behind a lock (a replica's reader sees fewer rows than the position
-says, or `database disk image is malformed`)"""
+Seen to fail: with a lock granted that the node refused (DELETE mode: `disk I/O error` of writers and readers)"""
 import random
 import time
 

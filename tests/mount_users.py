@@ -3,8 +3,8 @@
 allow_other and then as the files' modes say.
 
 At most: 300 seconds.
-Seen to fail: with mount(2) for an ordinary user (`ordinary_user`: Operation not permitted); without the option in the
-mount's data (`others`)"""
+Seen to fail: with mount(2) for an ordinary user (`ordinary_user`: Operation not permitted); with allow_other left out of the
+mount's options (`others`)"""
 import os
 import shutil
 import stat

@@ -3,8 +3,8 @@
 of several sizes, a cache that spills, rollbacks, VACUUM, checkpoints, several processes, changes of the journal mode.
 At the end the database file, the log applied and what SQLite saw are the same bytes.
 
-At most: 600 seconds.
-Seen to fail: HOW"""
+At most: 900 seconds.
+Seen to fail: with unlocks that are not sent on (`processes`: `database is locked`)"""
 import os
 import random
 import sqlite3
@@ -41,7 +41,7 @@ def spill(node, mount, mode):
     made = mount.in_mode(mode, 1024)
     made.execute('pragma cache_size=10')
     chance = random.Random(5)
-    rows = [('insert into t values(?,0,?)', (key, chance.randbytes(500))) for key in range(300)]
+    rows = [('insert into t values(?,0,?)', (key, chance.randbytes(500))) for key in range(200)]
     changes = [('update t set c=? where a=?', (chance.randbytes(600), chance.randrange(300))) for _ in range(100)]
     commits(node, made, 1, 'begin', *rows, 'commit')
     commits(node, made, 0, 'begin', *changes, 'rollback')
@@ -101,8 +101,8 @@ def switching(node, mount, _):
 
 def large(node, mount, mode):
     made = mount.in_mode(mode)
-    commits(node, made, 1, 'insert into t values(1,2,randomblob(3000000))')
-    same(made.execute('select length(c) from t').fetchall(), [(3000000,)], 'the length of a large value')
+    commits(node, made, 1, 'insert into t values(1,2,randomblob(1000000))')
+    same(made.execute('select length(c) from t').fetchall(), [(1000000,)], 'the length of a large value')
     copy = sqlite3.connect(':memory:')
     made.backup(copy)
     same(bytes(copy.serialize()), bytes(made.serialize()), "SQLite's backup")
@@ -115,6 +115,6 @@ def large(node, mount, mode):
 
 
 need_mount()
-run(in_each_way(basic=mounted(basic), spill=mounted(spill), vacuum=mounted(vacuum), two=mounted(two),
+run(in_each_way(basic=mounted(basic), spill=mounted(spill, modes=['delete', 'wal']), vacuum=mounted(vacuum), two=mounted(two),
                 processes=mounted(processes), checkpoints=mounted(checkpoints, modes=['wal']),
                 switching=mounted(switching, modes=['any']), large=mounted(large, modes=['delete', 'wal'])))
