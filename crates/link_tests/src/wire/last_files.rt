@@ -92,6 +92,8 @@ fn permits_are_written_and_read(rt: HostRuntime) {
     let line = b"0000000000000002 0000000000002710 0000000000000001/0000000000000003\n";
     same(rt, out.as_slice(), line.as_slice());
     same(rt, read_pass_line(out.as_slice()), Some(pass));
-    same(rt, read_pass_line(&out[1..]), None);
-    same(rt, read_pass_line(&out[..67]), None);
+    let behind = b"000000000000002 0000000000002710 0000000000000001/0000000000000003\n";
+    same(rt, read_pass_line(behind.as_slice()), None);
+    let front = b"0000000000000002 0000000000002710 0000000000000001/0000000000000003";
+    same(rt, read_pass_line(front.as_slice()), None);
 }
