@@ -1,5 +1,5 @@
 -- Following a stream, from the question where the node stands to the end.
-use Rattle.std.specs.Prelude.{◌≡◌, ◌⊎◌, ◌≤◌, ◌+◌, ℕ, Bool, true, false, codes, List, [], ◌∷◌, ◌++◌, length, Option, Result, Ok, Err}
+use Rattle.std.specs.Prelude.{◌≡◌, ◌≤◌, ◌+◌, ℕ, true, codes, List, [], ◌∷◌, ◌++◌, length, Option, Result, Ok, Err}
 use Rattle.std.specs.Io.KnownBytes.{Appends, Consumes, Keeps}
 use Rattle.lf_base.specs.Faults.{Rose}
 use Rattle.lf_base.specs.declared.pos.Pos.{Pos}
@@ -48,25 +48,13 @@ end_of unread.NoMemory = ends.NoMemory
 abbrev pub asks_where : ℕ → Answer → List NodeEntry → List NodeEntry
 asks_where caller given entries = entries ++ entry caller ask.Where given ∷ []
 
--- whether an answer says where the node stands, or refuses to
-abbrev pub says_where : Answer → Bool
-says_where (answer.At pos) = true
-says_where (answer.Refused refused) = true
-says_where _ = false
-
--- the position that an answer says
-abbrev pub place_in : Answer → Result Pos FollowEnd
-place_in (answer.At pos) = Ok pos
-place_in (answer.Refused refused) = Err (ends.Refused refused)
-place_in _ = Err ends.OddAnswer
-
--- what asking where the node stands gives: a position, or no answer that is one. It takes no memory
+-- what asking where the node stands gives: a position, or no answer that is one
 abbrev pub SaysWhere : ℕ → List NodeEntry → List NodeEntry → ℕ → Result Pos FollowEnd → Type 0
 SaysWhere caller old new turns (Ok pos) = new ≡ asks_where caller (answer.At pos) old
 SaysWhere caller old new turns (Err (ends.Refused refused)) = new ≡ asks_where caller (answer.Refused refused) old
 SaysWhere caller old new turns (Err ends.Turns) = (new ≡ old) × (turns ≡ 0)
 SaysWhere caller old new turns (Err ends.Worn) = new ≡ old
-SaysWhere caller old new turns (Err ends.OddAnswer) = (given : Answer) × (new ≡ asks_where caller given old) × (says_where given ≡ false)
+SaysWhere caller old new turns (Err ends.NoMemory) = (given : Answer) × (new ≡ asks_where caller given old)
 SaysWhere caller old new turns (Err _) = ⊥
 
 -- each turn that is gone was an ask, where asking went on or used up the turns
@@ -131,19 +119,11 @@ pub record IsNext (who : Asker) (name : List ℕ) (old new : Place NodeEntry) : 
   pub done : IsDone who name text old.entries new.entries
   pub written : Keeps old.taken new.taken
 
--- the most frames were followed, and no other was looked for
-pub record IsCountedOut (followed : ℕ) (place : Place NodeEntry) (before : ℕ) (new : Stand NodeEntry) (end : FollowEnd) : Type 0 where
-  pub most : followed ≡ 18446744073709551615
-  pub is : end ≡ ends.Turns
-  pub read : IsReadOn place.text new.place.text
-  pub still : IsStill place new.place
-  pub count : new.faults ≡ before
-
 -- frames were followed, each before the next was read, up to a place, where it ended so
 pub record EndsFrames (who : Asker) (name : List ℕ) (old new : Stand NodeEntry) (turns : ℕ) (end : FollowEnd) : Type 0 where
   pub place : Place NodeEntry
   pub talked : Talked (IsRound who name) old.place place
-  pub stops : StopsAt who name place old.faults new turns end ⊎ IsCountedOut (length talked.rounds) place old.faults new end
+  pub stops : StopsAt who name place old.faults new turns end
 
 -- a head of this status was read of a text
 pub record HasReadHead (status : ℕ) (text left : Option (List ℕ)) : Type 0 where

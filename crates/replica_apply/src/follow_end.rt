@@ -17,12 +17,10 @@ pub enum FollowEnd {
     Status(u16),
     /// The node refused what it was asked last.
     Refused(Refusal),
-    /// The turns are used up, or 2^64 - 1 frames were followed.
+    /// The turns are used up.
     Turns,
     /// The desk has no turn left.
     Worn,
-    /// The node gave an answer that is none to what it was asked.
-    OddAnswer,
-    /// Memory ran out.
+    /// Memory ran out, or the node gave an answer that is none to what it was asked.
     NoMemory,
 }

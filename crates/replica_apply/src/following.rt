@@ -147,7 +147,7 @@ fn follow_frames<S: Steps<Ask = Ask, Answer = Answer>, L: Link, C: Clock, P: Pau
             Err(end) => return end,
         }
     }
-    FollowEnd::Turns
+    FollowEnd::NoMemory
 }
 
 /// Reads a frame and follows it.

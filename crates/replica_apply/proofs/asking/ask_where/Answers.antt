@@ -1,5 +1,0 @@
-use Rattle.replica_apply.proofs.Streams.{where_said}
-use Rattle.replica_apply.proofs.asking.ask_where.Goals as goal
-
-pub returns-in-Ok-clause-says : goal.returns-in-Ok-clause-says
-returns-in-Ok-clause-says g c = rw c.place_in.ensures (where_said _ c.in-Ok.answer _ _ _ c.in-Ok.ensures.entry)
