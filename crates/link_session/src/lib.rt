@@ -31,4 +31,4 @@ pub use stage::Stage;
 pub use steps::Steps;
 pub use turns::Turns;
 pub use unread::Unread;
-pub use writing::write_whole;
+pub use writing::{write_both, write_whole};

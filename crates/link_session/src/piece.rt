@@ -1,5 +1,5 @@
-ghost use Rattle.std.specs.Prelude.{◌≡◌, ◌≤◌, [], length, drop, IfOk, OnOk, OnErr};
-ghost use Rattle.std.specs.Io.KnownBytes.{Consumes, IsAtEnd, Keeps};
+ghost use Rattle.std.specs.Prelude.{◌≡◌, ◌≤◌, [], length, drop, IfOk, MatchResult, OnOk, OnErr};
+ghost use Rattle.std.specs.Io.KnownBytes.{Appends, Consumes, IsAtEnd, Keeps};
 ghost use Rattle.link_session.specs.Spending.{Moved};
 ghost use Rattle.lf_base.specs.Faults.{CountsFaults};
 
@@ -61,6 +61,7 @@ impl Piece {
     pub fn refill<L: Link>(&mut self, link: &mut L) -> Result<(), Failed>
         requires { self.old ≡ [] }
         ensures bytes { Consumes (L.left link.old) (L.left link.new) self.new }
+        ensures given { MatchResult result (λ _. Appends (L.given link.old) (L.given link.new) self.new) (λ _. Keeps (L.given link.old) (L.given link.new)) }
         ensures end { OnOk result (self.new ≡ [] → IsAtEnd (L.left link.new)) }
         ensures err { OnErr result (self.new ≡ []) }
         ensures taken { Keeps (L.taken link.old) (L.taken link.new) }

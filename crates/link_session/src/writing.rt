@@ -1,4 +1,4 @@
-ghost use Rattle.std.specs.Prelude.{length, OnOk, OnErr};
+ghost use Rattle.std.specs.Prelude.{◌++◌, length, OnOk, OnErr};
 ghost use Rattle.std.specs.Io.KnownBytes.{Appends, Keeps};
 ghost use Rattle.link_session.specs.Spending.{MovesFor, TakesFor};
 ghost use Rattle.link_session.specs.Writing.{AppendsPart, EndsWriting};
@@ -31,4 +31,23 @@ pub fn write_whole<L: Link>(link: &mut L, bytes: &[u8], turns: &mut Turns) -> Re
         }
     }
     Ok(())
+}
+
+/// Writes one text and then another.
+pub fn write_both<L: Link>(
+    link: &mut L,
+    front: &[u8],
+    back: &[u8],
+    turns: &mut Turns,
+) -> Result<(), SessionEnd>
+    ensures whole { OnOk result (Appends (L.taken link.old) (L.taken link.new) (front.now ++ back.now)) }
+    ensures part { OnErr result (AppendsPart (L.taken link.old) (L.taken link.new) (front.now ++ back.now)) }
+    ensures left { Keeps (L.left link.old) (L.left link.new) × Keeps (L.given link.old) (L.given link.new) }
+    ensures spent { MovesFor result turns.old (L.moves link.old) turns.new (L.moves link.new) }
+    ensures cause { EndsWriting (L.faults link.old) (L.faults link.new) turns.new result }
+{
+    match write_whole(link, front, turns) {
+        Ok(()) => write_whole(link, back, turns),
+        Err(end) => Err(end),
+    }
 }
