@@ -1,0 +1,5 @@
+pub mod Giving
+pub mod Stops
+pub mod Replies
+pub mod Talking
+pub mod Dialing
