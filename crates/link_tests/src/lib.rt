@@ -6,6 +6,8 @@
 #[cfg(test)]
 mod desk;
 #[cfg(test)]
+mod exchange;
+#[cfg(test)]
 mod lease;
 #[cfg(test)]
 mod same;

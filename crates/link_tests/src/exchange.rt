@@ -1,0 +1,74 @@
+//! Exchanges over links in memory.
+ghost use Rattle.lf_base.specs.Doors.{IsUnused};
+
+mod answers;
+mod ends;
+mod replies;
+
+use http_exchange::{Request, Told, Untold, exchange};
+use lf_base::{Handles, MemDialer, MemLink, Text};
+use link_session::Turns;
+use std::alloc::Global;
+use std::process::Abort;
+use stream_wire::Call;
+
+/// The request of each exchange here, whose body stands in two parts.
+const REQUEST: &[u8] = b"POST /tx HTTP/1.1\r\nHost: a:1\r\nContent-Length: 9\r\n\r\nfrontback";
+
+/// A link that gives this input in pieces of a size, has room for so many bytes, and fails at the call
+/// of this number.
+fn link_of(
+    rt: &impl Abort,
+    alloc: Global,
+    input: &[u8],
+    size: usize,
+    room: usize,
+    failing: u64,
+) -> MemLink
+    ensures { IsUnused result }
+{
+    let input = Vec::from_slice(alloc, input).expect(rt, "memory");
+    let failing = vec![in alloc; failing].expect(rt, "memory");
+    let mut link = MemLink::new(alloc, input, room, failing).expect(rt, "a link");
+    link.cut_into(size.max(1));
+    link
+}
+
+/// A dialer of one link.
+fn dialer_of(rt: &impl Abort, alloc: Global, link: MemLink) -> MemDialer
+    requires { IsUnused link }
+{
+    let mut links = Vec::new(alloc);
+    assert!(rt; links.push(link).is_ok());
+    MemDialer::new(alloc, links, 1, Vec::new(alloc)).expect(rt, "a dialer")
+}
+
+/// What a reply is taken by, and how many turns there are.
+#[derive(Clone, Copy)]
+struct Taken {
+    sized: bool,
+    limit: u64,
+    budget: u64,
+}
+
+/// Asks by this dialer, and answers the status or why there is none, the body, and the turns left.
+fn ask<R: Handles + Abort>(
+    rt: &R,
+    alloc: Global,
+    dialer: &mut MemDialer,
+    taken: Taken,
+) -> (Result<u16, Untold>, Vec<u8>, u64) {
+    let host = Text::of(alloc, "a:1").expect(rt, "memory");
+    let request = Request {
+        call: &Call::Tx,
+        host: &host,
+        front: b"front",
+        back: b"back",
+        sized: taken.sized,
+    };
+    let mut turns = Turns::new(taken.budget);
+    match exchange(rt, alloc, dialer, &host, request, taken.limit, &mut turns) {
+        Ok(Told { status, body }) => (Ok(status), body.into_vec(), turns.left()),
+        Err(why) => (Err(why), Vec::new(alloc), turns.left()),
+    }
+}
