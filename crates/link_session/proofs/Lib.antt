@@ -3,6 +3,7 @@ pub mod Spending
 pub mod Reading
 pub mod Feeds
 pub mod Frames
+pub mod Reach
 pub mod Asks
 pub mod Seats
 pub mod Talking

@@ -1,5 +1,6 @@
 pub mod Spending
 pub mod Reading
+pub mod Reach
 pub mod Messages
 pub mod Frames
 pub mod Writing

@@ -1,7 +1,8 @@
-ghost use Rattle.std.specs.Prelude.{◌≡◌, ◌++◌, true, false, [], Ok, IfOk, OnOk, IfErr};
+ghost use Rattle.std.specs.Prelude.{◌≡◌, ◌≤◌, ◌+◌, ◌++◌, true, false, [], length, Ok, IfOk, OnOk, IfErr};
 ghost use Rattle.std.specs.Io.KnownBytes.{Keeps};
 ghost use Rattle.link_session.specs.declared.stage.Stage.TheVariants as stages;
 ghost use Rattle.link_session.specs.Spending.{MovesFor};
+ghost use Rattle.link_session.specs.Reach.{reach, reach_of};
 ghost use Rattle.link_session.specs.Reading.{coming, text_of, EndsReading, Faulted};
 ghost use Rattle.link_session.specs.Unread.{ended, LeavesUnread};
 
@@ -65,6 +66,7 @@ impl<F: Feed + Drop> Inbox<F> {
         requires { self.old.stage ≡ stages.Open }
         ensures whole { OnOk result (F.message self.old.limit self.new.message × (self.new.stage ≡ stages.Whole)) }
         ensures same { OnOk result (Keeps (coming self.old (L.left link.old)) (coming self.new (L.left link.new)) × (self.new.limit ≡ self.old.limit)) }
+        ensures within { OnOk result (reach self.new turns.new ≤ reach self.old turns.old) }
         ensures taken { Keeps (L.taken link.old) (L.taken link.new) }
         ensures spent { MovesFor (ended result) turns.old (L.moves link.old) turns.new (L.moves link.new) }
         ensures cause { LeavesUnread F.takes_memory (F.partial self.old.limit) (F.broken self.old.limit) (coming self.old (L.left link.old)) (L.left link.new) (L.faults link.old) (L.faults link.new) turns.new result }
@@ -109,6 +111,7 @@ fn read_whole<F: Feed, L: Link>(
     requires { F.stage feed.old ≡ stages.Open }
     ensures whole { OnOk result (F.message (F.limit feed.old) (F.held feed.new) × (F.stage feed.new ≡ stages.Whole)) }
     ensures same { OnOk result (Keeps (text_of (F.held feed.old) piece.old (L.left link.old)) (text_of (F.held feed.new) piece.new (L.left link.new)) × (F.limit feed.new ≡ F.limit feed.old)) }
+    ensures within { OnOk result (reach_of (F.held feed.new) piece.new turns.new ≤ reach_of (F.held feed.old) piece.old turns.old) }
     ensures taken { Keeps (L.taken link.old) (L.taken link.new) }
     ensures spent { MovesFor (ended result) turns.old (L.moves link.old) turns.new (L.moves link.new) }
     ensures cause { LeavesUnread F.takes_memory (F.partial (F.limit feed.old)) (F.broken (F.limit feed.old)) (text_of (F.held feed.old) piece.old (L.left link.old)) (L.left link.new) (L.faults link.old) (L.faults link.new) turns.new result }
@@ -143,6 +146,7 @@ fn feed_some<F: Feed>(feed: &mut F, piece: &mut Piece) -> Result<bool, FeedFault
     ensures whole { result ≡ Ok true → F.message (F.limit feed.old) (F.held feed.new) × (F.stage feed.new ≡ stages.Whole) }
     ensures part { result ≡ Ok false → F.partial (F.limit feed.old) (F.held feed.new) × (F.stage feed.new ≡ stages.Open) × (piece.new ≡ []) }
     ensures same { OnOk result (F.held feed.new ++ piece.new ≡ F.held feed.old ++ piece.old) }
+    ensures count { OnOk result (length (F.held feed.new) + length piece.new ≡ length (F.held feed.old) + length piece.old) }
     ensures fault { IfErr result (Faulted F.takes_memory (F.broken (F.limit feed.old)) (F.held feed.old ++ piece.old)) }
     ensures limit { F.limit feed.new ≡ F.limit feed.old }
 {

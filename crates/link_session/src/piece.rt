@@ -19,13 +19,13 @@ pub struct Piece {
 }
 
 impl Model for Piece {
-    ghost use Rattle.std.specs.Prelude.{ℕ, ◌<◌, ◌≤◌, List, drop, take, vec_len};
+    ghost use Rattle.std.specs.Prelude.{ℕ, ◌≡◌, ◌≤◌, List, drop, take, vec_len};
 
     ghost Value = { List ℕ };
 
     ghost view = { λ p. drop p.from (take p.to p.bytes.items) };
 
-    ghost invariant = { λ p. (p.from ≤ p.to) × (p.to ≤ vec_len p.bytes) × (0 < vec_len p.bytes) };
+    ghost invariant = { λ p. (p.from ≤ p.to) × (p.to ≤ vec_len p.bytes) × (vec_len p.bytes ≡ 65536) };
 }
 
 impl Piece {
@@ -64,6 +64,7 @@ impl Piece {
         ensures given { MatchResult result (λ _. Appends (L.given link.old) (L.given link.new) self.new) (λ _. Keeps (L.given link.old) (L.given link.new)) }
         ensures end { OnOk result (self.new ≡ [] → IsAtEnd (L.left link.new)) }
         ensures err { OnErr result (self.new ≡ []) }
+        ensures most { length self.new ≤ 65536 }
         ensures taken { Keeps (L.taken link.old) (L.taken link.new) }
         ensures moves { OnOk result (Moved (L.moves link.old) (L.moves link.new) (length self.new)) }
         ensures cause { CountsFaults (L.faults link.old) (L.faults link.new) result }
