@@ -26,6 +26,8 @@ made = tempfile.TemporaryDirectory(prefix='litefs-package-')
 @functools.cache
 def built():
     """The paths of the package and of the tar."""
+    if not shutil.which('dpkg-deb'):
+        raise Skipped('no dpkg here')
     said = subprocess.run([f'{places.ROOT}/tools/package', made.name], check=True, stdout=subprocess.PIPE, text=True,
                           env={**os.environ, 'LITEFS': places.elf()})
     package, archive = said.stdout.split()

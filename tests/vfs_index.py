@@ -36,6 +36,7 @@ MOST = 200
 def for_tests():
     """The VFS that ends its process at a chosen message."""
     folder = os.path.join(tempfile.gettempdir(), f'litefs-tests-{os.getuid()}')
+    places.need_compiler()
     build = os.path.join(places.ROOT, 'clients/litefs-vfs/build.sh')
     subprocess.run([build, '--test', folder], check=True, stdout=subprocess.DEVNULL, timeout=300)
     return os.path.join(folder, 'litefs-vfs-test.so')
