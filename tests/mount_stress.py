@@ -8,10 +8,10 @@ Seen to fail: with a lock granted that the node refused (DELETE mode: `disk I/O 
 import random
 import time
 
-from support import Node, holds, run, same
+from support import Node, holds, length, run, same
 from support.mount import Mount, damaged, in_each_way, need_mount
 
-ROWS, SECONDS, LIMIT = 30, 5, 60
+ROWS, SECONDS, LIMIT = 30, length(3, 20), 60
 WRITER = '''
 import random
 chance = random.Random(os.getpid())

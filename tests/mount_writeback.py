@@ -8,10 +8,10 @@ import os
 import subprocess
 import time
 
-from support import Node, Skipped, holds, run, same, until
+from support import Node, Skipped, holds, length, run, same, until
 from support.mount import Mount, ended, in_each_way, need_mount
 
-SECONDS = 5
+SECONDS = length(3, 20)
 DROP = '/proc/sys/vm/drop_caches'
 CODE = '''
 c = connect()

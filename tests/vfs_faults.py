@@ -8,11 +8,11 @@ import sqlite3
 import threading
 import time
 
-from support import Node, connect, count, fill, holds, in_each_mode, in_mode, insert, run, same, seen_by
+from support import Node, connect, count, fill, holds, in_each_mode, in_mode, insert, length, run, same, seen_by
 
 # 'database is locked' is said by a connection to the node that is there
 TOLD = {'disk I/O error', 'unable to open database file'}
-TURNS = 6
+TURNS = length(2, 6)
 
 
 def told(call):

@@ -7,9 +7,9 @@ Seen to fail: with a library that reads the header of the shared memory and not 
 import random
 import time
 
-from support import Client, Node, connect, holds, in_each_mode, in_mode, run, same, seen_by, until
+from support import Client, Node, connect, holds, in_each_mode, in_mode, length, run, same, seen_by, until
 
-ROWS, TURNS, SECONDS = 40, 60, 120
+ROWS, TURNS, SECONDS = 40, length(25, 60), 120
 CROWD = '''
 import random, sqlite3, threading
 KINDS = ('passive', 'full', 'restart', 'truncate')
