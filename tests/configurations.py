@@ -2,7 +2,7 @@
 """Commands and configurations that are wrong, and places that are taken: the status and the one line on standard error that
 docs/COMMANDS.md has for each. And configurations that are right: the node answers.
 
-At most: 300 seconds.
+At most: 600 seconds.
 Seen to fail: a node that doesn't lock its directory: a second one comes as far as the socket, and says network failed."""
 import os
 import socket

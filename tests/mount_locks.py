@@ -26,8 +26,8 @@ import fcntl, signal, struct
 signal.signal(signal.SIGALRM, lambda *_: (_ for _ in ()).throw(TimeoutError()))
 file = os.open(path, os.O_RDWR)
 said('ready ')
-if %r: signal.setitimer(signal.ITIMER_REAL, .3)
 try:
+    if %r: signal.setitimer(signal.ITIMER_REAL, .3)
     fcntl.fcntl(file, fcntl.F_SETLKW, struct.pack('hhqqi4x', fcntl.F_WRLCK, 0, {PENDING}, 1, 0))
     said('granted')
 except TimeoutError:

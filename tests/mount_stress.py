@@ -67,8 +67,9 @@ def stress(mode, way):
         kinds = [(mount, WRITER), (mount, WRITER), (mount, WRITER), (mount, READER), (other, READER), (other, READER)]
         processes = [place.client(code) for place, code in kinds]
         before, said, begin = node.position().txid, '', time.monotonic()
-        while time.monotonic() < begin + SECONDS or (node.position().txid < before + 5 and time.monotonic() < begin + LIMIT):
-            time.sleep(random.random() * .3)
+        took = lambda: time.monotonic() - begin
+        while took() < SECONDS or (took() < LIMIT and (node.position().txid < before + 5 or said.count('.') < 6)):
+            time.sleep(random.random() * (.3 + took() / 20))  # later ones live longer, for a slow machine
             k = random.randrange(len(kinds))
             said += killed(processes[k])
             processes[k] = kinds[k][0].client(kinds[k][1])

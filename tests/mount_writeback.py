@@ -2,7 +2,7 @@
 """Writers of a mounted database in WAL mode while the system writes its dirty pages back and drops its caches: no row is
 lost, and nothing hangs.
 
-At most: 300 seconds.
+At most: 600 seconds.
 Seen to fail: with the shared memory opened for direct I/O (notify: `disk I/O error`)"""
 import os
 import subprocess
