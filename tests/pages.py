@@ -10,6 +10,7 @@ the commands of the first have to end with status 0, and the second stands only 
 At most: 900 seconds.
 Seen to fail: an output on the page that isn't so (200 for 404); a failover on the page that leaves the replica a replica; a block
 that no fence marks; in the table a row of what can be run that says `proves`, and a word of rt in the text that the table hasn't."""
+import contextlib
 import glob
 import os
 import shutil
@@ -89,6 +90,8 @@ def inside(page, package, no_mount, root):
 
 
 def furnish(root, page, package):
+    with contextlib.suppress(FileNotFoundError):
+        os.remove(f'{root}/var/lib/man-db/auto-update')  # else each install makes the index of all man pages anew
     put(root, package, f'{HOME}/{os.path.basename(package)}', 0o644)
     here = os.path.join(places.TESTS, 'support/systemctl')
     put(root, here, '/usr/bin/systemctl')
