@@ -1,6 +1,6 @@
 #!/usr/bin/python3
 """The commands of the pages, as they stand there: OPERATING, TROUBLESHOOTING and CLIENTS, each on a machine of its own with the
-package in /root, and CONTRIBUTING on one with the repository in /root/litefs.
+package in /root, and COMMANDS and CONTRIBUTING on one with the repository in /root/litefs.
 
 A block fenced as sh is run, and has to end with status 0. In a block fenced as console each line behind `$ ` is run, and what it
 writes has to be what stands below it, where `..` stands for anything; the block is run again until it is so, so it changes nothing.
@@ -56,8 +56,12 @@ def writes_that(root, body):
         time.sleep(0.5)
 
 
+def is_run(row):
+    return row.endswith(' run |')
+
+
 def row_holds(root, row):
-    if row.endswith(' run |'):
+    if is_run(row):
         return next(filter(None, (ends_well(root, it) for it in commands(row))), None)
     short = [it for it in commands(row) if not takes_long(it)]
     return f'the page leaves out what can be run: {short}' if short else None
@@ -66,12 +70,12 @@ def row_holds(root, row):
 HOLDS = {'sh': ends_well, 'console': writes_that, 'row': row_holds}
 
 
-def left_out(part, no_mount):
+def left_out(root, part, no_mount):
     """Why a part can't be run here."""
     if part.kind.endswith(' mount') and no_mount:
         return no_mount
-    if part.kind == 'row' and part.text.endswith(' run |') and 'rt ' in part.text and not shutil.which('rt'):
-        return 'no rt here'
+    if part.kind == 'row' and is_run(part.text) and any('rt' in it.split() for it in commands(part.text)) and shell(root, 'rt version')[0]:
+        return 'no rt in the machine'
     return None
 
 
@@ -80,7 +84,7 @@ def inside(page, package, no_mount, root):
     furnish(root, page, package)
     failed = None
     for part in parts(page):
-        if reason := left_out(part, no_mount):
+        if reason := left_out(root, part, no_mount):
             print(f'skipped: {part.name}: {reason}', flush=True)
             continue
         why = f'not run after {failed}' if failed else HOLDS[part.kind.split()[0]](root, part.text)
@@ -96,7 +100,7 @@ def furnish(root, page, package):
     here = os.path.join(places.TESTS, 'support/systemctl')
     put(root, here, '/usr/bin/systemctl')
     put(root, here, '/usr/bin/journalctl')
-    if page == 'CONTRIBUTING':
+    if page in ('COMMANDS', 'CONTRIBUTING'):
         shutil.copytree(places.ROOT, root + CLONE, symlinks=True, ignore=NOT_COPIED)
         put(root, places.elf(), f'{CLONE}/crates/litefs/out/litefs')
 

@@ -9,7 +9,7 @@ import time
 
 from support import Client, Node, connect, holds, in_each_mode, in_mode, length, run, same, seen_by, until
 
-ROWS, TURNS, SECONDS = 40, length(25, 60), 120
+ROWS, TURNS, SECONDS = 40, length(25, 60), 240
 CROWD = '''
 import random, sqlite3, threading
 KINDS = ('passive', 'full', 'restart', 'truncate')

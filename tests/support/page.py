@@ -7,7 +7,7 @@ from . import places
 from .node import read
 
 PAGES = {'OPERATING': 'docs/OPERATING.md', 'TROUBLESHOOTING': 'docs/TROUBLESHOOTING.md', 'CLIENTS': 'docs/CLIENTS.md',
-         'CONTRIBUTING': 'CONTRIBUTING.md'}
+         'COMMANDS': 'docs/COMMANDS.md', 'CONTRIBUTING': 'CONTRIBUTING.md'}
 FENCED = r'^```(?P<kind>(?:sh|console)(?: mount)?)\n(?P<body>.*?)^```$'
 PARTS = re.compile(rf'^#+ (?P<head>[^\n]*)$|{FENCED}|^(?P<row>\|[^\n]*\| (?:run|proves) \|)$', re.M | re.S)
 TAKES_LONG = r'rt (ci|check|run|test|try|must-fail)\b.*|\./check( scripts)?'
