@@ -2,13 +2,13 @@
 """Commands and configurations that are wrong, and places that are taken: the status and the one line on standard error that
 docs/COMMANDS.md has for each. And configurations that are right: the node answers.
 
-At most: 300 seconds.
+At most: 600 seconds.
 Seen to fail: a node that doesn't lock its directory: a second one comes as far as the socket, and says network failed."""
 import os
 import socket
 import tempfile
 
-from support import Node, holds, in_mode, outcome, places, run, same
+from support import Node, Skipped, holds, in_mode, outcome, places, run, same
 
 CONFIG = (3, 'litefs: input refused: Config\n')
 DISK = (5, 'litefs: disk failed\n')
@@ -60,11 +60,21 @@ def refused(text):
 
 
 def accepted(text, name):
+    if '[::1]' in text and not has_ipv6():
+        raise Skipped('no IPv6 here')
     with Node(starts=False) as node:
         node.configure(text)
         node.socket = os.path.join(node.folder, name)
         node.start()
         same(node.errors(), '', 'standard error')
+
+
+def has_ipv6():
+    try:
+        socket.create_server(('::1', 0), family=socket.AF_INET6).close()
+        return True
+    except OSError:
+        return False
 
 
 def no_file():

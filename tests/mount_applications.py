@@ -1,7 +1,7 @@
 #!/usr/bin/python3
 """Programs that nobody here wrote, on a mounted database: the shell of SQLite (.backup, .restore, .recover, .dump), Django
 (migrations, users, three processes, a replica), sqlite-utils, and a program with an SQLite of its own linked into it.
-What Debian has of them is installed where root may.
+tests/packages installs what Debian has of them.
 
 At most: 900 seconds.
 Seen to fail: with unlocks that are not sent on (`django`: of three processes two end with an error)"""
@@ -29,20 +29,13 @@ from django.contrib.auth.models import User
 '''
 
 
-def installed(package, works):
-    """Installs the package where it lacks and root may; skips where it isn't to be had."""
-    if works():
-        return
-    if os.geteuid() == 0 and shutil.which('apt-get'):
-        command = ['apt-get', 'install', '-y', '-qq', '--no-install-recommends', package]
-        environment = {**os.environ, 'DEBIAN_FRONTEND': 'noninteractive'}
-        subprocess.run(command, env=environment, capture_output=True, timeout=200)
-    if not works():
+def need(found, package):
+    if not found:
         raise Skipped(f'no {package} here')
 
 
 def python_has(module):
-    return lambda: subprocess.run([PYTHON, '-c', f'import {module}'], capture_output=True).returncode == 0
+    return subprocess.run([PYTHON, '-c', f'import {module}'], capture_output=True).returncode == 0
 
 
 def output(command, wanted=0, **more):
@@ -52,8 +45,7 @@ def output(command, wanted=0, **more):
 
 
 def shell(way):
-    if not shutil.which('sqlite3'):
-        raise Skipped('no sqlite3 here')
+    need(shutil.which('sqlite3'), 'sqlite3')
     with Node() as node, Mount(node, way) as mount:
         out = os.path.join(node.folder, 'copy.db')
         for mode in ('wal', 'delete'):
@@ -77,7 +69,7 @@ def recovered(path):
 
 
 def django(way):
-    installed('python3-django', python_has('django'))
+    need(python_has('django'), 'python3-django')
     with Node() as node, Node(following=node) as replica, Mount(node, way) as mount, Mount(replica, way, ['ro']) as other:
         def at(place, code):
             with open(os.path.join(node.folder, 'settings.py'), 'w') as file:
@@ -103,7 +95,7 @@ def django(way):
 
 
 def sqlite_utils(way):
-    installed('sqlite-utils', lambda: shutil.which('sqlite-utils') is not None)
+    need(shutil.which('sqlite-utils'), 'sqlite-utils')
     with Node() as node, Mount(node, way) as mount:
         def do(*words, given=''):
             return output(['sqlite-utils', words[0], mount.path, *words[1:]], input=given)
@@ -136,7 +128,7 @@ int main(int n, char **words) {
 }'''
     with Node() as node, Mount(node, way) as mount:
         program = os.path.join(node.folder, 'program')
-        output(['gcc', '-x', 'c', '-', '-x', 'none', library, '-o', program, '-lm', '-lpthread', '-ldl', '-lz'], input=source)
+        output(['gcc', '-x', 'c', '-', '-x', 'none', library, '-o', program, '-lm', '-lpthread', '-ldl'], input=source)
         holds('libsqlite3' not in output(['ldd', program]), 'SQLite is in the program')
         for mode in ('wal', 'delete'):
             output([program, mount.path, f'pragma journal_mode={mode}', f'create table in_{mode}(a)', f'insert into in_{mode} values(1)'])

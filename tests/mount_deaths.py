@@ -12,13 +12,14 @@ import signal
 import sqlite3
 import struct
 
-from support import Node, Relay, holds, run, same, seen_by
-from support.mount import Mount, ended, in_each_way, need_mount
+from support import Node, Relay, holds, length, run, same, seen_by
+from support.mount import WAYS, Mount, ended, in_each_way, need_mount
 from support.relay import whole
 
 ROWS = 25
-# at which of its messages the client dies: each one around the commit, others now and then
-POINTS = {'wal': [*range(1, 25, 8), *range(26, 40), *range(44, 200, 16)], 'delete': range(1, 200, 6)}
+# at which of its messages the client dies: each one around the commit, others now and then; in the gate every second of
+# these by the one way of shared memory, the others by the other
+POINTS = {'wal': [*range(1, 25, 8), *range(26, 40), *range(44, 200, 16)], 'delete': [*range(1, 200, 6)]}
 CODE = f'''
 sys.stdin.readline()
 c = connect()
@@ -103,8 +104,14 @@ def harmless(message):
     return head + name
 
 
+def chosen(way):
+    """The points at which the client dies, in order, by mode."""
+    first, step = length((WAYS.index(way), len(WAYS)), (0, 1))
+    return {mode: points[first::step] for mode, points in POINTS.items()}
+
+
 def deaths(way):
-    for mode, points in POINTS.items():
+    for mode, points in chosen(way).items():
         with Node() as node, Deadly(node) as relay, Mount(node, way, socket=relay.socket) as mount:
             watching, working = mount.in_mode(mode), mount.connect()
             working.execute('insert into t values(1,1,1)')
@@ -125,7 +132,7 @@ def deaths(way):
                 if status == 0:
                     break
                 tried += 1
-            holds(tried > 4, f'died {tried} times')
+            holds(tried > 2, f'died {tried} times')
             seen = seen_by(working)
             watching.close()
             working.close()

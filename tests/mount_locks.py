@@ -14,20 +14,20 @@ import struct
 import subprocess
 import time
 
-from support import Node, Refused, holds, insert, refuses, run, same, until
+from support import Node, Skipped, holds, insert, refuses, run, same, until
 from support.mount import Mount, ended, in_each_way, need_mount
 
 PENDING = 0x40000000
 HALT = 72
 F_OFD_SETLK = 37
-CONNECTIONS = 900
+CONNECTIONS, DESCRIPTORS = 900, 4000
 WAITER = f'''
 import fcntl, signal, struct
 signal.signal(signal.SIGALRM, lambda *_: (_ for _ in ()).throw(TimeoutError()))
 file = os.open(path, os.O_RDWR)
 said('ready ')
-if %r: signal.setitimer(signal.ITIMER_REAL, .3)
 try:
+    if %r: signal.setitimer(signal.ITIMER_REAL, .3)
     fcntl.fcntl(file, fcntl.F_SETLKW, struct.pack('hhqqi4x', fcntl.F_WRLCK, 0, {PENDING}, 1, 0))
     said('granted')
 except TimeoutError:
@@ -88,7 +88,9 @@ def tried(call):
 
 def many(way):
     soft, hard = resource.getrlimit(resource.RLIMIT_NOFILE)
-    resource.setrlimit(resource.RLIMIT_NOFILE, (min(hard, 8000), hard))
+    if hard != resource.RLIM_INFINITY and hard < DESCRIPTORS:
+        raise Skipped(f'{DESCRIPTORS} descriptors are needed, and {hard} may be had')
+    resource.setrlimit(resource.RLIMIT_NOFILE, (DESCRIPTORS, hard))
     with Node() as node, Mount(node, way) as mount:
         made = mount.in_mode('wal')
         made.execute(*insert(1))

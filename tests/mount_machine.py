@@ -5,16 +5,14 @@ node. They need cargo and no network.
 At most: 600 seconds.
 Seen to fail: with an unlock that tells no header, and with EIO of a READ handed on (11 tests of 75)"""
 import os
-import shutil
 import subprocess
 
-from support import Skipped, holds, run
-from support.mount import SOURCES
+from support import holds, run
+from support.mount import SOURCES, need_rust
 
 
 def machine():
-    if not shutil.which('cargo'):
-        raise Skipped('no cargo here')
+    need_rust()
     ran = subprocess.run(['cargo', 'test', '--release', '--offline', '--quiet'], cwd=SOURCES, capture_output=True, text=True)
     holds(ran.returncode == 0 and 'test result: ok' in ran.stdout, (ran.stdout + ran.stderr)[-900:])
 

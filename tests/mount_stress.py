@@ -8,10 +8,10 @@ Seen to fail: with a lock granted that the node refused (DELETE mode: `disk I/O 
 import random
 import time
 
-from support import Node, holds, run, same
+from support import Node, holds, length, run, same
 from support.mount import Mount, damaged, in_each_way, need_mount
 
-ROWS, SECONDS, LIMIT = 30, 5, 60
+ROWS, SECONDS, LIMIT = 30, length(3, 20), 60
 WRITER = '''
 import random
 chance = random.Random(os.getpid())
@@ -67,8 +67,9 @@ def stress(mode, way):
         kinds = [(mount, WRITER), (mount, WRITER), (mount, WRITER), (mount, READER), (other, READER), (other, READER)]
         processes = [place.client(code) for place, code in kinds]
         before, said, begin = node.position().txid, '', time.monotonic()
-        while time.monotonic() < begin + SECONDS or (node.position().txid < before + 5 and time.monotonic() < begin + LIMIT):
-            time.sleep(random.random() * .3)
+        took = lambda: time.monotonic() - begin
+        while took() < SECONDS or (took() < LIMIT and (node.position().txid < before + 5 or said.count('.') < 6)):
+            time.sleep(random.random() * (.3 + took() / 20))  # later ones live longer, for a slow machine
             k = random.randrange(len(kinds))
             said += killed(processes[k])
             processes[k] = kinds[k][0].client(kinds[k][1])

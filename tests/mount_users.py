@@ -2,7 +2,7 @@
 """Who mounts: an ordinary user by fusermount3, and root of a user namespace; and other users, who come in only with
 allow_other and then as the files' modes say.
 
-At most: 300 seconds.
+At most: 600 seconds.
 Seen to fail: with mount(2) for an ordinary user (`ordinary_user`: Operation not permitted); with allow_other left out of the
 mount's options (`others`)"""
 import os

@@ -2,16 +2,16 @@
 """Writers of a mounted database in WAL mode while the system writes its dirty pages back and drops its caches: no row is
 lost, and nothing hangs.
 
-At most: 300 seconds.
+At most: 600 seconds.
 Seen to fail: with the shared memory opened for direct I/O (notify: `disk I/O error`)"""
 import os
 import subprocess
 import time
 
-from support import Node, Skipped, holds, run, same, until
+from support import Node, Skipped, holds, length, run, same, until
 from support.mount import Mount, ended, in_each_way, need_mount
 
-SECONDS = 5
+SECONDS = length(3, 20)
 DROP = '/proc/sys/vm/drop_caches'
 CODE = '''
 c = connect()

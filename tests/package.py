@@ -2,7 +2,7 @@
 """The package: made by tools/package, installed into a clean root with its dependencies checked, two nodes started by the
 lines of its unit, of which the one follows the other, and removed and purged, which leaves configurations and data.
 
-At most: 300 seconds.
+At most: 600 seconds.
 Seen to fail: a dependency on a later C library; a key of the unit misspelled; another word behind ExecStart; a man page with a macro that
 there isn't; a key of the example misspelled; a postrm that removes the data: each fails its case."""
 import configparser
@@ -26,6 +26,8 @@ made = tempfile.TemporaryDirectory(prefix='litefs-package-')
 @functools.cache
 def built():
     """The paths of the package and of the tar."""
+    if not shutil.which('dpkg-deb'):
+        raise Skipped('no dpkg here')
     said = subprocess.run([f'{places.ROOT}/tools/package', made.name], check=True, stdout=subprocess.PIPE, text=True,
                           env={**os.environ, 'LITEFS': places.elf()})
     package, archive = said.stdout.split()

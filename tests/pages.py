@@ -1,89 +1,108 @@
 #!/usr/bin/python3
-"""The commands of the pages for who runs a node, as they stand there, each page on a machine of its own with the package in /root.
+"""The commands of the pages, as they stand there: OPERATING, TROUBLESHOOTING and CLIENTS, each on a machine of its own with the
+package in /root, and COMMANDS and CONTRIBUTING on one with the repository in /root/litefs.
 
 A block fenced as sh is run, and has to end with status 0. In a block fenced as console each line behind `$ ` is run, and what it
 writes has to be what stands below it, where `..` stands for anything; the block is run again until it is so, so it changes nothing.
+`sh mount` and `console mount` are left out where nothing can be mounted. In CONTRIBUTING's table each row says `run` or `proves`:
+the commands of the first have to end with status 0, and the second stands only by what proves, builds, or is the whole of ./check.
 
-At most: 600 seconds.
-Seen to fail: an output on the page that isn't so (200 for 404), and a failover on the page that leaves the replica a replica."""
+At most: 900 seconds.
+Seen to fail: an output on the page that isn't so (200 for 404); a failover on the page that leaves the replica a replica; a block
+that no fence marks; in the table a row of what can be run that says `proves`, and a word of rt in the text that the table hasn't."""
+import contextlib
 import glob
 import os
-import re
+import shutil
 import subprocess
 import sys
 import tempfile
 import time
 
-from support import Skipped, places, read, skip_all
+from support import Skipped, places, skip_all
 from support.machine import isolated, put
+from support.mount import why_no_mount
+from support.page import PAGES, commands, fits, overlooked, parts, steps, takes_long
 
-PAGES = ('OPERATING', 'TROUBLESHOOTING')
-LIMIT, PATIENCE = 150, 60
-MACHINE = {'PATH': '/usr/local/bin:/usr/bin:/bin:/usr/sbin:/sbin', 'HOME': '/root', 'LANG': 'C.UTF-8'}
-
-
-def blocks(page):
-    """The page's blocks that are run: kind, text, and a name after the heading above."""
-    found, heading, counts = [], 'top', {}
-    text = read(f'{places.ROOT}/docs/{page}.md').decode()
-    for head, kind, body in re.findall(r'^#+ ([^\n]*)$|^```(sh|console)\n(.*?)^```$', text, re.M | re.S):
-        if head:
-            heading = re.sub(r'\W+', '_', head.lower()).strip('_')
-            continue
-        counts[heading] = counts.get(heading, 0) + 1
-        found.append((kind, body, f'{page.lower()}-{heading}-{counts[heading]}'))
-    return found
-
-
-def steps(body):
-    """The commands of a console block, each with what it is to write."""
-    parts = re.split(r'^\$ ', body, flags=re.M)[1:]
-    return [(command, wanted.strip()) for command, _, wanted in (it.partition('\n') for it in parts)]
-
-
-def fits(got, wanted):
-    pattern = '.*'.join(re.escape(it) for it in wanted.split('..'))
-    return re.fullmatch(pattern, got.strip(), re.S) is not None
+LIMIT, PATIENCE = 200, 60
+NEEDED = ('dpkg', 'sqlite3', 'curl', 'ip', 'ss', 'systemd-sysusers', 'setpriv')
+HOME, CLONE = '/root', '/root/litefs'
+MACHINE = {'PATH': '/usr/local/bin:/usr/bin:/bin:/usr/sbin:/sbin', 'HOME': HOME, 'LANG': 'C.UTF-8'}
+NOT_COPIED = shutil.ignore_patterns('.git', 'out', 'target', '__pycache__')
 
 
 def shell(root, text, *options):
-    """Runs commands in the machine; what they leave running goes with it."""
-    words = ['timeout', '-k', '1', str(LIMIT), 'chroot', root, 'bash', *options, '-c', 'cd /root\n' + text]
-    return subprocess.run(words, stdin=subprocess.DEVNULL, stdout=subprocess.PIPE, stderr=subprocess.STDOUT, text=True, env=MACHINE)
+    """Runs commands in the machine: their status and what they wrote. What they leave running goes with the machine."""
+    folder = CLONE if os.path.exists(root + CLONE) else HOME
+    words = ['timeout', '-k', '1', str(LIMIT), 'chroot', root, 'bash', *options, '-c', f'cd {folder}\n{text}']
+    with tempfile.TemporaryFile('w+') as said:
+        ran = subprocess.run(words, stdin=subprocess.DEVNULL, stdout=said, stderr=subprocess.STDOUT, env=MACHINE)
+        said.seek(0)
+        return ran.returncode, said.read()
 
 
-def run_block(root, kind, body):
-    """Why the block failed, if it did."""
-    if kind == 'sh':
-        ran = shell(root, body, '-e', '-o', 'pipefail')
-        return None if ran.returncode == 0 else f'status {ran.returncode}: {ran.stdout}'
+def ends_well(root, text):
+    status, said = shell(root, text, '-e', '-o', 'pipefail')
+    return None if status == 0 else f'status {status}: {said}'
+
+
+def writes_that(root, body):
     end = time.monotonic() + PATIENCE
     while True:
-        seen = [(wanted, shell(root, command).stdout) for command, wanted in steps(body)]
+        seen = [(wanted, shell(root, command)[1]) for command, wanted in steps(body)]
         wrong = [f'{got!r} where {wanted!r} is written' for wanted, got in seen if not fits(got, wanted)]
         if not wrong or time.monotonic() > end:
             return '; '.join(wrong) or None
         time.sleep(0.5)
 
 
-def inside(page, package, root):
-    """Runs a page in the machine, a line for each block, and answers 1 where one failed. Behind that nothing of the page is run."""
-    furnish(root, package)
+def is_run(row):
+    return row.endswith(' run |')
+
+
+def row_holds(root, row):
+    if is_run(row):
+        return next(filter(None, (ends_well(root, it) for it in commands(row))), None)
+    short = [it for it in commands(row) if not takes_long(it)]
+    return f'the page leaves out what can be run: {short}' if short else None
+
+
+HOLDS = {'sh': ends_well, 'console': writes_that, 'row': row_holds}
+
+
+def left_out(root, part, no_mount):
+    """Why a part can't be run here."""
+    if part.kind.endswith(' mount') and no_mount:
+        return no_mount
+    if part.kind == 'row' and is_run(part.text) and any('rt' in it.split() for it in commands(part.text)) and shell(root, 'rt version')[0]:
+        return 'no rt in the machine'
+    return None
+
+
+def inside(page, package, no_mount, root):
+    """Runs a page in the machine, a line for each part, and answers 1 where one failed. Behind that nothing of the page is run."""
+    furnish(root, page, package)
     failed = None
-    for kind, body, name in blocks(page):
-        why = f'not run after {failed}' if failed else run_block(root, kind, body)
-        failed = failed or (why and name)
-        print(f'failed: {name}: {" / ".join(why.strip().splitlines())[-600:]}' if why else f'passed: {name}', flush=True)
+    for part in parts(page):
+        if reason := left_out(root, part, no_mount):
+            print(f'skipped: {part.name}: {reason}', flush=True)
+            continue
+        why = f'not run after {failed}' if failed else HOLDS[part.kind.split()[0]](root, part.text)
+        failed = failed or (why and part.name)
+        print(f'failed: {part.name}: {" / ".join(why.strip().splitlines())[-600:]}' if why else f'passed: {part.name}', flush=True)
     return 1 if failed else 0
 
 
-def furnish(root, package):
-    put(root, package, f'/root/{os.path.basename(package)}', 0o644)
+def furnish(root, page, package):
+    with contextlib.suppress(FileNotFoundError):
+        os.remove(f'{root}/var/lib/man-db/auto-update')  # else each install makes the index of all man pages anew
+    put(root, package, f'{HOME}/{os.path.basename(package)}', 0o644)
     here = os.path.join(places.TESTS, 'support/systemctl')
     put(root, here, '/usr/bin/systemctl')
     put(root, here, '/usr/bin/journalctl')
-    if not os.path.exists(f'{places.ROOT}/clients/litefs-vfs/build.sh'):
-        put(root, places.vfs(), '/usr/lib/litefs/litefs-vfs.so', 0o644)
+    if page in ('COMMANDS', 'CONTRIBUTING'):
+        shutil.copytree(places.ROOT, root + CLONE, symlinks=True, ignore=NOT_COPIED)
+        put(root, places.elf(), f'{CLONE}/crates/litefs/out/litefs')
 
 
 def packed(folder):
@@ -92,15 +111,26 @@ def packed(folder):
     return glob.glob(f'{folder}/*.deb')[0]
 
 
+def whole(page):
+    """That nothing which looks like a command is overlooked."""
+    found = overlooked(page)
+    print(f'failed: {page.lower()}-whole: not run: {found}' if found else f'passed: {page.lower()}-whole', flush=True)
+    return 1 if found else 0
+
+
 def main():
-    pages = sys.argv[1:] or PAGES
+    lacking = [it for it in NEEDED if not shutil.which(it, path=MACHINE['PATH'])]
+    if lacking:
+        skip_all(f'no {", ".join(lacking)} here')
     with tempfile.TemporaryDirectory(prefix='litefs-pages-') as folder:
         try:
+            no_mount, _ = why_no_mount(), places.vfs()
             package = packed(folder)
-            statuses = [isolated([sys.executable, os.path.abspath(__file__), '--inside', page, package]) for page in pages]
+            pages = sys.argv[1:] or PAGES
+            statuses = [isolated([sys.executable, os.path.abspath(__file__), '--inside', it, package, no_mount]) for it in pages]
         except Skipped as skipped:
             skip_all(str(skipped))
-    sys.exit(max(statuses))
+    sys.exit(max([*statuses, *map(whole, pages)]))
 
 
 if sys.argv[1:2] == ['--inside']:

@@ -10,14 +10,15 @@ import shutil
 import sqlite3
 import time
 
-from support import Client, Node, connect, count, fill, holds, in_each_mode, in_mode, insert, refuses, run, same, seen_by, until
+from support import (Client, Node, connect, count, fill, holds, in_each_mode, in_mode, insert, length, refuses, run, same,
+                     seen_by, until)
 
 ENDLESS = '''
 import itertools
 c.execute('pragma busy_timeout=500')
 for i in itertools.count(): c.execute('insert into t(b,c) values(?,?)', (i, os.urandom(700)))
 '''
-TURNS = 6
+TURNS = length(3, 6)
 
 
 def follow(mode):

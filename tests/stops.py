@@ -4,9 +4,9 @@ killed under load and started again. Nothing that was acknowledged is lost, and 
 
 At most: 900 seconds.
 Seen to fail: a node that doesn't rename every ninth file into its log: after the kill it doesn't start, since its log has a gap."""
-from support import Client, Node, Relay, connect, count, holds, in_each_mode, in_mode, run, same, seen_by, until
+from support import Client, Node, Relay, connect, count, holds, in_each_mode, in_mode, length, run, same, seen_by, until
 
-ROWS, STEP, MOST = 25, 5, 400
+ROWS, STEP, MOST = 25, length(13, 5), 400
 WRITER = f'''
 c.execute('pragma cache_size=5')
 c.execute('begin')
@@ -23,11 +23,11 @@ for i in itertools.count():
     c.execute('insert into t(b,c) values(?,?)', (i, os.urandom(700)))
     said('A')
 '''
-TURNS, ANSWERS = 5, 15
+TURNS, ANSWERS = length(2, 5), 15
 
 
 def client_dies(mode):
-    """The writer is killed before its fifth changing message, then its tenth, until it comes to its end."""
+    """The writer is killed before one of its changing messages, then a later one, until it comes to its end."""
     with Node() as node:
         made = in_mode(node.socket, mode)
         made.execute('pragma wal_autocheckpoint=12')
@@ -47,7 +47,7 @@ def client_dies(mode):
             seen = seen_by(other)
             other.close()
             if status == 0:
-                holds(fatal > 3 * STEP, 'the writer sent messages enough to be killed at')
+                holds(fatal > 2 * STEP, 'the writer sent messages enough to be killed at')
                 node.sound(seen)
                 return
         holds(False, f'the writer ends in fewer than {MOST} messages')

@@ -1,6 +1,7 @@
 #!/usr/bin/python3
 """The last version that a tag names and this one: as primary and replica both ways round, an upgrade of replica and primary in
-turn under a running database, and each opens the other's data directory. LITEFS_OLD names another program as the old one.
+turn under a running database, and each opens the other's data directory. LITEFS_OLD names another program as the old one. With
+neither a tag nor LITEFS_OLD there is no older version, and it is skipped.
 
 At most: 1500 seconds.
 Seen to fail: an older program whose writes of the file `database` change one bit: the replica's pages are not the

@@ -2,7 +2,7 @@
 """The VFS as a loadable extension: the shell and Python by URI, how a node's database is named, other databases on one connection,
 and what is refused or told where something is missing.
 
-At most: 300 seconds.
+At most: 600 seconds.
 Seen to fail: with a library that lets the record of a super-journal through (the commit is not refused), and with one that takes a
 missing socket for a plain file."""
 import os

@@ -2,17 +2,17 @@
 """A node that ends under connections of real SQLite: they are told of an I/O error, never of a damaged database, at once and not
 after a busy timeout; and once it is started again, new connections of the same process find all that was acknowledged.
 
-At most: 180 seconds.
+At most: 400 seconds.
 Seen to fail: with a library that answers a failed read by SQLite's code for a damaged file (`database disk image is malformed`)."""
 import sqlite3
 import threading
 import time
 
-from support import Node, connect, count, fill, holds, in_each_mode, in_mode, insert, run, same, seen_by
+from support import Node, connect, count, fill, holds, in_each_mode, in_mode, insert, length, run, same, seen_by
 
 # 'database is locked' is said by a connection to the node that is there
 TOLD = {'disk I/O error', 'unable to open database file'}
-TURNS = 6
+TURNS = length(2, 6)
 
 
 def told(call):

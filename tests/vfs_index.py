@@ -10,7 +10,7 @@ import subprocess
 import sys
 import tempfile
 
-from support import Client, Node, connect, count, fill, holds, in_each_mode, in_mode, insert, places, run, same, seen_by, until
+from support import Client, Node, connect, count, fill, holds, in_each_mode, in_mode, insert, length, places, run, same, seen_by, until
 from support.client import PRELUDE
 
 WRITER = '''
@@ -36,6 +36,7 @@ MOST = 200
 def for_tests():
     """The VFS that ends its process at a chosen message."""
     folder = os.path.join(tempfile.gettempdir(), f'litefs-tests-{os.getuid()}')
+    places.need_compiler()
     build = os.path.join(places.ROOT, 'clients/litefs-vfs/build.sh')
     subprocess.run([build, '--test', folder], check=True, stdout=subprocess.DEVNULL, timeout=300)
     return os.path.join(folder, 'litefs-vfs-test.so')
@@ -65,11 +66,11 @@ def client_dies(step, when):
 
 
 def dies_before():
-    client_dies(4, 'before')
+    client_dies(length(9, 4), 'before')
 
 
 def dies_after():
-    client_dies(5, 'after')
+    client_dies(length(10, 5), 'after')
 
 
 class Reader:

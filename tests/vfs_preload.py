@@ -2,7 +2,7 @@
 """Applications that know nothing of a node, over the VFS by LD_PRELOAD: they do on a node what they do on a plain file, and other
 databases of theirs stay plain files.
 
-At most: 300 seconds.
+At most: 600 seconds.
 Seen to fail: with a library that does not make itself SQLite's default (the database is a file in the folder), and with one that
 takes every path for the node's."""
 import os

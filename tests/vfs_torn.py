@@ -2,14 +2,14 @@
 """Readers see whole transactions: each sets all rows to one number, and no reader sees two. Writers and readers are threads of
 processes at a primary, and readers at its replica; processes are killed at random.
 
-At most: 180 seconds.
+At most: 400 seconds.
 Seen to fail: with a library that reads the header of the shared memory and not its regions (`file is not a database`)."""
 import random
 import time
 
-from support import Client, Node, connect, holds, in_each_mode, in_mode, run, same, seen_by, until
+from support import Client, Node, connect, holds, in_each_mode, in_mode, length, run, same, seen_by, until
 
-ROWS, TURNS, SECONDS = 40, 60, 120
+ROWS, TURNS, SECONDS = 40, length(25, 60), 240
 CROWD = '''
 import random, sqlite3, threading
 KINDS = ('passive', 'full', 'restart', 'truncate')
@@ -79,16 +79,15 @@ def no_reader_sees_two(mode):
         node.level(replica)
         starts = [(at_the_primary, node), (at_the_primary, node), (at_the_replica, replica)]
         clients = [start(it, 100 * turn) for turn, (start, it) in enumerate(starts)]
-        worked, end = 0, time.monotonic() + SECONDS
+        worked, turn, before, end = 0, 0, node.position().txid, time.monotonic() + SECONDS
         try:
-            for turn in range(TURNS):
-                time.sleep(chosen.random() * .4)
+            while time.monotonic() < end and (turn < TURNS or not worked or node.position().txid == before):
+                time.sleep(chosen.random() * (.4 + turn / 50))  # later ones live longer, for a slow machine
                 which = chosen.randrange(len(starts))
                 worked += ended_well(clients[which])
                 start, it = starts[which]
                 clients[which] = start(it, 1000 * turn)
-                if time.monotonic() > end:
-                    break
+                turn += 1
             for client in clients:
                 worked += ended_well(client)
         finally:

@@ -3,7 +3,7 @@
 A script is `tests/NAME.py`. Its head says what it tests, `At most: N seconds.`, and by what broken thing it was seen
 to fail. It gives its cases to `run`, which prints one line for each and ends with 0, 1 (a case failed) or 77 (none
 ran)."""
-from .cases import holds, refuses, run, same, skip_all
+from .cases import holds, length, refuses, run, same, skip_all
 from .client import Client
 from .mounted import small_disk
 from .node import KEEP_ALL, Node, applied, configuration, free_port, outcome, read

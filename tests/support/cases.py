@@ -1,5 +1,6 @@
 """A script's cases: one line for each, and the status at the end."""
 import fnmatch
+import os
 import sys
 import traceback
 
@@ -31,6 +32,11 @@ def refuses(call, kind, what):
 def short(value):
     text = repr(value)
     return text if len(text) < 300 else f'{text[:200]} .. ({len(text)} characters)'
+
+
+def length(usual, long):
+    """How many turns, seconds or points a script takes: those of the gate, or more where LITEFS_LONG is set."""
+    return long if os.environ.get('LITEFS_LONG') else usual
 
 
 def skip_all(reason):

@@ -2,7 +2,7 @@
 LITEFS_FUSE_OPTIONS are added to every mount's."""
 import functools
 import os
-import shutil
+import re
 import sqlite3
 import subprocess
 import sys
@@ -28,10 +28,21 @@ def fuse_program():
     given = os.environ.get('LITEFS_FUSE')
     if given:
         return os.path.abspath(given)
-    if not shutil.which('cargo'):
-        raise Skipped('no cargo here, and LITEFS_FUSE is not set')
+    need_rust()
     subprocess.run(['cargo', 'build', '--release', '--offline', '--quiet'], cwd=SOURCES, check=True)
     return os.path.join(SOURCES, 'target/release/litefs-fuse')
+
+
+def need_rust():
+    """Skips where there is no cargo, no C compiler that it links by, or a compiler that is older than the sources want."""
+    try:
+        said = [subprocess.run([it, '--version'], capture_output=True, text=True, check=True).stdout for it in ('cc', 'cargo', 'rustc')]
+    except (OSError, subprocess.CalledProcessError):
+        raise Skipped('no cargo with a compiler and a linker here, and LITEFS_FUSE is not set')
+    with open(os.path.join(SOURCES, 'Cargo.toml')) as file:
+        least = re.search(r'^rust-version = "1\.(\d+)"', file.read(), re.M)
+    if int(re.match(r'rustc 1\.(\d+)', said[2])[1]) < int(least[1]):
+        raise Skipped(f'{said[2].strip()} is older than 1.{least[1]}')
 
 
 class Mount:
@@ -139,10 +150,10 @@ def ended(process, limit=90):
     return process.returncode, said
 
 
-def need_mount():
-    """Ends the script where nothing can be mounted here."""
+def why_no_mount():
+    """Why nothing can be mounted here; nothing where it can."""
     if not os.path.exists('/dev/fuse'):
-        skip_all('no /dev/fuse here')
+        return 'no /dev/fuse here'
     folder = tempfile.mkdtemp(prefix='litefs-mount-')
     try:
         command = [fuse_program(), folder + '.sock', folder, UNTIL_WE_END]
@@ -150,12 +161,18 @@ def need_mount():
         said = tried.stderr.readline()
         tried.stdin.close()
         tried.wait(60)
-        if 'mounted' not in said:
-            skip_all(f'a mount is not possible: {said}')
+        return '' if 'mounted' in said else f'a mount is not possible: {said}'
     except Skipped as skipped:
-        skip_all(str(skipped))
+        return str(skipped)
     finally:
         os.rmdir(folder)
+
+
+def need_mount():
+    """Ends the script where nothing can be mounted here."""
+    why = why_no_mount()
+    if why:
+        skip_all(why)
 
 
 def in_each_way(**cases):

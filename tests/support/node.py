@@ -2,6 +2,7 @@
 import collections
 import glob
 import os
+import random
 import shutil
 import socket
 import subprocess
@@ -31,9 +32,15 @@ Position = collections.namedtuple('Position', 'txid sum')
 
 
 def free_port():
-    with socket.socket() as tried:
-        tried.bind(('127.0.0.1', 0))
-        return tried.getsockname()[1]
+    """A port that is free, below those that the system gives to who dials: a replica whose primary is down might get just that one."""
+    while True:
+        port = random.randrange(12000, 32000)
+        with socket.socket() as tried:
+            try:
+                tried.bind(('127.0.0.1', port))
+                return port
+            except OSError:
+                pass
 
 
 def configuration(port, primary=None, keep=KEEP_ALL, database='app'):

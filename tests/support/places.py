@@ -49,8 +49,7 @@ def vfs():
 def built_vfs():
     if not os.path.exists(f'{VFS}/build.sh'):
         raise FileNotFoundError(f'no VFS in {VFS}: set LITEFS_VFS')
-    if not shutil.which('gcc') or not os.path.exists('/usr/include/sqlite3ext.h'):
-        raise Skipped('the VFS needs gcc and libsqlite3-dev')
+    need_compiler()
     made = os.path.join(kept(), f'litefs-vfs-{sum_of_vfs()}')
     if not os.path.exists(made):
         room = tempfile.mkdtemp(dir=kept())
@@ -60,6 +59,12 @@ def built_vfs():
         except OSError:
             shutil.rmtree(room)
     return os.path.join(made, 'litefs-vfs.so')
+
+
+def need_compiler():
+    """Skips where there is not what the VFS is built with."""
+    if not shutil.which('gcc') or not all(map(os.path.exists, ('/usr/include/stdio.h', '/usr/include/sqlite3ext.h'))):
+        raise Skipped('the VFS needs gcc, libc6-dev and libsqlite3-dev')
 
 
 def sum_of_vfs():
