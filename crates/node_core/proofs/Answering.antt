@@ -21,6 +21,7 @@ use Rattle.file_view.specs.Refusal.{IsAllowed}
 use Rattle.file_view.specs.Requests.{rows_of}
 use Rattle.file_view.specs.Served.{Served, has_committed_frames, log_contents, waits}
 use Rattle.file_view.specs.Steady.{CommitsNothing, IsQuiet, SameDatabase}
+use Rattle.lease_core.specs.Belief.{may_commit}
 use Rattle.txn_log.specs.Calls.{RestsAs}
 use Rattle.wal_watch.specs.Frames.{committed_count}
 use Rattle.world_laws.specs.Answers.{Answers, LeavesUndone}
@@ -116,10 +117,10 @@ module _ (law : LeavesReplica) (start mid : History) (old : NodeParts) (store : 
 
   -- only a primary commits
   pub primary : (r : Reply) (change : PageChange) → p ≡ plan.Commit r change → role_in old ≡ role.Primary
-  primary r change is = go old.config.candidate refl where
-    go : (b : Bool) → old.config.candidate ≡ b → role_in old ≡ role.Primary
-    go true candidate = ap role_by candidate
-    go false candidate = absurd (subst CommitsNothing is (quiet (ap role_by candidate)).2)
+  primary r change is = go (may_commit old.standing.belief old.standing.moment) refl where
+    go : (b : Bool) → may_commit old.standing.belief old.standing.moment ≡ b → role_in old ≡ role.Primary
+    go true leads = ap role_by leads
+    go false leads = absurd (subst CommitsNothing is (quiet (ap role_by leads)).2)
 
   -- a step that commits nothing
   pub plan-safely : (answer : laws.Answer) → IsTrue old.store.honest → RestsAs (MayBeFound (state mid store) (failed mid store)) mid → ShareForReading files.locks

@@ -1,5 +1,5 @@
 -- What a READ of the database file gives.
-use Rattle.std.proofs.Common.{◌≡◌, ℕ, Bool, true, false, IsTrue, List, Option, Some, inl, inr, refl, subst, ◌∙◌}
+use Rattle.std.proofs.Common.{◌≡◌, ℕ, Bool, true, false, IsTrue, List, Option, None, Some, inl, inr, refl, subst, ◌∙◌}
 use Rattle.std.specs.Prelude.{IsSomeAnd, ◌==◌, ◌&&◌}
 use Rattle.byte_locks.specs.declared.lock_bytes.FileKind.{FileKind}
 use Rattle.byte_locks.specs.declared.lock_bytes.FileKind.TheVariants as file
@@ -23,11 +23,13 @@ use Rattle.node_core.specs.declared.ask.Ask.{Ask}
 use Rattle.node_core.specs.declared.ask.Ask.TheVariants as asks
 use Rattle.node_core.specs.Bytes.{GivesBytes, ReadGives}
 use Rattle.node_core.specs.Files.{IsPlanned, scene, told}
-use Rattle.node_core.specs.Nodes.{NodeParts, seen}
+use Rattle.node_core.specs.Nodes.{NodeParts, at_moment, file_over, role_in, seen}
 use Rattle.node_core.specs.Serving.{ServesFiles}
-use Rattle.node_core.specs.Steps.{AnswersFile, Does, at_moment}
+use Rattle.node_core.specs.Stores.{state}
+use Rattle.node_core.specs.Steps.{AnswersFile, Does}
 use Rattle.node_core.specs.Unlinking.{unlinks}
 use Rattle.node_core.proofs.Answering.{told-image}
+use Rattle.node_core.proofs.Expired.{files-still}
 
 bytes-alike : (one other : List ℕ) → plan.Reply (reply.Bytes one) ≡ plan.Reply (reply.Bytes other) → one ≡ other
 bytes-alike one other same = cc
@@ -73,9 +75,10 @@ module _ (start end : History) (old new : NodeParts) (caller : ℕ) (request : R
       gives-read fh place size owner reads database bytes (is-served start old caller request (answers.Done (reply.Bytes bytes)) end new (request.node == root) false refl answers_it)
   gives-file kind is o also r answers_it = tt
 
--- each step of a node
-pub step-gives : (start end : History) (old new : NodeParts) (caller : ℕ) (ask : Ask) (answer : Answer) → IsTrue old.store.honest → Does start old caller ask answer end new →
+-- each step of a node without uncommitted pages, of which its moment takes none
+pub step-gives : (start end : History) (old new : NodeParts) (caller : ℕ) (ask : Ask) (answer : Answer) → IsTrue old.store.honest → old.files.writer ≡ None → Does start old caller ask answer end new →
     GivesBytes (image_bytes (seen start old).served.file) ask answer
-step-gives start end old new caller (asks.File now request) (answers.Done r) honest does =
-    gives-file start end (at_moment old now) new caller request honest (file_at request.node) refl request.op refl r does
-step-gives start end old new caller ask answer honest does = tt
+step-gives start end old new caller (asks.File now request) (answers.Done r) honest none does =
+    subst (λ (s : Served). ReadGives (image_bytes (file_over s.database (state start old.store).image)) (file_at request.node) request.op r) (files-still old.files none (role_in (at_moment old now)))
+    (gives-file start end (at_moment old now) new caller request honest (file_at request.node) refl request.op refl r does)
+step-gives start end old new caller ask answer honest none does = tt

@@ -5,6 +5,7 @@ use Rattle.lf_sqlite_pages.specs.Image.{image_bytes}
 use Rattle.txn_log.specs.Calls.{RestsAs}
 use Rattle.txn_log.specs.Store.{failed_of}
 use Rattle.world_laws.specs.CatchUpLaw.{AnswersByWhole, DropInstalls, SentFileApplies, SnapshotInstalls}
+use Rattle.world_laws.specs.Node as laws
 use Rattle.world_laws.specs.Node.{IsSoundNode, NodeState}
 use Rattle.world_laws.specs.ReaderLaw.{ReaderSteady}
 use Rattle.world_laws.specs.SafetyLaw.{LedKept, SafeKept}
@@ -17,14 +18,14 @@ use Rattle.node_core.specs.declared.node.Node.{Node}
 use Rattle.node_core.specs.Bytes.{GivesBytes}
 use Rattle.node_core.specs.Cluster.{Program}
 use Rattle.node_core.specs.ClusterLaws.{BegunIsStart, ClusterIsKept, ClusterIsLed, MovesAreEvents, DeliveredDropInstalls, DeliveredFileApplies, DeliveredSnapshotInstalls, InterruptedIsRestart, ReaderIsSteady, RecoveredIsOpened, RestartsAreMoves, StepAnswersByWhole, StepsAreMoves, StopsAreMoves, program}
-use Rattle.node_core.specs.Nodes.{history, parts_of}
+use Rattle.node_core.specs.Nodes.{history, parts_of, role_in}
 use Rattle.node_core.specs.Steps.{IsStep}
 use Rattle.node_core.specs.Stores.{fields_of, state}
 use Rattle.node_core.proofs.Bytes.{step-gives}
 use Rattle.node_core.proofs.Clusters.{cluster-is-kept, cluster-is-led, moves-are-events}
 use Rattle.node_core.proofs.ClusterMoves.{begun-is-start, interrupted-is-restart, restarts-are-moves, steps-are-moves, stops-are-moves}
 use Rattle.node_core.proofs.Deliveries.{drop-installs, file-applies, reader-is-steady, snapshot-installs, step-answers-by-whole}
-use Rattle.node_core.proofs.Sound.{sound}
+use Rattle.node_core.proofs.Sound.{is-replica, sound}
 
 module _ {D : Type 0} {G : Ghosts D} where
   abbrev step : Node D G → ℕ → Ask → Answer → Node D G → Type 0
@@ -79,9 +80,10 @@ module _ {D : Type 0} {G : Ghosts D} where
   pub restarts : EachIsFound → RestartsAreMoves nodes
   restarts each = restarts-are-moves nodes each rests-as
 
-  -- a READ gives the file that is seen
-  gives : (old new : Node D G) (caller : ℕ) (ask : Ask) (answer : Answer) → IsTrue (nodes.honest old) → nodes.steps old caller ask answer new → GivesBytes (image_bytes (nodes.seen old).served.file) ask answer
-  gives old new caller ask answer disk taken = step-gives (history old) (history new) (parts_of old) (parts_of new) caller ask answer disk taken.does
+  -- a READ at a replica gives the file that is seen
+  gives : (old new : Node D G) (caller : ℕ) (ask : Ask) (answer : Answer) → IsTrue (nodes.honest old) → (nodes.seen old).role ≡ laws.Replica → nodes.steps old caller ask answer new → GivesBytes (image_bytes (nodes.seen old).served.file) ask answer
+  gives old new caller ask answer disk plain taken =
+      step-gives (history old) (history new) (parts_of old) (parts_of new) caller ask answer disk (old.replica (is-replica (role_in (parts_of old)) plain)) taken.does
 
   pub steady : ReaderSteady → ReaderIsSteady nodes
   steady law = reader-is-steady nodes stays is-sound law gives

@@ -77,12 +77,12 @@ disk-rises old new result breaks same = (subst (λ (r : Result Pos StoreFault). 
 
 -- THE COMMIT: pages were read, and then the store was asked
 module _ (start mid end : History) (old : NodeParts) (between new : StoreFields) (change : PageChange) (result : Result Pos StoreFault) (read : IsRead start old.store mid between) where
-  answers-old : Commits between.broken (position between) between.page_size between.commit between.sums change old.moment old.config.node result
-      → Commits old.store.broken (position old.store) old.store.page_size old.store.commit old.store.sums change old.moment old.config.node result
-  answers-old answers = subst (λ (s : StoreFields). Commits s.broken (position s) s.page_size s.commit s.sums change old.moment old.config.node result) read.same answers
+  answers-old : Commits between.broken (position between) between.page_size between.commit between.sums change old.standing.moment old.config.node result
+      → Commits old.store.broken (position old.store) old.store.page_size old.store.commit old.store.sums change old.standing.moment old.config.node result
+  answers-old answers = subst (λ (s : StoreFields). Commits s.broken (position s) s.page_size s.commit s.sums change old.standing.moment old.config.node result) read.same answers
 
-  module _ (answers : Commits between.broken (position between) between.page_size between.commit between.sums change old.moment old.config.node result)
-      (went : IsTrue between.honest → WentPruned (state mid between) (failed mid between) mid (Commit (drafted (position between) between.commit between.sums change old.moment old.config.node)) (kept_files old.config) result
+  module _ (answers : Commits between.broken (position between) between.page_size between.commit between.sums change old.standing.moment old.config.node result)
+      (went : IsTrue between.honest → WentPruned (state mid between) (failed mid between) mid (Commit (drafted (position between) between.commit between.sums change old.standing.moment old.config.node)) (kept_files old.config) result
       (state end new) (failed end new) end)
       (cause : BreaksPruned between.broken between.faults result new.broken new.faults) (honest_stays : new.honest ≡ between.honest) where
     breaks : BreaksBy result old.store new × (old.store.faults ≤ new.faults)
@@ -94,13 +94,13 @@ module _ (start mid end : History) (old : NodeParts) (between new : StoreFields)
         let honest_is : between.honest ≡ old.store.honest = ap (λ (s : StoreFields). s.honest) read.same in
         subst (λ (f : Option Failure). WentPruned (state start old.store) f mid (Commit (file_of old change)) (kept_files old.config) result (state end new) (failed end new) end) (read.failed honest)
         (subst (λ (s : StoreState). WentPruned s (failed mid between) mid (Commit (file_of old change)) (kept_files old.config) result (state end new) (failed end new) end) (read.state honest)
-        (subst (λ (s : StoreFields). WentPruned (state mid between) (failed mid between) mid (Commit (drafted (position s) s.commit s.sums change old.moment old.config.node)) (kept_files old.config) result
+        (subst (λ (s : StoreFields). WentPruned (state mid between) (failed mid between) mid (Commit (drafted (position s) s.commit s.sums change old.standing.moment old.config.node)) (kept_files old.config) result
         (state end new) (failed end new) end) read.same (went (honest_is ∙ honest))))
 
     whole : Begins result → failed start old.store ≡ None
     whole begun =
         no_failure start old.store.broken old.store.attempt old.store.tried
-        (commit-whole old.store.broken (position old.store) old.store.page_size old.store.commit old.store.sums change old.moment old.config.node result (answers-old answers) begun)
+        (commit-whole old.store.broken (position old.store) old.store.page_size old.store.commit old.store.sums change old.standing.moment old.config.node result (answers-old answers) begun)
 
     pub store-changes : IsTrue old.store.honest → ChangesAndPrunes (state start old.store) (failed start old.store) (Commit (file_of old change)) (kept_files old.config) result (state end new) (failed end new)
     store-changes honest =
@@ -121,7 +121,7 @@ module _ (start mid end : History) (old : NodeParts) (between new : StoreFields)
         calls-pruned (seen start old) (seen end (record old { store = new; files = files })) start mid end read.rests primary sound (Commit (file_of old change)) commits (kept_files old.config) commits_and_prunes
         result (went-old honest)
         (λ begun some. rises end old.store new result
-        (commit-whole old.store.broken (position old.store) old.store.page_size old.store.commit old.store.sums change old.moment old.config.node result (answers-old answers) begun) breaks.0 some)
+        (commit-whole old.store.broken (position old.store) old.store.page_size old.store.commit old.store.sums change old.standing.moment old.config.node result (answers-old answers) begun) breaks.0 some)
         (disk-rises old.store new result breaks.0)
 
 -- the image that a commit leads to

@@ -37,14 +37,14 @@ module _ {M : Type 0} (p : Program M) where
         reader.steps is (p.tells step disk).facts (reads-run (stays n m caller ask answer step ∙ disk) rest)
 
     module _ (sound : (n : M) → IsTrue (p.honest n) → IsSoundNode (p.seen n)) (law : ReaderSteady)
-        (gives : (old new : M) (caller : ℕ) (ask : Ask) (answer : Answer) → IsTrue (p.honest old) → p.steps old caller ask answer new → GivesBytes (image_bytes (p.seen old).served.file) ask answer) where
+        (gives : (old new : M) (caller : ℕ) (ask : Ask) (answer : Answer) → IsTrue (p.honest old) → (p.seen old).role ≡ laws.Replica → p.steps old caller ask answer new → GivesBytes (image_bytes (p.seen old).served.file) ask answer) where
       -- the file that the last node serves is that of each before it
       each-gives : {owner : Owner} {old new : M} → IsTrue (p.honest old) → (runs : ReadsOn p owner old new) → EachReadGives p (image_bytes (p.seen new).served.file) runs
       each-gives disk (rests is) = tt
       each-gives {owner = o} disk (goes_on {n = n} {m = m} {u = u} {caller = caller} {ask = ask} {answer = answer} is step rest) =
           let all : ReadsOn p o n u = goes_on {n = n} {m = m} {u = u} {caller = caller} {ask = ask} {answer = answer} is step rest in
           let steady = (law o (p.seen n) (p.seen u) (sound n disk) (reads-run disk all)).0 in (
-            subst (λ (file : DatabaseImage). GivesBytes (image_bytes file) ask answer) (sym steady.file) (gives n m caller ask answer disk step),
+            subst (λ (file : DatabaseImage). GivesBytes (image_bytes file) ask answer) (sym steady.file) (gives n m caller ask answer disk is.plain.role step),
             each-gives (stays n m caller ask answer step ∙ disk) rest,
           )
 

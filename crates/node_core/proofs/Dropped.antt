@@ -12,6 +12,7 @@ use Rattle.file_view.specs.Overlay.{FitsImage, IsOverImage}
 use Rattle.file_view.specs.Refusal.{IsAllowed, Row, first_refusal}
 use Rattle.file_view.specs.Roles.{is_replica}
 use Rattle.file_view.specs.Served.{Served}
+use Rattle.lease_core.specs.Belief.{may_commit}
 use Rattle.txn_log.specs.declared.fault.StoreFault.{StoreFault}
 use Rattle.txn_log.specs.declared.fault.StoreFault.TheVariants as fault
 use Rattle.txn_log.specs.Calls.{Went}
@@ -41,7 +42,7 @@ dropped-over s at image =
     record { differs = over.differs; agrees = over.agrees }
 
 -- only a primary is allowed to
-leads-by : (candidate : Bool) (rows : List Row) → first_refusal ((is_replica (role_by candidate), EROFS) ∷ rows) ≡ None → role_by candidate ≡ role.Primary
+leads-by : (leads : Bool) (rows : List Row) → first_refusal ((is_replica (role_by leads), EROFS) ∷ rows) ≡ None → role_by leads ≡ role.Primary
 leads-by true rows allowed = refl
 leads-by false rows allowed = absurd (some_none allowed)
   where
@@ -49,7 +50,7 @@ leads-by false rows allowed = absurd (some_none allowed)
     some_none same = cc
 
 pub leads-allowed : (n : NodeParts) → IsAllowed (unlink_rows n) → role_in n ≡ role.Primary
-leads-allowed n allowed = leads-by n.config.candidate ((is_some (first_blocking n.files n.store.wal), EAGAIN) ∷ []) allowed
+leads-allowed n allowed = leads-by (may_commit n.standing.belief n.standing.moment) ((is_some (first_blocking n.files n.store.wal), EAGAIN) ∷ []) allowed
 
 -- what the drop made of the store
 pub drop-changes : (start end : History) (old new : StoreFields) {T : Type 0} (result : Result T StoreFault) → DropsAll old.broken result

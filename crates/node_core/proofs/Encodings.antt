@@ -11,6 +11,7 @@ use Rattle.ltx_codec.specs.declared.file.Ltx.{Ltx}
 use Rattle.world_laws.specs.Answers.{Answers}
 use Rattle.world_laws.specs.Node as laws
 use Rattle.world_laws.specs.Node.{NodeState, Role}
+use Rattle.world_laws.specs.Step.{KeepsRole}
 use Rattle.node_core.specs.declared.answer.Answer.TheVariants as answers
 use Rattle.node_core.specs.Deciding.{Decided, is_encoding}
 use Rattle.node_core.specs.Errors.{refusal_of_encoding}
@@ -67,6 +68,13 @@ module _ (old new : NodeState) (role : Role) (bytes : List ℕ) where
     bytes-refused f refused (inr none) = tt
     bytes-refused f refused (inl is) =
         subst (λ (g : LtxFault). Answers old role (laws.Frame (file_in bytes)) [] None (law_answer (answers.Refused (refusal_of_encoding g))) new) (sym (wanting f is refused)) tt
+
+-- a step of a frame leaves the role
+pub frame-keeps : (bytes : List ℕ) (role later : Role) → KeepsRole (law_frame bytes) role later → role ≡ later
+frame-keeps bytes role later = go (is_encoding bytes) where
+  go : (decided : Decided (IsLtx bytes (file_in bytes))) → KeepsRole (law_frame_by bytes decided) role later → role ≡ later
+  go (inl is) keeps = keeps
+  go (inr none) keeps = keeps
 
 -- the bytes of a file are that frame
 pub frame-is : ((bytes : List ℕ) (file : Ltx) → AreBytes bytes → IsLtx bytes file → file_in bytes ≡ file) → (bytes : List ℕ) (file : Ltx) → AreBytes bytes → IsLtx bytes file → laws.Frame file ≡ law_frame bytes

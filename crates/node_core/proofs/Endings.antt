@@ -21,7 +21,7 @@ use Rattle.file_view.specs.Endings.{applied, ended}
 use Rattle.file_view.specs.Overlay.{FitsImage, IsOverImage}
 use Rattle.file_view.specs.Served.{Served, log_contents, waits}
 
-nothing : (file : DatabaseFile) → KeepsNothing (clean file)
+pub nothing : (file : DatabaseFile) → KeepsNothing (clean file)
 nothing file = cleared_keeps_nothing (clean file) 0 refl refl
 
 module _ (locks : LockList) (file : DatabaseFile) where

@@ -5,9 +5,12 @@ pub mod Facts
 pub mod Overlay
 pub mod Sound
 pub mod Endings
+pub mod Expired
+pub mod AtMoment
 pub mod Opened
 pub mod Dropped
 pub mod Steady
+pub mod Leased
 pub mod Histories
 pub mod Leaving
 pub mod Answering

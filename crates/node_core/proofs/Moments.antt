@@ -1,4 +1,4 @@
--- An ask at another moment.
+-- The moment of an ask.
 use Rattle.std.proofs.Common.{◌≡◌, refl, ℕ}
 use Rattle.node_core.specs.declared.ask.Ask.{Ask}
 use Rattle.node_core.specs.declared.ask.Ask.TheVariants as ask
@@ -13,3 +13,4 @@ last_stands first last (ask.Hello before from) = refl
 last_stands first last (ask.Frame before bytes) = refl
 last_stands first last (ask.Drop before) = refl
 last_stands first last (ask.Prune keep) = refl
+last_stands first last (ask.Lease before news) = refl

@@ -29,7 +29,7 @@ kept_files config = max config.retention 1
 
 -- the file of a change that a node commits
 abbrev pub file_of : NodeParts → PageChange → Ltx
-file_of n change = drafted (position n.store) n.store.commit n.store.sums change n.moment n.config.node
+file_of n change = drafted (position n.store) n.store.commit n.store.sums change n.standing.moment n.config.node
 
 -- the store becomes broken where the commit's disk failed, or that of the prune behind it; the disk's count of faults then rose
 abbrev pub BreaksBy : Result Pos StoreFault → StoreFields → StoreFields → Type 0
@@ -39,7 +39,7 @@ BreaksBy (Err why) old new = new.broken ≡ old.broken
 
 -- the store was asked to commit the change and to prune, and answered this
 pub record CommitsStore (start : History) (old : NodeParts) (change : PageChange) (result : Result Pos StoreFault) (end : History) (new : StoreFields) : Type 0 where
-  pub answers : Commits old.store.broken (position old.store) old.store.page_size old.store.commit old.store.sums change old.moment old.config.node result
+  pub answers : Commits old.store.broken (position old.store) old.store.page_size old.store.commit old.store.sums change old.standing.moment old.config.node result
   pub cause : BreaksBy result old.store new
   pub faults : old.store.faults ≤ new.faults
   pub store : IsTrue old.store.honest →

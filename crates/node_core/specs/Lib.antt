@@ -14,8 +14,9 @@ pub mod Hello
 pub mod Pruning
 pub mod Dropping
 pub mod Framing
-pub mod Steps
 pub mod Opening
+pub mod Leasing
+pub mod Steps
 pub mod Runs
 pub mod Cluster
 pub mod Bytes

@@ -1,4 +1,4 @@
--- An ask at another moment.
+-- The moment of an ask.
 use Rattle.std.specs.Prelude.{ℕ}
 use Rattle.node_core.specs.declared.ask.Ask.{Ask}
 use Rattle.node_core.specs.declared.ask.Ask.TheVariants as ask
@@ -12,3 +12,4 @@ ask_at now (ask.Hello before from) = ask.Hello now from
 ask_at now (ask.Frame before bytes) = ask.Frame now bytes
 ask_at now (ask.Drop before) = ask.Drop now
 ask_at now (ask.Prune keep) = ask.Prune keep
+ask_at now (ask.Lease before news) = ask.Lease now news

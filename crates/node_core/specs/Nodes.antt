@@ -1,5 +1,5 @@
 -- A node, and how the cluster sees it.
-use Rattle.std.specs.Prelude.{ℕ, ◌+◌, ◌-◌, ◌==◌, List, ◌++◌, length, Option, Some, None, if◌then◌else◌}
+use Rattle.std.specs.Prelude.{ℕ, ◌+◌, ◌-◌, ◌==◌, max, List, ◌++◌, length, Option, Some, None, if◌then◌else◌}
 use Rattle.std.specs.FinMap as pages
 use Rattle.std.specs.List.{range_with_len}
 use Rattle.std.specs.Option.{option_map}
@@ -18,24 +18,33 @@ use Rattle.world_laws.specs.Node.{NodeState}
 use Rattle.world_laws.specs.Served as laws
 use Rattle.node_core.specs.declared.config.NodeConfig.{NodeConfig}
 use Rattle.node_core.specs.declared.node.Node.{Node}
-use Rattle.node_core.specs.Roles.{law_role, role_of}
+use Rattle.node_core.specs.declared.standing.Standing.{Standing}
+use Rattle.node_core.specs.Roles.{files_at, law_role, role_of}
 use Rattle.node_core.specs.Stores.{StoreFields, failed, fields_of, history_of, state}
 
 -- a node at one moment: the served files, with the position and the primary's host as they were given; its store; what it was
--- given of itself; and the greatest moment that it was given
+-- given of itself; and what it believes of its lease, with the greatest moment that it was given
 pub record NodeParts : Type 0 where
   pub files : Served
   pub store : StoreFields
   pub config : NodeConfig
-  pub moment : ℕ
+  pub standing : Standing
 
 -- what it is in its cluster at that moment
 abbrev pub role_in : NodeParts → Role
-role_in n = role_of n.config
+role_in n = role_of n.standing
+
+-- the node once it stands so. Where it is a replica then, its uncommitted pages go
+abbrev pub stands : Standing → NodeParts → NodeParts
+stands standing n = record n { files = files_at (role_of standing) n.files; standing = standing }
+
+-- the node at the moment of an ask: the greatest that it was given. What has expired then has ended
+abbrev pub at_moment : NodeParts → ℕ → NodeParts
+at_moment n now = stands (record n.standing { moment = max n.standing.moment now }) n
 
 module _ {D : Type 0} {G : Ghosts D} where
   abbrev pub parts_of : Node D G → NodeParts
-  parts_of n = record { files = n.view; store = fields_of n.store; config = n.config; moment = n.moment }
+  parts_of n = record { files = n.view; store = fields_of n.store; config = n.config; standing = n.standing }
 
   abbrev pub store_of : Node D G → Store D G
   store_of n = n.store

@@ -1,10 +1,12 @@
 -- A node that was opened.
-use Rattle.std.specs.Prelude.{ℕ, ◌==◌, Option, Some, None, List, length, if◌then◌else◌}
+use Rattle.std.specs.Prelude.{Bool, true, false, ℕ, ◌==◌, Option, Some, None, List, length, if◌then◌else◌}
 use Rattle.lf_disk.specs.History.{History}
 use Rattle.file_view.specs.Views.{new_view}
 use Rattle.world_laws.specs.Node.{NodeState}
 use Rattle.world_laws.specs.Served.{untouched}
+use Rattle.lease_core.specs.Belief.{LeaseBelief, lasting, no_belief}
 use Rattle.node_core.specs.declared.config.NodeConfig.{NodeConfig}
+use Rattle.node_core.specs.declared.standing.Standing.{Standing}
 use Rattle.node_core.specs.Nodes.{NodeParts, role_in}
 use Rattle.node_core.specs.Roles.{law_role}
 use Rattle.node_core.specs.Stores.{StoreFields, failed, position, state}
@@ -13,13 +15,21 @@ use Rattle.node_core.specs.Stores.{StoreFields, failed, position, state}
 abbrev pub host_in : List ℕ → Option (List ℕ)
 host_in text = if length text == 0 then None else Some text
 
--- nobody was at the files, which tell where the store stands and who the primary is; no moment was given yet
+-- before any news of a lease: a candidate is primary, any other node a replica; no moment was given yet
+abbrev pub first_belief : (candidate : Bool) → LeaseBelief
+first_belief true = lasting
+first_belief false = no_belief
+
+abbrev pub first_standing : NodeConfig → Standing
+first_standing config = record { belief = first_belief config.candidate; moment = 0 }
+
+-- nobody was at the files, which tell where the store stands and who the primary is
 abbrev pub opened : StoreFields → NodeConfig → NodeParts
 opened store config = record {
   files = record (new_view config.name) { position = position store; host = host_in config.primary_host };
   store = store;
   config = config;
-  moment = 0;
+  standing = first_standing config;
 }
 
 -- the cluster sees it so: nothing waits, and nobody has used the files

@@ -36,6 +36,7 @@ law_ask (asks.Hello now position) = laws.Hello position
 law_ask (asks.Frame now bytes) = law_frame bytes
 law_ask (asks.Drop now) = laws.Drop
 law_ask (asks.Prune keep) = laws.Prune (kept_of keep)
+law_ask (asks.Lease now news) = laws.Lease
 
 abbrev pub law_store_fault : StoreFault → laws.Refusal
 law_store_fault fault.Disk = laws.Disk

@@ -3,6 +3,7 @@ use Rattle.std.specs.Prelude.{◌≡◌, ℕ, Bool, true, false, IsTrue, max}
 use Rattle.lf_disk.specs.History.{History}
 use Rattle.fuse_msgs.specs.declared.request.Request.{Request}
 use Rattle.file_view.specs.Endings.{ended}
+use Rattle.lease_core.specs.Belief.{LeaseBelief}
 use Rattle.node_core.specs.declared.answer.Answer.{Answer}
 use Rattle.node_core.specs.declared.answer.Answer.TheVariants as answers
 use Rattle.node_core.specs.declared.ask.Ask.{Ask}
@@ -10,16 +11,14 @@ use Rattle.node_core.specs.declared.ask.Ask.TheVariants as asks
 use Rattle.node_core.specs.Dropping.{AnswersDrop}
 use Rattle.node_core.specs.Framing.{AnswersFrame}
 use Rattle.node_core.specs.Hello.{AnswersHello}
-use Rattle.node_core.specs.Nodes.{NodeParts, seen}
+use Rattle.node_core.specs.Leasing.{AnswersLease, believes}
+use Rattle.node_core.specs.Nodes.{NodeParts, at_moment, role_in, seen}
 use Rattle.node_core.specs.Pruning.{AnswersPrune}
+use Rattle.node_core.specs.Roles.{law_role}
 use Rattle.node_core.specs.Safely.{StepsSafely, law_answer, law_ask}
 use Rattle.node_core.specs.Serving.{ServesFiles}
 use Rattle.node_core.specs.Stores.{OnlyRead, position}
 use Rattle.node_core.specs.Unlinking.{UnlinksDatabase, unlinks_database}
-
--- the node at the moment of an ask: the greatest that it was given
-abbrev pub at_moment : NodeParts → ℕ → NodeParts
-at_moment n now = record n { moment = max n.moment now }
 
 -- a request: UNLINK of the database file is answered by the node itself
 abbrev pub AnswersFile : Bool → History → NodeParts → ℕ → Request → Answer → History → NodeParts → Type 0
@@ -47,9 +46,46 @@ Does start old caller (asks.Hello now from) answer end new = AnswersHello start 
 Does start old caller (asks.Frame now bytes) answer end new = AnswersFrame start (at_moment old now) bytes answer end new
 Does start old caller (asks.Drop now) answer end new = AnswersDrop start (at_moment old now) answer end new
 Does start old caller (asks.Prune keep) answer end new = AnswersPrune start old keep answer end new
+Does start old caller (asks.Lease now news) answer end new = AnswersLease start (at_moment old now) now news answer end new
 
--- ONE STEP: what it does, and over an honest disk what it tells the cluster and what a crash leaves at each of its moments
+-- the node at the moment of an ask, where one comes with it
+abbrev pub at_ask : NodeParts → Ask → NodeParts
+at_ask old (asks.File now request) = at_moment old now
+at_ask old asks.EndSession = old
+at_ask old asks.Where = old
+at_ask old (asks.Hello now from) = at_moment old now
+at_ask old (asks.Frame now bytes) = at_moment old now
+at_ask old (asks.Drop now) = at_moment old now
+at_ask old (asks.Prune keep) = old
+at_ask old (asks.Lease now news) = at_moment old now
+
+-- the greatest moment that a node was given, once it was asked
+abbrev pub moment_by : Ask → ℕ → ℕ
+moment_by (asks.File now request) moment = max moment now
+moment_by asks.EndSession moment = moment
+moment_by asks.Where moment = moment
+moment_by (asks.Hello now from) moment = max moment now
+moment_by (asks.Frame now bytes) moment = max moment now
+moment_by (asks.Drop now) moment = max moment now
+moment_by (asks.Prune keep) moment = moment
+moment_by (asks.Lease now news) moment = max moment now
+
+-- what it believes of its lease then: only news change it
+abbrev pub belief_by : Ask → LeaseBelief → LeaseBelief
+belief_by (asks.Lease now news) belief = believes now news belief
+belief_by (asks.File now request) belief = belief
+belief_by asks.EndSession belief = belief
+belief_by asks.Where belief = belief
+belief_by (asks.Hello now from) belief = belief
+belief_by (asks.Frame now bytes) belief = belief
+belief_by (asks.Drop now) belief = belief
+belief_by (asks.Prune keep) belief = belief
+
+-- ONE STEP: what it does; over an honest disk what it tells the cluster and what a crash leaves at each of its moments, in the role
+-- that the node has at its moment; and what it believes of its lease
 pub record IsStep (start : History) (old : NodeParts) (caller : ℕ) (ask : Ask) (answer : Answer) (end : History) (new : NodeParts) : Type 0 where
   pub does : Does start old caller ask answer end new
   pub safe : IsTrue old.store.honest → StepsSafely (seen start old) (law_ask ask) (law_answer answer) (seen end new) start end
+  pub role : (disk : IsTrue old.store.honest) → (safe disk).facts.role ≡ law_role (role_in (at_ask old ask))
+  pub lease : (new.standing.belief ≡ belief_by ask old.standing.belief) × (new.standing.moment ≡ moment_by ask old.standing.moment)
   pub honest : new.store.honest ≡ old.store.honest

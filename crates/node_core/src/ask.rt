@@ -1,6 +1,7 @@
 ghost use Rattle.std.specs.Prelude.{◌≡◌};
 ghost use Rattle.node_core.specs.Moments.{ask_at};
 
+use crate::news::LeaseNews;
 use fuse_msgs::Request;
 use lf_base::{Bytes, Pos};
 
@@ -21,6 +22,8 @@ pub enum Ask {
     Drop { now: u64 },
     /// The log is to keep this many files, its newest. 0 stands for 1.
     Prune { keep: u64 },
+    /// News of leases came.
+    Lease { now: u64, news: LeaseNews },
 }
 
 impl Ask {
@@ -33,6 +36,7 @@ impl Ask {
             Ask::Hello { now, .. } => *now = moment,
             Ask::Frame { now, .. } => *now = moment,
             Ask::Drop { now } => *now = moment,
+            Ask::Lease { now, .. } => *now = moment,
             Ask::EndSession | Ask::Where | Ask::Prune { .. } => {}
         }
     }

@@ -1,7 +1,3 @@
-ghost use Rattle.std.specs.Prelude.{◌≡◌};
-ghost use Rattle.node_core.specs.Roles.{role_of};
-
-use file_view::Role;
 use lf_base::{Name, Text};
 
 /// What a node is given of itself when it is opened.
@@ -11,7 +7,7 @@ pub struct NodeConfig {
     pub name: Name,
     /// The node's own number, which its files of the log carry.
     pub node: u64,
-    /// Whether it is the primary. It does not change.
+    /// Whether it is the primary from the start, until news of a lease say otherwise.
     pub candidate: bool,
     /// What `.primary` reads as at a replica. An empty text is none.
     pub primary_host: Text,
@@ -19,17 +15,4 @@ pub struct NodeConfig {
     pub halt_ttl: u64,
     /// How many files of the log are kept after a commit. 0 stands for 1.
     pub retention: u64,
-}
-
-impl NodeConfig {
-    /// What the node is in its cluster.
-    pub fn role(&self) -> Role
-        ensures { result ≡ role_of self.now }
-    {
-        if self.candidate {
-            Role::Primary
-        } else {
-            Role::Replica
-        }
-    }
 }

@@ -12,6 +12,7 @@ use crate::node::Node;
 use crate::refusal::{Refusal, refusal_of};
 use lf_base::Pos;
 use lf_disk::Disk;
+use world_laws::moment_is_of_step;
 
 /// The position of a database that was never written.
 const NOWHERE: Pos = Pos { txid: 0, sum: 0 };
@@ -22,6 +23,7 @@ impl<D: Disk> Node<D> {
         ensures does { AnswersDrop (history self.old) (parts_of self.old) result (history self.new) (parts_of self.new) }
         ensures safe { IsTrue (D.honest self.old.store.disk) → StepsSafely (seen (history self.old) (parts_of self.old)) laws.Drop
             (law_answer result) (seen (history self.new) (parts_of self.new)) (history self.old) (history self.new) }
+        ensures standing { self.new.standing ≡ self.old.standing }
         ensures honest { D.honest self.new.store.disk ≡ D.honest self.old.store.disk }
     {
         if self.leads() {
@@ -47,7 +49,8 @@ impl<D: Disk> Node<D> {
     pub(crate) fn answer_drop(&mut self, now: u64) -> Answer
         ensures step { (caller : ℕ) → IsStep (history self.old) (parts_of self.old) caller (Ask.Drop now) result (history self.new) (parts_of self.new) }
     {
-        self.moment = self.moment.max(now);
+        moment_is_of_step();
+        self.at_moment(now);
         self.drop_here()
     }
 }

@@ -23,6 +23,7 @@ use lf_disk::Disk;
 use ltx_codec::{Ltx, decode, encoding_breaks_no_rule, file_is_read};
 use snapshot::install;
 use txn_log::{Store, StoreFault};
+use world_laws::moment_is_of_step;
 
 /// A store takes a file: a snapshot is installed, any other is applied.
 fn take<D: Disk>(store: &mut Store<D>, file: &Ltx) -> Result<Pos, StoreFault>
@@ -51,6 +52,7 @@ impl<D: Disk> Node<D> {
         ensures does { AnswersLtx (history self.old) (parts_of self.old) file.now result (history self.new) (parts_of self.new) }
         ensures safe { IsTrue (D.honest self.old.store.disk) → StepsSafely (seen (history self.old) (parts_of self.old)) (laws.Frame file.now)
             (law_answer result) (seen (history self.new) (parts_of self.new)) (history self.old) (history self.new) }
+        ensures standing { self.new.standing ≡ self.old.standing }
         ensures honest { D.honest self.new.store.disk ≡ D.honest self.old.store.disk }
     {
         match take(&mut self.store, file) {
@@ -70,6 +72,7 @@ impl<D: Disk> Node<D> {
         ensures does { AnswersLtx (history self.old) (parts_of self.old) file.now result (history self.new) (parts_of self.new) }
         ensures safe { IsTrue (D.honest self.old.store.disk) → StepsSafely (seen (history self.old) (parts_of self.old)) (laws.Frame file.now)
             (law_answer result) (seen (history self.new) (parts_of self.new)) (history self.old) (history self.new) }
+        ensures standing { self.new.standing ≡ self.old.standing }
         ensures honest { D.honest self.new.store.disk ≡ D.honest self.old.store.disk }
     {
         match self.view.apply_clear(self.store.wal) {
@@ -83,6 +86,7 @@ impl<D: Disk> Node<D> {
         ensures does { AnswersFrame (history self.old) (parts_of self.old) bytes.now result (history self.new) (parts_of self.new) }
         ensures safe { IsTrue (D.honest self.old.store.disk) → StepsSafely (seen (history self.old) (parts_of self.old)) (law_frame bytes.now)
             (law_answer result) (seen (history self.new) (parts_of self.new)) (history self.old) (history self.new) }
+        ensures standing { self.new.standing ≡ self.old.standing }
         ensures honest { D.honest self.new.store.disk ≡ D.honest self.old.store.disk }
     {
         if self.leads() {
@@ -101,7 +105,8 @@ impl<D: Disk> Node<D> {
     pub(crate) fn answer_frame(&mut self, now: u64, bytes: &Bytes) -> Answer
         ensures step { (caller : ℕ) → IsStep (history self.old) (parts_of self.old) caller (Ask.Frame now bytes.now) result (history self.new) (parts_of self.new) }
     {
-        self.moment = self.moment.max(now);
+        moment_is_of_step();
+        self.at_moment(now);
         self.frame(bytes)
     }
 }

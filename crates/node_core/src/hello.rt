@@ -19,6 +19,7 @@ use lf_disk::Disk;
 use ltx_codec::file_is_read;
 use snapshot::{make, snapshot_is_a_file};
 use txn_log::Answer as Owed;
+use world_laws::moment_is_of_step;
 
 impl<D: Disk> Node<D> {
     /// Gives the file at a place of the log.
@@ -28,6 +29,7 @@ impl<D: Disk> Node<D> {
         ensures does { AnswersHello (history self.old) (parts_of self.old) from result (history self.new) (parts_of self.new) }
         ensures safe { IsTrue (D.honest self.old.store.disk) → StepsSafely (seen (history self.old) (parts_of self.old)) (laws.Hello from)
             (law_answer result) (seen (history self.new) (parts_of self.new)) (history self.old) (history self.new) }
+        ensures standing { self.new.standing ≡ self.old.standing }
         ensures honest { D.honest self.new.store.disk ≡ D.honest self.old.store.disk }
     {
         file_is_read();
@@ -52,6 +54,7 @@ impl<D: Disk> Node<D> {
         ensures does { AnswersHello (history self.old) (parts_of self.old) from result (history self.new) (parts_of self.new) }
         ensures safe { IsTrue (D.honest self.old.store.disk) → StepsSafely (seen (history self.old) (parts_of self.old)) (laws.Hello from)
             (law_answer result) (seen (history self.new) (parts_of self.new)) (history self.old) (history self.new) }
+        ensures standing { self.new.standing ≡ self.old.standing }
         ensures honest { D.honest self.new.store.disk ≡ D.honest self.old.store.disk }
     {
         file_is_read();
@@ -75,6 +78,7 @@ impl<D: Disk> Node<D> {
         ensures does { AnswersHello (history self.old) (parts_of self.old) from result (history self.new) (parts_of self.new) }
         ensures safe { IsTrue (D.honest self.old.store.disk) → StepsSafely (seen (history self.old) (parts_of self.old)) (laws.Hello from)
             (law_answer result) (seen (history self.new) (parts_of self.new)) (history self.old) (history self.new) }
+        ensures standing { self.new.standing ≡ self.old.standing }
         ensures honest { D.honest self.new.store.disk ≡ D.honest self.old.store.disk }
     {
         if !self.leads() {
@@ -92,7 +96,8 @@ impl<D: Disk> Node<D> {
     pub(crate) fn answer_hello(&mut self, now: u64, from: Pos) -> Answer
         ensures step { (caller : ℕ) → IsStep (history self.old) (parts_of self.old) caller (Ask.Hello now from) result (history self.new) (parts_of self.new) }
     {
-        self.moment = self.moment.max(now);
+        moment_is_of_step();
+        self.at_moment(now);
         self.hello(from)
     }
 }

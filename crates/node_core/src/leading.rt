@@ -1,10 +1,11 @@
-//! What a node is in its cluster.
+//! What a node is at its moment, and what a moment ends.
 ghost use Rattle.std.specs.Prelude.{◌≡◌, ◌≢◌, true, false};
 ghost use Rattle.file_view.specs.declared.role.Role.TheVariants as role;
 ghost use Rattle.file_view.specs.Roles.{is_replica};
-ghost use Rattle.node_core.specs.Nodes.{parts_of, role_in};
+ghost use Rattle.node_core.specs.Nodes.{at_moment, parts_of, role_in, stands};
 
 use crate::node::Node;
+use crate::standing::Standing;
 use file_view::Role;
 use lf_disk::Disk;
 
@@ -13,7 +14,7 @@ impl<D: Disk> Node<D> {
     fn role(&self) -> Role
         ensures { result ≡ role_in (parts_of self.now) }
     {
-        self.config.role()
+        self.standing.role()
     }
 
     /// Whether it is the primary at its moment.
@@ -29,5 +30,27 @@ impl<D: Disk> Node<D> {
         ensures { result ≡ is_replica (role_in (parts_of self.now)) }
     {
         matches!(self.role(), Role::Replica)
+    }
+
+    /// From now on it stands so. Where it is a replica then its uncommitted pages go.
+    pub(crate) fn stand(&mut self, standing: Standing)
+        ensures parts { parts_of self.new ≡ stands standing (parts_of self.old) }
+        ensures store { self.new.store ≡ self.old.store }
+    {
+        standing.settle(&mut self.view);
+        self.standing = standing;
+    }
+
+    /// Gives it a moment. What has expired then ends.
+    pub(crate) fn at_moment(&mut self, now: u64)
+        ensures parts { parts_of self.new ≡ at_moment (parts_of self.old) now }
+        ensures store { self.new.store ≡ self.old.store }
+    {
+        let moment = self.standing.moment.max(now);
+        let standing = Standing {
+            belief: self.standing.belief,
+            moment,
+        };
+        self.stand(standing);
     }
 }

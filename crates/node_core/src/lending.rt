@@ -14,7 +14,7 @@ ghost use Rattle.node_core.specs.Files.{RefusesBy, told};
 ghost use Rattle.node_core.specs.Roles.{role_of};
 ghost use Rattle.node_core.specs.Stores.{StoreFields, no_fields, IsRead, fields_of, history_of};
 
-use crate::config::NodeConfig;
+use crate::standing::Standing;
 use file_view::{Plan, Role, View, ViewFault};
 use fuse_msgs::Request;
 use lf_base::Failed;
@@ -126,22 +126,22 @@ pub fn prepare<D: Disk>(
     view: &mut View,
     alloc: Global,
     caller: u64,
-    config: &NodeConfig,
+    standing: &Standing,
     request: &Request,
 ) -> Result<Plan, ViewFault>
     requires { StandsOver (told (history_of store.old) (fields_of store.old)) store.old.page_size store.old.commit view.old }
     ensures read { IsRead (history_of store.old) (fields_of store.old) (history_of store.new) (fields_of store.new) }
     ensures done { IfOk result (λ plan. IsDone (told (history_of store.old) (fields_of store.old)) view.old
-        (scene_of caller (role_of config.now) store.old.page_size store.old.commit store.old.broken) request.now plan view.new) }
-    ensures allowed { OnOk result (IsAllowed (rows_of view.old (scene_of caller (role_of config.now) store.old.page_size store.old.commit store.old.broken) request.now)) }
-    ensures cause { IfErr result (RefusesBy (needs_of view.old request.now) (rows_of view.old (scene_of caller (role_of config.now) store.old.page_size store.old.commit store.old.broken) request.now)
+        (scene_of caller (role_of standing.now) store.old.page_size store.old.commit store.old.broken) request.now plan view.new) }
+    ensures allowed { OnOk result (IsAllowed (rows_of view.old (scene_of caller (role_of standing.now) store.old.page_size store.old.commit store.old.broken) request.now)) }
+    ensures cause { IfErr result (RefusesBy (needs_of view.old request.now) (rows_of view.old (scene_of caller (role_of standing.now) store.old.page_size store.old.commit store.old.broken) request.now)
         (fields_of store.old) (fields_of store.new)) }
     ensures err { OnErr result (view.new ≡ view.old) }
     ensures name { view.new.name ≡ view.old.name }
     ensures stands { StandsOver (told (history_of store.old) (fields_of store.old)) store.old.page_size store.old.commit view.new }
     ensures awaits { IfOk result (AwaitsOver (told (history_of store.old) (fields_of store.old)) view.new) }
 {
-    let role = config.role();
+    let role = standing.role();
     let mut planned = Err(ViewFault::NoMemory);
     prepare_lent::<Brand, D>(store, view, alloc, caller, role, request, &mut planned);
     planned

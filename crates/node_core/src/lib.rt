@@ -14,13 +14,16 @@ mod framing;
 mod hello;
 mod laws;
 mod leading;
+mod leasing;
 mod lending;
+mod news;
 mod node;
 mod octets;
 mod opening;
 mod pruning;
 mod refusal;
 mod serving;
+mod standing;
 mod stepping;
 mod unlinking;
 
@@ -31,5 +34,7 @@ pub use cluster_laws::{
 };
 pub use config::NodeConfig;
 pub use laws::{crashes_are_opened, runs_are_steps};
+pub use news::LeaseNews;
 pub use node::Node;
 pub use refusal::Refusal;
+pub use standing::Standing;

@@ -8,6 +8,7 @@ ghost use Rattle.node_core.specs.Roles.{role_of};
 ghost use Rattle.node_core.specs.Stores.{fields_of, history_of, position, state};
 
 use crate::config::NodeConfig;
+use crate::standing::Standing;
 use file_view::View;
 use lf_disk::Disk;
 use std::alloc::Global;
@@ -24,13 +25,12 @@ pub struct Node<D: Disk> {
     pub(crate) store: Store<D>,
     pub(crate) view: View,
     pub(crate) config: NodeConfig,
-    /// The greatest moment that it was given.
-    pub(crate) moment: u64,
+    pub(crate) standing: Standing,
     ghost shape: { FitsImage view store.page_size store.commit },
     ghost image: { IsTrue (D.honest store.disk) → IsOverImage view (state (history_of store) (fields_of store)).image } by { Prim.hlevel props },
     ghost named: { view.name ≡ config.name } by { Prim.hlevel props },
     ghost told: { view.position ≡ position (fields_of store) },
-    ghost replica: { role_of config ≡ role.Replica → view.writer ≡ None } by { Prim.hlevel props },
+    ghost replica: { role_of standing ≡ role.Replica → view.writer ≡ None } by { Prim.hlevel props },
     ghost idle: { waits view ≡ false },
     ghost locked: { IsLockList view.locks } by { Prim.hlevel props },
 }

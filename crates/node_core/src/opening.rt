@@ -1,19 +1,21 @@
 //! A node is opened over a store, and given up again.
 ghost use Rattle.std.specs.Prelude.{◌≡◌, IsTrue, IfOk, IfErr};
 ghost use Rattle.node_core.specs.Nodes.{history, parts_of, seen, store_of};
-ghost use Rattle.node_core.specs.Opening.{host_in, opened, seen_opened};
+ghost use Rattle.node_core.specs.Opening.{first_standing, host_in, opened, seen_opened};
 ghost use Rattle.node_core.specs.Stores.{fields_of, history_of};
 
 use crate::config::NodeConfig;
 use crate::node::Node;
+use crate::standing::Standing;
 use file_view::View;
+use lease_core::Belief;
 use lf_base::{NoMemory, Text};
 use lf_disk::Disk;
 use std::alloc::Global;
 use txn_log::Store;
 
 /// The primary's host, if the text names one.
-fn host_in(text: &Text) -> Result<Option<Text>, NoMemory>
+pub(crate) fn host_in(text: &Text) -> Result<Option<Text>, NoMemory>
     ensures { IfOk result (λ host. host ≡ host_in text.now) }
 {
     if text.bytes().is_empty() {
@@ -21,6 +23,18 @@ fn host_in(text: &Text) -> Result<Option<Text>, NoMemory>
     }
     let host = text.copy()?;
     Ok(Some(host))
+}
+
+/// What a node stands as before any news. A candidate is primary.
+fn first_standing(config: &NodeConfig) -> Standing
+    ensures { result ≡ first_standing config.now }
+{
+    let belief = if config.candidate {
+        Belief::always()
+    } else {
+        Belief::none()
+    };
+    Standing { belief, moment: 0 }
 }
 
 /// The served files of a node that is opened.
@@ -46,13 +60,16 @@ impl<D: Disk> Node<D> {
         ensures back { IfErr result (λ refused. refused.1 ≡ store) }
     {
         match files_of(alloc, &store, &config) {
-            Ok(view) => Ok(Node {
-                alloc,
-                store,
-                view,
-                config,
-                moment: 0,
-            }),
+            Ok(view) => {
+                let standing = first_standing(&config);
+                Ok(Node {
+                    alloc,
+                    store,
+                    view,
+                    config,
+                    standing,
+                })
+            }
             Err(want) => Err((want, store)),
         }
     }

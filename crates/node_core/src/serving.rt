@@ -3,7 +3,8 @@ ghost use Rattle.std.specs.Prelude.{◌≡◌, IsTrue};
 ghost use Rattle.node_core.specs.Nodes.{history, parts_of, seen};
 ghost use Rattle.node_core.specs.Safely.{StepsSafely, law_answer};
 ghost use Rattle.node_core.specs.Serving.{ServesFiles};
-ghost use Rattle.node_core.specs.Steps.{IsStep};
+ghost use Rattle.node_core.specs.Steps.{AnswersFile, IsStep};
+ghost use Rattle.node_core.specs.Unlinking.{unlinks_database};
 ghost use Rattle.world_laws.specs.Node as laws;
 
 use crate::answer::Answer;
@@ -14,6 +15,7 @@ use crate::node::Node;
 use file_view::{Plan, replica_requests_leave_the_database};
 use fuse_msgs::Request;
 use lf_disk::Disk;
+use world_laws::moment_is_of_step;
 
 impl<D: Disk> Node<D> {
     /// Answers a request by the files' rules.
@@ -21,6 +23,7 @@ impl<D: Disk> Node<D> {
         ensures does { ServesFiles (history self.old) (parts_of self.old) caller request.now result (history self.new) (parts_of self.new) }
         ensures safe { IsTrue (D.honest self.old.store.disk) → StepsSafely (seen (history self.old) (parts_of self.old)) laws.File
             (law_answer result) (seen (history self.new) (parts_of self.new)) (history self.old) (history self.new) }
+        ensures standing { self.new.standing ≡ self.old.standing }
         ensures honest { D.honest self.new.store.disk ≡ D.honest self.old.store.disk }
     {
         replica_requests_leave_the_database();
@@ -29,7 +32,7 @@ impl<D: Disk> Node<D> {
             &mut self.view,
             self.alloc,
             caller,
-            &self.config,
+            &self.standing,
             request,
         ) {
             Ok(Plan::Reply(reply)) => Answer::Done(reply),
@@ -38,7 +41,7 @@ impl<D: Disk> Node<D> {
                 let kept = self.config.retention.max(1);
                 match self
                     .store
-                    .commit_and_prune(&change, self.moment, self.config.node, kept)
+                    .commit_and_prune(&change, self.standing.moment, self.config.node, kept)
                 {
                     Ok(position) => {
                         self.view.commit_done();
@@ -55,15 +58,27 @@ impl<D: Disk> Node<D> {
         }
     }
 
-    /// Answers a request, at a moment.
-    pub(crate) fn answer_file(&mut self, caller: u64, now: u64, request: &Request) -> Answer
-        ensures step { IsStep (history self.old) (parts_of self.old) caller (Ask.File now request.now) result (history self.new) (parts_of self.new) }
+    /// Answers a request: UNLINK of the database file is the node's own.
+    fn answer_request(&mut self, caller: u64, request: &Request) -> Answer
+        ensures does { AnswersFile (unlinks_database self.old.config request.now) (history self.old) (parts_of self.old) caller request.now result (history self.new) (parts_of self.new) }
+        ensures safe { IsTrue (D.honest self.old.store.disk) → StepsSafely (seen (history self.old) (parts_of self.old)) laws.File
+            (law_answer result) (seen (history self.new) (parts_of self.new)) (history self.old) (history self.new) }
+        ensures standing { self.new.standing ≡ self.old.standing }
+        ensures honest { D.honest self.new.store.disk ≡ D.honest self.old.store.disk }
     {
-        self.moment = self.moment.max(now);
         if self.unlinks_database(request) {
             self.unlink_database()
         } else {
             self.serve(caller, request)
         }
+    }
+
+    /// Answers a request, at a moment.
+    pub(crate) fn answer_file(&mut self, caller: u64, now: u64, request: &Request) -> Answer
+        ensures step { IsStep (history self.old) (parts_of self.old) caller (Ask.File now request.now) result (history self.new) (parts_of self.new) }
+    {
+        moment_is_of_step();
+        self.at_moment(now);
+        self.answer_request(caller, request)
     }
 }

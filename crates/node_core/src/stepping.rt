@@ -42,6 +42,7 @@ impl<D: Disk> Machine for Node<D> {
             Ask::Frame { now, bytes } => self.answer_frame(*now, bytes),
             Ask::Drop { now } => self.answer_drop(*now),
             Ask::Prune { keep } => self.prune(*keep),
+            Ask::Lease { now, news } => self.answer_lease(*now, news),
         }
     }
 }

@@ -52,6 +52,7 @@ impl<D: Disk> Node<D> {
         ensures does { UnlinksDatabase (history self.old) (parts_of self.old) result (history self.new) (parts_of self.new) }
         ensures safe { IsTrue (D.honest self.old.store.disk) → StepsSafely (seen (history self.old) (parts_of self.old)) laws.File
             (law_answer result) (seen (history self.new) (parts_of self.new)) (history self.old) (history self.new) }
+        ensures standing { self.new.standing ≡ self.old.standing }
         ensures honest { D.honest self.new.store.disk ≡ D.honest self.old.store.disk }
     {
         if let Some(number) = self.unlink_refusal() {

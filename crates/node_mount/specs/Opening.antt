@@ -1,6 +1,7 @@
 -- What a node is given of itself, and the node that is opened over a disk.
 use Rattle.std.specs.Prelude.{◌≡◌, ℕ, Bool, None, List, [], if◌then◌else◌}
 use Rattle.lf_disk.specs.Folder.{Folder}
+use Rattle.node_core.specs.Opening.{first_standing}
 use Rattle.node_core.specs.Roles.{law_role, role_of}
 use Rattle.node_core.specs.declared.config.NodeConfig.{NodeConfig}
 use Rattle.node_recovery.specs.Opening.{IsWhy, IsCause}
@@ -31,7 +32,7 @@ seen_anew store faults config = record {
   store = store;
   failed = None;
   faults = faults;
-  role = law_role (role_of config);
+  role = law_role (role_of (first_standing config));
   waits = None;
   served = untouched store.image;
 }

@@ -71,7 +71,8 @@ impl Machine for Scripted {
             | Ask::Hello { .. }
             | Ask::Frame { .. }
             | Ask::Drop { .. }
-            | Ask::Prune { .. } => {
+            | Ask::Prune { .. }
+            | Ask::Lease { .. } => {
                 self.note(0);
                 Answer::Quiet
             }

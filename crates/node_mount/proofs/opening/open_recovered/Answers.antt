@@ -1,7 +1,7 @@
 use Rattle.std.proofs.Common.{◌≡◌, ◌∙◌, ap, Bool, None}
 use Rattle.world_laws.specs.Served.{untouched}
 use Rattle.node_core.specs.Nodes.{history, parts_of, seen}
-use Rattle.node_core.specs.Opening.{opened, seen_opened}
+use Rattle.node_core.specs.Opening.{first_standing, opened, seen_opened}
 use Rattle.node_core.specs.Roles.{law_role, role_of}
 use Rattle.node_core.specs.Stores.{fields_of, history_of, state}
 use Rattle.node_core.proofs.Opened.{opened-seen}
@@ -26,7 +26,7 @@ returns-in-Ok-open-clause-seen g c = λ honest stood durable.
       store = stands i;
       failed = whole i;
       faults = faults i;
-      role = law_role (role_of config);
+      role = law_role (role_of (first_standing config));
       waits = None;
       served = untouched (stands i).image;
     } in

@@ -1,4 +1,4 @@
-use Rattle.std.proofs.Common.{◌≡◌, ◌∙◌, ap, refl, subst, sym}
+use Rattle.std.proofs.Common.{◌≡◌, ◌∙◌, IsTrue, ap, refl, subst, sym}
 use Rattle.file_view.specs.Endings.{ended}
 use Rattle.file_view.specs.Overlay.{FitsImage, IsOverImage}
 use Rattle.file_view.specs.Served.{Served, waits}
@@ -7,6 +7,7 @@ use Rattle.byte_locks.specs.LockList.{IsLockList}
 use Rattle.node_core.specs.declared.answer.Answer.TheVariants as answers
 use Rattle.node_core.specs.declared.ask.Ask.TheVariants as asks
 use Rattle.node_core.specs.Nodes.{parts_of, role_in, seen}
+use Rattle.node_core.specs.Safely.{StepsSafely}
 use Rattle.node_core.specs.Steps.{IsStep}
 use Rattle.node_core.specs.Stores.{fields_of, history_of, state}
 use Rattle.node_core.proofs.Endings.{ended-file, ended-fits, ended-over, ended-locked, ended-writer}
@@ -37,16 +38,20 @@ returns g c =
     let old = parts_of n in
     let files = ended n.view c.args.caller in
     let is : c.end_session.new.self ≡ files = c.end_session.ensures in
+    let safe : IsTrue old.store.honest → StepsSafely (seen h old) laws.EndSession laws.Done (seen h (record old { files = files })) h h =
+    λ honest.
+    let image = (state h old.store).image in
+    steps-still (seen h old) (seen h (record old { files = files })) laws.EndSession laws.Done h h ∣ rests_stay h ∣₁ refl refl (n.store.left honest)
+    (says-none (seen h old) (seen h (record old { files = files })) (seen h old).role laws.EndSession laws.Done tt tt
+    (λ plain still. steady-files h h old old.store files refl (ended-file n.view c.args.caller (n.replica (is-replica (role_in old) plain.role))) refl)
+    (sound h (record old { files = files }) (ended-over n.view c.args.caller image (n.image honest)) (ended-locked n.view c.args.caller n.locked).together
+    (λ not. ended-writer n.view c.args.caller (n.replica not)))) in
     record {
       step = subst (λ (s : Served). IsStep h old c.args.caller asks.EndSession answers.Quiet h (record old { files = s })) (sym is) record {
         does = record { quiet = refl; files = refl; rests = ∣ rests_stay h ∣₁ };
-        safe = λ honest.
-            let image = (state h old.store).image in
-            steps-still (seen h old) (seen h (record old { files = files })) laws.EndSession laws.Done h h ∣ rests_stay h ∣₁ refl refl (n.store.left honest)
-            (says-none (seen h old) (seen h (record old { files = files })) (seen h old).role laws.EndSession laws.Done tt tt
-            (λ plain still. steady-files h h old old.store files refl (ended-file n.view c.args.caller (n.replica (is-replica (role_in old) plain.role))) refl)
-            (sound h (record old { files = files }) (ended-over n.view c.args.caller image (n.image honest)) (ended-locked n.view c.args.caller n.locked).together
-            (λ not. ended-writer n.view c.args.caller (n.replica not))));
+        safe = safe;
+        role = λ honest. (safe honest).facts.role_is;
+        lease = (refl, refl);
         honest = refl;
       };
     }

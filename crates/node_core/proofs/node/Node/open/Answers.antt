@@ -24,10 +24,13 @@ invariant_of-result g c =
       locked = subst (λ (s : Served). IsLockList s.locks) (sym is) locked-none;
     }
 
+pub returns-in-Ok-clause-parts : goal.returns-in-Ok-clause-parts
+returns-in-Ok-clause-parts g c = λ i. record { files = c.in-Ok.ensures i; store = fields_of c.args.store; config = c.args.config; standing = c.first_standing-standing.ensures i }
+
 pub returns-in-Ok-clause-seen : goal.returns-in-Ok-clause-seen
 returns-in-Ok-clause-seen g c honest =
     let store = c.args.store in
     let f = fields_of store in
     let config = c.args.config in
     let h = history_of store in
-    ap (λ (s : Served). seen h (record (opened f config) { files = s })) c.in-Ok.ensures ∙ opened-seen f config h
+    (λ i. seen h (record (opened f config) { files = c.in-Ok.ensures i; standing = c.first_standing-standing.ensures i })) ∙ opened-seen f config h

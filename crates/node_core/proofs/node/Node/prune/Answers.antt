@@ -1,13 +1,14 @@
-use Rattle.std.proofs.Common.{◌≡◌, ◌∙◌, ◌≤◌, ℕ, Ok, Err, ap, refl, sym, subst, arith}
+use Rattle.std.proofs.Common.{◌≡◌, ◌∙◌, ◌≤◌, ℕ, IsTrue, Ok, Err, ap, refl, sym, subst, arith}
 use Rattle.lf_base.specs.declared.pos.Pos.{Pos}
 use Rattle.world_laws.specs.Node as laws
 use Rattle.world_laws.specs.Store.{PruneTo}
 use Rattle.node_core.specs.declared.answer.Answer.TheVariants as answers
 use Rattle.node_core.specs.declared.ask.Ask.TheVariants as asks
 use Rattle.node_core.specs.declared.refusal.Refusal.{Refusal}
+use Rattle.node_core.specs.Errors.{refusal_of}
 use Rattle.node_core.specs.Nodes.{NodeParts, parts_of, seen}
 use Rattle.node_core.specs.Pruning.{PrunesStore, kept_of}
-use Rattle.node_core.specs.Safely.{StepsSafely, law_store_fault}
+use Rattle.node_core.specs.Safely.{StepsSafely, law_answer, law_store_fault}
 use Rattle.node_core.specs.Steps.{IsStep}
 use Rattle.node_core.specs.Stores.{fields_of, history_of, position}
 use Rattle.node_core.proofs.Facts.{says-none}
@@ -25,13 +26,17 @@ returns-then-pos-eq0 g c =
     let old = parts_of n in
     let keep = kept_of c.args.keep in
     let none : (position old.store).txid ≡ 0 = ap (λ (p : Pos). p.txid) (sym c.pos.ensures.value) ∙ c.if-pos-eq0.true in
+    let safe : IsTrue old.store.honest → StepsSafely (seen h old) (laws.Prune keep) (laws.Refused laws.Other) (seen h old) h h =
+    λ honest.
+    steps-still (seen h old) (seen h old) (laws.Prune keep) (laws.Refused laws.Other) h h ∣ rests_stay h ∣₁ refl refl (n.store.left honest)
+    (says-none (seen h old) (seen h old) (seen h old).role (laws.Prune keep) (laws.Refused laws.Other) tt refl (λ plain still. steady-files h h old old.store old.files refl refl refl)
+    (sound h old (n.image honest) n.locked.together n.replica)) in
     record {
       step = λ caller. record {
         does = record { tells = (none, refl); same = refl };
-        safe = λ honest.
-            steps-still (seen h old) (seen h old) (laws.Prune keep) (laws.Refused laws.Other) h h ∣ rests_stay h ∣₁ refl refl (n.store.left honest)
-            (says-none (seen h old) (seen h old) (seen h old).role (laws.Prune keep) (laws.Refused laws.Other) tt refl (λ plain still. steady-files h h old old.store old.files refl refl refl)
-            (sound h old (n.image honest) n.locked.together n.replica));
+        safe = safe;
+        role = λ honest. (safe honest).facts.role_is;
+        lease = (refl, refl);
         honest = refl;
       };
     }
@@ -46,6 +51,11 @@ returns-in-Ok g c =
     let keep = c.max.result in
     let is : keep ≡ kept_of c.args.keep = c.max.ensures in
     let some : 1 ≤ (position old.store).txid = omega (arith, ap (λ (p : Pos). p.txid) c.pos.ensures.value, c.if-pos-eq0.false) in
+    let safe : IsTrue old.store.honest → StepsSafely (seen h old) (laws.Prune (kept_of c.args.keep)) laws.Done (seen end (record old { store = fields_of t })) h end =
+    λ honest.
+    subst (λ (k : ℕ). StepsSafely (seen h old) (laws.Prune k) laws.Done (seen end (record old { store = fields_of t })) h end) is
+    (prunes-safely h end old (fields_of t) keep (Ok c.in-Ok.count) c.in-Ok.ensures.prunes (c.in-Ok.ensures.went honest) (n.store.kept honest) (t.kept (c.prune.ensures.honest ∙ honest))
+    c.prune.ensures.position laws.Done (n.image honest) n.locked.together n.replica c.in-Ok.ensures.cause (λ did failure ran. tt)) in
     record {
       step = λ caller. record {
         does = record {
@@ -61,10 +71,9 @@ returns-in-Ok g c =
           );
           same = refl;
         };
-        safe = λ honest.
-            subst (λ (k : ℕ). StepsSafely (seen h old) (laws.Prune k) laws.Done (seen end (record old { store = fields_of t })) h end) is
-            (prunes-safely h end old (fields_of t) keep (Ok c.in-Ok.count) c.in-Ok.ensures.prunes (c.in-Ok.ensures.went honest) (n.store.kept honest) (t.kept (c.prune.ensures.honest ∙ honest))
-            c.prune.ensures.position laws.Done (n.image honest) n.locked.together n.replica c.in-Ok.ensures.cause (λ did failure ran. tt));
+        safe = safe;
+        role = λ honest. (safe honest).facts.role_is;
+        lease = (refl, refl);
         honest = c.prune.ensures.honest;
       };
     }
@@ -81,6 +90,12 @@ returns-in-Err g c =
     let is : keep ≡ kept_of c.args.keep = c.max.ensures in
     let some : 1 ≤ (position old.store).txid = omega (arith, ap (λ (p : Pos). p.txid) c.pos.ensures.value, c.if-pos-eq0.false) in
     let new : NodeParts = record old { store = fields_of t } in
+    let safe : IsTrue old.store.honest → StepsSafely (seen h old) (laws.Prune (kept_of c.args.keep)) (law_answer (answers.Refused (refusal_of why))) (seen end new) h end =
+    λ honest.
+    subst (λ (r : laws.Refusal). StepsSafely (seen h old) (laws.Prune (kept_of c.args.keep)) (laws.Refused r) (seen end new) h end) (sym (law-refusal-of why))
+    (subst (λ (k : ℕ). StepsSafely (seen h old) (laws.Prune k) (laws.Refused (law_store_fault why)) (seen end new) h end) is
+    (prunes-safely h end old (fields_of t) keep (Err why) c.in-Err.ensures.prunes (c.in-Err.ensures.went honest) (n.store.kept honest) (t.kept (c.prune.ensures.honest ∙ honest))
+    c.prune.ensures.position (laws.Refused (law_store_fault why)) (n.image honest) n.locked.together n.replica c.in-Err.ensures.cause (ran-undone ℕ why (PruneTo keep)))) in
     record {
       step = λ caller. subst (λ (r : Refusal). IsStep h old caller (asks.Prune c.args.keep) (answers.Refused r) end new) (sym c.refusal_of.ensures) record {
         does = record {
@@ -93,11 +108,9 @@ returns-in-Err g c =
           });
           same = refl;
         };
-        safe = λ honest.
-            subst (λ (r : laws.Refusal). StepsSafely (seen h old) (laws.Prune (kept_of c.args.keep)) (laws.Refused r) (seen end new) h end) (sym (law-refusal-of why))
-            (subst (λ (k : ℕ). StepsSafely (seen h old) (laws.Prune k) (laws.Refused (law_store_fault why)) (seen end new) h end) is
-            (prunes-safely h end old (fields_of t) keep (Err why) c.in-Err.ensures.prunes (c.in-Err.ensures.went honest) (n.store.kept honest) (t.kept (c.prune.ensures.honest ∙ honest))
-            c.prune.ensures.position (laws.Refused (law_store_fault why)) (n.image honest) n.locked.together n.replica c.in-Err.ensures.cause (ran-undone ℕ why (PruneTo keep))));
+        safe = safe;
+        role = λ honest. (safe honest).facts.role_is;
+        lease = (refl, refl);
         honest = c.prune.ensures.honest;
       };
     }

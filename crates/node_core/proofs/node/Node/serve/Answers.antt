@@ -177,8 +177,8 @@ invariant_of-self-in-Ok g c =
     let change = c.in-Ok-Commit.change in
     let is_plan : p ≡ plan.Commit c.in-Ok-Commit.reply change = c.in-Ok-Commit.field-0-is in
     let result : Result Pos StoreFault = Ok c.in-Ok.position in
-    let went : IsTrue fm.honest → WentPruned (state hm fm) (failed hm fm) hm (Commit (drafted (position fm) fm.commit fm.sums change n.moment n.config.node)) (kept_files n.config) result (state ht ft) (failed ht ft) ht =
-    subst (λ (k : ℕ). IsTrue fm.honest → WentPruned (state hm fm) (failed hm fm) hm (Commit (drafted (position fm) fm.commit fm.sums change n.moment n.config.node)) k result (state ht ft) (failed ht ft) ht) c.max-kept.ensures c.in-Ok.ensures.went in
+    let went : IsTrue fm.honest → WentPruned (state hm fm) (failed hm fm) hm (Commit (drafted (position fm) fm.commit fm.sums change n.standing.moment n.config.node)) (kept_files n.config) result (state ht ft) (failed ht ft) ht =
+    subst (λ (k : ℕ). IsTrue fm.honest → WentPruned (state hm fm) (failed hm fm) hm (Commit (drafted (position fm) fm.commit fm.sums change n.standing.moment n.config.node)) k result (state ht ft) (failed ht ft) ht) c.max-kept.ensures c.in-Ok.ensures.went in
     let files : Served = record (committed w) { position = c.in-Ok.position } in
     let is : c.told_position.new.self ≡ files = c.told_position.ensures ∙ ap (λ (s : Served). record s { position = c.in-Ok.position }) c.commit_done.ensures.done in
     let awaits : AwaitsOver (told h old.store) w (plan.Commit c.in-Ok-Commit.reply change) = subst (λ (q : Plan). AwaitsOver (told h old.store) w q) is_plan c.in-Ok-Commit.ensures.awaits in
@@ -227,8 +227,8 @@ returns-in-Ok-clause-does g c =
     let change = c.in-Ok-Commit.change in
     let is_plan : p ≡ plan.Commit c.in-Ok-Commit.reply change = c.in-Ok-Commit.field-0-is in
     let result : Result Pos StoreFault = Ok c.in-Ok.position in
-    let went : IsTrue fm.honest → WentPruned (state hm fm) (failed hm fm) hm (Commit (drafted (position fm) fm.commit fm.sums change n.moment n.config.node)) (kept_files n.config) result (state ht ft) (failed ht ft) ht =
-    subst (λ (k : ℕ). IsTrue fm.honest → WentPruned (state hm fm) (failed hm fm) hm (Commit (drafted (position fm) fm.commit fm.sums change n.moment n.config.node)) k result (state ht ft) (failed ht ft) ht) c.max-kept.ensures c.in-Ok.ensures.went in
+    let went : IsTrue fm.honest → WentPruned (state hm fm) (failed hm fm) hm (Commit (drafted (position fm) fm.commit fm.sums change n.standing.moment n.config.node)) (kept_files n.config) result (state ht ft) (failed ht ft) ht =
+    subst (λ (k : ℕ). IsTrue fm.honest → WentPruned (state hm fm) (failed hm fm) hm (Commit (drafted (position fm) fm.commit fm.sums change n.standing.moment n.config.node)) k result (state ht ft) (failed ht ft) ht) c.max-kept.ensures c.in-Ok.ensures.went in
     let files : Served = record (committed w) { position = c.in-Ok.position } in
     let is : c.told_position.new.self ≡ files = c.told_position.ensures ∙ ap (λ (s : Served). record s { position = c.in-Ok.position }) c.commit_done.ensures.done in
     let awaits : AwaitsOver (told h old.store) w (plan.Commit c.in-Ok-Commit.reply change) = subst (λ (q : Plan). AwaitsOver (told h old.store) w q) is_plan c.in-Ok-Commit.ensures.awaits in
@@ -272,8 +272,8 @@ returns-in-Ok-clause-safe g c honest =
     let change = c.in-Ok-Commit.change in
     let is_plan : p ≡ plan.Commit c.in-Ok-Commit.reply change = c.in-Ok-Commit.field-0-is in
     let result : Result Pos StoreFault = Ok c.in-Ok.position in
-    let went : IsTrue fm.honest → WentPruned (state hm fm) (failed hm fm) hm (Commit (drafted (position fm) fm.commit fm.sums change n.moment n.config.node)) (kept_files n.config) result (state ht ft) (failed ht ft) ht =
-    subst (λ (k : ℕ). IsTrue fm.honest → WentPruned (state hm fm) (failed hm fm) hm (Commit (drafted (position fm) fm.commit fm.sums change n.moment n.config.node)) k result (state ht ft) (failed ht ft) ht) c.max-kept.ensures c.in-Ok.ensures.went in
+    let went : IsTrue fm.honest → WentPruned (state hm fm) (failed hm fm) hm (Commit (drafted (position fm) fm.commit fm.sums change n.standing.moment n.config.node)) (kept_files n.config) result (state ht ft) (failed ht ft) ht =
+    subst (λ (k : ℕ). IsTrue fm.honest → WentPruned (state hm fm) (failed hm fm) hm (Commit (drafted (position fm) fm.commit fm.sums change n.standing.moment n.config.node)) k result (state ht ft) (failed ht ft) ht) c.max-kept.ensures c.in-Ok.ensures.went in
     let files : Served = record (committed w) { position = c.in-Ok.position } in
     let is : c.told_position.new.self ≡ files = c.told_position.ensures ∙ ap (λ (s : Served). record s { position = c.in-Ok.position }) c.commit_done.ensures.done in
     let awaits : AwaitsOver (told h old.store) w (plan.Commit c.in-Ok-Commit.reply change) = subst (λ (q : Plan). AwaitsOver (told h old.store) w q) is_plan c.in-Ok-Commit.ensures.awaits in
@@ -315,8 +315,8 @@ invariant_of-self-in-Err-commit_and_prune g c =
     let change = c.in-Ok-Commit.change in
     let is_plan : p ≡ plan.Commit c.in-Ok-Commit.reply change = c.in-Ok-Commit.field-0-is in
     let result : Result Pos StoreFault = Err c.in-Err-commit_and_prune.fault in
-    let went : IsTrue fm.honest → WentPruned (state hm fm) (failed hm fm) hm (Commit (drafted (position fm) fm.commit fm.sums change n.moment n.config.node)) (kept_files n.config) result (state ht ft) (failed ht ft) ht =
-    subst (λ (k : ℕ). IsTrue fm.honest → WentPruned (state hm fm) (failed hm fm) hm (Commit (drafted (position fm) fm.commit fm.sums change n.moment n.config.node)) k result (state ht ft) (failed ht ft) ht) c.max-kept.ensures c.in-Err-commit_and_prune.ensures.went in
+    let went : IsTrue fm.honest → WentPruned (state hm fm) (failed hm fm) hm (Commit (drafted (position fm) fm.commit fm.sums change n.standing.moment n.config.node)) (kept_files n.config) result (state ht ft) (failed ht ft) ht =
+    subst (λ (k : ℕ). IsTrue fm.honest → WentPruned (state hm fm) (failed hm fm) hm (Commit (drafted (position fm) fm.commit fm.sums change n.standing.moment n.config.node)) k result (state ht ft) (failed ht ft) ht) c.max-kept.ensures c.in-Err-commit_and_prune.ensures.went in
     let rests = subst (λ (q : Plan). Rests n.store.page_size n.store.commit n.view q w) is_plan (left law h hm old fm w c.args.caller request p prepared).rests in
     let is : c.abandon.new.self ≡ n.view = c.abandon.ensures ∙ rests.0 in
     let same = c.in-Err-commit_and_prune.ensures.same in
@@ -364,8 +364,8 @@ returns-in-Err-commit_and_prune-clause-does g c =
     let change = c.in-Ok-Commit.change in
     let is_plan : p ≡ plan.Commit c.in-Ok-Commit.reply change = c.in-Ok-Commit.field-0-is in
     let result : Result Pos StoreFault = Err c.in-Err-commit_and_prune.fault in
-    let went : IsTrue fm.honest → WentPruned (state hm fm) (failed hm fm) hm (Commit (drafted (position fm) fm.commit fm.sums change n.moment n.config.node)) (kept_files n.config) result (state ht ft) (failed ht ft) ht =
-    subst (λ (k : ℕ). IsTrue fm.honest → WentPruned (state hm fm) (failed hm fm) hm (Commit (drafted (position fm) fm.commit fm.sums change n.moment n.config.node)) k result (state ht ft) (failed ht ft) ht) c.max-kept.ensures c.in-Err-commit_and_prune.ensures.went in
+    let went : IsTrue fm.honest → WentPruned (state hm fm) (failed hm fm) hm (Commit (drafted (position fm) fm.commit fm.sums change n.standing.moment n.config.node)) (kept_files n.config) result (state ht ft) (failed ht ft) ht =
+    subst (λ (k : ℕ). IsTrue fm.honest → WentPruned (state hm fm) (failed hm fm) hm (Commit (drafted (position fm) fm.commit fm.sums change n.standing.moment n.config.node)) k result (state ht ft) (failed ht ft) ht) c.max-kept.ensures c.in-Err-commit_and_prune.ensures.went in
     let rests = subst (λ (q : Plan). Rests n.store.page_size n.store.commit n.view q w) is_plan (left law h hm old fm w c.args.caller request p prepared).rests in
     let is : c.abandon.new.self ≡ n.view = c.abandon.ensures ∙ rests.0 in
     let same = c.in-Err-commit_and_prune.ensures.same in
@@ -380,7 +380,7 @@ returns-in-Err-commit_and_prune-clause-does g c =
         allowed = c.in-Ok-Commit.ensures.allowed;
       };
       store = commits-store h hm ht old fm ft change result c.prepare.ensures.read c.in-Err-commit_and_prune.ensures.commits went c.in-Err-commit_and_prune.ensures.cause c.in-Err-commit_and_prune.ensures.honest;
-      comes = comes old.store.broken (position old.store) old.store.page_size old.store.commit old.store.sums change n.moment n.config.node c.in-Err-commit_and_prune.fault
+      comes = comes old.store.broken (position old.store) old.store.page_size old.store.commit old.store.sums change n.standing.moment n.config.node c.in-Err-commit_and_prune.fault
           (commits-store h hm ht old fm ft change result c.prepare.ensures.read c.in-Err-commit_and_prune.ensures.commits went c.in-Err-commit_and_prune.ensures.cause c.in-Err-commit_and_prune.ensures.honest).answers rests.2;
       number_is = c.errno_of_store.ensures;
       shape = (same.0 ∙ ap (λ (s : StoreFields). s.page_size) read.same, same.1 ∙ ap (λ (s : StoreFields). s.commit) read.same, ap end_of_entries same.2 ∙ ap position read.same);
@@ -414,8 +414,8 @@ returns-in-Err-commit_and_prune-clause-safe g c honest =
     let change = c.in-Ok-Commit.change in
     let is_plan : p ≡ plan.Commit c.in-Ok-Commit.reply change = c.in-Ok-Commit.field-0-is in
     let result : Result Pos StoreFault = Err c.in-Err-commit_and_prune.fault in
-    let went : IsTrue fm.honest → WentPruned (state hm fm) (failed hm fm) hm (Commit (drafted (position fm) fm.commit fm.sums change n.moment n.config.node)) (kept_files n.config) result (state ht ft) (failed ht ft) ht =
-    subst (λ (k : ℕ). IsTrue fm.honest → WentPruned (state hm fm) (failed hm fm) hm (Commit (drafted (position fm) fm.commit fm.sums change n.moment n.config.node)) k result (state ht ft) (failed ht ft) ht) c.max-kept.ensures c.in-Err-commit_and_prune.ensures.went in
+    let went : IsTrue fm.honest → WentPruned (state hm fm) (failed hm fm) hm (Commit (drafted (position fm) fm.commit fm.sums change n.standing.moment n.config.node)) (kept_files n.config) result (state ht ft) (failed ht ft) ht =
+    subst (λ (k : ℕ). IsTrue fm.honest → WentPruned (state hm fm) (failed hm fm) hm (Commit (drafted (position fm) fm.commit fm.sums change n.standing.moment n.config.node)) k result (state ht ft) (failed ht ft) ht) c.max-kept.ensures c.in-Err-commit_and_prune.ensures.went in
     let rests = subst (λ (q : Plan). Rests n.store.page_size n.store.commit n.view q w) is_plan (left law h hm old fm w c.args.caller request p prepared).rests in
     let is : c.abandon.new.self ≡ n.view = c.abandon.ensures ∙ rests.0 in
     let same = c.in-Err-commit_and_prune.ensures.same in

@@ -14,3 +14,6 @@ returns-in-Drop g c = rw c.in-Drop.is (c.answer_drop.ensures.step c.args.caller)
 
 pub returns-in-Prune : goal.returns-in-Prune
 returns-in-Prune g c = rw c.in-Prune.is (c.prune.ensures.step c.args.caller)
+
+pub returns-in-Lease : goal.returns-in-Lease
+returns-in-Lease g c = rw c.in-Lease.is (c.answer_lease.ensures.step c.args.caller)

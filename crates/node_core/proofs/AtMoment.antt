@@ -1,0 +1,90 @@
+-- A step over a node at its moment is a step of the node.
+use Rattle.std.proofs.Common.{◌≡◌, ◌∙◌, ℕ, IsTrue, List, Option, None, refl, sym, ap, subst}
+use Rattle.std.specs.Prelude.{max, ◌++◌}
+use Rattle.lf_disk.specs.History.{History, Since}
+use Rattle.file_view.specs.declared.role.Role.TheVariants as role
+use Rattle.file_view.specs.Overlay.{IsOverImage}
+use Rattle.lease_core.specs.Belief.{LeaseBelief}
+use Rattle.txn_log.specs.Calls.{MayFind, StandsForOne}
+use Rattle.world_laws.specs.MomentLaw.{MomentIsOfStep}
+use Rattle.world_laws.specs.Node as laws
+use Rattle.world_laws.specs.Node.{NodeState}
+use Rattle.world_laws.specs.Served.{ShareForReading}
+use Rattle.world_laws.specs.Step.{KeepsRole}
+use Rattle.world_laws.specs.Store.{Failure, StoreCall, begun_by}
+use Rattle.node_core.specs.declared.answer.Answer.{Answer}
+use Rattle.node_core.specs.declared.ask.Ask.{Ask}
+use Rattle.node_core.specs.declared.standing.Standing.{Standing}
+use Rattle.node_core.specs.Leasing.{StepsAs}
+use Rattle.node_core.specs.Nodes.{NodeParts, at_moment, role_in, seen, served_over}
+use Rattle.node_core.specs.Roles.{law_role, role_of}
+use Rattle.node_core.specs.Safely.{StepsSafely, law_answer, law_ask}
+use Rattle.node_core.specs.Steps.{Does, IsStep, at_ask, belief_by, moment_by}
+use Rattle.node_core.specs.Stores.{state}
+use Rattle.node_core.proofs.Expired.{moment-ends}
+
+module _ (law : MomentIsOfStep) (h : History) (n : NodeParts) (now : ℕ) where
+  abbrev at_now : NodeParts
+  at_now = at_moment n now
+
+  -- in the role that it has then
+  whole-step : IsOverImage n.files (state h n.store).image → ShareForReading n.files.locks → (role_in n ≡ role.Replica → n.files.writer ≡ None) →
+      (new : NodeState) (ask : laws.Ask) (answer : laws.Answer) (end : History) → StepsAs (seen h at_now) ask answer new h end →
+      (whole : StepsSafely (seen h n) ask answer new h end) × (whole.facts.role ≡ law_role (role_in at_now))
+  whole-step over locks replica new ask answer end step =
+      let facts = step.0.facts in
+      let w = law (seen h n) new (law_role (role_in at_now)) (served_over at_now.files (state h n.store).image) ask answer (moment-ends h n over locks now replica) facts step.1 in
+      let calls : w.0.did ++ begun_by w.0.failed ≡ facts.did ++ begun_by facts.failed = λ i. w.1 i ++ begun_by (w.2 i) in (
+        record {
+          facts = w.0;
+          later = step.0.later;
+          past = step.0.past;
+          moments = subst (λ (calls : List StoreCall). Since h.moment end (StandsForOne (MayFind (seen h n).store (seen h n).failed calls))) (sym calls) step.0.moments;
+          rests = step.0.rests;
+        },
+        w.3 ∙ step.1,
+      )
+
+  -- what is said over the node as it is then
+  pub carried : (between : History) (mid : NodeParts) → between ≡ h → mid ≡ at_now → (P : History → NodeParts → Type 0) → P between mid → P h at_now
+  carried between mid same is P holds = subst (λ (b : History). P b at_now) same (subst (λ (m : NodeParts). P between m) is holds)
+
+  -- an ask that comes with this moment
+  pub record ComesAt (ask : Ask) : Type 0 where
+    pub node : at_ask n ask ≡ at_now
+    pub moment : moment_by ask n.standing.moment ≡ max n.standing.moment now
+
+  module _ (between : History) (mid : NodeParts) (same : between ≡ h) (is : mid ≡ at_now) (ask : Ask) (answer : Answer) (end : History) (new : NodeParts) (comes : ComesAt ask)
+      (over : IsTrue n.store.honest → IsOverImage n.files (state h n.store).image) (locks : ShareForReading n.files.locks) (replica : role_in n ≡ role.Replica → n.files.writer ≡ None) where
+    -- the node's step, from what was done over the node at that moment
+    pub step-of : (caller : ℕ) → Does h n caller ask answer end new → (IsTrue mid.store.honest → StepsAs (seen between mid) (law_ask ask) (law_answer answer) (seen end new) between end) →
+        new.standing.belief ≡ belief_by ask n.standing.belief → new.standing.moment ≡ mid.standing.moment → new.store.honest ≡ mid.store.honest → IsStep h n caller ask answer end new
+    step-of caller does safe belief moment honest =
+        let there : IsTrue n.store.honest → StepsAs (seen h at_now) (law_ask ask) (law_answer answer) (seen end new) h end =
+        subst (λ (b : History). IsTrue n.store.honest → StepsAs (seen b at_now) (law_ask ask) (law_answer answer) (seen end new) b end) same
+        (subst (λ (m : NodeParts). IsTrue m.store.honest → StepsAs (seen between m) (law_ask ask) (law_answer answer) (seen end new) between end) is safe) in
+        let whole : (disk : IsTrue n.store.honest) → (w : StepsSafely (seen h n) (law_ask ask) (law_answer answer) (seen end new) h end) × (w.facts.role ≡ law_role (role_in at_now)) =
+        λ disk. whole-step (over disk) locks replica (seen end new) (law_ask ask) (law_answer answer) end (there disk) in
+        record {
+          does = does;
+          safe = λ disk. (whole disk).0;
+          role = λ disk. (whole disk).1 ∙ ap (λ (m : NodeParts). law_role (role_in m)) (sym comes.node);
+          lease = (belief, moment ∙ ap (λ (m : NodeParts). m.standing.moment) is ∙ sym comes.moment);
+          honest = honest ∙ ap (λ (m : NodeParts). m.store.honest) is;
+        }
+
+    -- of an ask that is no news: the role in its step is the one that the node has afterwards
+    pub keeps-standing : (IsTrue mid.store.honest → StepsSafely (seen between mid) (law_ask ask) (law_answer answer) (seen end new) between end) → new.standing ≡ mid.standing →
+        ((r : laws.Role) → KeepsRole (law_ask ask) r (law_role (role_in new)) → r ≡ law_role (role_in new)) →
+        IsTrue mid.store.honest → StepsAs (seen between mid) (law_ask ask) (law_answer answer) (seen end new) between end
+    keeps-standing safe stays keeps disk =
+        let s = safe disk in
+        (s, keeps s.facts.role s.facts.role_is ∙ ap (λ (t : Standing). law_role (role_of t)) stays)
+
+    pub step-still : (caller : ℕ) → Does h n caller ask answer end new → (IsTrue mid.store.honest → StepsSafely (seen between mid) (law_ask ask) (law_answer answer) (seen end new) between end) →
+        new.standing ≡ mid.standing → ((r : laws.Role) → KeepsRole (law_ask ask) r (law_role (role_in new)) → r ≡ law_role (role_in new)) →
+        belief_by ask n.standing.belief ≡ n.standing.belief → new.store.honest ≡ mid.store.honest → IsStep h n caller ask answer end new
+    step-still caller does safe stays keeps believed honest =
+        step-of caller does (keeps-standing safe stays keeps)
+        (ap (λ (t : Standing). t.belief) stays ∙ ap (λ (m : NodeParts). m.standing.belief) is ∙ sym believed)
+        (ap (λ (t : Standing). t.moment) stays) honest
