@@ -17,6 +17,3 @@ pub mod Framing
 pub mod Steps
 pub mod Opening
 pub mod Runs
-pub mod Cluster
-pub mod Bytes
-pub mod ClusterLaws
