@@ -7,3 +7,4 @@ pub mod Asks
 pub mod Seats
 pub mod Talking
 pub mod Stands
+pub mod Runs
