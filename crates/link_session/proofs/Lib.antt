@@ -9,3 +9,4 @@ pub mod Seats
 pub mod Talking
 pub mod Stands
 pub mod Parts
+pub mod Runs

@@ -9,3 +9,4 @@ pub mod Seats
 pub mod Rounds
 pub mod Unread
 pub mod Stands
+pub mod Runs

@@ -23,7 +23,7 @@ mod writing;
 pub use asking::ask_until;
 pub use feed::{Feed, FeedFault};
 pub use inbox::Inbox;
-pub use laws::rounds_follow;
+pub use laws::{rounds_follow, seats_are_in_runs};
 pub use patience::Patience;
 pub use piece::Piece;
 pub use seat::{AtSeat, SeatPlace};

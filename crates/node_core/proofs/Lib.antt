@@ -15,12 +15,6 @@ pub mod Histories
 pub mod Leaving
 pub mod Answering
 pub mod Committed
-pub mod Ledgers
-pub mod Clusters
-pub mod ClusterMoves
-pub mod Bytes
-pub mod Deliveries
-pub mod ClusterNodes
 pub mod Owing
 pub mod Locks
 pub mod Asking

@@ -18,6 +18,3 @@ pub mod Opening
 pub mod Leasing
 pub mod Steps
 pub mod Runs
-pub mod Cluster
-pub mod Bytes
-pub mod ClusterLaws

@@ -6,7 +6,6 @@
 
 mod answer;
 mod ask;
-mod cluster_laws;
 mod config;
 mod dropping;
 mod errno;
@@ -29,9 +28,6 @@ mod unlinking;
 
 pub use answer::Answer;
 pub use ask::Ask;
-pub use cluster_laws::{
-    cluster_answers_install, cluster_is_safe, cluster_opens, cluster_reader_steady,
-};
 pub use config::NodeConfig;
 pub use laws::{crashes_are_opened, runs_are_steps};
 pub use news::LeaseNews;

@@ -1,5 +1,5 @@
-use Rattle.node_core.proofs.ClusterNodes.{events, kept, led, restarts, steps, stops}
-use Rattle.node_core.proofs.cluster_laws.cluster_is_safe.Goals as goal
+use Rattle.cluster_laws.proofs.ClusterNodes.{events, kept, led, restarts, steps, stops}
+use Rattle.cluster_laws.proofs.laws.cluster_is_safe.Goals as goal
 
 pub returns-clause-events : goal.returns-clause-events
 returns-clause-events g c = events

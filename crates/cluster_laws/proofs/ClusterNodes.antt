@@ -1,4 +1,4 @@
--- The nodes of this crate, as those of a cluster.
+-- The nodes of this program, as those of a cluster.
 use Rattle.std.proofs.Common.{◌≡◌, ◌∙◌, ℕ, Bool, IsTrue, ap}
 use Rattle.lf_disk.specs.declared.disk.Disk.{Ghosts}
 use Rattle.lf_sqlite_pages.specs.Image.{image_bytes}
@@ -15,16 +15,16 @@ use Rattle.world_laws.specs.Store.{MayBeFound, StoreState}
 use Rattle.node_core.specs.declared.answer.Answer.{Answer}
 use Rattle.node_core.specs.declared.ask.Ask.{Ask}
 use Rattle.node_core.specs.declared.node.Node.{Node}
-use Rattle.node_core.specs.Bytes.{GivesBytes}
-use Rattle.node_core.specs.Cluster.{Program}
-use Rattle.node_core.specs.ClusterLaws.{BegunIsStart, ClusterIsKept, ClusterIsLed, MovesAreEvents, DeliveredDropInstalls, DeliveredFileApplies, DeliveredSnapshotInstalls, InterruptedIsRestart, ReaderIsSteady, RecoveredIsOpened, RestartsAreMoves, StepAnswersByWhole, StepsAreMoves, StopsAreMoves, program}
+use Rattle.cluster_laws.specs.Bytes.{GivesBytes}
+use Rattle.cluster_laws.specs.Cluster.{Program}
+use Rattle.cluster_laws.specs.ClusterLaws.{BegunIsStart, ClusterIsKept, ClusterIsLed, MovesAreEvents, DeliveredDropInstalls, DeliveredFileApplies, DeliveredSnapshotInstalls, InterruptedIsRestart, ReaderIsSteady, RecoveredIsOpened, RestartsAreMoves, StepAnswersByWhole, StepsAreMoves, StopsAreMoves, program}
 use Rattle.node_core.specs.Nodes.{history, parts_of, role_in}
 use Rattle.node_core.specs.Steps.{IsStep}
 use Rattle.node_core.specs.Stores.{fields_of, state}
-use Rattle.node_core.proofs.Bytes.{step-gives}
-use Rattle.node_core.proofs.Clusters.{cluster-is-kept, cluster-is-led, moves-are-events}
-use Rattle.node_core.proofs.ClusterMoves.{begun-is-start, interrupted-is-restart, restarts-are-moves, steps-are-moves, stops-are-moves}
-use Rattle.node_core.proofs.Deliveries.{drop-installs, file-applies, reader-is-steady, snapshot-installs, step-answers-by-whole}
+use Rattle.cluster_laws.proofs.Bytes.{step-gives}
+use Rattle.cluster_laws.proofs.Clusters.{cluster-is-kept, cluster-is-led, moves-are-events}
+use Rattle.cluster_laws.proofs.ClusterMoves.{begun-is-start, interrupted-is-restart, restarts-are-moves, steps-are-moves, stops-are-moves}
+use Rattle.cluster_laws.proofs.Deliveries.{drop-installs, file-applies, reader-is-steady, snapshot-installs, step-answers-by-whole}
 use Rattle.node_core.proofs.Sound.{is-replica, sound}
 
 module _ {D : Type 0} {G : Ghosts D} where

@@ -1,8 +1,8 @@
 //! Laws of clusters of these nodes, each the contract of a function that calls other laws at most.
-ghost use Rattle.node_core.specs.ClusterLaws.{BegunIsStart, ClusterIsKept, ClusterIsLed, DeliveredDropInstalls, DeliveredFileApplies, DeliveredSnapshotInstalls, InterruptedIsRestart, MovesAreEvents, ReaderIsSteady, RecoveredIsOpened, RestartsAreMoves, StepAnswersByWhole, StepsAreMoves, StopsAreMoves, program};
+ghost use Rattle.cluster_laws.specs.ClusterLaws.{BegunIsStart, ClusterIsKept, ClusterIsLed, DeliveredDropInstalls, DeliveredFileApplies, DeliveredSnapshotInstalls, InterruptedIsRestart, MovesAreEvents, ReaderIsSteady, RecoveredIsOpened, RestartsAreMoves, StepAnswersByWhole, StepsAreMoves, StopsAreMoves, program};
 
-use crate::node::Node;
 use lf_disk::Disk;
+use node_core::Node;
 use turn_desk::Machine;
 use world_laws::{answer_installs, reader_steady, safe_kept, stops_are_failures};
 

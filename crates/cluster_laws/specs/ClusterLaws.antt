@@ -27,14 +27,14 @@ use Rattle.world_laws.specs.Step.{Steady, calls_of}
 use Rattle.world_laws.specs.Store.{StoreState, at}
 use Rattle.node_core.specs.declared.answer.Answer.{Answer}
 use Rattle.node_core.specs.declared.ask.Ask.{Ask}
-use Rattle.node_core.specs.Cluster.{AreLed, Cluster, IsLeftBetween, IsOpenedOn, Leads, Moves, Program, Restarts, Stops, TakesStep, stops, takes_step, world}
-use Rattle.node_core.specs.Bytes.{GivesBytes}
+use Rattle.cluster_laws.specs.Cluster.{AreLed, Cluster, IsLeftBetween, IsOpenedOn, Leads, Moves, Program, Restarts, Stops, TakesStep, stops, takes_step, world}
+use Rattle.cluster_laws.specs.Bytes.{GivesBytes}
 use Rattle.node_core.specs.declared.config.NodeConfig.{NodeConfig}
 use Rattle.node_core.specs.declared.node.Node.{Node}
 use Rattle.node_core.specs.Nodes.{history, parts_of, seen}
 use Rattle.node_core.specs.Opening.{seen_opened}
 use Rattle.node_core.specs.Safely.{StepsSafely, law_answer, law_ask}
-use Rattle.node_core.specs.Stores.{fields_of, state}
+use Rattle.node_core.specs.Stores.{state}
 
 module _ {M : Type 0} (p : Program M) where
   -- a list of moves is a list of events of the laws, which is led where the moves are
@@ -131,14 +131,14 @@ module _ {M : Type 0} (p : Program M) where
 abbrev pub no_files : Folder
 no_files name = None
 
--- the nodes of this crate, by the relation of their steps and what each step tells
+-- the nodes of this program, by the relation of their steps and what each step tells
 module _ {D : Type 0} {G : Ghosts D} where
   abbrev pub program : (steps : Node D G → ℕ → Ask → Answer → Node D G → Type 0) →
-      ((old new : Node D G) (caller : ℕ) (ask : Ask) (answer : Answer) → steps old caller ask answer new → IsTrue (G.honest old.store.disk) →
+      ((old new : Node D G) (caller : ℕ) (ask : Ask) (answer : Answer) → steps old caller ask answer new → IsTrue (parts_of old).store.honest →
       StepsSafely (seen (history old) (parts_of old)) (law_ask ask) (law_answer answer) (seen (history new) (parts_of new)) (history old) (history new)) → Program (Node D G)
   program steps told = record {
     steps = steps;
-    honest = λ n. G.honest n.store.disk;
+    honest = λ n. (parts_of n).store.honest;
     seen = λ n. seen (history n) (parts_of n);
     history = λ n. history n;
     tells = λ {old} {new} {caller} {ask} {answer} step disk. told old new caller ask answer step disk;
@@ -147,8 +147,8 @@ module _ {D : Type 0} {G : Ghosts D} where
   -- a node that was opened (`Node::open`, seen) over a store that was recovered (node_recovery's `recover`, store and open_) was
   -- opened on the folder
   abbrev pub RecoveredIsOpened : Program (Node D G) → Type 0
-  RecoveredIsOpened p = (n : Node D G) (config : NodeConfig) (folder : Folder) → p.seen n ≡ seen_opened (history n) (fields_of n.store) config → n.store.broken ≡ false →
-      ((left : StoreState) → Durable folder left → state (history n) (fields_of n.store) ≡ left) → IsOpenedOn folder (p.seen n)
+  RecoveredIsOpened p = (n : Node D G) (config : NodeConfig) (folder : Folder) → p.seen n ≡ seen_opened (history n) (parts_of n).store config → (parts_of n).store.broken ≡ false →
+      ((left : StoreState) → Durable folder left → state (history n) (parts_of n).store ≡ left) → IsOpenedOn folder (p.seen n)
 
 -- a recovery that is stopped is a restart: at each of its moments a crash leaves a folder that stands for each store for which the one
 -- stood that it began on (node_recovery's `recover`, moments and gone), and a node that is opened on that is opened on the first

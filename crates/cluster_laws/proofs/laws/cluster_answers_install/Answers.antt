@@ -1,5 +1,5 @@
-use Rattle.node_core.proofs.ClusterNodes.{by-whole, dropped, file, snapshot}
-use Rattle.node_core.proofs.cluster_laws.cluster_answers_install.Goals as goal
+use Rattle.cluster_laws.proofs.ClusterNodes.{by-whole, dropped, file, snapshot}
+use Rattle.cluster_laws.proofs.laws.cluster_answers_install.Goals as goal
 
 pub returns-clause-answer : goal.returns-clause-answer
 returns-clause-answer g c = by-whole c.answer_installs.ensures.answer

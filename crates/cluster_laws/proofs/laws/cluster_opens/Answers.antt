@@ -1,5 +1,5 @@
-use Rattle.node_core.proofs.ClusterNodes.{begins, interrupted, opens}
-use Rattle.node_core.proofs.cluster_laws.cluster_opens.Goals as goal
+use Rattle.cluster_laws.proofs.ClusterNodes.{begins, interrupted, opens}
+use Rattle.cluster_laws.proofs.laws.cluster_opens.Goals as goal
 
 pub returns-clause-node : goal.returns-clause-node
 returns-clause-node g c = opens

@@ -16,11 +16,11 @@ use Rattle.world_laws.proofs.Restarting.{cut-off}
 use Rattle.world_laws.proofs.Terms.{other_test, same_test}
 use Rattle.node_core.specs.declared.answer.Answer.{Answer}
 use Rattle.node_core.specs.declared.ask.Ask.{Ask}
-use Rattle.node_core.specs.Cluster.{Cluster, Program, IsLeftBetween, IsOpenedOn, IsRestart, Leads, Stops, TakesStep, stops, takes_step, world}
-use Rattle.node_core.specs.ClusterLaws.{BegunIsStart, InterruptedIsRestart, no_files, RestartsAreMoves, StepsAreMoves, StopsAreMoves}
+use Rattle.cluster_laws.specs.Cluster.{Cluster, Program, IsLeftBetween, IsOpenedOn, IsRestart, Leads, Stops, TakesStep, stops, takes_step, world}
+use Rattle.cluster_laws.specs.ClusterLaws.{BegunIsStart, InterruptedIsRestart, no_files, RestartsAreMoves, StepsAreMoves, StopsAreMoves}
 use Rattle.node_core.specs.Safely.{law_answer, law_ask}
-use Rattle.node_core.proofs.Clusters.{step-turns}
-use Rattle.node_core.proofs.Ledgers.{failing-here, failing-in, failing-other, finds-over, grows-split, grows-with}
+use Rattle.cluster_laws.proofs.Clusters.{step-turns}
+use Rattle.cluster_laws.proofs.Ledgers.{failing-here, failing-in, failing-other, finds-over, grows-split, grows-with}
 
 -- a folder without files stands for the store of nothing
 stands-empty : Durable no_files empty_store

@@ -15,11 +15,11 @@ use Rattle.world_laws.specs.Step.{StepFacts}
 use Rattle.world_laws.specs.World.{World}
 use Rattle.node_core.specs.declared.answer.Answer.{Answer}
 use Rattle.node_core.specs.declared.ask.Ask.{Ask}
-use Rattle.node_core.specs.Bytes.{GivesBytes}
-use Rattle.node_core.specs.Cluster.{Cluster, Program, world}
-use Rattle.node_core.specs.ClusterLaws.{DeliveredDropInstalls, DeliveredFileApplies, DeliveredSnapshotInstalls, Delivers, EachReadGives, ReaderIsSteady, ReadsOn, StepAnswersByWhole, goes_on, rests}
+use Rattle.cluster_laws.specs.Bytes.{GivesBytes}
+use Rattle.cluster_laws.specs.Cluster.{Cluster, Program, world}
+use Rattle.cluster_laws.specs.ClusterLaws.{DeliveredDropInstalls, DeliveredFileApplies, DeliveredSnapshotInstalls, Delivers, EachReadGives, ReaderIsSteady, ReadsOn, StepAnswersByWhole, goes_on, rests}
 use Rattle.node_core.specs.Safely.{law_answer}
-use Rattle.node_core.proofs.Clusters.{step-turns}
+use Rattle.cluster_laws.proofs.Clusters.{step-turns}
 
 waits-or : {A B C : Type 0} → A ⊎ B ⊎ C → (A ⊎ C) ⊎ B
 waits-or (inl held) = inl (inl held)

@@ -21,7 +21,7 @@ use Rattle.node_core.specs.declared.answer.Answer.{Answer}
 use Rattle.node_core.specs.declared.answer.Answer.TheVariants as answers
 use Rattle.node_core.specs.declared.ask.Ask.{Ask}
 use Rattle.node_core.specs.declared.ask.Ask.TheVariants as asks
-use Rattle.node_core.specs.Bytes.{GivesBytes, ReadGives}
+use Rattle.cluster_laws.specs.Bytes.{GivesBytes, ReadGives}
 use Rattle.node_core.specs.Files.{IsPlanned, scene, told}
 use Rattle.node_core.specs.Nodes.{NodeParts, at_moment, file_over, role_in, seen}
 use Rattle.node_core.specs.Serving.{ServesFiles}

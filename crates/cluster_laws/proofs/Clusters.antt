@@ -12,8 +12,8 @@ use Rattle.world_laws.specs.Store.{StoreState}
 use Rattle.world_laws.specs.World.{World}
 use Rattle.node_core.specs.declared.answer.Answer.{Answer}
 use Rattle.node_core.specs.declared.ask.Ask.{Ask}
-use Rattle.node_core.specs.Cluster.{AreLed, Cluster, Program, IsRestart, Leads, Move, Moves, Stops, TakesStep, begun_in, grants, loses, more, none, renews, restarts, stops, takes_step, world}
-use Rattle.node_core.specs.ClusterLaws.{ClusterIsKept, ClusterIsLed, MovesAreEvents}
+use Rattle.cluster_laws.specs.Cluster.{AreLed, Cluster, Program, IsRestart, Leads, Move, Moves, Stops, TakesStep, begun_in, grants, loses, more, none, renews, restarts, stops, takes_step, world}
+use Rattle.cluster_laws.specs.ClusterLaws.{ClusterIsKept, ClusterIsLed, MovesAreEvents}
 use Rattle.node_core.specs.Safely.{law_answer, law_ask}
 
 pub runs-append : {w v u : World} {first then : List Event} → events.Runs w first v → events.Runs v then u → events.Runs w (first ++ then) u

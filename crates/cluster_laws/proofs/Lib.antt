@@ -1,0 +1,6 @@
+pub mod Bytes
+pub mod Ledgers
+pub mod Clusters
+pub mod ClusterMoves
+pub mod Deliveries
+pub mod ClusterNodes

@@ -1,0 +1,10 @@
+//! The laws of a cluster of nodes that run this program, over every list of steps, deliveries, losses, lease changes, stops and
+//! restarts.
+//!
+//! There is no code here that runs: each law is the contract of a function that calls other laws at most. What a step of a
+//! node tells comes from node_core, and what holds of every list of such steps from world_laws.
+#![tactic(auto)]
+
+mod laws;
+
+pub use laws::{cluster_answers_install, cluster_is_safe, cluster_opens, cluster_reader_steady};
