@@ -3,3 +3,4 @@ pub mod Messages
 pub mod Sessions
 pub mod Writings
 pub mod OneEntry
+pub mod OneRun

@@ -3,3 +3,4 @@ pub mod Asking
 pub mod Message
 pub mod Session
 pub mod Written
+pub mod OneRun

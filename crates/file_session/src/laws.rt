@@ -8,8 +8,13 @@ ghost use Rattle.link_session.specs.Stands.{Asker, Stand};
 ghost use Rattle.file_session.specs.declared.tries.Tries.TheVariants as tries;
 ghost use Rattle.file_session.specs.Asking.{FileEntry, tries_of};
 ghost use Rattle.file_session.specs.Message.{IsRound};
+ghost use Rattle.file_session.specs.OneRun.{SessionsAreInOneRun};
 ghost use Rattle.file_session.specs.Session.{IsSession};
 ghost use Rattle.file_session.specs.Written.{IsAskedOnce, WritesReplies};
+
+use lf_disk::Disk;
+use node_core::Node;
+use turn_desk::Machine;
 
 /// However a session ends, what it has written is a front of the replies to its messages, in their order.
 pub fn replies_in_order()
@@ -19,4 +24,10 @@ pub fn replies_in_order()
 /// A message of any other request than SETLKW is asked once.
 pub fn asked_once()
     ensures { (who : Asker) (round : Round FileEntry) (request : Request) → IsRound who round → IsMessage round.message request → tries_of request.op ≡ tries.Once → IsAskedOnce who request round.entries }
+{}
+
+/// A session on the files of a node, over any disk, stands in one run of that node: all that it asked are steps of the run,
+/// in their order, and what it wrote are the replies to what the node, taking one step after another, answers there.
+pub fn session_in_one_run<D: Disk>()
+    ensures { SessionsAreInOneRun ⟦<Node<D> as Machine>⟧.steps }
 {}

@@ -10,5 +10,5 @@ mod session;
 mod tries;
 
 pub use files::serve_files;
-pub use laws::{asked_once, replies_in_order};
+pub use laws::{asked_once, replies_in_order, session_in_one_run};
 pub use seat::serve_seat;
