@@ -4,3 +4,4 @@ pub mod Clusters
 pub mod ClusterMoves
 pub mod Deliveries
 pub mod ClusterNodes
+pub mod Leading

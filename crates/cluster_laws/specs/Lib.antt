@@ -1,3 +1,4 @@
 pub mod Bytes
 pub mod Cluster
 pub mod ClusterLaws
+pub mod Service

@@ -1,6 +1,8 @@
 //! Laws of clusters of these nodes, each the contract of a function that calls other laws at most.
 ghost use Rattle.cluster_laws.specs.ClusterLaws.{BegunIsStart, ClusterIsKept, ClusterIsLed, DeliveredDropInstalls, DeliveredFileApplies, DeliveredSnapshotInstalls, InterruptedIsRestart, MovesAreEvents, ReaderIsSteady, RecoveredIsOpened, RestartsAreMoves, StepAnswersByWhole, StepsAreMoves, StopsAreMoves, program};
+ghost use Rattle.cluster_laws.specs.Service.{ServiceIsEvent, ServiceLeads};
 
+use lease_core::holder_believes;
 use lf_disk::Disk;
 use node_core::Node;
 use turn_desk::Machine;
@@ -49,4 +51,14 @@ pub fn cluster_answers_install<D: Disk>()
     ensures file { DeliveredFileApplies (program ⟦<Node<D> as Machine>⟧.steps (λ old new caller ask answer step. step.safe)) }
 {
     answer_installs();
+}
+
+/// Where the ledger's holder is the owner of the grant that has not ended, each change of the lease
+/// service's table is an event of the lease; and a node that may commit, and whose moment is current,
+/// commits as the holder.
+pub fn service_leads()
+    ensures event { ServiceIsEvent }
+    ensures leads { ServiceLeads }
+{
+    holder_believes();
 }
