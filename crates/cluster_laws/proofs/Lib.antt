@@ -5,3 +5,7 @@ pub mod ClusterMoves
 pub mod Deliveries
 pub mod ClusterNodes
 pub mod Leading
+pub mod Primaries
+pub mod Tenancies
+pub mod LeasedMoves
+pub mod LeasedNodes

@@ -8,5 +8,6 @@
 mod laws;
 
 pub use laws::{
-    cluster_answers_install, cluster_is_safe, cluster_opens, cluster_reader_steady, service_leads,
+    cluster_answers_install, cluster_is_safe, cluster_opens, cluster_reader_steady,
+    leased_cluster_is_safe, service_leads,
 };
