@@ -1,2 +1,4 @@
 pub mod Wholes
 pub mod Streams
+pub mod Made
+pub mod OneRun

@@ -3,3 +3,4 @@ pub mod Refusing
 pub mod Telling
 pub mod Streaming
 pub mod Session
+pub mod OneRun

@@ -19,7 +19,7 @@ mod streaming;
 mod telling;
 mod wish;
 
-pub use laws::owed_again;
+pub use laws::{owed_again, stream_in_one_run};
 pub use seat::serve_seat;
 pub use serving::serve_http;
 pub use session::serve_link;
