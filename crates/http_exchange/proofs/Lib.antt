@@ -3,3 +3,6 @@ pub mod Stops
 pub mod Replies
 pub mod Talking
 pub mod Dialing
+pub mod Spending
+pub mod Overs
+pub mod Calls

@@ -2,3 +2,4 @@ pub mod Reading
 pub mod Reply
 pub mod Writing
 pub mod Exchange
+pub mod Called

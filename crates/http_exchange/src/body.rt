@@ -1,6 +1,7 @@
 //! Bodies read.
 ghost use Rattle.std.specs.Prelude.{◌≡◌, ◌≤◌, [], length, OnOk};
 ghost use Rattle.std.specs.Io.KnownBytes.{IsAtEnd};
+ghost use Rattle.link_session.specs.Spending.{MovesFor};
 ghost use Rattle.http_exchange.specs.Exchange.{EndsUnending, FaultsBy, TurnsBy};
 ghost use Rattle.http_exchange.specs.Reading.{EndsFewer, GaveMore, KeepsEnough};
 
@@ -23,6 +24,7 @@ pub(crate) fn read_sized<L: Link>(
     requires { piece.old ≡ [] }
     ensures whole { OnOk result (KeepsEnough L.Link link.old link.new body.old.items length body.new.items) }
     ensures cause { EndsFewer L.Link link.old link.new body.old.items length turns.new result }
+    ensures spent { MovesFor result turns.old (L.moves link.old) turns.new (L.moves link.new) }
     ensures turns { turns.new ≤ turns.old }
 {
     'reads: while (body.len() as u64) < length {

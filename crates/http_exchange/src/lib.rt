@@ -5,15 +5,23 @@
 
 mod asking;
 mod body;
+mod call_head;
+mod call_reading;
+mod called;
 mod ends;
 mod more;
+mod passing;
 mod reply_head;
 mod reply_reading;
 mod request;
 mod sending;
 mod told;
+mod wants;
 
 pub use asking::exchange;
+pub use call_reading::read_call;
+pub use called::{Body, Called};
 pub use request::Request;
 pub use sending::write_reply;
 pub use told::{Told, Untold};
+pub use wants::{Kept, Wants};

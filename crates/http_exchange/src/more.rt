@@ -1,5 +1,6 @@
 //! Reading on.
 ghost use Rattle.std.specs.Prelude.{◌≡◌, ◌<◌, ◌≤◌, [], OnOk, OnErr};
+ghost use Rattle.link_session.specs.Spending.{MovesFor};
 ghost use Rattle.http_exchange.specs.Reading.{EndsMore};
 
 use lf_base::{Link, SessionEnd};
@@ -18,6 +19,7 @@ pub(crate) fn read_more<L: Link>(
     ensures end { EndsMore L.Link link.old link.new held.old.items held.new.items turns.new result }
     ensures empty { OnOk result (piece.new ≡ []) }
     ensures kept { OnErr result (held.new.items ≡ held.old.items) }
+    ensures spent { MovesFor result turns.old (L.moves link.old) turns.new (L.moves link.new) }
     ensures less { OnOk result (turns.new < turns.old) }
     ensures turns { turns.new ≤ turns.old }
 {
