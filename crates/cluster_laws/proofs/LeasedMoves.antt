@@ -1,5 +1,5 @@
 -- Moves of a cluster with a lease service are moves of a cluster, each of which leads.
-use Rattle.std.proofs.Common.{◌≡◌, ◌≢◌, ◌⊎◌, ℕ, ◌+◌, ◌≤◌, List, [], ◌∷◌, ◌++◌, Option, Some, None, inl, inr, refl, sym, ap, subst, ◌∙◌, true}
+use Rattle.std.proofs.Common.{◌≡◌, ◌⊎◌, ℕ, ◌+◌, ◌≤◌, List, [], ◌∷◌, ◌++◌, Option, Some, inl, inr, sym, ap, subst, ◌∙◌, true}
 use Rattle.std.specs.List.{Contains}
 use Rattle.std.specs.Option.{option_map}
 use Rattle.std.proofs.lemmas.List.Elements.{Contains-append_left}
@@ -8,24 +8,21 @@ use Rattle.ltx_codec.specs.declared.file.Ltx.{Ltx}
 use Rattle.lease_core.specs.declared.grant.Grant.{Grant}
 use Rattle.lease_core.specs.Belief.{may_commit}
 use Rattle.lease_core.specs.LeaseRun.{Clocks, HolderBelieves, Runs, Tenancy, Tenant, ends, goes}
-use Rattle.lease_core.specs.Leases.{live_grant}
 use Rattle.world_laws.specs.Ledger.{FindsAlong}
 use Rattle.world_laws.specs.Node as laws
 use Rattle.world_laws.specs.Premises.{CommitsAsHolder}
-use Rattle.world_laws.specs.Premises.{OneImagePerPosition}
 use Rattle.world_laws.specs.SafetyLaw.{LedKept, SafeKept}
 use Rattle.world_laws.specs.Step.{calls_of}
 use Rattle.world_laws.specs.StopLaw.{IsCutOff}
 use Rattle.world_laws.specs.Store.{Commit, FailedIn, Failure, StoreCall, StoreState, begun_by}
-use Rattle.world_laws.specs.World.{World}
 use Rattle.node_core.specs.declared.answer.Answer.{Answer}
 use Rattle.node_core.specs.declared.ask.Ask.{Ask}
 use Rattle.node_core.specs.declared.ask.Ask.TheVariants as ask
 use Rattle.node_core.specs.Safely.{law_ask}
 use Rattle.node_core.specs.Steps.{moment_by}
-use Rattle.cluster_laws.specs.Cluster.{AreLed, Cluster, Leads, Move, Moves, Program, Restarts, Stops, begun_in, world}
+use Rattle.cluster_laws.specs.Cluster.{AreLed, Cluster, Leads, Move, Moves, Program, Stops, begun_in, world}
 use Rattle.cluster_laws.specs.Cluster as cluster
-use Rattle.cluster_laws.specs.Leased.{CommitsInTime, IsCurrent, IsLeasedStart, IsOfLease, IsOpenedAnew, Leased, LeasedMove, LeasedMoves, Leasing, MayCommit, Serves, TakesLeasedStep, more, none, restarts, serves, standing_of, stops, takes_step}
+use Rattle.cluster_laws.specs.Leased.{CommitsInTime, IsCurrent, IsLeasedStart, IsOfLease, Leased, LeasedMove, LeasedMoves, Leasing, MayCommit, more, none, restarts, serves, standing_of, stops, takes_step}
 use Rattle.cluster_laws.specs.LeasedLaws.{HolderMayCommit, LeasedIsKept, LeasedMovesAreLed, OneMayCommit}
 use Rattle.cluster_laws.specs.Service.{Follows, leader}
 use Rattle.cluster_laws.proofs.Clusters.{cluster-is-kept, cluster-is-led}

@@ -1,5 +1,5 @@
 -- The nodes of this program, as those of a cluster with a lease service.
-use Rattle.std.proofs.Common.{◌≡◌, ℕ}
+use Rattle.std.proofs.Common.{ℕ}
 use Rattle.lf_disk.specs.declared.disk.Disk.{Ghosts}
 use Rattle.node_core.specs.declared.answer.Answer.{Answer}
 use Rattle.node_core.specs.declared.ask.Ask.{Ask}

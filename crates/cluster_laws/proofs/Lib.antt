@@ -8,4 +8,5 @@ pub mod Leading
 pub mod Primaries
 pub mod Tenancies
 pub mod LeasedMoves
+pub mod LeasedSteps
 pub mod LeasedNodes

@@ -1,10 +1,9 @@
 -- Moves of a cluster with a lease service, as what may happen to leases.
-use Rattle.std.proofs.Common.{◌≡◌, ◌≢◌, ◌⊎◌, ℕ, max, Bool, true, false, cond, eqb, Option, Some, None, inl, inr, refl, sym, ap, subst, ◌∙◌, arith}
+use Rattle.std.proofs.Common.{◌≡◌, ◌≢◌, ◌⊎◌, ℕ, max, Bool, true, false, cond, eqb, Option, None, inl, inr, refl, sym, ap, ◌∙◌, arith}
 use Rattle.std.proofs.Math.Nat.{max-zero}
 use Rattle.std.proofs.lemmas.Bool.Decides.{eqb_tells}
 use Rattle.lease_core.specs.Belief.{LeaseBelief, asked_at, no_belief}
 use Rattle.lease_core.specs.LeaseRun.{Changes, Clocks, Happens, Runs, Tenancy, Tenant, asks, believes, ends, goes, loses, newcomer, opens, passes, told_for}
-use Rattle.lease_core.specs.Leases.{Leases}
 use Rattle.world_laws.proofs.Terms.{other_test, same_test}
 use Rattle.node_core.specs.declared.answer.Answer.{Answer}
 use Rattle.node_core.specs.declared.ask.Ask.{Ask}

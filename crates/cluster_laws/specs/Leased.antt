@@ -19,7 +19,7 @@ use Rattle.node_core.specs.declared.standing.Standing.{Standing}
 use Rattle.node_core.specs.Nodes.{NodeParts, role_in}
 use Rattle.node_core.specs.Roles.{law_role}
 use Rattle.node_core.specs.Steps.{at_ask, belief_by, moment_by}
-use Rattle.cluster_laws.specs.Cluster.{Cluster, Move, OthersAre, Program, Restarts, Stops, TakesStep, begun_in, world}
+use Rattle.cluster_laws.specs.Cluster.{Cluster, Move, Program, Restarts, Stops, TakesStep, begun_in, world}
 use Rattle.cluster_laws.specs.Cluster as cluster
 use Rattle.cluster_laws.specs.Service.{Follows}
 

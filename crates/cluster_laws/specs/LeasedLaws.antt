@@ -3,10 +3,13 @@
 -- That one node at a time commits is proved here. In its place stand two premises on clocks, each where one clock is compared with
 -- another: the service grants no node what it asked for only later (`AskedBefore`), and a node that commits is given no moment
 -- before the service's (`IsCurrent`). A third says that a term is given back only where its node is idle.
-use Rattle.std.specs.Prelude.{◌≡◌, ℕ, IsTrue, Some}
+use Rattle.std.specs.Prelude.{◌≡◌, ℕ, IsTrue, Option, Some, true}
 use Rattle.lf_disk.specs.declared.disk.Disk.{Ghosts}
-use Rattle.lease_core.specs.LeaseRun.{Clocks}
-use Rattle.world_laws.specs.Premises.{OneImagePerPosition}
+use Rattle.lease_core.specs.Belief.{may_commit}
+use Rattle.lease_core.specs.LeaseRun.{Clocks, Happens}
+use Rattle.lease_core.specs.Leases.{Leases}
+use Rattle.world_laws.specs.Premises.{OneImagePerPosition, WasSent}
+use Rattle.world_laws.specs.Safe.{IsSafe}
 use Rattle.world_laws.specs.SafetyLaw.{IsKept, IsKeptLed}
 use Rattle.node_core.specs.declared.answer.Answer.{Answer}
 use Rattle.node_core.specs.declared.ask.Ask.{Ask}
@@ -17,7 +20,7 @@ use Rattle.node_core.specs.Safely.{StepsSafely, law_answer, law_ask}
 use Rattle.node_core.specs.Steps.{at_ask, belief_by, moment_by}
 use Rattle.cluster_laws.specs.Cluster.{AreLed, Moves, Program, world}
 use Rattle.cluster_laws.specs.ClusterLaws.{program}
-use Rattle.cluster_laws.specs.Leased.{IsLeasedStart, Leased, LeasedMoves, Leasing, MayCommit}
+use Rattle.cluster_laws.specs.Leased.{IsCurrent, IsLeasedStart, IsReply, Leased, LeasedMoves, Leasing, MayCommit, Serves, TakesLeasedStep, tenancy}
 
 module _ {M : Type 0} {p : Program M} (h : Leasing p) where
   -- what may happen in a cluster with a lease service may happen in a cluster, and each move leads
@@ -39,6 +42,20 @@ module _ {M : Type 0} {p : Program M} (h : Leasing p) where
   abbrev pub OneMayCommit : Type 0
   OneMayCommit = (owner : ℕ → ℕ) (clocks : Clocks) (l m : Leased p owner) (j k : ℕ) → IsLeasedStart h owner clocks l → LeasedMoves h owner clocks l m →
       MayCommit h owner clocks m j → MayCommit h owner clocks m k → j ≡ k
+
+  -- every step of a node is such a move, where what is delivered was sent, news of a grant are the reply to the last asking, and a node
+  -- that may commit then is at a current moment
+  abbrev pub StepsAreLeasedMoves : Type 0
+  StepsAreLeasedMoves = (owner : ℕ → ℕ) (clocks : Clocks) (l : Leased p owner) (k caller : ℕ) (ask : Ask) (answer : Answer) (new : M) → IsSafe (world p l.cluster) →
+      p.steps (l.cluster.nodes k) caller ask answer new → WasSent (world p l.cluster) (p.seen (l.cluster.nodes k)).waits (law_ask ask) → IsReply ask (l.replies (l.numbers k)) →
+      (may_commit (h.parts (l.cluster.nodes k)).standing.belief (moment_by ask (h.parts (l.cluster.nodes k)).standing.moment) ≡ true → IsCurrent h owner clocks l k ask) →
+      (m : Leased p owner) × (m.cluster.nodes k ≡ new) × TakesLeasedStep h owner clocks l k caller ask answer m
+
+  -- and whatever becomes of the table and of the replies is one, with a move of the ledger's lease
+  abbrev pub ServiceIsServed : Type 0
+  ServiceIsServed = (owner : ℕ → ℕ) (clocks : Clocks) (l : Leased p owner) (service : Leases) (replies : ℕ → Option ℕ) →
+      Happens clocks (tenancy h owner clocks l) (tenancy h owner clocks (record l { service = service; replies = replies })) →
+      (m : Leased p owner) × (m.service ≡ service) × Serves h owner clocks l m
 
 -- the nodes of this program: their parts, and what the relation of their steps says of role and lease
 module _ {D : Type 0} {G : Ghosts D} where

@@ -1,6 +1,6 @@
 //! Laws of clusters of these nodes, each the contract of a function that calls other laws at most.
 ghost use Rattle.cluster_laws.specs.ClusterLaws.{BegunIsStart, ClusterIsKept, ClusterIsLed, DeliveredDropInstalls, DeliveredFileApplies, DeliveredSnapshotInstalls, InterruptedIsRestart, MovesAreEvents, ReaderIsSteady, RecoveredIsOpened, RestartsAreMoves, StepAnswersByWhole, StepsAreMoves, StopsAreMoves, program};
-ghost use Rattle.cluster_laws.specs.LeasedLaws.{HolderMayCommit, LeasedIsKept, LeasedMovesAreLed, OneMayCommit, leasing};
+ghost use Rattle.cluster_laws.specs.LeasedLaws.{HolderMayCommit, LeasedIsKept, LeasedMovesAreLed, OneMayCommit, ServiceIsServed, StepsAreLeasedMoves, leasing};
 ghost use Rattle.cluster_laws.specs.Service.{ServiceIsEvent, ServiceLeads};
 
 use lease_core::holder_believes;
@@ -75,6 +75,8 @@ pub fn leased_cluster_is_safe<D: Disk>()
     ensures kept { LeasedIsKept (leasing ⟦<Node<D> as Machine>⟧.steps (λ old new caller ask answer step. step.safe) (λ old new caller ask answer step. step.role) (λ old new caller ask answer step. step.lease)) }
     ensures holder { HolderMayCommit (leasing ⟦<Node<D> as Machine>⟧.steps (λ old new caller ask answer step. step.safe) (λ old new caller ask answer step. step.role) (λ old new caller ask answer step. step.lease)) }
     ensures one { OneMayCommit (leasing ⟦<Node<D> as Machine>⟧.steps (λ old new caller ask answer step. step.safe) (λ old new caller ask answer step. step.role) (λ old new caller ask answer step. step.lease)) }
+    ensures steps { StepsAreLeasedMoves (leasing ⟦<Node<D> as Machine>⟧.steps (λ old new caller ask answer step. step.safe) (λ old new caller ask answer step. step.role) (λ old new caller ask answer step. step.lease)) }
+    ensures serves { ServiceIsServed (leasing ⟦<Node<D> as Machine>⟧.steps (λ old new caller ask answer step. step.safe) (λ old new caller ask answer step. step.role) (λ old new caller ask answer step. step.lease)) }
 {
     holder_believes();
     safe_kept();

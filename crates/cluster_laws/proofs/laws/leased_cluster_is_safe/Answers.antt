@@ -1,5 +1,7 @@
+use Rattle.cluster_laws.proofs.ClusterNodes.{steps}
 use Rattle.cluster_laws.proofs.LeasedMoves.{holder-may-commit, leased-is-kept, leased-moves-are-led, one-may-commit}
 use Rattle.cluster_laws.proofs.LeasedNodes.{leases}
+use Rattle.cluster_laws.proofs.LeasedSteps.{service-is-served, steps-are-leased-moves}
 use Rattle.cluster_laws.proofs.laws.leased_cluster_is_safe.Goals as goal
 
 pub returns-clause-moves : goal.returns-clause-moves
@@ -13,3 +15,9 @@ returns-clause-holder g c = holder-may-commit leases c.holder_believes.ensures.h
 
 pub returns-clause-one : goal.returns-clause-one
 returns-clause-one g c = one-may-commit leases c.holder_believes.ensures.holder
+
+pub returns-clause-steps : goal.returns-clause-steps
+returns-clause-steps g c = steps-are-leased-moves leases steps
+
+pub returns-clause-serves : goal.returns-clause-serves
+returns-clause-serves g c = service-is-served leases
