@@ -2,13 +2,13 @@
 """A node that ends under connections of real SQLite: they are told of an I/O error, never of a damaged database, at once and not
 after a busy timeout; and once it is started again, new connections of the same process find all that was acknowledged.
 
-At most: 400 seconds.
+At most: 600 seconds.
 Seen to fail: with a library that answers a failed read by SQLite's code for a damaged file (`database disk image is malformed`)."""
 import sqlite3
 import threading
 import time
 
-from support import Node, connect, count, fill, holds, in_each_mode, in_mode, insert, length, run, same, seen_by
+from support import Node, connect, count, fill, holds, in_each_mode, in_mode, insert, length, run, same, seen_by, until
 
 # 'database is locked' is said by a connection to the node that is there
 TOLD = {'disk I/O error', 'unable to open database file'}
@@ -27,7 +27,7 @@ class Crowd:
     """Threads that read and write, each until its first fault."""
 
     def __init__(self, socket, first):
-        self.rows, self.faults, self.lock = 0, [], threading.Lock()
+        self.rows, self.faults, self.at_work, self.lock = 0, [], [], threading.Lock()
         self.threads = [threading.Thread(target=self.work, args=(socket, act, first + 100000 * turn))
                         for turn, act in enumerate((self.write, self.read, self.read, self.read_long))]
         for it in self.threads:
@@ -36,6 +36,7 @@ class Crowd:
     def work(self, socket, act, first):
         mine = connect(socket)
         mine.execute('pragma cache_size=2')
+        self.at_work.append(act)
         fault = None
         while fault is None:
             fault = told(lambda: act(mine, first))
@@ -66,6 +67,7 @@ def node_killed_under_load(mode):
         rows = 20
         for turn in range(TURNS):
             crowd = Crowd(node.socket, 1000000 * (turn + 1))
+            until(lambda: len(crowd.at_work) == len(crowd.threads), 'all threads are at work')
             time.sleep(.3 + .1 * turn)
             node.kill()
             for it in crowd.threads:

@@ -2,7 +2,7 @@
 """Readers see whole transactions: each sets all rows to one number, and no reader sees two. Writers and readers are threads of
 processes at a primary, and readers at its replica; processes are killed at random.
 
-At most: 400 seconds.
+At most: 600 seconds.
 Seen to fail: with a library that reads the header of the shared memory and not its regions (`file is not a database`)."""
 import random
 import time

@@ -1,7 +1,7 @@
 """Waits are for a condition. Their limit is many times what they take: the machine may be small and busy."""
 import time
 
-LIMIT = 60
+LIMIT = 120
 
 
 class Late(Exception):

@@ -4,3 +4,8 @@ pub mod Clusters
 pub mod ClusterMoves
 pub mod Deliveries
 pub mod ClusterNodes
+pub mod Leading
+pub mod Primaries
+pub mod Tenancies
+pub mod LeasedMoves
+pub mod LeasedNodes

@@ -1,6 +1,9 @@
 //! Laws of clusters of these nodes, each the contract of a function that calls other laws at most.
 ghost use Rattle.cluster_laws.specs.ClusterLaws.{BegunIsStart, ClusterIsKept, ClusterIsLed, DeliveredDropInstalls, DeliveredFileApplies, DeliveredSnapshotInstalls, InterruptedIsRestart, MovesAreEvents, ReaderIsSteady, RecoveredIsOpened, RestartsAreMoves, StepAnswersByWhole, StepsAreMoves, StopsAreMoves, program};
+ghost use Rattle.cluster_laws.specs.LeasedLaws.{HolderMayCommit, LeasedIsKept, LeasedMovesAreLed, OneMayCommit, leasing};
+ghost use Rattle.cluster_laws.specs.Service.{ServiceIsEvent, ServiceLeads};
 
+use lease_core::holder_believes;
 use lf_disk::Disk;
 use node_core::Node;
 use turn_desk::Machine;
@@ -49,4 +52,30 @@ pub fn cluster_answers_install<D: Disk>()
     ensures file { DeliveredFileApplies (program ⟦<Node<D> as Machine>⟧.steps (λ old new caller ask answer step. step.safe)) }
 {
     answer_installs();
+}
+
+/// Where the ledger's holder is the owner of the grant that has not ended, each change of the lease
+/// service's table is an event of the lease; and a node that may commit, and whose moment is current,
+/// commits as the holder.
+pub fn service_leads()
+    ensures event { ServiceIsEvent }
+    ensures leads { ServiceLeads }
+{
+    holder_believes();
+}
+
+/// In a cluster with a lease service every list of moves is one of a cluster, and each of them leads: so
+/// whatever is said of clusters and of terms holds without the premise that one node at a time commits.
+/// Each node that may commit holds the lease, so no two nodes may commit at once. It is wanted of the
+/// clocks that each is ahead of a common time by an amount which does not change, that nothing is granted
+/// before it was asked for in that time, and that no node commits at a moment before the service's; and a
+/// term is given back only where its node believes in none.
+pub fn leased_cluster_is_safe<D: Disk>()
+    ensures moves { LeasedMovesAreLed (leasing ⟦<Node<D> as Machine>⟧.steps (λ old new caller ask answer step. step.safe) (λ old new caller ask answer step. step.role) (λ old new caller ask answer step. step.lease)) }
+    ensures kept { LeasedIsKept (leasing ⟦<Node<D> as Machine>⟧.steps (λ old new caller ask answer step. step.safe) (λ old new caller ask answer step. step.role) (λ old new caller ask answer step. step.lease)) }
+    ensures holder { HolderMayCommit (leasing ⟦<Node<D> as Machine>⟧.steps (λ old new caller ask answer step. step.safe) (λ old new caller ask answer step. step.role) (λ old new caller ask answer step. step.lease)) }
+    ensures one { OneMayCommit (leasing ⟦<Node<D> as Machine>⟧.steps (λ old new caller ask answer step. step.safe) (λ old new caller ask answer step. step.role) (λ old new caller ask answer step. step.lease)) }
+{
+    holder_believes();
+    safe_kept();
 }

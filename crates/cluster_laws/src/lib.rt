@@ -7,4 +7,7 @@
 
 mod laws;
 
-pub use laws::{cluster_answers_install, cluster_is_safe, cluster_opens, cluster_reader_steady};
+pub use laws::{
+    cluster_answers_install, cluster_is_safe, cluster_opens, cluster_reader_steady,
+    leased_cluster_is_safe, service_leads,
+};

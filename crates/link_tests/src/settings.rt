@@ -1,6 +1,9 @@
 //! Texts of configurations, with what they say or that they are refused.
 use crate::same::{holds, same};
-use node_settings::{Settings, SettingsFault, read_settings};
+use node_settings::{
+    LeaseType, ServiceSettings, Settings, SettingsFault, read_service_settings, read_settings,
+    read_static_settings,
+};
 use std::alloc::Global;
 use std::process::Abort;
 
@@ -98,6 +101,103 @@ fn configurations_are_read(rt: HostRuntime) {
     }
 }
 
+const SERVICE: &str =
+    "type = \"service\"\nservice-url = \"http://lease:20202\"\ncandidate = true\n";
+
+/// A node with a lease service: it is read, and refused to one that needs none.
+#[test]
+fn a_lease_service_is_read(rt: HostRuntime) {
+    let alloc = rt.alloc();
+    let text = with_required(rt, alloc, SERVICE);
+    says(
+        rt,
+        alloc,
+        text.as_str(),
+        "litefs.sock :20202 1000 true db1:20202 db1 lease:20202 10000",
+    );
+    let settings = read_settings(alloc, text.as_bytes()).expect(&rt, "settings");
+    holds(
+        rt,
+        settings.lease.lease_type == LeaseType::Service,
+        "its type",
+    );
+    let refused = read_static_settings(alloc, text.as_bytes());
+    holds(
+        rt,
+        refused.is_err_and(|fault| fault == SettingsFault::Config),
+        "refused",
+    );
+    let required = with_required(rt, alloc, "service-url = \"http://lease:20202\"\n");
+    let fixed = read_static_settings(alloc, required.as_bytes());
+    holds(rt, fixed.is_ok(), "a static lease");
+}
+
+const SERVICES: &[(&str, &str)] = &[
+    ("", ":20202 10000"),
+    ("http.addr = \"db:1\"\nlease.ttl = 7\n", "db:1 7"),
+    (
+        "[lease]\ntype = \"service\"\ncandidate = true\n",
+        ":20202 10000",
+    ),
+    (
+        "database = \"app\"\n[fuse]\nlisten = \"s\"\n[data]\nretention-files = 3\n[lease]\nhostname = \"h\"\nadvertise-url = \"http://h:1\"\nservice-url = \"http://h:1\"\n",
+        ":20202 10000",
+    ),
+];
+
+/// What a lease service is told: no key is required.
+#[test]
+fn services_are_read(rt: HostRuntime) {
+    let alloc = rt.alloc();
+    for (text, said) in SERVICES {
+        let settings = read_service_settings(alloc, text.as_bytes()).expect(&rt, "settings");
+        same(
+            rt,
+            (*text, service_line(rt, alloc, &settings).as_str()),
+            (*text, *said),
+        );
+    }
+}
+
+fn service_line(rt: impl Copy + Abort, alloc: Global, settings: &ServiceSettings) -> String {
+    format!(in alloc; "{} {}", settings.http.text().as_str(), settings.ttl).expect(&rt, "memory")
+}
+
+const NO_SERVICES: &[&str] = &[
+    "database = \"app-wal\"\n",
+    "database = 1\n",
+    "fuse.listen = 1\n",
+    "http.addr = \"20202\"\n",
+    "http.port = 1\n",
+    "data.compress = true\n",
+    "data.retention-files = 0\n",
+    "lease.type = \"other\"\n",
+    "lease.candidate = 1\n",
+    "lease.advertise-url = \"h:1\"\n",
+    "lease.hostname = 1\n",
+    "lease.service-url = \"h:1\"\n",
+    "lease.ttl = 0\n",
+    "lease.ttl = 86400001\n",
+    "lease.promote = true\n",
+    "proxy.addr = \":8081\"\n",
+    "lease = 1\n",
+    "database",
+];
+
+/// Keys that a lease service doesn't need are checked where they stand.
+#[test]
+fn no_services_are_refused(rt: HostRuntime) {
+    let alloc = rt.alloc();
+    for text in NO_SERVICES {
+        let read = read_service_settings(alloc, text.as_bytes());
+        holds(
+            rt,
+            read.is_err_and(|fault| fault == SettingsFault::Config),
+            text,
+        );
+    }
+}
+
 const OTHER_FORMS: &[(&str, &str)] = &[
     (
         "lease.hostname = \"\"\nlease.advertise-url = 'http://h:1'\nfuse.listen = \"s\"\ndatabase = \"app\"\n",
@@ -119,7 +219,10 @@ fn other_forms_are_read(rt: HostRuntime) {
 }
 
 const FURTHER: &[&str] = &[
-    "type = \"service\"\nservice-url = \"http://lease:20202\"\n",
+    "type = \"service\"\n",
+    "type = \"service\"\nservice-url = \"lease:20202\"\n",
+    "type = \"service\"\nservice-url = 1\n",
+    "type = \"Service\"\nservice-url = \"http://lease:20202\"\n",
     "type = \"Static\"\n",
     "type = 1\n",
     "candidate = 1\n",

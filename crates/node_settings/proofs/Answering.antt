@@ -5,7 +5,7 @@ use Rattle.node_settings.specs.declared.settings_fault.SettingsFault.{SettingsFa
 use Rattle.node_settings.specs.declared.settings_fault.SettingsFault.TheVariants as fault
 use Rattle.node_settings.specs.Address.{IsAddress}
 use Rattle.node_settings.specs.Answers.{Reads}
-use Rattle.node_settings.specs.Values.{IsUrlText, IsSomeUrlText}
+use Rattle.node_settings.specs.Values.{IsSomeOf}
 
 -- a refusal where P never holds is one where Q never does, if Q gives P
 pub fails : {A B : Type 0} (P : A → Type 0) (Q : B → Type 0) (f : SettingsFault) → ((b : B) → Q b → (a : A) × P a) → Reads P (Err f) → Reads Q (Err f)
@@ -43,9 +43,9 @@ pub in_section : {A : Type 0} (P : Members → A → Type 0) (o : Option Members
     → Reads (P ms) r → Reads (λ a. IsSomeAnd o (λ t. P t a)) r
 in_section P o ms r e h = subst (λ x. Reads (λ a. IsSomeAnd x (λ t. P t a)) r) (sym e) h
 
-pub some_url : (d : Data) (url : Option (List ℕ)) → IsSomeUrlText d url → (u : List ℕ) × IsUrlText d u
-some_url d None h = absurd h
-some_url d (Some u) h = (u, h)
+pub some_of : {A : Type 0} (Rule : Data → A → Type 0) (d : Data) (found : Option A) → IsSomeOf Rule d found → (a : A) × Rule d a
+some_of Rule d None h = absurd h
+some_of Rule d (Some a) h = (a, h)
 
 -- the default of where HTTP is served
 pub default_address : IsAddress (codes ":20202")
@@ -56,3 +56,9 @@ default_address = record {
   is_host = inl (λ k x lt. absurd (omega arith));
   is_port = ((omega arith, search rules), omega arith);
 }
+
+-- a refusal where P holds of nothing
+pub refused : {A : Type 0} (P : A → Type 0) (f : SettingsFault) (r : Result A SettingsFault) → IsErrAnd r (λ e. e ≡ f) → ((a : A) → P a → ⊥) → Reads P r
+refused P f (Ok a) err none = absurd err
+refused P f (Err fault.Config) err none = none
+refused P f (Err fault.NoMemory) err none = tt

@@ -2,3 +2,4 @@ pub mod Parts
 pub mod Answering
 pub mod Tables
 pub mod OneConfiguration
+pub mod Said

@@ -4,8 +4,10 @@ use Rattle.toml.specs.Data.{Data, Members}
 use Rattle.node_settings.specs.declared.settings.Settings.{Settings}
 use Rattle.node_settings.specs.declared.settings.LeaseSettings.{LeaseSettings}
 use Rattle.node_settings.specs.declared.settings.LeaseType.TheVariants as lease
+use Rattle.node_settings.specs.declared.settings.ServiceSettings.{ServiceSettings}
+use Rattle.node_settings.specs.Service.{IsServiceConfiguration, IsServiceLease, IsServiceRoot}
 use Rattle.node_settings.specs.Configuration.{IsFuse, IsHttp, IsData, IsLease, IsRoot, IsConfiguration}
-use Rattle.node_settings.specs.Values.{section, IsText, IsNameText, IsAddressText, IsUrlText, IsSomeUrlText, IsFlag, IsOff, IsNumber, IsLeaseType}
+use Rattle.node_settings.specs.Values.{section, IsText, IsNameText, IsAddressText, IsUrlText, IsSomeOf, IsFlag, IsOff, IsNumber, IsLeaseType}
 
 -- a rule reads one value
 abbrev ReadsOne : {A : Type 0} → (Data → A → Type 0) → Type 0
@@ -23,10 +25,10 @@ one_address d a b x y = one_text d a b x.0 y.0
 one_url : ReadsOne IsUrlText
 one_url d a b x y = one_text d a b x.0 y.0
 
-one_some_url : ReadsOne IsSomeUrlText
-one_some_url d None b x y = absurd x
-one_some_url d (Some a) None x y = absurd y
-one_some_url d (Some a) (Some b) x y = ap Some (one_url d a b x y)
+one_some : {A : Type 0} (Rule : Data → A → Type 0) → ReadsOne Rule → ReadsOne (IsSomeOf Rule)
+one_some Rule one d None b x y = absurd x
+one_some Rule one d (Some a) None x y = absurd y
+one_some Rule one d (Some a) (Some b) x y = ap Some (one d a b x y)
 
 one_flag : ReadsOne IsFlag
 one_flag d a b x y = cc
@@ -37,14 +39,20 @@ one_off d a b x y = x.1 ∙ sym y.1
 one_number : (least most : ℕ) → ReadsOne (IsNumber least most)
 one_number least most d a b x y = let e : pos a ≡ pos b = cc (x.0, y.0) in cc
 
-one_lease_type : ReadsOne IsLeaseType
+pub one_lease_type : ReadsOne IsLeaseType
 one_lease_type d lease.Static lease.Static x y = refl
+one_lease_type d lease.Service lease.Service x y = refl
+one_lease_type d lease.Static lease.Service x y = absurd (cc)
+one_lease_type d lease.Service lease.Static x y = absurd (cc)
+
+pub one_some_url : ReadsOne (IsSomeOf IsUrlText)
+one_some_url = one_some IsUrlText one_url
 
 holds : {A : Type 0} (Rule : Data → A → Type 0) → ReadsOne Rule → (o : Option Data) (a b : A) → IsSomeAnd o (λ d. Rule d a) → IsSomeAnd o (λ d. Rule d b) → a ≡ b
 holds Rule one None a b x y = absurd x
 holds Rule one (Some d) a b x y = one d a b x y
 
-holds_or : {A : Type 0} (Rule : Data → A → Type 0) → ReadsOne Rule → (default : A) (o : Option Data) (a b : A)
+pub holds_or : {A : Type 0} (Rule : Data → A → Type 0) → ReadsOne Rule → (default : A) (o : Option Data) (a b : A)
     → MatchOption o (a ≡ default) (λ d. Rule d a) → MatchOption o (b ≡ default) (λ d. Rule d b) → a ≡ b
 holds_or Rule one default None a b x y = x ∙ sym y
 holds_or Rule one default (Some d) a b x y = one d a b x y
@@ -60,7 +68,7 @@ one_lease t a b x y = λ i. record {
   candidate = holds_or IsFlag one_flag _ _ a.candidate b.candidate x.candidate y.candidate i;
   advertise_url = holds IsUrlText one_url _ a.advertise_url b.advertise_url x.advertise_url y.advertise_url i;
   hostname = holds IsText one_text _ a.hostname b.hostname x.hostname y.hostname i;
-  service_url = holds_or IsSomeUrlText one_some_url None _ a.service_url b.service_url x.service_url y.service_url i;
+  service_url = holds_or (IsSomeOf IsUrlText) one_some_url None _ a.service_url b.service_url x.service_url y.service_url i;
   ttl = holds_or (IsNumber 1 86400000) (one_number 1 86400000) _ _ a.ttl b.ttl x.ttl y.ttl i;
 }
 
@@ -84,3 +92,18 @@ one_configuration bytes s t x y =
     let same : Some x.root ≡ Some y.root = sym x.is_toml ∙ y.is_toml in
     let root : x.root ≡ y.root = cc in
     one_root x.root s t x.says (subst (λ (r : Members). IsRoot r t) (sym root) y.says)
+
+one_service_root : (root : Members) (s t : ServiceSettings) → IsServiceRoot root s → IsServiceRoot root t → s ≡ t
+one_service_root root s t x y =
+    let http = both (section (codes "http") root) (λ m. IsHttp m s.http) (λ m. IsHttp m t.http) x.http y.http in
+    let lease = both (section (codes "lease") root) (λ m. IsServiceLease m s.ttl) (λ m. IsServiceLease m t.ttl) x.lease y.lease in
+    λ i. record {
+      http = holds_or IsAddressText one_address _ _ s.http t.http http.1.addr http.2.addr i;
+      ttl = holds_or (IsNumber 1 86400000) (one_number 1 86400000) _ _ s.ttl t.ttl lease.1.lasts lease.2.lasts i;
+    }
+
+pub one_service_configuration : (bytes : List ℕ) (s t : ServiceSettings) → IsServiceConfiguration bytes s → IsServiceConfiguration bytes t → s ≡ t
+one_service_configuration bytes s t x y =
+    let same : Some x.root ≡ Some y.root = sym x.is_toml ∙ y.is_toml in
+    let root : x.root ≡ y.root = cc in
+    one_service_root x.root s t x.says (subst (λ (r : Members). IsServiceRoot r t) (sym root) y.says)

@@ -5,7 +5,7 @@ use Rattle.toml.specs.Parse.{parse_document}
 use Rattle.node_settings.specs.declared.settings.Settings.{Settings}
 use Rattle.node_settings.specs.declared.settings.LeaseSettings.{LeaseSettings}
 use Rattle.node_settings.specs.declared.settings.LeaseType.TheVariants as lease_type
-use Rattle.node_settings.specs.Values.{Holds, HoldsOr, HasOnly, section, IsText, IsNameText, IsAddressText, IsUrlText, IsSomeUrlText, IsFlag, IsOff, IsNumber, IsLeaseType}
+use Rattle.node_settings.specs.Values.{Holds, HoldsOr, HasOnly, section, IsText, IsNameText, IsAddressText, IsUrlText, IsSomeOf, IsFlag, IsOff, IsNumber, IsLeaseType, HasService}
 
 -- [fuse]
 pub record IsFuse (members : Members) (socket : List ℕ) : Type 0 where
@@ -23,19 +23,26 @@ pub record IsData (members : Members) (packed : Bool) (files : ℕ) : Type 0 whe
   pub compress : HoldsOr (codes "compress") IsOff false members packed
   pub retention_files : HoldsOr (codes "retention-files") (IsNumber 1 (2 ^ 63 - 1)) 1000 members files
 
+abbrev pub lease_keys : List (List ℕ)
+lease_keys = codes "type" ∷ codes "candidate" ∷ codes "advertise-url" ∷ codes "hostname" ∷ codes "service-url" ∷ codes "ttl" ∷ []
+
 -- [lease]
 pub record IsLease (members : Members) (lease : LeaseSettings) : Type 0 where
-  pub keys : HasOnly (codes "type" ∷ codes "candidate" ∷ codes "advertise-url" ∷ codes "hostname" ∷ codes "service-url" ∷ codes "ttl" ∷ []) members
+  pub keys : HasOnly lease_keys members
   pub lease_type : HoldsOr (codes "type") IsLeaseType lease_type.Static members lease.lease_type
   pub candidate : HoldsOr (codes "candidate") IsFlag false members lease.candidate
   pub advertise_url : Holds (codes "advertise-url") IsUrlText members lease.advertise_url
   pub hostname : Holds (codes "hostname") IsText members lease.hostname
-  pub service_url : HoldsOr (codes "service-url") IsSomeUrlText None members lease.service_url
+  pub service_url : HoldsOr (codes "service-url") (IsSomeOf IsUrlText) None members lease.service_url
+  pub has_service : HasService lease.lease_type lease.service_url
   pub ttl : HoldsOr (codes "ttl") (IsNumber 1 86400000) 10000 members lease.ttl
+
+abbrev pub root_keys : List (List ℕ)
+root_keys = codes "database" ∷ codes "fuse" ∷ codes "http" ∷ codes "data" ∷ codes "lease" ∷ []
 
 -- the whole table
 pub record IsRoot (members : Members) (s : Settings) : Type 0 where
-  pub keys : HasOnly (codes "database" ∷ codes "fuse" ∷ codes "http" ∷ codes "data" ∷ codes "lease" ∷ []) members
+  pub keys : HasOnly root_keys members
   pub database : Holds (codes "database") IsNameText members s.database
   pub fuse : IsSomeAnd (section (codes "fuse") members) (λ fuse. IsFuse fuse s.socket)
   pub http : IsSomeAnd (section (codes "http") members) (λ http. IsHttp http s.http)
@@ -49,3 +56,8 @@ pub record IsConfiguration (bytes : List ℕ) (s : Settings) : Type 0 where
   pub root : Members
   pub is_toml : parse_document bytes ≡ Some root
   pub says : IsRoot root s
+
+-- the same of a node that needs no lease service
+pub record IsStaticConfiguration (bytes : List ℕ) (s : Settings) : Type 0 where
+  pub says : IsConfiguration bytes s
+  pub static : s.lease.lease_type ≡ lease_type.Static

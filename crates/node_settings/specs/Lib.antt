@@ -2,3 +2,4 @@ pub mod Address
 pub mod Answers
 pub mod Values
 pub mod Configuration
+pub mod Service

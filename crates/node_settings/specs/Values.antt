@@ -1,5 +1,5 @@
 -- What the keys of a TOML table (TOML 1.1) say: the rules of their values.
-use Rattle.std.specs.Prelude.{◌≡◌, ℕ, ◌≤◌, pos, List, Bool, true, false, ◌&&◌, IsTrue, Option, Some, None, MatchOption, IsSomeAnd, String, codes}
+use Rattle.std.specs.Prelude.{◌≡◌, ℕ, ◌≤◌, pos, List, Bool, true, false, ◌&&◌, IsTrue, Option, Some, None, MatchOption, IsSome, IsSomeAnd, String, codes}
 use Rattle.std.specs.List.{list_any}
 use Rattle.std.specs.Str.{bytes_eq}
 use Rattle.std.specs.Borrow.{Bor}
@@ -35,9 +35,9 @@ IsAddressText d address = (d ≡ string address) × IsAddress address
 abbrev pub IsUrlText : Data → List ℕ → Type 0
 IsUrlText d url = (d ≡ string url) × IsUrl url
 
--- a URL that may be missing
-abbrev pub IsSomeUrlText : Data → Option (List ℕ) → Type 0
-IsSomeUrlText d url = IsSomeAnd url (IsUrlText d)
+-- a value that may be missing stands here, and has this rule
+abbrev pub IsSomeOf : {A : Type 0} → (Data → A → Type 0) → Data → Option A → Type 0
+IsSomeOf Rule d found = IsSomeAnd found (λ a. Rule d a)
 
 -- true or false
 abbrev pub IsFlag : Data → Bool → Type 0
@@ -51,9 +51,15 @@ IsOff d flag = (d ≡ boolean false) × (flag ≡ false)
 abbrev pub IsNumber : ℕ → ℕ → Data → ℕ → Type 0
 IsNumber least most d n = (d ≡ integer (pos n)) × (least ≤ n) × (n ≤ most)
 
--- the types of leases that are built
+-- the types of leases
 abbrev pub IsLeaseType : Data → LeaseType → Type 0
 IsLeaseType d lease.Static = d ≡ string (codes "static")
+IsLeaseType d lease.Service = d ≡ string (codes "service")
+
+-- a lease that a service keeps has the service's url
+abbrev pub HasService : LeaseType → Option (List ℕ) → Type 0
+HasService lease.Static url = Unit {0}
+HasService lease.Service url = IsSome url
 
 -- the members of a table under a key: none where the key is missing, and nothing where its value is no table
 abbrev pub section_in : Option Data → Option Members

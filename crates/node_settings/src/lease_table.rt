@@ -1,11 +1,12 @@
 //! The table `lease`.
 
-ghost use Rattle.std.specs.Prelude.{◌≡◌, Some, None, false, codes, IsSomeAnd};
+ghost use Rattle.std.specs.Prelude.{◌≡◌, Some, None, false, codes, IsSomeAnd, OnOk, IfErr};
 ghost use Rattle.toml.specs.View.{table_view};
 ghost use Rattle.node_settings.specs.declared.settings.LeaseType.TheVariants as lease_type;
+ghost use Rattle.node_settings.specs.declared.settings_fault.SettingsFault.TheVariants as fault;
 ghost use Rattle.node_settings.specs.Answers.{Reads};
-ghost use Rattle.node_settings.specs.Configuration.{IsLease};
-ghost use Rattle.node_settings.specs.Values.{Holds, HoldsOr, section as section_at, members_at, IsText, IsUrlText, IsSomeUrlText, IsFlag, IsNumber, IsLeaseType};
+ghost use Rattle.node_settings.specs.Configuration.{IsLease, lease_keys};
+ghost use Rattle.node_settings.specs.Values.{Holds, HasOnly, HoldsOr, section as section_at, members_at, IsSomeOf, IsText, IsUrlText, IsFlag, IsNumber, IsLeaseType, HasService};
 
 use crate::table::{check_keys, section, value_at};
 use crate::values::{flag, lease_type, number, text, url};
@@ -24,22 +25,13 @@ pub(crate) fn lease(alloc: Global, root: &Table) -> Result<LeaseSettings, Settin
 fn lease_of(alloc: Global, table: Option<&Table>) -> Result<LeaseSettings, SettingsFault>
     ensures { Reads (IsLease (members_at table.entry)) result }
 {
-    check_keys(
-        table,
-        &[
-            "type",
-            "candidate",
-            "advertise-url",
-            "hostname",
-            "service-url",
-            "ttl",
-        ],
-    )?;
+    check_lease_keys(table)?;
     let lease_type = kind(table)?;
     let candidate = candidate(table)?;
     let advertise_url = advertise_url(alloc, table)?;
     let hostname = hostname(alloc, table)?;
-    let service_url = service_url(alloc, table)?;
+    let service_url = url_at(alloc, table, "service-url")?;
+    check_service(lease_type, &service_url)?;
     let ttl = ttl(table)?;
     Ok(LeaseSettings {
         lease_type,
@@ -51,7 +43,35 @@ fn lease_of(alloc: Global, table: Option<&Table>) -> Result<LeaseSettings, Setti
     })
 }
 
-fn kind(table: Option<&Table>) -> Result<LeaseType, SettingsFault>
+pub(crate) fn check_lease_keys(table: Option<&Table>) -> Result<(), SettingsFault>
+    ensures ok { OnOk result (HasOnly lease_keys (members_at table.entry)) }
+    ensures fault { IfErr result (λ f. (f ≡ fault.Config) × (HasOnly lease_keys (members_at table.entry) → ⊥)) }
+{
+    check_keys(
+        table,
+        &[
+            "type",
+            "candidate",
+            "advertise-url",
+            "hostname",
+            "service-url",
+            "ttl",
+        ],
+    )
+}
+
+/// A lease that a service keeps has the service's URL.
+fn check_service(lease_type: LeaseType, url: &Option<Url>) -> Result<(), SettingsFault>
+    ensures ok { OnOk result (HasService lease_type url.now) }
+    ensures fault { IfErr result (λ f. (f ≡ fault.Config) × (HasService lease_type url.now → ⊥)) }
+{
+    match (lease_type, url) {
+        (LeaseType::Service, None) => Err(SettingsFault::Config),
+        _ => Ok(()),
+    }
+}
+
+pub(crate) fn kind(table: Option<&Table>) -> Result<LeaseType, SettingsFault>
     ensures { Reads (HoldsOr (codes "type") IsLeaseType lease_type.Static (members_at table.entry)) result }
 {
     match value_at(table, "type") {
@@ -60,7 +80,7 @@ fn kind(table: Option<&Table>) -> Result<LeaseType, SettingsFault>
     }
 }
 
-fn candidate(table: Option<&Table>) -> Result<bool, SettingsFault>
+pub(crate) fn candidate(table: Option<&Table>) -> Result<bool, SettingsFault>
     ensures { Reads (HoldsOr (codes "candidate") IsFlag false (members_at table.entry)) result }
 {
     match value_at(table, "candidate") {
@@ -87,16 +107,21 @@ fn hostname(alloc: Global, table: Option<&Table>) -> Result<Text, SettingsFault>
     }
 }
 
-fn service_url(alloc: Global, table: Option<&Table>) -> Result<Option<Url>, SettingsFault>
-    ensures { Reads (HoldsOr (codes "service-url") IsSomeUrlText None (members_at table.entry)) result }
+/// The URL under a key, which may be missing.
+pub(crate) fn url_at(
+    alloc: Global,
+    table: Option<&Table>,
+    key: &str,
+) -> Result<Option<Url>, SettingsFault>
+    ensures { Reads (HoldsOr key.now (IsSomeOf IsUrlText) None (members_at table.entry)) result }
 {
-    match value_at(table, "service-url") {
+    match value_at(table, key) {
         Some(value) => Ok(Some(url(alloc, value)?)),
         None => Ok(None),
     }
 }
 
-fn ttl(table: Option<&Table>) -> Result<u64, SettingsFault>
+pub(crate) fn ttl(table: Option<&Table>) -> Result<u64, SettingsFault>
     ensures { Reads (HoldsOr (codes "ttl") (IsNumber 1 86400000) 10000 (members_at table.entry)) result }
 {
     match value_at(table, "ttl") {

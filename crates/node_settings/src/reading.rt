@@ -1,22 +1,22 @@
 //! The configuration read: its text, its root, and the tables in it but that of the lease.
 
-ghost use Rattle.std.specs.Prelude.{◌≡◌, ◌^◌, ◌-◌, Some, false, codes, IsSomeAnd};
+ghost use Rattle.std.specs.Prelude.{◌≡◌, ◌^◌, ◌-◌, Some, false, codes, IsSomeAnd, OnOk, IfErr};
 ghost use Rattle.toml.specs.View.{table_view};
 ghost use Rattle.node_settings.specs.declared.settings_fault.SettingsFault.TheVariants as fault;
 ghost use Rattle.node_settings.specs.Answers.{Reads};
-ghost use Rattle.node_settings.specs.Configuration.{IsFuse, IsHttp, IsData, IsRoot, IsConfiguration};
-ghost use Rattle.node_settings.specs.Values.{Holds, HoldsOr, section as section_at, members_at, IsNameText, IsAddressText, IsOff, IsNumber};
+ghost use Rattle.node_settings.specs.Configuration.{IsFuse, IsHttp, IsData, IsRoot, IsConfiguration, IsStaticConfiguration, root_keys};
+ghost use Rattle.node_settings.specs.Values.{Holds, HoldsOr, HasOnly, section as section_at, members_at, IsNameText, IsAddressText, IsOff, IsNumber};
 
 use crate::lease_table::lease;
 use crate::table::{check_keys, section, value_at};
 use crate::values::{address, name, number, off, text};
-use crate::{Address, Settings, SettingsFault};
+use crate::{Address, LeaseType, Settings, SettingsFault};
 use lf_base::{Name, Text};
 use std::alloc::Global;
 use toml::Table;
 
 /// The most bytes of a configuration.
-const SIZE_MAX: usize = 65_536;
+pub(crate) const SIZE_MAX: usize = 65_536;
 
 /// The settings that a configuration says.
 pub fn read_settings(alloc: Global, bytes: &[u8]) -> Result<Settings, SettingsFault>
@@ -32,10 +32,21 @@ pub fn read_settings(alloc: Global, bytes: &[u8]) -> Result<Settings, SettingsFa
     }
 }
 
+/// The settings of a node that needs no lease service. A configuration with one is refused.
+pub fn read_static_settings(alloc: Global, bytes: &[u8]) -> Result<Settings, SettingsFault>
+    ensures { Reads (IsStaticConfiguration bytes.now) result }
+{
+    let settings = read_settings(alloc, bytes)?;
+    match settings.lease.lease_type {
+        LeaseType::Static => Ok(settings),
+        LeaseType::Service => Err(SettingsFault::Config),
+    }
+}
+
 fn settings(alloc: Global, root: &Table) -> Result<Settings, SettingsFault>
     ensures { Reads (IsRoot (table_view root.now)) result }
 {
-    check_keys(Some(root), &["database", "fuse", "http", "data", "lease"])?;
+    check_root_keys(root)?;
     let database = database(alloc, root)?;
     let socket = socket(alloc, root)?;
     let http = http(alloc, root)?;
@@ -51,6 +62,13 @@ fn settings(alloc: Global, root: &Table) -> Result<Settings, SettingsFault>
     })
 }
 
+pub(crate) fn check_root_keys(root: &Table) -> Result<(), SettingsFault>
+    ensures ok { OnOk result (HasOnly root_keys (table_view root.now)) }
+    ensures fault { IfErr result (λ f. (f ≡ fault.Config) × (HasOnly root_keys (table_view root.now) → ⊥)) }
+{
+    check_keys(Some(root), &["database", "fuse", "http", "data", "lease"])
+}
+
 fn database(alloc: Global, root: &Table) -> Result<Name, SettingsFault>
     ensures { Reads (Holds (codes "database") IsNameText (table_view root.now)) result }
 {
@@ -61,7 +79,7 @@ fn database(alloc: Global, root: &Table) -> Result<Name, SettingsFault>
 }
 
 /// The table `fuse`.
-fn socket(alloc: Global, root: &Table) -> Result<Text, SettingsFault>
+pub(crate) fn socket(alloc: Global, root: &Table) -> Result<Text, SettingsFault>
     ensures { Reads (λ socket. IsSomeAnd (section_at (codes "fuse") (table_view root.now)) (λ t. IsFuse t socket)) result }
 {
     let table = section(root, "fuse")?;
@@ -73,7 +91,7 @@ fn socket(alloc: Global, root: &Table) -> Result<Text, SettingsFault>
 }
 
 /// The table `http`.
-fn http(alloc: Global, root: &Table) -> Result<Address, SettingsFault>
+pub(crate) fn http(alloc: Global, root: &Table) -> Result<Address, SettingsFault>
     ensures { Reads (λ address. IsSomeAnd (section_at (codes "http") (table_view root.now)) (λ t. IsHttp t address)) result }
 {
     let table = section(root, "http")?;
@@ -91,7 +109,7 @@ fn addr(alloc: Global, table: Option<&Table>) -> Result<Address, SettingsFault>
 }
 
 /// The table `data`.
-fn log(root: &Table) -> Result<(bool, u64), SettingsFault>
+pub(crate) fn log(root: &Table) -> Result<(bool, u64), SettingsFault>
     ensures { Reads (λ kept. IsSomeAnd (section_at (codes "data") (table_view root.now)) (λ t. IsData t kept.0 kept.1)) result }
 {
     let table = section(root, "data")?;

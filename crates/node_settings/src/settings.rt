@@ -23,8 +23,9 @@ pub struct LeaseSettings {
     pub lease_type: LeaseType,
     /// Whether this node may become primary.
     pub candidate: bool,
-    /// Where the primary of a static lease is found.
+    /// Where the primary of a static lease is found; with a lease service, where this node is.
     pub advertise_url: Url,
+    /// The host of the same node.
     pub hostname: Text,
     /// Where the lease service is found.
     pub service_url: Option<Url>,
@@ -37,4 +38,16 @@ pub struct LeaseSettings {
 pub enum LeaseType {
     /// The candidate is primary for good, and every other node follows the advertised URL.
     Static,
+    /// The node that the lease service grants it is primary, and tells it where the others find it.
+    /// Then the service's URL is there.
+    Service,
+}
+
+/// What a lease service is told when it is started.
+#[derive(Debug, Drop)]
+pub struct ServiceSettings {
+    /// Where it is served.
+    pub http: Address,
+    /// How long a lease lasts, in milliseconds.
+    pub ttl: u64,
 }

@@ -82,6 +82,7 @@ pub(crate) fn lease_type(value: &Value) -> Result<LeaseType, SettingsFault>
 {
     match as_text(value)? {
         "static" => Ok(LeaseType::Static),
+        "service" => Ok(LeaseType::Service),
         _ => Err(SettingsFault::Config),
     }
 }

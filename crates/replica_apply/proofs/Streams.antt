@@ -1,15 +1,17 @@
 -- Following: what was done so far, and how it ends.
-use Rattle.std.proofs.Common.{◌≡◌, ℕ, ◌+◌, ◌≤◌, true, List, [], ◌∷◌, ◌++◌, length, Option, None, Some, Result, Ok, Err, OnOk, IfErr, refl, sym, ap, ◌∙◌, subst, append_assoc, append-nil, arith}
+use Rattle.std.proofs.Common.{◌≡◌, ℕ, ◌+◌, ◌<◌, ◌≤◌, true, List, [], ◌∷◌, ◌++◌, length, Option, None, Some, Result, Ok, Err, OnOk, IfErr, refl, sym, ap, ◌∙◌, subst, append_assoc, append-nil, arith}
 use Rattle.std.specs.Io.KnownBytes.{Appends, Consumes, Keeps}
 use Rattle.std.proofs.KnownBytes.{Consumes-nil, Keeps-refl}
 use Rattle.lf_base.specs.declared.session_end.SessionEnd.{SessionEnd}
 use Rattle.lf_base.specs.declared.session_end.SessionEnd.TheVariants as session
 use Rattle.turn_desk.specs.History.{entry}
+use Rattle.link_session.specs.declared.stage.Stage.TheVariants as stages
 use Rattle.link_session.specs.declared.unread.Unread.{Unread}
 use Rattle.link_session.specs.declared.unread.Unread.TheVariants as unread
 use Rattle.link_session.specs.Asking.{AskedUntil}
 use Rattle.link_session.specs.Frames.{IsFrame, frame_stage, held_by}
 use Rattle.stream_wire.specs.Feeding.{Feeding, holding}
+use Rattle.link_session.specs.Reach.{reach}
 use Rattle.link_session.specs.Reading.{Held, IsReadOn, coming, text_of}
 use Rattle.link_session.specs.Rounds.{Place, Talked}
 use Rattle.link_session.specs.Spending.{Moves, MovesFor}
@@ -18,17 +20,19 @@ use Rattle.link_session.specs.Unread.{LeavesUnread}
 use Rattle.link_session.specs.Unread.{end_of as session_end}
 use Rattle.stream_wire.specs.Head.{NeverTakesResponse}
 use Rattle.replica_apply.specs.Heads.{HeadBytes, IsHeadPart, head_stage}
+use Rattle.link_session.proofs.Reach.{frame_has_bytes}
 use Rattle.link_session.proofs.Reading.{kept_consumes}
 use Rattle.link_session.proofs.Stands.{spent_moving, spent_on}
 use Rattle.link_session.proofs.Talking.{one_more}
 use Rattle.node_core.specs.declared.ask.Ask.{Ask}
+use Rattle.node_core.specs.declared.answer.Answer.{Answer}
 use Rattle.node_core.specs.declared.answer.Answer.TheVariants as answer
 use Rattle.lf_base.specs.declared.pos.Pos.{Pos}
 use Rattle.replica_apply.specs.declared.follow_end.FollowEnd.{FollowEnd}
 use Rattle.replica_apply.specs.declared.follow_end.FollowEnd.TheVariants as ends
 use Rattle.replica_apply.specs.Asking.{IsAskOf, NodeEntry, manner}
-use Rattle.replica_apply.specs.Frames.{applied, EndsFrame, IsDone, IsRound}
-use Rattle.replica_apply.specs.Following.{at_frame, between, declined, end_of, frame_limit, no_memory, no_stream, reading, stream, unsent_by, Asks, EndsAnswer, EndsFrames, HasReadHead, IsNext, StopsAt, Uses}
+use Rattle.replica_apply.specs.Frames.{applied, said_by, EndsFrame, IsDone, IsRound}
+use Rattle.replica_apply.specs.Following.{asks_where, at_frame, declined, end_of, frame_limit, no_memory, no_stream, place_in, reading, stream, unsent_by, Asks, EndsAnswer, EndsFrames, HasReadHead, IsNext, SaysWhere, StopsAt, Uses}
 
 -- ---- one frame
 
@@ -40,6 +44,35 @@ done_with who name text asked pos old new is a = record {
   round = applied asked pos is (record { repeated = a.repeated; last = a.last; each = a.each; asked = a.asked; settled = a.settled; entries = refl }) refl;
   asked = a.entries;
 }
+
+-- it was answered
+pub frame_answered : (who : Asker) (name text : List ℕ) (asked : Ask) (given : Answer) (old new : List NodeEntry) (turns : ℕ) → IsAskOf name text asked
+    → AskedUntil (manner who) asked old new given → EndsFrame who name text old new turns (said_by given)
+frame_answered who name text asked (answer.Applied pos) old new turns is a = done_with who name text asked pos old new is a
+frame_answered who name text asked (answer.Refused refused) old new turns is a = record { asked = asked; is = is; until = a }
+frame_answered who name text asked (answer.Done r) old new turns is a = (answer.Done r, record { asked = asked; is = is; until = a }, refl)
+frame_answered who name text asked answer.Quiet old new turns is a = (answer.Quiet, record { asked = asked; is = is; until = a }, refl)
+frame_answered who name text asked (answer.Refuse n) old new turns is a = (answer.Refuse n, record { asked = asked; is = is; until = a }, refl)
+frame_answered who name text asked (answer.At pos) old new turns is a = (answer.At pos, record { asked = asked; is = is; until = a }, refl)
+frame_answered who name text asked (answer.Level pos) old new turns is a = (answer.Level pos, record { asked = asked; is = is; until = a }, refl)
+frame_answered who name text asked (answer.Item ltx after) old new turns is a = (answer.Item ltx after, record { asked = asked; is = is; until = a }, refl)
+frame_answered who name text asked answer.Gone old new turns is a = (answer.Gone, record { asked = asked; is = is; until = a }, refl)
+frame_answered who name text asked (answer.Held lock) old new turns is a = (answer.Held lock, record { asked = asked; is = is; until = a }, refl)
+frame_answered who name text asked (answer.Pruned n) old new turns is a = (answer.Pruned n, record { asked = asked; is = is; until = a }, refl)
+
+-- it was asked where the node stands
+pub where_said : (caller : ℕ) (given : Answer) (old new : List NodeEntry) (turns : ℕ) → new ≡ asks_where caller given old → SaysWhere caller old new turns (place_in given)
+where_said caller (answer.At pos) old new turns e = e
+where_said caller (answer.Refused refused) old new turns e = e
+where_said caller (answer.Done r) old new turns e = (answer.Done r, e, refl)
+where_said caller answer.Quiet old new turns e = (answer.Quiet, e, refl)
+where_said caller (answer.Refuse n) old new turns e = (answer.Refuse n, e, refl)
+where_said caller (answer.Level pos) old new turns e = (answer.Level pos, e, refl)
+where_said caller (answer.Item ltx after) old new turns e = (answer.Item ltx after, e, refl)
+where_said caller answer.Gone old new turns e = (answer.Gone, e, refl)
+where_said caller (answer.Applied pos) old new turns e = (answer.Applied pos, e, refl)
+where_said caller (answer.Held lock) old new turns e = (answer.Held lock, e, refl)
+where_said caller (answer.Pruned n) old new turns e = (answer.Pruned n, e, refl)
 
 -- behind a message that was taken out
 pub behind : (text left : Option (List ℕ)) (message ahead : List ℕ) → Keeps text (text_of message ahead left) → Consumes text (text_of [] ahead left) message
@@ -94,6 +127,7 @@ uses_on t0 t1 t2 old new (Err ends.BadFrame) less m a = tt
 uses_on t0 t1 t2 old new (Err (ends.Status status)) less m a = tt
 uses_on t0 t1 t2 old new (Err (ends.Refused refused)) less m a = tt
 uses_on t0 t1 t2 old new (Err ends.Worn) less m a = tt
+uses_on t0 t1 t2 old new (Err ends.OddAnswer) less m a = tt
 uses_on t0 t1 t2 old new (Err ends.NoMemory) less m a = tt
 
 -- a call behind another
@@ -108,13 +142,16 @@ uses_behind t0 t1 t2 s0 s1 s2 (Err ends.BadFrame) less a b = tt
 uses_behind t0 t1 t2 s0 s1 s2 (Err (ends.Status status)) less a b = tt
 uses_behind t0 t1 t2 s0 s1 s2 (Err (ends.Refused refused)) less a b = tt
 uses_behind t0 t1 t2 s0 s1 s2 (Err ends.Worn) less a b = tt
+uses_behind t0 t1 t2 s0 s1 s2 (Err ends.OddAnswer) less a b = tt
 uses_behind t0 t1 t2 s0 s1 s2 (Err ends.NoMemory) less a b = tt
 
--- ---- what was read ahead
+-- behind a frame fewer bytes are within reach
+pub falls : {T : Type 0} (t0 t1 t2 : ℕ) (h0 h1 h2 : Held) (e1 e2 : ℕ) (r : Result T FollowEnd) → reach h1 t1 ≤ reach h0 t0 → IsFrame frame_limit h1.message
+    → h2 ≡ record h1 { message = []; stage = stages.Open } → Asks t1 e1 t2 e2 r → OnOk r (reach h2 t2 < reach h0 t0)
+falls t0 t1 t2 h0 h1 h2 e1 e2 (Ok x) near frame next asks = omega (arith, near, frame_has_bytes frame_limit h1.message frame, ap (λ (h : Held). reach h t2) next, asks.0)
+falls t0 t1 t2 h0 h1 h2 e1 e2 (Err end) near frame next asks = tt
 
--- no more was read than is held
-pub read_ahead : (held : Held) (left : Option (List ℕ)) → IsReadOn (coming held left) left
-read_ahead held left = (held.message ++ held.ahead, kept_consumes (coming held left) left (held.message ++ held.ahead) (Keeps-refl (coming held left)))
+-- ---- what was read ahead
 
 pub nothing_read : (text : Option (List ℕ)) → IsReadOn text text
 nothing_read text = ([], Consumes-nil text)
@@ -172,17 +209,6 @@ ends_here who who_now name old new place before turns end by count t s = record 
   place = place;
   talked = t;
   stops = subst (λ (f : ℕ). StopsAt who name place f new turns end) count (subst (λ (w : Asker). StopsAt w name place before new turns end) by s);
-}
-
--- no more frames are counted
-pub counted_out : (who : Asker) (name : List ℕ) (held : Held) (old new : Stand NodeEntry) (place : Place NodeEntry) (turns : ℕ) → Talked (IsRound who name) old.place place
-    → place.text ≡ coming held new.place.text → place.taken ≡ new.place.taken → new.place.entries ≡ place.entries → new.faults ≡ old.faults
-    → EndsFrames who name old new turns ends.NoMemory
-counted_out who name held old new place turns t text taken entries count = record {
-  place = place;
-  talked = t;
-  stops = between unread.NoMemory (refl, subst (λ (x : Option (List ℕ)). IsReadOn x new.place.text) (sym text) (read_ahead held new.place.text), count) refl
-      (record { written = subst (λ (x : Option (List ℕ)). Keeps place.taken x) taken (Keeps-refl place.taken); asked = entries });
 }
 
 -- the reply could not be read

@@ -1,5 +1,5 @@
 -- Following a stream, from the question where the node stands to the end.
-use Rattle.std.specs.Prelude.{◌≡◌, ◌≤◌, ◌+◌, ℕ, true, codes, List, [], ◌∷◌, ◌++◌, length, Option, Result, Ok, Err}
+use Rattle.std.specs.Prelude.{◌≡◌, ◌≤◌, ◌+◌, ℕ, Bool, true, false, codes, List, [], ◌∷◌, ◌++◌, length, Option, Result, Ok, Err}
 use Rattle.std.specs.Io.KnownBytes.{Appends, Consumes, Keeps}
 use Rattle.lf_base.specs.Faults.{Rose}
 use Rattle.lf_base.specs.declared.pos.Pos.{Pos}
@@ -48,13 +48,25 @@ end_of unread.NoMemory = ends.NoMemory
 abbrev pub asks_where : ℕ → Answer → List NodeEntry → List NodeEntry
 asks_where caller given entries = entries ++ entry caller ask.Where given ∷ []
 
--- what asking where the node stands gives: a position, or no answer that is one
+-- whether an answer says where the node stands, or refuses to
+abbrev pub says_where : Answer → Bool
+says_where (answer.At pos) = true
+says_where (answer.Refused refused) = true
+says_where _ = false
+
+-- the position that an answer says
+abbrev pub place_in : Answer → Result Pos FollowEnd
+place_in (answer.At pos) = Ok pos
+place_in (answer.Refused refused) = Err (ends.Refused refused)
+place_in _ = Err ends.OddAnswer
+
+-- what asking where the node stands gives: a position, or no answer that is one. It takes no memory
 abbrev pub SaysWhere : ℕ → List NodeEntry → List NodeEntry → ℕ → Result Pos FollowEnd → Type 0
 SaysWhere caller old new turns (Ok pos) = new ≡ asks_where caller (answer.At pos) old
 SaysWhere caller old new turns (Err (ends.Refused refused)) = new ≡ asks_where caller (answer.Refused refused) old
 SaysWhere caller old new turns (Err ends.Turns) = (new ≡ old) × (turns ≡ 0)
 SaysWhere caller old new turns (Err ends.Worn) = new ≡ old
-SaysWhere caller old new turns (Err ends.NoMemory) = (given : Answer) × (new ≡ asks_where caller given old)
+SaysWhere caller old new turns (Err ends.OddAnswer) = (given : Answer) × (new ≡ asks_where caller given old) × (says_where given ≡ false)
 SaysWhere caller old new turns (Err _) = ⊥
 
 -- each turn that is gone was an ask, where asking went on or used up the turns

@@ -1,5 +1,5 @@
 -- What becomes of one frame.
-use Rattle.std.specs.Prelude.{◌≡◌, ℕ, List, [], ◌++◌, Result, Ok, Err}
+use Rattle.std.specs.Prelude.{◌≡◌, ℕ, Bool, true, false, List, [], ◌++◌, Result, Ok, Err}
 use Rattle.lf_base.specs.declared.pos.Pos.{Pos}
 use Rattle.link_session.specs.Asking.{AskedUntil, AskedInVain}
 use Rattle.link_session.specs.Rounds.{Round}
@@ -20,6 +20,18 @@ pub data IsRound (who : Asker) (name : List ℕ) (round : Round NodeEntry) : Typ
   applied : (asked : Ask) (pos : Pos) → IsAskOf name round.message asked → AskedUntil (manner who) asked [] round.entries (answer.Applied pos)
       → round.reply ≡ [] → IsRound who name round
   level : (pos : Pos) → round.message ≡ frame_text (frame.Ready name pos) → round.entries ≡ [] → round.reply ≡ [] → IsRound who name round
+
+-- whether an answer settles a frame: it is applied, or refused
+abbrev pub settles : Answer → Bool
+settles (answer.Applied pos) = true
+settles (answer.Refused refused) = true
+settles _ = false
+
+-- what an answer says of its frame
+abbrev pub said_by : Answer → Result (Unit {0}) FollowEnd
+said_by (answer.Applied pos) = Ok tt
+said_by (answer.Refused refused) = Err (ends.Refused refused)
+said_by _ = Err ends.OddAnswer
 
 -- a frame of another database
 pub record IsForeign (name text : List ℕ) : Type 0 where
@@ -45,7 +57,7 @@ pub record IsDone (who : Asker) (name text : List ℕ) (old new : List NodeEntry
   pub round : IsRound who name (record { message = text; entries = entries; reply = [] })
   pub asked : new ≡ old ++ entries
 
--- what became of a frame that was read
+-- what became of a frame that was read. It takes no memory
 abbrev pub EndsFrame : {T : Type 0} → Asker → List ℕ → List ℕ → List NodeEntry → List NodeEntry → ℕ → Result T FollowEnd → Type 0
 EndsFrame who name text old new turns (Ok _) = IsDone who name text old new
 EndsFrame who name text old new turns (Err ends.Ended) = (text ≡ frame_text frame.End) × (new ≡ old)
@@ -53,5 +65,5 @@ EndsFrame who name text old new turns (Err ends.BadFrame) = IsForeign name text 
 EndsFrame who name text old new turns (Err (ends.Refused refused)) = IsAnswered who name text (answer.Refused refused) old new
 EndsFrame who name text old new turns (Err ends.Turns) = IsHeldBack who name text old new × (turns ≡ 0)
 EndsFrame who name text old new turns (Err ends.Worn) = IsHeldBack who name text old new
-EndsFrame who name text old new turns (Err ends.NoMemory) = (given : Answer) × IsAnswered who name text given old new
+EndsFrame who name text old new turns (Err ends.OddAnswer) = (given : Answer) × IsAnswered who name text given old new × (settles given ≡ false)
 EndsFrame who name text old new turns (Err _) = ⊥

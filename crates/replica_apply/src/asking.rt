@@ -2,7 +2,7 @@
 ghost use Rattle.std.specs.Prelude.{◌≡◌, length, IfErr};
 ghost use Rattle.link_session.specs.Stands.{GoesOn};
 ghost use Rattle.replica_apply.specs.declared.follow_end.FollowEnd.TheVariants as ends;
-ghost use Rattle.replica_apply.specs.Following.{Asks, SaysWhere};
+ghost use Rattle.replica_apply.specs.Following.{place_in, Asks, SaysWhere};
 
 use crate::follow_end::FollowEnd;
 use lf_base::Pos;
@@ -24,9 +24,26 @@ pub fn ask_where<S: Steps<Ask = Ask, Answer = Answer>>(
         Err(_) => return Err(FollowEnd::Turns),
     }
     match steps.ask(&Ask::Where) {
-        Ok(Answer::At(pos)) => Ok(pos),
-        Ok(Answer::Refused(refusal)) => Err(FollowEnd::Refused(refusal)),
-        Ok(_) => Err(FollowEnd::NoMemory),
+        Ok(answer) => place_in(answer),
         Err(_) => Err(FollowEnd::Worn),
+    }
+}
+
+/// What an answer says of where the node stands.
+fn place_in(answer: Answer) -> Result<Pos, FollowEnd>
+    ensures { result ≡ place_in answer }
+{
+    match answer {
+        Answer::At(pos) => Ok(pos),
+        Answer::Refused(refusal) => Err(FollowEnd::Refused(refusal)),
+        Answer::Done(_)
+        | Answer::Quiet
+        | Answer::Refuse(_)
+        | Answer::Level(_)
+        | Answer::Item { .. }
+        | Answer::Gone
+        | Answer::Applied(_)
+        | Answer::Held(_)
+        | Answer::Pruned(_) => Err(FollowEnd::OddAnswer),
     }
 }

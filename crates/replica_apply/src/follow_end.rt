@@ -21,6 +21,8 @@ pub enum FollowEnd {
     Turns,
     /// The desk has no turn left.
     Worn,
-    /// Memory ran out, or the node gave an answer that is none to what it was asked.
+    /// The node gave an answer that is none to what it was asked.
+    OddAnswer,
+    /// Memory ran out.
     NoMemory,
 }

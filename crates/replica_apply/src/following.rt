@@ -1,7 +1,8 @@
 //! A stream, followed by one that asks steps.
-ghost use Rattle.std.specs.Prelude.{◌≡◌, [], true, Err, IfErr, IfOk, OnOk};
+ghost use Rattle.std.specs.Prelude.{◌≡◌, ◌<◌, [], true, Err, IfErr, IfOk, OnOk};
 ghost use Rattle.std.specs.Io.KnownBytes.{Keeps};
 ghost use Rattle.link_session.specs.declared.stage.Stage.TheVariants as stages;
+ghost use Rattle.link_session.specs.Reach.{reach};
 ghost use Rattle.link_session.specs.Reading.{coming};
 ghost use Rattle.link_session.specs.Spending.{MovesFor};
 ghost use Rattle.link_session.specs.Stands.{asker, stand, stand_with, AsksOn};
@@ -125,7 +126,7 @@ fn read_head<L: Link>(
     }
 }
 
-/// Follows one frame after another.
+/// Follows one frame after another. Each that is followed leaves fewer bytes within reach of the turns.
 fn follow_frames<S: Steps<Ask = Ask, Answer = Answer>, L: Link, C: Clock, P: Pause>(
     steps: &mut S,
     name: &Name,
@@ -141,13 +142,12 @@ fn follow_frames<S: Steps<Ask = Ask, Answer = Answer>, L: Link, C: Clock, P: Pau
     ensures spent { Uses {T = Unit {0}} turns.old (stand_with L.Link frames.old link.old (S.entries steps.old)) turns.new (stand L.Link link.new (S.entries steps.new)) (Err result) }
     ensures worn { result ≡ ends.Worn → S.is_worn steps.new }
 {
-    'frames: for _ in 0..u64::MAX {
+    'frames: loop {
         match follow_next(steps, name, link, clock, pause, frames, turns) {
             Ok(()) => {}
             Err(end) => return end,
         }
     }
-    FollowEnd::NoMemory
 }
 
 /// Reads a frame and follows it.
@@ -164,6 +164,7 @@ fn follow_next<S: Steps<Ask = Ask, Answer = Answer>, L: Link, C: Clock, P: Pause
     ensures next { OnOk result (IsNext (asker S.Steps C.Clock steps.old clock.old) name.now (stand_with L.Link frames.old link.old (S.entries steps.old)).place (stand_with L.Link frames.new link.new (S.entries steps.new)).place × (L.faults link.new ≡ L.faults link.old)) }
     ensures between { OnOk result ((frames.new.stage ≡ stages.Open) × (frames.new.limit ≡ frame_limit)) }
     ensures stops { IfErr result (StopsAt (asker S.Steps C.Clock steps.old clock.old) name.now (stand_with L.Link frames.old link.old (S.entries steps.old)).place (L.faults link.old) (stand L.Link link.new (S.entries steps.new)) turns.new) }
+    ensures within { OnOk result (reach frames.new turns.new < reach frames.old turns.old) }
     ensures same { AsksOn S.Steps C.Clock steps.old steps.new clock.old clock.new }
     ensures spent { Uses turns.old (stand L.Link link.old (S.entries steps.old)) turns.new (stand L.Link link.new (S.entries steps.new)) result }
     ensures worn { IfErr result (λ end. end ≡ ends.Worn → S.is_worn steps.new) }

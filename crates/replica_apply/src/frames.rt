@@ -5,7 +5,7 @@ ghost use Rattle.stream_wire.specs.Frame.{frame_text};
 ghost use Rattle.replica_apply.specs.declared.follow_end.FollowEnd.TheVariants as ends;
 ghost use Rattle.replica_apply.specs.Asking.{IsAskOf};
 ghost use Rattle.replica_apply.specs.Following.{Asks};
-ghost use Rattle.replica_apply.specs.Frames.{EndsFrame};
+ghost use Rattle.replica_apply.specs.Frames.{said_by, EndsFrame};
 
 use crate::follow_end::FollowEnd;
 use crate::patience::WhileHeld;
@@ -61,7 +61,6 @@ fn is_same(one: &Name, other: &Name) -> bool
     one.bytes() == other.bytes()
 }
 
-#[tactic(auto, using(crate::proofs::Streams::done_with))]
 /// Asks until no lock holds it back, and goes on only where it is applied.
 fn apply<S: Steps<Ask = Ask, Answer = Answer>, C: Clock, P: Pause>(
     steps: &mut S,
@@ -76,19 +75,7 @@ fn apply<S: Steps<Ask = Ask, Answer = Answer>, C: Clock, P: Pause>(
     ensures worn { IfErr result (λ end. end ≡ ends.Worn → S.is_worn steps.new) }
 {
     match ask_until(steps, clock, pause, ask, &WhileHeld, turns) {
-        Ok(Answer::Applied(_)) => Ok(()),
-        Ok(Answer::Refused(refusal)) => Err(FollowEnd::Refused(refusal)),
-        Ok(
-            Answer::Done(_)
-            | Answer::Quiet
-            | Answer::Refuse(_)
-            | Answer::At(_)
-            | Answer::Level(_)
-            | Answer::Item { .. }
-            | Answer::Gone
-            | Answer::Held(_)
-            | Answer::Pruned(_),
-        ) => Err(FollowEnd::NoMemory),
+        Ok(answer) => said_by(answer),
         Err(SessionEnd::Turns) => Err(FollowEnd::Turns),
         Err(SessionEnd::Worn) => Err(FollowEnd::Worn),
         Err(
@@ -97,6 +84,25 @@ fn apply<S: Steps<Ask = Ask, Answer = Answer>, C: Clock, P: Pause>(
             | SessionEnd::WriteFault
             | SessionEnd::BadMessage
             | SessionEnd::NoMemory,
-        ) => Err(FollowEnd::NoMemory),
+        ) => unreachable!(),
+    }
+}
+
+/// What an answer says of its frame.
+fn said_by(answer: Answer) -> Result<(), FollowEnd>
+    ensures { result ≡ said_by answer }
+{
+    match answer {
+        Answer::Applied(_) => Ok(()),
+        Answer::Refused(refusal) => Err(FollowEnd::Refused(refusal)),
+        Answer::Done(_)
+        | Answer::Quiet
+        | Answer::Refuse(_)
+        | Answer::At(_)
+        | Answer::Level(_)
+        | Answer::Item { .. }
+        | Answer::Gone
+        | Answer::Held(_)
+        | Answer::Pruned(_) => Err(FollowEnd::OddAnswer),
     }
 }

@@ -2,7 +2,7 @@ use Rattle.std.proofs.Common.{refl, ◌∙◌, arith}
 use Rattle.link_session.specs.Stands.{asker, stand, stand_with}
 use Rattle.link_session.proofs.Stands.{same_asker, spent_on}
 use Rattle.link_session.proofs.Talking.{nothing_said}
-use Rattle.replica_apply.proofs.Streams.{counted_out, ends_here, one_followed}
+use Rattle.replica_apply.proofs.Streams.{ends_here, one_followed}
 use Rattle.replica_apply.proofs.following.follow_frames.Goals as goal
 
 pub frames-init : goal.frames-init
@@ -42,9 +42,3 @@ frames-preserved g c = record {
       (stand_with g.L.Link c.follow_next.new.frames c.follow_next.new.link (g.S.Steps.entries c.follow_next.new.steps)) c.frames.invariant.spent c.in-Ok.ensures.spent.1;
   count = c.in-Ok.ensures.next.1 ∙ c.frames.invariant.count;
 }
-
-pub returns-clause-frames : goal.returns-clause-frames
-returns-clause-frames g c =
-    counted_out (asker g.S.Steps g.C.Clock c.args.steps.now c.args.clock.now) c.args.name.now c.frames.frames
-    (stand_with g.L.Link c.args.frames.now c.args.link.now (g.S.Steps.entries c.args.steps.now)) (stand g.L.Link c.frames.link (g.S.Steps.entries c.frames.steps))
-    (stand_with g.L.Link c.frames.frames c.frames.link (g.S.Steps.entries c.frames.steps)).place c.frames.turns c.frames.invariant.talked refl refl refl c.frames.invariant.count

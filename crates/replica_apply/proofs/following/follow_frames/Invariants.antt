@@ -1,5 +1,6 @@
 use Rattle.std.proofs.Common.{◌≡◌, ◌≤◌}
 use Rattle.link_session.specs.declared.stage.Stage.TheVariants as stages
+use Rattle.link_session.specs.Reach.{reach}
 use Rattle.link_session.specs.Rounds.{Talked}
 use Rattle.link_session.specs.Stands.{asker, stand_with, AsksOn, Spent}
 use Rattle.replica_apply.specs.Frames.{IsRound}
@@ -19,3 +20,6 @@ invariant-frames g l = record {
       l.turns (stand_with g.L.Link l.frames l.link (g.S.Steps.entries l.steps));
   count : g.L.Link.faults l.link ≡ g.L.Link.faults l.initial.link;
 }
+
+abbrev pub decreases-frames : goal.decreases-frames
+decreases-frames g l = reach l.frames l.turns

@@ -6,7 +6,7 @@ use Rattle.link_session.specs.Stands.{asker, stand, stand_with}
 use Rattle.link_session.specs.Unread.{LeavesUnread}
 use Rattle.stream_wire.specs.Frame.{frame_text}
 use Rattle.replica_apply.specs.Following.{between}
-use Rattle.replica_apply.proofs.Streams.{behind, next_followed, next_stopped}
+use Rattle.replica_apply.proofs.Streams.{behind, falls, next_followed, next_stopped}
 use Rattle.replica_apply.proofs.following.follow_next.Goals as goal
 
 pub returns-in-Err-clause-stops : goal.returns-in-Err-clause-stops
@@ -35,3 +35,8 @@ returns-clause-stops g c =
     (stand g.L.Link c.gather.new.link (g.S.Steps.entries c.follow_frame.new.steps)) c.follow_frame.new.turns c.follow_frame.result
     c.next.ensures.message (subst (λ (n : ℕ). IsFrame n c.gather.new.self.message) c.requires.1 c.in-Ok.ensures.whole.0)
     c.in-Ok.ensures.same.0 c.gather.ensures.taken c.in-Ok.ensures.cause c.follow_frame.ensures.end
+
+pub returns-clause-within : goal.returns-clause-within
+returns-clause-within g c =
+    falls _ _ _ c.args.frames.now c.gather.new.self c.next.new.self _ _ c.follow_frame.result c.in-Ok.ensures.within
+    (subst (λ (n : ℕ). IsFrame n c.gather.new.self.message) c.requires.1 c.in-Ok.ensures.whole.0) c.next.ensures.next c.follow_frame.ensures.spent

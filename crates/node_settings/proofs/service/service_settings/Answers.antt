@@ -1,0 +1,46 @@
+use Rattle.std.proofs.Common.{List, ℕ, IsSomeAnd, codes, Bool}
+use Rattle.toml.specs.View.{table_view}
+use Rattle.node_settings.specs.declared.settings.ServiceSettings.{ServiceSettings}
+use Rattle.node_settings.specs.Configuration.{IsFuse, IsHttp, IsData}
+use Rattle.node_settings.specs.Service.{IsServiceRoot, IsServiceLease}
+use Rattle.node_settings.specs.Values.{section}
+use Rattle.node_settings.proofs.Answering.{passed}
+use Rattle.node_settings.proofs.service.service_settings.Goals as goal
+
+pub returns-in_err-_socket : goal.returns-in_err-_socket
+returns-in_err-_socket c =
+    let root = table_view c.args.root.now in
+    passed (λ (x : List ℕ). IsSomeAnd (section (codes "fuse") root) (λ t. IsFuse t x)) (IsServiceRoot root) _ c.from_residual-in_err-_socket.result
+    (λ (s : ServiceSettings) is. (is.socket, is.fuse)) c.from_residual-in_err-_socket.ensures.1 c.in_err-_socket.ensures
+
+pub returns-in_err-http : goal.returns-in_err-http
+returns-in_err-http c =
+    let root = table_view c.args.root.now in
+    passed (λ (x : List ℕ). IsSomeAnd (section (codes "http") root) (λ t. IsHttp t x)) (IsServiceRoot root) _ c.from_residual-in_err-http.result
+    (λ (s : ServiceSettings) is. (s.http, is.http)) c.from_residual-in_err-http.ensures.1 c.in_err-http.ensures
+
+pub returns-in_err-_kept : goal.returns-in_err-_kept
+returns-in_err-_kept c =
+    let root = table_view c.args.root.now in
+    passed (λ (x : Bool × ℕ). IsSomeAnd (section (codes "data") root) (λ t. IsData t x.0 x.1)) (IsServiceRoot root) _ c.from_residual-in_err-_kept.result
+    (λ (s : ServiceSettings) is. ((is.packed, is.files), is.log)) c.from_residual-in_err-_kept.ensures.1 c.in_err-_kept.ensures
+
+pub returns-in_err-ttl : goal.returns-in_err-ttl
+returns-in_err-ttl c =
+    let root = table_view c.args.root.now in
+    passed (λ (x : ℕ). IsSomeAnd (section (codes "lease") root) (λ t. IsServiceLease t x)) (IsServiceRoot root) _ c.from_residual-in_err-ttl.result
+    (λ (s : ServiceSettings) is. (s.ttl, is.lease)) c.from_residual-in_err-ttl.ensures.1 c.in_err-ttl.ensures
+
+pub returns : goal.returns
+returns c = record {
+  database = c.in_ok-_database._database;
+  socket = c.in_ok-_socket._socket;
+  packed = c.in_ok-_kept._kept.0;
+  files = c.in_ok-_kept._kept.1;
+  keys = c.in_ok-check_root_keys.ensures.ok;
+  named = c.in_ok-_database.ensures;
+  fuse = c.in_ok-_socket.ensures;
+  http = c.in_ok-http.ensures;
+  log = c.in_ok-_kept.ensures;
+  lease = c.in_ok-ttl.ensures;
+}

@@ -1,0 +1,81 @@
+//! The configuration of a lease service read: where it is served, and how long a lease lasts. Every other
+//! key is only checked, where it stands.
+
+ghost use Rattle.std.specs.Prelude.{Some, None, codes, IsSomeAnd};
+ghost use Rattle.toml.specs.View.{table_view};
+ghost use Rattle.node_settings.specs.Answers.{Reads};
+ghost use Rattle.node_settings.specs.Service.{IsServiceConfiguration, IsServiceLease, IsServiceRoot};
+ghost use Rattle.node_settings.specs.Values.{HoldsOr, IsNameText, IsSomeOf, IsText, members_at, section as section_at};
+
+use crate::lease_table::{candidate, check_lease_keys, kind, ttl, url_at};
+use crate::reading::{SIZE_MAX, check_root_keys, http, log, socket};
+use crate::table::{section, value_at};
+use crate::values::{name, text};
+use crate::{ServiceSettings, SettingsFault};
+use lf_base::{Name, Text};
+use std::alloc::Global;
+use toml::Table;
+
+/// What a configuration says to a lease service.
+pub fn read_service_settings(alloc: Global, bytes: &[u8]) -> Result<ServiceSettings, SettingsFault>
+    ensures { Reads (IsServiceConfiguration bytes.now) result }
+{
+    if bytes.len() > SIZE_MAX {
+        return Err(SettingsFault::Config);
+    }
+    match toml::table_from_slice(alloc, bytes) {
+        Ok(root) => service_settings(alloc, &root),
+        Err(error) if error.is_memory() => Err(SettingsFault::NoMemory),
+        Err(_) => Err(SettingsFault::Config),
+    }
+}
+
+fn service_settings(alloc: Global, root: &Table) -> Result<ServiceSettings, SettingsFault>
+    ensures { Reads (IsServiceRoot (table_view root.now)) result }
+{
+    check_root_keys(root)?;
+    let _database = some_database(alloc, root)?;
+    let _socket = socket(alloc, root)?;
+    let http = http(alloc, root)?;
+    let _kept = log(root)?;
+    let ttl = lease_time(alloc, root)?;
+    Ok(ServiceSettings { http, ttl })
+}
+
+fn some_database(alloc: Global, root: &Table) -> Result<Option<Name>, SettingsFault>
+    ensures { Reads (HoldsOr (codes "database") (IsSomeOf IsNameText) None (table_view root.now)) result }
+{
+    match value_at(Some(root), "database") {
+        Some(value) => Ok(Some(name(alloc, value)?)),
+        None => Ok(None),
+    }
+}
+
+/// The table `lease`, of which the time alone is kept.
+fn lease_time(alloc: Global, root: &Table) -> Result<u64, SettingsFault>
+    ensures { Reads (λ time. IsSomeAnd (section_at (codes "lease") (table_view root.now)) (λ t. IsServiceLease t time)) result }
+{
+    let table = section(root, "lease")?;
+    time_of(alloc, table)
+}
+
+fn time_of(alloc: Global, table: Option<&Table>) -> Result<u64, SettingsFault>
+    ensures { Reads (IsServiceLease (members_at table.entry)) result }
+{
+    check_lease_keys(table)?;
+    let _type = kind(table)?;
+    let _candidate = candidate(table)?;
+    let _advertised = url_at(alloc, table, "advertise-url")?;
+    let _hostname = some_hostname(alloc, table)?;
+    let _service = url_at(alloc, table, "service-url")?;
+    ttl(table)
+}
+
+fn some_hostname(alloc: Global, table: Option<&Table>) -> Result<Option<Text>, SettingsFault>
+    ensures { Reads (HoldsOr (codes "hostname") (IsSomeOf IsText) None (members_at table.entry)) result }
+{
+    match value_at(table, "hostname") {
+        Some(value) => Ok(Some(text(alloc, value)?)),
+        None => Ok(None),
+    }
+}
