@@ -9,3 +9,7 @@ pub mod Primaries
 pub mod Tenancies
 pub mod LeasedMoves
 pub mod LeasedNodes
+pub mod Frames
+pub mod Sent
+pub mod Followed
+pub mod TwoNodes
