@@ -10,3 +10,7 @@ pub mod Tenancies
 pub mod LeasedMoves
 pub mod LeasedSteps
 pub mod LeasedNodes
+pub mod Frames
+pub mod Sent
+pub mod Followed
+pub mod TwoNodes

@@ -4,3 +4,4 @@ pub mod ClusterLaws
 pub mod Leased
 pub mod LeasedLaws
 pub mod Service
+pub mod StreamLaw

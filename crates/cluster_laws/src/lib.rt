@@ -6,8 +6,10 @@
 #![tactic(auto)]
 
 mod laws;
+mod link_laws;
 
 pub use laws::{
     cluster_answers_install, cluster_is_safe, cluster_opens, cluster_reader_steady,
     leased_cluster_is_safe, service_leads,
 };
+pub use link_laws::followers_ask_what_was_sent;

@@ -1,0 +1,116 @@
+-- Two nodes on a link.
+use Rattle.std.proofs.Common.{◌≡◌, ◌⊎◌, inl, inr, ℕ, ◌+◌, ◌<◌, ◌≤◌, ◌^◌, List, [], ◌∷◌, ◌++◌, length, get_or, Option, None, Some, refl, sym, ap, ◌∙◌, subst, arith, append_assoc, append-nil, length-append}
+use Rattle.std.specs.Prelude.{Contains}
+use Rattle.std.specs.List.{flat_map, AllByRecursion}
+use Rattle.std.specs.Io.KnownBytes.{Appends}
+use Rattle.std.proofs.lemmas.List.{get_or_append_left, get_or-append-add}
+use Rattle.lf_base.specs.Name.{IsName}
+use Rattle.lf_base.specs.declared.pos.Pos.{Pos}
+use Rattle.lf_base.specs.declared.session_end.SessionEnd.{SessionEnd}
+use Rattle.ltx_codec.specs.declared.file.Ltx.{Ltx}
+use Rattle.ltx_codec.specs.FileIn.{file_in}
+use Rattle.ltx_codec.specs.Format.{IsLtx}
+use Rattle.link_session.specs.Stands.{Asker, Stand}
+use Rattle.world_laws.specs.Node as laws
+use Rattle.world_laws.specs.Premises.{WasSent}
+use Rattle.world_laws.specs.World.{DropFrame, FileFrame, SentFrame, World, sent_by}
+use Rattle.node_core.specs.declared.answer.Answer.{Answer}
+use Rattle.node_core.specs.declared.answer.Answer.TheVariants as answer
+use Rattle.node_core.specs.declared.ask.Ask.{Ask}
+use Rattle.node_core.specs.declared.ask.Ask.TheVariants as ask
+use Rattle.node_core.specs.Deciding.{Decided, is_encoding}
+use Rattle.node_core.specs.Moments.{ask_at}
+use Rattle.node_core.specs.Safely.{law_answer, law_ask, law_frame_by}
+use Rattle.stream_primary.specs.Streaming.{NodeEntry, Streams}
+use Rattle.stream_primary.specs.Telling.{file_of, standing_at}
+use Rattle.stream_primary.proofs.OneRun.{told_front}
+use Rattle.replica_apply.specs.declared.follow_end.FollowEnd.{FollowEnd}
+use Rattle.replica_apply.specs.Following.{Follows}
+use Rattle.cluster_laws.specs.StreamLaw.{AreShort, AsksInOrder, AsksWhatWasSent, Carries, FollowersAskWhatWasSent, HasSent, IsHelloAsk, WereSent, again, asks_of, next, no_more, sent_asks, sent_frames}
+use Rattle.cluster_laws.proofs.Followed.{follower_asked}
+use Rattle.cluster_laws.proofs.Sent.{is_written}
+
+-- ---- elements of two lists
+
+in_front : {X : Type 0} (front back : List X) (x : X) → Contains front x → Contains (front ++ back) x
+in_front front back x c = (c.0, omega (arith, c.1, length-append front back), get_or_append_left front back x c.0 c.1 ∙ c.2)
+
+in_back : {X : Type 0} (front back : List X) (x : X) → Contains back x → Contains (front ++ back) x
+in_back front back x c = (length front + c.0, omega (arith, c.1, length-append front back), get_or-append-add front back c.0 x ∙ c.2)
+
+-- ---- what was sent, in the ledger
+
+-- an ask is of what was sent, at whatever moment
+abbrev IsSentAsk : World → Option Ltx → Ask → Type 0
+IsSentAsk w waits one = (now : ℕ) → WasSent w waits (law_ask (ask_at now one))
+
+in_order_sent : (w : World) (waits : Option Ltx) {asks : List Ask} {entries : List NodeEntry} → AsksInOrder asks entries → AllByRecursion (IsSentAsk w waits) asks → WereSent w waits entries
+in_order_sent w waits no_more all = tt
+in_order_sent w waits (again now is held rest) all = (subst (λ (q : Ask). WasSent w waits (law_ask q)) (sym is) (all.0 now), in_order_sent w waits rest all)
+in_order_sent w waits (next now is rest) all = (subst (λ (q : Ask). WasSent w waits (law_ask q)) (sym is) (all.0 now), in_order_sent w waits rest all.1)
+
+frame_sent : (w : World) (waits : Option Ltx) (bytes : List ℕ) (decided : Decided (IsLtx bytes (file_in bytes))) → Contains w.sent (FileFrame (file_in bytes)) → WasSent w waits (law_frame_by bytes decided)
+frame_sent w waits bytes (inl is) sent = sent
+frame_sent w waits bytes (inr none) sent = tt
+
+-- what a Hello's answer sends
+one_sent : (w : World) (waits : Option Ltx) (pos : Pos) (given : Answer) → ((frame : SentFrame) → Contains (sent_by (laws.Hello pos) (law_answer given)) frame → Contains w.sent frame)
+    → AllByRecursion (IsSentAsk w waits) (asks_of given)
+one_sent w waits pos (answer.Item ltx after) has = (λ now. frame_sent w waits ltx (is_encoding ltx) (has (FileFrame (file_in ltx)) (0, omega arith, refl)), tt)
+one_sent w waits pos answer.Gone has = (λ now. has DropFrame (0, omega arith, refl), tt)
+one_sent w waits pos given has = tt
+
+pub joined : {T : Type 0} (P : T → Type 0) (front back : List T) → AllByRecursion P front → AllByRecursion P back → AllByRecursion P (front ++ back)
+joined P [] back some all = all
+joined P (x ∷ front) back some all = (some.0, joined P front back some.1 all)
+
+pub second : {T : Type 0} (P : T → Type 0) (front back : List T) → AllByRecursion P (front ++ back) → AllByRecursion P back
+second P [] back all = all
+second P (x ∷ front) back all = second P front back all.1
+
+all_sent : (w : World) (waits : Option Ltx) (hellos : List NodeEntry) → AllByRecursion IsHelloAsk hellos → HasSent w hellos → AllByRecursion (IsSentAsk w waits) (sent_asks hellos)
+all_sent w waits [] each has = tt
+all_sent w waits (one ∷ more) each has =
+    let first : List SentFrame = sent_by (law_ask one.ask) (law_answer one.answer) in
+    let as_hello : law_ask one.ask ≡ laws.Hello each.0.1 = ap law_ask each.0.2 in
+    joined (IsSentAsk w waits) (asks_of one.answer) (sent_asks more)
+    (one_sent w waits each.0.1 one.answer
+    (λ frame c. has frame (in_front first (sent_frames more) frame (subst (λ (q : laws.Ask). Contains (sent_by q (law_answer one.answer)) frame) (sym as_hello) c))))
+    (all_sent w waits more each.1 (λ frame c. has frame (in_back first (sent_frames more) frame c)))
+
+-- ---- the law
+
+name_few : (name : List ℕ) → IsName name → length name < 2 ^ 32
+name_few name is = let l = is.fits in omega (arith, l)
+
+known_appends : (a b : Option (List ℕ)) (bytes whole : List ℕ) → a ≡ Some [] → b ≡ Some whole → Appends a b bytes → whole ≡ bytes
+known_appends a b bytes whole none some appends =
+    subst (λ (o : Option (List ℕ)). Appends (Some []) o bytes) some (subst (λ (o : Option (List ℕ)). Appends o b bytes) none appends)
+
+pub ask_what_was_sent : FollowersAskWhatWasSent
+ask_what_was_sent who other name here from budget turns stream_old stream_new old new end how is_name is_here streams follows link shorts =
+    let t = told_front who name from stream_old stream_new turns end streams in
+    let hellos : List NodeEntry = t.0 in
+    let short : AreShort hellos = second (λ (one : NodeEntry). length (file_of one.answer) < 2 ^ 64) stream_old.place.entries hellos (subst AreShort t.2 shorts) in
+    let w = is_written name from hellos (name_few name is_name) short in
+    let sent_is : link.sent ≡ t.1 = known_appends stream_old.place.taken stream_new.place.taken t.1 link.sent link.new link.took t.4 in
+    let lost : List ℕ = link.front.0 in
+    let unsaid : List ℕ = t.5.0 in
+    let beyond : List ℕ = w.2.0 in
+    let x : List ℕ = lost ++ (unsaid ++ beyond) in
+    let whole : link.got ++ x ≡ w.0 =
+    sym (append_assoc link.got lost (unsaid ++ beyond)) ∙ ap (λ (bytes : List ℕ). bytes ++ (unsaid ++ beyond)) (link.front.1 ∙ sent_is)
+    ∙ sym (append_assoc t.1 unsaid beyond) ∙ ap (λ (bytes : List ℕ). bytes ++ beyond) t.5.1 ∙ w.2.1 in
+    let got_few : length link.got < 2 ^ 64 = omega (arith, link.short, ap length link.front.1, length-append link.got lost) in
+    let f = follower_asked other here w.0 x link.got (sent_asks hellos) budget old new how (name_few here is_here) got_few link.gave whole w.1 follows in
+    record {
+      hellos = hellos;
+      told = t.2;
+      each = t.3;
+      place = f.place;
+      asks_where = f.asks_where_it_stands;
+      asked = f.asked;
+      entries = f.entries;
+      in_order = f.in_order;
+      were_sent = λ world waits has. in_order_sent world waits f.in_order (all_sent world waits hellos t.3 has);
+    }
