@@ -2,6 +2,7 @@
 ghost use Rattle.lf_base.specs.Doors.{IsUnused};
 
 mod answers;
+mod calls;
 mod ends;
 mod replies;
 
