@@ -207,6 +207,11 @@ fn replies_of_each_shape(rt: HostRuntime) {
     }
 }
 
+/// The text up to a place.
+fn front<'a>(rt: &impl Abort, text: &'a str, at: usize) -> &'a str {
+    text.get(..at).expect(rt, "a front")
+}
+
 /// Each front of a reply that says its length is unfit, and one without a length only up to its head.
 #[test]
 fn replies_that_are_cut(rt: HostRuntime) {
@@ -216,7 +221,7 @@ fn replies_that_are_cut(rt: HostRuntime) {
         is_told(
             rt,
             rt.alloc(),
-            &(&sized[..at], true, 5, Err(Untold::Unfit), ""),
+            &(front(&rt, sized, at), true, 5, Err(Untold::Unfit), ""),
             7,
         );
     }
@@ -225,7 +230,7 @@ fn replies_that_are_cut(rt: HostRuntime) {
         is_told(
             rt,
             rt.alloc(),
-            &(&head[..at], false, 5, Err(Untold::Unfit), ""),
+            &(front(&rt, head, at), false, 5, Err(Untold::Unfit), ""),
             7,
         );
     }
