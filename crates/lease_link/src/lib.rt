@@ -1,0 +1,20 @@
+//! Leases over HTTP: the service on a link, and a node's rounds with it.
+//!
+//! It knows no node: what a machine is asked for news is the caller's (`Bringing`).
+#![tactic(auto)]
+
+mod answering;
+mod bringing;
+mod giving_up;
+mod keep_end;
+mod keeping;
+mod learned;
+mod learning;
+mod seat;
+
+pub use answering::{answer, status_of};
+pub use bringing::Bringing;
+pub use keep_end::KeepEnd;
+pub use learned::Learned;
+pub use learning::{learn, round_ask};
+pub use seat::{give_up_lease, keep_lease};
