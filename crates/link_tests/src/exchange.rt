@@ -16,6 +16,11 @@ use stream_wire::Call;
 /// The request of each exchange here, whose body stands in two parts.
 const REQUEST: &[u8] = b"POST /tx HTTP/1.1\r\nHost: a:1\r\nContent-Length: 9\r\n\r\nfrontback";
 
+/// The text up to a place.
+fn front<'a>(rt: &impl Abort, text: &'a str, at: usize) -> &'a str {
+    text.get(..at).expect(rt, "a front")
+}
+
 /// A link that gives this input in pieces of a size, has room for so many bytes, and fails at the call
 /// of this number.
 fn link_of(

@@ -1,7 +1,7 @@
 //! Requests read at the answering end.
 ghost use Rattle.link_tests.specs.Wanted.{wanted_of};
 
-use super::link_of;
+use super::{front, link_of};
 use crate::same::same;
 use http_exchange::{Body, Called, Kept, Wants, read_call};
 use lf_base::SessionEnd;
@@ -101,7 +101,8 @@ const REQUESTS: &[Row] = &[
 ];
 
 fn fate_of(alloc: Global, called: Called) -> (Fate, Vec<u8>) {
-    match called.body {
+    let Called { call: _, body } = called;
+    match body {
         Body::Whole(bytes) => (Fate::Whole, bytes.into_vec()),
         Body::Passed => (Fate::Passed, Vec::new(alloc)),
         Body::Unread => (Fate::Unread, Vec::new(alloc)),
@@ -143,6 +144,6 @@ fn requests_that_are_cut(rt: HostRuntime) {
         } else {
             SessionEnd::BadMessage
         };
-        is_read(rt, rt.alloc(), &(&request[..at], Err(end), ""), 7);
+        is_read(rt, rt.alloc(), &(front(&rt, request, at), Err(end), ""), 7);
     }
 }

@@ -1,5 +1,5 @@
 //! Replies of each shape, whole and cut at each byte.
-use super::{REQUEST, Taken, ask, dialer_of, link_of};
+use super::{REQUEST, Taken, ask, dialer_of, front, link_of};
 use crate::same::same;
 use http_exchange::Untold;
 use lf_base::Handles;
@@ -205,11 +205,6 @@ fn replies_of_each_shape(rt: HostRuntime) {
             is_told(rt, rt.alloc(), row, size);
         }
     }
-}
-
-/// The text up to a place.
-fn front<'a>(rt: &impl Abort, text: &'a str, at: usize) -> &'a str {
-    text.get(..at).expect(rt, "a front")
 }
 
 /// Each front of a reply that says its length is unfit, and one without a length only up to its head.
