@@ -1,0 +1,9 @@
+pub mod BodySizes
+pub mod Readings
+pub mod Exchanges
+pub mod Talk
+pub mod Gathering
+pub mod Course
+pub mod Lists
+pub mod Names
+pub mod Faults
