@@ -3,14 +3,17 @@ use Rattle.std.proofs.Common.{◌≡◌, ⊎_elim, inl, inr, ◌⊎◌, ℕ, ◌
 use Rattle.std.specs.Io.KnownBytes.{Appends, Keeps}
 use Rattle.std.proofs.KnownBytes.{Appends-nil, Appends-trans, Consumes-nil}
 use Rattle.lf_base.specs.Faults.{Rose}
+use Rattle.fuse_msgs.specs.declared.reply.Reply.TheVariants as reply
 use Rattle.fuse_msgs.specs.declared.request.Request.{Request}
 use Rattle.fuse_msgs.specs.Encoding.{request_bytes}
 use Rattle.run_child.specs.declared.child_end.ChildEnd.{ChildEnd}
+use Rattle.run_child.specs.declared.closing.Closing.{Closing}
 use Rattle.run_child.specs.declared.child_end.ChildEnd.TheVariants as ends
+use Rattle.run_child.specs.Closing.{IsClosing}
 use Rattle.run_child.specs.Course.{IsFound, IsOpened, IsGranted, StopsEarly, at_init, at_look_up, at_open, at_lock, Closes, RanUnderLock, FailedUnderLock, NoneStarted, Ends}
 use Rattle.run_child.specs.Requests.{destroy, init, last_three, look_up, open_file, release, seven, take_lock, unlock}
 use Rattle.run_child.specs.Started.{Started, TellsOne, TellsSame}
-use Rattle.run_child.specs.Starts.{Book}
+use Rattle.run_child.specs.Starts.{Book, Tries}
 use Rattle.run_child.specs.Talk.{AppendsPart, Asked, IsCutOff, IsMisread, IsStill, IsWaiting, Place, Stopped, Wrote, Heard, cut, unfit}
 use Rattle.run_child.specs.Whole.{StartsOnce, WritesFront, none, one}
 use Rattle.run_child.proofs.Faults.{rose_later}
@@ -90,25 +93,46 @@ stopped_front request a b ends.NotStarted s = absurd s
 front_at : (name : List ℕ) (node fh : ℕ) (old new : Place) → Front (seven name node fh) old.taken new.taken → WritesFront name old new
 front_at name node fh old new f = record { node = node; fh = fh; bytes = f.bytes; more = f.more; written = f.written; front = f.front }
 
+-- the requests from the fourth on, from the third, from the second
+abbrev from_lock : ℕ → ℕ → List ℕ
+from_lock node fh = request_bytes (take_lock node fh) ++ last_three node fh
+
+abbrev from_open : ℕ → ℕ → List ℕ
+from_open node fh = request_bytes (open_file node) ++ from_lock node fh
+
+abbrev from_look_up : List ℕ → ℕ → ℕ → List ℕ
+from_look_up name node fh = request_bytes (look_up name) ++ from_open node fh
+
+at_second : (name : List ℕ) (node fh : ℕ) (old p new : Place) → Asked init reply.Init old p
+    → Front (from_look_up name node fh) p.taken new.taken → WritesFront name old new
+at_second name node fh old p new a f = front_at name node fh old new
+    (behind (request_bytes init) (from_look_up name node fh) old.taken p.taken new.taken a.sent.written f)
+
+at_third : (name : List ℕ) (node fh : ℕ) (old p new : Place) → IsFound name node old p
+    → Front (from_open node fh) p.taken new.taken → WritesFront name old new
+at_third name node fh old p new i f = at_second name node fh old i.begun new i.first
+    (behind (request_bytes (look_up name)) (from_open node fh) i.begun.taken p.taken new.taken i.second.sent.written f)
+
+at_fourth : (name : List ℕ) (node fh : ℕ) (old p new : Place) → IsOpened name node fh old p
+    → Front (from_lock node fh) p.taken new.taken → WritesFront name old new
+at_fourth name node fh old p new o f = at_third name node fh old o.found new o.before
+    (behind (request_bytes (open_file node)) (from_lock node fh) o.found.taken p.taken new.taken o.third.sent.written f)
+
 early_front : (name : List ℕ) (old new : Place) (end : ChildEnd) → StopsEarly name old new end → WritesFront name old new
-early_front name old new end (at_init s) = front_at name 0 0 old new (front_of _ _ _ _ (stopped_front init old new end s))
-early_front name old new end (at_look_up p a s) =
-    front_at name 0 0 old new (behind _ _ _ p.taken _ a.sent.written (front_of _ _ _ _ (stopped_front (look_up name) p new end s)))
-early_front name old new end (at_open node p f s) =
-    front_at name node 0 old new (behind _ _ _ f.begun.taken _ f.first.sent.written (behind _ _ _ p.taken _ f.second.sent.written
-    (front_of _ _ _ _ (stopped_front (open_file node) p new end s))))
-early_front name old new end (at_lock node fh p o s) =
-    front_at name node fh old new (behind _ _ _ o.before.begun.taken _ o.before.first.sent.written
-    (behind _ _ _ o.found.taken _ o.before.second.sent.written (behind _ _ _ p.taken _ o.third.sent.written
-    (front_of _ _ _ _ (stopped_front (take_lock node fh) p new end s)))))
+early_front name old new end (at_init s) = front_at name 0 0 old new
+    (front_of (request_bytes init) (from_look_up name 0 0) old.taken new.taken (stopped_front init old new end s))
+early_front name old new end (at_look_up p a s) = at_second name 0 0 old p new a
+    (front_of (request_bytes (look_up name)) (from_open 0 0) p.taken new.taken (stopped_front (look_up name) p new end s))
+early_front name old new end (at_open node p f s) = at_third name node 0 old p new f
+    (front_of (request_bytes (open_file node)) (from_lock node 0) p.taken new.taken (stopped_front (open_file node) p new end s))
+early_front name old new end (at_lock node fh p o s) = at_fourth name node fh old p new o
+    (front_of (request_bytes (take_lock node fh)) (last_three node fh) p.taken new.taken (stopped_front (take_lock node fh) p new end s))
 
 granted_front : (name : List ℕ) (node fh : ℕ) (old locked new : Place) → IsGranted name node fh old locked → Closes node fh locked new
     → WritesFront name old new
-granted_front name node fh old locked new g c =
-    let o = g.before in
-    front_at name node fh old new (behind _ _ _ o.before.begun.taken _ o.before.first.sent.written
-    (behind _ _ _ o.found.taken _ o.before.second.sent.written (behind _ _ _ g.opened.taken _ o.third.sent.written
-    (behind _ _ _ locked.taken _ g.fourth.sent.written (wrote_front _ locked new c)))))
+granted_front name node fh old locked new g c = at_fourth name node fh old g.opened new g.before
+    (behind (request_bytes (take_lock node fh)) (last_three node fh) g.opened.taken locked.taken new.taken g.fourth.sent.written
+    (wrote_front (last_three node fh) locked new c))
 
 pub front_written : (name : List ℕ) (words : List (List ℕ)) (old new : Place) (book book_now : Book) (end : ChildEnd)
     → Ends name words old new book book_now end → WritesFront name old new
@@ -140,3 +164,50 @@ started_once name words old new book book_now ends.Turns e = same_book name word
 started_once name words old new book book_now ends.ReadFault e = same_book name words old book book_now e.same
 started_once name words old new book book_now ends.WriteFault e = same_book name words old book book_now e.same
 started_once name words old new book book_now ends.NoMemory e = same_book name words old book book_now e.same
+
+-- ---- how a run ends
+
+no_end : (name : List ℕ) (old new : Place) (status : ℕ) → StopsEarly name old new (ends.Ended status) → ⊥
+no_end name old new status (at_init s) = s
+no_end name old new status (at_look_up p a s) = s
+no_end name old new status (at_open node p f s) = s
+no_end name old new status (at_lock node fh p o s) = s
+
+no_start : (name : List ℕ) (old new : Place) → StopsEarly name old new ends.NotStarted → ⊥
+no_start name old new (at_init s) = s
+no_start name old new (at_look_up p a s) = s
+no_start name old new (at_open node p f s) = s
+no_start name old new (at_lock node fh p o s) = s
+
+pub early_end : (name : List ℕ) (words : List (List ℕ)) (old new : Place) (book : Book) (end : ChildEnd) → StopsEarly name old new end
+    → Ends name words old new book book end
+early_end name words old new book (ends.Ended status) s = absurd (no_end name old new status s)
+early_end name words old new book ends.NotStarted s = absurd (no_start name old new s)
+early_end name words old new book (ends.Refused errno) s = record { stopped = s; same = refl }
+early_end name words old new book ends.BadMessage s = record { stopped = s; same = refl }
+early_end name words old new book ends.Turns s = record { stopped = s; same = refl }
+early_end name words old new book ends.ReadFault s = record { stopped = s; same = refl }
+early_end name words old new book ends.WriteFault s = record { stopped = s; same = refl }
+early_end name words old new book ends.NoMemory s = record { stopped = s; same = refl }
+
+pub closing_is : (node fh : ℕ) (closing : Closing) (old new : Place) → IsClosing node fh closing
+    → Wrote (closing.unlock ++ closing.release ++ closing.destroy) old new → Closes node fh old new
+closing_is node fh closing old new i w =
+    subst (λ text. Wrote text old new)
+    (ap (λ t. t ++ closing.release ++ closing.destroy) i.unlock_is
+    ∙ ap (λ t. request_bytes (unlock node fh) ++ t ++ closing.destroy) i.release_is
+    ∙ ap (λ t. request_bytes (unlock node fh) ++ request_bytes (release node fh) ++ t) i.destroy_is) w
+
+pub held_end : (name : List ℕ) (words : List (List ℕ)) (node fh : ℕ) (old locked new : Place) (book book_now : Book) (end : ChildEnd)
+    → IsGranted name node fh old locked → Tries words book book_now end → Closes node fh locked new
+    → Ends name words old new book book_now end
+held_end name words node fh old locked new book book_now (ends.Ended status) g t c =
+    record { node = node; fh = fh; locked = locked; granted = g; started = t.0; well = t.1; closed = c }
+held_end name words node fh old locked new book book_now ends.NotStarted g t c =
+    record { node = node; fh = fh; locked = locked; granted = g; started = t.0; failed = t.1; closed = c }
+held_end name words node fh old locked new book book_now (ends.Refused errno) g t c = absurd t
+held_end name words node fh old locked new book book_now ends.BadMessage g t c = absurd t
+held_end name words node fh old locked new book book_now ends.Turns g t c = absurd t
+held_end name words node fh old locked new book book_now ends.ReadFault g t c = absurd t
+held_end name words node fh old locked new book book_now ends.WriteFault g t c = absurd t
+held_end name words node fh old locked new book book_now ends.NoMemory g t c = absurd t

@@ -7,3 +7,4 @@ pub mod Course
 pub mod Lists
 pub mod Names
 pub mod Faults
+pub mod Filled

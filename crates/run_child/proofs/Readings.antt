@@ -2,14 +2,15 @@
 use Rattle.std.proofs.Common.{◌≡◌, ◌⊎◌, inl, inr, ℕ, Bool, true, false, List, Result, Ok, Err, refl, sym, ap, ◌∙◌, subst}
 use Rattle.std.specs.Prelude.{if◌then◌else◌, not, length, ◌==◌, ◌&&◌, ◌-◌}
 use Rattle.fuse_msgs.specs.declared.request.Op.{Op}
+use Rattle.fuse_msgs.specs.declared.request.Request.{Request}
 use Rattle.fuse_msgs.specs.declared.reply.Reply.{Reply}
 use Rattle.fuse_msgs.specs.declared.reply.Reply.TheVariants as reply
 use Rattle.run_child.specs.declared.replies.BadReply.{BadReply}
 use Rattle.run_child.specs.declared.replies.BadReply.TheVariants as bad
 use Rattle.run_child.specs.Filling.{IsNoError}
-use Rattle.run_child.specs.Replies.{body_of, error_of, is_errno, len_of, reading, refused, said, sized}
+use Rattle.run_child.specs.Replies.{TakesBytes, body_of, error_of, is_errno, len_of, reading, refused, said, sized}
 use Rattle.run_child.specs.Requests.{init, look_up, open_file, take_lock}
-use Rattle.run_child.specs.Talk.{Asked, Place}
+use Rattle.run_child.specs.Talk.{Asked, IsUnfit, Place, by_form}
 
 by_test : (b : Bool) (given answer : Reply) (fault : BadReply) → (if b then Ok given else Err fault) ≡ Ok answer → given ≡ answer
 by_test true given answer fault e = cc
@@ -62,3 +63,13 @@ open_answer node answer old new a h = (_, sym (sized_gives _ _ _ answer (reading
 pub lock_answer : (node fh : ℕ) (answer : Reply) (old new : Place) → Asked (take_lock node fh) answer old new → IsNoError answer
     → answer ≡ reply.Empty
 lock_answer node fh answer old new a h = sym (sized_gives _ _ _ answer (reading_gives _ a.bytes answer a.says.reads h))
+
+-- ---- bytes that are no reply
+
+pub unfit_by_form : (request : Request) (bytes : List ℕ) (r : Result Reply BadReply) (fault : BadReply)
+    → (r ≡ reading request.op bytes) ⊎ (r ≡ Err bad.NoMemory) → (r ≡ Err bad.NoMemory → TakesBytes request.op) → (TakesBytes request.op → ⊥)
+    → r ≡ Err fault → IsUnfit request bytes
+unfit_by_form request bytes r fault read memory plain is = elim read [
+  | inl e ↦ by_form fault (sym e ∙ is)
+  | inr e ↦ absurd (plain (memory e))
+]

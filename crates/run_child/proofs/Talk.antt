@@ -1,5 +1,6 @@
 -- A request and what comes of it.
-use Rattle.std.proofs.Common.{◌≡◌, ℕ, ◌+◌, ◌<◌, ◌≤◌, List, [], ◌++◌, length, take, Option, Some, None, refl, sym, ap, ◌∙◌, subst, arith, append-nil}
+use Rattle.std.proofs.Common.{◌≡◌, ℕ, ◌+◌, ◌<◌, ◌≤◌, List, [], ◌++◌, length, take, Option, Some, None, Result, Ok, Err, refl, sym, ap, ◌∙◌, subst, arith, append-nil}
+use Rattle.std.specs.Prelude.{IfOk, IfErr}
 use Rattle.std.specs.Io.KnownBytes.{Appends, Consumes, Keeps}
 use Rattle.std.proofs.KnownBytes.{Consumes-nil, Consumes-trans}
 use Rattle.lf_base.specs.Faults.{Rose}
@@ -91,3 +92,30 @@ unfilled_from request why.ReadFault a b c i g =
 pub cut_off : (request : Request) (a b : Place) → AppendsPart a.taken b.taken (request_bytes request) → Keeps a.left b.left
     → b.room ≡ a.room → IsCutOff request a b
 cut_off request a b p k r = record { written = p; heard = record { read = kept a.left b.left k; counted = sym r } }
+
+-- ---- what the judgement of a reply gives
+
+pub asked_of : (request : Request) (bytes : List ℕ) (a b c : Place) (r : Result Reply ChildEnd) → IsBetween request a b c
+    → IsGathered request.op bytes b c → IfOk r (Says request bytes) → IfOk r (λ answer. Asked request answer a c)
+asked_of request bytes a b c (Ok answer) i g s = asked_from request bytes answer a b c i g s
+asked_of request bytes a b c (Err end) i g s = tt
+
+pub judged_of : (request : Request) (bytes : List ℕ) (a b c : Place) (r : Result Reply ChildEnd) → IsBetween request a b c
+    → IsGathered request.op bytes b c → IfErr r (IsJudged request bytes) → IfErr r (Stopped request a c)
+judged_of request bytes a b c (Ok answer) i g j = tt
+judged_of request bytes a b c (Err end) i g j = judged_from request bytes end a b c i g j
+
+-- memory ran out before anything was sent
+pub out_of_memory : (request : Request) (p : Place) → Stopped request p p ends.NoMemory
+out_of_memory request p = (still_here p, refl)
+
+-- ---- the same request and answer, by another name
+
+pub asked_same : (r s : Request) (x y : Reply) (a b : Place) → r ≡ s → x ≡ y → Asked r x a b → Asked s y a b
+asked_same r s x y a b p q h = subst (λ (t : Request). Asked t y a b) p (subst (λ (z : Reply). Asked r z a b) q h)
+
+pub stopped_same : (r s : Request) (a b : Place) (end : ChildEnd) → r ≡ s → Stopped r a b end → Stopped s a b end
+stopped_same r s a b end p h = subst (λ (t : Request). Stopped t a b end) p h
+
+pub memory_stops : (request : Request) (p : Place) (end : ChildEnd) → end ≡ ends.NoMemory → Stopped request p p end
+memory_stops request p end e = subst (λ (x : ChildEnd). Stopped request p p x) (sym e) (out_of_memory request p)

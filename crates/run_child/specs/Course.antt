@@ -1,5 +1,5 @@
 -- How a run goes, and how it ends.
-use Rattle.std.specs.Prelude.{◌≡◌, ℕ, List}
+use Rattle.std.specs.Prelude.{◌≡◌, ℕ, List, Option}
 use Rattle.lf_base.specs.Faults.{Rose}
 use Rattle.fuse_msgs.specs.declared.reply.Reply.TheVariants as reply
 use Rattle.run_child.specs.declared.child_end.ChildEnd.{ChildEnd}
@@ -27,6 +27,10 @@ pub record IsGranted (name : List ℕ) (node fh : ℕ) (old new : Place) : Type 
   pub opened : Place
   pub before : IsOpened name node fh old opened
   pub fourth : Asked (take_lock node fh) reply.Empty opened new
+
+-- a starter may be asked wherever the lock was granted
+abbrev pub StartsUnder : List ℕ → Place → (Option (List ℕ) → Type 0) → Type 0
+StartsUnder name old may_start = (node fh : ℕ) (locked : Place) → IsGranted name node fh old locked → may_start locked.taken
 
 -- one of the first four requests has no answer but an error, and those before it were answered
 pub data StopsEarly (name : List ℕ) (old new : Place) (end : ChildEnd) : Type 0 where

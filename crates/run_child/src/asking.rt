@@ -31,13 +31,13 @@ pub fn ask<L: Link>(
     ensures stopped { IfErr result (Stopped request.now (place L.Link link.old room.old) (place L.Link link.new room.new)) }
 {
     let message = message_of(alloc, request)?;
-    if send(link, message.as_slice()).is_err() {
-        return Err(ChildEnd::WriteFault);
-    }
     let mut bytes = [0u8; REPLY_MAX];
-    match gather(link, &mut bytes, &request.op, room) {
-        Ok(count) => judge(alloc, &bytes[..count], request),
-        Err(why) => Err(why.end()),
+    match send(link, message.as_slice()) {
+        Ok(()) => match gather(link, &mut bytes, &request.op, room) {
+            Ok(count) => judge(alloc, &bytes[..count], request),
+            Err(why) => Err(why.end()),
+        },
+        Err(_) => Err(ChildEnd::WriteFault),
     }
 }
 

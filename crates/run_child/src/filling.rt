@@ -34,6 +34,7 @@ impl Unfilled {
 }
 
 /// Reads until `out` is full.
+#[tactic(auto, using(crate::proofs::Filled::part_spent, crate::proofs::Filled::part_ended, crate::proofs::Filled::part_failed, crate::proofs::Lists::take_self))]
 pub fn fill<L: Link>(link: &mut L, out: &mut [u8], room: &mut u64) -> Result<(), Unfilled>
     ensures size { length out.new ≡ length out.old }
     ensures whole { OnOk result (Heard out.new (place L.Link link.old room.old) (place L.Link link.new room.new) × (L.faults link.new ≡ L.faults link.old)) }

@@ -3,7 +3,7 @@ ghost use Rattle.lf_base.specs.Faults.{CountsFaults, Rose, one_more};
 ghost use Rattle.run_child.specs.Started.{TellsOne, TellsSame};
 
 use crate::starter::Starter;
-use lf_base::{Failed, NoMemory, Text};
+use lf_base::{Failed, Link, NoMemory, Text};
 use std::alloc::Global;
 use std::marker::Model;
 use std::process::Processes;
@@ -85,7 +85,7 @@ impl ListStarter {
         ensures planned { IsTrue result ↔ Contains self.old.failing self.old.calls }
         ensures counted { self.new ≡ record self.old { calls = one_more self.old.calls } }
     {
-        let fails = self.failing.contains(&self.calls);
+        let fails = is_among(self.failing.as_slice(), self.calls);
         self.calls = self.calls.saturating_add(1);
         fails
     }
@@ -113,6 +113,12 @@ impl ListStarter {
     }
 }
 
+fn is_among(numbers: &[u64], number: u64) -> bool
+    ensures { IsTrue result ↔ Contains numbers.now number }
+{
+    numbers.contains(&number)
+}
+
 /// The same words once more.
 fn copies_of(alloc: Global, words: &[Text]) -> Result<Vec<Text>, NoMemory>
     ensures { IfOk result (λ copies. copies.items ≡ words.now) }
@@ -129,7 +135,7 @@ impl Starter for ListStarter {
 
     ghost faults = { λ s. s.faults };
 
-    fn start<R: Processes>(&mut self, rt: &R, words: &[Text]) -> Result<u8, Failed>
+    fn start<R: Processes, L: Link>(&mut self, rt: &R, link: &L, words: &[Text]) -> Result<u8, Failed>
         ensures told { MatchResult result (λ n. TellsOne (Some self.old.told) (Some self.new.told) (record { words = words.now; gave = n })) (λ _. TellsSame (Some self.old.told) (Some self.new.told)) }
         ensures cause { CountsFaults self.old.faults self.new.faults result }
 

@@ -2,7 +2,7 @@ ghost use Rattle.std.specs.Prelude.{◌≡◌, ℤ, pos, Option, None, MatchOpti
 ghost use Rattle.std.specs.Process.{exit_code};
 
 use crate::starter::Starter;
-use lf_base::{Failed, Text};
+use lf_base::{Failed, Link, Text};
 use std::alloc::Global;
 use std::io;
 use std::process::{Command, ExitStatus, Processes};
@@ -29,7 +29,7 @@ impl Starter for ProcessStarter {
     ghost faults = { λ s. s.faults };
 
     /// No words name no program, which is a fault too.
-    fn start<R: Processes>(&mut self, rt: &R, words: &[Text]) -> Result<u8, Failed> {
+    fn start<R: Processes, L: Link>(&mut self, rt: &R, link: &L, words: &[Text]) -> Result<u8, Failed> {
         match run_words(self.alloc, rt, words) {
             Ok(Some(status)) => Ok(status_number(status)),
             _ => {
