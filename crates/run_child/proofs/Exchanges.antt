@@ -55,21 +55,34 @@ message_read asked error unique body hl he =
 
 -- ---- the bodies
 
+-- a reply whose numbers are these
+abbrev gives : Reply → Result Reply BadReply
+gives answer = Ok answer
+
+one_same : (f : ℕ → Reply) (a x : ℕ) → a ≡ x → gives (f a) ≡ gives (f x)
+one_same f a x p = ap (λ (n : ℕ). gives (f n)) p
+
+two_same : (f : ℕ → ℕ → Reply) (a b x y : ℕ) → a ≡ x → b ≡ y → gives (f a b) ≡ gives (f x y)
+two_same f a b x y p q = ap (λ (n : ℕ). gives (f n b)) p ∙ ap (λ (n : ℕ). gives (f x n)) q
+
+three_same : (f : ℕ → ℕ → ℕ → Reply) (a b c x y z : ℕ) → a ≡ x → b ≡ y → c ≡ z → gives (f a b c) ≡ gives (f x y z)
+three_same f a b c x y z p q r = ap (λ (n : ℕ). gives (f n b c)) p ∙ two_same (f x) b c y z q r
+
 entry_said : (name : List ℕ) (node size : ℕ) → node < 2 ^ 64 → size < 2 ^ 64
     → spec.said (op.Lookup name) (entry_out node size) ≡ Ok (reply.Entry node size)
 unfolding le32 le64 zeros le64_at
 entry_said name node size hn hs =
-    ap (λ n. Ok (reply.Entry n _)) (from_le_bytes-to_le_bytes_8 node hn) ∙ ap (λ n. Ok (reply.Entry node n)) (from_le_bytes-to_le_bytes_8 size hs)
+    two_same (λ a b. reply.Entry a b) _ _ node size (from_le_bytes-to_le_bytes_8 node hn) (from_le_bytes-to_le_bytes_8 size hs)
 
 attr_said : (node size : ℕ) → node < 2 ^ 64 → size < 2 ^ 64
     → spec.said op.Getattr (attr_out node size) ≡ Ok (reply.Attr node size)
 unfolding le32 le64 zeros le64_at
 attr_said node size hn hs =
-    ap (λ n. Ok (reply.Attr n _)) (from_le_bytes-to_le_bytes_8 node hn) ∙ ap (λ n. Ok (reply.Attr node n)) (from_le_bytes-to_le_bytes_8 size hs)
+    two_same (λ a b. reply.Attr a b) _ _ node size (from_le_bytes-to_le_bytes_8 node hn) (from_le_bytes-to_le_bytes_8 size hs)
 
 opened_said : (fh : ℕ) → fh < 2 ^ 64 → spec.said op.Open (open_out fh) ≡ Ok (reply.Opened fh)
 unfolding le32 le64 zeros le64_at
-opened_said fh h = ap (λ n. Ok (reply.Opened n)) (from_le_bytes-to_le_bytes_8 fh h)
+opened_said fh h = one_same (λ a. reply.Opened a) _ fh (from_le_bytes-to_le_bytes_8 fh h)
 
 read_said : (fh at size : ℕ) (owner : Option ℕ) (bytes : List ℕ) → length bytes ≤ size
     → spec.said (op.Read fh at size owner) bytes ≡ Ok (reply.Bytes bytes)
@@ -78,7 +91,7 @@ read_said fh at size owner bytes h = rw (le-leb (length bytes) size h) refl
 written_said : (fh at : ℕ) (owner : Option ℕ) (bytes : List ℕ) (size : ℕ) → size < 2 ^ 32
     → spec.said (op.Write fh at owner bytes) (write_out size) ≡ Ok (reply.Written size)
 unfolding le32 zeros le32_at
-written_said fh at owner bytes size h = ap (λ n. Ok (reply.Written n)) (from_le_bytes-to_le_bytes_4 size h)
+written_said fh at owner bytes size h = one_same (λ a. reply.Written a) _ size (from_le_bytes-to_le_bytes_4 size h)
 
 init_said : (major minor : ℕ) → spec.said (op.Init major minor) init_out ≡ Ok reply.Init
 unfolding le16 le32 zeros
@@ -94,22 +107,27 @@ type_fits wish.Read = lit< tt
 type_fits wish.Write = lit< tt
 type_fits wish.Unlock = lit< tt
 
+lock_same : (a b c x y : ℕ) (held : LockWish) → a ≡ x → b ≡ y → c ≡ lock_type held
+    → spec.lock_said a b (spec.wish_named c) ≡ Ok (reply.Lock x y held)
+lock_same a b c x y held p q r =
+    ap (λ (n : ℕ). spec.lock_said n b (spec.wish_named c)) p
+    ∙ ap (λ (n : ℕ). spec.lock_said x n (spec.wish_named c)) q
+    ∙ ap (λ (n : ℕ). spec.lock_said x y (spec.wish_named n)) r
+    ∙ ap (λ (k : Option LockWish). spec.lock_said x y k) (kind_named held)
+
 lock_said : (fh owner start end : ℕ) (kind : LockWish) (first last : ℕ) (held : LockWish) → first < 2 ^ 64 → last < 2 ^ 64
     → spec.said (op.Getlk fh owner start end kind) (lk_out first last held) ≡ Ok (reply.Lock first last held)
 unfolding le32 le64 zeros le32_at le64_at
 lock_said fh owner start end kind first last held hf hl =
-    ap (λ n. spec.lock_said n _ _) (from_le_bytes-to_le_bytes_8 first hf)
-    ∙ ap (λ n. spec.lock_said first n _) (from_le_bytes-to_le_bytes_8 last hl)
-    ∙ ap (λ n. spec.lock_said first last (spec.wish_named n)) (from_le_bytes-to_le_bytes_4 (lock_type held) (type_fits held))
-    ∙ ap (λ k. spec.lock_said first last k) (kind_named held)
+    lock_same _ _ _ first last held (from_le_bytes-to_le_bytes_8 first hf) (from_le_bytes-to_le_bytes_8 last hl)
+    (from_le_bytes-to_le_bytes_4 (lock_type held) (type_fits held))
 
 created_said : (name : List ℕ) (node size fh : ℕ) → node < 2 ^ 64 → size < 2 ^ 64 → fh < 2 ^ 64
     → spec.said (op.Create name) (entry_out node size ++ open_out fh) ≡ Ok (reply.Created node size fh)
 unfolding le32 le64 zeros le64_at
 created_said name node size fh hn hs hf =
-    ap (λ n. Ok (reply.Created n _ _)) (from_le_bytes-to_le_bytes_8 node hn)
-    ∙ ap (λ n. Ok (reply.Created node n _)) (from_le_bytes-to_le_bytes_8 size hs)
-    ∙ ap (λ n. Ok (reply.Created node size n)) (from_le_bytes-to_le_bytes_8 fh hf)
+    three_same (λ a b c. reply.Created a b c) _ _ _ node size fh (from_le_bytes-to_le_bytes_8 node hn) (from_le_bytes-to_le_bytes_8 size hs)
+    (from_le_bytes-to_le_bytes_8 fh hf)
 
 plain_said : (plain : Op) → IsPlain plain → spec.said plain [] ≡ Ok reply.Empty
 plain_said (op.Lookup name) h = absurd h
@@ -147,15 +165,23 @@ refused_said any errno low high =
 
 pub exchange_read : (asked : Op) (answer : Reply) (unique : ℕ) → Exchange asked answer → spec.reading asked (reply_bytes answer unique) ≡ Ok answer
 unfolding reply_bytes le16 le32 le64 zeros
-exchange_read _ _ unique (looked_up name node size hn hs) = good _ unique _ _ (lit< tt) (entry_said name node size hn hs)
-exchange_read _ _ unique (told node size hn hs) = good _ unique _ _ (lit< tt) (attr_said node size hn hs)
-exchange_read _ _ unique (set want owner node size hn hs) = good _ unique _ _ (lit< tt) (attr_said node size hn hs)
-exchange_read _ _ unique (opened fh h) = good _ unique _ _ (lit< tt) (opened_said fh h)
-exchange_read _ _ unique (read fh at size owner bytes h l) = good _ unique _ _ (omega (arith, l)) (read_said fh at size owner bytes h)
-exchange_read _ _ unique (written fh at owner bytes size h) = good _ unique _ _ (lit< tt) (written_said fh at owner bytes size h)
-exchange_read _ _ unique (begun major minor) = good _ unique _ _ (lit< tt) (init_said major minor)
-exchange_read _ _ unique (found fh owner start end kind first last held hf hl) = good _ unique _ _ (lit< tt) (lock_said fh owner start end kind first last held hf hl)
-exchange_read _ _ unique (created name node size fh hn hs hf) = good _ unique _ _ (lit< tt) (created_said name node size fh hn hs hf)
-exchange_read _ _ unique (done plain h) = good _ unique _ _ (lit< tt) (plain_said plain h)
+exchange_read _ _ unique (looked_up name node size hn hs) =
+    good (op.Lookup name) unique (entry_out node size) (reply.Entry node size) (lit< tt) (entry_said name node size hn hs)
+exchange_read _ _ unique (told node size hn hs) =
+    good op.Getattr unique (attr_out node size) (reply.Attr node size) (lit< tt) (attr_said node size hn hs)
+exchange_read _ _ unique (set want owner node size hn hs) =
+    good (op.Setattr want owner) unique (attr_out node size) (reply.Attr node size) (lit< tt) (attr_said node size hn hs)
+exchange_read _ _ unique (opened fh h) = good op.Open unique (open_out fh) (reply.Opened fh) (lit< tt) (opened_said fh h)
+exchange_read _ _ unique (read fh at size owner bytes h l) =
+    good (op.Read fh at size owner) unique bytes (reply.Bytes bytes) (omega (arith, l)) (read_said fh at size owner bytes h)
+exchange_read _ _ unique (written fh at owner bytes size h) =
+    good (op.Write fh at owner bytes) unique (write_out size) (reply.Written size) (lit< tt) (written_said fh at owner bytes size h)
+exchange_read _ _ unique (begun major minor) = good (op.Init major minor) unique init_out reply.Init (lit< tt) (init_said major minor)
+exchange_read _ _ unique (found fh owner start end kind first last held hf hl) =
+    good (op.Getlk fh owner start end kind) unique (lk_out first last held) (reply.Lock first last held) (lit< tt)
+    (lock_said fh owner start end kind first last held hf hl)
+exchange_read _ _ unique (created name node size fh hn hs hf) =
+    good (op.Create name) unique (entry_out node size ++ open_out fh) (reply.Created node size fh) (lit< tt) (created_said name node size fh hn hs hf)
+exchange_read _ _ unique (done plain h) = good plain unique [] reply.Empty (lit< tt) (plain_said plain h)
 exchange_read _ _ unique (refused any errno low high) =
     message_read any (4294967296 - errno.0) unique [] (lit< tt) (omega (arith, low)) ∙ refused_said any errno low high

@@ -80,12 +80,19 @@ impl ListStarter {
         self.told.as_slice()
     }
 
+    /// Whether its next start is planned to fail.
+    fn is_planned(&self) -> bool
+        ensures { IsTrue result ↔ Contains self.now.failing self.now.calls }
+    {
+        is_among(self.failing.as_slice(), self.calls)
+    }
+
     /// Counts a start, and says whether it is planned to fail.
     fn begin(&mut self) -> bool
         ensures planned { IsTrue result ↔ Contains self.old.failing self.old.calls }
         ensures counted { self.new ≡ record self.old { calls = one_more self.old.calls } }
     {
-        let fails = is_among(self.failing.as_slice(), self.calls);
+        let fails = self.is_planned();
         self.calls = self.calls.saturating_add(1);
         fails
     }
