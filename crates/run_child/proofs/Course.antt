@@ -191,12 +191,12 @@ early_end name words old new book ends.WriteFault s = record { stopped = s; same
 early_end name words old new book ends.NoMemory s = record { stopped = s; same = refl }
 
 pub closing_is : (node fh : ℕ) (closing : Closing) (old new : Place) → IsClosing node fh closing
-    → Wrote (closing.unlock ++ closing.release ++ closing.destroy) old new → Closes node fh old new
+    → Wrote (closing.unlock ++ (closing.release ++ closing.destroy)) old new → Closes node fh old new
 closing_is node fh closing old new i w =
     subst (λ text. Wrote text old new)
-    (ap (λ t. t ++ closing.release ++ closing.destroy) i.unlock_is
-    ∙ ap (λ t. request_bytes (unlock node fh) ++ t ++ closing.destroy) i.release_is
-    ∙ ap (λ t. request_bytes (unlock node fh) ++ request_bytes (release node fh) ++ t) i.destroy_is) w
+    (ap (λ t. t ++ (closing.release ++ closing.destroy)) i.unlock_is
+    ∙ ap (λ t. request_bytes (unlock node fh) ++ (t ++ closing.destroy)) i.release_is
+    ∙ ap (λ t. request_bytes (unlock node fh) ++ (request_bytes (release node fh) ++ t)) i.destroy_is) w
 
 pub held_end : (name : List ℕ) (words : List (List ℕ)) (node fh : ℕ) (old locked new : Place) (book book_now : Book) (end : ChildEnd)
     → IsGranted name node fh old locked → Tries words book book_now end → Closes node fh locked new

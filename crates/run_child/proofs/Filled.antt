@@ -26,7 +26,9 @@ part_spent done xs a b some h r f = record { count = done; short = some; heard =
 pub part_ended : (done : ℕ) (xs ys : List ℕ) (a b c : Place) → done < length ys → Heard (take done xs) a b → take done ys ≡ take done xs
     → Consumes b.left c.left (take 0 (drop done ys)) → c.room ≡ b.room → IsAtEnd c.left → c.faults ≡ a.faults → IsFilledPart ys a c why.Ended
 part_ended done xs ys a b c some h same read r e f =
-    record { count = done; short = some; heard = heard_more done 0 xs ys a b c h same read (sym r) (omega (arith, some)); lacks = (e, f) }
+    let still : done + 0 ≡ done = omega arith in
+    let more : Heard (take (done + 0) ys) a c = heard_more done 0 xs ys a b c h same read (omega (arith, r)) (omega (arith, some)) in
+    record { count = done; short = some; heard = subst (λ (m : ℕ). Heard (take m ys) a c) still more; lacks = (e, f) }
 
 -- the link failed
 pub part_failed : (done : ℕ) (xs ys : List ℕ) (a b c : Place) → done < length ys → Heard (take done xs) a b → take done ys ≡ take done xs

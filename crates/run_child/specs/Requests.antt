@@ -44,10 +44,10 @@ destroy = request 7 0 op.Destroy
 
 -- the last three, one after another
 abbrev pub last_three : ℕ → ℕ → List ℕ
-last_three node fh = request_bytes (unlock node fh) ++ request_bytes (release node fh) ++ request_bytes destroy
+last_three node fh = request_bytes (unlock node fh) ++ (request_bytes (release node fh) ++ request_bytes destroy)
 
 -- all seven
 abbrev pub seven : List ℕ → ℕ → ℕ → List ℕ
 seven name node fh =
-    request_bytes init ++ request_bytes (look_up name) ++ request_bytes (open_file node) ++ request_bytes (take_lock node fh)
-    ++ last_three node fh
+    request_bytes init ++ (request_bytes (look_up name) ++ (request_bytes (open_file node)
+    ++ (request_bytes (take_lock node fh) ++ last_three node fh)))

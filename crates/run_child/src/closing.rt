@@ -41,7 +41,7 @@ impl Closing {
 /// up the next.
 #[tactic(auto, using(crate::proofs::Course::first_failed, crate::proofs::Course::then_wrote))]
 pub fn close<L: Link>(link: &mut L, closing: &Closing, room: &mut u64)
-    ensures { Wrote (closing.now.unlock ++ closing.now.release ++ closing.now.destroy) (place L.Link link.old room.old) (place L.Link link.new room.new) }
+    ensures { Wrote (closing.now.unlock ++ (closing.now.release ++ closing.now.destroy)) (place L.Link link.old room.old) (place L.Link link.new room.new) }
 {
     if say(link, closing.unlock.as_slice(), room) {
         close_handle(link, closing, room);
