@@ -21,7 +21,7 @@ kept_here (Some xs) = refl
 
 -- nothing happens between a place and itself
 pub still_here : (p : Place) → IsStill p p
-still_here p = record { written = kept_here p.taken; heard = record { read = Consumes-nil p.left; counted = refl } }
+still_here p = record { written = kept_here p.taken; heard = record { read = Consumes-nil p.left; counted = omega arith } }
 
 kept : (a b : Option (List ℕ)) → Keeps a b → Consumes a b []
 kept None b k = tt
@@ -91,7 +91,7 @@ unfilled_from request why.ReadFault a b c i g =
 -- a request that was not written whole
 pub cut_off : (request : Request) (a b : Place) → AppendsPart a.taken b.taken (request_bytes request) → Keeps a.left b.left
     → b.room ≡ a.room → IsCutOff request a b
-cut_off request a b p k r = record { written = p; heard = record { read = kept a.left b.left k; counted = sym r } }
+cut_off request a b p k r = record { written = p; heard = record { read = kept a.left b.left k; counted = omega (arith, r) } }
 
 -- ---- what the judgement of a reply gives
 
