@@ -52,6 +52,14 @@ gathered_both asked head body more a b c e same size h f k g =
     (sym (ap (λ bytes. take (16 + body_size asked) bytes) (sym (append_assoc head body more)) ∙ all_front (head ++ body) more (16 + body_size asked) long))
     (record { heard = heard_two a b c head body h k; whole = long ∙ sym (of_both asked head body e same); well = g ∙ f })
 
+-- the body's length by another name
+pub gathered_both_of : (asked : Op) (n : ℕ) (head body more : List ℕ) (a b c : Place) → n ≡ body_size asked → length head ≡ 16 → len_of head ≡ 16 + n
+    → length body ≡ n → Heard head a b → b.faults ≡ a.faults → Heard body b c → c.faults ≡ b.faults
+    → IsGathered asked (take (16 + n) (head ++ (body ++ more))) a c
+gathered_both_of asked n head body more a b c same e first size h f k g =
+    subst (λ (m : ℕ). IsGathered asked (take (16 + m) (head ++ (body ++ more))) a c) (sym same)
+    (gathered_both asked head body more a b c e (first ∙ ap (λ (m : ℕ). 16 + m) same) (size ∙ same) h f k g)
+
 lacks_from : (cause : Unfilled) (a b c : Place) → b.faults ≡ a.faults → LacksMore cause b c → LacksMore cause a c
 lacks_from why.Ended a b c f l = (l.0, l.1 ∙ f)
 lacks_from why.Turns a b c f l = (l.0, l.1 ∙ f)

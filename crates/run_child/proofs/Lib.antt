@@ -8,3 +8,4 @@ pub mod Lists
 pub mod Names
 pub mod Faults
 pub mod Filled
+pub mod Steps

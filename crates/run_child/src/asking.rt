@@ -2,6 +2,7 @@
 
 ghost use Rattle.std.specs.Prelude.{◌≡◌, ◌+◌, ◌≤◌, length, take, IfOk, IfErr};
 ghost use Rattle.std.specs.Io.KnownBytes.{Keeps};
+ghost use Rattle.fuse_msgs.specs.Encoding.{request_bytes};
 ghost use Rattle.run_child.specs.Replies.{body_size as size_of};
 ghost use Rattle.run_child.specs.Filling.{IsAskable, IsGathered, IsGatheredPart, IsNoError};
 ghost use Rattle.run_child.specs.Talk.{Asked, IsJudged, Says, Stopped, place};
@@ -30,9 +31,28 @@ pub fn ask<L: Link>(
     ensures answer { IfOk result IsNoError }
     ensures stopped { IfErr result (Stopped request.now (place L.Link link.old room.old) (place L.Link link.new room.new)) }
 {
-    let message = message_of(alloc, request)?;
+    match message_of(alloc, request) {
+        Ok(message) => exchange(alloc, link, message.as_slice(), request, room),
+        Err(_) => Err(ChildEnd::NoMemory),
+    }
+}
+
+/// Sends the bytes of a request and reads its reply.
+fn exchange<L: Link>(
+    alloc: Global,
+    link: &mut L,
+    message: &[u8],
+    request: &Request,
+    room: &mut u64,
+) -> Result<Reply, ChildEnd>
+    requires askable { IsAskable request.now }
+    requires bytes { message.now ≡ request_bytes request.now }
+    ensures asked { IfOk result (λ answer. Asked request.now answer (place L.Link link.old room.old) (place L.Link link.new room.new)) }
+    ensures answer { IfOk result IsNoError }
+    ensures stopped { IfErr result (Stopped request.now (place L.Link link.old room.old) (place L.Link link.new room.new)) }
+{
     let mut bytes = [0u8; REPLY_MAX];
-    match send(link, message.as_slice()) {
+    match send(link, message) {
         Ok(()) => match gather(link, &mut bytes, &request.op, room) {
             Ok(count) => judge(alloc, &bytes[..count], request),
             Err(why) => Err(why.end()),
@@ -62,8 +82,10 @@ fn gather<L: Link>(
         return Ok(HEADER);
     }
     let (body, _) = rest.split_at_mut(size);
-    fill(link, body, room)?;
-    Ok(HEADER + size)
+    match fill(link, body, room) {
+        Ok(()) => Ok(HEADER + size),
+        Err(why) => Err(why),
+    }
 }
 
 /// How many bytes the body of the reply to an operation has; of a READ at most.

@@ -1,5 +1,4 @@
 use Rattle.std.proofs.Common.{refl}
-use Rattle.fuse_msgs.specs.declared.reply.Reply.TheVariants as reply
 use Rattle.run_child.specs.Requests as spec
 use Rattle.run_child.specs.Talk.{place}
 use Rattle.run_child.proofs.Readings.{init_answer}
@@ -7,16 +6,12 @@ use Rattle.run_child.proofs.Talk.{asked_same, stopped_same}
 use Rattle.run_child.proofs.lock.begin.Goals as goal
 
 pub unreachable-requires : goal.unreachable-requires
-unreachable-requires g c = c.in_default.not-Init (init_answer c.in_ok-ask.field-0 _ _
-    (asked_same c.init.result spec.init c.in_ok-ask.field-0 c.in_ok-ask.field-0 (place g.L.Link c.args.link.now c.args.room.now)
-    (place g.L.Link c.ask.new.link c.ask.new.room) c.init.ensures.value refl c.in_ok-ask.ensures.asked) c.in_ok-ask.ensures.answer)
+unreachable-requires g c =
+    let old = place g.L.Link c.args.link.now c.args.room.now in
+    let new = place g.L.Link c.ask.new.link c.ask.new.room in
+    c.in_default.not-Init (init_answer c.in-Ok.answer old new
+    (asked_same c.init-request.result (spec.init) c.in-Ok.answer c.in-Ok.answer old new c.init-request.ensures.value refl c.in-Ok.ensures.asked) c.in-Ok.ensures.answer)
 
-pub returns-in-Init-clause-begun : goal.returns-in-Init-clause-begun
-returns-in-Init-clause-begun g c =
-    asked_same c.init.result spec.init c.in_ok-ask.field-0 reply.Init (place g.L.Link c.args.link.now c.args.room.now)
-    (place g.L.Link c.ask.new.link c.ask.new.room) c.init.ensures.value c.in-Init.is c.in_ok-ask.ensures.asked
-
-pub returns-in_err-ask-clause-stopped : goal.returns-in_err-ask-clause-stopped
-returns-in_err-ask-clause-stopped g c =
-    stopped_same c.init.result spec.init (place g.L.Link c.args.link.now c.args.room.now) (place g.L.Link c.ask.new.link c.ask.new.room)
-    c.in_err-ask.field-0 c.init.ensures.value c.in_err-ask.ensures.stopped
+pub returns-clause-stopped : goal.returns-clause-stopped
+returns-clause-stopped g c = stopped_same c.init-request.result (spec.init) (place g.L.Link c.args.link.now c.args.room.now)
+    (place g.L.Link c.ask.new.link c.ask.new.room) c.in-Err.end c.init-request.ensures.value c.in-Err.ensures.stopped
