@@ -142,7 +142,12 @@ impl Starter for ListStarter {
 
     ghost faults = { λ s. s.faults };
 
-    fn start<R: Processes, L: Link>(&mut self, rt: &R, link: &L, words: &[Text]) -> Result<u8, Failed>
+    fn start<R: Processes, L: Link>(
+        &mut self,
+        rt: &R,
+        link: &L,
+        words: &[Text],
+    ) -> Result<u8, Failed>
         ensures told { MatchResult result (λ n. TellsOne (Some self.old.told) (Some self.new.told) (record { words = words.now; gave = n })) (λ _. TellsSame (Some self.old.told) (Some self.new.told)) }
         ensures cause { CountsFaults self.old.faults self.new.faults result }
 

@@ -29,7 +29,12 @@ impl Starter for ProcessStarter {
     ghost faults = { λ s. s.faults };
 
     /// No words name no program, which is a fault too.
-    fn start<R: Processes, L: Link>(&mut self, rt: &R, link: &L, words: &[Text]) -> Result<u8, Failed> {
+    fn start<R: Processes, L: Link>(
+        &mut self,
+        rt: &R,
+        link: &L,
+        words: &[Text],
+    ) -> Result<u8, Failed> {
         match run_words(self.alloc, rt, words) {
             Ok(Some(status)) => Ok(status_number(status)),
             _ => {

@@ -18,7 +18,12 @@ pub trait Starter {
 
     /// Starts the program that the first word names, with the words behind it, waits for its end and
     /// gives its exit status; 255 where a signal ended it. The link is lent to say when it may be asked.
-    fn start<R: Processes, L: Link>(&mut self, rt: &R, link: &L, words: &[Text]) -> Result<u8, Failed>
+    fn start<R: Processes, L: Link>(
+        &mut self,
+        rt: &R,
+        link: &L,
+        words: &[Text],
+    ) -> Result<u8, Failed>
         requires { may_start self.old (L.taken link.now) }
         ensures told { MatchResult result (λ n. TellsOne (starts self.old) (starts self.new) (record { words = words.now; gave = n })) (λ _. TellsSame (starts self.old) (starts self.new)) }
         ensures cause { CountsFaults (faults self.old) (faults self.new) result };

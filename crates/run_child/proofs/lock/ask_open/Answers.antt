@@ -10,7 +10,7 @@ unreachable-requires g c =
     let old = place g.L.Link c.args.link.now c.args.room.now in
     let new = place g.L.Link c.ask.new.link c.ask.new.room in
     let found = open_answer c.args.node c.in-Ok.answer old new
-        (asked_same c.open_file-request.result (spec.open_file c.args.node) c.in-Ok.answer c.in-Ok.answer old new c.open_file-request.ensures.value refl c.in-Ok.ensures.asked) c.in-Ok.ensures.answer in
+    (asked_same c.open_file-request.result (spec.open_file c.args.node) c.in-Ok.answer c.in-Ok.answer old new c.open_file-request.ensures.value refl c.in-Ok.ensures.asked) c.in-Ok.ensures.answer in
     c.in_default.not-Opened found.0 found.1
 
 pub returns-clause-stopped : goal.returns-clause-stopped
