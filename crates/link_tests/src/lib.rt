@@ -1,8 +1,10 @@
-//! Tests of the crates between nodes: what stands on the wire, settings, leases, the desk, and sessions on links.
+//! Tests of the crates between nodes: what stands on the wire, settings, leases, the desk, sessions on links, and programs under a lock.
 //!
 //! They stand apart from the crates that they test, since a crate with tests is proved twice.
 #![tactic(auto)]
 
+#[cfg(test)]
+mod child;
 #[cfg(test)]
 mod desk;
 #[cfg(test)]

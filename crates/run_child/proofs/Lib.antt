@@ -1,0 +1,11 @@
+pub mod BodySizes
+pub mod Readings
+pub mod Exchanges
+pub mod Talk
+pub mod Gathering
+pub mod Course
+pub mod Lists
+pub mod Names
+pub mod Faults
+pub mod Filled
+pub mod Steps

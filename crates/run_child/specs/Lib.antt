@@ -1,0 +1,10 @@
+pub mod Replies
+pub mod Exchanges
+pub mod Requests
+pub mod Started
+pub mod Starts
+pub mod Talk
+pub mod Course
+pub mod Filling
+pub mod Closing
+pub mod Whole
