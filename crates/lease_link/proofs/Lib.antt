@@ -1,3 +1,4 @@
 pub mod Rounds
 pub mod Tables
 pub mod GivenUp
+pub mod Replies

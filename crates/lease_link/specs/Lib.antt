@@ -1,3 +1,4 @@
 pub mod Table
 pub mod Learning
 pub mod Keeping
+pub mod Serving

@@ -11,6 +11,8 @@ mod keeping;
 mod learned;
 mod learning;
 mod seat;
+mod serving;
+mod unserved;
 
 pub use answering::{answer, status_of};
 pub use bringing::Bringing;
@@ -18,3 +20,5 @@ pub use keep_end::KeepEnd;
 pub use learned::Learned;
 pub use learning::{learn, round_ask};
 pub use seat::{give_up_lease, keep_lease};
+pub use serving::serve_lease;
+pub use unserved::Unserved;
