@@ -1,6 +1,8 @@
 //! A program run under the HALT lock: over links in memory, and at a Unix socket.
 //!
 //! The bytes of the requests were made by Python's `struct` from fuse.h's layouts.
+ghost use Rattle.fuse_msgs.specs.Reply.{IsReply};
+
 use crate::same::{holds, same};
 use fuse_msgs::{Op, Reply, encode};
 use lf_base::{Acceptor, Closing, Errno, Link, MemLink, Name, StreamLink, Text, UnixAccept};
@@ -45,7 +47,9 @@ fn replies(rt: impl Copy + Abort, alloc: Global) -> Vec<u8> {
     out
 }
 
-fn put(rt: impl Copy + Abort, alloc: Global, reply: &Reply, unique: u64, out: &mut Vec<u8>) {
+fn put(rt: impl Copy + Abort, alloc: Global, reply: &Reply, unique: u64, out: &mut Vec<u8>)
+    requires { IsReply reply.now }
+{
     encode(alloc, reply, unique, out).expect(&rt, "memory");
 }
 
@@ -99,7 +103,10 @@ fn outcome<R: Copy + Abort + Processes>(
     for told in starter.started() {
         same(rt, told.gave(), 3);
         same(rt, told.words().len(), 3);
-        same(rt, told.words()[1].as_str(), "--");
+        match told.words().get(1) {
+            Some(word) => same(rt, word.as_str(), "--"),
+            None => holds(rt, false, "a second word"),
+        }
     }
     (end, written.len(), starter.started().len())
 }
