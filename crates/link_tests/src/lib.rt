@@ -4,7 +4,6 @@
 #![tactic(auto)]
 
 #[cfg(test)]
-mod child;
 #[cfg(test)]
 mod desk;
 #[cfg(test)]
