@@ -4,8 +4,7 @@ ghost use Rattle.ltx_codec.specs.Format.{IsFile};
 ghost use Rattle.ltx_codec.specs.Positions.{after};
 ghost use Rattle.world_laws.specs.Store.{Apply};
 ghost use Rattle.txn_log.specs.Apply.{whole_file, Judges, Completes};
-ghost use Rattle.txn_log.specs.Causes.{Breaks};
-ghost use Rattle.txn_log.specs.Fields.{AppliesBy, CallWent};
+ghost use Rattle.txn_log.specs.Fields.{AppliesBy, CallBreaks, CallWent, HasSameFiles, HasShape};
 ghost use Rattle.txn_log.specs.Store.{end_of_entries};
 
 use crate::attempt::Attempt;
@@ -76,11 +75,10 @@ impl<D: Disk> Store<D> {
     pub fn apply(&mut self, file: &Ltx) -> Result<Pos, StoreFault>
         requires { IsFile file.now }
         ensures applies { AppliesBy self.old file.now result }
-        ensures cause { Breaks self.old.broken (D.faults self.old.disk) result self.new.broken (D.faults self.new.disk) }
-        ensures shape { OnOk result ((self.new.page_size ≡ file.now.header.page_size) × (self.new.commit ≡ file.now.header.commit)) }
+        ensures cause { CallBreaks self.old result self.new }
+        ensures shape { OnOk result (HasShape self.new file.now.header.page_size file.now.header.commit) }
         ensures position { OnOk result (end_of_entries self.new.entries.items ≡ after file.now) }
-        ensures same { OnErr result ((self.new.page_size ≡ self.old.page_size) × (self.new.commit ≡ self.old.commit)
-            × (self.new.entries.items ≡ self.old.entries.items)) }
+        ensures same { OnErr result (HasSameFiles self.old self.new) }
 
         // What a crash leaves at each moment.
         ensures went { IsTrue (D.honest self.old.disk) → CallWent

@@ -3,9 +3,8 @@ ghost use Rattle.std.specs.Prelude.{◌≡◌, ◌<◌, ◌≤◌, false, true, 
 ghost use Rattle.lf_disk.specs.History.{now, IsSettledBut};
 ghost use Rattle.lf_disk.specs.declared.name.FileName.{FileName as Name};
 ghost use Rattle.txn_log.specs.Bringing.{Brings, CountsBrought};
-ghost use Rattle.txn_log.specs.From.{RefusesFrom, AppliesFrom, WentFrom, BreaksFrom, CountsRefused, broken_or_past};
-ghost use Rattle.txn_log.specs.Renewing.{spare_in};
-ghost use Rattle.txn_log.specs.Store.{end_of_entries, state_of, failed_of};
+ghost use Rattle.txn_log.specs.Fields.{AppliesFromBy, CallBreaksFrom, CallWentFrom};
+ghost use Rattle.txn_log.specs.From.{RefusesFrom, CountsRefused, broken_or_past};
 
 use crate::attempt::Attempt;
 use crate::bringing::{Brought, Ground, before, bring};
@@ -99,17 +98,13 @@ impl<D: Disk> Store<D> {
         requires reserved { IsSome self.old.decoder }
         requires entry { length self.old.entries.items < vec_capacity self.old.entries }
         requires page { length page.old ≡ 65536 }
-        ensures applies { AppliesFrom (S.left source.old) (S.left source.new) (spare_in self.old.decoder) self.old.broken
-            (end_of_entries self.old.entries.items) self.old.page_size self.old.commit self.old.sums.sums result }
-        ensures cause { BreaksFrom self.old.broken (S.faults source.old) (D.faults self.old.disk) result self.new.broken (S.faults source.new) (D.faults self.new.disk) }
+        ensures applies { AppliesFromBy self.old (S.left source.old) (S.left source.new) result }
+        ensures cause { CallBreaksFrom self.old (S.faults source.old) result self.new (S.faults source.new) }
         ensures reader { IsSome self.new.decoder }
 
         // What a crash leaves at each moment.
-        ensures went { IsTrue (D.honest self.old.disk) → WentFrom (S.left source.old) (S.left source.new) self.old.commit
-            (state_of (D.history self.old.disk) self.old.page_size self.old.commit self.old.entries.items self.old.dropped self.old.broken self.old.whole)
-            (failed_of (D.history self.old.disk) self.old.broken self.old.attempt self.old.tried) (D.history self.old.disk) result
-            (state_of (D.history self.new.disk) self.new.page_size self.new.commit self.new.entries.items self.new.dropped self.new.broken self.new.whole)
-            (failed_of (D.history self.new.disk) self.new.broken self.new.attempt self.new.tried) (D.history self.new.disk) }
+        ensures went { IsTrue (D.honest self.old.disk)
+            → CallWentFrom self.old (S.left source.old) (S.left source.new) result self.new }
         ensures honest { D.honest self.new.disk ≡ D.honest self.old.disk }
     {
         let Some(reserved) = self.decoder.take() else {

@@ -1,8 +1,7 @@
 //! A change is committed.
 ghost use Rattle.std.specs.Prelude.{◌≡◌, IsTrue, IfOk, OnOk, OnErr};
 ghost use Rattle.world_laws.specs.Store.{Commit};
-ghost use Rattle.txn_log.specs.Causes.{Breaks};
-ghost use Rattle.txn_log.specs.Fields.{CallWent, CommitsBy, drafted_by};
+ghost use Rattle.txn_log.specs.Fields.{CallBreaks, CallWent, CommitsBy, HasSameFiles, HasShape, drafted_by};
 ghost use Rattle.txn_log.specs.Store.{end_of_entries};
 
 use crate::attempt::Attempt;
@@ -18,11 +17,10 @@ impl<D: Disk> Store<D> {
     /// change gives, and it refuses what `draft` refuses, and where the disk fails.
     pub fn commit(&mut self, change: &Change, stamp: u64, node: u64) -> Result<Pos, StoreFault>
         ensures commits { CommitsBy self.old change.now stamp node result }
-        ensures cause { Breaks self.old.broken (D.faults self.old.disk) result self.new.broken (D.faults self.new.disk) }
-        ensures shape { OnOk result ((self.new.page_size ≡ change.now.page_size) × (self.new.commit ≡ change.now.commit)) }
+        ensures cause { CallBreaks self.old result self.new }
+        ensures shape { OnOk result (HasShape self.new change.now.page_size change.now.commit) }
         ensures position { IfOk result (λ told. end_of_entries self.new.entries.items ≡ told) }
-        ensures same { OnErr result ((self.new.page_size ≡ self.old.page_size) × (self.new.commit ≡ self.old.commit)
-            × (self.new.entries.items ≡ self.old.entries.items)) }
+        ensures same { OnErr result (HasSameFiles self.old self.new) }
 
         // What a crash leaves at each moment.
         ensures went { IsTrue (D.honest self.old.disk)

@@ -1,10 +1,9 @@
 //! The database is dropped.
 ghost use Rattle.std.specs.Prelude.{◌≡◌, ◌≤◌, [], IsTrue, OnOk, OnErr};
 ghost use Rattle.world_laws.specs.Store.{DropAll};
-ghost use Rattle.txn_log.specs.Calls.{Went};
-ghost use Rattle.txn_log.specs.Causes.{Breaks};
-ghost use Rattle.txn_log.specs.Dropping.{DropsAll, IsMarked};
-ghost use Rattle.txn_log.specs.Store.{end_of_entries, state_of, failed_of};
+ghost use Rattle.txn_log.specs.Dropping.{IsMarked};
+ghost use Rattle.txn_log.specs.Fields.{CallBreaks, CallWent, DropsBy, HasSameFiles};
+ghost use Rattle.txn_log.specs.Store.{end_of_entries};
 
 use crate::attempt::Attempt;
 use crate::fault::StoreFault;
@@ -18,20 +17,14 @@ impl<D: Disk> Store<D> {
     /// memory.
     pub fn drop_all(&mut self) -> Result<(), StoreFault>
         requires { 1 ≤ (end_of_entries self.old.entries.items).txid }
-        ensures drops { DropsAll self.old.broken result }
-        ensures cause { Breaks self.old.broken (D.faults self.old.disk) result self.new.broken (D.faults self.new.disk) }
+        ensures drops { DropsBy self.old result }
+        ensures cause { CallBreaks self.old result self.new }
         ensures mark { IsTrue (D.honest self.old.disk) → OnOk result (IsMarked (D.history self.new.disk)) }
         ensures shape { OnOk result ((self.new.page_size ≡ 0) × (self.new.commit ≡ 0) × (self.new.entries.items ≡ [])) }
-        ensures same { OnErr result ((self.new.page_size ≡ self.old.page_size) × (self.new.commit ≡ self.old.commit)
-            × (self.new.entries.items ≡ self.old.entries.items)) }
+        ensures same { OnErr result (HasSameFiles self.old self.new) }
 
         // What a crash leaves at each moment.
-        ensures went { IsTrue (D.honest self.old.disk) → Went
-            (state_of (D.history self.old.disk) self.old.page_size self.old.commit self.old.entries.items self.old.dropped self.old.broken self.old.whole)
-            (failed_of (D.history self.old.disk) self.old.broken self.old.attempt self.old.tried) (D.history self.old.disk)
-            DropAll result
-            (state_of (D.history self.new.disk) self.new.page_size self.new.commit self.new.entries.items self.new.dropped self.new.broken self.new.whole)
-            (failed_of (D.history self.new.disk) self.new.broken self.new.attempt self.new.tried) (D.history self.new.disk) }
+        ensures went { IsTrue (D.honest self.old.disk) → CallWent self.old DropAll result self.new }
         ensures honest { D.honest self.new.disk ≡ D.honest self.old.disk }
     {
         if self.broken {

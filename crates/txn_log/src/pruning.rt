@@ -1,10 +1,8 @@
 //! A log loses its first files.
 ghost use Rattle.std.specs.Prelude.{◌≡◌, ◌≤◌, length, drop, IsTrue};
 ghost use Rattle.world_laws.specs.Store.{PruneTo};
-ghost use Rattle.txn_log.specs.Calls.{Went};
-ghost use Rattle.txn_log.specs.Causes.{Breaks};
-ghost use Rattle.txn_log.specs.Pruning.{Prunes};
-ghost use Rattle.txn_log.specs.Store.{end_of_entries, state_of, failed_of};
+ghost use Rattle.txn_log.specs.Fields.{CallBreaks, CallWent, HasShape, PrunesBy};
+ghost use Rattle.txn_log.specs.Store.{end_of_entries};
 
 use crate::attempt::Attempt;
 use crate::entry::Entry;
@@ -26,18 +24,13 @@ impl<D: Disk> Store<D> {
     /// Removes all but the last `keep` files of the log, the oldest first, and answers how many.
     pub fn prune(&mut self, keep: u64) -> Result<u64, StoreFault>
         requires { 1 ≤ keep }
-        ensures prunes { Prunes self.old.broken (length self.old.entries.items) keep result }
-        ensures cause { Breaks self.old.broken (D.faults self.old.disk) result self.new.broken (D.faults self.new.disk) }
-        ensures shape { (self.new.page_size ≡ self.old.page_size) × (self.new.commit ≡ self.old.commit) }
+        ensures prunes { PrunesBy self.old keep result }
+        ensures cause { CallBreaks self.old result self.new }
+        ensures shape { HasShape self.new self.old.page_size self.old.commit }
         ensures position { end_of_entries self.new.entries.items ≡ end_of_entries self.old.entries.items }
 
         // What a crash leaves at each moment.
-        ensures went { IsTrue (D.honest self.old.disk) → Went
-            (state_of (D.history self.old.disk) self.old.page_size self.old.commit self.old.entries.items self.old.dropped self.old.broken self.old.whole)
-            (failed_of (D.history self.old.disk) self.old.broken self.old.attempt self.old.tried) (D.history self.old.disk)
-            (PruneTo keep) result
-            (state_of (D.history self.new.disk) self.new.page_size self.new.commit self.new.entries.items self.new.dropped self.new.broken self.new.whole)
-            (failed_of (D.history self.new.disk) self.new.broken self.new.attempt self.new.tried) (D.history self.new.disk) }
+        ensures went { IsTrue (D.honest self.old.disk) → CallWent self.old (PruneTo keep) result self.new }
         ensures honest { D.honest self.new.disk ≡ D.honest self.old.disk }
     {
         if self.broken {

@@ -3,9 +3,9 @@ ghost use Rattle.std.specs.Prelude.{◌≡◌, false, IsTrue, IfOk, IfErr, OnOk,
 ghost use Rattle.ltx_codec.specs.Format.{IsFile};
 ghost use Rattle.ltx_codec.specs.Positions.{after};
 ghost use Rattle.world_laws.specs.Store.{Install};
-ghost use Rattle.txn_log.specs.Calls.{Went};
-ghost use Rattle.txn_log.specs.Causes.{Breaks, IsDiskOrMemory};
-ghost use Rattle.txn_log.specs.Store.{end_of_entries, state_of, failed_of};
+ghost use Rattle.txn_log.specs.Causes.{IsDiskOrMemory};
+ghost use Rattle.txn_log.specs.Fields.{CallBreaks, CallWent, HasSameFiles, HasShape};
+ghost use Rattle.txn_log.specs.Store.{end_of_entries};
 
 use crate::attempt::Attempt;
 use crate::encoding::encoding_of;
@@ -25,20 +25,13 @@ pub fn publish_anew<D: Disk>(store: &mut Store<D>, file: &Ltx) -> Result<Pos, St
     requires open_ { store.old.broken ≡ false }
     requires valid { IsFile file.now }
     requires first { file.now.header.min ≡ 1 }
-    ensures went { IsTrue (D.honest store.old.disk) → Went
-        (state_of (D.history store.old.disk) store.old.page_size store.old.commit store.old.entries.items store.old.dropped store.old.broken store.old.whole)
-        (failed_of (D.history store.old.disk) store.old.broken store.old.attempt store.old.tried)
-        (D.history store.old.disk) (Install file.now) result
-        (state_of (D.history store.new.disk) store.new.page_size store.new.commit store.new.entries.items store.new.dropped store.new.broken store.new.whole)
-        (failed_of (D.history store.new.disk) store.new.broken store.new.attempt store.new.tried)
-        (D.history store.new.disk) }
+    ensures went { IsTrue (D.honest store.old.disk) → CallWent store.old (Install file.now) result store.new }
     ensures told { IfOk result (λ position. position ≡ after file.now) }
     ensures refusal { IfErr result IsDiskOrMemory }
-    ensures shape { OnOk result ((store.new.page_size ≡ file.now.header.page_size) × (store.new.commit ≡ file.now.header.commit)) }
+    ensures shape { OnOk result (HasShape store.new file.now.header.page_size file.now.header.commit) }
     ensures position { OnOk result (end_of_entries store.new.entries.items ≡ after file.now) }
-    ensures same { OnErr result ((store.new.page_size ≡ store.old.page_size) × (store.new.commit ≡ store.old.commit)
-        × (store.new.entries.items ≡ store.old.entries.items)) }
-    ensures cause { Breaks store.old.broken (D.faults store.old.disk) result store.new.broken (D.faults store.new.disk) }
+    ensures same { OnErr result (HasSameFiles store.old store.new) }
+    ensures cause { CallBreaks store.old result store.new }
     ensures honest { D.honest store.new.disk ≡ D.honest store.old.disk }
 {
     let Ok(encoding) = encoding_of(*store.entries.allocator(), file) else {

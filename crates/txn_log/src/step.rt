@@ -1,8 +1,7 @@
 //! A commit and a prune in one step. That the two compose is shown without a word on bytes.
 ghost use Rattle.std.specs.Prelude.{◌≡◌, ◌≤◌, IsTrue, IfOk, OnOk, OnErr};
 ghost use Rattle.world_laws.specs.Store.{Commit};
-ghost use Rattle.txn_log.specs.Causes.{BreaksPruned};
-ghost use Rattle.txn_log.specs.Fields.{CallWentPruned, CommitsBy, drafted_by};
+ghost use Rattle.txn_log.specs.Fields.{CallBreaksPruned, CallWentPruned, CommitsBy, HasSameFiles, HasShape, drafted_by};
 ghost use Rattle.txn_log.specs.Store.{end_of_entries};
 
 use crate::fault::StoreFault;
@@ -23,11 +22,10 @@ impl<D: Disk> Store<D> {
     ) -> Result<Pos, StoreFault>
         requires { 1 ≤ keep }
         ensures commits { CommitsBy self.old change.now stamp node result }
-        ensures cause { BreaksPruned self.old.broken (D.faults self.old.disk) result self.new.broken (D.faults self.new.disk) }
-        ensures shape { OnOk result ((self.new.page_size ≡ change.now.page_size) × (self.new.commit ≡ change.now.commit)) }
+        ensures cause { CallBreaksPruned self.old result self.new }
+        ensures shape { OnOk result (HasShape self.new change.now.page_size change.now.commit) }
         ensures position { IfOk result (λ told. end_of_entries self.new.entries.items ≡ told) }
-        ensures same { OnErr result ((self.new.page_size ≡ self.old.page_size) × (self.new.commit ≡ self.old.commit)
-            × (self.new.entries.items ≡ self.old.entries.items)) }
+        ensures same { OnErr result (HasSameFiles self.old self.new) }
 
         // What a crash leaves at each moment.
         ensures went { IsTrue (D.honest self.old.disk) → CallWentPruned

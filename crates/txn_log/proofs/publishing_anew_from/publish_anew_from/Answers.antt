@@ -285,7 +285,7 @@ returns-in-Whole-clause-shape g c =
     let b : BringsAnew (g.D.Disk.honest s.disk) left left_now h room s.entries.items table (brought.Whole c.in-Whole.outline c.in-Whole.wal) new =
     subst (λ (es : List Entry). BringsAnew (g.D.Disk.honest s.disk) left left_now h room es table (brought.Whole c.in-Whole.outline c.in-Whole.wal) new) c.as_slice.ensures.value
     (subst (λ (x : Brought). BringsAnew (g.D.Disk.honest s.disk) left left_now h room c.as_slice.result.now table x new) c.in-Whole.is c.bring_anew_with-brought.ensures.brings) in
-    (as_file c.in-Whole.outline b.0, b.1.gave, refl, refl)
+    (as_file c.in-Whole.outline b.0, b.1.gave, (refl, refl))
 
 pub returns-in-Whole-clause-position : goal.returns-in-Whole-clause-position
 returns-in-Whole-clause-position g c = rw (c.push_reserved.ensures.items) (end-push c.clear.new.self.items _)
