@@ -3,8 +3,7 @@ ghost use Rattle.std.specs.Prelude.{◌≡◌, IsTrue, OnOk, OnErr};
 ghost use Rattle.ltx_codec.specs.Format.{IsFile};
 ghost use Rattle.ltx_codec.specs.Positions.{after};
 ghost use Rattle.world_laws.specs.Store.{Install};
-ghost use Rattle.txn_log.specs.Causes.{Breaks};
-ghost use Rattle.txn_log.specs.Fields.{CallWent};
+ghost use Rattle.txn_log.specs.Fields.{CallBreaks, CallWent, HasSameFiles, HasShape};
 ghost use Rattle.txn_log.specs.Store.{end_of_entries};
 ghost use Rattle.snapshot.specs.Installing.{Installs};
 
@@ -18,11 +17,10 @@ pub fn install<D: Disk>(store: &mut Store<D>, ltx: &Ltx) -> Result<Pos, StoreFau
     requires valid { IsFile ltx.now }
     requires first { ltx.now.header.min ≡ 1 }
     ensures installs { Installs store.old.broken ltx.now result }
-    ensures cause { Breaks store.old.broken (D.faults store.old.disk) result store.new.broken (D.faults store.new.disk) }
-    ensures shape { OnOk result ((store.new.page_size ≡ ltx.now.header.page_size) × (store.new.commit ≡ ltx.now.header.commit)) }
+    ensures cause { CallBreaks store.old result store.new }
+    ensures shape { OnOk result (HasShape store.new ltx.now.header.page_size ltx.now.header.commit) }
     ensures position { OnOk result (end_of_entries store.new.entries.items ≡ after ltx.now) }
-    ensures same { OnErr result ((store.new.page_size ≡ store.old.page_size) × (store.new.commit ≡ store.old.commit)
-        × (store.new.entries.items ≡ store.old.entries.items)) }
+    ensures same { OnErr result (HasSameFiles store.old store.new) }
 
     // What a crash leaves at each moment.
     ensures went { IsTrue (D.honest store.old.disk) → CallWent store.old (Install ltx.now) result store.new }
