@@ -52,6 +52,7 @@ primary-may n (asks.Hello now from) is = by-role (may_commit n.standing.belief (
 primary-may n (asks.Frame now bytes) is = by-role (may_commit n.standing.belief (max n.standing.moment now)) is
 primary-may n (asks.Drop now) is = by-role (may_commit n.standing.belief (max n.standing.moment now)) is
 primary-may n (asks.Prune keep) is = by-role (may_commit n.standing.belief n.standing.moment) is
+primary-may n (asks.Info now) is = by-role (may_commit n.standing.belief (max n.standing.moment now)) is
 primary-may n (asks.Lease now news) is = by-role (may_commit n.standing.belief (max n.standing.moment now)) is
 
 -- where each commit among the calls is the holder's

@@ -11,6 +11,7 @@ pub mod Opened
 pub mod Dropped
 pub mod Steady
 pub mod Leased
+pub mod Told
 pub mod Histories
 pub mod Leaving
 pub mod Answering

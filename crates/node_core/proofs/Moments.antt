@@ -13,4 +13,5 @@ last_stands first last (ask.Hello before from) = refl
 last_stands first last (ask.Frame before bytes) = refl
 last_stands first last (ask.Drop before) = refl
 last_stands first last (ask.Prune keep) = refl
+last_stands first last (ask.Info before) = refl
 last_stands first last (ask.Lease before news) = refl

@@ -74,6 +74,7 @@ TellsFollower start old from (answers.At here) new = ⊥
 TellsFollower start old from (answers.Applied here) new = ⊥
 TellsFollower start old from (answers.Held lock) new = ⊥
 TellsFollower start old from (answers.Pruned count) new = ⊥
+TellsFollower start old from (answers.Info info) new = ⊥
 
 -- the node is as before
 pub record AnswersHello (start : History) (old : NodeParts) (from : Pos) (answer : Answer) (end : History) (new : NodeParts) : Type 0 where

@@ -12,4 +12,5 @@ ask_at now (ask.Hello before from) = ask.Hello now from
 ask_at now (ask.Frame before bytes) = ask.Frame now bytes
 ask_at now (ask.Drop before) = ask.Drop now
 ask_at now (ask.Prune keep) = ask.Prune keep
+ask_at now (ask.Info before) = ask.Info now
 ask_at now (ask.Lease before news) = ask.Lease now news

@@ -18,6 +18,7 @@ use Rattle.node_core.specs.Roles.{law_role}
 use Rattle.node_core.specs.Safely.{StepsSafely, law_answer, law_ask}
 use Rattle.node_core.specs.Serving.{ServesFiles}
 use Rattle.node_core.specs.Stores.{OnlyRead, position}
+use Rattle.node_core.specs.Telling.{AnswersInfo}
 use Rattle.node_core.specs.Unlinking.{UnlinksDatabase, unlinks_database}
 
 -- a request: UNLINK of the database file is answered by the node itself
@@ -46,6 +47,7 @@ Does start old caller (asks.Hello now from) answer end new = AnswersHello start 
 Does start old caller (asks.Frame now bytes) answer end new = AnswersFrame start (at_moment old now) bytes answer end new
 Does start old caller (asks.Drop now) answer end new = AnswersDrop start (at_moment old now) answer end new
 Does start old caller (asks.Prune keep) answer end new = AnswersPrune start old keep answer end new
+Does start old caller (asks.Info now) answer end new = AnswersInfo start (at_moment old now) answer end new
 Does start old caller (asks.Lease now news) answer end new = AnswersLease start (at_moment old now) now news answer end new
 
 -- the node at the moment of an ask, where one comes with it
@@ -57,6 +59,7 @@ at_ask old (asks.Hello now from) = at_moment old now
 at_ask old (asks.Frame now bytes) = at_moment old now
 at_ask old (asks.Drop now) = at_moment old now
 at_ask old (asks.Prune keep) = old
+at_ask old (asks.Info now) = at_moment old now
 at_ask old (asks.Lease now news) = at_moment old now
 
 -- the greatest moment that a node was given, once it was asked
@@ -68,6 +71,7 @@ moment_by (asks.Hello now from) moment = max moment now
 moment_by (asks.Frame now bytes) moment = max moment now
 moment_by (asks.Drop now) moment = max moment now
 moment_by (asks.Prune keep) moment = moment
+moment_by (asks.Info now) moment = max moment now
 moment_by (asks.Lease now news) moment = max moment now
 
 -- what it believes of its lease then: only news change it
@@ -80,6 +84,7 @@ belief_by (asks.Hello now from) belief = belief
 belief_by (asks.Frame now bytes) belief = belief
 belief_by (asks.Drop now) belief = belief
 belief_by (asks.Prune keep) belief = belief
+belief_by (asks.Info now) belief = belief
 
 -- ONE STEP: what it does; over an honest disk what it tells the cluster and what a crash leaves at each of its moments, in the role
 -- that the node has at its moment; and what it believes of its lease

@@ -1,3 +1,4 @@
+use crate::info::NodeInfo;
 use crate::refusal::Refusal;
 use byte_locks::LockId;
 use fuse_msgs::Reply;
@@ -26,6 +27,8 @@ pub enum Answer {
     Held(LockId),
     /// So many files are gone from the log.
     Pruned(u64),
+    /// What the node is, and where it stands.
+    Info(NodeInfo),
     /// It is refused.
     Refused(Refusal),
 }

@@ -22,6 +22,8 @@ pub enum Ask {
     Drop { now: u64 },
     /// The log is to keep this many files, its newest. 0 stands for 1.
     Prune { keep: u64 },
+    /// What is the node, and where does it stand?
+    Info { now: u64 },
     /// News of leases came.
     Lease { now: u64, news: LeaseNews },
 }
@@ -36,6 +38,7 @@ impl Ask {
             Ask::Hello { now, .. } => *now = moment,
             Ask::Frame { now, .. } => *now = moment,
             Ask::Drop { now } => *now = moment,
+            Ask::Info { now } => *now = moment,
             Ask::Lease { now, .. } => *now = moment,
             Ask::EndSession | Ask::Where | Ask::Prune { .. } => {}
         }

@@ -17,13 +17,6 @@ impl<D: Disk> Node<D> {
         self.view.end_session(caller);
         Answer::Quiet
     }
-
-    /// Where the node stands.
-    fn tell_position(&self) -> Answer
-        ensures step { (caller : ℕ) → IsStep (history self.now) (parts_of self.now) caller Ask.Where result (history self.now) (parts_of self.now) }
-    {
-        Answer::At(self.store.pos())
-    }
 }
 
 impl<D: Disk> Machine for Node<D> {
@@ -42,6 +35,7 @@ impl<D: Disk> Machine for Node<D> {
             Ask::Frame { now, bytes } => self.answer_frame(*now, bytes),
             Ask::Drop { now } => self.answer_drop(*now),
             Ask::Prune { keep } => self.prune(*keep),
+            Ask::Info { now } => self.answer_info(*now),
             Ask::Lease { now, news } => self.answer_lease(*now, news),
         }
     }
