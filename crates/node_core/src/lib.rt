@@ -25,6 +25,7 @@ mod serving;
 mod standing;
 mod stepping;
 mod unlinking;
+mod whereabouts;
 
 pub use answer::Answer;
 pub use ask::Ask;
@@ -34,3 +35,4 @@ pub use news::LeaseNews;
 pub use node::Node;
 pub use refusal::Refusal;
 pub use standing::Standing;
+pub use whereabouts::Whereabouts;
