@@ -21,7 +21,8 @@ use Rattle.stream_wire.specs.Writing.{reply_head}
 use Rattle.stream_primary.specs.declared.standing.Sent.{Sent}
 use Rattle.stream_primary.specs.declared.standing.Sent.TheVariants as sent
 use Rattle.stream_primary.specs.declared.standing.Standing.{Standing}
-use Rattle.stream_primary.specs.Refusing.{name_of, refused_reply, reply, status_of, store_name, store_status}
+use Rattle.http_exchange.specs.Writing.{reply}
+use Rattle.stream_primary.specs.Refusing.{name_of, refused_reply, status_of, store_name, store_status}
 use Rattle.stream_primary.specs.Streaming.{NodeEntry, sent_by}
 use Rattle.stream_primary.specs.Telling.{begun, file_of, goes_on, next, standing_at, words}
 use Rattle.cluster_laws.specs.StreamLaw.{AreShort, asks_of, sent_asks}

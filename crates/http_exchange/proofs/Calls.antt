@@ -4,7 +4,7 @@ use Rattle.std.specs.Option.{IfSome}
 use Rattle.std.specs.Io.KnownBytes.{Consumes, IsAtEnd}
 use Rattle.std.proofs.KnownBytes.{Consumes-nil, Consumes-trans}
 use Rattle.std.proofs.lemmas.Bool.{cases_lt}
-use Rattle.std.proofs.lemmas.List.{length-drop}
+use Rattle.std.proofs.lemmas.List.{length-drop, take-append-le}
 use lib.Seq.{drop-append-le}
 use Rattle.httparse.specs.Ascii.{space}
 use Rattle.httparse.specs.Grammar.{print_blank, print_end, print_request, print_section, print_version, ReadsRequest, RequestHead}
@@ -245,12 +245,13 @@ body_kept l kept b c bytes held content size len called h is keeps k =
 
 -- a head and what is wanted of its body are a request
 pub was_called : {W : Type 0} (w : WantsGhosts W) (wants : W) (text mid left : Option (List ℕ)) (bytes : List ℕ) (size len : ℕ) (called : Called) → IsRequest bytes size called.call len
-    → Consumes text mid bytes → ReadsBody (w.keeps wants called.call) bytes size len mid left called.body → WasCalled w wants text left called
-was_called w wants text mid left bytes size len called h read b = record {
+    → called.head ≡ take size bytes → Consumes text mid bytes → ReadsBody (w.keeps wants called.call) bytes size len mid left called.body → WasCalled w wants text left called
+was_called w wants text mid left bytes size len called h front read b = record {
   bytes = bytes ++ b.more;
   size = size;
   len = len;
   head = longer_call bytes b.more size len called.call h;
+  head_is = front ∙ sym (take-append-le size bytes b.more (call_within bytes size len called.call h));
   body = b.has;
   read = Consumes-trans text mid left bytes b.more read b.read;
 }

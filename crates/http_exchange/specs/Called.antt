@@ -56,12 +56,13 @@ HasBody kept bytes size len (body.Whole content) = KeepsBody kept len × (size +
 HasBody kept bytes size len body.Passed = PassesOver kept len × (size + len ≤ length bytes)
 HasBody kept bytes size len body.Unread = LeavesUnread kept len
 
--- A REQUEST WAS READ of a text, and perhaps more behind it: this call, and of its body what is wanted of it
+-- A REQUEST WAS READ of a text, and perhaps more behind it: its head, this call, and of its body what is wanted of it
 pub record WasCalled {W : Type 0} (w : WantsGhosts W) (wants : W) (text left : Option (List ℕ)) (called : Called) : Type 0 where
   pub bytes : List ℕ
   pub size : ℕ
   pub len : ℕ
   pub head : IsRequest bytes size called.call len
+  pub head_is : called.head ≡ take size bytes
   pub body : HasBody (w.keeps wants called.call) bytes size len called.body
   pub read : Consumes text left bytes
 

@@ -17,7 +17,8 @@ use lf_base::{Bytes, Link, SessionEnd};
 use link_session::{Piece, Turns};
 use std::alloc::Global;
 
-/// Reads a request to the end of its body, and keeps of the body what is wanted. Each read is a turn.
+/// Reads a request to the end of its body, and keeps its head, and of the body what is wanted. Each read
+/// is a turn.
 ///
 /// Closed at the end of input before the first byte; BadMessage where the input begins no head that
 /// is taken, or ends inside the request. A body that is too long to be kept whole is not read.
@@ -44,10 +45,14 @@ pub fn read_call<L: Link, W: Wants>(
     let (_, behind) = held.as_slice().split_at(head.used);
     let kept = wants.keeps(&head.call);
     match read_call_body(alloc, link, &mut piece, behind, head.length, kept, turns) {
-        Ok(body) => Ok(Called {
-            call: head.call,
-            body,
-        }),
+        Ok(body) => {
+            held.truncate(head.used);
+            Ok(Called {
+                head: Bytes::of(held),
+                call: head.call,
+                body,
+            })
+        }
         Err(end) => Err(end),
     }
 }

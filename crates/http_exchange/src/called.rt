@@ -14,6 +14,8 @@ pub enum Body {
 /// A request that was read.
 #[derive(Debug, Drop)]
 pub struct Called {
+    /// The bytes of its head.
+    pub head: Bytes,
     pub call: Call,
     pub body: Body,
 }

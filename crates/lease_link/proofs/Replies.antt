@@ -25,7 +25,7 @@ use Rattle.lease_link.specs.Table.{status_of}
 
 -- the request stays read
 pub stays_read : (text mid left : Option (List ℕ)) (called : Called) → WasRead text mid called → Keeps mid left → WasRead text left called
-stays_read text mid left called w k = record { bytes = w.bytes; size = w.size; len = w.len; head = w.head; body = w.body; read = Consumes-kept text mid left w.bytes w.read k }
+stays_read text mid left called w k = record { bytes = w.bytes; size = w.size; len = w.len; head = w.head; head_is = w.head_is; body = w.body; read = Consumes-kept text mid left w.bytes w.read k }
 
 kept_appends : (old mid new : Option (List ℕ)) (bytes : List ℕ) → Keeps old mid → Appends mid new bytes → Appends old new bytes
 kept_appends None mid new bytes k a = tt
@@ -62,6 +62,7 @@ as_read w wants text left called same c = record {
   size = c.size;
   len = c.len;
   head = c.head;
+  head_is = c.head_is;
   body = subst (λ (k : Kept). HasBody k c.bytes c.size c.len called.body) same c.body;
   read = c.read;
 }

@@ -24,3 +24,4 @@ pub mod Refusing
 pub mod Following
 pub mod Looked
 pub mod Encodings
+pub mod Lookups

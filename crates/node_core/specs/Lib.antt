@@ -17,5 +17,6 @@ pub mod Framing
 pub mod Opening
 pub mod Leasing
 pub mod Telling
+pub mod Where
 pub mod Steps
 pub mod Runs

@@ -32,7 +32,7 @@ abbrev pub law_ask : Ask → laws.Ask
 law_ask (asks.File now request) = laws.File
 law_ask asks.EndSession = laws.EndSession
 law_ask asks.Where = laws.Where
-law_ask (asks.Hello now position) = laws.Hello position
+law_ask (asks.Hello now position last) = laws.Hello position last
 law_ask (asks.Frame now bytes) = law_frame bytes
 law_ask (asks.Drop now) = laws.Drop
 law_ask (asks.Prune keep) = laws.Prune (kept_of keep)

@@ -17,9 +17,10 @@ use Rattle.node_core.specs.Pruning.{AnswersPrune}
 use Rattle.node_core.specs.Roles.{law_role}
 use Rattle.node_core.specs.Safely.{StepsSafely, law_answer, law_ask}
 use Rattle.node_core.specs.Serving.{ServesFiles}
-use Rattle.node_core.specs.Stores.{OnlyRead, position}
+use Rattle.node_core.specs.Stores.{OnlyRead}
 use Rattle.node_core.specs.Telling.{AnswersInfo}
 use Rattle.node_core.specs.Unlinking.{UnlinksDatabase, unlinks_database}
+use Rattle.node_core.specs.Where.{TellsPosition}
 
 -- a request: UNLINK of the database file is answered by the node itself
 abbrev pub AnswersFile : Bool → History → NodeParts → ℕ → Request → Answer → History → NodeParts → Type 0
@@ -32,18 +33,12 @@ pub record EndsSession (start : History) (old : NodeParts) (caller : ℕ) (answe
   pub files : new ≡ record old { files = ended old.files caller }
   pub rests : OnlyRead start end
 
--- the position is told, and nothing is done
-pub record TellsPosition (start : History) (old : NodeParts) (answer : Answer) (end : History) (new : NodeParts) : Type 0 where
-  pub position : answer ≡ answers.At (position old.store)
-  pub same : new ≡ old
-  pub rests : OnlyRead start end
-
 -- what each ask does, over any disk
 abbrev pub Does : History → NodeParts → ℕ → Ask → Answer → History → NodeParts → Type 0
 Does start old caller (asks.File now request) answer end new = AnswersFile (unlinks_database old.config request) start (at_moment old now) caller request answer end new
 Does start old caller asks.EndSession answer end new = EndsSession start old caller answer end new
 Does start old caller asks.Where answer end new = TellsPosition start old answer end new
-Does start old caller (asks.Hello now from) answer end new = AnswersHello start (at_moment old now) from answer end new
+Does start old caller (asks.Hello now from last) answer end new = AnswersHello start (at_moment old now) from last answer end new
 Does start old caller (asks.Frame now bytes) answer end new = AnswersFrame start (at_moment old now) bytes answer end new
 Does start old caller (asks.Drop now) answer end new = AnswersDrop start (at_moment old now) answer end new
 Does start old caller (asks.Prune keep) answer end new = AnswersPrune start old keep answer end new
@@ -55,7 +50,7 @@ abbrev pub at_ask : NodeParts → Ask → NodeParts
 at_ask old (asks.File now request) = at_moment old now
 at_ask old asks.EndSession = old
 at_ask old asks.Where = old
-at_ask old (asks.Hello now from) = at_moment old now
+at_ask old (asks.Hello now from last) = at_moment old now
 at_ask old (asks.Frame now bytes) = at_moment old now
 at_ask old (asks.Drop now) = at_moment old now
 at_ask old (asks.Prune keep) = old
@@ -67,7 +62,7 @@ abbrev pub moment_by : Ask → ℕ → ℕ
 moment_by (asks.File now request) moment = max moment now
 moment_by asks.EndSession moment = moment
 moment_by asks.Where moment = moment
-moment_by (asks.Hello now from) moment = max moment now
+moment_by (asks.Hello now from last) moment = max moment now
 moment_by (asks.Frame now bytes) moment = max moment now
 moment_by (asks.Drop now) moment = max moment now
 moment_by (asks.Prune keep) moment = moment
@@ -80,7 +75,7 @@ belief_by (asks.Lease now news) belief = believes now news belief
 belief_by (asks.File now request) belief = belief
 belief_by asks.EndSession belief = belief
 belief_by asks.Where belief = belief
-belief_by (asks.Hello now from) belief = belief
+belief_by (asks.Hello now from last) belief = belief
 belief_by (asks.Frame now bytes) belief = belief
 belief_by (asks.Drop now) belief = belief
 belief_by (asks.Prune keep) belief = belief

@@ -27,6 +27,7 @@ mod standing;
 mod stepping;
 mod telling;
 mod unlinking;
+mod whereabouts;
 
 pub use answer::Answer;
 pub use ask::Ask;
@@ -37,3 +38,4 @@ pub use news::LeaseNews;
 pub use node::Node;
 pub use refusal::Refusal;
 pub use standing::Standing;
+pub use whereabouts::Whereabouts;

@@ -27,13 +27,6 @@ fn first_of(entries: &[Entry]) -> u64
 }
 
 impl<D: Disk> Node<D> {
-    /// Where the node stands.
-    pub(crate) fn tell_position(&self) -> Answer
-        ensures step { (caller : ℕ) → IsStep (history self.now) (parts_of self.now) caller Ask.Where result (history self.now) (parts_of self.now) }
-    {
-        Answer::At(self.store.pos())
-    }
-
     /// What it is, and where it stands.
     fn tell_info(&self) -> Answer
         ensures tells { TellsInfo (parts_of self.now) result }

@@ -41,7 +41,7 @@ pub fn told_by(alloc: Global, answer: &Answer) -> Told {
     match answer {
         Answer::Done(_) | Answer::Quiet => Told::Word("done"),
         Answer::Refuse(number) => Told::Number(number.0),
-        Answer::At(at) => Told::At("at", *at),
+        Answer::At(here) => Told::At("at", here.pos),
         Answer::Level(at) => Told::At("level at", *at),
         Answer::Item { ltx, after } => file_of(alloc, ltx, *after),
         Answer::Gone => Told::Word("dropped"),

@@ -1,9 +1,7 @@
 -- Streams: what was sent so far, and how they end.
-use Rattle.std.proofs.Common.{◌≡◌, inl, inr, ℕ, ◌+◌, Bool, true, false, IsTrue, List, [], ◌∷◌, ◌++◌, length, take, Option, Result, Ok, Err, OnOk, OnErr, refl, sym, ap, ◌∙◌, subst, append_assoc, append-nil, length-append, arith}
+use Rattle.std.proofs.Common.{◌≡◌, inl, inr, ℕ, Bool, true, false, IsTrue, List, [], ◌∷◌, ◌++◌, Option, Some, None, Result, Ok, Err, refl, sym, ap, ◌∙◌, subst, append_assoc, append-nil}
 use Rattle.std.specs.Io.KnownBytes.{Appends, Keeps}
 use Rattle.std.proofs.KnownBytes.{Appends-kept, Appends-nil, Appends-trans, Keeps-refl}
-use Rattle.std.proofs.lemmas.List.{take-append-le}
-use Rattle.std.proofs.Math.Seq.{take-append-add}
 use Rattle.lf_base.specs.declared.pos.Pos.{Pos}
 use Rattle.lf_base.specs.declared.session_end.SessionEnd.{SessionEnd}
 use Rattle.lf_base.specs.declared.session_end.SessionEnd.TheVariants as ends
@@ -15,33 +13,6 @@ use Rattle.node_core.specs.declared.answer.Answer.{Answer}
 use Rattle.stream_primary.specs.declared.standing.Standing.{Standing}
 use Rattle.stream_primary.specs.Telling.{goes_on, next, standing_at, words}
 use Rattle.stream_primary.specs.Streaming.{NodeEntry, AreHellos, AsksHello, EndsRound, EndsTelling, IsHello, OwesStill, Streamed, Streams, behind, sent_by}
-use Rattle.stream_primary.proofs.Wholes.{kept_appends}
-
--- ---- two texts, one behind the other
-
-pub part_of_front : (old new : Option (List ℕ)) (front back : List ℕ) → AppendsPart old new front → AppendsPart old new (front ++ back)
-part_of_front old new front back a = (
-  a.0,
-  omega (arith, length-append front back, a.1),
-  subst (λ (text : List ℕ). Appends old new text) (sym (take-append-le a.0 front back (omega (arith, a.1)))) a.2,
-)
-
-pub part_of_back : (old mid new : Option (List ℕ)) (front back : List ℕ) → Appends old mid front → AppendsPart mid new back → AppendsPart old new (front ++ back)
-part_of_back old mid new front back w a = (
-  length front + a.0,
-  omega (arith, length-append front back, a.1),
-  subst (λ (text : List ℕ). Appends old new text) (sym (take-append-add front back a.0)) (Appends-trans old mid new front (take a.0 back) w a.2),
-)
-
-pub both_written : {T F : Type 0} (old mid new : Option (List ℕ)) (front back : List ℕ) (r : Result T F) → Appends old mid front → OnOk r (Appends mid new back)
-    → OnOk r (Appends old new (front ++ back))
-both_written old mid new front back (Ok x) w a = Appends-trans old mid new front back w a
-both_written old mid new front back (Err e) w a = tt
-
-pub back_in_part : {T F : Type 0} (old mid new : Option (List ℕ)) (front back : List ℕ) (r : Result T F) → Appends old mid front → OnErr r (AppendsPart mid new back)
-    → OnErr r (AppendsPart old new (front ++ back))
-back_in_part old mid new front back (Ok x) w a = tt
-back_in_part old mid new front back (Err e) w a = part_of_back old mid new front back w a
 
 -- ---- one Hello
 
@@ -124,6 +95,12 @@ one_sent who who_now name start at then old mid new before now turns by s sent =
           (Appends-trans old.taken mid.taken new.taken (sent_by name start s.hellos) (words name at.sent given) s.written e.1.written);
       asked = e.1.hello.asked ∙ ap (λ (es : List NodeEntry). es ++ one ∷ []) s.asked ∙ append_assoc old.entries s.hellos (one ∷ []);
     }
+
+pub kept_appends : (old mid new : Option (List ℕ)) (bytes : List ℕ) → Keeps old mid → Appends mid new bytes → Appends old new bytes
+kept_appends None mid new bytes k a = tt
+kept_appends (Some x) None new bytes k a = absurd k
+kept_appends (Some x) (Some y) None bytes k a = absurd a
+kept_appends (Some x) (Some y) (Some z) bytes k a = a ∙ ap (λ xs. xs ++ bytes) k
 
 -- the stream begins where the request was read
 pub stream_from : (who : Asker) (name : List ℕ) (from : Pos) (old mid new : Stand NodeEntry) (turns : ℕ) (end : SessionEnd) → Keeps old.place.taken mid.place.taken

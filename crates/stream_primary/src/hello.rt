@@ -1,17 +1,17 @@
 //! One Hello: it is asked, and its answer sent.
-ghost use Rattle.std.specs.Prelude.{◌≡◌, ◌++◌, length, Err, IfErr, IfOk, OnErr, OnOk};
-ghost use Rattle.std.specs.Io.KnownBytes.{Appends, Keeps};
+ghost use Rattle.std.specs.Prelude.{◌≡◌, length, Err, IfErr, IfOk, OnErr};
+ghost use Rattle.std.specs.Io.KnownBytes.{Keeps};
 ghost use Rattle.lf_base.specs.declared.session_end.SessionEnd.TheVariants as ends;
 ghost use Rattle.link_session.specs.Asking.{EndsAsking};
 ghost use Rattle.link_session.specs.Spending.{AsksFor, MovesFor};
 ghost use Rattle.link_session.specs.Stands.{asker, stand, AsksOn, Spends};
-ghost use Rattle.link_session.specs.Writing.{AppendsPart, EndsWriting};
 ghost use Rattle.stream_primary.specs.Streaming.{AsksHello, EndsRound, EndsTelling};
 
+use crate::ending::end_stream;
 use crate::standing::Standing;
 use crate::telling::{file_of, goes_on, next, put_words};
 use lf_base::{Clock, Link, Name, Pause, Pos, SessionEnd};
-use link_session::{Steps, Turns, write_whole};
+use link_session::{Steps, Turns, write_both};
 use node_core::{Answer, Ask};
 use std::alloc::Global;
 
@@ -83,6 +83,9 @@ fn tell<L: Link, P: Pause>(
     ensures left { Keeps (L.left link.old) (L.left link.new) }
     ensures spent { MovesFor result turns.old (L.moves link.old) turns.new (L.moves link.new) }
 {
+    if !goes_on(&answer) {
+        return Err(end_stream(alloc, link, at.sent, &answer, text, turns));
+    }
     match put_words(alloc, name, at.sent, &answer, text) {
         Ok(()) => {}
         Err(_) => return Err(SessionEnd::NoMemory),
@@ -91,30 +94,8 @@ fn tell<L: Link, P: Pause>(
         Ok(()) => {}
         Err(end) => return Err(end),
     }
-    if !goes_on(&answer) {
-        return Err(SessionEnd::Closed);
-    }
     if matches!(answer, Answer::Level(_)) {
         pause.nap();
     }
     Ok(next(at, &answer))
-}
-
-/// Writes one text and then another.
-fn write_both<L: Link>(
-    link: &mut L,
-    front: &[u8],
-    back: &[u8],
-    turns: &mut Turns,
-) -> Result<(), SessionEnd>
-    ensures whole { OnOk result (Appends (L.taken link.old) (L.taken link.new) (front.now ++ back.now)) }
-    ensures part { OnErr result (AppendsPart (L.taken link.old) (L.taken link.new) (front.now ++ back.now)) }
-    ensures left { Keeps (L.left link.old) (L.left link.new) }
-    ensures spent { MovesFor result turns.old (L.moves link.old) turns.new (L.moves link.new) }
-    ensures cause { EndsWriting (L.faults link.old) (L.faults link.new) turns.new result }
-{
-    match write_whole(link, front, turns) {
-        Ok(()) => write_whole(link, back, turns),
-        Err(end) => Err(end),
-    }
 }

@@ -101,7 +101,11 @@ const REQUESTS: &[Row] = &[
 ];
 
 fn fate_of(alloc: Global, called: Called) -> (Fate, Vec<u8>) {
-    let Called { call: _, body } = called;
+    let Called {
+        head: _,
+        call: _,
+        body,
+    } = called;
     match body {
         Body::Whole(bytes) => (Fate::Whole, bytes.into_vec()),
         Body::Passed => (Fate::Passed, Vec::new(alloc)),

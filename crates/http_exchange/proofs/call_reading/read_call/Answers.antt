@@ -9,8 +9,8 @@ use Rattle.http_exchange.proofs.call_reading.read_call.Goals as goal
 pub returns-in-Ok-read_call_body-clause-read : goal.returns-in-Ok-read_call_body-clause-read
 returns-in-Ok-read_call_body-clause-read g c =
     was_called g.W.Wants c.args.wants.now (g.L.Link.left c.args.link.now) (g.L.Link.left c.read_call_head.new.link) (g.L.Link.left c.read_call_body.new.link) c.read_call_head.new.held.items
-    c.in-Ok-read_call_head.head.used c.in-Ok-read_call_head.head.length (record { call = c.in-Ok-read_call_head.head.call; body = c.in-Ok-read_call_body.body })
-    c.in-Ok-read_call_head.ensures.head c.in-Ok-read_call_head.ensures.read
+    c.in-Ok-read_call_head.head.used c.in-Ok-read_call_head.head.length (record { head = c.of.result; call = c.in-Ok-read_call_head.head.call; body = c.in-Ok-read_call_body.body })
+    c.in-Ok-read_call_head.ensures.head (c.of.ensures ∙ c.truncate.ensures.items) c.in-Ok-read_call_head.ensures.read
     (subst (λ (kept : Kept). ReadsBody kept c.read_call_head.new.held.items c.in-Ok-read_call_head.head.used c.in-Ok-read_call_head.head.length (g.L.Link.left c.read_call_head.new.link)
     (g.L.Link.left c.read_call_body.new.link) c.in-Ok-read_call_body.body) c.keeps-kept.ensures
     (c.in-Ok-read_call_body.ensures.body c.read_call_head.new.held.items c.in-Ok-read_call_head.head.used c.in-Ok-read_call_head.head.call c.in-Ok-read_call_head.ensures.head
