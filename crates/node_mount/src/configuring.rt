@@ -5,7 +5,7 @@ ghost use Rattle.node_mount.specs.Mounting.{IsOfReading};
 
 use crate::mount_fault::MountFault;
 use lf_base::Source;
-use node_settings::{Settings, SettingsFault, read_static_settings};
+use node_settings::{Settings, SettingsFault, read_settings};
 use std::alloc::{AllocError, Global};
 
 /// The most bytes of a configuration.
@@ -70,7 +70,7 @@ fn read_pieces<G: Source>(
 fn settings_in(alloc: Global, bytes: &[u8]) -> Result<Settings, MountFault>
     ensures { SaysSettings bytes.now result }
 {
-    match read_static_settings(alloc, bytes) {
+    match read_settings(alloc, bytes) {
         Ok(settings) => Ok(settings),
         Err(SettingsFault::Config) => Err(MountFault::Config),
         Err(SettingsFault::NoMemory) => Err(MountFault::NoMemory),
