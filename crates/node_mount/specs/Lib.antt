@@ -9,3 +9,4 @@ pub mod Opening
 pub mod Returns
 pub mod Damage
 pub mod Mounting
+pub mod LeaseService

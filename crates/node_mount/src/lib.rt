@@ -13,6 +13,7 @@ mod following;
 mod hall;
 mod http_links;
 mod keeping;
+mod lease_service;
 mod listening;
 mod maker;
 mod means;
@@ -31,6 +32,7 @@ mod work;
 
 pub use counts::Counts;
 pub use keeping::Keeping;
+pub use lease_service::serve_leases;
 pub use maker::Maker;
 pub use mem_maker::{MemMaker, MemReturned};
 pub use mem_spawn::MemSpawn;
