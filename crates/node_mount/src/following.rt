@@ -13,7 +13,7 @@ use lf_base::{
     Clock, Closing, Dialer, Failed, Handles, Job, Link, Name, NoMemory, Pause, Spawner, Text, start,
 };
 use node_core::{Answer, Ask};
-use replica_apply::follow_seat;
+use replica_apply::{Doubt, follow_seat};
 use std::alloc::Global;
 use turn_desk::Machine;
 
@@ -147,27 +147,35 @@ impl<L: Link + Drop> Work for Streams<L> {
         P: Pause + Copy,
     >(self, means: Means<R, C, P>, place: Place<K>) {
         let (mut means, mut place) = (means, place);
+        let mut doubt = Doubt::Nothing;
         for _ in 0..LINKS {
-            if !follow_next(&mut means, &mut place, &self) {
-                break;
+            match follow_next(&mut means, &mut place, &self, doubt) {
+                Some(next) => doubt = next,
+                None => break,
             }
         }
         self.links.close(&means.rt);
     }
 }
 
-/// Follows the stream on the next link to its end, and gives the link back. Answers whether one came.
+/// Follows the stream on the next link to its end, and gives the link back. Answers what speaks against
+/// the node's log then, if a link came.
 fn follow_next<
     R: Handles + Copy,
     K: Machine<Ask = Ask, Answer = Answer>,
     L: Link + Drop,
     C: Clock,
     P: Pause,
->(means: &mut Means<R, C, P>, place: &mut Place<K>, streams: &Streams<L>) -> bool {
+>(
+    means: &mut Means<R, C, P>,
+    place: &mut Place<K>,
+    streams: &Streams<L>,
+    doubt: Doubt,
+) -> Option<Doubt> {
     let Some(mut link) = streams.links.take(&means.rt) else {
-        return false;
+        return None;
     };
-    follow_seat(
+    let end = follow_seat(
         means.rt,
         means.alloc,
         &*place.desk,
@@ -176,8 +184,9 @@ fn follow_next<
         &mut link,
         &mut means.clock,
         &mut means.pause,
+        doubt.is_unknown(),
         BUDGET,
     );
     streams.links.give_back(&means.rt, link);
-    true
+    Some(doubt.after(end))
 }

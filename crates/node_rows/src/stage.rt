@@ -50,7 +50,7 @@ impl Stage {
     /// Where the node stands.
     pub fn position<R: Wait + Copy>(&mut self, rt: R) -> Result<Pos, Fault> {
         match self.desk.step(rt, &mut self.seat, &Ask::Where) {
-            Ok(Answer::At(position)) => Ok(position),
+            Ok(Answer::At(here)) => Ok(here.pos),
             _ => Err(Fault::Worn),
         }
     }

@@ -138,8 +138,8 @@ unasked_behind text old mid new turns end read a = record {
 
 stream_behind : (who : Asker) (name : List ℕ) (request : Request) (old mid new : Stand NodeEntry) (turns : ℕ) (end : SessionEnd) → OnlyRead old mid
     → ServesStream who name request mid new turns end → ServesStream who name request old new turns end
-stream_behind who name request old mid new turns end read (streaming from wants s) =
-    streaming from wants (stream_from who name from old mid new turns end read.still.written read.still.asked read.count s)
+stream_behind who name request old mid new turns end read (streaming from wants says s) =
+    streaming from wants says (stream_from who name from old mid new turns end read.still.written read.still.asked read.count s)
 stream_behind who name request old mid new turns end read (other_database wants a) = other_database wants (unasked_behind (reply 404 []) old mid new turns end read a)
 stream_behind who name request old mid new turns end read (no_line wants a) = no_line wants (unasked_behind (reply 400 []) old mid new turns end read a)
 stream_behind who name request old mid new turns end read (starving is still count) =

@@ -10,6 +10,7 @@ use Rattle.link_session.specs.Rounds.{Place}
 use Rattle.link_session.specs.Stands.{Asker, Stand}
 use Rattle.link_session.specs.Writing.{AppendsPart}
 use Rattle.node_core.specs.declared.answer.Answer.{Answer}
+use Rattle.node_core.specs.declared.whereabouts.Whereabouts.{Whereabouts}
 use Rattle.stream_primary.specs.declared.standing.Standing.{Standing}
 use Rattle.stream_primary.specs.Telling.{goes_on, next, standing_at, words}
 use Rattle.stream_primary.specs.Streaming.{NodeEntry, AreHellos, AsksHello, EndsRound, EndsTelling, IsHello, OwesStill, Streamed, Streams, behind, sent_by}
@@ -18,7 +19,7 @@ use Rattle.stream_primary.specs.Streaming.{NodeEntry, AreHellos, AsksHello, Ends
 
 -- it was asked, and so its answer was sent
 pub sent_on : (who : Asker) (name : List ℕ) (at : Standing) (given : Answer) (old new : Place NodeEntry) (before now turns : ℕ) (r : Result Standing SessionEnd)
-    → AsksHello who at.pos given old.entries new.entries → EndsTelling name at given old.taken new.taken before now turns r
+    → AsksHello who at.here given old.entries new.entries → EndsTelling name at given old.taken new.taken before now turns r
     → EndsRound who name at old new before now turns r
 sent_on who name at given old new before now turns (Ok then) h t = (given, record { hello = h; written = t.0 }, t.1, t.2, t.3)
 sent_on who name at given old new before now turns (Err ends.Closed) h t = (given, record { hello = h; written = t.0 }, t.1, t.2)
@@ -54,7 +55,7 @@ none_sent who name start place = record {
   asked = sym (append-nil place.entries);
 }
 
-each_pushed : (who : Asker) (start : Standing) (hellos : List NodeEntry) (one : NodeEntry) → AreHellos who start hellos → IsHello who (behind start hellos).pos one
+each_pushed : (who : Asker) (start : Standing) (hellos : List NodeEntry) (one : NodeEntry) → AreHellos who start hellos → IsHello who (behind start hellos).here one
     → IsTrue (goes_on one.answer) → AreHellos who start (hellos ++ one ∷ [])
 each_pushed who start [] one all h g = (h, g, tt)
 each_pushed who start (x ∷ xs) one all h g = (all.0, all.1, each_pushed who (next start x.answer) xs one all.2 h g)
@@ -84,7 +85,7 @@ one_sent who who_now name start at then old mid new before now turns by s sent =
     let same : one.answer ≡ given = e.1.hello.answered in
     record {
       hellos = s.hellos ++ one ∷ [];
-      each = each_pushed who start s.hellos one s.each (subst (λ (st : Standing). IsHello who st.pos one) s.stands e.1.hello.hello)
+      each = each_pushed who start s.hellos one s.each (subst (λ (st : Standing). IsHello who st.here one) s.stands e.1.hello.hello)
           (is_true (goes_on one.answer) (ap goes_on same ∙ e.2));
       stands = e.3 ∙ ap (λ (st : Standing). next st given) s.stands ∙ ap (λ (a : Answer). next (behind start s.hellos) a) (sym same)
           ∙ sym (behind_pushed start s.hellos one);
@@ -103,7 +104,7 @@ kept_appends (Some x) (Some y) None bytes k a = absurd a
 kept_appends (Some x) (Some y) (Some z) bytes k a = a ∙ ap (λ xs. xs ++ bytes) k
 
 -- the stream begins where the request was read
-pub stream_from : (who : Asker) (name : List ℕ) (from : Pos) (old mid new : Stand NodeEntry) (turns : ℕ) (end : SessionEnd) → Keeps old.place.taken mid.place.taken
+pub stream_from : (who : Asker) (name : List ℕ) (from : Whereabouts) (old mid new : Stand NodeEntry) (turns : ℕ) (end : SessionEnd) → Keeps old.place.taken mid.place.taken
     → mid.place.entries ≡ old.place.entries → mid.faults ≡ old.faults → Streams who name from mid new turns end → Streams who name from old new turns end
 stream_from who name from old mid new turns end kept entries faults s = record {
   at = s.at;
@@ -119,7 +120,7 @@ stream_from who name from old mid new turns end kept entries faults s = record {
 }
 
 -- want of memory drops nothing
-pub owes_still : (who : Asker) (name : List ℕ) (from : Pos) (old new : Stand NodeEntry) (turns : ℕ) → Streams who name from old new turns ends.NoMemory
+pub owes_still : (who : Asker) (name : List ℕ) (from : Whereabouts) (old new : Stand NodeEntry) (turns : ℕ) → Streams who name from old new turns ends.NoMemory
     → OwesStill who name from old.place new.place
 owes_still who name from old new turns s =
     let unsent = s.last.0.1 in
@@ -130,5 +131,5 @@ owes_still who name from old new turns s =
       each = s.rounds.each;
       written = Appends-kept old.place.taken s.place.taken new.place.taken (sent_by name (standing_at from) s.rounds.hellos) s.rounds.written unsent.written;
       asked = unsent.hello.asked ∙ ap (λ (es : List NodeEntry). es ++ one ∷ []) s.rounds.asked ∙ append_assoc old.place.entries s.rounds.hellos (one ∷ []);
-      again = subst (λ (st : Standing). IsHello who st.pos one) s.rounds.stands unsent.hello.hello;
+      again = subst (λ (st : Standing). IsHello who st.here one) s.rounds.stands unsent.hello.hello;
     }

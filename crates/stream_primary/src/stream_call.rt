@@ -7,16 +7,17 @@ ghost use Rattle.link_session.specs.Stands.{asker, stand, AsksOn, Spends};
 ghost use Rattle.stream_wire.specs.StreamLine.{stream_line};
 ghost use Rattle.http_exchange.specs.declared.wants.Kept.TheVariants as kept;
 ghost use Rattle.stream_primary.specs.Request.{CameOfRequest, Request};
-ghost use Rattle.stream_primary.specs.StreamCall.{ServesStream, Wants, line_max};
+ghost use Rattle.stream_primary.specs.StreamCall.{heard, Says, ServesStream, Wants, line_max};
 
 use crate::replies::refuse;
 use crate::streaming::stream;
 use http_exchange::{Body, Called};
 use lf_base::{Clock, Link, Name, NoMemory, Pause, Pos, SessionEnd};
 use link_session::{Steps, Turns};
-use node_core::{Answer, Ask};
+use node_core::{Answer, Ask, Whereabouts};
 use std::alloc::Global;
-use stream_wire::read_stream_line;
+use stream_wire::{LastFile as Said, last_file_in, read_stream_line};
+use txn_log::LastFile;
 
 /// The most bytes of the line that asks for a stream.
 pub const LINE_MAX: u64 = 99;
@@ -56,10 +57,32 @@ pub fn serve_stream<S: Steps<Ask = Ask, Answer = Answer>, L: Link, C: Clock, P: 
     ensures worn { result ≡ ends.Worn → S.is_worn steps.new }
 {
     match wish_of(alloc, name, called) {
-        Ok(Wish::Stream(pos)) => stream(alloc, steps, name, link, clock, pause, pos, turns),
+        Ok(Wish::Stream(pos)) => {
+            let last = last_in(called.head.as_slice());
+            let from = Whereabouts { pos, last };
+            stream(alloc, steps, name, link, clock, pause, from, turns)
+        }
         Ok(Wish::OtherDatabase) => refuse(alloc, link, NOT_FOUND, turns),
         Ok(Wish::NoLine) => refuse(alloc, link, BAD_REQUEST, turns),
         Err(_) => SessionEnd::NoMemory,
+    }
+}
+
+/// What the head of a request says of the follower's last file.
+fn last_in(head: &[u8]) -> Option<LastFile>
+    ensures { Says head.now result }
+{
+    heard(last_file_in(head))
+}
+
+/// The same as the node is asked.
+fn heard(said: Option<Said>) -> Option<LastFile>
+    ensures { result ≡ heard said }
+{
+    match said {
+        None => None,
+        Some(Said::Unknown) => Some(LastFile::Unknown),
+        Some(Said::File { min, max, sum }) => Some(LastFile::File { min, max, sum }),
     }
 }
 

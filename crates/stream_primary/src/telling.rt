@@ -6,7 +6,7 @@ ghost use Rattle.stream_wire.specs.declared.frame.Frame.TheVariants as frame;
 
 use crate::standing::{Sent, Standing};
 use lf_base::{Name, NoMemory, Pos};
-use node_core::{Answer, Refusal};
+use node_core::{Answer, Refusal, Whereabouts};
 use std::alloc::Global;
 use stream_wire::{Frame, encode_frame, encode_ltx_front, write_head};
 
@@ -26,15 +26,21 @@ pub fn next(at: Standing, answer: &Answer) -> Standing
 {
     match answer {
         Answer::Item { after, .. } => Standing {
-            pos: *after,
+            here: Whereabouts {
+                pos: *after,
+                last: None,
+            },
             sent: begun(at.sent),
         },
         Answer::Gone => Standing {
-            pos: Pos { txid: 0, sum: 0 },
+            here: Whereabouts {
+                pos: Pos { txid: 0, sum: 0 },
+                last: None,
+            },
             sent: begun(at.sent),
         },
         Answer::Level(_) => Standing {
-            pos: at.pos,
+            here: at.here,
             sent: Sent::Ready,
         },
         _ => at,
