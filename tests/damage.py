@@ -2,7 +2,7 @@
 """Damaged data directories: each is refused by name with status 3 and left as it is, byte by byte; and what a stop may
 leave, or what no file of the store is, is no damage. What is damage: crates/node_recovery, docs/FORMATS.md.
 
-At most: 600 seconds.
+At most: 1200 seconds.
 Seen to fail: a program that touches the directory before it refuses it ("the directory is as it was"), and one that takes every directory for
 damaged (each harmless change is refused)."""
 import contextlib

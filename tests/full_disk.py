@@ -2,7 +2,7 @@
 """A disk that is full, has no inode left, or turns read-only under real SQLite: the write that meets it is refused, every
 later one too until the node is started again, and then each transaction that was answered is there.
 
-At most: 600 seconds.
+At most: 1200 seconds.
 Seen to fail: a node that takes a write without room for done: a write is taken before the node is started again."""
 import sqlite3
 

@@ -2,7 +2,7 @@
 """Locks and files of a mount: waits for a lock and their ends, locks of open file descriptions, 900 connections of one
 process, a fork in a transaction, and what is refused of files.
 
-At most: 600 seconds.
+At most: 1200 seconds.
 Seen to fail: with a signal that ends no wait (`waits` never ends); without the FLUSH at a RELEASE (`description_locks`: the lock
 stays); with a handle of the node for each open (`many`: `unable to open database file`)"""
 import errno

@@ -2,7 +2,7 @@
 """What of a mount ends and comes back: the node is killed and started under it, the program is killed, the folder is
 unmounted in use, the program's standard input ends.
 
-At most: 600 seconds.
+At most: 1200 seconds.
 Seen to fail: with locks of a lost link refused (`node`: an open connection in WAL mode says `database is locked`); without the
 clearing of a dead mount (`program`)"""
 import os

@@ -3,7 +3,7 @@
 transaction sets all rows to one number, so a reader that sees two numbers has seen half a transaction. At the end both
 databases are sound, and the replica stands where the primary does.
 
-At most: 600 seconds.
+At most: 1500 seconds.
 Seen to fail: with a lock granted that the node refused (DELETE mode: `disk I/O error` of writers and readers)"""
 import random
 import time
@@ -11,7 +11,7 @@ import time
 from support import Node, holds, length, run, same
 from support.mount import Mount, damaged, in_each_way, need_mount
 
-ROWS, SECONDS, LIMIT = 30, length(3, 20), 60
+ROWS, SECONDS, LIMIT = 30, length(3, 20), 180
 WRITER = '''
 import random
 chance = random.Random(os.getpid())

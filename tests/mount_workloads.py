@@ -3,7 +3,7 @@
 of several sizes, a cache that spills, rollbacks, VACUUM, checkpoints, several processes, changes of the journal mode.
 At the end the database file, the log applied and what SQLite saw are the same bytes.
 
-At most: 900 seconds.
+At most: 1500 seconds.
 Seen to fail: with unlocks that are not sent on (`processes`: `database is locked`)"""
 import os
 import random

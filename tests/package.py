@@ -88,9 +88,9 @@ def started(root, name, following=None):
 
 
 def installed():
+    clients = [path for path, source in CLIENTS.items() if os.path.exists(f'{places.ROOT}/{source}')]  # another script may be building one
     with Root() as root:
         root.dpkg('-i', built()[0])
-        clients = [path for path, source in CLIENTS.items() if os.path.exists(f'{places.ROOT}/{source}')]
         for name in (*WANTED, *clients):
             holds(os.path.isfile(root.path(name)), f'{name} is there')
             same((os.stat(root.path(name)).st_uid, os.stat(root.path(name)).st_mode & 0o022), (0, 0), f'owner and mode of {name}')

@@ -3,7 +3,7 @@
 write, shows a reader one position, and comes back from kills of either or both, from a log that was pruned, and from a
 primary that went back to an older copy of its directory.
 
-At most: 600 seconds.
+At most: 1200 seconds.
 Seen to fail: nodes whose writes of the file `database` change one bit: SQLite takes the replica's schema for malformed."""
 import os
 import shutil

@@ -2,7 +2,7 @@
 """Rows written by real SQLite on one node, in each journal mode: each transaction that SQLite commits is one of the log,
 a rollback is none, and what SQLite sees, the database file and the log applied are the same bytes.
 
-At most: 600 seconds.
+At most: 1200 seconds.
 Seen to fail: a node whose writes of the file `database` change one bit ("the log applied is the database file"), and one that doesn't rename
 every ninth file into its log ("apply of the log ends well")."""
 import os

@@ -2,7 +2,7 @@
 """Several connections to one node, in each journal mode: each sees what another committed, two don't write at once, and four
 processes lose no row.
 
-At most: 600 seconds.
+At most: 1200 seconds.
 Seen to fail: a VFS that takes every lock for granted without asking the node, which refuses the writes:
 "disk I/O error" in place of a lock that is waited for."""
 import sqlite3

@@ -2,7 +2,7 @@
 """Many connections of one process, and processes that fork: 2,000 connections at once, more than a lock of the node has holders
 and with descriptors past 1,024; a child that leaves its parent's connections alone, and one that uses them.
 
-At most: 600 seconds.
+At most: 1200 seconds.
 Seen to fail: with a library in which each connection in WAL mode holds SHARED itself (the 1,024th is told
 `database is locked`), and with one that sends a child's requests on its parent's link (the parent is told `disk I/O error`)."""
 import os

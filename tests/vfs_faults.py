@@ -2,7 +2,7 @@
 """A node that ends under connections of real SQLite: they are told of an I/O error, never of a damaged database, at once and not
 after a busy timeout; and once it is started again, new connections of the same process find all that was acknowledged.
 
-At most: 600 seconds.
+At most: 1200 seconds.
 Seen to fail: with a library that answers a failed read by SQLite's code for a damaged file (`database disk image is malformed`)."""
 import sqlite3
 import threading

@@ -2,7 +2,7 @@
 """The shared memory of WAL mode among processes, which the VFS mirrors: a connection that stays open sees what others commit, what
 a checkpoint or a node does to the log, and what a client leaves that dies at any of its messages.
 
-At most: 600 seconds.
+At most: 1200 seconds.
 Seen to fail: with libraries that put in nothing behind a lock, that tell nothing before an unlock, that read the header alone, and
 that read the first region alone (long_log)."""
 import os
