@@ -13,6 +13,7 @@ mod learning;
 mod seat;
 mod serving;
 mod unserved;
+mod waited;
 
 pub use answering::{answer, status_of};
 pub use bringing::Bringing;
@@ -22,3 +23,4 @@ pub use learning::{learn, round_ask};
 pub use seat::{give_up_lease, keep_lease};
 pub use serving::serve_lease;
 pub use unserved::Unserved;
+pub use waited::Waited;

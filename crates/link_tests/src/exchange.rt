@@ -17,13 +17,13 @@ use stream_wire::Call;
 const REQUEST: &[u8] = b"POST /tx HTTP/1.1\r\nHost: a:1\r\nContent-Length: 9\r\n\r\nfrontback";
 
 /// The text up to a place.
-fn front<'a>(rt: &impl Abort, text: &'a str, at: usize) -> &'a str {
+pub fn front<'a>(rt: &impl Abort, text: &'a str, at: usize) -> &'a str {
     text.get(..at).expect(rt, "a front")
 }
 
 /// A link that gives this input in pieces of a size, has room for so many bytes, and fails at the call
 /// of this number.
-fn link_of(
+pub fn link_of(
     rt: &impl Abort,
     alloc: Global,
     input: &[u8],
@@ -41,7 +41,7 @@ fn link_of(
 }
 
 /// A dialer of one link.
-fn dialer_of(rt: &impl Abort, alloc: Global, link: MemLink) -> MemDialer
+pub fn dialer_of(rt: &impl Abort, alloc: Global, link: MemLink) -> MemDialer
     requires { IsUnused link }
 {
     let mut links = Vec::new(alloc);

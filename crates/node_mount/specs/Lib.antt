@@ -11,3 +11,4 @@ pub mod Opening
 pub mod Returns
 pub mod Damage
 pub mod Mounting
+pub mod LeaseService

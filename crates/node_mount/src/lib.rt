@@ -18,6 +18,7 @@ mod keeper;
 mod keeping;
 mod lease_news;
 mod lease_rounds;
+mod lease_service;
 mod listening;
 mod maker;
 mod means;
@@ -40,6 +41,7 @@ mod work;
 
 pub use counts::Counts;
 pub use keeping::Keeping;
+pub use lease_service::serve_leases;
 pub use maker::Maker;
 pub use mem_maker::{MemMaker, MemReturned};
 pub use mem_spawn::MemSpawn;

@@ -1,0 +1,150 @@
+"""A lease service and three nodes that ask it which of them is primary."""
+import contextlib
+import socketserver
+import sqlite3
+import time
+
+from .cases import holds
+from .node import Node
+from .outcomes import Skipped, Wrong
+from .service import Service
+from .sqlite import connect, in_mode
+from .waiting import until
+from .workload import insert
+
+
+class Cluster:
+    """The first two are candidates. The first is primary and has a table t(a, b, c); all are level."""
+
+    def __init__(self, mode):
+        self.stack = contextlib.ExitStack()
+        self.rows = 0
+        try:
+            self.service = self.stack.enter_context(Service())
+            self.nodes = [self.node(True), self.node(True), self.node(False)]
+            self.begin(mode)
+        except BaseException:
+            self.stack.close()
+            raise
+
+    def __enter__(self):
+        return self
+
+    def __exit__(self, *_):
+        self.stack.close()
+
+    def node(self, candidate):
+        return self.stack.enter_context(Node(service=self.service, candidate=candidate, starts=False))
+
+    def begin(self, mode):
+        first, *others = self.nodes
+        first.launch()
+        if until(lambda: first.process.poll() or answers(first), 'the first node') == 3:
+            raise Skipped('mount keeps no lease of a service yet')
+        until(lambda: self.primary() is first and made(first, mode), 'the first candidate is primary, and takes writes')
+        for other in others:
+            other.start()
+        self.level(first)
+
+    def primary(self):
+        """The node of the grant that stands, None where there is none."""
+        return self.holder(self.service.info())
+
+    def holder(self, grant):
+        return next((it for it in self.nodes if (grant or {}).get('host') == f'db{it.port}'), None)
+
+    def follows(self, old=None):
+        """Waits until a node other than the old one is primary and takes writes, and answers it."""
+        def found():
+            primary = self.primary()
+            return primary if primary not in (None, old) and self.writes(primary) else None
+        return until(found, 'a node is primary and takes writes')
+
+    def writes(self, node):
+        """Whether the node takes a row."""
+        self.rows += 1
+        try:
+            with contextlib.closing(connect(node.socket, 1)) as connection:
+                connection.execute(*insert(self.rows))
+            return True
+        except sqlite3.Error:
+            return False
+
+    def takers(self):
+        """The nodes that take a row now."""
+        return [it for it in self.nodes if self.writes(it)]
+
+    def one_takes(self):
+        """Tries a write at each node between two looks at the grant: where one stands meanwhile, its holder alone takes it, and where
+        the service is away meanwhile, one node at most. Answers that holder."""
+        before, took, after = self.service.info(), self.takers(), self.service.info()
+        if before is None and after is None:
+            holds(len(took) < 2, 'two nodes take writes while nobody is granted a term')
+        if not before or not after or (before['term'], before['host']) != (after['term'], after['host']):
+            return None
+        holder = self.holder(before)
+        holds(set(took) <= {holder}, 'a write at a node while another one\'s grant stands')
+        return holder
+
+    def refuses(self, node):
+        """Another node's grant stands, and this one takes no write."""
+        until(lambda: self.one_takes() not in (None, node), 'another node is primary')
+
+    def has_one(self):
+        """The same at each look, until there has been a grant for two leases' time."""
+        until(self.one_takes, 'a node is primary')
+        since = time.monotonic()
+        while time.monotonic() < since + 2 * self.service.ttl / 1000:
+            self.one_takes()
+
+    def level(self, primary):
+        for other in self.nodes:
+            if other is not primary:
+                primary.level(other)
+
+    def ends(self, kept):
+        """A node takes writes, all is level, and these rows are there. Answers the node."""
+        primary = self.follows()
+        self.level(primary)
+        for node in self.nodes:
+            holds(kept <= keys(node), 'rows that the new primary had are there')
+        return primary
+
+
+def answers(node):
+    try:
+        node.position()
+        return True
+    except OSError:
+        return False
+
+
+def made(node, mode):
+    try:
+        in_mode(node.socket, mode).close()
+        return True
+    except (sqlite3.Error, Wrong):
+        return False
+
+
+def keys(node):
+    with contextlib.closing(connect(node.socket)) as connection:
+        return {it for it, in connection.execute('select a from t')}
+
+
+class Nonsense(socketserver.BaseRequestHandler):
+    """Answers each link with the next thing that is no answer of a lease service."""
+    texts = (b'', bytes(300), b'HTTP/1.1 200 OK\r\nContent-Length: 2\r\n\r\n{}', b'HTTP/1.1 200 OK\r\nContent-Length: 5\r\n\r\nhello',
+             b'HTTP/1.1 200 OK\r\nContent-Length: 9000000000\r\n\r\n{', b'HTTP/1.1 500 Internal Server Error\r\n\r\n', b'HTTP/1.1 404',
+             b'HTTP/1.1 200 OK\r\n\r\n{"ttl":"long"}', b'HTTP/1.1 200 OK\r\nContent-Length: 1\r\nContent-Length: 2\r\n\r\n{}')
+    links = 0
+
+    def handle(self):
+        Nonsense.links += 1
+        with contextlib.suppress(OSError):
+            self.request.recv(4096)
+            self.request.sendall(self.texts[Nonsense.links % len(self.texts)])
+
+
+class Server(socketserver.ThreadingTCPServer):
+    allow_reuse_address = daemon_threads = True
