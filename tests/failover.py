@@ -5,17 +5,21 @@ take writes under one grant. A transaction inside which the lease ends is not co
 over, also where it stands at the new one's position with other pages. At the end of each case all three have one position and one image.
 
 At most: 900 seconds.
-Seen to fail: a build whose followers say nothing of their last file, given the cases of a fork: the old primary stays apart."""
+Seen to fail: a service that tells a longer time than it grants (stopped, stopped_at_work, inside, cut_off), one that answers at once after
+its start (service_anew): a write at a node while another one's grant stands, a commit that is not refused. A build whose followers say
+nothing of their last file, given the cases of a fork: the old primary stays apart."""
 import contextlib
 import functools
+import os
 import socket
 import sqlite3
 
 from support import (Cluster, Node, Skipped, configuration, connect, holds, in_each_mode, in_mode, insert, length, refuses, run, same,
-                     until)
+                     small_disk, until)
 from support.cluster import Server, Writer, keys, standing_still, takes
 
 TURNS = length(2, 10)
+EITHER = length(('wal',), ('delete', 'wal'))
 
 
 def killed(mode):
@@ -43,9 +47,10 @@ def stopped(mode):
         primary = cluster.follows()
         cluster.level(primary)
         kept = keys(primary)
-        with standing_still(primary):
-            cluster.level(cluster.follows(primary), without=primary)
-        cluster.refuses(primary)
+        with cluster.cut_off(primary):
+            with standing_still(primary):
+                cluster.level(cluster.follows(primary), without=primary)
+            cluster.refuses(primary)
         cluster.ends(kept)
 
 
@@ -55,12 +60,13 @@ def stopped_at_work(mode):
         for _ in range(TURNS):
             primary = cluster.follows()
             writer = Writer(cluster, primary)
-            with standing_still(primary):
-                heir = cluster.follows(primary)
-                cluster.level(heir, without=primary)
-                kept, before = keys(heir), list(writer.answered)
-            after = writer.ended()[len(before):]
-            holds(len(after) <= 1, f'rows are taken behind the lease\'s end: {after}')
+            with cluster.cut_off(primary):
+                with standing_still(primary):
+                    heir = cluster.follows(primary)
+                    cluster.level(heir, without=primary)
+                    kept, before = keys(heir), list(writer.answered)
+                after = writer.ended()[len(before):]
+                holds(len(after) <= 1, f'{len(after)} rows are taken behind the lease\'s end')
             cluster.ends(kept)
 
 
@@ -75,22 +81,64 @@ def inside(mode):
             connection.execute('begin immediate')
             for key in range(-100, 0):
                 connection.execute(*insert(key, 3000))
-            with standing_still(primary):
-                cluster.follows(primary)
-            refuses(lambda: connection.execute('commit'), sqlite3.Error, 'the commit')
+            with cluster.cut_off(primary):
+                with standing_still(primary):
+                    cluster.follows(primary)
+                refuses(lambda: connection.execute('commit'), sqlite3.Error, 'the commit')
         cluster.ends(kept)
         for node in cluster.nodes:
             holds(min(keys(node)) > 0, 'nothing of it is there')
 
 
 def service_anew(mode):
-    """The service is killed and started again: no node takes a write while another one's grant stands."""
+    """The service is killed and started again, with and without the primary: no node takes a write while another one's grant stands."""
     with Cluster(mode) as cluster:
-        kept = keys(cluster.nodes[0])
-        for _ in range(TURNS):
+        primary = cluster.nodes[0]
+        kept = keys(primary)
+        with cluster.cut_off(primary):
             cluster.service.kill()
             cluster.service.launch()
-            cluster.has_one()
+            cluster.refuses(primary)
+        cluster.service.kill()
+        cluster.service.launch()
+        cluster.has_one()
+        cluster.ends(kept)
+
+
+def service_stopped(mode):
+    """The service stands still for longer than a lease: nobody takes writes meanwhile, and it goes on."""
+    with Cluster(mode) as cluster:
+        kept = keys(cluster.nodes[0])
+        with standing_still(cluster.service):
+            until(lambda: not cluster.takers(), 'no node takes writes')
+        cluster.has_one()
+        cluster.ends(kept)
+
+
+def cut_off(mode):
+    """A primary that can't reach the service, and the others can: another one takes over, and it follows once it can again."""
+    with Cluster(mode) as cluster:
+        primary = cluster.nodes[0]
+        kept = keys(primary)
+        with cluster.cut_off(primary):
+            heir = cluster.follows(primary)
+            cluster.refuses(primary)
+            cluster.level(heir, without=primary)
+        cluster.ends(kept)
+
+
+def broken(mode):
+    """A primary whose disk is full gives its lease back, and another one takes over. With room, and started anew, it follows."""
+    with small_disk('size=32m') as disk, Cluster(mode, folder=disk.folder) as cluster:
+        primary = cluster.nodes[0]
+        kept = keys(primary)
+        with open(f'{disk.folder}/filler', 'wb', buffering=0) as filler, contextlib.suppress(OSError):
+            while filler.write(bytes(1000)):
+                pass
+        until(lambda: not cluster.writes(primary), 'a write that finds no room')
+        cluster.level(cluster.follows(primary), without=primary)
+        os.remove(f'{disk.folder}/filler')
+        primary.restart()
         cluster.ends(kept)
 
 
@@ -174,5 +222,7 @@ def says_last_file():
             return any(it.startswith(b'litefs-last-file:') for it in head)
 
 
-run(in_each_mode(('delete', 'wal'), killed=killed, stopped=stopped, stopped_at_work=stopped_at_work, inside=inside, forked=forked,
-                 forked_apart=forked_apart, service_anew=service_anew, nonsense=nonsense), at_once=4)
+run({**in_each_mode(('delete', 'wal'), killed=killed, stopped=stopped, stopped_at_work=stopped_at_work, inside=inside, forked=forked,
+                    forked_apart=forked_apart),
+     **in_each_mode(EITHER, service_anew=service_anew, service_stopped=service_stopped, cut_off=cut_off, broken=broken, nonsense=nonsense)},
+    at_once=6)

@@ -2,6 +2,7 @@
 import contextlib
 import itertools
 import signal
+import socket
 import socketserver
 import sqlite3
 import threading
@@ -17,14 +18,16 @@ from .workload import insert
 
 
 class Cluster:
-    """The first two are candidates. The first is primary and has a table t(a, b, c); all are level. `keep`: how many files each log has."""
+    """The first two are candidates. The first is primary and has a table t(a, b, c); all are level. Each reaches the service by a door
+    of its own. `keep`: how many files each log has. `folder`: where the first runs."""
 
-    def __init__(self, mode, keep=KEEP_ALL):
+    def __init__(self, mode, keep=KEEP_ALL, folder=None):
         self.stack = contextlib.ExitStack()
         self.keys = itertools.count(1)
         try:
             self.service = self.stack.enter_context(Service())
-            self.nodes = [self.node(it, keep) for it in (True, True, False)]
+            self.doors = {}
+            self.nodes = [self.node(True, keep, folder), self.node(True, keep), self.node(False, keep)]
             self.begin(mode)
         except BaseException:
             self.stack.close()
@@ -36,8 +39,20 @@ class Cluster:
     def __exit__(self, *_):
         self.stack.close()
 
-    def node(self, candidate, keep):
-        return self.stack.enter_context(Node(service=self.service, candidate=candidate, keep=keep, starts=False))
+    def node(self, candidate, keep, folder=None):
+        door = self.stack.enter_context(Door(self.service))
+        node = self.stack.enter_context(Node(service=door, candidate=candidate, keep=keep, folder=folder, starts=False))
+        self.doors[node] = door
+        return node
+
+    @contextlib.contextmanager
+    def cut_off(self, node):
+        """The node can't reach the service meanwhile, and so isn't told that its lease is lost."""
+        self.doors[node].open = False
+        try:
+            yield
+        finally:
+            self.doors[node].open = True
 
     def begin(self, mode):
         first, *others = self.nodes
@@ -161,6 +176,38 @@ def made(node, mode):
 def keys(node):
     with contextlib.closing(connect(node.socket)) as connection:
         return {it for it, in connection.execute('select a from t')}
+
+
+class Door(socketserver.ThreadingTCPServer):
+    """Stands before a lease service, and passes links on while it is open."""
+    allow_reuse_address = daemon_threads = True
+
+    def __init__(self, service):
+        self.service, self.ttl, self.open = service, service.ttl, True
+        super().__init__(('127.0.0.1', 0), Passing)
+        self.port = self.server_address[1]
+        threading.Thread(target=self.serve_forever, daemon=True).start()
+
+    def __exit__(self, *_):
+        self.shutdown()
+        super().__exit__()
+
+
+class Passing(socketserver.BaseRequestHandler):
+    def handle(self):
+        with contextlib.suppress(OSError), socket.socket() as other:
+            if self.server.open:
+                other.connect(('127.0.0.1', self.server.service.port))
+                threading.Thread(target=passed, args=(self.request, other), daemon=True).start()
+                passed(other, self.request)
+
+
+def passed(source, to):
+    """Passes on what comes, to its end."""
+    with contextlib.suppress(OSError):
+        while text := source.recv(65536):
+            to.sendall(text)
+        to.shutdown(socket.SHUT_WR)
 
 
 class Nonsense(socketserver.BaseRequestHandler):
