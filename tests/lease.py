@@ -1,20 +1,15 @@
 #!/usr/bin/python3
 """A lease service, by itself: terms granted, refused, renewed and given back, bodies and links that ask nothing, and a wait of a
-lease's time after each start. And three nodes that ask it which of them is primary: the first candidate is; killed, stopped for
-longer than its lease, cut off from a service that is started anew or that answers nonsense, it is followed by another, and no two
-take writes under one grant. At the end of each case all three have one position and one image.
+lease's time after each start. tests/failover.py has the nodes that ask one.
 
-At most: 900 seconds.
+At most: 600 seconds.
 Seen to fail: a stand-in for the service that listens at once after its start: a second node is granted a term while the first one's lasts.
 A service on whose links a read waits for ever: a client that says nothing holds up the next."""
 import contextlib
-import signal
 import socket
-import threading
 import time
 
-from support import Cluster, Service, Skipped, holds, in_each_mode, run, same, until
-from support.cluster import Nonsense, Server, keys
+from support import Service, Skipped, holds, run, same, until
 
 HELD, LATE, UNKNOWN = 'Held', 'Late', 'Unknown'
 HEAD = b'POST /lease HTTP/1.1\r\nHost: h\r\nContent-Length: %d\r\n\r\n'
@@ -39,8 +34,6 @@ NONSENSE = {
     b'DELETE /lease HTTP/1.1\r\nHost: h\r\n\r\n': 404,
 }
 
-
-# ---- the service by itself
 
 def terms():
     with Service(ttl=10000) as service:
@@ -163,67 +156,5 @@ def refusals():
         same(service.info(), {}, 'the first one')
 
 
-# ---- three nodes
-
-def killed(mode):
-    """kill -9 of whoever is primary, with rows that the others have, three times: what they had is there, and the old one follows."""
-    with Cluster(mode) as cluster:
-        primary = cluster.nodes[0]
-        for _ in range(3):
-            holds(all([cluster.writes(primary) for _ in range(20)]), 'the primary takes writes')
-            cluster.level(primary)
-            kept = keys(primary)
-            primary.kill()
-            following = cluster.follows(primary)
-            primary.start()
-            following.level(primary)
-            cluster.refuses(primary)
-            primary = cluster.ends(kept)
-
-
-def stopped(mode):
-    """A primary that stands still for longer than its lease takes no write when it goes on, and follows."""
-    with Cluster(mode) as cluster:
-        primary = cluster.nodes[0]
-        for _ in range(2):
-            cluster.level(primary)
-            kept = keys(primary)
-            primary.process.send_signal(signal.SIGSTOP)
-            cluster.follows(primary)
-            primary.process.send_signal(signal.SIGCONT)
-            cluster.refuses(primary)
-            primary = cluster.ends(kept)
-
-
-def service_anew(mode):
-    """The service is killed and started again: no node takes a write while another one's grant stands."""
-    with Cluster(mode) as cluster:
-        kept = keys(cluster.nodes[0])
-        for _ in range(2):
-            cluster.service.kill()
-            cluster.service.launch()
-            cluster.has_one()
-        cluster.ends(kept)
-
-
-def nonsense_answered(mode):
-    """A service that answers nonsense: once its lease has ended nobody takes writes, everybody reads, and it goes on with a sound one."""
-    with Cluster(mode) as cluster:
-        kept = keys(cluster.nodes[0])
-        cluster.service.kill()
-        with Server(('127.0.0.1', cluster.service.port), Nonsense) as server:
-            threading.Thread(target=server.serve_forever, daemon=True).start()
-            until(lambda: not cluster.takers(), 'no node takes writes')
-            seen = Nonsense.links
-            until(lambda: Nonsense.links > seen + 3 * len(Nonsense.texts), 'the nodes go on asking')
-            holds(not cluster.takers(), 'nobody takes writes')
-            for node in cluster.nodes:
-                holds(kept <= keys(node), 'rows are read')
-            server.shutdown()
-        cluster.service.start()
-        cluster.ends(kept)
-
-
-ALONE = (terms, texts, ends, nonsense, silence, waits, other_keys, refusals)
-run({**{call.__name__: call for call in ALONE},
-     **in_each_mode(('delete', 'wal'), killed=killed, stopped=stopped, service_anew=service_anew, nonsense_answered=nonsense_answered)})
+CASES = (terms, texts, ends, nonsense, silence, waits, other_keys, refusals)
+run({call.__name__: call for call in CASES}, at_once=4)
