@@ -11,7 +11,7 @@ loop-preserved g c =
     let link = c.in-Ok-Some.link in
     let served = c.serve_lease in
     let session = subst (λ may. IsLeaseSession g.A.L.Link may (2 ^ 62) c.loop.table served.new.table link served.new.link served.result)
-        c.loop.invariant.clock served.ensures.session in
+    c.loop.invariant.clock served.ensures.session in
     record {
       given = search rules;
       faults = c.in-Ok-Some.ensures.cause ∙ c.loop.invariant.faults;
