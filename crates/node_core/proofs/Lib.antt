@@ -23,3 +23,4 @@ pub mod Refusing
 pub mod Following
 pub mod Looked
 pub mod Encodings
+pub mod Alone

@@ -28,6 +28,7 @@ RefusesDrop start old (refusals.Store why) end new =
 RefusesDrop start old refusals.NotPrimary end new = ⊥
 RefusesDrop start old (refusals.Ltx why) end new = ⊥
 RefusesDrop start old refusals.Absent end new = ⊥
+RefusesDrop start old (refusals.Halt why) end new = ⊥
 RefusesDrop start old refusals.NoMemory end new = ⊥
 
 -- what it answers. A database that was written is dropped; else nothing is done
@@ -44,3 +45,4 @@ AnswersDrop start old (answers.Level here) end new = ⊥
 AnswersDrop start old (answers.Item ltx to) end new = ⊥
 AnswersDrop start old answers.Gone end new = ⊥
 AnswersDrop start old (answers.Pruned count) end new = ⊥
+AnswersDrop start old (answers.Pass pass) end new = ⊥

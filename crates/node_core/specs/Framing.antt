@@ -63,6 +63,7 @@ RefusesFile start old file refusals.NotPrimary end new = ⊥
 RefusesFile start old file refusals.NotReplica end new = ⊥
 RefusesFile start old file (refusals.Ltx why) end new = ⊥
 RefusesFile start old file refusals.Absent end new = ⊥
+RefusesFile start old file (refusals.Halt why) end new = ⊥
 
 -- what it answers to a file
 abbrev pub AnswersLtx : History → NodeParts → Ltx → Answer → History → NodeParts → Type 0
@@ -77,6 +78,7 @@ AnswersLtx start old file (answers.Level here) end new = ⊥
 AnswersLtx start old file (answers.Item ltx to) end new = ⊥
 AnswersLtx start old file answers.Gone end new = ⊥
 AnswersLtx start old file (answers.Pruned count) end new = ⊥
+AnswersLtx start old file (answers.Pass pass) end new = ⊥
 
 -- why bytes are refused before there is a file: by their earliest fault, or for want of memory
 abbrev pub RefusesBytes : List ℕ → Answer → Type 0
@@ -86,6 +88,7 @@ RefusesBytes bytes (answers.Refused (refusals.Store why)) = ⊥
 RefusesBytes bytes (answers.Refused refusals.NotPrimary) = ⊥
 RefusesBytes bytes (answers.Refused refusals.NotReplica) = ⊥
 RefusesBytes bytes (answers.Refused refusals.Absent) = ⊥
+RefusesBytes bytes (answers.Refused (refusals.Halt why)) = ⊥
 RefusesBytes bytes (answers.Applied here) = ⊥
 RefusesBytes bytes (answers.Held lock) = ⊥
 RefusesBytes bytes (answers.Done reply) = ⊥
@@ -96,6 +99,7 @@ RefusesBytes bytes (answers.Level here) = ⊥
 RefusesBytes bytes (answers.Item ltx to) = ⊥
 RefusesBytes bytes answers.Gone = ⊥
 RefusesBytes bytes (answers.Pruned count) = ⊥
+RefusesBytes bytes (answers.Pass pass) = ⊥
 
 -- the primary takes nothing; elsewhere the bytes are no file that can be read, or the file that they are is answered
 abbrev pub AnswersFrame : History → NodeParts → List ℕ → Answer → History → NodeParts → Type 0

@@ -58,6 +58,7 @@ RefusesHello old from (refusals.Store (fault.PageSize have want)) new = ⊥
 RefusesHello old from refusals.NotReplica new = ⊥
 RefusesHello old from (refusals.Ltx why) new = ⊥
 RefusesHello old from refusals.Absent new = ⊥
+RefusesHello old from (refusals.Halt why) new = ⊥
 
 -- what it answers
 abbrev pub TellsFollower : History → NodeParts → Pos → Answer → StoreFields → Type 0
@@ -74,6 +75,7 @@ TellsFollower start old from (answers.At here) new = ⊥
 TellsFollower start old from (answers.Applied here) new = ⊥
 TellsFollower start old from (answers.Held lock) new = ⊥
 TellsFollower start old from (answers.Pruned count) new = ⊥
+TellsFollower start old from (answers.Pass pass) new = ⊥
 
 -- the node is as before
 pub record AnswersHello (start : History) (old : NodeParts) (from : Pos) (answer : Answer) (end : History) (new : NodeParts) : Type 0 where

@@ -40,6 +40,7 @@ NamesPrimary start old host (answers.Refused refusals.NotReplica) end new = ⊥
 NamesPrimary start old host (answers.Refused (refusals.Ltx why)) end new = ⊥
 NamesPrimary start old host (answers.Refused (refusals.Store why)) end new = ⊥
 NamesPrimary start old host (answers.Refused refusals.Absent) end new = ⊥
+NamesPrimary start old host (answers.Refused (refusals.Halt why)) end new = ⊥
 NamesPrimary start old host (answers.Done reply) end new = ⊥
 NamesPrimary start old host (answers.Refuse number) end new = ⊥
 NamesPrimary start old host (answers.At here) end new = ⊥
@@ -49,6 +50,7 @@ NamesPrimary start old host answers.Gone end new = ⊥
 NamesPrimary start old host (answers.Applied here) end new = ⊥
 NamesPrimary start old host (answers.Held lock) end new = ⊥
 NamesPrimary start old host (answers.Pruned count) end new = ⊥
+NamesPrimary start old host (answers.Pass pass) end new = ⊥
 
 -- what it answers
 abbrev pub AnswersLease : History → NodeParts → ℕ → LeaseNews → Answer → History → NodeParts → Type 0

@@ -7,6 +7,7 @@ pub mod Calls
 pub mod Deciding
 pub mod Safely
 pub mod Files
+pub mod Locking
 pub mod Unlinking
 pub mod Committing
 pub mod Serving
@@ -16,5 +17,7 @@ pub mod Dropping
 pub mod Framing
 pub mod Opening
 pub mod Leasing
+pub mod Permitting
 pub mod Steps
 pub mod Runs
+pub mod PermitLaw

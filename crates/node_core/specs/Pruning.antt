@@ -32,6 +32,7 @@ RefusesPrune start old keep (refusals.Store why) end new = (1 ≤ (position old)
 RefusesPrune start old keep refusals.NotPrimary end new = ⊥
 RefusesPrune start old keep refusals.NotReplica end new = ⊥
 RefusesPrune start old keep (refusals.Ltx why) end new = ⊥
+RefusesPrune start old keep (refusals.Halt why) end new = ⊥
 RefusesPrune start old keep refusals.NoMemory end new = ⊥
 
 -- what it answers: how many files are gone
@@ -47,6 +48,7 @@ TellsPruned start old keep (answers.Item ltx to) end new = ⊥
 TellsPruned start old keep answers.Gone end new = ⊥
 TellsPruned start old keep (answers.Applied here) end new = ⊥
 TellsPruned start old keep (answers.Held lock) end new = ⊥
+TellsPruned start old keep (answers.Pass pass) end new = ⊥
 
 pub record AnswersPrune (start : History) (old : NodeParts) (keep : ℕ) (answer : Answer) (end : History) (new : NodeParts) : Type 0 where
   pub tells : TellsPruned start old.store keep answer end new.store

@@ -37,6 +37,10 @@ law_ask (asks.Frame now bytes) = law_frame bytes
 law_ask (asks.Drop now) = laws.Drop
 law_ask (asks.Prune keep) = laws.Prune (kept_of keep)
 law_ask (asks.Lease now news) = laws.Lease
+law_ask (asks.HaltAsk now node) = laws.Permit
+law_ask (asks.HaltBack now number) = laws.Permit
+law_ask (asks.HaltGot now pass) = laws.Permit
+law_ask (asks.HaltLost number) = laws.Permit
 
 abbrev pub law_store_fault : StoreFault → laws.Refusal
 law_store_fault fault.Disk = laws.Disk
@@ -53,6 +57,7 @@ law_refusal refusals.NotReplica = laws.NotReplica
 law_refusal (refusals.Ltx why) = laws.BadFile
 law_refusal (refusals.Store why) = law_store_fault why
 law_refusal refusals.Absent = laws.Other
+law_refusal (refusals.Halt why) = laws.Other
 law_refusal refusals.NoMemory = laws.NoMemory
 
 abbrev pub law_answer : Answer → laws.Answer
@@ -66,6 +71,7 @@ law_answer answers.Gone = laws.Gone
 law_answer (answers.Applied position) = laws.Applied position
 law_answer (answers.Held lock) = laws.Held lock
 law_answer (answers.Pruned count) = laws.Done
+law_answer (answers.Pass pass) = laws.Done
 law_answer (answers.Refused why) = laws.Refused (law_refusal why)
 
 -- THE CONTRACT OF A STEP over an honest disk: its facts; at each moment a crash leaves a store that a restart may find while the

@@ -11,7 +11,7 @@ use Rattle.file_view.specs.Needs.{needs_of}
 use Rattle.file_view.specs.Requests.{rows_of}
 use Rattle.node_core.specs.declared.answer.Answer.{Answer}
 use Rattle.node_core.specs.declared.answer.Answer.TheVariants as answers
-use Rattle.node_core.specs.Committing.{IsCommitted, IsNotCommitted}
+use Rattle.node_core.specs.Committing.{IsCommitted, IsNotCommitted, IsNotLeft}
 use Rattle.node_core.specs.Errors.{errno_of_view}
 use Rattle.node_core.specs.Files.{IsPlanned, RefusesBy, scene}
 use Rattle.node_core.specs.Nodes.{NodeParts}
@@ -37,7 +37,7 @@ ServesFiles start old caller request (answers.Done reply) end new =
     IsServed start old caller request (plan.Reply reply) end new ⊎ IsCommitted start old caller request reply end new
 ServesFiles start old caller request answers.Quiet end new = IsServed start old caller request plan.Silent end new
 ServesFiles start old caller request (answers.Refuse number) end new =
-    IsRefused start old caller request number end new ⊎ IsNotCommitted start old caller request number end new
+    IsRefused start old caller request number end new ⊎ IsNotCommitted start old caller request number end new ⊎ IsNotLeft start old caller request number end new
 ServesFiles start old caller request (answers.At position) end new = ⊥
 ServesFiles start old caller request (answers.Level position) end new = ⊥
 ServesFiles start old caller request (answers.Item ltx after) end new = ⊥
@@ -45,4 +45,5 @@ ServesFiles start old caller request answers.Gone end new = ⊥
 ServesFiles start old caller request (answers.Applied position) end new = ⊥
 ServesFiles start old caller request (answers.Held lock) end new = ⊥
 ServesFiles start old caller request (answers.Pruned count) end new = ⊥
+ServesFiles start old caller request (answers.Pass pass) end new = ⊥
 ServesFiles start old caller request (answers.Refused why) end new = ⊥

@@ -12,7 +12,9 @@ use Rattle.node_core.specs.Dropping.{AnswersDrop}
 use Rattle.node_core.specs.Framing.{AnswersFrame}
 use Rattle.node_core.specs.Hello.{AnswersHello}
 use Rattle.node_core.specs.Leasing.{AnswersLease, believes}
+use Rattle.node_core.specs.Locking.{HoldsBack, is_barred}
 use Rattle.node_core.specs.Nodes.{NodeParts, at_moment, role_in, seen}
+use Rattle.node_core.specs.Permitting.{AnswersHaltAsk, AnswersHaltBack, GetsPermit, LosesPermit}
 use Rattle.node_core.specs.Pruning.{AnswersPrune}
 use Rattle.node_core.specs.Roles.{law_role}
 use Rattle.node_core.specs.Safely.{StepsSafely, law_answer, law_ask}
@@ -20,10 +22,15 @@ use Rattle.node_core.specs.Serving.{ServesFiles}
 use Rattle.node_core.specs.Stores.{OnlyRead, position}
 use Rattle.node_core.specs.Unlinking.{UnlinksDatabase, unlinks_database}
 
--- a request: UNLINK of the database file is answered by the node itself
-abbrev pub AnswersFile : Bool → History → NodeParts → ℕ → Request → Answer → History → NodeParts → Type 0
-AnswersFile true start old caller request answer end new = UnlinksDatabase start old answer end new
-AnswersFile false start old caller request answer end new = ServesFiles start old caller request answer end new
+-- a request: UNLINK of the database file is answered by the node itself, and so is a lock that a permit holds back
+abbrev pub AnswersFile : (unlinks barred : Bool) → History → NodeParts → ℕ → Request → Answer → History → NodeParts → Type 0
+AnswersFile true barred start old caller request answer end new = UnlinksDatabase start old answer end new
+AnswersFile false true start old caller request answer end new = HoldsBack start old answer end new
+AnswersFile false false start old caller request answer end new = ServesFiles start old caller request answer end new
+
+-- by the request, and by the permit that is out
+abbrev pub AnswersRequest : History → NodeParts → ℕ → Request → Answer → History → NodeParts → Type 0
+AnswersRequest start old caller request answer end new = AnswersFile (unlinks_database old.config request) (is_barred old request) start old caller request answer end new
 
 -- a session's end takes its handles and its locks, and what goes with these
 pub record EndsSession (start : History) (old : NodeParts) (caller : ℕ) (answer : Answer) (end : History) (new : NodeParts) : Type 0 where
@@ -39,7 +46,7 @@ pub record TellsPosition (start : History) (old : NodeParts) (answer : Answer) (
 
 -- what each ask does, over any disk
 abbrev pub Does : History → NodeParts → ℕ → Ask → Answer → History → NodeParts → Type 0
-Does start old caller (asks.File now request) answer end new = AnswersFile (unlinks_database old.config request) start (at_moment old now) caller request answer end new
+Does start old caller (asks.File now request) answer end new = AnswersRequest start (at_moment old now) caller request answer end new
 Does start old caller asks.EndSession answer end new = EndsSession start old caller answer end new
 Does start old caller asks.Where answer end new = TellsPosition start old answer end new
 Does start old caller (asks.Hello now from) answer end new = AnswersHello start (at_moment old now) from answer end new
@@ -47,6 +54,10 @@ Does start old caller (asks.Frame now bytes) answer end new = AnswersFrame start
 Does start old caller (asks.Drop now) answer end new = AnswersDrop start (at_moment old now) answer end new
 Does start old caller (asks.Prune keep) answer end new = AnswersPrune start old keep answer end new
 Does start old caller (asks.Lease now news) answer end new = AnswersLease start (at_moment old now) now news answer end new
+Does start old caller (asks.HaltAsk now node) answer end new = AnswersHaltAsk start (at_moment old now) answer end new
+Does start old caller (asks.HaltBack now number) answer end new = AnswersHaltBack start (at_moment old now) number answer end new
+Does start old caller (asks.HaltGot now pass) answer end new = GetsPermit start (at_moment old now) pass answer end new
+Does start old caller (asks.HaltLost number) answer end new = LosesPermit start old number answer end new
 
 -- the node at the moment of an ask, where one comes with it
 abbrev pub at_ask : NodeParts → Ask → NodeParts
@@ -58,6 +69,10 @@ at_ask old (asks.Frame now bytes) = at_moment old now
 at_ask old (asks.Drop now) = at_moment old now
 at_ask old (asks.Prune keep) = old
 at_ask old (asks.Lease now news) = at_moment old now
+at_ask old (asks.HaltAsk now node) = at_moment old now
+at_ask old (asks.HaltBack now number) = at_moment old now
+at_ask old (asks.HaltGot now pass) = at_moment old now
+at_ask old (asks.HaltLost number) = old
 
 -- the greatest moment that a node was given, once it was asked
 abbrev pub moment_by : Ask → ℕ → ℕ
@@ -69,6 +84,10 @@ moment_by (asks.Frame now bytes) moment = max moment now
 moment_by (asks.Drop now) moment = max moment now
 moment_by (asks.Prune keep) moment = moment
 moment_by (asks.Lease now news) moment = max moment now
+moment_by (asks.HaltAsk now node) moment = max moment now
+moment_by (asks.HaltBack now number) moment = max moment now
+moment_by (asks.HaltGot now pass) moment = max moment now
+moment_by (asks.HaltLost number) moment = moment
 
 -- what it believes of its lease then: only news change it
 abbrev pub belief_by : Ask → LeaseBelief → LeaseBelief
@@ -80,6 +99,10 @@ belief_by (asks.Hello now from) belief = belief
 belief_by (asks.Frame now bytes) belief = belief
 belief_by (asks.Drop now) belief = belief
 belief_by (asks.Prune keep) belief = belief
+belief_by (asks.HaltAsk now node) belief = belief
+belief_by (asks.HaltBack now number) belief = belief
+belief_by (asks.HaltGot now pass) belief = belief
+belief_by (asks.HaltLost number) belief = belief
 
 -- ONE STEP: what it does; over an honest disk what it tells the cluster and what a crash leaves at each of its moments, in the role
 -- that the node has at its moment; and what it believes of its lease

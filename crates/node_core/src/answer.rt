@@ -1,6 +1,7 @@
 use crate::refusal::Refusal;
 use byte_locks::LockId;
 use fuse_msgs::Reply;
+use halt_forward::HaltPass;
 use lf_base::{Bytes, Errno, Pos};
 
 /// What a node answers.
@@ -26,6 +27,8 @@ pub enum Answer {
     Held(LockId),
     /// So many files are gone from the log.
     Pruned(u64),
+    /// This write permit is given out.
+    Pass(HaltPass),
     /// It is refused.
     Refused(Refusal),
 }

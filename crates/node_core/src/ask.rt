@@ -3,6 +3,7 @@ ghost use Rattle.node_core.specs.Moments.{ask_at};
 
 use crate::news::LeaseNews;
 use fuse_msgs::Request;
+use halt_forward::HaltPass;
 use lf_base::{Bytes, Pos};
 
 /// What a node is asked. Each moment is in milliseconds since the Unix epoch.
@@ -24,6 +25,14 @@ pub enum Ask {
     Prune { keep: u64 },
     /// News of leases came.
     Lease { now: u64, news: LeaseNews },
+    /// The node of this number wants a write permit of the primary.
+    HaltAsk { now: u64, node: u64 },
+    /// The write permit of this number is given back to the primary.
+    HaltBack { now: u64, number: u64 },
+    /// This write permit came from the primary.
+    HaltGot { now: u64, pass: HaltPass },
+    /// The write permit of this number is gone.
+    HaltLost { number: u64 },
 }
 
 impl Ask {
@@ -37,7 +46,10 @@ impl Ask {
             Ask::Frame { now, .. } => *now = moment,
             Ask::Drop { now } => *now = moment,
             Ask::Lease { now, .. } => *now = moment,
-            Ask::EndSession | Ask::Where | Ask::Prune { .. } => {}
+            Ask::HaltAsk { now, .. } => *now = moment,
+            Ask::HaltBack { now, .. } => *now = moment,
+            Ask::HaltGot { now, .. } => *now = moment,
+            Ask::EndSession | Ask::Where | Ask::Prune { .. } | Ask::HaltLost { .. } => {}
         }
     }
 }

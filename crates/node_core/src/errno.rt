@@ -6,6 +6,8 @@ use file_view::ViewFault;
 use lf_base::Errno;
 use txn_log::StoreFault;
 
+pub const EPERM: Errno = Errno(1);
+
 const EIO: Errno = Errno(5);
 
 pub const EAGAIN: Errno = Errno(11);

@@ -1,6 +1,8 @@
 //! Laws of a node's steps, each the contract of a function that does nothing else.
 ghost use Rattle.node_core.specs.Nodes.{history, parts_of, seen};
+ghost use Rattle.node_core.specs.PermitLaw.{PermitIsAlone};
 ghost use Rattle.node_core.specs.Runs.{CrashesAreOpened, RunsAreSteps};
+ghost use Rattle.world_laws.specs.Step.{calls_of};
 
 use crate::node::Node;
 use lf_disk::Disk;
@@ -19,3 +21,8 @@ pub fn crashes_are_opened<D: Disk>()
 {
     stops_are_failures();
 }
+
+/// While a permit is out, no step of the node that gave it out makes a call but a prune.
+pub fn permit_is_alone<D: Disk>()
+    ensures { PermitIsAlone ⟦<Node<D> as Machine>⟧.steps (λ n. parts_of n) (λ old new caller ask answer step disk. calls_of (step.safe disk).facts) }
+{}

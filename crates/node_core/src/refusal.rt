@@ -1,6 +1,7 @@
 ghost use Rattle.std.specs.Prelude.{◌≡◌};
 ghost use Rattle.node_core.specs.Errors.{refusal_of, refusal_of_encoding};
 
+use halt_forward::HaltFault;
 use ltx_codec::LtxFault;
 use txn_log::StoreFault;
 
@@ -17,6 +18,8 @@ pub enum Refusal {
     Store(StoreFault),
     /// The database was never written.
     Absent,
+    /// The table of write permits does not do it.
+    Halt(HaltFault),
     NoMemory,
 }
 

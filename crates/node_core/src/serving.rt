@@ -3,13 +3,12 @@ ghost use Rattle.std.specs.Prelude.{◌≡◌, IsTrue};
 ghost use Rattle.node_core.specs.Nodes.{history, parts_of, seen};
 ghost use Rattle.node_core.specs.Safely.{StepsSafely, law_answer};
 ghost use Rattle.node_core.specs.Serving.{ServesFiles};
-ghost use Rattle.node_core.specs.Steps.{AnswersFile, IsStep};
-ghost use Rattle.node_core.specs.Unlinking.{unlinks_database};
+ghost use Rattle.node_core.specs.Steps.{AnswersRequest, IsStep};
 ghost use Rattle.world_laws.specs.Node as laws;
 
 use crate::answer::Answer;
 use crate::ask::Ask;
-use crate::errno::{errno_of_store, errno_of_view};
+use crate::errno::{EAGAIN, errno_of_store, errno_of_view};
 use crate::lending::prepare;
 use crate::node::Node;
 use file_view::{Plan, replica_requests_leave_the_database};
@@ -38,6 +37,10 @@ impl<D: Disk> Node<D> {
             Ok(Plan::Reply(reply)) => Answer::Done(reply),
             Ok(Plan::Silent) => Answer::Quiet,
             Ok(Plan::Commit { reply, change }) => {
+                if let Some(number) = self.standing.commit_refusal() {
+                    self.view.abandon();
+                    return Answer::Refuse(number);
+                }
                 let kept = self.config.retention.max(1);
                 match self
                     .store
@@ -58,9 +61,10 @@ impl<D: Disk> Node<D> {
         }
     }
 
-    /// Answers a request: UNLINK of the database file is the node's own.
+    /// Answers a request: UNLINK of the database file is the node's own, and so is what a permit holds
+    /// back.
     fn answer_request(&mut self, caller: u64, request: &Request) -> Answer
-        ensures does { AnswersFile (unlinks_database self.old.config request.now) (history self.old) (parts_of self.old) caller request.now result (history self.new) (parts_of self.new) }
+        ensures does { AnswersRequest (history self.old) (parts_of self.old) caller request.now result (history self.new) (parts_of self.new) }
         ensures safe { IsTrue (D.honest self.old.store.disk) → StepsSafely (seen (history self.old) (parts_of self.old)) laws.File
             (law_answer result) (seen (history self.new) (parts_of self.new)) (history self.old) (history self.new) }
         ensures standing { self.new.standing ≡ self.old.standing }
@@ -68,6 +72,8 @@ impl<D: Disk> Node<D> {
     {
         if self.unlinks_database(request) {
             self.unlink_database()
+        } else if self.is_barred(request) {
+            Answer::Refuse(EAGAIN)
         } else {
             self.serve(caller, request)
         }

@@ -1,8 +1,8 @@
 //! A table of news of leases and of requests at one node: what it is asked, at which moment, and what it
 //! answers. The requests are of one client, in rollback mode on pages of 512 bytes, or in WAL mode on
 //! pages of 4,096.
-mod client;
-mod node;
+pub mod client;
+pub mod node;
 
 use crate::same::same;
 use client::{Deed, Told, ask_of, told_of};
@@ -12,7 +12,7 @@ use std::process::Abort;
 use turn_desk::Machine;
 
 /// What is asked at a moment, and the answer.
-type Turn = (u64, Deed, Told);
+pub type Turn = (u64, Deed, Told);
 
 /// The lease is asked for at 100 and granted for 50, so it ends at 150. The client has opened the files.
 const GRANTED: &[Turn] = &[
@@ -176,7 +176,7 @@ const ROWS: &[(bool, &[&[Turn]])] = &[
 ];
 
 /// Each answer is the one of the table.
-fn play<R: Copy + Abort, M: Machine<Ask = node_core::Ask, Answer = node_core::Answer>>(
+pub fn play<R: Copy + Abort, M: Machine<Ask = node_core::Ask, Answer = node_core::Answer>>(
     rt: R,
     alloc: Global,
     node: &mut M,

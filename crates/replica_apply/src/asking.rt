@@ -44,6 +44,7 @@ fn place_in(answer: Answer) -> Result<Pos, FollowEnd>
         | Answer::Gone
         | Answer::Applied(_)
         | Answer::Held(_)
-        | Answer::Pruned(_) => Err(FollowEnd::OddAnswer),
+        | Answer::Pruned(_)
+        | Answer::Pass(_) => Err(FollowEnd::OddAnswer),
     }
 }

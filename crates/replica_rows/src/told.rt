@@ -48,6 +48,7 @@ pub fn told_by(alloc: Global, answer: &Answer) -> Told {
         Answer::Applied(at) => Told::At("applied, at", *at),
         Answer::Held(lock) => Told::Held(*lock),
         Answer::Pruned(count) => Told::Pruned(*count),
+        Answer::Pass(_) => Told::Word("a write permit"),
         Answer::Refused(Refusal::Store(StoreFault::NotNext { have, want })) => Told::NotNext {
             have: *have,
             want: *want,

@@ -4,6 +4,8 @@ use Rattle.std.specs.Io.KnownBytes.{Appends}
 use Rattle.lf_base.specs.Faults.{Rose}
 use Rattle.lf_base.specs.declared.session_end.SessionEnd.{SessionEnd}
 use Rattle.lf_base.specs.declared.session_end.SessionEnd.TheVariants as ends
+use Rattle.halt_forward.specs.declared.halt_fault.HaltFault.{HaltFault}
+use Rattle.halt_forward.specs.declared.halt_fault.HaltFault.TheVariants as halt
 use Rattle.link_session.specs.Writing.{AppendsPart}
 use Rattle.node_core.specs.declared.answer.Answer.{Answer}
 use Rattle.node_core.specs.declared.answer.Answer.TheVariants as answer
@@ -35,6 +37,18 @@ store_name store.Limit = codes "Limit"
 store_name store.NoMemory = codes "NoMemory"
 store_name (store.PageSize have want) = codes "PageSize"
 
+abbrev pub halt_status : HaltFault → ℕ
+halt_status (halt.HaltHeld number until) = 409
+halt_status (halt.HaltGone number) = 409
+halt_status (halt.Behind have want) = 409
+halt_status halt.Limit = 413
+
+abbrev pub halt_name : HaltFault → List ℕ
+halt_name (halt.HaltHeld number until) = codes "HaltHeld"
+halt_name (halt.HaltGone number) = codes "HaltGone"
+halt_name (halt.Behind have want) = codes "Behind"
+halt_name halt.Limit = codes "Limit"
+
 -- the status of a refusal
 abbrev pub status_of : Refusal → ℕ
 status_of refusal.NotPrimary = 503
@@ -42,15 +56,17 @@ status_of refusal.NotReplica = 503
 status_of (refusal.Ltx fault) = 400
 status_of (refusal.Store fault) = store_status fault
 status_of refusal.Absent = 404
+status_of (refusal.Halt fault) = halt_status fault
 status_of refusal.NoMemory = 507
 
--- its name, which of a store's fault is the fault's
+-- its name, which of a fault of the store or of the table of permits is the fault's
 abbrev pub name_of : Refusal → List ℕ
 name_of refusal.NotPrimary = codes "NotPrimary"
 name_of refusal.NotReplica = codes "NotReplica"
 name_of (refusal.Ltx fault) = codes "Ltx"
 name_of (refusal.Store fault) = store_name fault
 name_of refusal.Absent = codes "Absent"
+name_of (refusal.Halt fault) = halt_name fault
 name_of refusal.NoMemory = codes "NoMemory"
 
 -- the reply to a refusal: its name and a newline

@@ -1,8 +1,9 @@
 //! Status and name of a refusal.
 ghost use Rattle.std.specs.Prelude.{◌≡◌};
 ghost use Rattle.http.specs.StatusCode.{IsStatusCode};
-ghost use Rattle.stream_primary.specs.Refusing.{name_of, status_of, store_name, store_status};
+ghost use Rattle.stream_primary.specs.Refusing.{halt_name, halt_status, name_of, status_of, store_name, store_status};
 
+use halt_forward::HaltFault;
 use node_core::Refusal;
 use txn_log::StoreFault;
 
@@ -16,6 +17,7 @@ pub fn status_of(refusal: Refusal) -> u16
         Refusal::Ltx(_) => 400,
         Refusal::Store(fault) => store_status(fault),
         Refusal::Absent => 404,
+        Refusal::Halt(fault) => halt_status(fault),
         Refusal::NoMemory => 507,
     }
 }
@@ -33,6 +35,16 @@ fn store_status(fault: StoreFault) -> u16
     }
 }
 
+fn halt_status(fault: HaltFault) -> u16
+    ensures is { result ≡ halt_status fault }
+    ensures fits { IsStatusCode result }
+{
+    match fault {
+        HaltFault::HaltHeld { .. } | HaltFault::HaltGone { .. } | HaltFault::Behind { .. } => 409,
+        HaltFault::Limit => 413,
+    }
+}
+
 /// The name of a refusal.
 pub fn name_of(refusal: Refusal) -> &'static [u8]
     ensures { result.now ≡ name_of refusal }
@@ -43,6 +55,7 @@ pub fn name_of(refusal: Refusal) -> &'static [u8]
         Refusal::Ltx(_) => b"Ltx",
         Refusal::Store(fault) => store_name(fault),
         Refusal::Absent => b"Absent",
+        Refusal::Halt(fault) => halt_name(fault),
         Refusal::NoMemory => b"NoMemory",
     }
 }
@@ -58,5 +71,16 @@ fn store_name(fault: StoreFault) -> &'static [u8]
         StoreFault::Limit => b"Limit",
         StoreFault::NoMemory => b"NoMemory",
         StoreFault::PageSize { .. } => b"PageSize",
+    }
+}
+
+fn halt_name(fault: HaltFault) -> &'static [u8]
+    ensures { result.now ≡ halt_name fault }
+{
+    match fault {
+        HaltFault::HaltHeld { .. } => b"HaltHeld",
+        HaltFault::HaltGone { .. } => b"HaltGone",
+        HaltFault::Behind { .. } => b"Behind",
+        HaltFault::Limit => b"Limit",
     }
 }

@@ -45,7 +45,8 @@ pub fn put_refused(alloc: Global, answer: &Answer, text: &mut Vec<u8>) -> Result
         | Answer::Gone
         | Answer::Applied(_)
         | Answer::Held(_)
-        | Answer::Pruned(_) => put_odd(alloc, text),
+        | Answer::Pruned(_)
+        | Answer::Pass(_) => put_odd(alloc, text),
     }
 }
 

@@ -72,7 +72,11 @@ impl Machine for Scripted {
             | Ask::Frame { .. }
             | Ask::Drop { .. }
             | Ask::Prune { .. }
-            | Ask::Lease { .. } => {
+            | Ask::Lease { .. }
+            | Ask::HaltAsk { .. }
+            | Ask::HaltBack { .. }
+            | Ask::HaltGot { .. }
+            | Ask::HaltLost { .. } => {
                 self.note(0);
                 Answer::Quiet
             }

@@ -19,7 +19,7 @@ returns g c =
     record {
       step = λ caller.
           step-still c.moment_is_of_step.ensures h old c.args.now (history mid) (parts_of mid) same given.parts (asks.Drop c.args.now) c.drop_here.result (history m) (parts_of m)
-          record { node = refl; moment = refl } n.image n.locked.together n.replica caller
+          record { node = refl; moment = refl } n.image n.locked.together n.replica n.alone caller
           (carried c.moment_is_of_step.ensures h old c.args.now (history mid) (parts_of mid) same given.parts
           (λ (b : History) (p : NodeParts). AnswersDrop b p c.drop_here.result (history m) (parts_of m)) c.drop_here.ensures.does)
           c.drop_here.ensures.safe c.drop_here.ensures.standing (λ r keeps. keeps) refl c.drop_here.ensures.honest;

@@ -20,7 +20,7 @@ returns g c =
     record {
       step = λ caller.
           step-still c.moment_is_of_step.ensures h old c.args.now (history mid) (parts_of mid) same given.parts (asks.Frame c.args.now c.args.bytes.now) c.frame.result (history m) (parts_of m)
-          record { node = refl; moment = refl } n.image n.locked.together n.replica caller
+          record { node = refl; moment = refl } n.image n.locked.together n.replica n.alone caller
           (carried c.moment_is_of_step.ensures h old c.args.now (history mid) (parts_of mid) same given.parts
           (λ (b : History) (p : NodeParts). AnswersFrame b p c.args.bytes.now c.frame.result (history m) (parts_of m)) c.frame.ensures.does)
           c.frame.ensures.safe c.frame.ensures.standing (λ r. frame-keeps c.args.bytes.now r _) refl c.frame.ensures.honest;

@@ -2,7 +2,6 @@ use Rattle.std.proofs.Common.{◌≡◌, ℕ, ◌∙◌, ap, refl}
 use Rattle.lf_disk.specs.History.{History}
 use Rattle.lease_core.specs.Belief.{LeaseBelief}
 use Rattle.node_core.specs.declared.ask.Ask.TheVariants as asks
-use Rattle.node_core.specs.declared.standing.Standing.{Standing}
 use Rattle.node_core.specs.Leasing.{AnswersLease, believes}
 use Rattle.node_core.specs.Nodes.{NodeParts, history, parts_of}
 use Rattle.node_core.specs.Stores.{history_of}
@@ -23,10 +22,9 @@ returns g c =
     record {
       step = λ caller.
           step-of c.moment_is_of_step.ensures h old now (history mid) (parts_of mid) same given.parts (asks.Lease now news) c.news.result (history m) (parts_of m)
-          record { node = refl; moment = refl } n.image n.locked.together n.replica caller
+          record { node = refl; moment = refl } n.image n.locked.together n.replica n.alone caller
           (carried c.moment_is_of_step.ensures h old now (history mid) (parts_of mid) same given.parts
           (λ (b : History) (p : NodeParts). AnswersLease b p now news c.news.result (history m) (parts_of m)) c.news.ensures.does)
           c.news.ensures.safe
-          (ap (λ (t : Standing). t.belief) c.news.ensures.standing ∙ ap (λ (p : NodeParts). believes now news p.standing.belief) given.parts)
-          (ap (λ (t : Standing). t.moment) c.news.ensures.standing) c.news.ensures.honest;
+          (c.news.ensures.belief ∙ ap (λ (p : NodeParts). believes now news p.standing.belief) given.parts) c.news.ensures.moment c.news.ensures.honest;
     }

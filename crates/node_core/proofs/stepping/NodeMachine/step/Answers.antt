@@ -17,3 +17,15 @@ returns-in-Prune g c = rw c.in-Prune.is (c.prune.ensures.step c.args.caller)
 
 pub returns-in-Lease : goal.returns-in-Lease
 returns-in-Lease g c = rw c.in-Lease.is (c.answer_lease.ensures.step c.args.caller)
+
+pub returns-in-HaltAsk : goal.returns-in-HaltAsk
+returns-in-HaltAsk g c = rw c.in-HaltAsk.is (c.answer_halt_ask.ensures.step c.args.caller)
+
+pub returns-in-HaltBack : goal.returns-in-HaltBack
+returns-in-HaltBack g c = rw c.in-HaltBack.is (c.answer_halt_back.ensures.step c.args.caller)
+
+pub returns-in-HaltGot : goal.returns-in-HaltGot
+returns-in-HaltGot g c = rw c.in-HaltGot.is (c.answer_halt_got.ensures.step c.args.caller)
+
+pub returns-in-HaltLost : goal.returns-in-HaltLost
+returns-in-HaltLost g c = rw c.in-HaltLost.is (c.lose_permit.ensures.step c.args.caller)
