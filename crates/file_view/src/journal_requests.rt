@@ -120,7 +120,7 @@ impl View {
         requires unheld { self.now.held_write ≡ None }
         ensures commits { IfOk result (Commits (S.image base.old) self.now scene.now call.now) }
         ensures cause { IfErr result (HasFileCause (S.faults base.old) (S.faults base.new)) }
-        ensures base { SameBase (S.image base.old) (S.image base.new) (S.page_size base.old) (S.page_size base.new) (S.commit base.old) (S.commit base.new) (S.wal_mode base.old) (S.wal_mode base.new) (S.is_broken base.old) (S.is_broken base.new) }
+        ensures base { SameBase S.PageStore base.old base.new }
     {
         if !self.ends_writing(call) {
             return Ok(None);
@@ -163,7 +163,7 @@ impl View {
         ensures done { IfOk result (λ change. JournalDone (S.image base.old) self.old scene.now call change self.new) }
         ensures err { OnErr result (self.new ≡ self.old) }
         ensures cause { IfErr result (HasFileCause (S.faults base.old) (S.faults base.new)) }
-        ensures base { SameBase (S.image base.old) (S.image base.new) (S.page_size base.old) (S.page_size base.new) (S.commit base.old) (S.commit base.new) (S.wal_mode base.old) (S.wal_mode base.new) (S.is_broken base.old) (S.is_broken base.new) }
+        ensures base { SameBase S.PageStore base.old base.new }
     {
         match self.change_of(alloc, scene, base, &call)? {
             Some(change) => {
