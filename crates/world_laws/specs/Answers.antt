@@ -4,12 +4,12 @@
 -- back by a lock that somebody holds, or refused. A commit of a halted node is sent and kept, and its reply brings the
 -- node to where the file leads, or changes nothing. Of other asks no answer says anything, but that a refusal and Held
 -- leave every call undone.
-use Rattle.std.specs.Prelude.{◌≡◌, ◌≢◌, ◌⊎◌, ◌==◌, ◌≤◌, Bool, true, false, List, [], ◌∷◌, length, Contains, Option, None, Some, IsSome, if◌then◌else◌}
+use Rattle.std.specs.Prelude.{◌≡◌, ◌≢◌, ◌⊎◌, ◌==◌, ◌≤◌, ℕ, Bool, true, false, List, [], ◌∷◌, length, Contains, Option, None, Some, IsSome, if◌then◌else◌}
 use Rattle.lf_base.specs.declared.pos.Pos.{Pos}
 use Rattle.lf_base.specs.Faults.{Rose}
 use Rattle.lf_sqlite_pages.specs.LockPage.{IsWithinLimit}
 use Rattle.lf_sqlite_pages.specs.Apply.{Fits}
-use Rattle.lf_sqlite_pages.specs.Complete.{complete}
+use Rattle.lf_sqlite_pages.specs.Complete.{completed}
 use Rattle.ltx_codec.specs.declared.file.Ltx.{Ltx}
 use Rattle.ltx_codec.specs.Format.{IsFile}
 use Rattle.ltx_codec.specs.Positions.{after, before, nowhere, sum_after}
@@ -66,9 +66,13 @@ AnswersHello old new role position (Refused Broken) = IsSome old.failed
 AnswersHello old new role position (Refused NoMemory) = Unit {0}
 AnswersHello old new role position other = ⊥
 
--- a file made complete over a store: as zeros it then also holds each data page past the old size that it does not write
+-- a file made complete over a count of pages: as zeros it then also holds each data page past them that it does not write
+abbrev pub whole_file : ℕ → Ltx → Ltx
+whole_file commit file = record file { change = completed file.change commit }
+
+-- the same over a store
 abbrev pub completed_over : StoreState → Ltx → Ltx
-completed_over store file = record file { change = complete store.image file.change }
+completed_over store file = whole_file (length store.image.pages) file
 
 -- the call that an LTX frame asks for
 abbrev pub call_of : StoreState → Ltx → StoreCall
