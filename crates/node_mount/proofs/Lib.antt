@@ -3,3 +3,4 @@ mod ConfigLemmas
 mod ServingLemmas
 mod BackLemmas
 mod ServiceLemmas
+mod AskLemmas

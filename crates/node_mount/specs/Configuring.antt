@@ -47,3 +47,9 @@ IsReading (Err why) = ⊥
 abbrev pub CountsSource : {T : Type 0} → (faults faults_now : ℕ) → Result T MountFault → Type 0
 CountsSource faults faults_now (Err fault.Read) = Rose faults faults_now
 CountsSource faults faults_now result = faults_now ≡ faults
+
+-- the bytes that were read say these settings
+pub record ReadsSettings (left left_now : Option (List ℕ)) (settings : Settings) : Type 0 where
+  pub bytes : List ℕ
+  pub read : ReadsEnough left left_now bytes
+  pub says : SaysSettings bytes (Ok settings)

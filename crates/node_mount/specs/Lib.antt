@@ -8,7 +8,9 @@ pub mod Leasing
 pub mod Standing
 pub mod Duties
 pub mod Opening
+pub mod Places
 pub mod Returns
+pub mod Asking
 pub mod Damage
 pub mod Mounting
 pub mod LeaseService

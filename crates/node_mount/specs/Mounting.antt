@@ -31,11 +31,12 @@ IsPastReading (Err fault.Read) = ⊥
 IsPastReading (Err fault.Config) = ⊥
 IsPastReading result = Unit {0}
 
--- a node that serves ends neither by its configuration nor by damage
+-- a node that serves ends neither by its configuration nor by its disk
 abbrev pub IsServing : {T : Type 0} → Result T MountFault → Type 0
 IsServing (Err fault.Read) = ⊥
 IsServing (Err fault.Config) = ⊥
 IsServing (Err fault.Damaged) = ⊥
+IsServing (Err fault.Disk) = ⊥
 IsServing result = Unit {0}
 
 -- reading a configuration ends by it, or for want of memory

@@ -1,6 +1,6 @@
 //! The configuration read from its source.
 ghost use Rattle.std.specs.Prelude.{◌≡◌, ◌<◌, [], length, IfOk, OnOk, vec_len};
-ghost use Rattle.node_mount.specs.Configuring.{CountsSource, IsReading, ReadsConfiguration, ReadsPast, SaysSettings};
+ghost use Rattle.node_mount.specs.Configuring.{CountsSource, IsReading, ReadsConfiguration, ReadsPast, ReadsSettings, SaysSettings};
 ghost use Rattle.node_mount.specs.Mounting.{IsOfReading};
 
 use crate::mount_fault::MountFault;
@@ -17,6 +17,7 @@ const PIECE: usize = 4_096;
 /// The settings that a source says. It is read to its end, or until it is known to be too long.
 pub fn read_configuration<G: Source>(alloc: Global, source: &mut G) -> Result<Settings, MountFault>
     ensures config { ReadsConfiguration (G.left source.old) (G.left source.new) result }
+    ensures settings { IfOk result (ReadsSettings (G.left source.old) (G.left source.new)) }
     ensures cause { CountsSource (G.faults source.old) (G.faults source.new) result }
     ensures kind { IsOfReading result }
 {

@@ -1,5 +1,6 @@
 //! A replica follows its primary: one job dials it, and another follows the stream on each link.
 ghost use Rattle.lf_base.specs.Faults.{CountsFaults};
+ghost use Rattle.node_mount.specs.Places.{HasSeenNone};
 ghost use Rattle.node_mount.specs.Serving.{CountsStarts};
 
 use crate::hall::{Links, two_holds};
@@ -40,6 +41,8 @@ pub fn start_following<
     closing: &Closing,
     spawner: &mut S,
 ) -> Result<(), MountFault>
+    requires unused { HasSeenNone place.old.seat }
+    ensures unused { HasSeenNone place.new.seat }
     ensures cause { CountsStarts (S.faults spawner.old) (S.faults spawner.new) result }
 {
     let Some(place) = place.another(means.rt) else {
@@ -85,6 +88,7 @@ fn start_both<
     C: Clock + Copy + Send + 'static,
     P: Pause + Copy + Send + 'static,
 >(means: Means<R, C, P>, place: Place<K>, job: J, work: W, spawner: &mut S) -> Result<(), Failed>
+    requires unused { HasSeenNone place.seat }
     ensures cause { CountsFaults (S.faults spawner.old) (S.faults spawner.new) result }
 {
     start(means.rt, spawner, job)?;

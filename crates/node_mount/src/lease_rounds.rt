@@ -3,6 +3,7 @@ ghost use Rattle.std.specs.Prelude.{◌≡◌, ◌↔◌, IsTrue};
 ghost use Rattle.node_core.specs.declared.answer.Answer.TheVariants as answers;
 ghost use Rattle.node_core.specs.declared.refusal.Refusal.TheVariants as refusals;
 ghost use Rattle.txn_log.specs.declared.fault.StoreFault.TheVariants as faults;
+ghost use Rattle.node_mount.specs.Places.{HasSeenNone};
 ghost use Rattle.node_mount.specs.Serving.{CountsStarts};
 
 use crate::board::Board;
@@ -53,6 +54,8 @@ pub fn start_rounds<
     closing: &Closing,
     spawner: &mut S,
 ) -> Result<(), MountFault>
+    requires unused { HasSeenNone place.old.seat }
+    ensures unused { HasSeenNone place.new.seat }
     ensures cause { CountsStarts (S.faults spawner.old) (S.faults spawner.new) result }
 {
     let (Some(place), Ok(closing)) = (place.another(means.rt), closing.another()) else {

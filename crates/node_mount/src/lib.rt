@@ -5,6 +5,7 @@
 //! the system's differ in their maker alone.
 #![tactic(auto)]
 
+mod asked;
 mod board;
 mod configuring;
 mod counts;
@@ -39,6 +40,7 @@ mod to_primary;
 mod wish;
 mod work;
 
+pub use asked::{Asked, Wanted};
 pub use counts::Counts;
 pub use keeping::Keeping;
 pub use lease_service::serve_leases;

@@ -1,11 +1,17 @@
 //! A node is started, serves, and stops.
 ghost use Rattle.std.specs.Prelude.{◌≡◌};
+ghost use Rattle.std.specs.Arc.{arc_value};
+ghost use Rattle.node_core.specs.Nodes.{parts_of};
+ghost use Rattle.node_mount.specs.Asking.{Asks, AsksAsRead, AsksLinks};
 ghost use Rattle.node_mount.specs.Configuring.{ReadsConfiguration};
 ghost use Rattle.node_mount.specs.Damage.{DamageHasCause};
 ghost use Rattle.node_mount.specs.Duties.{HasDialer};
 ghost use Rattle.node_mount.specs.Making.{IsNew};
 ghost use Rattle.node_mount.specs.Mounting.{fault_of as named, IsMountCause, IsPastReading, IsServing, RaisesFor};
+ghost use Rattle.node_mount.specs.Opening.{config_of as given, IsOpenedBy};
+ghost use Rattle.node_mount.specs.Places.{IsUnused};
 ghost use Rattle.node_mount.specs.Returns.{CameBack};
+ghost use Rattle.turn_desk.specs.Seats.{opened_on};
 
 use crate::configuring::read_configuration;
 use crate::duties::duties_of;
@@ -17,11 +23,10 @@ use crate::patience::{HTTP_PATIENCE, following_patience, lease_patience};
 use crate::place::Place;
 use crate::serving::serve_links;
 use lf_base::{Handles, Source};
-use node_core::{Answer, Ask};
+use node_core::Node;
 use node_recovery::RecoverFault;
 use node_settings::{LeaseType, Settings};
 use std::alloc::Global;
-use turn_desk::Machine;
 
 /// Runs the node that a configuration says, until no more file links come.
 ///
@@ -34,6 +39,7 @@ pub fn mount<R: Handles + Copy + Send + 'static, G: Source, M: Maker>(
     make: &mut M,
 ) -> Result<(), MountFault>
     ensures config { ReadsConfiguration (G.left config.old) (G.left config.new) result }
+    ensures asked { AsksAsRead (G.left config.old) (G.left config.new) (M.asked make.old) (M.asked make.new) result }
     ensures back { CameBack M.FileAccept.ended M.FileAccept.given (M.back make.old) (M.back make.new) result }
     ensures damage { DamageHasCause M.Disk.honest M.Disk.history (M.may_give make.old) (M.back make.old) (M.back make.new) result }
     ensures cause { IsMountCause (G.faults config.old) (G.faults config.new) (M.counts make.old) (M.counts make.new) result }
@@ -45,12 +51,14 @@ pub fn mount<R: Handles + Copy + Send + 'static, G: Source, M: Maker>(
 }
 
 /// Makes the disk and opens a node over it.
+#[tactic(auto, using(crate::proofs::AskLemmas::disk_then, crate::proofs::AskLemmas::disk_alone, crate::proofs::BackLemmas::one_back))]
 fn mount_disk<R: Handles + Copy + Send + 'static, M: Maker>(
     rt: R,
     alloc: Global,
     settings: &Settings,
     make: &mut M,
 ) -> Result<(), MountFault>
+    ensures asked { Asks settings.now (M.asked make.old) (M.asked make.new) result }
     ensures back { CameBack M.FileAccept.ended M.FileAccept.given (M.back make.old) (M.back make.new) result }
     ensures damage { DamageHasCause M.Disk.honest M.Disk.history (M.may_give make.old) (M.back make.old) (M.back make.new) result }
     ensures cause { RaisesFor (M.counts make.old) (M.counts make.new) result }
@@ -83,12 +91,17 @@ fn fault_of(why: RecoverFault) -> MountFault
     }
 }
 
-/// Makes where links come from.
-fn mount_node<
-    R: Handles + Copy + Send + 'static,
-    K: Machine<Ask = Ask, Answer = Answer> + Send + Drop + 'static,
-    M: Maker,
->(rt: R, alloc: Global, settings: &Settings, node: K, make: &mut M) -> Result<(), MountFault>
+/// Makes where links come from, for a node that was opened by these settings.
+#[tactic(auto, using(crate::proofs::AskLemmas::served_asked, crate::proofs::AskLemmas::two_asked, crate::proofs::BackLemmas::one_back))]
+fn mount_node<R: Handles + Copy + Send + 'static, M: Maker>(
+    rt: R,
+    alloc: Global,
+    settings: &Settings,
+    node: Node<M::Disk>,
+    make: &mut M,
+) -> Result<(), MountFault>
+    requires opened { IsOpenedBy (given settings.now (M.number make.old)) (parts_of node) }
+    ensures asked { AsksLinks settings.now (M.asked make.old) (M.asked make.new) result }
     ensures back { CameBack M.FileAccept.ended M.FileAccept.given (M.back make.old) (M.back make.new) result }
     ensures cause { RaisesFor (M.counts make.old) (M.counts make.new) result }
     ensures kind { IsServing result }
@@ -109,21 +122,21 @@ fn mount_node<
     }
 }
 
-/// Makes what else a node serves by, serves, and takes back all.
-fn serve_place<
-    R: Handles + Copy + Send + 'static,
-    K: Machine<Ask = Ask, Answer = Answer> + Send + Drop + 'static,
-    M: Maker,
->(
+/// Makes what else a node serves by, serves, and takes back all. The node was opened by these settings,
+/// and nobody has asked it anything.
+fn serve_place<R: Handles + Copy + Send + 'static, M: Maker>(
     rt: R,
     alloc: Global,
     settings: &Settings,
-    place: Place<K>,
+    place: Place<Node<M::Disk>>,
     files: M::FileAccept,
     http: M::HttpAccept,
     make: &mut M,
 ) -> Result<(), MountFault>
+    requires opened { IsOpenedBy (given settings.now (M.number make.old)) (parts_of (opened_on (arc_value place.desk))) }
+    requires unused { IsUnused place.seat (arc_value place.desk) }
     requires new { IsNew (M.FileAccept.given files) (M.FileAccept.faults files) (M.FileAccept.ended files) }
+    ensures asked { M.asked make.new ≡ M.asked make.old }
     ensures back { CameBack M.FileAccept.ended M.FileAccept.given (M.back make.old) (M.back make.new) result }
     ensures cause { RaisesFor (M.counts make.old) (M.counts make.new) result }
     ensures kind { IsServing result }
@@ -159,6 +172,7 @@ fn serve_place<
 
 /// What dials the lease service, where there is one.
 fn dialer_of_service<M: Maker>(settings: &Settings, make: &mut M) -> Option<M::Dial>
+    ensures kept { (M.asked make.new ≡ M.asked make.old) × (M.number make.new ≡ M.number make.old) }
     ensures same { (M.counts make.new ≡ M.counts make.old) × (M.back make.new ≡ M.back make.old) }
     ensures service { HasDialer settings.now.lease.lease_type result }
 {

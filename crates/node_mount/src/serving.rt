@@ -1,5 +1,7 @@
 //! A node's links are served.
+ghost use Rattle.std.specs.Arc.{arc_value};
 ghost use Rattle.std.specs.Prelude.{◌≡◌, true, OnOk};
+ghost use Rattle.node_mount.specs.Places.{HasSeenNone, IsUnused};
 ghost use Rattle.node_mount.specs.Serving.{CountsServing, CountsStarts, GivesLimit};
 
 use crate::duties::Duties;
@@ -14,8 +16,8 @@ use lf_base::{Acceptor, Clock, Closing, Dialer, Handles, Link, Name, Pause, Spaw
 use node_core::{Answer, Ask};
 use turn_desk::Machine;
 
-/// Starts the jobs of a node, and serves file links until no more come. Then the jobs are told to end,
-/// and after Ok all have ended.
+/// Starts the jobs of a node that nobody has asked anything, and serves file links until no more come.
+/// Then the jobs are told to end, and after Ok all have ended.
 pub fn serve_links<
     R: Handles + Copy + Send + 'static,
     K: Machine<Ask = Ask, Answer = Answer> + Send + Drop + 'static,
@@ -35,7 +37,8 @@ pub fn serve_links<
     duties: Option<Duties<T>>,
     spawner: &mut S,
 ) -> Result<(), MountFault>
-    requires { A.given files.old ≡ 0 }
+    requires unused { IsUnused place.seat (arc_value place.desk) }
+    requires new { A.given files.old ≡ 0 }
     ensures ended { OnOk result (A.ended files.new ≡ true) }
     ensures limit { GivesLimit (A.given files.new) result }
     ensures cause { CountsServing (A.faults files.old) (A.faults files.new) (S.faults spawner.old) (S.faults spawner.new) result }
@@ -75,7 +78,8 @@ fn serve_all<
     closing: &Closing,
     spawner: &mut S,
 ) -> Result<(), MountFault>
-    requires { A.given files.old ≡ 0 }
+    requires unused { IsUnused place.old.seat (arc_value place.old.desk) }
+    requires new { A.given files.old ≡ 0 }
     ensures ended { OnOk result (A.ended files.new ≡ true) }
     ensures limit { GivesLimit (A.given files.new) result }
     ensures cause { CountsServing (A.faults files.old) (A.faults files.new) (S.faults spawner.old) (S.faults spawner.new) result }
@@ -106,6 +110,8 @@ fn start_duties<
     closing: &Closing,
     spawner: &mut S,
 ) -> Result<(), MountFault>
+    requires unused { HasSeenNone place.old.seat }
+    ensures unused { HasSeenNone place.new.seat }
     ensures cause { CountsStarts (S.faults spawner.old) (S.faults spawner.new) result }
 {
     let Some(duties) = duties else {

@@ -1,5 +1,5 @@
 //! A maker of the system's objects.
-ghost use Rattle.std.specs.Prelude.{◌≡◌, IfOk};
+ghost use Rattle.std.specs.Prelude.{◌≡◌, None, IfOk};
 ghost use Rattle.node_mount.specs.Keeping.{told_by};
 ghost use Rattle.node_mount.specs.Making.{IsNew};
 
@@ -108,6 +108,11 @@ impl<R: System + Send + 'static> Maker for SystemMaker<R> {
     type Pause = SleepPause<R>;
 
     ghost counts = { λ m. m.counts };
+
+    /// What it was asked for is not told.
+    ghost asked = { λ _. None };
+
+    ghost number = { λ m. m.node };
 
     ghost back = { λ m. told_by m.back };
 

@@ -53,6 +53,10 @@ impl<R: System + Send + 'static> Maker for SocketMaker<R> {
 
     ghost counts = { λ m. m.counts };
 
+    ghost asked = { λ _. None };
+
+    ghost number = { λ m. m.memory.node };
+
     ghost back = { λ _. None };
 
     ghost may_give = { λ _ _. Unit {0} };
