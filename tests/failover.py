@@ -233,5 +233,5 @@ def says_last_file():
 
 run({**in_each_mode(('delete', 'wal'), killed=killed, stopped=stopped, stopped_at_work=stopped_at_work, inside=inside, forked=forked,
                     forked_apart=forked_apart),
-     **in_each_mode(EITHER, service_anew=service_anew, service_stopped=service_stopped, cut_off=cut_off, broken=broken, nonsense=nonsense)},
-    at_once=4)
+     **in_each_mode(EITHER, service_anew=service_anew, nonsense=nonsense, broken=broken),
+     **in_each_mode(length((), EITHER), service_stopped=service_stopped, cut_off=cut_off)}, at_once=4)
