@@ -16,7 +16,7 @@ import sqlite3
 
 from support import (Cluster, Node, Skipped, configuration, connect, holds, in_each_mode, in_mode, insert, length, refuses, run, same,
                      small_disk, until)
-from support.cluster import Server, Writer, keys, standing_still, takes
+from support.cluster import Server, keys, standing_still, takes
 
 TURNS = length(2, 10)
 EITHER = length(('wal',), ('delete', 'wal'))
@@ -26,10 +26,10 @@ def killed(mode):
     """kill -9 of whoever is primary while it takes rows: what the next one had is there, the third follows it, and then the old one."""
     with Cluster(mode) as cluster:
         for _ in range(TURNS):
-            primary = cluster.follows()
-            cluster.level(primary)
-            kept = keys(primary)
-            writer = Writer(cluster, primary)
+            before = cluster.follows()
+            cluster.level(before)
+            kept = keys(before)
+            primary, writer = cluster.at_work()
             primary.kill()
             writer.ended()
             heir = cluster.heir(primary)
@@ -57,9 +57,8 @@ def stopped(mode):
 def stopped_at_work(mode):
     """The same while a client writes: of what it is answered afterwards one row at most, which was on its way."""
     with Cluster(mode) as cluster:
-        for _ in range(TURNS):
-            primary = cluster.follows()
-            writer = Writer(cluster, primary)
+        for _ in range(length(1, 10)):
+            primary, writer = cluster.at_work()
             with cluster.cut_off(primary):
                 with standing_still(primary):
                     heir = cluster.follows(primary)
@@ -73,14 +72,11 @@ def stopped_at_work(mode):
 def inside(mode):
     """A transaction inside which the lease ends, with pages in the file already, is not committed."""
     with Cluster(mode) as cluster:
-        primary = cluster.follows()
-        cluster.level(primary)
-        kept = keys(primary)
-        with contextlib.closing(connect(primary.socket)) as connection:
-            connection.execute('pragma cache_size=4')
-            connection.execute('begin immediate')
-            for key in range(-100, 0):
-                connection.execute(*insert(key, 3000))
+        before = cluster.follows()
+        cluster.level(before)
+        kept = keys(before)
+        primary, connection = until(lambda: begun(cluster.follows()), 'a transaction is begun')
+        with contextlib.closing(connection):
             with cluster.cut_off(primary):
                 with standing_still(primary):
                     cluster.follows(primary)
@@ -88,6 +84,19 @@ def inside(mode):
         cluster.ends(kept)
         for node in cluster.nodes:
             holds(min(keys(node)) > 0, 'nothing of it is there')
+
+
+def begun(primary):
+    """The node, and a connection inside a transaction that has pages in the file; None where a row is refused."""
+    connection = connect(primary.socket)
+    try:
+        connection.execute('pragma cache_size=4')
+        connection.execute('begin immediate')
+        for key in range(-40, 0):
+            connection.execute(*insert(key, 3000))
+        return primary, connection
+    except sqlite3.Error:
+        connection.close()
 
 
 def service_anew(mode):
@@ -224,5 +233,5 @@ def says_last_file():
 
 run({**in_each_mode(('delete', 'wal'), killed=killed, stopped=stopped, stopped_at_work=stopped_at_work, inside=inside, forked=forked,
                     forked_apart=forked_apart),
-     **in_each_mode(EITHER, service_anew=service_anew, service_stopped=service_stopped, cut_off=cut_off, broken=broken, nonsense=nonsense)},
-    at_once=6)
+     **in_each_mode(EITHER, service_anew=service_anew, nonsense=nonsense, broken=broken),
+     **in_each_mode(length((), EITHER), service_stopped=service_stopped, cut_off=cut_off)}, at_once=4)

@@ -25,7 +25,7 @@ class Cluster:
         self.stack = contextlib.ExitStack()
         self.keys = itertools.count(1)
         try:
-            self.service = self.stack.enter_context(Service())
+            self.service = self.stack.enter_context(Service(ttl=4000))
             self.doors = {}
             self.nodes = [self.node(True, keep, folder), self.node(True, keep), self.node(False, keep)]
             self.begin(mode)
@@ -80,6 +80,14 @@ class Cluster:
             return primary if primary not in (None, old) and self.writes(primary) else None
         return until(found, 'a node is primary and takes writes')
 
+    def at_work(self):
+        """A primary, and a writer that is at work there."""
+        def found():
+            primary = self.follows()
+            writer = Writer(self, primary)
+            return (primary, writer) if writer.goes_on() else None
+        return until(found, 'a writer is at work')
+
     def writes(self, node):
         """Whether the node takes a row."""
         return takes(node, *insert(next(self.keys)))
@@ -132,7 +140,10 @@ class Writer:
         self.cluster, self.node, self.answered = cluster, node, []
         self.thread = threading.Thread(target=self.go, daemon=True)
         self.thread.start()
-        until(lambda: len(self.answered) > 20, 'the writer is at work')
+        until(lambda: len(self.answered) > 5 or not self.goes_on(), 'the writer is at work')
+
+    def goes_on(self):
+        return self.thread.is_alive()
 
     def go(self):
         with contextlib.suppress(sqlite3.Error), contextlib.closing(connect(self.node.socket, 1)) as connection:
@@ -141,7 +152,7 @@ class Writer:
                 self.answered.append(key)
 
     def ended(self):
-        until(lambda: not self.thread.is_alive(), 'the writer is refused')
+        until(lambda: not self.goes_on(), 'the writer is refused')
         return list(self.answered)
 
 
