@@ -61,14 +61,22 @@ fn read_words(alloc: Global, words: &[&str]) -> Result<Option<Command>, NoMemory
 fn program<'a>(alloc: Global) -> Result<clap::Command<'a>, NoMemory>
     ensures { IfOk result (λ program. app_of program ≡ spec.program) }
 {
+    let program = files_program(alloc)?
+        .subcommand(clap::Command::new(alloc, "mount"))?
+        .subcommand(clap::Command::new(alloc, "lease"))?;
+    Ok(program)
+}
+
+/// The same with the commands on LTX files alone.
+fn files_program<'a>(alloc: Global) -> Result<clap::Command<'a>, NoMemory>
+    ensures { IfOk result (λ program. app_of program ≡ spec.files_program) }
+{
     let program = clap::Command::new(alloc, "litefs")
         .no_binary_name(true)
         .disable_help_flag(true)
         .disable_help_subcommand(true)
         .subcommand(clap::Command::new(alloc, "apply"))?
-        .subcommand(clap::Command::new(alloc, "compact"))?
-        .subcommand(clap::Command::new(alloc, "mount"))?
-        .subcommand(clap::Command::new(alloc, "lease"))?;
+        .subcommand(clap::Command::new(alloc, "compact"))?;
     Ok(program)
 }
 

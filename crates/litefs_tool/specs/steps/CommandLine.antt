@@ -11,9 +11,13 @@ bare shape = record shape { no_binary_name = true; disable_help_flag = true; dis
 abbrev pub with_name : App → List ℕ → App
 with_name app name = with_subcommand app (new_shape name)
 
+-- the program with the commands on LTX files
+abbrev pub files_program : App
+files_program = with_name (with_name (on_top bare (new_app (codes "litefs"))) (codes "apply")) (codes "compact")
+
 -- the program, with a subcommand for each command
 abbrev pub program : App
-program = with_name (with_name (with_name (with_name (on_top bare (new_app (codes "litefs"))) (codes "apply")) (codes "compact")) (codes "mount")) (codes "lease")
+program = with_name (with_name files_program (codes "mount")) (codes "lease")
 
 -- the name is this command's, or no command's
 abbrev pub IsNamed : Option (List ℕ) → Option Command → Type 0
