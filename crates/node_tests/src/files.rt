@@ -185,7 +185,7 @@ fn append_hex(rt: impl Copy + Abort, bytes: &mut Vec<u8>, text: &[u8]) {
     }
 }
 
-fn all_hex(rt: impl Copy + Abort, alloc: Global, texts: &[&[u8]]) -> Vec<u8> {
+pub fn all_hex(rt: impl Copy + Abort, alloc: Global, texts: &[&[u8]]) -> Vec<u8> {
     let mut bytes = Vec::new(alloc);
     for text in texts {
         append_hex(rt, &mut bytes, text);

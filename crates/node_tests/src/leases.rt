@@ -3,6 +3,7 @@
 //! pages of 4,096.
 mod client;
 mod node;
+mod session;
 
 use crate::same::same;
 use client::{Deed, Told, ask_of, told_of};
@@ -12,10 +13,10 @@ use std::process::Abort;
 use turn_desk::Machine;
 
 /// What is asked at a moment, and the answer.
-type Turn = (u64, Deed, Told);
+pub type Turn = (u64, Deed, Told);
 
 /// The lease is asked for at 100 and granted for 50, so it ends at 150. The client has opened the files.
-const GRANTED: &[Turn] = &[
+pub const GRANTED: &[Turn] = &[
     (100, Deed::Asked, Told::Quiet),
     (105, Deed::Granted(50), Told::Quiet),
     (106, Deed::Open, Told::Done),

@@ -1,0 +1,130 @@
+//! A session on the files of a node whose lease ends between two messages.
+use crate::files::all_hex;
+use crate::leases::client::ask_of;
+use crate::leases::node::{close, open};
+use crate::leases::{GRANTED, Turn};
+use crate::links::link_of;
+use crate::same::same;
+use file_session::serve_seat;
+use lf_base::{Clock, MemLink, NoPause, SessionEnd};
+use node_core::{Ask, Node};
+use std::alloc::Global;
+use std::process::Abort;
+use std::sync::Wait;
+use turn_desk::{Desk, Seat};
+
+type MemNode = Node<lf_disk::MemDisk>;
+
+/// A clock that is a millisecond on with each reading.
+#[derive(Drop)]
+struct Counting {
+    next: u64,
+    last: u64,
+}
+
+impl Clock for Counting {
+    ghost use Rattle.std.specs.Prelude.{true};
+
+    ghost given = { λ c. c.last };
+
+    ghost may_give = { λ _ _. true };
+
+    fn now_ms(&mut self) -> u64 {
+        self.last = self.next;
+        self.next = self.next.saturating_add(1);
+        self.last
+    }
+}
+
+// WRITE of the first page of the database file, 512 bytes by the handle and the owner 1: numbers 8 and 9.
+const WRITE_8: &[u8] =
+    b"50020000 10000000 0800000000000000 0200000000000000 00000000 00000000 00000000 00000000 \
+    0100000000000000 0000000000000000 00020000 02000000 0100000000000000 00000000 00000000";
+
+const WRITE_9: &[u8] =
+    b"50020000 10000000 0900000000000000 0200000000000000 00000000 00000000 00000000 00000000 \
+    0100000000000000 0000000000000000 00020000 02000000 0100000000000000 00000000 00000000";
+
+// The replies: 512 bytes are written, and EROFS.
+const WRITTEN_8: &[u8] = b"18000000 00000000 0800000000000000 00020000 00000000";
+
+const WRITTEN_9: &[u8] = b"18000000 00000000 0900000000000000 00020000 00000000";
+
+const READ_ONLY_9: &[u8] = b"10000000 e2ffffff 0900000000000000";
+
+/// When the first message comes, a millisecond before the second, and what is written. The lease ends at
+/// 150.
+const ROWS: &[(u64, &[&[u8]])] = &[
+    (140, &[WRITTEN_8, WRITTEN_9]),
+    (148, &[WRITTEN_8, WRITTEN_9]),
+    (149, &[WRITTEN_8, READ_ONLY_9]),
+];
+
+/// The two messages, each with a page.
+fn input<R: Copy + Abort>(rt: R, alloc: Global) -> Vec<u8> {
+    let mut bytes = all_hex(rt, alloc, &[WRITE_8]);
+    bytes.resize(592, 7).expect(&rt, "memory");
+    for byte in all_hex(rt, alloc, &[WRITE_9]) {
+        bytes.push(byte).expect(&rt, "memory");
+    }
+    bytes.resize(1_184, 8).expect(&rt, "memory");
+    bytes
+}
+
+/// The client has opened the files and begun a transaction, at this seat.
+fn begin<R: Wait + Copy + Abort>(
+    rt: R,
+    alloc: Global,
+    desk: &Desk<MemNode>,
+    seat: &mut Seat<MemNode>,
+    turns: &[Turn],
+) {
+    for (now, deed, _) in turns {
+        let ask: Ask = ask_of(rt, alloc, *now, *deed);
+        desk.step(rt, seat, &ask).ok().expect(&rt, "an answer");
+    }
+}
+
+/// The session's end.
+fn served<R: Wait + Copy + Abort>(
+    rt: R,
+    alloc: Global,
+    link: &mut MemLink,
+    first: u64,
+) -> SessionEnd {
+    let node = open(rt, alloc, false);
+    let (desk, mut seat) = Desk::open(alloc, node).ok().expect(&rt, "a desk");
+    begin(rt, alloc, &desk, &mut seat, GRANTED);
+    let mut clock = Counting {
+        next: first,
+        last: 0,
+    };
+    let end = serve_seat(
+        rt,
+        alloc,
+        &desk,
+        &mut seat,
+        link,
+        &mut clock,
+        &mut NoPause::new(),
+        100,
+    );
+    close(desk.close(rt, seat));
+    end
+}
+
+#[test]
+fn a_lease_ends_between_two_messages(rt: HostRuntime) {
+    for (first, written) in ROWS {
+        has_replies(rt, rt.alloc(), *first, written);
+    }
+}
+
+fn has_replies<R: Wait + Copy + Abort>(rt: R, alloc: Global, first: u64, written: &[&[u8]]) {
+    let mut link = link_of(rt, alloc, input(rt, alloc), 99_999, 999);
+    let watch = link.watch();
+    same(rt, served(rt, alloc, &mut link, first), SessionEnd::Closed);
+    let bytes = watch.bytes().expect(&rt, "memory");
+    let wanted = all_hex(rt, alloc, written);
+    same(rt, bytes.as_slice(), wanted.as_slice());
+}
