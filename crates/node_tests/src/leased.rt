@@ -46,6 +46,56 @@ struct Seen {
     late: u64,
 }
 
+/// A node, what its service does, the letters of what it is asked, and whether the node that was named is
+/// dialed.
+#[derive(Clone, Copy)]
+struct Row {
+    database: &'static str,
+    candidate: bool,
+    script: Script,
+    letters: &'static [u8],
+    follows: bool,
+}
+
+const ROWS: &[Row] = &[
+    // A candidate asks who is primary, and then to be it, and to stay it. At its end it gives the term back.
+    Row {
+        database: "leased_first",
+        candidate: true,
+        script: Script {
+            named: 0,
+            closes: 2,
+            last: 4,
+        },
+        letters: b"iare",
+        follows: false,
+    },
+    // Another node asks who is primary, and nothing else.
+    Row {
+        database: "leased_never",
+        candidate: false,
+        script: Script {
+            named: 0,
+            closes: 2,
+            last: 3,
+        },
+        letters: b"iii",
+        follows: false,
+    },
+    // A candidate follows the primary that is named, and nobody once it is primary itself.
+    Row {
+        database: "leased_follows",
+        candidate: true,
+        script: Script {
+            named: 2,
+            closes: 7,
+            last: 9,
+        },
+        letters: b"iiiarrrre",
+        follows: true,
+    },
+];
+
 /// The bytes of a request, to the end of its body.
 fn request_on<R: Copy + Abort>(rt: R, alloc: Global, stream: &mut TcpStream) -> Vec<u8> {
     let mut request = Vec::new(alloc);
@@ -143,85 +193,68 @@ fn serve<R: Handles + Copy + Abort>(
     seen
 }
 
-/// Runs a node whose lease service follows a script, to its end. Its database has this name.
-fn run<R: System + Copy + Send + Abort + 'static>(
+/// Plays the service, in a thread of its own.
+fn peer_of<R: Handles + Abort + Copy + Send + 'static>(
     rt: R,
-    database: &str,
-    candidate: bool,
+    alloc: Global,
+    service: TcpListener,
+    other: TcpListener,
     script: Script,
-) -> Seen {
-    let alloc = rt.alloc();
-    let service = TcpListener::bind(&rt, "127.0.0.1:0").expect(&rt, "a listener");
-    let other = TcpListener::bind(&rt, "127.0.0.1:0").expect(&rt, "a listener");
-    other.set_nonblocking(true).expect(&rt, "no waiting");
+    closing: Closing,
+) -> thread::JoinHandle<Seen> {
+    let started = thread::spawn(&rt, move || -> Seen {
+        serve(rt, alloc, &service, &other, script, &closing)
+    });
+    started.ok().expect(&rt, "a thread")
+}
+
+/// The configuration of a row's node.
+fn config_of<R: Handles + Abort + Copy>(
+    rt: R,
+    alloc: Global,
+    row: &Row,
+    service: &TcpListener,
+) -> String {
     let address = service.local_addr().expect(&rt, "its address");
-    let config = format!(in alloc;
+    let (database, candidate) = (row.database, row.candidate);
+    format!(in alloc;
         "database = \"{database}\"\n[fuse]\nlisten = \"{database}_socket\"\n[http]\naddr = \"127.0.0.1:0\"\n\
         [lease]\ntype = \"service\"\nservice-url = \"http://{address}\"\ncandidate = {candidate}\nttl = 8000\n\
         advertise-url = \"http://127.0.0.1:1\"\nhostname = \"localhost\"\n"
     )
-    .expect(&rt, "memory");
-    let closing = Closing::new(alloc).expect(&rt, "memory");
-    let theirs = closing.another().expect(&rt, "memory");
-    let mut maker = SystemMaker::new(rt, closing).expect(&rt, "a maker");
-    let mut source = SliceSource::new(config.as_bytes(), Vec::new(alloc)).expect(&rt, "a source");
-    let started = thread::spawn(&rt, move || -> Seen {
-        serve(rt, alloc, &service, &other, script, &theirs)
-    });
-    let peer = started.ok().expect(&rt, "a thread");
-    same(rt, mount(rt, alloc, &mut source, &mut maker), Ok(()));
+    .expect(&rt, "memory")
+}
+
+/// Removes the socket of a row's node.
+fn remove_socket<R: System + Abort + Copy>(rt: R, alloc: Global, database: &str) {
     let socket = format!(in alloc; "{database}_socket").expect(&rt, "memory");
     fs::remove_file(&rt, socket.as_str()).expect(&rt, "removed");
-    peer.join(&rt)
 }
 
-/// A candidate asks who is primary, and then to be it, and to stay it. At its end it gives the term back.
-#[test]
-fn a_candidate_asks_who_is_primary_first(rt: HostRuntime) {
-    let _named: Option<(TcpListener, TcpStream)> = None;
-    let script = Script {
-        named: 0,
-        closes: 2,
-        last: 4,
-    };
-    let seen = run(rt, "leased_first", true, script);
-    let Seen {
-        letters,
-        early,
-        late,
-    } = seen;
-    same(rt, letters.as_slice(), b"iare");
-    same(rt, (early, late), (0, 0));
+/// What was seen is what the row wants.
+fn is_wanted<R: Abort + Copy>(rt: R, row: &Row, seen: &Seen) {
+    same(rt, seen.letters.as_slice(), row.letters);
+    same(rt, (seen.early > 0, seen.late), (row.follows, 0));
 }
 
-/// Another node asks who is primary, and nothing else.
 #[test]
-fn a_replica_only_asks_who_is_primary(rt: HostRuntime) {
+fn a_lease_service_is_asked(rt: HostRuntime) {
     let _named: Option<(TcpListener, TcpStream)> = None;
-    let script = Script {
-        named: 0,
-        closes: 2,
-        last: 3,
-    };
-    let seen = run(rt, "leased_never", false, script);
-    same(rt, seen.letters.as_slice(), b"iii");
-}
-
-/// A candidate follows the primary that is named, and nobody once it is primary itself.
-#[test]
-fn a_candidate_follows_until_it_is_primary(rt: HostRuntime) {
-    let _named: Option<(TcpListener, TcpStream)> = None;
-    let script = Script {
-        named: 2,
-        closes: 7,
-        last: 9,
-    };
-    let seen = run(rt, "leased_follows", true, script);
-    let Seen {
-        letters,
-        early,
-        late,
-    } = seen;
-    same(rt, letters.as_slice(), b"iiiarrrre");
-    same(rt, (early > 0, late), (true, 0));
+    let alloc = rt.alloc();
+    for row in ROWS {
+        let service = TcpListener::bind(&rt, "127.0.0.1:0").expect(&rt, "a listener");
+        let other = TcpListener::bind(&rt, "127.0.0.1:0").expect(&rt, "a listener");
+        other.set_nonblocking(true).expect(&rt, "no waiting");
+        let config = config_of(rt, alloc, row, &service);
+        let closing = Closing::new(alloc).expect(&rt, "memory");
+        let theirs = closing.another().expect(&rt, "memory");
+        let mut maker = SystemMaker::new(rt, closing).expect(&rt, "a maker");
+        let mut source = SliceSource::new(config.as_bytes(), Vec::new(alloc)).expect(
+            &rt, "a source",
+        );
+        let peer = peer_of(rt, alloc, service, other, row.script, theirs);
+        same(rt, mount(rt, alloc, &mut source, &mut maker), Ok(()));
+        remove_socket(rt, alloc, row.database);
+        is_wanted(rt, row, &peer.join(&rt));
+    }
 }

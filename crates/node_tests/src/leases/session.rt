@@ -1,4 +1,6 @@
 //! A session on the files of a node whose lease ends between two messages.
+ghost use Rattle.turn_desk.specs.Seats.{IsOf};
+
 use crate::files::all_hex;
 use crate::leases::client::ask_of;
 use crate::leases::node::{close, open};
@@ -78,10 +80,23 @@ fn begin<R: Wait + Copy + Abort>(
     desk: &Desk<MemNode>,
     seat: &mut Seat<MemNode>,
     turns: &[Turn],
-) {
+)
+    requires { IsOf seat.old desk.now }
+    ensures { IsOf seat.new desk.now }
+{
     for (now, deed, _) in turns {
         let ask: Ask = ask_of(rt, alloc, *now, *deed);
         desk.step(rt, seat, &ask).ok().expect(&rt, "an answer");
+    }
+}
+
+/// A desk over a node that was never written, and its first seat.
+fn opened<R: Copy + Abort>(rt: R, alloc: Global) -> (Desk<MemNode>, Seat<MemNode>)
+    ensures { IsOf result.1 result.0 }
+{
+    match Desk::open(alloc, open(rt, alloc, false)) {
+        Ok(made) => made,
+        Err(_) => panic!(rt; "a desk"),
     }
 }
 
@@ -92,8 +107,7 @@ fn served<R: Wait + Copy + Abort>(
     link: &mut MemLink,
     first: u64,
 ) -> SessionEnd {
-    let node = open(rt, alloc, false);
-    let (desk, mut seat) = Desk::open(alloc, node).ok().expect(&rt, "a desk");
+    let (desk, mut seat) = opened(rt, alloc);
     begin(rt, alloc, &desk, &mut seat, GRANTED);
     let mut clock = Counting {
         next: first,
