@@ -6,7 +6,7 @@ use Rattle.txn_log.specs.Calls.{MayFind, RestsAs}
 use Rattle.txn_log.specs.Durable.{Durable}
 use Rattle.txn_log.specs.Kept.{LogFile}
 use Rattle.world_laws.specs.Ledger.{FindsAlong}
-use Rattle.world_laws.specs.Premises.{CommitsAsHolder, OneImagePerPosition, WasSent}
+use Rattle.world_laws.specs.Premises.{OneImagePerPosition, WasSent}
 use Rattle.world_laws.specs.Safe.{IsSafe}
 use Rattle.world_laws.specs.Step.{calls_of}
 use Rattle.world_laws.specs.StopLaw.{EachIsFound, IsCut, StopsAreCuts}
@@ -16,10 +16,10 @@ use Rattle.world_laws.proofs.Restarting.{cut-off}
 use Rattle.world_laws.proofs.Terms.{other_test, same_test}
 use Rattle.node_core.specs.declared.answer.Answer.{Answer}
 use Rattle.node_core.specs.declared.ask.Ask.{Ask}
-use Rattle.cluster_laws.specs.Cluster.{Cluster, Program, IsLeftBetween, IsOpenedOn, IsRestart, Leads, Stops, TakesStep, stops, takes_step, world}
+use Rattle.cluster_laws.specs.Cluster.{Cluster, ComesUp, IsLeftBetween, IsRestart, Leads, Program, Stops, TakesStep, stops, takes_step, world}
 use Rattle.cluster_laws.specs.ClusterLaws.{BegunIsStart, InterruptedIsRestart, no_files, RestartsAreMoves, StepsAreMoves, StopsAreMoves}
 use Rattle.node_core.specs.Safely.{law_answer, law_ask}
-use Rattle.cluster_laws.proofs.Clusters.{step-turns}
+use Rattle.cluster_laws.proofs.Clusters.{came-up, step-turns}
 use Rattle.cluster_laws.proofs.Ledgers.{failing-here, failing-in, failing-other, finds-over, grows-split, grows-with}
 
 -- a folder without files stands for the store of nothing
@@ -43,13 +43,13 @@ stands-empty = inl record {
     none_file file same = cc
 
 -- one in the place of another
-abbrev place : {M : Type 0} → ℕ → M → (ℕ → M) → ℕ → M
+abbrev pub place : {M : Type 0} → ℕ → M → (ℕ → M) → ℕ → M
 place k node nodes j = cond (eqb j k) node (nodes j)
 
-place-here : {M : Type 0} (k : ℕ) (node : M) (nodes : ℕ → M) → place k node nodes k ≡ node
+pub place-here : {M : Type 0} (k : ℕ) (node : M) (nodes : ℕ → M) → place k node nodes k ≡ node
 place-here k node nodes = rw (same_test k)
 
-place-other : {M : Type 0} (k : ℕ) (node : M) (nodes : ℕ → M) (other : ℕ) → other ≢ k → place k node nodes other ≡ nodes other
+pub place-other : {M : Type 0} (k : ℕ) (node : M) (nodes : ℕ → M) (other : ℕ) → other ≢ k → place k node nodes other ≡ nodes other
 place-other k node nodes other differs = rw (other_test other k differs)
 
 either-holds : {M : Type 0} (holds : M → Bool) (test : Bool) (one other : M) → IsTrue (holds one) → IsTrue (holds other) → IsTrue (holds (cond test one other))
@@ -74,11 +74,11 @@ module _ {M : Type 0} (p : Program M) where
     failing = v.failing;
   }
 
-  -- a move that takes this step, and that leads where the step does
+  -- a move that takes this step, with its calls
   abbrev IsMove : (c : Cluster p) (k caller : ℕ) (ask : Ask) (answer : Answer) (new : M) → p.steps (c.nodes k) caller ask answer new → Type 0
   IsMove c k caller ask answer new step =
       (d : Cluster p) × (d.nodes k ≡ new) × (taken : TakesStep p c k caller ask answer d)
-      × (CommitsAsHolder (world_of c) k (calls_of (p.tells step (c.disks k)).facts) → Leads p (takes_step taken))
+      × (calls_of (p.tells taken.step (c.disks k)).facts ≡ calls_of (p.tells step (c.disks k)).facts)
 
   -- a step to the node that stands there, and so to any
   step-moves-there : (c : Cluster p) (k caller : ℕ) (ask : Ask) (answer : Answer) (new : M) (disk : IsTrue (p.honest new)) → IsSafe (world_of c) →
@@ -115,7 +115,7 @@ module _ {M : Type 0} (p : Program M) where
           };
           others = λ other differs. place-other k new c.nodes other differs;
         },
-        λ leads. leads,
+        refl {a = calls_of (p.tells step (c.disks k)).facts},
       )
 
   pub steps-are-moves : ((old new : M) (caller : ℕ) (ask : Ask) (answer : Answer) → p.steps old caller ask answer new → p.honest new ≡ p.honest old) → StepsAreMoves p
@@ -131,35 +131,35 @@ module _ {M : Type 0} (p : Program M) where
     lease = along.lease;
   }
 
-  after-restarts : (c : Cluster p) (k : ℕ) (new : M) (disk : IsTrue (p.honest new)) (folder : Folder) (left : StoreState) (v : World) → Durable folder left → IsOpenedOn folder (p.seen new) →
+  after-restarts : (c : Cluster p) (k : ℕ) (new : M) (disk : IsTrue (p.honest new)) (folder : Folder) (left : StoreState) (v : World) → Durable folder left → ComesUp (p.seen new) folder →
       IsRestart p c k folder left (after c k new disk v)
-  after-restarts c k new disk folder left v stands on = record {
+  after-restarts c k new disk folder left v stands up = record {
     stands = stands;
-    opened = subst (λ (n : M). IsOpenedOn folder (p.seen n)) (sym (place-here k new c.nodes)) on;
+    up = subst (λ (n : M). ComesUp (p.seen n) folder) (sym (place-here k new c.nodes)) up;
     others = λ other differs. place-other k new c.nodes other differs;
   }
 
   module _ (each : EachIsFound) where
     pub restarts-are-moves : ((n : M) → IsTrue (p.honest n) → RestsAs (MayBeFound (p.seen n).store (p.seen n).failed) (p.history n)) → RestartsAreMoves p
-    restarts-are-moves rests c k safe folder left new disk on =
+    restarts-are-moves rests c k safe folder left new starts =
         ∥∥₁_map (rests (c.nodes k) (c.disks k) folder left) (λ x.
         let opens = each (world_of c) k x.0 safe x.1 in (
-          after c k new disk opens.0,
+          after c k new starts.disk opens.0,
           place-here k new c.nodes,
           record {
             folder = folder;
             left = left;
             found = x.0;
-            restart = after-restarts c k new disk folder x.0 opens.0 x.2 on;
-            ledger = after-finds c (world_of c) k new disk x.0 opens.0 opens.1.along;
+            restart = after-restarts c k new starts.disk folder x.0 opens.0 x.2 starts.up;
+            ledger = after-finds c (world_of c) k new starts.disk x.0 opens.0 opens.1.along;
           },
         ))
 
     module _ (c e : Cluster p) (k caller : ℕ) (ask : Ask) (answer : Answer) (safe : IsSafe (world_of c)) (one : OneImagePerPosition e.tree)
         (x : TakesStep p c k caller ask answer e) (folder : Folder) (left : IsLeftBetween p (c.nodes k) (e.nodes k) folder)
-        (new : M) (disk : IsTrue (p.honest new)) (on : IsOpenedOn folder (p.seen new)) (found : StoreState) (stands : Durable folder found) where
+        (new : M) (disk : IsTrue (p.honest new)) (up : ComesUp (p.seen new) folder) (found : StoreState) (stands : Durable folder found) where
       abbrev IsStopped : Type 0
-      IsStopped = (d : Cluster p) × (d.nodes k ≡ new) × (stopped : Stops p c k d) × (Leads p (takes_step x) → Leads p (stops stopped))
+      IsStopped = (d : Cluster p) × (d.nodes k ≡ new) × (stopped : Stops p c k x.step d) × (Leads p (takes_step x) → Leads p (stops stopped))
 
       -- found as it could be before the step
       stop-before : MayBeFound (p.seen (c.nodes k)).store (p.seen (c.nodes k)).failed found → IsStopped
@@ -168,15 +168,10 @@ module _ {M : Type 0} (p : Program M) where
             after c k new disk opens.0,
             place-here k new c.nodes,
             record {
-              caller = caller;
-              ask = ask;
-              answer = answer;
-              new = e.nodes k;
-              step = x.step;
               folder = folder;
               left = left;
               found = found;
-              restart = after-restarts c k new disk folder found opens.0 stands on;
+              restart = after-restarts c k new disk folder found opens.0 stands up;
               ledger = inl (after-finds c (world_of c) k new disk found opens.0 opens.1.along);
             },
             λ leads. tt,
@@ -189,15 +184,10 @@ module _ {M : Type 0} (p : Program M) where
             after c k new disk stop.last,
             place-here k new c.nodes,
             record {
-              caller = caller;
-              ask = ask;
-              answer = answer;
-              new = e.nodes k;
-              step = x.step;
               folder = folder;
               left = left;
               found = found;
-              restart = after-restarts c k new disk folder found stop.last stands on;
+              restart = after-restarts c k new disk folder found stop.last stands up;
               ledger = inr record {
                 mid = stop.cut.mid;
                 answer = stop.cut.answer;
@@ -220,12 +210,12 @@ module _ {M : Type 0} (p : Program M) where
       ]
 
     pub stops-are-moves : StopsAreCuts → StopsAreMoves p
-    stops-are-moves cuts c e k caller ask answer safe one x folder left new disk on =
+    stops-are-moves cuts c e k caller ask answer safe one x folder left new starts =
         ∥∥₁_map ((p.tells x.step (c.disks k)).moments left.moment folder left.early left.late left.leaves) (λ f.
-        stop-found c e k caller ask answer safe one x folder left new disk on f.0 f.2 cuts (p.seen (c.nodes k)).failed refl f.1)
+        stop-found c e k caller ask answer safe one x folder left new starts.disk starts.up f.0 f.2 cuts (p.seen (c.nodes k)).failed refl f.1)
 
   pub interrupted-is-restart : InterruptedIsRestart p
-  interrupted-is-restart n first again stands on left stood = on left (stands left stood)
+  interrupted-is-restart n folder up = came-up up
 
   pub begun-is-start : BegunIsStart p
   begun-is-start c begun = record {

@@ -31,7 +31,7 @@ module _ {D : Type 0} {G : Ghosts D} where
   abbrev step : Node D G → ℕ → Ask → Answer → Node D G → Type 0
   step old caller ask answer new = IsStep (history old) (parts_of old) caller ask answer (history new) (parts_of new)
 
-  abbrev nodes : Program (Node D G)
+  abbrev pub nodes : Program (Node D G)
   nodes = program step (λ old new caller ask answer taken. taken.safe)
 
   stays : (old new : Node D G) (caller : ℕ) (ask : Ask) (answer : Answer) → nodes.steps old caller ask answer new → nodes.honest new ≡ nodes.honest old

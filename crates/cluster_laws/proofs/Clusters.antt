@@ -4,6 +4,7 @@ use Rattle.lf_disk.specs.Folder.{Folder}
 use Rattle.world_laws.specs.Events as events
 use Rattle.world_laws.specs.Events.{Event, Grants, Loses, Opens, Renews, Reopens, Steps, Turns}
 use Rattle.world_laws.specs.Ledger.{FindsAlong}
+use Rattle.world_laws.specs.Node.{NodeState}
 use Rattle.world_laws.specs.Premises.{CommitsAsHolder}
 use Rattle.world_laws.specs.SafetyLaw.{LedKept, SafeKept}
 use Rattle.world_laws.specs.Step.{calls_of}
@@ -12,7 +13,7 @@ use Rattle.world_laws.specs.Store.{StoreState}
 use Rattle.world_laws.specs.World.{World}
 use Rattle.node_core.specs.declared.answer.Answer.{Answer}
 use Rattle.node_core.specs.declared.ask.Ask.{Ask}
-use Rattle.cluster_laws.specs.Cluster.{AreLed, Cluster, Program, IsRestart, Leads, Move, Moves, Stops, TakesStep, begun_in, grants, loses, more, none, renews, restarts, stops, takes_step, world}
+use Rattle.cluster_laws.specs.Cluster.{AreLed, Cluster, ComesUp, IsOpenedOn, IsRestart, Leads, Move, Moves, Program, Stops, TakesStep, again, begun_in, grants, loses, more, none, opens, renews, restarts, stops, takes_step, world}
 use Rattle.cluster_laws.specs.ClusterLaws.{ClusterIsKept, ClusterIsLed, MovesAreEvents}
 use Rattle.node_core.specs.Safely.{law_answer, law_ask}
 
@@ -24,6 +25,11 @@ led-append : {w v u : World} {first then : List Event} → (runs : events.Runs w
 unfolding runs-append
 led-append events.ends rest led then_led = then_led
 led-append (events.goes {v = v} happens runs) rest led then_led = (led.0, led-append runs rest led.1 then_led)
+
+-- however often its recovery was stopped, a node that came up on a folder was opened on it
+pub came-up : {node : NodeState} {folder : Folder} → ComesUp node folder → IsOpenedOn folder node
+came-up (opens on) left stands = on left stands
+came-up (again stood up) left stands = came-up up left (stood left stands)
 
 -- events that come to a world, and that they lead where this holds
 abbrev RunsSo : World → World → Type 0 → Type 0
@@ -46,31 +52,32 @@ module _ {M : Type 0} (p : Program M) where
   restart-opens : (c d : Cluster p) (k : ℕ) (folder : Folder) (found : StoreState) → IsRestart p c k folder found d →
       FindsAlong (world_of c) k found (world_of d) → Reopens (world_of c) k found (world_of d)
   restart-opens c d k folder found restart along = record {
-    opened = restart.opened found restart.stands;
+    opened = came-up restart.up found restart.stands;
     along = along;
     others = λ other differs. ap p.seen (restart.others other differs);
   }
 
   -- a stop
-  stop-runs : (c d : Cluster p) (k : ℕ) → (x : Stops p c k d) →
-      (ledger : FindsAlong (world_of c) k x.found (world_of d) ⊎ IsCutOff (world_of c) k (law_ask x.ask) (calls_of (p.tells x.step (c.disks k)).facts) x.found (world_of d)) →
+  stop-runs : (c d : Cluster p) (k caller : ℕ) (ask : Ask) (answer : Answer) (new : M) (step : p.steps (c.nodes k) caller ask answer new) → (x : Stops p c k step d) →
+      (ledger : FindsAlong (world_of c) k x.found (world_of d) ⊎ IsCutOff (world_of c) k (law_ask ask) (calls_of (p.tells step (c.disks k)).facts) x.found (world_of d)) →
       RunsSo (world_of c) (world_of d) (CommitsAsHolder (world_of c) k (begun_in ledger))
-  stop-runs c d k x (inl before) = (Opens k x.found ∷ [], events.goes {v = world_of d} (restart-opens c d k x.folder x.found x.restart before) events.ends, λ leads. (tt, tt))
-  stop-runs c d k x (inr cut) =
-      let opens : Reopens cut.mid k x.found (world_of d) = record {
-        opened = x.restart.opened x.found x.restart.stands;
+  stop-runs c d k caller ask answer new step x (inl before) =
+      (Opens k x.found ∷ [], events.goes {v = world_of d} (restart-opens c d k x.folder x.found x.restart before) events.ends, λ leads. (tt, tt))
+  stop-runs c d k caller ask answer new step x (inr cut) =
+      let reopens : Reopens cut.mid k x.found (world_of d) = record {
+        opened = came-up x.restart.up x.found x.restart.stands;
         along = cut.finds;
         others = λ other differs. ap p.seen (x.restart.others other differs) ∙ sym (cut.fails.others other differs);
       } in (
-        Steps k (law_ask x.ask) cut.answer ∷ Opens k x.found ∷ [],
-        events.goes {v = cut.mid} cut.fails (events.goes {v = world_of d} opens events.ends),
+        Steps k (law_ask ask) cut.answer ∷ Opens k x.found ∷ [],
+        events.goes {v = cut.mid} cut.fails (events.goes {v = world_of d} reopens events.ends),
         λ leads. (leads, (tt, tt)),
       )
 
   move-runs : (c d : Cluster p) → (move : Move p c d) → RunsSo (world_of c) (world_of d) (Leads p move)
   move-runs c d (takes_step {k = k} {caller = caller} {ask = ask} {answer = answer} x) =
       (Steps k (law_ask ask) (law_answer answer) ∷ [], events.goes {v = world_of d} (step-turns c d k caller ask answer x) events.ends, λ leads. (leads, tt))
-  move-runs c d (stops {k = k} x) = stop-runs c d k x x.ledger
+  move-runs c d (stops {k = k} {caller = caller} {ask = ask} {answer = answer} {new = new} {step = step} x) = stop-runs c d k caller ask answer new step x x.ledger
   move-runs c d (restarts {k = k} x) = (Opens k x.found ∷ [], events.goes {v = world_of d} (restart-opens c d k x.folder x.found x.restart x.ledger) events.ends, λ leads. (tt, tt))
   move-runs c d (grants k x) = (Grants k ∷ [], events.goes {v = world_of d} x.ledger events.ends, λ leads. (tt, tt))
   move-runs c d (renews x) = (Renews ∷ [], events.goes {v = world_of d} x.ledger events.ends, λ leads. (tt, tt))

@@ -1,15 +1,14 @@
 -- What a follower asks of a text that a stream wrote.
-use Rattle.std.proofs.Common.{◌≡◌, ◌≢◌, ℕ, ◌+◌, ◌<◌, ◌≤◌, ◌^◌, Bool, true, false, List, [], ◌∷◌, ◌++◌, length, drop, Option, None, Some, IfSome, Result, Ok, Err, refl, sym, ap, ◌∙◌, subst, arith, append_assoc, append-nil, length-append}
+use Rattle.std.proofs.Common.{◌≡◌, ℕ, ◌+◌, ◌<◌, ◌^◌, Bool, List, [], ◌∷◌, ◌++◌, length, Option, None, Some, IfSome, Err, refl, sym, ap, ◌∙◌, subst, arith, append_assoc, append-nil, length-append}
 use Rattle.std.specs.List.{flat_map, AllByRecursion}
 use Rattle.std.specs.Io.KnownBytes.{Consumes, Keeps}
 use Rattle.std.proofs.lemmas.List.{drop_all}
 use Rattle.http.specs.StatusCode.{IsStatusCode}
 use Rattle.httparse.specs.Grammar.{ReadsResponse, ResponseHead, status_code}
 use Rattle.httparse.proofs.GrammarLemmas.{ReadsResponse-append, response_unique}
-use Rattle.lf_base.specs.declared.pos.Pos.{Pos}
 use Rattle.turn_desk.specs.History.{entry}
-use Rattle.link_session.specs.Asking.{AskedInVain, AskedUntil, IsAgain, IsAsked}
-use Rattle.link_session.specs.Rounds.{Place, Round, Talked}
+use Rattle.link_session.specs.Asking.{AskedUntil, IsAgain}
+use Rattle.link_session.specs.Rounds.{Place, Round}
 use Rattle.link_session.specs.Stands.{Asker, Stand}
 use Rattle.node_core.specs.declared.answer.Answer.{Answer}
 use Rattle.node_core.specs.declared.answer.Answer.TheVariants as answer

@@ -1,13 +1,12 @@
 -- Frames, one behind the other: which frames a text of frames begins with.
-use Rattle.std.proofs.Common.{◌≡◌, ◌≢◌, ℕ, ◌+◌, ◌<◌, ◌≤◌, ◌^◌, List, [], ◌∷◌, ◌++◌, length, take, drop, refl, sym, ap, ◌∙◌, subst, arith, append_assoc, append-nil, length-append}
+use Rattle.std.proofs.Common.{◌≡◌, ℕ, ◌<◌, ◌^◌, List, [], ◌∷◌, ◌++◌, length, take, drop, refl, sym, ap, ◌∙◌, arith, length-append}
 use Rattle.std.proofs.lemmas.Grind.{common_steps}
 use Rattle.std.specs.List.{flat_map, AllByRecursion}
-use Rattle.std.proofs.lemmas.List.Concat.{flat_map-append}
 use Rattle.lf_base.specs.declared.pos.Pos.{Pos}
 use Rattle.stream_wire.specs.declared.frame.Frame.{Frame}
 use Rattle.stream_wire.specs.declared.frame.Frame.TheVariants as frame
 use Rattle.stream_wire.specs.Frame.{be64, body_of, frame_of, frame_text, kind_of, name_of, pos_body}
-use Rattle.stream_wire.specs.Front.{body_len_at, frame_len_at, name_len_at}
+use Rattle.stream_wire.specs.Front.{frame_len_at}
 use Rattle.stream_wire.proofs.Fronts.{frame_len_at-append}
 use Rattle.stream_wire.proofs.Reading.{body_len_in, length_in, name_len_in, same_parts}
 

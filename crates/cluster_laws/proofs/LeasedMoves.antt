@@ -15,12 +15,13 @@ use Rattle.world_laws.specs.SafetyLaw.{LedKept, SafeKept}
 use Rattle.world_laws.specs.Step.{calls_of}
 use Rattle.world_laws.specs.StopLaw.{IsCutOff}
 use Rattle.world_laws.specs.Store.{Commit, FailedIn, Failure, StoreCall, StoreState, begun_by}
+use Rattle.world_laws.specs.World.{World}
 use Rattle.node_core.specs.declared.answer.Answer.{Answer}
 use Rattle.node_core.specs.declared.ask.Ask.{Ask}
 use Rattle.node_core.specs.declared.ask.Ask.TheVariants as ask
 use Rattle.node_core.specs.Safely.{law_ask}
 use Rattle.node_core.specs.Steps.{moment_by}
-use Rattle.cluster_laws.specs.Cluster.{AreLed, Cluster, Leads, Move, Moves, Program, Stops, begun_in, world}
+use Rattle.cluster_laws.specs.Cluster.{AreLed, Cluster, Leads, Move, Moves, Program, begun_in, world}
 use Rattle.cluster_laws.specs.Cluster as cluster
 use Rattle.cluster_laws.specs.Leased.{CommitsInTime, IsCurrent, IsLeasedStart, IsOfLease, Leased, LeasedMove, LeasedMoves, Leasing, MayCommit, more, none, restarts, serves, standing_of, stops, takes_step}
 use Rattle.cluster_laws.specs.LeasedLaws.{HolderMayCommit, LeasedIsKept, LeasedMovesAreLed, OneMayCommit}
@@ -37,6 +38,11 @@ cut-within did calls rest call failed fails split file here =
     let longer : Contains ((did ++ call ∷ []) ++ rest) (Commit file) = Contains-append_left (did ++ call ∷ []) rest (Commit file) first in
     let regroup : (did ++ call ∷ []) ++ rest ≡ did ++ call ∷ rest = simp append_assoc in
     subst (λ (cs : List StoreCall). Contains cs (Commit file)) (regroup ∙ sym split) longer
+
+-- so of the calls of a step that were cut off
+pub cut-among : {w v : World} {k : ℕ} {ask : laws.Ask} {found : StoreState} (calls : List StoreCall) → (cut : IsCutOff w k ask calls found v) → (file : Ltx) →
+    Contains (calls_of cut.fails.facts) (Commit file) → Contains calls (Commit file)
+cut-among calls cut file here = cut-within cut.fails.facts.did calls cut.rest cut.call cut.fails.facts.failed cut.failed cut.split file here
 
 some-alike : (j k : ℕ) → Some j ≡ Some k → j ≡ k
 some-alike j k same = cc
@@ -74,13 +80,13 @@ module _ {M : Type 0} {p : Program M} (h : Leasing p) (owner : ℕ → ℕ) (clo
       holds-at l k a reached (primary-may (h.parts (l.cluster.nodes k)) a (sym (h.role step (l.cluster.disks k)) ∙ primary)) (in_time file here))
 
   -- of a stop: nothing, or the calls of a step up to the one that failed
-  stop-holds : (l m : L) (k : ℕ) → IsReached l → (x : Stops p l.cluster k m.cluster) →
-      (ledger : FindsAlong (world p l.cluster) k x.found (world p m.cluster)
-      ⊎ IsCutOff (world p l.cluster) k (law_ask x.ask) (calls_of (p.tells x.step (l.cluster.disks k)).facts) x.found (world p m.cluster)) →
-      CommitsInTime h owner clocks l k x.ask (begun_in ledger) → CommitsAsHolder (world p l.cluster) k (begun_in ledger)
-  stop-holds l m k reached x (inl before) in_time = tt
-  stop-holds l m k reached x (inr cut) in_time = step-holds l k x.caller x.ask x.answer x.new reached x.step (calls_of cut.fails.facts)
-      (cut-within cut.fails.facts.did (calls_of (p.tells x.step (l.cluster.disks k)).facts) cut.rest cut.call cut.fails.facts.failed cut.failed cut.split) in_time
+  stop-holds : (l m : L) (k caller : ℕ) (a : Ask) (answer : Answer) (new : M) (found : StoreState) → IsReached l → (step : p.steps (l.cluster.nodes k) caller a answer new) →
+      (ledger : FindsAlong (world p l.cluster) k found (world p m.cluster)
+      ⊎ IsCutOff (world p l.cluster) k (law_ask a) (calls_of (p.tells step (l.cluster.disks k)).facts) found (world p m.cluster)) →
+      CommitsInTime h owner clocks l k a (begun_in ledger) → CommitsAsHolder (world p l.cluster) k (begun_in ledger)
+  stop-holds l m k caller a answer new found reached step (inl before) in_time = tt
+  stop-holds l m k caller a answer new found reached step (inr cut) in_time =
+      step-holds l k caller a answer new reached step (calls_of cut.fails.facts) (cut-among (calls_of (p.tells step (l.cluster.disks k)).facts) cut) in_time
 
   -- and the lease stays
   stop-stays : (c d : Cluster p) (k : ℕ) (a : laws.Ask) (calls : List StoreCall) (found : StoreState) → FindsAlong (world p c) k found (world p d) ⊎ IsCutOff (world p c) k a calls found (world p d) → d.holder ≡ c.holder
@@ -109,15 +115,15 @@ module _ {M : Type 0} {p : Program M} (h : Leasing p) (owner : ℕ → ℕ) (clo
     step-holds l k caller a answer (m.cluster.nodes k) reached x.takes.step (calls_of (p.tells x.takes.step (l.cluster.disks k)).facts) (λ file here. here) x.in_time,
     still l m reached x.takes.along.lease.1 x.rest.service (step-runs h owner clocks l m k caller a answer x),
   )
-  move-goes l m reached (stops {k = k} x in_time anew) = (
-    cluster.stops x,
-    stop-holds l m k reached x x.ledger in_time,
-    still l m reached (stop-stays l.cluster m.cluster k (law_ask x.ask) (calls_of (p.tells x.step (l.cluster.disks k)).facts) x.found x.ledger) anew.rest.service (opening-runs h owner clocks l m k anew x.restart.others),
+  move-goes l m reached (stops {k = k} {caller = caller} {ask = a} {answer = answer} {new = new} {step = step} x) = (
+    cluster.stops x.stops,
+    stop-holds l m k caller a answer new x.stops.found reached step x.stops.ledger x.in_time,
+    still l m reached (stop-stays l.cluster m.cluster k (law_ask a) (calls_of (p.tells step (l.cluster.disks k)).facts) x.stops.found x.stops.ledger) x.anew.rest.service (opening-runs h owner clocks l m k x.anew x.stops.restart.others),
   )
-  move-goes l m reached (restarts {k = k} x anew) = (
-    cluster.restarts x,
+  move-goes l m reached (restarts {k = k} x) = (
+    cluster.restarts x.restarts,
     tt,
-    still l m reached x.ledger.lease.1 anew.rest.service (opening-runs h owner clocks l m k anew x.restart.others),
+    still l m reached x.restarts.ledger.lease.1 x.anew.rest.service (opening-runs h owner clocks l m k x.anew x.restarts.restart.others),
   )
   move-goes l m reached (serves x) = (x.ledger, of-lease-leads x.ledger x.of_lease, record { runs = runs-append reached.runs (goes x.table ends); follows = x.follows })
 

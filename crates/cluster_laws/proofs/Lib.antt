@@ -10,6 +10,9 @@ pub mod Tenancies
 pub mod LeasedMoves
 pub mod LeasedSteps
 pub mod LeasedNodes
+pub mod Running
+pub mod Answering
+pub mod Opened
 pub mod Frames
 pub mod Sent
 pub mod Followed

@@ -1,5 +1,5 @@
 -- What a stream wrote, as frames, and what of them a follower asks.
-use Rattle.std.proofs.Common.{◌≡◌, ◌≢◌, ◌⊎◌, inl, inr, ℕ, ◌<◌, ◌≤◌, ◌^◌, Bool, true, false, IsTrue, List, [], ◌∷◌, ◌++◌, length, Option, None, Some, IfSome, refl, sym, ap, ◌∙◌, subst, arith, append_assoc, append-nil}
+use Rattle.std.proofs.Common.{◌≡◌, ◌≢◌, ℕ, ◌<◌, ◌^◌, List, [], ◌∷◌, ◌++◌, length, Option, None, Some, IfSome, refl, sym, ap, ◌∙◌, arith, append_assoc, append-nil}
 use Rattle.std.specs.Prelude.{codes}
 use Rattle.std.specs.List.{flat_map, AllByRecursion}
 use Rattle.std.proofs.lemmas.List.Concat.{flat_map-append}
@@ -22,10 +22,9 @@ use Rattle.stream_wire.specs.Writing.{reply_head}
 use Rattle.stream_primary.specs.declared.standing.Sent.{Sent}
 use Rattle.stream_primary.specs.declared.standing.Sent.TheVariants as sent
 use Rattle.stream_primary.specs.declared.standing.Standing.{Standing}
-use Rattle.http_exchange.specs.Writing.{reply}
-use Rattle.stream_primary.specs.Refusing.{name_of, refused_reply, status_of, store_name, store_status}
+use Rattle.stream_primary.specs.Refusing.{name_of, status_of, store_name, store_status}
 use Rattle.stream_primary.specs.Streaming.{NodeEntry, sent_by}
-use Rattle.stream_primary.specs.Telling.{begun, file_of, goes_on, next, standing_at, words}
+use Rattle.stream_primary.specs.Telling.{begun, file_of, next, standing_at, words}
 use Rattle.cluster_laws.specs.StreamLaw.{AreShort, asks_of, sent_asks}
 use Rattle.cluster_laws.proofs.Frames.{Fits, all_joined, pos_len, texts}
 

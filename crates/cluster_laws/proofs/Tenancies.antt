@@ -9,6 +9,7 @@ use Rattle.node_core.specs.declared.answer.Answer.{Answer}
 use Rattle.node_core.specs.declared.ask.Ask.{Ask}
 use Rattle.node_core.specs.declared.ask.Ask.TheVariants as ask
 use Rattle.node_core.specs.declared.news.LeaseNews.TheVariants as news
+use Rattle.node_core.specs.declared.standing.Standing.{Standing}
 use Rattle.node_core.specs.Steps.{belief_by, moment_by}
 use Rattle.cluster_laws.specs.Cluster.{OthersAre, Program}
 use Rattle.cluster_laws.specs.Leased.{IsOfOne, IsOpenedAnew, IsReply, Leased, Leasing, TakesLeasedStep, reply_by, tenancy, tenant, tenant_if}
@@ -166,8 +167,7 @@ module _ {M : Type 0} {p : Program M} (h : Leasing p) (owner : ℕ → ℕ) (clo
   fresh-if : (b : Bool) (l m : L) (k : ℕ) (reply : Option ℕ) → IsOpenedAnew h owner clocks l k m → lease_if b (m.cluster.nodes k) reply ≡ without reply
   fresh-if false l m k reply x = refl
   fresh-if true l m k reply x =
-      ap (λ (b : LeaseBelief). record { belief = b; moment = (own m k).moment; granted = reply }) x.belief
-      ∙ ap (λ (t : ℕ). record { belief = no_belief; moment = t; granted = reply }) x.moment
+      ap (λ (s : Standing). record { belief = s.belief; moment = s.moment; granted = reply }) x.standing
 
   fresh : (l m : L) (k n : ℕ) → IsOpenedAnew h owner clocks l k m → owner n ≡ k → lease_at m n ≡ without (m.replies n)
   fresh l m k n x of = ap (λ (i : ℕ). lease_if (eqb (m.numbers i) n) (m.cluster.nodes i) (m.replies n)) of ∙ fresh-if (eqb (m.numbers k) n) l m k (m.replies n) x

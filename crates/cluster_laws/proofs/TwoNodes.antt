@@ -1,16 +1,14 @@
 -- Two nodes on a link.
-use Rattle.std.proofs.Common.{◌≡◌, ◌⊎◌, inl, inr, ℕ, ◌+◌, ◌<◌, ◌≤◌, ◌^◌, List, [], ◌∷◌, ◌++◌, length, get_or, Option, None, Some, refl, sym, ap, ◌∙◌, subst, arith, append_assoc, append-nil, length-append}
+use Rattle.std.proofs.Common.{◌≡◌, inl, inr, ℕ, ◌+◌, ◌<◌, ◌^◌, List, [], ◌∷◌, ◌++◌, length, Option, Some, refl, sym, ap, ◌∙◌, subst, arith, append_assoc, length-append}
 use Rattle.std.specs.Prelude.{Contains}
-use Rattle.std.specs.List.{flat_map, AllByRecursion}
+use Rattle.std.specs.List.{AllByRecursion}
 use Rattle.std.specs.Io.KnownBytes.{Appends}
 use Rattle.std.proofs.lemmas.List.{get_or_append_left, get_or-append-add}
 use Rattle.lf_base.specs.Name.{IsName}
 use Rattle.lf_base.specs.declared.pos.Pos.{Pos}
-use Rattle.lf_base.specs.declared.session_end.SessionEnd.{SessionEnd}
 use Rattle.ltx_codec.specs.declared.file.Ltx.{Ltx}
 use Rattle.ltx_codec.specs.FileIn.{file_in}
 use Rattle.ltx_codec.specs.Format.{IsLtx}
-use Rattle.link_session.specs.Stands.{Asker, Stand}
 use Rattle.world_laws.specs.declared.last_file.LastFile.{LastFile}
 use Rattle.world_laws.specs.Node as laws
 use Rattle.world_laws.specs.Premises.{WasSent}
@@ -18,16 +16,13 @@ use Rattle.world_laws.specs.World.{DropFrame, FileFrame, SentFrame, World, sent_
 use Rattle.node_core.specs.declared.answer.Answer.{Answer}
 use Rattle.node_core.specs.declared.answer.Answer.TheVariants as answer
 use Rattle.node_core.specs.declared.ask.Ask.{Ask}
-use Rattle.node_core.specs.declared.ask.Ask.TheVariants as ask
 use Rattle.node_core.specs.Deciding.{Decided, is_encoding}
 use Rattle.node_core.specs.Moments.{ask_at}
 use Rattle.node_core.specs.Safely.{law_answer, law_ask, law_frame_by}
-use Rattle.stream_primary.specs.Streaming.{NodeEntry, Streams}
-use Rattle.stream_primary.specs.Telling.{file_of, standing_at}
+use Rattle.stream_primary.specs.Streaming.{NodeEntry}
+use Rattle.stream_primary.specs.Telling.{file_of}
 use Rattle.stream_primary.proofs.OneRun.{told_front}
-use Rattle.replica_apply.specs.declared.follow_end.FollowEnd.{FollowEnd}
-use Rattle.replica_apply.specs.Following.{Follows}
-use Rattle.cluster_laws.specs.StreamLaw.{AreShort, AsksInOrder, AsksWhatWasSent, Carries, FollowersAskWhatWasSent, HasSent, IsHelloAsk, WereSent, again, asks_of, next, no_more, sent_asks, sent_frames}
+use Rattle.cluster_laws.specs.StreamLaw.{AreShort, AsksInOrder, FollowersAskWhatWasSent, HasSent, IsHelloAsk, WereSent, again, asks_of, next, no_more, sent_asks, sent_frames}
 use Rattle.cluster_laws.proofs.Followed.{follower_asked}
 use Rattle.cluster_laws.proofs.Sent.{is_written}
 

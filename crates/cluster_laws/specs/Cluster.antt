@@ -42,6 +42,17 @@ begun_in (inr cut) = calls_of cut.fails.facts
 abbrev pub IsOpenedOn : Folder → NodeState → Type 0
 IsOpenedOn folder node = (left : StoreState) → Durable folder left → IsOpened left node
 
+-- a recovery on its way over the first folder leaves such a one when it is stopped: it stands for each store for which the first
+-- stood
+abbrev pub StandsOn : Folder → Folder → Type 0
+StandsOn first again = (left : StoreState) → Durable first left → Durable again left
+
+-- A NODE COMES UP on a folder that a stop left. Its recovery may have been stopped before, and begun again on what it had left, any
+-- number of times
+pub data ComesUp (node : NodeState) : Folder → Type 0 where
+  opens : {folder : Folder} → IsOpenedOn folder node → ComesUp node folder
+  again : {folder next : Folder} → StandsOn folder next → ComesUp node next → ComesUp node folder
+
 -- the nodes, whose disks are honest, and the ledger (`World` says what each part of it is)
 pub record Cluster {M : Type 0} (p : Program M) : Type 0 where
   pub nodes : ℕ → M
@@ -79,10 +90,10 @@ module _ {M : Type 0} (p : Program M) where
     pub along : GoesAlong (world c) k (law_ask ask) (law_answer answer) (p.tells step (c.disks k)).facts.did (p.tells step (c.disks k)).facts.failed (world d)
     pub others : OthersAre k c d
 
-  -- node k is opened anew on this folder, which stands for this store
+  -- node k comes up anew on this folder, which stands for this store
   pub record IsRestart (c : Cluster p) (k : ℕ) (folder : Folder) (found : StoreState) (d : Cluster p) : Type 0 where
     pub stands : Durable folder found
-    pub opened : IsOpenedOn folder (p.seen (d.nodes k))
+    pub up : ComesUp (p.seen (d.nodes k)) folder
     pub others : OthersAre k c d
 
   -- a folder that a crash leaves at a moment while a node goes from one state to another
@@ -92,18 +103,20 @@ module _ {M : Type 0} (p : Program M) where
     pub late : moment ≤ (p.history new).moment
     pub leaves : (p.history new).leaves moment folder
 
-  -- node k is stopped in the midst of a step, and opened anew: on what could be found before the step, or on what was done of it
-  pub record Stops (c : Cluster p) (k : ℕ) (d : Cluster p) : Type 0 where
-    pub caller : ℕ
-    pub ask : Ask
-    pub answer : Answer
-    pub new : M
-    pub step : p.steps (c.nodes k) caller ask answer new
+  -- a node starts on a folder: it comes up on it, over an honest disk
+  pub record StartsOn (folder : Folder) (new : M) : Type 0 where
+    pub disk : IsTrue (p.honest new)
+    pub up : ComesUp (p.seen new) folder
+
+  -- node k is stopped in the midst of this step, and opened anew: on what could be found before the step, or on what was done of it
+  pub record Stops (c : Cluster p) (k : ℕ) {caller : ℕ} {ask : Ask} {answer : Answer} {new : M}
+      (step : p.steps (c.nodes k) caller ask answer new) (d : Cluster p) : Type 0 where
     pub folder : Folder
     pub left : IsLeftBetween (c.nodes k) new folder
     pub found : StoreState
     pub restart : IsRestart c k folder found d
-    pub ledger : FindsAlong (world c) k found (world d) ⊎ IsCutOff (world c) k (law_ask ask) (calls_of (p.tells step (c.disks k)).facts) found (world d)
+    pub ledger : FindsAlong (world c) k found (world d)
+        ⊎ IsCutOff (world c) k (law_ask ask) (calls_of (p.tells step (c.disks k)).facts) found (world d)
 
   -- node k is stopped between two steps, and opened anew
   pub record Restarts (c : Cluster p) (k : ℕ) (d : Cluster p) : Type 0 where
@@ -121,7 +134,8 @@ module _ {M : Type 0} (p : Program M) where
   -- WHAT MAY HAPPEN
   pub data Move (c d : Cluster p) : Type 0 where
     takes_step : {k caller : ℕ} {ask : Ask} {answer : Answer} → TakesStep c k caller ask answer d → Move c d
-    stops : {k : ℕ} → Stops c k d → Move c d
+    stops : {k caller : ℕ} {ask : Ask} {answer : Answer} {new : M} {step : p.steps (c.nodes k) caller ask answer new} →
+        Stops c k step d → Move c d
     restarts : {k : ℕ} → Restarts c k d → Move c d
     grants : (k : ℕ) → LeasesAre c (k ∷ c.granted) (Some k) d → Move c d
     renews : LeasesAre c c.granted c.holder d → Move c d

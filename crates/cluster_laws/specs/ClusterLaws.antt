@@ -19,7 +19,7 @@ use Rattle.world_laws.specs.CatchUpLaw.{IsFreeRefusal, IsHeldBack, IsWhole}
 use Rattle.world_laws.specs.Events as events
 use Rattle.world_laws.specs.Events.{Event, IsStart, Runs}
 use Rattle.world_laws.specs.Node as laws
-use Rattle.world_laws.specs.Premises.{CommitsAsHolder, OneImagePerPosition, WasSent}
+use Rattle.world_laws.specs.Premises.{OneImagePerPosition, WasSent}
 use Rattle.world_laws.specs.ReaderLaw.{IsRead}
 use Rattle.world_laws.specs.Safe.{IsSafe}
 use Rattle.world_laws.specs.SafetyLaw.{IsKept, IsKeptLed}
@@ -28,7 +28,7 @@ use Rattle.world_laws.specs.Step.{Steady, calls_of}
 use Rattle.world_laws.specs.Store.{StoreState, at}
 use Rattle.node_core.specs.declared.answer.Answer.{Answer}
 use Rattle.node_core.specs.declared.ask.Ask.{Ask}
-use Rattle.cluster_laws.specs.Cluster.{AreLed, Cluster, IsLeftBetween, IsOpenedOn, Leads, Moves, Program, Restarts, Stops, TakesStep, stops, takes_step, world}
+use Rattle.cluster_laws.specs.Cluster.{AreLed, Cluster, ComesUp, IsLeftBetween, IsOpenedOn, Leads, Moves, Program, Restarts, StartsOn, Stops, TakesStep, stops, takes_step, world}
 use Rattle.cluster_laws.specs.Bytes.{GivesBytes}
 use Rattle.node_core.specs.declared.config.NodeConfig.{NodeConfig}
 use Rattle.node_core.specs.declared.node.Node.{Node}
@@ -53,25 +53,26 @@ module _ {M : Type 0} (p : Program M) where
   ClusterIsLed = (c d : Cluster p) → IsStart (world p c) → (moves : Moves p c d) → AreLed p moves → OneImagePerPosition d.tree →
       IsKeptLed (world p d)
 
-  -- every step of a node is a move, where what is delivered was sent. It leads where what is committed is the holder's
+  -- every step of a node is a move, where what is delivered was sent, with the calls that this step tells. So it leads where what is
+  -- committed is the holder's
   abbrev pub StepsAreMoves : Type 0
   StepsAreMoves = (c : Cluster p) (k caller : ℕ) (ask : Ask) (answer : Answer) (new : M) → IsSafe (world p c) → (step : p.steps (c.nodes k) caller ask answer new) →
       WasSent (world p c) (p.seen (c.nodes k)).waits (law_ask ask) →
       (d : Cluster p) × (d.nodes k ≡ new) × (taken : TakesStep p c k caller ask answer d)
-      × (CommitsAsHolder (world p c) k (calls_of (p.tells step (c.disks k)).facts) → Leads p (takes_step taken))
+      × (calls_of (p.tells taken.step (c.disks k)).facts ≡ calls_of (p.tells step (c.disks k)).facts)
 
-  -- wherever a node may take a step, a stop at any of its moments is a move, whatever folder the crash leaves and whatever node is
-  -- opened on it. It leads where the step does
+  -- wherever a node may take a step, a stop at any of its moments is a move, whatever folder the crash leaves and whatever node
+  -- starts on it. It leads where the step does
   abbrev pub StopsAreMoves : Type 0
   StopsAreMoves = (c e : Cluster p) (k caller : ℕ) (ask : Ask) (answer : Answer) → IsSafe (world p c) → OneImagePerPosition e.tree →
       (taken : TakesStep p c k caller ask answer e) →
-      (folder : Folder) → IsLeftBetween p (c.nodes k) (e.nodes k) folder → (new : M) → IsTrue (p.honest new) → IsOpenedOn folder (p.seen new) →
-      ∥ ((d : Cluster p) × (d.nodes k ≡ new) × (stopped : Stops p c k d) × (Leads p (takes_step taken) → Leads p (stops stopped))) ∥₁
+      (folder : Folder) → IsLeftBetween p (c.nodes k) (e.nodes k) folder → (new : M) → StartsOn p folder new →
+      ∥ ((d : Cluster p) × (d.nodes k ≡ new) × (stopped : Stops p c k taken.step d) × (Leads p (takes_step taken) → Leads p (stops stopped))) ∥₁
 
   -- and so is a stop between two steps
   abbrev pub RestartsAreMoves : Type 0
   RestartsAreMoves = (c : Cluster p) (k : ℕ) → IsSafe (world p c) → (folder : Folder) → may_leave (p.history (c.nodes k)) folder →
-      (new : M) → IsTrue (p.honest new) → IsOpenedOn folder (p.seen new) → ∥ ((d : Cluster p) × (d.nodes k ≡ new) × Restarts p c k d) ∥₁
+      (new : M) → StartsOn p folder new → ∥ ((d : Cluster p) × (d.nodes k ≡ new) × Restarts p c k d) ∥₁
 
   -- steps of a node, before and after each of which it is a plain replica and the owner is inside
   pub data ReadsOn (owner : Owner) : M → M → Type 0 where
@@ -151,11 +152,9 @@ module _ {D : Type 0} {G : Ghosts D} where
   RecoveredIsOpened p = (n : Node D G) (config : NodeConfig) (folder : Folder) → p.seen n ≡ seen_opened (history n) (parts_of n).store config → (parts_of n).store.broken ≡ false →
       ((left : StoreState) → Durable folder left → state (history n) (parts_of n).store ≡ left) → IsOpenedOn folder (p.seen n)
 
--- a recovery that is stopped is a restart: at each of its moments a crash leaves a folder that stands for each store for which the one
--- stood that it began on (node_recovery's `recover`, moments and gone), and a node that is opened on that is opened on the first
+-- a recovery that is stopped is a restart: however often it was stopped, a node that came up on a folder was opened on it
 abbrev pub InterruptedIsRestart : {M : Type 0} → Program M → Type 0
-InterruptedIsRestart {M = M} p = (n : M) (first again : Folder) → ((left : StoreState) → Durable first left → Durable again left) →
-    IsOpenedOn again (p.seen n) → IsOpenedOn first (p.seen n)
+InterruptedIsRestart {M = M} p = (n : M) (folder : Folder) → ComesUp (p.seen n) folder → IsOpenedOn folder (p.seen n)
 
 -- nodes that were each opened on a folder without files, and a ledger of nothing
 pub record IsBegun {M : Type 0} {p : Program M} (c : Cluster p) : Type 0 where

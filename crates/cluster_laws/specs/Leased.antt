@@ -2,13 +2,15 @@
 --
 -- Beside the cluster stands the service's table. The ledger's lease is no longer given: it follows the table. What a node believes of
 -- its lease comes from its steps.
-use Rattle.std.specs.Prelude.{◌≡◌, ◌≢◌, ℕ, ◌+◌, ◌≤◌, ◌==◌, Bool, true, false, IsTrue, List, Contains, Option, None, Some}
+use Rattle.std.specs.Prelude.{◌≡◌, ◌≢◌, ℕ, ◌+◌, ◌≤◌, ◌==◌, Bool, true, false, IsTrue, List, [], Contains, Option, None, Some}
+use Rattle.lf_disk.specs.Folder.{Folder}
 use Rattle.ltx_codec.specs.declared.file.Ltx.{Ltx}
-use Rattle.lease_core.specs.Belief.{may_commit, no_belief}
+use Rattle.lease_core.specs.Belief.{may_commit}
 use Rattle.lease_core.specs.LeaseRun.{Clocks, Happens, Tenancy, Tenant, newcomer}
 use Rattle.lease_core.specs.LeaseRun as lease
 use Rattle.lease_core.specs.Leases.{Leases}
 use Rattle.world_laws.specs.Events.{IsStart}
+use Rattle.world_laws.specs.Premises.{WasSent}
 use Rattle.world_laws.specs.Step.{calls_of}
 use Rattle.world_laws.specs.Store.{Commit, StoreCall}
 use Rattle.node_core.specs.declared.answer.Answer.{Answer}
@@ -17,10 +19,13 @@ use Rattle.node_core.specs.declared.ask.Ask.TheVariants as asks
 use Rattle.node_core.specs.declared.news.LeaseNews.TheVariants as news
 use Rattle.node_core.specs.declared.standing.Standing.{Standing}
 use Rattle.node_core.specs.Nodes.{NodeParts, role_in}
+use Rattle.node_core.specs.Opening.{first_belief}
 use Rattle.node_core.specs.Roles.{law_role}
+use Rattle.node_core.specs.Safely.{law_ask}
 use Rattle.node_core.specs.Steps.{at_ask, belief_by, moment_by}
-use Rattle.cluster_laws.specs.Cluster.{Cluster, Move, Program, Restarts, Stops, TakesStep, begun_in, world}
+use Rattle.cluster_laws.specs.Cluster.{Cluster, Move, Program, Restarts, StartsOn, Stops, TakesStep, begun_in, world}
 use Rattle.cluster_laws.specs.Cluster as cluster
+use Rattle.cluster_laws.specs.ClusterLaws.{IsBegun}
 use Rattle.cluster_laws.specs.Service.{Follows}
 
 -- WHAT THE NODES OF A PROGRAM BELIEVE of their leases: the role of a step is by belief and moment, news change the belief, and asks
@@ -40,6 +45,10 @@ pub record Leased {M : Type 0} (p : Program M) (owner : ℕ → ℕ) : Type 0 wh
   pub numbers : ℕ → ℕ
   pub owned : (k : ℕ) → owner (numbers k) ≡ k
   pub replies : ℕ → Option ℕ
+
+-- what a node stands as before any news that is no candidate by its configuration
+abbrev pub unheard : Standing
+unheard = record { belief = first_belief false; moment = 0 }
 
 -- the reply that is still to come: a node that asks again takes none to what it asked before
 abbrev pub reply_by : Ask → Option ℕ → Option ℕ
@@ -83,6 +92,14 @@ module _ {M : Type 0} {p : Program M} (h : Leasing p) (owner : ℕ → ℕ) (clo
   abbrev pub CommitsInTime : Leased p owner → ℕ → Ask → List StoreCall → Type 0
   CommitsInTime l k ask calls = (file : Ltx) → Contains calls (Commit file) → IsCurrent l k ask
 
+  -- THE PREMISES of a step of node k: what is delivered was sent; news of a grant are the reply to its last asking; and what it commits,
+  -- it commits at a current moment
+  pub record IsFair (l : Leased p owner) (k : ℕ) {caller : ℕ} {ask : Ask} {answer : Answer} {new : M}
+      (step : p.steps (l.cluster.nodes k) caller ask answer new) : Type 0 where
+    pub comes : WasSent (world p l.cluster) (p.seen (l.cluster.nodes k)).waits (law_ask ask)
+    pub reply : IsReply ask (l.replies (l.numbers k))
+    pub in_time : CommitsInTime l k ask (calls_of (p.tells step (l.cluster.disks k)).facts)
+
   -- the table stays, and so do the numbers of the nodes but one, and the replies to all numbers but its own
   pub record IsOfOne (l : Leased p owner) (k : ℕ) (m : Leased p owner) : Type 0 where
     pub service : m.service ≡ l.service
@@ -98,13 +115,30 @@ module _ {M : Type 0} {p : Program M} (h : Leasing p) (owner : ℕ → ℕ) (clo
     pub replies : m.replies (l.numbers k) ≡ reply_by ask (l.replies (l.numbers k))
     pub rest : IsOfOne l k m
 
-  -- node k was opened anew: it believes nothing, was given no moment, and no reply to its last number is to come. Its number is the
-  -- one that it drew now
+  -- node k starts on a folder, under a number of its own, and stands as before any news
+  pub record Starts (k : ℕ) (folder : Folder) (new : M) (number : ℕ) : Type 0 where
+    pub on : StartsOn p folder new
+    pub standing : standing_of new ≡ unheard
+    pub own : owner number ≡ k
+
+  -- node k was opened anew: it stands as before any news, and no reply to its last number is to come. Its number is the one that it
+  -- drew now
   pub record IsOpenedAnew (l : Leased p owner) (k : ℕ) (m : Leased p owner) : Type 0 where
-    pub belief : (standing_of (m.cluster.nodes k)).belief ≡ no_belief
-    pub moment : (standing_of (m.cluster.nodes k)).moment ≡ 0
+    pub standing : standing_of (m.cluster.nodes k) ≡ unheard
     pub reply : m.replies (l.numbers k) ≡ None
     pub rest : IsOfOne l k m
+
+  -- node k is stopped in the midst of this step, and opened anew. What was cut off of the step was committed in time too
+  pub record LeasedStop (l : Leased p owner) (k : ℕ) {caller : ℕ} {ask : Ask} {answer : Answer} {new : M}
+      (step : p.steps (l.cluster.nodes k) caller ask answer new) (m : Leased p owner) : Type 0 where
+    pub stops : Stops p l.cluster k step m.cluster
+    pub in_time : CommitsInTime l k ask (begun_in stops.ledger)
+    pub anew : IsOpenedAnew l k m
+
+  -- the same between two steps
+  pub record LeasedRestart (l : Leased p owner) (k : ℕ) (m : Leased p owner) : Type 0 where
+    pub restarts : Restarts p l.cluster k m.cluster
+    pub anew : IsOpenedAnew l k m
 
   -- the service grants, renews, takes back or learns the moment, while the nodes stay; and the ledger follows its table
   pub record Serves (l m : Leased p owner) : Type 0 where
@@ -114,11 +148,12 @@ module _ {M : Type 0} {p : Program M} (h : Leasing p) (owner : ℕ → ℕ) (clo
     pub of_lease : IsOfLease ledger
     pub follows : Follows owner (world p m.cluster) m.service
 
-  -- WHAT MAY HAPPEN. Of the calls that a stop cut off it is wanted too that they were made in time
+  -- WHAT MAY HAPPEN
   pub data LeasedMove (l m : Leased p owner) : Type 0 where
     takes_step : {k caller : ℕ} {ask : Ask} {answer : Answer} → TakesLeasedStep l k caller ask answer m → LeasedMove l m
-    stops : {k : ℕ} → (x : Stops p l.cluster k m.cluster) → CommitsInTime l k x.ask (begun_in x.ledger) → IsOpenedAnew l k m → LeasedMove l m
-    restarts : {k : ℕ} → Restarts p l.cluster k m.cluster → IsOpenedAnew l k m → LeasedMove l m
+    stops : {k caller : ℕ} {ask : Ask} {answer : Answer} {new : M} {step : p.steps (l.cluster.nodes k) caller ask answer new} →
+        LeasedStop l k step m → LeasedMove l m
+    restarts : {k : ℕ} → LeasedRestart l k m → LeasedMove l m
     serves : Serves l m → LeasedMove l m
 
   -- a list of these, one after another
@@ -126,10 +161,16 @@ module _ {M : Type 0} {p : Program M} (h : Leasing p) (owner : ℕ → ℕ) (clo
     none : {l : Leased p owner} → LeasedMoves l l
     more : {l m o : Leased p owner} → LeasedMove l m → LeasedMoves m o → LeasedMoves l o
 
-  -- a start of the cluster; the service has granted nothing, and the nodes believe nothing
+  -- a start of the cluster; the service has granted nothing, and the nodes are idle
   pub record IsLeasedStart (l : Leased p owner) : Type 0 where
     pub cluster : IsStart (world p l.cluster)
     pub tenancy : lease.IsStart (tenancy l)
+
+  -- nodes that came up on folders without files and stand as before any news, a ledger of nothing, and a service that has granted nothing
+  pub record IsLeasedBegun (l : Leased p owner) : Type 0 where
+    pub cluster : IsBegun l.cluster
+    pub nodes : (k : ℕ) → standing_of (l.cluster.nodes k) ≡ unheard
+    pub service : l.service.grants ≡ []
 
   -- a node whose belief has not ended, and whose moment is current
   pub record MayCommit (l : Leased p owner) (k : ℕ) : Type 0 where

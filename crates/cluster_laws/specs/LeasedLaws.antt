@@ -3,12 +3,13 @@
 -- That one node at a time commits is proved here. In its place stand two premises on clocks, each where one clock is compared with
 -- another: the service grants no node what it asked for only later (`AskedBefore`), and a node that commits is given no moment
 -- before the service's (`IsCurrent`). A third says that a term is given back only where its node is idle.
-use Rattle.std.specs.Prelude.{◌≡◌, ℕ, IsTrue, Option, Some, true}
+use Rattle.std.specs.Prelude.{◌≡◌, ℕ, IsTrue, Option, Some}
 use Rattle.lf_disk.specs.declared.disk.Disk.{Ghosts}
-use Rattle.lease_core.specs.Belief.{may_commit}
+use Rattle.lf_disk.specs.Folder.{Folder}
+use Rattle.lf_disk.specs.History.{may_leave}
 use Rattle.lease_core.specs.LeaseRun.{Clocks, Happens}
 use Rattle.lease_core.specs.Leases.{Leases}
-use Rattle.world_laws.specs.Premises.{OneImagePerPosition, WasSent}
+use Rattle.world_laws.specs.Premises.{OneImagePerPosition}
 use Rattle.world_laws.specs.Safe.{IsSafe}
 use Rattle.world_laws.specs.SafetyLaw.{IsKept, IsKeptLed}
 use Rattle.node_core.specs.declared.answer.Answer.{Answer}
@@ -18,9 +19,9 @@ use Rattle.node_core.specs.Nodes.{history, parts_of, role_in, seen}
 use Rattle.node_core.specs.Roles.{law_role}
 use Rattle.node_core.specs.Safely.{StepsSafely, law_answer, law_ask}
 use Rattle.node_core.specs.Steps.{at_ask, belief_by, moment_by}
-use Rattle.cluster_laws.specs.Cluster.{AreLed, Moves, Program, world}
+use Rattle.cluster_laws.specs.Cluster.{AreLed, IsLeftBetween, Moves, Program, world}
 use Rattle.cluster_laws.specs.ClusterLaws.{program}
-use Rattle.cluster_laws.specs.Leased.{IsCurrent, IsLeasedStart, IsReply, Leased, LeasedMoves, Leasing, MayCommit, Serves, TakesLeasedStep, tenancy}
+use Rattle.cluster_laws.specs.Leased.{IsFair, IsLeasedBegun, IsLeasedStart, Leased, LeasedMoves, LeasedRestart, LeasedStop, Leasing, MayCommit, Serves, Starts, TakesLeasedStep, tenancy}
 
 module _ {M : Type 0} {p : Program M} (h : Leasing p) where
   -- what may happen in a cluster with a lease service may happen in a cluster, and each move leads
@@ -43,19 +44,36 @@ module _ {M : Type 0} {p : Program M} (h : Leasing p) where
   OneMayCommit = (owner : ℕ → ℕ) (clocks : Clocks) (l m : Leased p owner) (j k : ℕ) → IsLeasedStart h owner clocks l → LeasedMoves h owner clocks l m →
       MayCommit h owner clocks m j → MayCommit h owner clocks m k → j ≡ k
 
-  -- every step of a node is such a move, where what is delivered was sent, news of a grant are the reply to the last asking, and a node
-  -- that may commit then is at a current moment
+  -- every step of a node is such a move, where it meets the premises
   abbrev pub StepsAreLeasedMoves : Type 0
   StepsAreLeasedMoves = (owner : ℕ → ℕ) (clocks : Clocks) (l : Leased p owner) (k caller : ℕ) (ask : Ask) (answer : Answer) (new : M) → IsSafe (world p l.cluster) →
-      p.steps (l.cluster.nodes k) caller ask answer new → WasSent (world p l.cluster) (p.seen (l.cluster.nodes k)).waits (law_ask ask) → IsReply ask (l.replies (l.numbers k)) →
-      (may_commit (h.parts (l.cluster.nodes k)).standing.belief (moment_by ask (h.parts (l.cluster.nodes k)).standing.moment) ≡ true → IsCurrent h owner clocks l k ask) →
+      (step : p.steps (l.cluster.nodes k) caller ask answer new) → IsFair h owner clocks l k step →
       (m : Leased p owner) × (m.cluster.nodes k ≡ new) × TakesLeasedStep h owner clocks l k caller ask answer m
+
+  -- wherever a node may take a step, a stop at any of its moments is such a move, whatever folder the crash leaves and whatever node
+  -- starts on it
+  abbrev pub StopsAreLeasedMoves : Type 0
+  StopsAreLeasedMoves = (owner : ℕ → ℕ) (clocks : Clocks) (l e : Leased p owner) (k caller : ℕ) (ask : Ask) (answer : Answer) → IsSafe (world p l.cluster) →
+      OneImagePerPosition e.cluster.tree → (taken : TakesLeasedStep h owner clocks l k caller ask answer e) →
+      (folder : Folder) → IsLeftBetween p (l.cluster.nodes k) (e.cluster.nodes k) folder →
+      (new : M) (number : ℕ) → Starts h owner clocks k folder new number →
+      ∥ ((m : Leased p owner) × (m.cluster.nodes k ≡ new) × (m.numbers k ≡ number) × LeasedStop h owner clocks l k taken.takes.step m) ∥₁
+
+  -- and so is a stop between two steps
+  abbrev pub RestartsAreLeasedMoves : Type 0
+  RestartsAreLeasedMoves = (owner : ℕ → ℕ) (clocks : Clocks) (l : Leased p owner) (k : ℕ) → IsSafe (world p l.cluster) →
+      (folder : Folder) → may_leave (p.history (l.cluster.nodes k)) folder → (new : M) (number : ℕ) → Starts h owner clocks k folder new number →
+      ∥ ((m : Leased p owner) × (m.cluster.nodes k ≡ new) × (m.numbers k ≡ number) × LeasedRestart h owner clocks l k m) ∥₁
 
   -- and whatever becomes of the table and of the replies is one, with a move of the ledger's lease
   abbrev pub ServiceIsServed : Type 0
   ServiceIsServed = (owner : ℕ → ℕ) (clocks : Clocks) (l : Leased p owner) (service : Leases) (replies : ℕ → Option ℕ) →
       Happens clocks (tenancy h owner clocks l) (tenancy h owner clocks (record l { service = service; replies = replies })) →
-      (m : Leased p owner) × (m.service ≡ service) × Serves h owner clocks l m
+      (m : Leased p owner) × (m.service ≡ service) × ((n : ℕ) → m.replies n ≡ replies n) × Serves h owner clocks l m
+
+  -- nodes that began so are a start
+  abbrev pub LeasedBegunIsStart : Type 0
+  LeasedBegunIsStart = (owner : ℕ → ℕ) (clocks : Clocks) (l : Leased p owner) → IsLeasedBegun h owner clocks l → IsLeasedStart h owner clocks l
 
 -- the nodes of this program: their parts, and what the relation of their steps says of role and lease
 module _ {D : Type 0} {G : Ghosts D} where

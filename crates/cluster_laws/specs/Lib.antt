@@ -1,7 +1,10 @@
+pub mod Answering
 pub mod Bytes
 pub mod Cluster
 pub mod ClusterLaws
 pub mod Leased
 pub mod LeasedLaws
+pub mod LeasedRunning
+pub mod Running
 pub mod Service
 pub mod StreamLaw

@@ -1,6 +1,9 @@
 //! Laws of clusters of these nodes, each the contract of a function that calls other laws at most.
+ghost use Rattle.cluster_laws.specs.Answering.{AnswersAreMoves, MomentsAreMoves};
 ghost use Rattle.cluster_laws.specs.ClusterLaws.{BegunIsStart, ClusterIsKept, ClusterIsLed, DeliveredDropInstalls, DeliveredFileApplies, DeliveredSnapshotInstalls, InterruptedIsRestart, MovesAreEvents, ReaderIsSteady, RecoveredIsOpened, RestartsAreMoves, StepAnswersByWhole, StepsAreMoves, StopsAreMoves, program};
-ghost use Rattle.cluster_laws.specs.LeasedLaws.{HolderMayCommit, LeasedIsKept, LeasedMovesAreLed, OneMayCommit, ServiceIsServed, StepsAreLeasedMoves, leasing};
+ghost use Rattle.cluster_laws.specs.LeasedLaws.{HolderMayCommit, LeasedBegunIsStart, LeasedIsKept, LeasedMovesAreLed, OneMayCommit, RestartsAreLeasedMoves, ServiceIsServed, StepsAreLeasedMoves, StopsAreLeasedMoves, leasing};
+ghost use Rattle.cluster_laws.specs.LeasedRunning.{LeasedRunningHolds};
+ghost use Rattle.cluster_laws.specs.Running.{RunningHolds};
 ghost use Rattle.cluster_laws.specs.Service.{ServiceIsEvent, ServiceLeads};
 
 use lease_core::holder_believes;
@@ -66,7 +69,9 @@ pub fn service_leads()
 
 /// In a cluster with a lease service every list of moves is one of a cluster, and each of them leads: so
 /// whatever is said of clusters and of terms holds without the premise that one node at a time commits.
-/// Each node that may commit holds the lease, so no two nodes may commit at once. It is wanted of the
+/// Each node that may commit holds the lease, so no two nodes may commit at once. Every step of a node is
+/// such a move, every stop at a moment of a step and between two, whatever the crash leaves and whatever
+/// node starts on it, and whatever becomes of the service. It is wanted of the
 /// clocks that each is ahead of a common time by an amount which does not change, that nothing is granted
 /// before it was asked for in that time, and that no node commits at a moment before the service's; and a
 /// term is given back only where its node believes in none.
@@ -76,8 +81,36 @@ pub fn leased_cluster_is_safe<D: Disk>()
     ensures holder { HolderMayCommit (leasing ⟦<Node<D> as Machine>⟧.steps (λ old new caller ask answer step. step.safe) (λ old new caller ask answer step. step.role) (λ old new caller ask answer step. step.lease)) }
     ensures one { OneMayCommit (leasing ⟦<Node<D> as Machine>⟧.steps (λ old new caller ask answer step. step.safe) (λ old new caller ask answer step. step.role) (λ old new caller ask answer step. step.lease)) }
     ensures steps { StepsAreLeasedMoves (leasing ⟦<Node<D> as Machine>⟧.steps (λ old new caller ask answer step. step.safe) (λ old new caller ask answer step. step.role) (λ old new caller ask answer step. step.lease)) }
+    ensures stops { StopsAreLeasedMoves (leasing ⟦<Node<D> as Machine>⟧.steps (λ old new caller ask answer step. step.safe) (λ old new caller ask answer step. step.role) (λ old new caller ask answer step. step.lease)) }
+    ensures restarts { RestartsAreLeasedMoves (leasing ⟦<Node<D> as Machine>⟧.steps (λ old new caller ask answer step. step.safe) (λ old new caller ask answer step. step.role) (λ old new caller ask answer step. step.lease)) }
     ensures serves { ServiceIsServed (leasing ⟦<Node<D> as Machine>⟧.steps (λ old new caller ask answer step. step.safe) (λ old new caller ask answer step. step.role) (λ old new caller ask answer step. step.lease)) }
+    ensures start { LeasedBegunIsStart (leasing ⟦<Node<D> as Machine>⟧.steps (λ old new caller ask answer step. step.safe) (λ old new caller ask answer step. step.role) (λ old new caller ask answer step. step.lease)) }
 {
     holder_believes();
     safe_kept();
+    stops_are_failures();
+}
+
+/// Each answer of the lease service to a request is a move of a cluster, and what it tells of a grant is the
+/// reply that is still to come to the number that asked; and so it is where only the moment passed. It is
+/// wanted of a grant that it was asked for no later than it is given, and of a term that is given back that
+/// its node is idle.
+pub fn service_answers_are_moves<D: Disk>()
+    ensures answers { AnswersAreMoves (leasing ⟦<Node<D> as Machine>⟧.steps (λ old new caller ask answer step. step.safe) (λ old new caller ask answer step. step.role) (λ old new caller ask answer step. step.lease)) }
+    ensures moment { MomentsAreMoves (leasing ⟦<Node<D> as Machine>⟧.steps (λ old new caller ask answer step. step.safe) (λ old new caller ask answer step. step.role) (λ old new caller ask answer step. step.lease)) }
+{
+    leased_cluster_is_safe::<D>();
+}
+
+/// A cluster that begins holds on for any number of things, whatever happens one after another: whatever
+/// steps the nodes take, and wherever they are stopped, in the midst of a step or between two, however often
+/// a recovery is stopped too. After each a ledger goes along, and each node's committed pages are those of
+/// the lineage that its position names. With a lease service whatever becomes of that is among it, and what
+/// is said of terms holds on too.
+pub fn running_cluster_holds<D: Disk>()
+    ensures alone { RunningHolds (program ⟦<Node<D> as Machine>⟧.steps (λ old new caller ask answer step. step.safe)) }
+    ensures leased { LeasedRunningHolds (leasing ⟦<Node<D> as Machine>⟧.steps (λ old new caller ask answer step. step.safe) (λ old new caller ask answer step. step.role) (λ old new caller ask answer step. step.lease)) }
+{
+    cluster_is_safe::<D>();
+    leased_cluster_is_safe::<D>();
 }
