@@ -2,7 +2,8 @@
 //! restarts.
 //!
 //! There is no code here that runs: each law is the contract of a function that calls other laws at most. What a step of a
-//! node tells comes from node_core, and what holds of every list of such steps from world_laws.
+//! node tells comes from node_core, and what holds of every list of such steps from world_laws. `start_node` alone is no law: it
+//! makes the two calls of a start.
 #![tactic(auto)]
 
 mod laws;
