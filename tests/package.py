@@ -16,8 +16,9 @@ from support import Node, Skipped, configuration, fill, holds, in_mode, outcome,
 
 NEEDED = ('libc6', 'libgcc-s1', 'dpkg')
 PAGES = {'litefs.1': 'LITEFS(1)', 'litefs.toml.5': 'LITEFS.TOML(5)'}
-WANTED = ('usr/bin/litefs', 'usr/lib/systemd/system/litefs@.service', 'usr/lib/sysusers.d/litefs.conf', 'usr/share/man/man1/litefs.1.gz',
-          'usr/share/man/man5/litefs.toml.5.gz', 'usr/share/doc/litefs/examples/litefs.toml', 'usr/share/doc/litefs/OPERATING.md',
+UNITS = ('litefs@', 'litefs-lease@')
+WANTED = ('usr/bin/litefs', *(f'usr/lib/systemd/system/{it}.service' for it in UNITS), 'usr/lib/sysusers.d/litefs.conf',
+          'usr/share/man/man1/litefs.1.gz', 'usr/share/man/man5/litefs.toml.5.gz', 'usr/share/doc/litefs/examples/litefs.toml', 'usr/share/doc/litefs/OPERATING.md',
           'usr/share/doc/litefs/TROUBLESHOOTING.md', 'usr/share/doc/litefs/CHANGELOG.md')
 CLIENTS = {'usr/bin/litefs-fuse': 'clients/litefs-fuse/target/release/litefs-fuse', 'usr/lib/litefs/litefs-vfs.so': 'clients/litefs-vfs/build.sh'}
 made = tempfile.TemporaryDirectory(prefix='litefs-package-')
@@ -126,19 +127,20 @@ def from_the_tar():
             primary.level(replica)
 
 
-def unit():
-    """systemd reads the unit without a complaint."""
+def units():
+    """systemd reads the units without a complaint."""
     if not shutil.which('systemd-analyze'):
         raise Skipped('no systemd-analyze')
     with Root() as root:
         root.dpkg('-i', built()[0])
         os.makedirs(root.path('bin'))
         os.symlink('/bin/ln', root.path('bin/ln'))
-        shutil.copy(root.path('usr/lib/systemd/system/litefs@.service'), root.path('litefs@app.service'))
-        ran = subprocess.run(['systemd-analyze', 'verify', '--man=no', '--recursive-errors=no', root.path('litefs@app.service')],
-                             capture_output=True, text=True)
-        complaints = [it for it in ran.stderr.splitlines() if 'litefs@' in it and 'is not executable' not in it]
-        same(complaints, [], 'what systemd says')
+        for it in UNITS:
+            instance = root.path(f'{it}app.service')
+            shutil.copy(root.path(f'usr/lib/systemd/system/{it}.service'), instance)
+            ran = subprocess.run(['systemd-analyze', 'verify', '--man=no', '--recursive-errors=no', instance], capture_output=True, text=True)
+            complaints = [line for line in ran.stderr.splitlines() if it in line and 'is not executable' not in line]
+            same(complaints, [], f'what systemd says of {it}')
 
 
 def man_pages():
@@ -160,4 +162,4 @@ def example():
         until(lambda: node.position().txid == 0, 'it answers')
 
 
-run({call.__name__: call for call in (installed, from_the_tar, unit, man_pages, example)})
+run({call.__name__: call for call in (installed, from_the_tar, units, man_pages, example)})

@@ -5,11 +5,13 @@ to fail. It gives its cases to `run`, which prints one line for each and ends wi
 ran)."""
 from .cases import holds, length, refuses, run, same, skip_all
 from .client import Client
+from .cluster import Cluster
 from .mounted import small_disk
 from .node import KEEP_ALL, Node, applied, configuration, free_port, outcome, read
 from .outcomes import Skipped, Wrong
 from .places import ROOT, TESTS, program, vfs
 from .relay import Relay
+from .service import Service
 from .sqlite import MODES, connect, in_mode, seen_by
 from .waiting import Late, until
 from .wire import Link, Refused

@@ -1,4 +1,5 @@
 """A script's cases: one line for each, and the status at the end."""
+import concurrent.futures
 import fnmatch
 import os
 import sys
@@ -45,8 +46,9 @@ def skip_all(reason):
     sys.exit(NOTHING_RAN)
 
 
-def run(cases):
-    """Runs the cases, calls by name, that fit a pattern of the command line, all where there is none; ends the script."""
+def run(cases, at_once=1):
+    """Runs the cases, calls by name, that fit a pattern of the command line, all where there is none; ends the script. `at_once`: so many
+    at a time, where they mostly wait."""
     patterns = sys.argv[1:] or ['*']
     chosen = [name for name in cases if any(fnmatch.fnmatch(name, it) for it in patterns)]
     if not chosen:
@@ -55,13 +57,18 @@ def run(cases):
         places.program()
     except FileNotFoundError as lacking:
         sys.exit(str(lacking))
-    ends = [one(name, cases[name]) for name in chosen]
+    if at_once == 1:
+        ends = [one(name, cases[name]) for name in chosen]
+    else:
+        with concurrent.futures.ThreadPoolExecutor(at_once) as lanes:
+            ends = list(lanes.map(lambda name: one(name, cases[name]), chosen))
     sys.exit(FAILED if 'failed' in ends else 0 if 'passed' in ends else NOTHING_RAN)
 
 
 def one(name, call):
     how, why = tried(call)
-    print(f'{how}: {name}' + (f': {one_line(why)}' if why else ''), flush=True)
+    sys.stdout.write(f'{how}: {name}' + (f': {one_line(why)}' if why else '') + '\n')
+    sys.stdout.flush()
     return how
 
 

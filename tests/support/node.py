@@ -28,6 +28,14 @@ candidate = {candidate}
 advertise-url = "http://127.0.0.1:{primary}"
 hostname = "db1"
 '''
+# what a node says of its lease that asks a service for it
+LEASED = '''type = "service"
+candidate = {candidate}
+advertise-url = "http://127.0.0.1:{port}"
+hostname = "{host}"
+service-url = "http://127.0.0.1:{service}"
+ttl = {ttl}
+'''
 Position = collections.namedtuple('Position', 'txid sum')
 
 
@@ -49,13 +57,20 @@ def configuration(port, primary=None, keep=KEEP_ALL, database='app'):
                                 candidate='false' if primary else 'true')
 
 
+def leased(port, service, candidate, keep=KEEP_ALL, database='app'):
+    """The same of a node that asks the lease service which node is primary."""
+    before = configuration(port, None, keep, database).split('type = ')[0]
+    return before + LEASED.format(candidate=str(candidate).lower(), port=port, host=f'db{port}', service=service.port, ttl=service.ttl)
+
+
 class Node:
-    """A primary, or a replica of the node `following`. Ended and removed at the end of its block.
+    """A primary, or a replica of the node `following`; with a lease `service`, either, and a primary only where it is a `candidate`.
+    Ended and removed at the end of its block.
 
     It keeps more files than a script commits, so that its log can be applied from the first on. `folder`: where it
     runs; a new temporary one where none is given. `program`: another build than the one under test."""
 
-    def __init__(self, following=None, keep=KEEP_ALL, database='app', folder=None, program=None, starts=True):
+    def __init__(self, following=None, keep=KEEP_ALL, database='app', folder=None, program=None, starts=True, service=None, candidate=True):
         self.program = program or places.program()
         self.made = folder is None
         self.folder = folder or tempfile.mkdtemp(prefix='litefs-test-')
@@ -65,7 +80,8 @@ class Node:
         self.socket = os.path.join(self.folder, f'{database}.sock')
         self.data = os.path.join(self.folder, 'dbs', database)
         self.process = None
-        self.configure(configuration(self.port, following and following.port, keep, database))
+        self.configure(leased(self.port, service, candidate, keep, database) if service else
+                       configuration(self.port, following and following.port, keep, database))
         if starts:
             try:
                 self.start()

@@ -1,12 +1,14 @@
 """Connections of real SQLite to a node, through the VFS."""
 import functools
 import sqlite3
+import threading
 import urllib.parse
 
 from . import places
 from .cases import same
 
 MODES = ('delete', 'truncate', 'persist', 'wal')
+loading = threading.Lock()
 
 
 @functools.cache
@@ -21,7 +23,8 @@ def load():
 
 def connect(socket, seconds=60):
     """A connection to the database behind the node's socket; `seconds`: how long it waits for a lock."""
-    load()
+    with loading:
+        load()
     return sqlite3.connect(f'file:{urllib.parse.quote(socket)}?vfs=litefs', uri=True, isolation_level=None,
                            timeout=seconds, check_same_thread=False)
 

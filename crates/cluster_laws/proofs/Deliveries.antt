@@ -62,8 +62,8 @@ module _ {M : Type 0} (p : Program M) where
           )
 
   pub step-answers-by-whole : AnswersByWhole → StepAnswersByWhole p
-  step-answers-by-whole law old new caller ask answer position asks disk step role lacks =
-      law (p.seen old) (p.seen new) position (law_answer answer) (subst (λ (a : laws.Ask). StepFacts (p.seen old) a (law_answer answer) (p.seen new)) asks (p.tells step disk).facts) role lacks
+  step-answers-by-whole law old new caller ask answer position last asks disk step role lacks =
+      law (p.seen old) (p.seen new) position last (law_answer answer) (subst (λ (a : laws.Ask). StepFacts (p.seen old) a (law_answer answer) (p.seen new)) asks (p.tells step disk).facts) role lacks
 
   -- a delivery is a step of the laws
   delivered : {c d : Cluster p} {k : ℕ} {frame : laws.Ask} {answer : Answer} → Delivers p c k frame answer d → Turns (world_of c) k frame (law_answer answer) (world_of d)

@@ -285,11 +285,11 @@ not_placed caller asks old new turns ends.Worn x = nothing_asked asks old new x
 not_placed caller asks old new turns ends.OddAnswer x = only_where caller x.0 asks old new x.1
 not_placed caller asks old new turns end x = absurd x
 
-pub follower_asked : (who : Asker) (name whole x got : List ℕ) (asks : List Ask) (budget : ℕ) (old new : Stand NodeEntry) (end : FollowEnd) → length name < 2 ^ 32 → length got < 2 ^ 64
-    → old.place.text ≡ Some got → got ++ x ≡ whole → IsWritten asks whole → Follows who name budget old new end → FollowerAsked asks old.place.entries new.place.entries
-follower_asked who name whole x got asks budget old new end fits few known e written f = go f.ends
+pub follower_asked : (who : Asker) (name whole x got : List ℕ) (asks : List Ask) (unknown : Bool) (budget : ℕ) (old new : Stand NodeEntry) (end : FollowEnd) → length name < 2 ^ 32 → length got < 2 ^ 64
+    → old.place.text ≡ Some got → got ++ x ≡ whole → IsWritten asks whole → Follows who name unknown budget old new end → FollowerAsked asks old.place.entries new.place.entries
+follower_asked who name whole x got asks unknown budget old new end fits few known e written f = go f.ends
   where
-    go : Ends who name old new f.left end → FollowerAsked asks old.place.entries new.place.entries
+    go : Ends who name unknown old new f.left end → FollowerAsked asks old.place.entries new.place.entries
     go (unplaced says kept text faults) = not_placed who.caller asks old.place.entries new.place.entries f.left end says
     go (unsent pos same cause text) = only_where who.caller (answer.At pos) asks old.place.entries new.place.entries same
     go (answered pos asked_for same wrote kept faults ends_so) =

@@ -48,10 +48,11 @@ pub primary-may : (n : NodeParts) (ask : Ask) → law_role (role_in (at_ask n as
 primary-may n (asks.File now request) is = by-role (may_commit n.standing.belief (max n.standing.moment now)) is
 primary-may n asks.EndSession is = by-role (may_commit n.standing.belief n.standing.moment) is
 primary-may n asks.Where is = by-role (may_commit n.standing.belief n.standing.moment) is
-primary-may n (asks.Hello now from) is = by-role (may_commit n.standing.belief (max n.standing.moment now)) is
+primary-may n (asks.Hello now from last) is = by-role (may_commit n.standing.belief (max n.standing.moment now)) is
 primary-may n (asks.Frame now bytes) is = by-role (may_commit n.standing.belief (max n.standing.moment now)) is
 primary-may n (asks.Drop now) is = by-role (may_commit n.standing.belief (max n.standing.moment now)) is
 primary-may n (asks.Prune keep) is = by-role (may_commit n.standing.belief n.standing.moment) is
+primary-may n (asks.Info now) is = by-role (may_commit n.standing.belief (max n.standing.moment now)) is
 primary-may n (asks.Lease now news) is = by-role (may_commit n.standing.belief (max n.standing.moment now)) is
 
 -- where each commit among the calls is the holder's

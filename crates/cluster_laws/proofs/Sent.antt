@@ -6,6 +6,7 @@ use Rattle.std.proofs.lemmas.List.Concat.{flat_map-append}
 use Rattle.http.specs.StatusCode.{IsStatusCode}
 use Rattle.lf_base.specs.declared.pos.Pos.{Pos}
 use Rattle.turn_desk.specs.History.{StartsWith}
+use Rattle.node_core.specs.declared.whereabouts.Whereabouts.{Whereabouts}
 use Rattle.node_core.specs.declared.answer.Answer.{Answer}
 use Rattle.node_core.specs.declared.answer.Answer.TheVariants as answer
 use Rattle.node_core.specs.declared.ask.Ask.{Ask}
@@ -21,7 +22,8 @@ use Rattle.stream_wire.specs.Writing.{reply_head}
 use Rattle.stream_primary.specs.declared.standing.Sent.{Sent}
 use Rattle.stream_primary.specs.declared.standing.Sent.TheVariants as sent
 use Rattle.stream_primary.specs.declared.standing.Standing.{Standing}
-use Rattle.stream_primary.specs.Refusing.{name_of, refused_reply, reply, status_of, store_name, store_status}
+use Rattle.http_exchange.specs.Writing.{reply}
+use Rattle.stream_primary.specs.Refusing.{name_of, refused_reply, status_of, store_name, store_status}
 use Rattle.stream_primary.specs.Streaming.{NodeEntry, sent_by}
 use Rattle.stream_primary.specs.Telling.{begun, file_of, goes_on, next, standing_at, words}
 use Rattle.cluster_laws.specs.StreamLaw.{AreShort, asks_of, sent_asks}
@@ -169,8 +171,8 @@ pub data IsWritten (asks : List Ask) (bytes : List ℕ) : Type 0 where
 abbrev head : List ℕ
 head = reply_head 200 None
 
-abbrev headed : Pos → Standing
-headed pos = record { pos = pos; sent = sent.Head }
+abbrev headed : Whereabouts → Standing
+headed from = record { here = from; sent = sent.Head }
 
 head_some : sent.Head ≢ sent.Nothing
 head_some same = cc
@@ -179,7 +181,7 @@ abbrev odd_body : List ℕ
 odd_body = codes "OddAnswer" ++ 10 ∷ []
 
 -- the first answer, with which the stream begins
-data IsFirst (name : List ℕ) (from : Pos) (given : Answer) : Type 0 where
+data IsFirst (name : List ℕ) (from : Whereabouts) (given : Answer) : Type 0 where
   begins : words name sent.Nothing given ≡ head ++ words name sent.Head given → next (standing_at from) given ≡ next (headed from) given → IsFirst name from given
   refuses : (status : ℕ) (len : Option ℕ) (body : List ℕ) → words name sent.Nothing given ≡ reply_head status len ++ body → status ≢ 200 → IsStatusCode status → IfSome len (λ n. n < 2 ^ 64)
       → IsFirst name from given
@@ -195,7 +197,7 @@ refusal_odd : (why : Refusal) → IsOdd (status_of why) (name_of why ++ 10 ∷ [
 refusal_odd (refusal.Store why) = store_odd why
 refusal_odd why = (λ same. omega (arith, same), (omega arith, omega arith), omega arith)
 
-first_words : (name : List ℕ) (from : Pos) (given : Answer) → IsFirst name from given
+first_words : (name : List ℕ) (from : Whereabouts) (given : Answer) → IsFirst name from given
 first_words name from (answer.Item ltx after) = begins refl refl
 first_words name from answer.Gone = begins refl refl
 first_words name from (answer.Level pos) = begins refl refl
@@ -207,7 +209,7 @@ first_words name from given =
     let body : List ℕ = odd_body in
     refuses 500 (Some (length body)) body refl (λ same. omega (arith, same)) (omega arith, omega arith) (omega arith)
 
-from_first : (name : List ℕ) (from : Pos) (one : NodeEntry) (more : List NodeEntry) → length name < 2 ^ 32 → AreShort (one ∷ more) → IsFirst name from one.answer
+from_first : (name : List ℕ) (from : Whereabouts) (one : NodeEntry) (more : List NodeEntry) → length name < 2 ^ 32 → AreShort (one ∷ more) → IsFirst name from one.answer
     → IsWritten (sent_asks (one ∷ more)) (sent_by name (standing_at from) (one ∷ more))
 from_first name from one more fits short (begins first then) =
     a_stream (frames_of name (headed from) (one ∷ more))
@@ -224,7 +226,7 @@ from_first name from one more fits short (refuses status len body first odd code
     odd code fit
 
 -- what these Hellos are to a follower, or a front of that, where there was none
-pub is_written : (name : List ℕ) (from : Pos) (hellos : List NodeEntry) → length name < 2 ^ 32 → AreShort hellos
+pub is_written : (name : List ℕ) (from : Whereabouts) (hellos : List NodeEntry) → length name < 2 ^ 32 → AreShort hellos
     → (whole : List ℕ) × IsWritten (sent_asks hellos) whole × StartsWith whole (sent_by name (standing_at from) hellos)
 is_written name from [] fits short = (head ++ [], a_stream [] refl tt refl, (head ++ [], refl))
 is_written name from (one ∷ more) fits short =

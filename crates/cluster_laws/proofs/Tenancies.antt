@@ -33,10 +33,11 @@ now-of : (a : Ask) → (now : ℕ) × ((moment : ℕ) → moment_by a moment ≡
 now-of (ask.File now request) = (now, λ m. refl)
 now-of ask.EndSession = (0, λ m. sym (max-zero m))
 now-of ask.Where = (0, λ m. sym (max-zero m))
-now-of (ask.Hello now from) = (now, λ m. refl)
+now-of (ask.Hello now from last) = (now, λ m. refl)
 now-of (ask.Frame now bytes) = (now, λ m. refl)
 now-of (ask.Drop now) = (now, λ m. refl)
 now-of (ask.Prune keep) = (0, λ m. sym (max-zero m))
+now-of (ask.Info now) = (now, λ m. refl)
 now-of (ask.Lease now news) = (now, λ m. refl)
 
 -- a lease after an ask, where the moment passed first
@@ -53,10 +54,11 @@ module _ (v last : Tenancy) (n : ℕ) (t : Tenant) (others : (j : ℕ) → j ≢
   then-news (ask.File now request) here reply is = rests-so (max t.moment now) here is
   then-news ask.EndSession here reply is = rests-so t.moment here is
   then-news ask.Where here reply is = rests-so t.moment here is
-  then-news (ask.Hello now from) here reply is = rests-so (max t.moment now) here is
+  then-news (ask.Hello now from last) here reply is = rests-so (max t.moment now) here is
   then-news (ask.Frame now bytes) here reply is = rests-so (max t.moment now) here is
   then-news (ask.Drop now) here reply is = rests-so (max t.moment now) here is
   then-news (ask.Prune keep) here reply is = rests-so t.moment here is
+  then-news (ask.Info now) here reply is = rests-so (max t.moment now) here is
   then-news (ask.Lease now (news.Primary host)) here reply is = rests-so (max t.moment now) here is
   then-news (ask.Lease now news.Asked) here reply is =
       let again : max t.moment now ≡ max (max t.moment now) now = omega arith in

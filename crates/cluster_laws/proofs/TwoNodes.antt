@@ -11,6 +11,7 @@ use Rattle.ltx_codec.specs.declared.file.Ltx.{Ltx}
 use Rattle.ltx_codec.specs.FileIn.{file_in}
 use Rattle.ltx_codec.specs.Format.{IsLtx}
 use Rattle.link_session.specs.Stands.{Asker, Stand}
+use Rattle.world_laws.specs.declared.last_file.LastFile.{LastFile}
 use Rattle.world_laws.specs.Node as laws
 use Rattle.world_laws.specs.Premises.{WasSent}
 use Rattle.world_laws.specs.World.{DropFrame, FileFrame, SentFrame, World, sent_by}
@@ -54,11 +55,11 @@ frame_sent w waits bytes (inl is) sent = sent
 frame_sent w waits bytes (inr none) sent = tt
 
 -- what a Hello's answer sends
-one_sent : (w : World) (waits : Option Ltx) (pos : Pos) (given : Answer) → ((frame : SentFrame) → Contains (sent_by (laws.Hello pos) (law_answer given)) frame → Contains w.sent frame)
+one_sent : (w : World) (waits : Option Ltx) (pos : Pos) (last : Option LastFile) (given : Answer) → ((frame : SentFrame) → Contains (sent_by (laws.Hello pos last) (law_answer given)) frame → Contains w.sent frame)
     → AllByRecursion (IsSentAsk w waits) (asks_of given)
-one_sent w waits pos (answer.Item ltx after) has = (λ now. frame_sent w waits ltx (is_encoding ltx) (has (FileFrame (file_in ltx)) (0, omega arith, refl)), tt)
-one_sent w waits pos answer.Gone has = (λ now. has DropFrame (0, omega arith, refl), tt)
-one_sent w waits pos given has = tt
+one_sent w waits pos last (answer.Item ltx after) has = (λ now. frame_sent w waits ltx (is_encoding ltx) (has (FileFrame (file_in ltx)) (0, omega arith, refl)), tt)
+one_sent w waits pos last answer.Gone has = (λ now. has DropFrame (0, omega arith, refl), tt)
+one_sent w waits pos last given has = tt
 
 pub joined : {T : Type 0} (P : T → Type 0) (front back : List T) → AllByRecursion P front → AllByRecursion P back → AllByRecursion P (front ++ back)
 joined P [] back some all = all
@@ -72,9 +73,9 @@ all_sent : (w : World) (waits : Option Ltx) (hellos : List NodeEntry) → AllByR
 all_sent w waits [] each has = tt
 all_sent w waits (one ∷ more) each has =
     let first : List SentFrame = sent_by (law_ask one.ask) (law_answer one.answer) in
-    let as_hello : law_ask one.ask ≡ laws.Hello each.0.1 = ap law_ask each.0.2 in
+    let as_hello : law_ask one.ask ≡ laws.Hello each.0.1 each.0.2 = ap law_ask each.0.3 in
     joined (IsSentAsk w waits) (asks_of one.answer) (sent_asks more)
-    (one_sent w waits each.0.1 one.answer
+    (one_sent w waits each.0.1 each.0.2 one.answer
     (λ frame c. has frame (in_front first (sent_frames more) frame (subst (λ (q : laws.Ask). Contains (sent_by q (law_answer one.answer)) frame) (sym as_hello) c))))
     (all_sent w waits more each.1 (λ frame c. has frame (in_back first (sent_frames more) frame c)))
 
@@ -88,7 +89,7 @@ known_appends a b bytes whole none some appends =
     subst (λ (o : Option (List ℕ)). Appends (Some []) o bytes) some (subst (λ (o : Option (List ℕ)). Appends o b bytes) none appends)
 
 pub ask_what_was_sent : FollowersAskWhatWasSent
-ask_what_was_sent who other name here from budget turns stream_old stream_new old new end how is_name is_here streams follows link shorts =
+ask_what_was_sent who other name here from unknown budget turns stream_old stream_new old new end how is_name is_here streams follows link shorts =
     let t = told_front who name from stream_old stream_new turns end streams in
     let hellos : List NodeEntry = t.0 in
     let short : AreShort hellos = second (λ (one : NodeEntry). length (file_of one.answer) < 2 ^ 64) stream_old.place.entries hellos (subst AreShort t.2 shorts) in
@@ -102,7 +103,7 @@ ask_what_was_sent who other name here from budget turns stream_old stream_new ol
     sym (append_assoc link.got lost (unsaid ++ beyond)) ∙ ap (λ (bytes : List ℕ). bytes ++ (unsaid ++ beyond)) (link.front.1 ∙ sent_is)
     ∙ sym (append_assoc t.1 unsaid beyond) ∙ ap (λ (bytes : List ℕ). bytes ++ beyond) t.5.1 ∙ w.2.1 in
     let got_few : length link.got < 2 ^ 64 = omega (arith, link.short, ap length link.front.1, length-append link.got lost) in
-    let f = follower_asked other here w.0 x link.got (sent_asks hellos) budget old new how (name_few here is_here) got_few link.gave whole w.1 follows in
+    let f = follower_asked other here w.0 x link.got (sent_asks hellos) unknown budget old new how (name_few here is_here) got_few link.gave whole w.1 follows in
     record {
       hellos = hellos;
       told = t.2;

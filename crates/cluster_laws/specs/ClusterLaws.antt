@@ -3,7 +3,7 @@
 -- Their premises are those of world_laws, by name: `WasSent` in what goes along with a step, `OneImagePerPosition` here,
 -- and of the third that a disk is honest; what a restart may find is proved. `CommitsAsHolder` is a premise of led moves
 -- alone (`AreLed`), and so of what is said of terms.
-use Rattle.std.specs.Prelude.{◌≡◌, ◌≢◌, ◌⊎◌, ℕ, false, IsTrue, List, [], ◌∷◌, None}
+use Rattle.std.specs.Prelude.{◌≡◌, ◌≢◌, ◌⊎◌, ℕ, false, IsTrue, List, [], ◌∷◌, Option, None}
 use Rattle.byte_locks.specs.declared.owner.Owner.{Owner}
 use Rattle.lf_base.specs.declared.pos.Pos.{Pos}
 use Rattle.lf_disk.specs.declared.disk.Disk.{Ghosts}
@@ -13,6 +13,7 @@ use Rattle.lf_sqlite_pages.specs.Image.{IsImage, SameImage, image_bytes}
 use Rattle.ltx_codec.specs.declared.file.Ltx.{Ltx}
 use Rattle.ltx_codec.specs.Positions.{after, before, nowhere}
 use Rattle.txn_log.specs.Durable.{Durable}
+use Rattle.world_laws.specs.declared.last_file.LastFile.{LastFile}
 use Rattle.world_laws.specs.Answers.{Knows, snapshot_of}
 use Rattle.world_laws.specs.CatchUpLaw.{IsFreeRefusal, IsHeldBack, IsWhole}
 use Rattle.world_laws.specs.Events as events
@@ -90,10 +91,10 @@ module _ {M : Type 0} (p : Program M) where
       × EachReadGives (image_bytes (p.seen new).served.file) reads
       × ((p.seen new).served.frames ≡ None → EachReadGives (image_bytes (p.seen new).store.image) reads)
 
-  -- a node that is primary once the step is done answers a position that its log lacks by one snapshot, or by word of the drop
+  -- a node that is primary once the step is done answers a position that its log lacks, or that counts as unknown, by one snapshot, or by word of the drop
   abbrev pub StepAnswersByWhole : Type 0
-  StepAnswersByWhole = (old new : M) (caller : ℕ) (ask : Ask) (answer : Answer) (position : Pos) → law_ask ask ≡ laws.Hello position →
-      IsTrue (p.honest old) → p.steps old caller ask answer new → (p.seen new).role ≡ laws.Primary → (Knows (p.seen old).store position → ⊥) →
+  StepAnswersByWhole = (old new : M) (caller : ℕ) (ask : Ask) (answer : Answer) (position : Pos) (last : Option LastFile) → law_ask ask ≡ laws.Hello position last →
+      IsTrue (p.honest old) → p.steps old caller ask answer new → (p.seen new).role ≡ laws.Primary → (Knows (p.seen old).store position last → ⊥) →
       IsWhole (p.seen old).store (law_answer answer) ⊎ IsFreeRefusal (p.seen old) (p.seen new) (law_answer answer)
 
   -- a delivery of this frame to a node of the cluster that isn't primary once the step is done

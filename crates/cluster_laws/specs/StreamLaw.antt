@@ -2,7 +2,7 @@
 --
 -- The one serves a stream (stream_primary `Streams`) and the other follows it (replica_apply `Follows`). The link gives the follower
 -- what the stream wrote, or a front of it. So the premise that a delivery was sent (`WasSent`) is a theorem of these two.
-use Rattle.std.specs.Prelude.{◌≡◌, ℕ, ◌<◌, ◌^◌, true, List, [], ◌∷◌, ◌++◌, length, Contains, Option, Some}
+use Rattle.std.specs.Prelude.{◌≡◌, ℕ, ◌<◌, ◌^◌, Bool, true, List, [], ◌∷◌, ◌++◌, length, Contains, Option, Some}
 use Rattle.std.specs.List.{flat_map, AllByRecursion}
 use Rattle.lf_base.specs.Name.{IsName}
 use Rattle.lf_base.specs.declared.pos.Pos.{Pos}
@@ -10,8 +10,10 @@ use Rattle.lf_base.specs.declared.session_end.SessionEnd.{SessionEnd}
 use Rattle.ltx_codec.specs.declared.file.Ltx.{Ltx}
 use Rattle.turn_desk.specs.History.{StartsWith}
 use Rattle.link_session.specs.Stands.{Asker, Stand}
+use Rattle.world_laws.specs.declared.last_file.LastFile.{LastFile}
 use Rattle.world_laws.specs.Premises.{WasSent}
 use Rattle.world_laws.specs.World.{SentFrame, World, sent_by}
+use Rattle.node_core.specs.declared.whereabouts.Whereabouts.{Whereabouts}
 use Rattle.node_core.specs.declared.answer.Answer.{Answer}
 use Rattle.node_core.specs.declared.answer.Answer.TheVariants as answer
 use Rattle.node_core.specs.declared.ask.Ask.{Ask}
@@ -41,7 +43,7 @@ AreShort entries = AllByRecursion (λ one. length (file_of one.answer) < 2 ^ 64)
 
 -- a Hello
 abbrev pub IsHelloAsk : NodeEntry → Type 0
-IsHelloAsk one = (now : ℕ) × (pos : Pos) × (one.ask ≡ ask.Hello now pos)
+IsHelloAsk one = (now : ℕ) × (pos : Pos) × (last : Option LastFile) × (one.ask ≡ ask.Hello now pos last)
 
 -- what an answer to a Hello sends, as a follower asks it of its node: a file, or a drop
 abbrev pub asks_of : Answer → List Ask
@@ -87,7 +89,7 @@ pub record AsksWhatWasSent (stream_old stream_new old new : List NodeEntry) : Ty
 
 -- for every stream, and every follower at the other end of its link
 abbrev pub FollowersAskWhatWasSent : Type 0
-FollowersAskWhatWasSent = (who other : Asker) (name here : List ℕ) (from : Pos) (budget turns : ℕ) (stream_old stream_new old new : Stand NodeEntry) (end : SessionEnd) (how : FollowEnd)
-    → IsName name → IsName here → Streams who name from stream_old stream_new turns end → Follows other here budget old new how
+FollowersAskWhatWasSent = (who other : Asker) (name here : List ℕ) (from : Whereabouts) (unknown : Bool) (budget turns : ℕ) (stream_old stream_new old new : Stand NodeEntry) (end : SessionEnd) (how : FollowEnd)
+    → IsName name → IsName here → Streams who name from stream_old stream_new turns end → Follows other here unknown budget old new how
     → Carries stream_old.place.taken stream_new.place.taken old.place.text → AreShort stream_new.place.entries
     → AsksWhatWasSent stream_old.place.entries stream_new.place.entries old.place.entries new.place.entries

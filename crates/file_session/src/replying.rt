@@ -72,6 +72,7 @@ fn reply_of(answer: Answer) -> Reply
         | Answer::Applied(_)
         | Answer::Held(_)
         | Answer::Pruned(_)
+        | Answer::Info(_)
         | Answer::Refused(_) => Reply::Error(NO_ANSWER),
     }
 }

@@ -72,6 +72,19 @@ impl View {
         })
     }
 
+    /// The primary's host that it was told, if there is one.
+    pub fn host(&self) -> Result<Option<Text>, NoMemory>
+        ensures { IfOk result (λ host. host ≡ self.now.host) }
+    {
+        match &self.host {
+            Some(host) => {
+                let host = host.copy()?;
+                Ok(Some(host))
+            }
+            None => Ok(None),
+        }
+    }
+
     /// From now on the position reads as this one, and the primary's name as this host's. It takes no
     /// memory.
     pub fn told(&mut self, position: Pos, host: Option<Text>)

@@ -19,7 +19,7 @@ use Rattle.clap.proofs.OnLiterals.{clap_on_literals}
 use Rattle.litefs_tool.specs.Command.{arguments_of, command_name}
 use Rattle.litefs_tool.specs.steps.CommandLine.{bare, program}
 use Rattle.litefs_tool.specs.declared.command.Command.{Command}
-use Rattle.litefs_tool.specs.declared.command.Command.TheVariants.{Apply, Compact, Mount}
+use Rattle.litefs_tool.specs.declared.command.Command.TheVariants.{Apply, Compact, Mount, Lease}
 
 -- ---- words that are written out
 
@@ -35,12 +35,14 @@ unfolding clap_on_literals
 takes_command Apply = refl
 takes_command Compact = refl
 takes_command Mount = refl
+takes_command Lease = refl
 
 pub names_command : (command : Command) → name_in (subcommand_of program (arguments_of command)) ≡ Some (command_name command)
 unfolding clap_on_literals
 names_command Apply = refl
 names_command Compact = refl
 names_command Mount = refl
+names_command Lease = refl
 
 pub names_none : name_in (subcommand_of program []) ≡ None
 unfolding clap_on_literals
@@ -135,6 +137,7 @@ unfolding clap_on_literals
 entered_faults Apply word rest other = first_faults _ _ (walk_faults (leaf (codes "apply")) [] word rest refl other)
 entered_faults Compact word rest other = first_faults _ _ (walk_faults (leaf (codes "compact")) [] word rest refl other)
 entered_faults Mount word rest other = first_faults _ _ (walk_faults (leaf (codes "mount")) [] word rest refl other)
+entered_faults Lease word rest other = first_faults _ _ (walk_faults (leaf (codes "lease")) [] word rest refl other)
 
 -- a walk that stopped at a subcommand hands it the words that are left
 hands_down : (rules : List Rule) (known : Names) (stood : Walk) (name : Text) (handed rest : List Text)
@@ -150,6 +153,7 @@ unfolding clap_on_literals
 stops Apply word rest = hands_down [] names (walk_from nothing_held) (codes "apply") (word ∷ []) rest
 stops Compact word rest = hands_down [] names (walk_from nothing_held) (codes "compact") (word ∷ []) rest
 stops Mount word rest = hands_down [] names (walk_from nothing_held) (codes "mount") (word ∷ []) rest
+stops Lease word rest = hands_down [] names (walk_from nothing_held) (codes "lease") (word ∷ []) rest
 
 more_faults : (command : Command) (word : Text) (rest : List Text) → bytes_eq word dashes ≡ false → IsFault (fault_of program (command_name command ∷ word ∷ rest))
 more_faults command word rest other =
@@ -172,7 +176,10 @@ named_or_unmet word = elim (same_or_other (codes "apply") word) [
     | inl is ↦ inl (Compact, sym is)
     | inr not_compact ↦ elim (same_or_other (codes "mount") word) [
       | inl is ↦ inl (Mount, sym is)
-      | inr not_mount ↦ inr (rw (not_apply, not_compact, not_mount) refl)
+      | inr not_mount ↦ elim (same_or_other (codes "lease") word) [
+        | inl is ↦ inl (Lease, sym is)
+        | inr not_lease ↦ inr (rw (not_apply, not_compact, not_mount, not_lease) refl)
+      ]
     ]
   ]
 ]
@@ -184,6 +191,7 @@ pub undashed_command : (command : Command) → has_dashes (arguments_of command)
 undashed_command Apply = refl
 undashed_command Compact = refl
 undashed_command Mount = refl
+undashed_command Lease = refl
 
 neither : (a b : Bool) → (a || b) ≡ false → (a ≡ false) × (b ≡ false)
 neither true b h = absurd (true≢false h)

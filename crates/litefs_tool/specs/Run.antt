@@ -6,6 +6,7 @@ use Rattle.lf_base.specs.Status.{text_of}
 use Rattle.lf_base.specs.declared.status.Status.{Status}
 use Rattle.lf_base.specs.declared.status.Status.TheVariants as status
 use Rattle.node_mount.specs.Configuring.{ReadsConfiguration}
+use Rattle.node_mount.specs.LeaseService.{ReadsService}
 use Rattle.node_mount.specs.Mounting.{IsMountCause}
 use Rattle.node_mount.specs.declared.counts.Counts.{Counts}
 use Rattle.node_mount.specs.declared.mount_fault.MountFault.{MountFault}
@@ -13,7 +14,7 @@ use Rattle.litefs_tool.specs.Command.{arguments_of, IsOverStreams, WritesFor, Re
 use Rattle.litefs_tool.specs.Mount.{status_of_end, name_of_end}
 use Rattle.litefs_tool.specs.Output.{IsPrefix, AppendsPrefix}
 use Rattle.litefs_tool.specs.declared.command.Command.{Command}
-use Rattle.litefs_tool.specs.declared.command.Command.TheVariants.{Mount}
+use Rattle.litefs_tool.specs.declared.command.Command.TheVariants.{Mount, Lease}
 
 -- a stream over a run: the bytes left to read, or those taken, where it tells them, and its count of faults
 pub record Stream : Type 0 where
@@ -125,6 +126,15 @@ pub record MountOutcome (Back : Result (Unit {0}) MountFault → Type 0) (outsid
   pub status_is : status ≡ status_of_end end
   pub name_is : name ≡ name_of_end end
 
+-- What `lease` comes to: the same, of the configuration of a lease service.
+pub record LeaseOutcome (Back : Result (Unit {0}) MountFault → Type 0) (outside : Outside) (status : Status) (name : List ℕ) : Type 0 where
+  pub end : Result (Unit {0}) MountFault
+  pub config : ReadsService outside.config.bytes outside.config.bytes_after end
+  pub cause : IsMountCause outside.config.faults outside.config.faults_after outside.counts outside.counts_after end
+  pub back : Back end
+  pub status_is : status ≡ status_of_end end
+  pub name_is : name ≡ name_of_end end
+
 -- the stream is as it was
 abbrev pub IsStill : Stream → Type 0
 IsStill stream = (stream.bytes_after ≡ stream.bytes) × Holds stream
@@ -137,13 +147,19 @@ pub record EndsUnread (outside : Outside) (ended : Status) : Type 0 where
   pub config : IsStill outside.config
   pub counts : outside.counts_after ≡ outside.counts
 
--- what a run did: it read its input and wrote its output, or refused its arguments; or it was a node; or had no memory to read
--- its arguments
-pub data RunCourse (Back : Result (Unit {0}) MountFault → Type 0) (arguments : List (List ℕ)) (outside : Outside) (status : Status) (name : List ℕ) : Type 0 where
+-- what came back to the maker, by how a node ended, and by how a lease service did
+pub record Backs : Type 1 where
+  pub node : Result (Unit {0}) MountFault → Type 0
+  pub service : Result (Unit {0}) MountFault → Type 0
+
+-- what a run did: it read its input and wrote its output, or refused its arguments; or it was a node, or a lease service; or had no
+-- memory to read its arguments
+pub data RunCourse (backs : Backs) (arguments : List (List ℕ)) (outside : Outside) (status : Status) (name : List ℕ) : Type 0 where
   over_streams : (read written : List ℕ) → Moves outside.input outside.output status read written → ArgumentsOutcome arguments read status written name
-      → RunCourse Back arguments outside status name
-  mounted : arguments ≡ arguments_of Mount → MountOutcome Back outside status name → RunCourse Back arguments outside status name
-  unread : EndsUnread outside status → RunCourse Back arguments outside status name
+      → RunCourse backs arguments outside status name
+  mounted : arguments ≡ arguments_of Mount → MountOutcome backs.node outside status name → RunCourse backs arguments outside status name
+  leased : arguments ≡ arguments_of Lease → LeaseOutcome backs.service outside status name → RunCourse backs arguments outside status name
+  unread : EndsUnread outside status → RunCourse backs arguments outside status name
 
 -- a line of standard error
 abbrev pub line : List ℕ → List ℕ
@@ -160,12 +176,13 @@ abbrev pub Says : Stream → List ℕ → Type 0
 Says errors bytes = Holds errors × Takes errors bytes ⊎ Fails errors × AppendsPrefix errors.bytes errors.bytes_after bytes
 
 -- how a run went that ended with this status: what it did, and the name of the fault on standard error
-pub record RunOutcome (Back : Result (Unit {0}) MountFault → Type 0) (run : Run) (status : Status) : Type 0 where
+pub record RunOutcome (backs : Backs) (run : Run) (status : Status) : Type 0 where
   pub name : List ℕ
-  pub went : RunCourse Back run.arguments run.outside status name
+  pub went : RunCourse backs run.arguments run.outside status name
   pub says : Says run.errors (line_of status name)
 
--- what a run leaves: without `mount` the configuration and the maker, with it the input and the output
+-- what a run leaves: without `mount` and `lease` the configuration and the maker, with them the input and the output
 pub record LeavesApart {I O G M : Type 0} (arguments : List (List ℕ)) (input input_after : I) (output output_after : O) (config config_after : G) (make make_after : M) : Type 0 where
-  pub unmounted : arguments ≢ arguments_of Mount → (config_after ≡ config) × (make_after ≡ make)
+  pub unserved : arguments ≢ arguments_of Mount → arguments ≢ arguments_of Lease → (config_after ≡ config) × (make_after ≡ make)
   pub mounted : arguments ≡ arguments_of Mount → (input_after ≡ input) × (output_after ≡ output)
+  pub leased : arguments ≡ arguments_of Lease → (input_after ≡ input) × (output_after ≡ output)

@@ -22,6 +22,8 @@ pub enum Command {
     Compact,
     /// A node serves the files of a database.
     Mount,
+    /// A lease service says which node is primary.
+    Lease,
 }
 
 /// The command of these arguments. They are read to the letter: none more, and none less.
@@ -65,7 +67,8 @@ fn program<'a>(alloc: Global) -> Result<clap::Command<'a>, NoMemory>
         .disable_help_subcommand(true)
         .subcommand(clap::Command::new(alloc, "apply"))?
         .subcommand(clap::Command::new(alloc, "compact"))?
-        .subcommand(clap::Command::new(alloc, "mount"))?;
+        .subcommand(clap::Command::new(alloc, "mount"))?
+        .subcommand(clap::Command::new(alloc, "lease"))?;
     Ok(program)
 }
 
@@ -77,6 +80,7 @@ fn command_matched(matches: &ArgMatches<'_>) -> Option<Command>
         Some("apply") => Some(Command::Apply),
         Some("compact") => Some(Command::Compact),
         Some("mount") => Some(Command::Mount),
+        Some("lease") => Some(Command::Lease),
         _ => None,
     }
 }

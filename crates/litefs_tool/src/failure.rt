@@ -20,7 +20,7 @@ pub enum Failure {
     Files(Refusal),
     /// The files in the input do not become one.
     Compaction(CompactRefusal),
-    /// The node did not start, or stopped serving.
+    /// The node, or the lease service, did not start, or stopped serving.
     Mount(MountFault),
     /// The output failed.
     Output,

@@ -1,7 +1,8 @@
 //! The top call.
 ghost use Rattle.litefs_tool.specs.Mount.{GoesBack};
-ghost use Rattle.litefs_tool.specs.Run.{CommandOutcome, LeavesApart, Outside, Run, RunOutcome, stream};
-ghost use Rattle.litefs_tool.specs.steps.Performing.{Goes, Mounts, Performs};
+ghost use Rattle.litefs_tool.specs.Run.{Backs, CommandOutcome, LeavesApart, Outside, Run, RunOutcome, stream};
+ghost use Rattle.litefs_tool.specs.steps.Performing.{Goes, Leases, Mounts, Performs};
+ghost use Rattle.node_mount.specs.LeaseService.{LeasesBack, ServesTold};
 
 use crate::applying::Applying;
 use crate::command::{Command, read_arguments};
@@ -13,14 +14,14 @@ use crate::input::read_to_end;
 use crate::output::{new_buffer, write_image};
 use crate::report::report;
 use lf_base::{Handles, Sink, Source, Status, Text};
-use node_mount::{Maker, mount};
+use node_mount::{Maker, mount, serve_leases};
 use std::alloc::Global;
 
 /// The longest input that is read, in bytes.
 const INPUT_LIMIT: usize = 2_147_483_648;
 
-/// What a run of the program reads from, writes to, and says its failure on; and for a node its
-/// configuration, and what makes the objects that it runs on.
+/// What a run of the program reads from, writes to, and says its failure on; and for a node or a lease
+/// service its configuration, and what makes the objects that it runs on.
 #[derive(Drop)]
 pub struct Host<I, O, E, G, M> {
     pub input: I,
@@ -47,7 +48,11 @@ pub fn run<R: Handles + Copy + Send + 'static, I: Source, O: Sink, E: Sink, G: S
         counts_after = M.counts host.new.make;
       };
       errors = stream E.taken E.faults host.old.errors host.new.errors;
-    } in RunOutcome (GoesBack M.FileAccept.ended M.FileAccept.given M.Disk.honest M.Disk.history (M.may_give host.old.make) (M.back host.old.make) (M.back host.new.make)) run result }
+    } in
+        let backs : Backs = record {
+          node = GoesBack M.FileAccept.ended M.FileAccept.given M.Disk.honest M.Disk.history (M.may_give host.old.make) (M.back host.old.make) (M.back host.new.make);
+          service = LeasesBack M.HttpAccept.ended M.HttpAccept.given (ServesTold M.HttpAccept.L.Link (G.left host.old.config) (G.left host.new.config)) (M.back host.old.make) (M.back host.new.make);
+        } in RunOutcome backs run result }
     ensures apart { LeavesApart arguments.now host.old.input host.new.input host.old.output host.new.output host.old.config host.new.config host.old.make host.new.make }
 {
     match perform(
@@ -83,13 +88,18 @@ fn perform<R: Handles + Copy + Send + 'static, I: Source, O: Sink, G: Source, M:
       config = stream G.left G.faults config.old config.new;
       counts = M.counts make.old;
       counts_after = M.counts make.new;
-    } in Goes (GoesBack M.FileAccept.ended M.FileAccept.given M.Disk.honest M.Disk.history (M.may_give make.old) (M.back make.old) (M.back make.new)) arguments.now outside result }
+    } in
+        let backs : Backs = record {
+          node = GoesBack M.FileAccept.ended M.FileAccept.given M.Disk.honest M.Disk.history (M.may_give make.old) (M.back make.old) (M.back make.new);
+          service = LeasesBack M.HttpAccept.ended M.HttpAccept.given (ServesTold M.HttpAccept.L.Link (G.left config.old) (G.left config.new)) (M.back make.old) (M.back make.new);
+        } in Goes backs arguments.now outside result }
     ensures apart { LeavesApart arguments.now input.old input.new output.old output.new config.old config.new make.old make.new }
 {
     match read_arguments(alloc, arguments)? {
         Some(Command::Apply) => apply(alloc, input, output),
         Some(Command::Compact) => compact(alloc, input, output),
         Some(Command::Mount) => mount_node(rt, alloc, config, make),
+        Some(Command::Lease) => lease(&rt, alloc, config, make),
         None => Err(Failure::Arguments),
     }
 }
@@ -104,6 +114,21 @@ fn mount_node<R: Handles + Copy + Send + 'static, G: Source, M: Maker>(
     ensures { Mounts (GoesBack M.FileAccept.ended M.FileAccept.given M.Disk.honest M.Disk.history (M.may_give make.old) (M.back make.old) (M.back make.new)) (stream G.left G.faults config.old config.new) (M.counts make.old) (M.counts make.new) result }
 {
     match mount(rt, alloc, config, make) {
+        Ok(()) => Ok(()),
+        Err(fault) => Err(Failure::Mount(fault)),
+    }
+}
+
+/// Leases are granted to nodes, until no more links come.
+fn lease<R: Handles, G: Source, M: Maker>(
+    rt: &R,
+    alloc: Global,
+    config: &mut G,
+    make: &mut M,
+) -> Result<(), Failure>
+    ensures { Leases (LeasesBack M.HttpAccept.ended M.HttpAccept.given (ServesTold M.HttpAccept.L.Link (G.left config.old) (G.left config.new)) (M.back make.old) (M.back make.new)) (stream G.left G.faults config.old config.new) (M.counts make.old) (M.counts make.new) result }
+{
+    match serve_leases(rt, alloc, config, make) {
         Ok(()) => Ok(()),
         Err(fault) => Err(Failure::Mount(fault)),
     }

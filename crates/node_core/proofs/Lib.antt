@@ -11,6 +11,7 @@ pub mod Opened
 pub mod Dropped
 pub mod Steady
 pub mod Leased
+pub mod Told
 pub mod Histories
 pub mod Leaving
 pub mod Answering
@@ -23,3 +24,4 @@ pub mod Refusing
 pub mod Following
 pub mod Looked
 pub mod Encodings
+pub mod Lookups

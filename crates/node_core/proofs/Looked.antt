@@ -1,5 +1,5 @@
 -- Files of a store were read, and the log pruned.
-use Rattle.std.proofs.Common.{◌≡◌, ◌∙◌, ℕ, true, false, List, [], None, Option, None, Result, length, refl, sym, ap, subst}
+use Rattle.std.proofs.Common.{◌≡◌, ◌∙◌, ℕ, List, [], None, Option, None, Result, length, refl, sym, ap, subst}
 use Rattle.lf_base.specs.declared.pos.Pos.{Pos}
 use Rattle.lf_disk.specs.History.{History}
 use Rattle.file_view.specs.declared.role.Role.TheVariants as role
@@ -9,6 +9,7 @@ use Rattle.txn_log.specs.Calls.{Went}
 use Rattle.txn_log.specs.Causes.{Breaks}
 use Rattle.txn_log.specs.Pruning.{Prunes}
 use Rattle.txn_log.specs.Store.{IsStore}
+use Rattle.world_laws.specs.declared.last_file.LastFile.{LastFile}
 use Rattle.world_laws.specs.Answers.{AnswersHello, LeavesUndone}
 use Rattle.world_laws.specs.Node as laws
 use Rattle.world_laws.specs.Served.{ShareForReading}
@@ -48,10 +49,10 @@ same-but-faults old new honest page_size commit entries sums wal dropped broken 
 -- a primary whose store was read at most tells a follower this
 module _ (start end : History) (old : NodeParts) (new : StoreFields) (same : state end new ≡ state start old.store) (primary : role_in old ≡ role.Primary) (over : IsOverImage old.files (state start old.store).image)
     (locks : ShareForReading old.files.locks) (replica : role_in old ≡ role.Replica → old.files.writer ≡ None) where
-  pub looks-says : (from : Pos) (answer : laws.Answer) → AnswersHello (seen start old) (seen end (record old { store = new })) (seen start old).role from answer → LeavesUndone answer []
-      → Says (seen start old) (seen start old).role (laws.Hello from) [] None answer (seen end (record old { store = new }))
-  looks-says from answer tells undone =
-      says-none (seen start old) (seen end (record old { store = new })) (seen start old).role (laws.Hello from) answer tells undone
+  pub looks-says : (from : Pos) (last : Option LastFile) (answer : laws.Answer) → AnswersHello (seen start old) (seen end (record old { store = new })) (seen start old).role from last answer → LeavesUndone answer []
+      → Says (seen start old) (seen start old).role (laws.Hello from last) [] None answer (seen end (record old { store = new }))
+  looks-says from last answer tells undone =
+      says-none (seen start old) (seen end (record old { store = new })) (seen start old).role (laws.Hello from last) answer tells undone
       (leading (seen start old) (seen end (record old { store = new })) (leads (role_in old) primary))
       (sound end (record old { store = new }) (subst (λ (t : StoreState). IsOverImage old.files t.image) (sym same) over) locks replica)
 

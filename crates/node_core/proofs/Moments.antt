@@ -9,8 +9,9 @@ pub last_stands : (first last : ℕ) (asked : Ask) → ask_at last (ask_at first
 last_stands first last (ask.File before request) = refl
 last_stands first last ask.EndSession = refl
 last_stands first last ask.Where = refl
-last_stands first last (ask.Hello before from) = refl
+last_stands first last (ask.Hello before from said) = refl
 last_stands first last (ask.Frame before bytes) = refl
 last_stands first last (ask.Drop before) = refl
 last_stands first last (ask.Prune keep) = refl
+last_stands first last (ask.Info before) = refl
 last_stands first last (ask.Lease before news) = refl

@@ -1,10 +1,11 @@
 -- What a follower is owed, as the laws say it.
-use Rattle.std.proofs.Common.{◌≡◌, ◌≢◌, ◌⊎◌, ◌∙◌, ℕ, ◌<◌, ◌≤◌, List, [], ◌∷◌, length, get_or, map, inl, inr, refl, sym, ap, subst, arith}
+use Rattle.std.proofs.Common.{◌≡◌, ◌≢◌, ◌⊎◌, ◌∙◌, ℕ, ◌<◌, ◌≤◌, List, [], ◌∷◌, Bool, true, false, Option, Some, None, length, get_or, map, inl, inr, refl, sym, ap, subst, arith}
 use Rattle.std.proofs.Math.Logic.{∥∥₁_elim}
 use Rattle.std.proofs.Props.{props}
 use Rattle.std.proofs.lemmas.Bool.{cases_Bool, cases_eq}
-use Rattle.std.proofs.lemmas.List.{get_or-map, length-map}
+use Rattle.std.proofs.lemmas.List.{get_or_default, get_or-map, length-map}
 use Rattle.lf_base.specs.declared.pos.Pos.{Pos}
+use Rattle.lf_disk.specs.Folder.{Folder}
 use Rattle.lf_disk.specs.History.{History}
 use Rattle.lf_sqlite_pages.specs.Change.{AscendsAbove}
 use Rattle.lf_sqlite_pages.specs.declared.page_write.PageWrite.{PageWrite}
@@ -15,18 +16,22 @@ use Rattle.ltx_codec.specs.Positions.{before, nowhere}
 use Rattle.ltx_codec.specs.declared.file.Ltx.{Ltx}
 use Rattle.txn_log.specs.declared.answer.Answer.TheVariants as owed
 use Rattle.txn_log.specs.declared.entry.Entry.{Entry}
-use Rattle.txn_log.specs.Answering.{Answers, IsFirstBehind}
+use Rattle.txn_log.specs.Answering.{Answers, AnswersBy, IsFirstBehind}
+use Rattle.txn_log.specs.LastFile.{Doubts, HasFile}
 use Rattle.txn_log.specs.Durable.{log_of}
 use Rattle.txn_log.specs.Giving.{IsEncodingAt}
 use Rattle.txn_log.specs.Kept.{LogFile, file_of}
 use Rattle.txn_log.specs.Store.{IsShaped, IsStore, end_of_entries, entry_of, files_in, meant}
 use Rattle.txn_log.proofs.Entries.{end-empty, end-log}
 use Rattle.txn_log.proofs.Stores.{length-files_in, no_entry}
-use Rattle.world_laws.specs.Answers.{AnswersHello, IsBlank, Knows, Owes, by_file, by_snapshot, snapshot_of}
+use Rattle.world_laws.specs.declared.last_file.LastFile.{LastFile}
+use Rattle.world_laws.specs.declared.last_file.LastFile.TheVariants as last_file
+use Rattle.world_laws.specs.Answers.{AnswersHello, IsBlank, IsRelied, Knows, MayDoubt, Owes, by_doubt, by_file, by_snapshot, snapshot_of}
 use Rattle.world_laws.specs.Node as laws
 use Rattle.world_laws.specs.Node.{NodeState}
 use Rattle.world_laws.specs.Store.{at, end_of}
 use Rattle.world_laws.proofs.Stores.{end_of-none}
+use Rattle.node_core.specs.Hello.{IsOwed, WantsFile}
 use Rattle.node_core.specs.Stores.{StoreFields, position, state}
 
 AscendsAbove-prop : (number : ℕ) (pages : List PageWrite) → IsProp (AscendsAbove number pages)
@@ -46,6 +51,42 @@ cases_nowhere p = elim (cases_eq p.txid 0) [
   ]
   | inr other ↦ inr (λ same. other (ap (λ (q : Pos). q.txid) same))
 ]
+
+false_true : false ≡ true → ⊥
+false_true same = cc
+
+-- a file is owed, or the snapshot
+pub owes-file : (start : History) (s : StoreFields) (from : Pos) (last : Option LastFile) (first : ℕ) → IsOwed start s from last (owed.Files first) → WantsFile s from last
+owes-file start s from last first owes = go owes.doubted last owes.doubts owes.answers where
+  go : (doubted : Bool) (l : Option LastFile) → Doubts s.honest (start.seen start.moment) s.entries l doubted → AnswersBy doubted s.entries s.dropped from (owed.Files first) → WantsFile s from l
+  go true l doubts answers = absurd answers
+  go false None doubts answers = (answers.0, answers.1)
+  go false (Some last_file.Unknown) doubts answers = absurd (false_true doubts)
+  go false (Some (last_file.File min max sum)) doubts answers = inl (answers.0, answers.1)
+
+pub owes-snapshot : (start : History) (s : StoreFields) (from : Pos) (last : Option LastFile) → IsOwed start s from last owed.Snapshot → WantsFile s from last
+owes-snapshot start s from last owes = go owes.doubted last owes.doubts owes.answers where
+  go : (doubted : Bool) (l : Option LastFile) → Doubts s.honest (start.seen start.moment) s.entries l doubted → AnswersBy doubted s.entries s.dropped from owed.Snapshot → WantsFile s from l
+  go true None doubts answers = absurd (false_true (sym doubts))
+  go true (Some last_file.Unknown) doubts answers = answers
+  go true (Some (last_file.File min max sum)) doubts answers = inr (doubts.there refl)
+  go false None doubts answers = (answers.0, answers.1)
+  go false (Some last_file.Unknown) doubts answers = absurd (false_true doubts)
+  go false (Some (last_file.File min max sum)) doubts answers = inl (answers.0, answers.1)
+
+-- where the snapshot is owed there is a log
+pub some-owed : (start : History) (s : StoreFields) (from : Pos) (last : Option LastFile) → IsOwed start s from last owed.Snapshot → s.entries ≢ []
+some-owed start s from last owes = go owes.doubted owes.answers where
+  go : (doubted : Bool) → AnswersBy doubted s.entries s.dropped from owed.Snapshot → s.entries ≢ []
+  go true answers = answers.1
+  go false answers = λ none. answers.1 (inl none)
+
+-- the place of the first file that is owed
+pub behind-owed : (start : History) (s : StoreFields) (from : Pos) (last : Option LastFile) (first : ℕ) → IsOwed start s from last (owed.Files first) → IsFirstBehind s.entries from first
+behind-owed start s from last first owes = go owes.doubted owes.answers where
+  go : (doubted : Bool) → AnswersBy doubted s.entries s.dropped from (owed.Files first) → IsFirstBehind s.entries from first
+  go true answers = absurd answers
+  go false answers = answers.2
 
 abbrev no_file : LogFile
 no_file = record { min = 0; max = 0; encoding = [] }
@@ -76,66 +117,114 @@ module _ (h : History) (s : StoreFields) (is : IsStore h s.page_size s.commit s.
   empty-log : s.entries ≡ [] → (state h s).log ≡ []
   empty-log none = ap (λ (es : List Entry). log_of (files_in es (h.seen (meant h s.broken s.whole)))) none
 
-  module _ (from : Pos) where
+  -- a position that isn't doubted counts
+  relied : (f : Folder) (last : Option LastFile) → Doubts s.honest f s.entries last false → IsRelied (state h s) last
+  relied f None doubts = tt
+  relied f (Some last_file.Unknown) doubts = absurd (false_true doubts)
+  relied f (Some (last_file.File min max sum)) doubts = tt
+
+  -- and one that is may be doubted
+  may_doubt : (f : Folder) (last : Option LastFile) → Doubts s.honest f s.entries last true → MayDoubt (state h s) last
+  may_doubt f None doubts = absurd (false_true (sym doubts))
+  may_doubt f (Some last_file.Unknown) doubts = tt
+  may_doubt f (Some (last_file.File min max sum)) doubts =
+      let has : HasFile s.entries min max = doubts.there refl in
+      let within : has.0 < length (state h s).log = omega (arith, length-log, has.1.0) in
+      let file : Ltx = get_or (state h s).log has.0 (file_in []) in
+      let entry = entry-at has.0 (file_in []) no_entry has.1.0 in
+      (file, (has.0, within, get_or_default (state h s).log has.0 file (file_in []) within), ap (λ (e : Entry). e.min) entry ∙ (has.1.1 no_entry).0, ap (λ (e : Entry). e.max) entry ∙ (has.1.1 no_entry).1)
+
+  module _ (from : Pos) (last : Option LastFile) where
     -- a follower that is level
-    level : Answers s.entries s.dropped from owed.Level → (from ≡ position s) ⊎ IsBlank (state h s)
-    level answers = elim answers.1 [
-      | inr same ↦ inl same
-      | inl none ↦ elim (cases_Bool s.dropped) [
-        | inr whole ↦ inr (empty-log none, whole)
-        | inl dropped ↦ elim (cases_nowhere from) [
-          | inl same ↦ inl (same ∙ sym (ap end_of_entries none ∙ end-empty))
-          | inr other ↦ absurd (answers.0 (dropped, other))
-        ]
+    nothing : (s.dropped ≡ true × (from ≢ nowhere) → ⊥) → s.entries ≡ [] → (from ≡ position s) ⊎ IsBlank (state h s)
+    nothing not_gone none = elim (cases_Bool s.dropped) [
+      | inr whole ↦ inr (empty-log none, whole)
+      | inl dropped ↦ elim (cases_nowhere from) [
+        | inl same ↦ inl (same ∙ sym (ap end_of_entries none ∙ end-empty))
+        | inr other ↦ absurd (not_gone (dropped, other))
       ]
     ]
 
-    pub tells-level : (old new : NodeState) (role : laws.Role) → role ≡ laws.Primary → old.store ≡ state h s → Answers s.entries s.dropped from owed.Level
-        → AnswersHello old new role from (laws.Level (position s))
-    tells-level old new role primary same answers = (
+    -- where the log is empty every position counts
+    relied-empty : s.entries ≡ [] → (l : Option LastFile) → IsRelied (state h s) l
+    relied-empty none None = tt
+    relied-empty none (Some last_file.Unknown) = empty-log none
+    relied-empty none (Some (last_file.File min max sum)) = tt
+
+    level-by : (relies : IsRelied (state h s) last) → (from ≡ position s) ⊎ IsBlank (state h s) → (IsRelied (state h s) last × (from ≡ position s)) ⊎ IsBlank (state h s)
+    level-by relies (inl same) = inl (relies, same)
+    level-by relies (inr blank) = inr blank
+
+    level : (doubted : Bool) (f : Folder) → Doubts s.honest f s.entries last doubted → AnswersBy doubted s.entries s.dropped from owed.Level
+        → (IsRelied (state h s) last × (from ≡ position s)) ⊎ IsBlank (state h s)
+    level true f doubts answers = level-by (relied-empty answers.1 last) (nothing answers.0 answers.1)
+    level false f doubts answers = elim answers.1 [
+      | inr same ↦ inl (relied f last doubts, same)
+      | inl none ↦ level-by (relied-empty none last) (nothing answers.0 none)
+    ]
+
+    gone : (doubted : Bool) → AnswersBy doubted s.entries s.dropped from owed.Gone → (s.dropped ≡ true) × (from ≢ nowhere)
+    gone true answers = answers
+    gone false answers = answers
+
+    pub tells-level : (old new : NodeState) (role : laws.Role) → role ≡ laws.Primary → old.store ≡ state h s → (start : History) → IsOwed start s from last owed.Level
+        → AnswersHello old new role from last (laws.Level (position s))
+    tells-level old new role primary same start owes = (
       primary,
       sym at-position ∙ ap (λ t. at t) (sym same),
-      elim (level answers) [
-        | inl here ↦ inl here
-        | inr blank ↦ inr (subst (λ t. IsBlank t) (sym same) blank)
-      ],
+      subst (λ t. (IsRelied t last × (from ≡ position s)) ⊎ IsBlank t) (sym same) (level owes.doubted (start.seen start.moment) owes.doubts owes.answers),
     )
 
-    pub tells-gone : (old new : NodeState) (role : laws.Role) → role ≡ laws.Primary → old.store ≡ state h s → IsShaped s.commit s.entries s.dropped s.sums → Answers s.entries s.dropped from owed.Gone
-        → AnswersHello old new role from laws.Gone
-    tells-gone old new role primary same shaped answers =
-        let none : s.entries ≡ [] = shaped.marked answers.0 in
-        (primary, ap (λ t. t.dropped) same ∙ answers.0, (λ here. answers.1 (here ∙ ap (λ t. at t) same ∙ at-position ∙ ap end_of_entries none ∙ end-empty)))
+    pub tells-gone : (old new : NodeState) (role : laws.Role) → role ≡ laws.Primary → old.store ≡ state h s → IsShaped s.commit s.entries s.dropped s.sums → (start : History) → IsOwed start s from last owed.Gone
+        → AnswersHello old new role from last laws.Gone
+    tells-gone old new role primary same shaped start owes =
+        let is = gone owes.doubted owes.answers in
+        let none : s.entries ≡ [] = shaped.marked is.0 in
+        (primary, ap (λ t. t.dropped) same ∙ is.0, (λ here. is.1 (here ∙ ap (λ t. at t) same ∙ at-position ∙ ap end_of_entries none ∙ end-empty)))
 
     -- the file of the log
     pub tells-file : (octets-law : (bytes : List ℕ) (file : Ltx) → AreBytes bytes → IsLtx bytes file → file_in bytes ≡ file) (first : ℕ) (ltx : List ℕ) → AreBytes ltx
-        → Answers s.entries s.dropped from (owed.Files first) → IsEncodingAt (state h s).log first ltx → Owes (state h s) from (file_in ltx) × IsFile (file_in ltx)
-    tells-file law first ltx octets answers encoding =
+        → (start : History) → IsOwed start s from last (owed.Files first) → IsEncodingAt (state h s).log first ltx → Owes (state h s) from last (file_in ltx) × IsFile (file_in ltx)
+    tells-file law first ltx octets start owes encoding =
         let file : Ltx = file_in ltx in
-        let behind : IsFirstBehind s.entries from first = answers.2 in
+        let behind : IsFirstBehind s.entries from first = behind-owed start s from last first owes in
         let same : get_or (state h s).log first file ≡ file = ∥∥₁_elim (encoding file) (hlevel props) (λ (it : IsLtx ltx (get_or (state h s).log first file)). sym (law ltx (get_or (state h s).log first file) octets it)) in
         let valid : IsFile file = ∥∥₁_elim (encoding file) (IsFile-prop file) (λ (it : IsLtx ltx (get_or (state h s).log first file)). subst IsFile same it.valid) in
         let within : first < length (state h s).log = omega (arith, length-log, behind.there) in
         let leads : before file ≡ from =
         ap before (sym same) ∙ ap (λ (e : Entry). e.pre) (entry-at first file no_entry behind.there) ∙ behind.follows no_entry in
-        (by_file (first, within, same) leads, valid)
+        (by_file (first, within, same) leads (counts owes.doubted owes.doubts owes.answers), valid) where
+          counts : (doubted : Bool) → Doubts s.honest (start.seen start.moment) s.entries last doubted → AnswersBy doubted s.entries s.dropped from (owed.Files first) → IsRelied (state h s) last
+          counts true doubts answers = absurd answers
+          counts false doubts answers = relied (start.seen start.moment) last doubts
 
     -- the log does not know the position
-    unknown : 1 ≤ (position s).txid → Answers s.entries s.dropped from owed.Snapshot → Knows (state h s) from → ⊥
-    unknown written answers (inl here) = answers.1 (inr (here ∙ at-position))
-    unknown written answers (inr (inl known)) =
+    unknown : 1 ≤ (position s).txid → Answers s.entries s.dropped from owed.Snapshot → Knows (state h s) from last → ⊥
+    unknown written answers (inl (relies, inl here)) = answers.1 (inr (here ∙ at-position))
+    unknown written answers (inl (relies, inr known)) =
         let k : ℕ = known.1.0 in
         let within : k < length s.entries = omega (arith, length-log, known.1.1) in
         answers.2 k no_entry within (ap (λ (e : Entry). e.pre) (sym (entry-at k known.0 no_entry within)) ∙ ap before known.1.2 ∙ known.2)
-    unknown written answers (inr (inr blank)) =
+    unknown written answers (inr blank) =
         let none : (position s).txid ≡ 0 = ap (λ (p : Pos). p.txid) (sym at-position) ∙ ap (λ l. (end_of l).txid) blank.0 ∙ ap (λ (p : Pos). p.txid) end_of-none in
         absurd (omega (arith, none, written))
 
+    -- the whole database is owed
+    owes-whole : 1 ≤ (position s).txid → (doubted : Bool) (f : Folder) → Doubts s.honest f s.entries last doubted → AnswersBy doubted s.entries s.dropped from owed.Snapshot → Owes (state h s) from last (snapshot_of (state h s))
+    owes-whole written doubted f doubts answers = go doubted doubts answers where
+      some : 1 ≤ (at (state h s)).txid
+      some = subst (λ (p : Pos). 1 ≤ p.txid) (sym at-position) written
+
+      go : (doubted : Bool) → Doubts s.honest f s.entries last doubted → AnswersBy doubted s.entries s.dropped from owed.Snapshot → Owes (state h s) from last (snapshot_of (state h s))
+      go true doubts answers = by_doubt some (may_doubt f last doubts)
+      go false doubts answers = by_snapshot some (unknown written answers)
+
     pub tells-snapshot : (octets-law : (bytes : List ℕ) (file : Ltx) → AreBytes bytes → IsLtx bytes file → file_in bytes ≡ file) (ltx : List ℕ) → AreBytes ltx → 1 ≤ (position s).txid
-        → Answers s.entries s.dropped from owed.Snapshot → IsFile (snapshot_of (state h s)) → ltx ≡ file_encoding (snapshot_of (state h s)) no_meaning
-        → Owes (state h s) from (file_in ltx) × IsFile (file_in ltx)
-    tells-snapshot law ltx octets written answers valid encoding =
+        → (start : History) → IsOwed start s from last owed.Snapshot → IsFile (snapshot_of (state h s)) → ltx ≡ file_encoding (snapshot_of (state h s)) no_meaning
+        → Owes (state h s) from last (file_in ltx) × IsFile (file_in ltx)
+    tells-snapshot law ltx octets written start owes valid encoding =
         let is_encoding : IsLtx ltx (snapshot_of (state h s)) = record { valid = valid; reserved = no_meaning; room = refl; encoding = encoding } in
-        let same : file_in ltx ≡ snapshot_of (state h s) = law ltx (snapshot_of (state h s)) octets is_encoding in
-        let some : 1 ≤ (at (state h s)).txid = subst (λ (p : Pos). 1 ≤ p.txid) (sym at-position) written in
-        (subst (λ (f : Ltx). Owes (state h s) from f) (sym same) (by_snapshot some (unknown written answers)), subst IsFile (sym same) valid)
+        let same : file_in ltx ≡ snapshot_of (state h s) = law ltx (snapshot_of (state h s)) octets is_encoding in (
+          subst (λ (f : Ltx). Owes (state h s) from last f) (sym same) (owes-whole written owes.doubted (start.seen start.moment) owes.doubts owes.answers),
+          subst IsFile (sym same) valid,
+        )

@@ -1,5 +1,5 @@
 -- The refusals of a store, as those of a node.
-use Rattle.std.proofs.Common.{◌≡◌, ◌≢◌, ℕ, true, false, Bool, List, [], IsSome, Option, Result, Ok, Err, refl, arith}
+use Rattle.std.proofs.Common.{◌≡◌, ◌≢◌, ℕ, true, Bool, List, [], IsSome, Option, Some, None, Result, Ok, Err, inr, refl, arith}
 use Rattle.lf_base.specs.declared.pos.Pos.{Pos}
 use Rattle.lf_disk.specs.History.{History}
 use Rattle.ltx_codec.specs.declared.file.Ltx.{Ltx}
@@ -8,7 +8,10 @@ use Rattle.txn_log.specs.declared.fault.StoreFault.{StoreFault}
 use Rattle.txn_log.specs.declared.fault.StoreFault.TheVariants as fault
 use Rattle.txn_log.specs.Dropping.{DropsAll}
 use Rattle.txn_log.specs.Giving.{Gives}
+use Rattle.txn_log.specs.LastFile.{IsToCompare, LooksUp}
 use Rattle.snapshot.specs.Causes.{ReadsWith}
+use Rattle.world_laws.specs.declared.last_file.LastFile.{LastFile}
+use Rattle.world_laws.specs.declared.last_file.LastFile.TheVariants as last_file
 use Rattle.world_laws.specs.Answers as answers
 use Rattle.world_laws.specs.Node as laws
 use Rattle.world_laws.specs.Node.{NodeState, Role}
@@ -16,12 +19,14 @@ use Rattle.world_laws.specs.Store.{Failure, StoreCall}
 use Rattle.node_core.specs.Dropping.{IsFree, RefusesDrop}
 use Rattle.node_core.specs.Errors.{refusal_of}
 use Rattle.node_core.specs.Framing.{IsNotTaken, RefusesFile}
-use Rattle.node_core.specs.Hello.{OwesFile, RefusesHello}
+use Rattle.node_core.specs.Hello.{RefusesHello, WantsFile}
 use Rattle.node_core.specs.Nodes.{NodeParts, role_in}
 use Rattle.node_core.specs.Pruning.{PrunesStore, RefusesPrune, kept_of}
 use Rattle.node_core.specs.Safely.{law_refusal, law_store_fault}
 use Rattle.node_core.specs.Stores.{StoreFields, position}
 use Rattle.node_core.specs.Unlinking.{IsNotDropped}
+use Rattle.node_core.specs.Where.{TellsWhere}
+use Rattle.node_core.specs.declared.answer.Answer.TheVariants as answer
 use Rattle.node_core.proofs.Asking.{Ran}
 use Rattle.std.specs.Prelude.{◌≤◌}
 
@@ -89,15 +94,41 @@ refuses-prune start old keep (fault.SumDiffers want got) end new some is = absur
 refuses-prune start old keep (fault.PageSize have want) end new some is = absurd is.answers
 
 -- of a file of the log that is read, and of the snapshot
-pub refuses-read : (T : Type 0) (old : NodeParts) (from : Pos) (why : StoreFault) (new : StoreFields) → role_in old ≡ role.Primary → OwesFile old.store from
-    → ReadsWith {T = T} old.store.broken old.store.faults new.faults (Err why) → RefusesHello old from (refusal_of why) new
-refuses-read T old from fault.Disk new primary owes cause = (primary, owes, cause.1)
-refuses-read T old from fault.Broken new primary owes cause = (primary, owes, cause.0)
-refuses-read T old from fault.NoMemory new primary owes cause = (primary, owes)
-refuses-read T old from fault.Limit new primary owes cause = absurd cause
-refuses-read T old from (fault.NotNext have want) new primary owes cause = absurd cause
-refuses-read T old from (fault.SumDiffers want got) new primary owes cause = absurd cause
-refuses-read T old from (fault.PageSize have want) new primary owes cause = absurd cause
+pub refuses-read : (T : Type 0) (old : NodeParts) (from : Pos) (last : Option LastFile) (why : StoreFault) (new : StoreFields) → role_in old ≡ role.Primary → WantsFile old.store from last
+    → ReadsWith {T = T} old.store.broken old.store.faults new.faults (Err why) → RefusesHello old from last (refusal_of why) new
+refuses-read T old from last fault.Disk new primary owes cause = (primary, owes, cause.1)
+refuses-read T old from last fault.Broken new primary owes cause = (primary, owes, cause.0)
+refuses-read T old from last fault.NoMemory new primary owes cause = (primary, owes)
+refuses-read T old from last fault.Limit new primary owes cause = absurd cause
+refuses-read T old from last (fault.NotNext have want) new primary owes cause = absurd cause
+refuses-read T old from last (fault.SumDiffers want got) new primary owes cause = absurd cause
+refuses-read T old from last (fault.PageSize have want) new primary owes cause = absurd cause
+
+-- a checksum that was not read
+pub looks-reads : (T : Type 0) (broken : Bool) (before now : ℕ) (why : StoreFault) → LooksUp {T = T} broken before (Err why) now → ReadsWith {T = Unit {0}} broken before now (Err why)
+looks-reads T broken before now fault.Disk looks = looks
+looks-reads T broken before now fault.Broken looks = looks
+looks-reads T broken before now fault.NoMemory looks = absurd looks
+looks-reads T broken before now fault.Limit looks = absurd looks
+looks-reads T broken before now (fault.NotNext have want) looks = absurd looks
+looks-reads T broken before now (fault.SumDiffers want got) looks = absurd looks
+looks-reads T broken before now (fault.PageSize have want) looks = absurd looks
+
+pub wants-compared : (s : StoreFields) (from : Pos) (last : Option LastFile) → IsToCompare s.entries last → WantsFile s from last
+wants-compared s from None is = absurd is
+wants-compared s from (Some last_file.Unknown) is = absurd is
+wants-compared s from (Some (last_file.File min max sum)) is = inr is
+
+-- where the node stands was not told
+pub refuses-where : (T : Type 0) (start : History) (s : StoreFields) (why : StoreFault) (new : StoreFields) → s.entries ≢ [] → LooksUp {T = T} s.broken s.faults (Err why) new.faults
+    → TellsWhere start s (answer.Refused (refusal_of why)) new
+refuses-where T start s fault.Disk new some looks = (some, looks.1)
+refuses-where T start s fault.Broken new some looks = (some, looks.0)
+refuses-where T start s fault.Limit new some looks = absurd looks
+refuses-where T start s fault.NoMemory new some looks = absurd looks
+refuses-where T start s (fault.NotNext have want) new some looks = absurd looks
+refuses-where T start s (fault.SumDiffers want got) new some looks = absurd looks
+refuses-where T start s (fault.PageSize have want) new some looks = absurd looks
 
 -- both say when they fail alike
 pub gives-reads : {T : Type 0} (broken : Bool) (before now : ℕ) (result : Result T StoreFault) → Gives broken before result now → ReadsWith broken before now result
@@ -122,12 +153,12 @@ reads-later broken before now (Err (fault.SumDiffers want got)) cause = absurd c
 reads-later broken before now (Err (fault.PageSize have want)) cause = absurd cause
 
 -- a read of a primary that was refused, as the laws say it
-pub read-refused : (T : Type 0) (old new : NodeState) (role : Role) (from : Pos) (broken : Bool) (why : StoreFault) → (broken ≡ true → IsSome old.failed) → ReadsWith {T = T} broken old.faults new.faults (Err why)
-    → answers.AnswersHello old new role from (laws.Refused (law_store_fault why))
-read-refused T old new role from broken fault.Disk was cause = cause.1
-read-refused T old new role from broken fault.Broken was cause = was cause.0
-read-refused T old new role from broken fault.NoMemory was cause = tt
-read-refused T old new role from broken fault.Limit was cause = absurd cause
-read-refused T old new role from broken (fault.NotNext have want) was cause = absurd cause
-read-refused T old new role from broken (fault.SumDiffers want got) was cause = absurd cause
-read-refused T old new role from broken (fault.PageSize have want) was cause = absurd cause
+pub read-refused : (T : Type 0) (old new : NodeState) (role : Role) (from : Pos) (last : Option LastFile) (broken : Bool) (why : StoreFault) → (broken ≡ true → IsSome old.failed) → ReadsWith {T = T} broken old.faults new.faults (Err why)
+    → answers.AnswersHello old new role from last (laws.Refused (law_store_fault why))
+read-refused T old new role from last broken fault.Disk was cause = cause.1
+read-refused T old new role from last broken fault.Broken was cause = was cause.0
+read-refused T old new role from last broken fault.NoMemory was cause = tt
+read-refused T old new role from last broken fault.Limit was cause = absurd cause
+read-refused T old new role from last broken (fault.NotNext have want) was cause = absurd cause
+read-refused T old new role from last broken (fault.SumDiffers want got) was cause = absurd cause
+read-refused T old new role from last broken (fault.PageSize have want) was cause = absurd cause

@@ -44,3 +44,4 @@ AnswersDrop start old (answers.Level here) end new = ⊥
 AnswersDrop start old (answers.Item ltx to) end new = ⊥
 AnswersDrop start old answers.Gone end new = ⊥
 AnswersDrop start old (answers.Pruned count) end new = ⊥
+AnswersDrop start old (answers.Info info) end new = ⊥

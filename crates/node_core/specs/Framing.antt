@@ -77,6 +77,7 @@ AnswersLtx start old file (answers.Level here) end new = ⊥
 AnswersLtx start old file (answers.Item ltx to) end new = ⊥
 AnswersLtx start old file answers.Gone end new = ⊥
 AnswersLtx start old file (answers.Pruned count) end new = ⊥
+AnswersLtx start old file (answers.Info info) end new = ⊥
 
 -- why bytes are refused before there is a file: by their earliest fault, or for want of memory
 abbrev pub RefusesBytes : List ℕ → Answer → Type 0
@@ -96,6 +97,7 @@ RefusesBytes bytes (answers.Level here) = ⊥
 RefusesBytes bytes (answers.Item ltx to) = ⊥
 RefusesBytes bytes answers.Gone = ⊥
 RefusesBytes bytes (answers.Pruned count) = ⊥
+RefusesBytes bytes (answers.Info info) = ⊥
 
 -- the primary takes nothing; elsewhere the bytes are no file that can be read, or the file that they are is answered
 abbrev pub AnswersFrame : History → NodeParts → List ℕ → Answer → History → NodeParts → Type 0

@@ -1,16 +1,21 @@
--- HELLO: what is owed to a follower at a position. Files of the store are read at most.
-use Rattle.std.specs.Prelude.{◌≡◌, ◌≢◌, ◌⊎◌, ℕ, ◌≤◌, true, IsTrue, List, get_or}
+-- HELLO: what is owed to a follower at a position, which says something of its last file or nothing. Files of the store are read
+-- at most.
+use Rattle.std.specs.Prelude.{◌≡◌, ◌≢◌, ◌⊎◌, ℕ, ◌≤◌, Bool, true, IsTrue, List, [], get_or, Option, Some, None}
 use Rattle.lf_base.specs.Faults.{Rose}
 use Rattle.lf_base.specs.declared.pos.Pos.{Pos}
-use Rattle.lf_disk.specs.History.{History}
+use Rattle.lf_disk.specs.History.{History, now}
 use Rattle.ltx_codec.specs.Format.{file_encoding, no_meaning}
 use Rattle.file_view.specs.declared.role.Role.TheVariants as role
+use Rattle.txn_log.specs.declared.answer.Answer.{Answer as OwedAnswer}
 use Rattle.txn_log.specs.declared.answer.Answer.TheVariants as owed
 use Rattle.txn_log.specs.declared.entry.Entry.{Entry}
 use Rattle.txn_log.specs.declared.fault.StoreFault.TheVariants as fault
-use Rattle.txn_log.specs.Answering.{Answers, IsGone, IsLevel}
+use Rattle.txn_log.specs.Answering.{AnswersBy, IsGone, IsLevel}
 use Rattle.txn_log.specs.Giving.{IsEncodingAt}
+use Rattle.txn_log.specs.LastFile.{Doubts, HasFile}
 use Rattle.world_laws.specs.Answers.{snapshot_of}
+use Rattle.world_laws.specs.declared.last_file.LastFile.{LastFile}
+use Rattle.world_laws.specs.declared.last_file.LastFile.TheVariants as last_file
 use Rattle.node_core.specs.declared.answer.Answer.{Answer}
 use Rattle.node_core.specs.declared.answer.Answer.TheVariants as answers
 use Rattle.node_core.specs.declared.refusal.Refusal.{Refusal}
@@ -25,16 +30,22 @@ pub record IsLookedInto (start : History) (old : StoreFields) (end : History) (n
   pub state : IsTrue old.honest → state end new ≡ state start old
   pub failed : IsTrue old.honest → failed end new ≡ failed start old
 
+-- what is owed: by whether the position counts as unknown, which what is said of the last file decides
+pub record IsOwed (start : History) (store : StoreFields) (from : Pos) (last : Option LastFile) (answer : OwedAnswer) : Type 0 where
+  pub doubted : Bool
+  pub doubts : Doubts store.honest (now start) store.entries last doubted
+  pub answers : AnswersBy doubted store.entries store.dropped from answer
+
 -- the first file of the log that leads on from the position, and where it leads to
-pub record IsFirstFile (start : History) (store : StoreFields) (from : Pos) (ltx : List ℕ) (to : Pos) : Type 0 where
+pub record IsFirstFile (start : History) (store : StoreFields) (from : Pos) (last : Option LastFile) (ltx : List ℕ) (to : Pos) : Type 0 where
   pub first : ℕ
-  pub owed : Answers store.entries store.dropped from (owed.Files first)
+  pub owed : IsOwed start store from last (owed.Files first)
   pub leads : (d : Entry) → to ≡ (get_or store.entries first d).post
   pub encoding : IsTrue store.honest → IsEncodingAt (state start store).log first ltx
 
--- the snapshot of a database that was written, where the log does not know the position
-pub record IsWholeDatabase (start : History) (store : StoreFields) (from : Pos) (ltx : List ℕ) (to : Pos) : Type 0 where
-  pub owed : Answers store.entries store.dropped from owed.Snapshot
+-- the snapshot of a database that was written, where the log does not know the position, or it counts as unknown
+pub record IsWholeDatabase (start : History) (store : StoreFields) (from : Pos) (last : Option LastFile) (ltx : List ℕ) (to : Pos) : Type 0 where
+  pub owed : IsOwed start store from last owed.Snapshot
   pub written : 1 ≤ (position store).txid
   pub leads : to ≡ position store
   pub encoding : IsTrue store.honest → ltx ≡ file_encoding (snapshot_of (state start store)) no_meaning
@@ -43,40 +54,48 @@ pub record IsWholeDatabase (start : History) (store : StoreFields) (from : Pos) 
 abbrev pub OwesFile : StoreFields → Pos → Type 0
 OwesFile store from = (IsGone store.dropped from → ⊥) × (IsLevel store.entries from → ⊥)
 
--- why it is refused: the node is a replica; or a file is owed that the disk didn't give, a broken store doesn't give, or memory is
+-- a file of the log is wanted: to be given, or to be compared with the follower's last one; of a follower that says that its position
+-- is unknown where there is a database at all
+abbrev pub WantsFile : StoreFields → Pos → Option LastFile → Type 0
+WantsFile store from (Some (last_file.File min max sum)) = OwesFile store from ⊎ HasFile store.entries min max
+WantsFile store from (Some last_file.Unknown) = (IsGone store.dropped from → ⊥) × (store.entries ≢ [])
+WantsFile store from None = OwesFile store from
+
+-- why it is refused: the node is a replica; or a file is wanted that the disk didn't give, a broken store doesn't give, or memory is
 -- wanting for
-abbrev pub RefusesHello : NodeParts → Pos → Refusal → StoreFields → Type 0
-RefusesHello old from refusals.NotPrimary new = role_in old ≢ role.Primary
-RefusesHello old from (refusals.Store fault.Disk) new = (role_in old ≡ role.Primary) × OwesFile old.store from × Rose old.store.faults new.faults
-RefusesHello old from (refusals.Store fault.Broken) new = (role_in old ≡ role.Primary) × OwesFile old.store from × (old.store.broken ≡ true)
-RefusesHello old from refusals.NoMemory new = (role_in old ≡ role.Primary) × OwesFile old.store from
-RefusesHello old from (refusals.Store fault.Limit) new = ⊥
-RefusesHello old from (refusals.Store fault.NoMemory) new = ⊥
-RefusesHello old from (refusals.Store (fault.NotNext have want)) new = ⊥
-RefusesHello old from (refusals.Store (fault.SumDiffers want got)) new = ⊥
-RefusesHello old from (refusals.Store (fault.PageSize have want)) new = ⊥
-RefusesHello old from refusals.NotReplica new = ⊥
-RefusesHello old from (refusals.Ltx why) new = ⊥
-RefusesHello old from refusals.Absent new = ⊥
+abbrev pub RefusesHello : NodeParts → Pos → Option LastFile → Refusal → StoreFields → Type 0
+RefusesHello old from last refusals.NotPrimary new = role_in old ≢ role.Primary
+RefusesHello old from last (refusals.Store fault.Disk) new = (role_in old ≡ role.Primary) × WantsFile old.store from last × Rose old.store.faults new.faults
+RefusesHello old from last (refusals.Store fault.Broken) new = (role_in old ≡ role.Primary) × WantsFile old.store from last × (old.store.broken ≡ true)
+RefusesHello old from last refusals.NoMemory new = (role_in old ≡ role.Primary) × WantsFile old.store from last
+RefusesHello old from last (refusals.Store fault.Limit) new = ⊥
+RefusesHello old from last (refusals.Store fault.NoMemory) new = ⊥
+RefusesHello old from last (refusals.Store (fault.NotNext have want)) new = ⊥
+RefusesHello old from last (refusals.Store (fault.SumDiffers want got)) new = ⊥
+RefusesHello old from last (refusals.Store (fault.PageSize have want)) new = ⊥
+RefusesHello old from last refusals.NotReplica new = ⊥
+RefusesHello old from last (refusals.Ltx why) new = ⊥
+RefusesHello old from last refusals.Absent new = ⊥
 
 -- what it answers
-abbrev pub TellsFollower : History → NodeParts → Pos → Answer → StoreFields → Type 0
-TellsFollower start old from (answers.Level here) new =
-    (role_in old ≡ role.Primary) × (here ≡ position old.store) × Answers old.store.entries old.store.dropped from owed.Level
-TellsFollower start old from (answers.Item ltx to) new =
-    (role_in old ≡ role.Primary) × (IsFirstFile start old.store from ltx to ⊎ IsWholeDatabase start old.store from ltx to)
-TellsFollower start old from answers.Gone new = (role_in old ≡ role.Primary) × Answers old.store.entries old.store.dropped from owed.Gone
-TellsFollower start old from (answers.Refused why) new = RefusesHello old from why new
-TellsFollower start old from (answers.Done reply) new = ⊥
-TellsFollower start old from answers.Quiet new = ⊥
-TellsFollower start old from (answers.Refuse number) new = ⊥
-TellsFollower start old from (answers.At here) new = ⊥
-TellsFollower start old from (answers.Applied here) new = ⊥
-TellsFollower start old from (answers.Held lock) new = ⊥
-TellsFollower start old from (answers.Pruned count) new = ⊥
+abbrev pub TellsFollower : History → NodeParts → Pos → Option LastFile → Answer → StoreFields → Type 0
+TellsFollower start old from last (answers.Level here) new =
+    (role_in old ≡ role.Primary) × (here ≡ position old.store) × IsOwed start old.store from last owed.Level
+TellsFollower start old from last (answers.Item ltx to) new =
+    (role_in old ≡ role.Primary) × (IsFirstFile start old.store from last ltx to ⊎ IsWholeDatabase start old.store from last ltx to)
+TellsFollower start old from last answers.Gone new = (role_in old ≡ role.Primary) × IsOwed start old.store from last owed.Gone
+TellsFollower start old from last (answers.Refused why) new = RefusesHello old from last why new
+TellsFollower start old from last (answers.Done reply) new = ⊥
+TellsFollower start old from last answers.Quiet new = ⊥
+TellsFollower start old from last (answers.Refuse number) new = ⊥
+TellsFollower start old from last (answers.At here) new = ⊥
+TellsFollower start old from last (answers.Applied here) new = ⊥
+TellsFollower start old from last (answers.Held lock) new = ⊥
+TellsFollower start old from last (answers.Pruned count) new = ⊥
+TellsFollower start old from last (answers.Info info) new = ⊥
 
 -- the node is as before
-pub record AnswersHello (start : History) (old : NodeParts) (from : Pos) (answer : Answer) (end : History) (new : NodeParts) : Type 0 where
-  pub tells : TellsFollower start old from answer new.store
+pub record AnswersHello (start : History) (old : NodeParts) (from : Pos) (last : Option LastFile) (answer : Answer) (end : History) (new : NodeParts) : Type 0 where
+  pub tells : TellsFollower start old from last answer new.store
   pub read : IsLookedInto start old.store end new.store
   pub same : new ≡ record old { store = new.store }

@@ -49,6 +49,7 @@ NamesPrimary start old host answers.Gone end new = ⊥
 NamesPrimary start old host (answers.Applied here) end new = ⊥
 NamesPrimary start old host (answers.Held lock) end new = ⊥
 NamesPrimary start old host (answers.Pruned count) end new = ⊥
+NamesPrimary start old host (answers.Info info) end new = ⊥
 
 -- what it answers
 abbrev pub AnswersLease : History → NodeParts → ℕ → LeaseNews → Answer → History → NodeParts → Type 0

@@ -16,5 +16,7 @@ pub mod Dropping
 pub mod Framing
 pub mod Opening
 pub mod Leasing
+pub mod Telling
+pub mod Where
 pub mod Steps
 pub mod Runs

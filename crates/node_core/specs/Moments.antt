@@ -8,8 +8,9 @@ abbrev pub ask_at : ℕ → Ask → Ask
 ask_at now (ask.File before request) = ask.File now request
 ask_at now ask.EndSession = ask.EndSession
 ask_at now ask.Where = ask.Where
-ask_at now (ask.Hello before from) = ask.Hello now from
+ask_at now (ask.Hello before from last) = ask.Hello now from last
 ask_at now (ask.Frame before bytes) = ask.Frame now bytes
 ask_at now (ask.Drop before) = ask.Drop now
 ask_at now (ask.Prune keep) = ask.Prune keep
+ask_at now (ask.Info before) = ask.Info now
 ask_at now (ask.Lease before news) = ask.Lease now news

@@ -47,6 +47,7 @@ TellsPruned start old keep (answers.Item ltx to) end new = ⊥
 TellsPruned start old keep answers.Gone end new = ⊥
 TellsPruned start old keep (answers.Applied here) end new = ⊥
 TellsPruned start old keep (answers.Held lock) end new = ⊥
+TellsPruned start old keep (answers.Info info) end new = ⊥
 
 pub record AnswersPrune (start : History) (old : NodeParts) (keep : ℕ) (answer : Answer) (end : History) (new : NodeParts) : Type 0 where
   pub tells : TellsPruned start old.store keep answer end new.store

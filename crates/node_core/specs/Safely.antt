@@ -32,10 +32,11 @@ abbrev pub law_ask : Ask → laws.Ask
 law_ask (asks.File now request) = laws.File
 law_ask asks.EndSession = laws.EndSession
 law_ask asks.Where = laws.Where
-law_ask (asks.Hello now position) = laws.Hello position
+law_ask (asks.Hello now position last) = laws.Hello position last
 law_ask (asks.Frame now bytes) = law_frame bytes
 law_ask (asks.Drop now) = laws.Drop
 law_ask (asks.Prune keep) = laws.Prune (kept_of keep)
+law_ask (asks.Info now) = laws.Where
 law_ask (asks.Lease now news) = laws.Lease
 
 abbrev pub law_store_fault : StoreFault → laws.Refusal
@@ -66,6 +67,7 @@ law_answer answers.Gone = laws.Gone
 law_answer (answers.Applied position) = laws.Applied position
 law_answer (answers.Held lock) = laws.Held lock
 law_answer (answers.Pruned count) = laws.Done
+law_answer (answers.Info info) = laws.Done
 law_answer (answers.Refused why) = laws.Refused (law_refusal why)
 
 -- THE CONTRACT OF A STEP over an honest disk: its facts; at each moment a crash leaves a store that a restart may find while the

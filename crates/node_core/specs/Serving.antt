@@ -45,4 +45,5 @@ ServesFiles start old caller request answers.Gone end new = ⊥
 ServesFiles start old caller request (answers.Applied position) end new = ⊥
 ServesFiles start old caller request (answers.Held lock) end new = ⊥
 ServesFiles start old caller request (answers.Pruned count) end new = ⊥
+ServesFiles start old caller request (answers.Info info) end new = ⊥
 ServesFiles start old caller request (answers.Refused why) end new = ⊥

@@ -17,8 +17,10 @@ use Rattle.node_core.specs.Pruning.{AnswersPrune}
 use Rattle.node_core.specs.Roles.{law_role}
 use Rattle.node_core.specs.Safely.{StepsSafely, law_answer, law_ask}
 use Rattle.node_core.specs.Serving.{ServesFiles}
-use Rattle.node_core.specs.Stores.{OnlyRead, position}
+use Rattle.node_core.specs.Stores.{OnlyRead}
+use Rattle.node_core.specs.Telling.{AnswersInfo}
 use Rattle.node_core.specs.Unlinking.{UnlinksDatabase, unlinks_database}
+use Rattle.node_core.specs.Where.{TellsPosition}
 
 -- a request: UNLINK of the database file is answered by the node itself
 abbrev pub AnswersFile : Bool → History → NodeParts → ℕ → Request → Answer → History → NodeParts → Type 0
@@ -31,21 +33,16 @@ pub record EndsSession (start : History) (old : NodeParts) (caller : ℕ) (answe
   pub files : new ≡ record old { files = ended old.files caller }
   pub rests : OnlyRead start end
 
--- the position is told, and nothing is done
-pub record TellsPosition (start : History) (old : NodeParts) (answer : Answer) (end : History) (new : NodeParts) : Type 0 where
-  pub position : answer ≡ answers.At (position old.store)
-  pub same : new ≡ old
-  pub rests : OnlyRead start end
-
 -- what each ask does, over any disk
 abbrev pub Does : History → NodeParts → ℕ → Ask → Answer → History → NodeParts → Type 0
 Does start old caller (asks.File now request) answer end new = AnswersFile (unlinks_database old.config request) start (at_moment old now) caller request answer end new
 Does start old caller asks.EndSession answer end new = EndsSession start old caller answer end new
 Does start old caller asks.Where answer end new = TellsPosition start old answer end new
-Does start old caller (asks.Hello now from) answer end new = AnswersHello start (at_moment old now) from answer end new
+Does start old caller (asks.Hello now from last) answer end new = AnswersHello start (at_moment old now) from last answer end new
 Does start old caller (asks.Frame now bytes) answer end new = AnswersFrame start (at_moment old now) bytes answer end new
 Does start old caller (asks.Drop now) answer end new = AnswersDrop start (at_moment old now) answer end new
 Does start old caller (asks.Prune keep) answer end new = AnswersPrune start old keep answer end new
+Does start old caller (asks.Info now) answer end new = AnswersInfo start (at_moment old now) answer end new
 Does start old caller (asks.Lease now news) answer end new = AnswersLease start (at_moment old now) now news answer end new
 
 -- the node at the moment of an ask, where one comes with it
@@ -53,10 +50,11 @@ abbrev pub at_ask : NodeParts → Ask → NodeParts
 at_ask old (asks.File now request) = at_moment old now
 at_ask old asks.EndSession = old
 at_ask old asks.Where = old
-at_ask old (asks.Hello now from) = at_moment old now
+at_ask old (asks.Hello now from last) = at_moment old now
 at_ask old (asks.Frame now bytes) = at_moment old now
 at_ask old (asks.Drop now) = at_moment old now
 at_ask old (asks.Prune keep) = old
+at_ask old (asks.Info now) = at_moment old now
 at_ask old (asks.Lease now news) = at_moment old now
 
 -- the greatest moment that a node was given, once it was asked
@@ -64,10 +62,11 @@ abbrev pub moment_by : Ask → ℕ → ℕ
 moment_by (asks.File now request) moment = max moment now
 moment_by asks.EndSession moment = moment
 moment_by asks.Where moment = moment
-moment_by (asks.Hello now from) moment = max moment now
+moment_by (asks.Hello now from last) moment = max moment now
 moment_by (asks.Frame now bytes) moment = max moment now
 moment_by (asks.Drop now) moment = max moment now
 moment_by (asks.Prune keep) moment = moment
+moment_by (asks.Info now) moment = max moment now
 moment_by (asks.Lease now news) moment = max moment now
 
 -- what it believes of its lease then: only news change it
@@ -76,10 +75,11 @@ belief_by (asks.Lease now news) belief = believes now news belief
 belief_by (asks.File now request) belief = belief
 belief_by asks.EndSession belief = belief
 belief_by asks.Where belief = belief
-belief_by (asks.Hello now from) belief = belief
+belief_by (asks.Hello now from last) belief = belief
 belief_by (asks.Frame now bytes) belief = belief
 belief_by (asks.Drop now) belief = belief
 belief_by (asks.Prune keep) belief = belief
+belief_by (asks.Info now) belief = belief
 
 -- ONE STEP: what it does; over an honest disk what it tells the cluster and what a crash leaves at each of its moments, in the role
 -- that the node has at its moment; and what it believes of its lease

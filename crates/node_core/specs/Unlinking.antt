@@ -82,4 +82,5 @@ UnlinksDatabase start old answers.Gone end new = ⊥
 UnlinksDatabase start old (answers.Applied position) end new = ⊥
 UnlinksDatabase start old (answers.Held lock) end new = ⊥
 UnlinksDatabase start old (answers.Pruned count) end new = ⊥
+UnlinksDatabase start old (answers.Info info) end new = ⊥
 UnlinksDatabase start old (answers.Refused why) end new = ⊥

@@ -1,4 +1,6 @@
+use crate::info::NodeInfo;
 use crate::refusal::Refusal;
+use crate::whereabouts::Whereabouts;
 use byte_locks::LockId;
 use fuse_msgs::Reply;
 use lf_base::{Bytes, Errno, Pos};
@@ -12,8 +14,8 @@ pub enum Answer {
     Quiet,
     /// It is refused with this number, and nothing is changed.
     Refuse(Errno),
-    /// The position.
-    At(Pos),
+    /// It stands here.
+    At(Whereabouts),
     /// The follower needs nothing. The node stands here.
     Level(Pos),
     /// The follower needs this LTX file, and is then at this position.
@@ -26,6 +28,8 @@ pub enum Answer {
     Held(LockId),
     /// So many files are gone from the log.
     Pruned(u64),
+    /// What the node is, and where it stands.
+    Info(NodeInfo),
     /// It is refused.
     Refused(Refusal),
 }

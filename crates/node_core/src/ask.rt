@@ -4,26 +4,48 @@ ghost use Rattle.node_core.specs.Moments.{ask_at};
 use crate::news::LeaseNews;
 use fuse_msgs::Request;
 use lf_base::{Bytes, Pos};
+use txn_log::LastFile;
 
 /// What a node is asked. Each moment is in milliseconds since the Unix epoch.
 #[derive(Debug, Drop)]
 pub enum Ask {
     /// A request on the served files, at this moment.
-    File { now: u64, request: Request },
+    File {
+        now: u64,
+        request: Request,
+    },
     /// The caller's session ended: its handles, its locks and its uncommitted pages go.
     EndSession,
     /// Where does the node stand?
     Where,
-    /// What is owed to a follower at this position?
-    Hello { now: u64, pos: Pos },
+    /// What is owed to a follower at this position, which says this of the last file of its log?
+    Hello {
+        now: u64,
+        pos: Pos,
+        last: Option<LastFile>,
+    },
     /// An LTX file of another node is to be applied, or installed where it begins with transaction 1.
-    Frame { now: u64, bytes: Bytes },
+    Frame {
+        now: u64,
+        bytes: Bytes,
+    },
     /// The database was dropped at another node.
-    Drop { now: u64 },
+    Drop {
+        now: u64,
+    },
     /// The log is to keep this many files, its newest. 0 stands for 1.
-    Prune { keep: u64 },
+    Prune {
+        keep: u64,
+    },
+    /// What is the node, and where does it stand?
+    Info {
+        now: u64,
+    },
     /// News of leases came.
-    Lease { now: u64, news: LeaseNews },
+    Lease {
+        now: u64,
+        news: LeaseNews,
+    },
 }
 
 impl Ask {
@@ -36,6 +58,7 @@ impl Ask {
             Ask::Hello { now, .. } => *now = moment,
             Ask::Frame { now, .. } => *now = moment,
             Ask::Drop { now } => *now = moment,
+            Ask::Info { now } => *now = moment,
             Ask::Lease { now, .. } => *now = moment,
             Ask::EndSession | Ask::Where | Ask::Prune { .. } => {}
         }

@@ -6,6 +6,8 @@ ghost use Rattle.node_core.specs.Steps.{IsStep};
 use crate::answer::Answer;
 use crate::ask::Ask;
 use crate::node::Node;
+use crate::refusal::refusal_of;
+use crate::whereabouts::Whereabouts;
 use lf_disk::Disk;
 use turn_desk::Machine;
 
@@ -18,11 +20,15 @@ impl<D: Disk> Node<D> {
         Answer::Quiet
     }
 
-    /// Where the node stands.
-    fn tell_position(&self) -> Answer
-        ensures step { (caller : ℕ) → IsStep (history self.now) (parts_of self.now) caller Ask.Where result (history self.now) (parts_of self.now) }
+    /// Where the node stands. The store is read for the checksum of its last file.
+    fn tell_position(&mut self) -> Answer
+        ensures step { (caller : ℕ) → IsStep (history self.old) (parts_of self.old) caller Ask.Where result (history self.new) (parts_of self.new) }
     {
-        Answer::At(self.store.pos())
+        let pos = self.store.pos();
+        match self.store.last_file() {
+            Ok(last) => Answer::At(Whereabouts { pos, last }),
+            Err(fault) => Answer::Refused(refusal_of(fault)),
+        }
     }
 }
 
@@ -38,10 +44,11 @@ impl<D: Disk> Machine for Node<D> {
             Ask::File { now, request } => self.answer_file(caller, *now, request),
             Ask::EndSession => self.end_session(caller),
             Ask::Where => self.tell_position(),
-            Ask::Hello { now, pos } => self.answer_hello(*now, *pos),
+            Ask::Hello { now, pos, last } => self.answer_hello(*now, *pos, *last),
             Ask::Frame { now, bytes } => self.answer_frame(*now, bytes),
             Ask::Drop { now } => self.answer_drop(*now),
             Ask::Prune { keep } => self.prune(*keep),
+            Ask::Info { now } => self.answer_info(*now),
             Ask::Lease { now, news } => self.answer_lease(*now, news),
         }
     }

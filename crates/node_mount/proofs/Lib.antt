@@ -2,3 +2,4 @@ pub mod DiskLemmas
 mod ConfigLemmas
 mod ServingLemmas
 mod BackLemmas
+mod ServiceLemmas

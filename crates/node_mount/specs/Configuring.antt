@@ -1,9 +1,9 @@
--- A configuration that is read from its source. One with a lease service is refused, since no job keeps such a lease yet.
+-- A configuration that is read from its source.
 use Rattle.std.specs.Prelude.{◌≡◌, ◌⊎◌, ℕ, ◌<◌, List, length, Option, Result, Ok, Err}
 use Rattle.std.specs.Io.KnownBytes.{Consumes, IsAtEnd}
 use Rattle.lf_base.specs.Faults.{Rose}
 use Rattle.node_settings.specs.declared.settings.Settings.{Settings}
-use Rattle.node_settings.specs.Configuration.{IsStaticConfiguration}
+use Rattle.node_settings.specs.Configuration.{IsConfiguration}
 use Rattle.node_mount.specs.declared.mount_fault.MountFault.{MountFault}
 use Rattle.node_mount.specs.declared.mount_fault.MountFault.TheVariants as fault
 
@@ -18,9 +18,9 @@ ReadsEnough left left_now bytes = ReadsPast 65536 left left_now bytes
 
 -- what bytes come to: a configuration, with Config none, and where memory ran out either
 abbrev pub IsSaid : {T : Type 0} → List ℕ → Result T MountFault → Type 0
-IsSaid bytes (Err fault.Config) = (settings : Settings) → IsStaticConfiguration bytes settings → ⊥
+IsSaid bytes (Err fault.Config) = (settings : Settings) → IsConfiguration bytes settings → ⊥
 IsSaid bytes (Err fault.NoMemory) = Unit {0}
-IsSaid bytes result = (settings : Settings) × IsStaticConfiguration bytes settings
+IsSaid bytes result = (settings : Settings) × IsConfiguration bytes settings
 
 -- WHAT WAS READ OF THE CONFIGURATION: all of it, or more than 65,536 bytes; with Config these say no settings, else they
 -- do. With Read and NoMemory nothing is said
@@ -31,8 +31,8 @@ ReadsConfiguration left left_now result = (bytes : List ℕ) × ReadsEnough left
 
 -- what reading bytes gives: the settings that they say, and Config only where they say none
 abbrev pub SaysSettings : List ℕ → Result Settings MountFault → Type 0
-SaysSettings bytes (Ok settings) = IsStaticConfiguration bytes settings
-SaysSettings bytes (Err fault.Config) = (settings : Settings) → IsStaticConfiguration bytes settings → ⊥
+SaysSettings bytes (Ok settings) = IsConfiguration bytes settings
+SaysSettings bytes (Err fault.Config) = (settings : Settings) → IsConfiguration bytes settings → ⊥
 SaysSettings bytes (Err fault.NoMemory) = Unit {0}
 SaysSettings bytes (Err why) = ⊥
 

@@ -4,8 +4,11 @@ pub mod Keeping
 pub mod MemMaker
 pub mod Configuring
 pub mod Serving
-pub mod Following
+pub mod Leasing
+pub mod Standing
+pub mod Duties
 pub mod Opening
 pub mod Returns
 pub mod Damage
 pub mod Mounting
+pub mod LeaseService

@@ -1,5 +1,5 @@
 -- What a node is given of itself, and the node that is opened over a disk.
-use Rattle.std.specs.Prelude.{◌≡◌, ℕ, Bool, None, List, [], if◌then◌else◌}
+use Rattle.std.specs.Prelude.{◌≡◌, ℕ, Bool, None, List}
 use Rattle.lf_disk.specs.Folder.{Folder}
 use Rattle.node_core.specs.Opening.{first_standing}
 use Rattle.node_core.specs.Roles.{law_role, role_of}
@@ -9,18 +9,19 @@ use Rattle.node_settings.specs.declared.settings.Settings.{Settings}
 use Rattle.world_laws.specs.Node.{NodeState}
 use Rattle.world_laws.specs.Served.{untouched}
 use Rattle.world_laws.specs.Store.{StoreState}
+use Rattle.node_mount.specs.Standing.{first_host, stands_as_primary}
 use Rattle.node_mount.specs.declared.opening.OpenFault.{OpenFault}
 use Rattle.node_mount.specs.declared.opening.OpenFault.TheVariants as opening
 
--- what a replica calls the primary
+-- what a replica calls the primary before it is told
 abbrev pub primary_host : Settings → List ℕ
-primary_host settings = if settings.lease.candidate then [] else settings.lease.hostname
+primary_host settings = first_host settings.lease.lease_type settings.lease.candidate settings.lease.hostname
 
 abbrev pub config_of : Settings → ℕ → NodeConfig
 config_of settings node = record {
   name = settings.database;
   node = node;
-  candidate = settings.lease.candidate;
+  candidate = stands_as_primary settings.lease.lease_type settings.lease.candidate;
   primary_host = primary_host settings;
   halt_ttl = settings.lease.ttl;
   retention = settings.retention_files;

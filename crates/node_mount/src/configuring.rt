@@ -5,11 +5,11 @@ ghost use Rattle.node_mount.specs.Mounting.{IsOfReading};
 
 use crate::mount_fault::MountFault;
 use lf_base::Source;
-use node_settings::{Settings, SettingsFault, read_static_settings};
+use node_settings::{Settings, SettingsFault, read_settings};
 use std::alloc::{AllocError, Global};
 
 /// The most bytes of a configuration.
-const SIZE_MAX: usize = 65_536;
+pub const SIZE_MAX: usize = 65_536;
 
 /// How many bytes are asked for at a time.
 const PIECE: usize = 4_096;
@@ -28,14 +28,15 @@ pub fn read_configuration<G: Source>(alloc: Global, source: &mut G) -> Result<Se
     settings_in(alloc, bytes.as_slice())
 }
 
-fn new_piece(alloc: Global) -> Result<Vec<u8>, AllocError>
+/// Room for what is read at a time.
+pub fn new_piece(alloc: Global) -> Result<Vec<u8>, AllocError>
     ensures { IfOk result (λ piece. vec_len piece ≡ PIECE) }
 {
     vec![in alloc; 0u8; PIECE]
 }
 
 /// Reads on until the source is at its end, or has given more bytes than so many.
-fn read_pieces<G: Source>(
+pub fn read_pieces<G: Source>(
     source: &mut G,
     most: usize,
     piece: &mut [u8],
@@ -70,7 +71,7 @@ fn read_pieces<G: Source>(
 fn settings_in(alloc: Global, bytes: &[u8]) -> Result<Settings, MountFault>
     ensures { SaysSettings bytes.now result }
 {
-    match read_static_settings(alloc, bytes) {
+    match read_settings(alloc, bytes) {
         Ok(settings) => Ok(settings),
         Err(SettingsFault::Config) => Err(MountFault::Config),
         Err(SettingsFault::NoMemory) => Err(MountFault::NoMemory),

@@ -1,7 +1,5 @@
 //! A replica follows its primary: one job dials it, and another follows the stream on each link.
-ghost use Rattle.std.specs.Prelude.{IfOk};
 ghost use Rattle.lf_base.specs.Faults.{CountsFaults};
-ghost use Rattle.node_mount.specs.Following.{IsFollowed};
 ghost use Rattle.node_mount.specs.Serving.{CountsStarts};
 
 use crate::hall::{Links, two_holds};
@@ -9,71 +7,25 @@ use crate::means::Means;
 use crate::mount_fault::MountFault;
 use crate::place::Place;
 use crate::sessions::{BUDGET, LINKS};
+use crate::to_primary::ToPrimary;
 use crate::work::{Work, start_work};
 use lf_base::{
     Clock, Closing, Dialer, Failed, Handles, Job, Link, Name, NoMemory, Pause, Spawner, Text, start,
 };
 use node_core::{Answer, Ask};
-use node_settings::Settings;
-use replica_apply::follow_seat;
+use replica_apply::{Doubt, follow_seat};
 use std::alloc::Global;
 use turn_desk::Machine;
 
-/// A primary that is followed: which database, where it is found, and what dials it.
+/// A primary that is followed: of which database, and what dials it.
 #[derive(Drop)]
 pub struct Primary<T> {
     pub name: Name,
-    pub address: Text,
-    pub dialer: T,
+    pub dialer: ToPrimary<T>,
 }
 
-/// Whom a node follows: a replica the primary at the advertised URL, by a dialer of its own, and a
-/// primary nobody.
-pub fn primary_of<T: Dialer>(
-    settings: &Settings,
-    dialer: &T,
-) -> Result<Option<Primary<T>>, NoMemory>
-    ensures { IfOk result (IsFollowed settings.now) }
-{
-    if settings.lease.candidate {
-        return Ok(None);
-    }
-    let name = settings.database.copy()?;
-    let address = settings.lease.advertise_url.address().copy()?;
-    let dialer = dialer.another();
-    Ok(Some(Primary {
-        name,
-        address,
-        dialer,
-    }))
-}
-
-/// Starts the jobs of a replica, where there is a primary that it follows.
-pub fn start_replica<
-    R: Handles + Copy + Send + 'static,
-    K: Machine<Ask = Ask, Answer = Answer> + Send + Drop + 'static,
-    L: Link + Send + Drop + 'static,
-    T: Dialer<L = L> + Send + Drop + 'static,
-    S: Spawner,
-    C: Clock + Copy + Send + 'static,
-    P: Pause + Copy + Send + 'static,
->(
-    means: Means<R, C, P>,
-    place: &mut Place<K>,
-    primary: Option<Primary<T>>,
-    closing: &Closing,
-    spawner: &mut S,
-) -> Result<(), MountFault>
-    ensures cause { CountsStarts (S.faults spawner.old) (S.faults spawner.new) result }
-{
-    match primary {
-        Some(primary) => start_following(means, place, primary, closing, spawner),
-        None => Ok(()),
-    }
-}
-
-/// Starts the two jobs of a replica, the one that follows at a seat of its own.
-fn start_following<
+/// Starts the two jobs that follow a primary, the one that follows at a seat of its own.
+pub fn start_following<
     R: Handles + Copy + Send + 'static,
     K: Machine<Ask = Ask, Answer = Answer> + Send + Drop + 'static,
     L: Link + Send + Drop + 'static,
@@ -111,14 +63,11 @@ fn jobs_of<L: Drop, T: Drop, P: Copy>(
 ) -> Result<(Dialing<L, T, P>, Streams<L>), NoMemory> {
     let closing = closing.another()?;
     let (links, theirs) = two_holds(alloc)?;
-    let Primary {
-        name,
-        address,
-        dialer,
-    } = primary;
+    let Primary { name, dialer } = primary;
+    let nowhere = Text::of(alloc, "")?;
     let dialing = Dialing {
         dialer,
-        address,
+        nowhere,
         pause,
         links: theirs,
         closing,
@@ -145,8 +94,9 @@ fn start_both<
 /// A job that dials a primary.
 #[derive(Drop)]
 struct Dialing<L, T, P> {
-    dialer: T,
-    address: Text,
+    dialer: ToPrimary<T>,
+    /// The dialer finds the address by itself.
+    nowhere: Text,
     pause: P,
     links: Links<L>,
     closing: Closing,
@@ -167,7 +117,7 @@ impl<
             if job.closing.is_closed() {
                 break;
             }
-            if let Ok(link) = job.dialer.dial(&rt, &job.address) {
+            if let Ok(link) = job.dialer.dial(&rt, &job.nowhere) {
                 if job.links.put(&rt, link).is_ok() {
                     match job.links.take_back(&rt) {
                         Some(link) => job.dialer.hang_up(link),
@@ -197,27 +147,35 @@ impl<L: Link + Drop> Work for Streams<L> {
         P: Pause + Copy,
     >(self, means: Means<R, C, P>, place: Place<K>) {
         let (mut means, mut place) = (means, place);
+        let mut doubt = Doubt::Nothing;
         for _ in 0..LINKS {
-            if !follow_next(&mut means, &mut place, &self) {
-                break;
+            match follow_next(&mut means, &mut place, &self, doubt) {
+                Some(next) => doubt = next,
+                None => break,
             }
         }
         self.links.close(&means.rt);
     }
 }
 
-/// Follows the stream on the next link to its end, and gives the link back. Answers whether one came.
+/// Follows the stream on the next link to its end, and gives the link back. Answers what speaks against
+/// the node's log then, if a link came.
 fn follow_next<
     R: Handles + Copy,
     K: Machine<Ask = Ask, Answer = Answer>,
     L: Link + Drop,
     C: Clock,
     P: Pause,
->(means: &mut Means<R, C, P>, place: &mut Place<K>, streams: &Streams<L>) -> bool {
+>(
+    means: &mut Means<R, C, P>,
+    place: &mut Place<K>,
+    streams: &Streams<L>,
+    doubt: Doubt,
+) -> Option<Doubt> {
     let Some(mut link) = streams.links.take(&means.rt) else {
-        return false;
+        return None;
     };
-    follow_seat(
+    let end = follow_seat(
         means.rt,
         means.alloc,
         &*place.desk,
@@ -226,8 +184,9 @@ fn follow_next<
         &mut link,
         &mut means.clock,
         &mut means.pause,
+        doubt.is_unknown(),
         BUDGET,
     );
     streams.links.give_back(&means.rt, link);
-    true
+    Some(doubt.after(end))
 }

@@ -5,14 +5,20 @@
 //! the system's differ in their maker alone.
 #![tactic(auto)]
 
+mod board;
 mod configuring;
 mod counts;
 mod data_directory;
+mod duties;
 mod file_links;
 mod following;
 mod hall;
 mod http_links;
+mod keeper;
 mod keeping;
+mod lease_news;
+mod lease_rounds;
+mod lease_service;
 mod listening;
 mod maker;
 mod means;
@@ -21,16 +27,21 @@ mod mem_spawn;
 mod mount_fault;
 mod mounting;
 mod opening;
+mod patience;
 mod place;
+mod posting;
 mod returned;
 mod serving;
 mod sessions;
 mod system;
 mod system_maker;
+mod to_primary;
+mod wish;
 mod work;
 
 pub use counts::Counts;
 pub use keeping::Keeping;
+pub use lease_service::serve_leases;
 pub use maker::Maker;
 pub use mem_maker::{MemMaker, MemReturned};
 pub use mem_spawn::MemSpawn;

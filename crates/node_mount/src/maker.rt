@@ -50,13 +50,15 @@ pub trait Maker {
         ensures back { back self.new ≡ back self.old }
         ensures cause { FailsBy NetworkRose (counts self.old) (counts self.new) result };
 
-    /// Where HTTP links come from: this address, as `host:port`.
-    fn http(&mut self, address: &Text) -> Result<Self::HttpAccept, Failed>
+    /// Where HTTP links come from: this address, as `host:port`. The links fail where they wait for longer
+    /// than so many milliseconds; 0 is no limit.
+    fn http(&mut self, address: &Text, patience: u64) -> Result<Self::HttpAccept, Failed>
         ensures made { IfOk result (λ accept. IsNew (Self.HttpAccept.given accept) (Self.HttpAccept.faults accept) (Self.HttpAccept.ended accept)) }
         ensures back { back self.new ≡ back self.old }
         ensures cause { FailsBy NetworkRose (counts self.old) (counts self.new) result };
 
-    fn dialer(&mut self) -> Self::Dial
+    /// It fails, and so do its links, where they wait for longer than so many milliseconds; 0 is no limit.
+    fn dialer(&mut self, patience: u64) -> Self::Dial
         ensures made { Self.Dial.faults result ≡ 0 }
         ensures same { (counts self.new ≡ counts self.old) × (back self.new ≡ back self.old) };
 

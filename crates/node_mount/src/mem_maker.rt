@@ -180,7 +180,7 @@ impl Maker for MemMaker {
         Ok(self.files.remove(0))
     }
 
-    fn http(&mut self, address: &Text) -> Result<ListAcceptor, Failed>
+    fn http(&mut self, address: &Text, _patience: u64) -> Result<ListAcceptor, Failed>
         ensures made { IfOk result (λ accept. IsNew accept.given accept.faults accept.ended) }
         ensures cause { FailsBy NetworkRose self.old.counts self.new.counts result }
         ensures back { told_by self.new.back ≡ told_by self.old.back }
@@ -196,7 +196,7 @@ impl Maker for MemMaker {
     }
 
     /// Where no dialer is left, one without links.
-    fn dialer(&mut self) -> MemDialer
+    fn dialer(&mut self, _patience: u64) -> MemDialer
         ensures made { result.faults ≡ 0 }
         ensures same { (self.new.counts ≡ self.old.counts) × (told_by self.new.back ≡ told_by self.old.back) }
         ensures gives { Gives (λ dialer. dialer ≡ no_links) self.old.dialers self.new.dialers result }

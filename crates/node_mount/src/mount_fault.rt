@@ -1,4 +1,4 @@
-/// Why a node does not start, or stops serving.
+/// Why a node, or a lease service, does not start, or stops serving.
 #[derive(Clone, Copy, Debug, PartialEq, Eq)]
 pub enum MountFault {
     /// The configuration was not read whole: its source failed.

@@ -2,22 +2,24 @@
 ghost use Rattle.std.specs.Prelude.{◌≡◌};
 ghost use Rattle.node_mount.specs.Configuring.{ReadsConfiguration};
 ghost use Rattle.node_mount.specs.Damage.{DamageHasCause};
+ghost use Rattle.node_mount.specs.Duties.{HasDialer};
 ghost use Rattle.node_mount.specs.Making.{IsNew};
 ghost use Rattle.node_mount.specs.Mounting.{fault_of as named, IsMountCause, IsPastReading, IsServing, RaisesFor};
 ghost use Rattle.node_mount.specs.Returns.{CameBack};
 
 use crate::configuring::read_configuration;
-use crate::following::primary_of;
+use crate::duties::duties_of;
 use crate::maker::Maker;
 use crate::means::Means;
 use crate::mount_fault::MountFault;
 use crate::opening::{OpenFault, config_of, open_place, open_recovered};
+use crate::patience::{HTTP_PATIENCE, following_patience, lease_patience};
 use crate::place::Place;
 use crate::serving::serve_links;
 use lf_base::{Handles, Source};
 use node_core::{Answer, Ask};
 use node_recovery::RecoverFault;
-use node_settings::Settings;
+use node_settings::{LeaseType, Settings};
 use std::alloc::Global;
 use turn_desk::Machine;
 
@@ -98,7 +100,7 @@ fn mount_node<
         Ok(files) => files,
         Err(_) => return Err(MountFault::Network),
     };
-    match make.http(settings.http.text()) {
+    match make.http(settings.http.text(), HTTP_PATIENCE) {
         Ok(http) => serve_place(rt, alloc, settings, place, files, http, make),
         Err(_) => {
             make.back_files(files);
@@ -134,8 +136,9 @@ fn serve_place<
         clock,
         pause,
     };
-    let dialer = make.dialer();
-    let Ok(primary) = primary_of(settings, &dialer) else {
+    let dialer = make.dialer(following_patience(&settings.lease));
+    let asking = dialer_of_service(settings, make);
+    let Ok(duties) = duties_of(alloc, settings, make.node_id(), &dialer, asking) else {
         return Err(MountFault::NoMemory);
     };
     let mut spawner = make.spawner();
@@ -145,11 +148,22 @@ fn serve_place<
         &mut files,
         http,
         &settings.database,
-        primary,
+        duties,
         &mut spawner,
     );
     make.back_files(files);
     make.back_dial(dialer);
     make.back_spawn(spawner);
     served
+}
+
+/// What dials the lease service, where there is one.
+fn dialer_of_service<M: Maker>(settings: &Settings, make: &mut M) -> Option<M::Dial>
+    ensures same { (M.counts make.new ≡ M.counts make.old) × (M.back make.new ≡ M.back make.old) }
+    ensures service { HasDialer settings.now.lease.lease_type result }
+{
+    match settings.lease.lease_type {
+        LeaseType::Static => None,
+        LeaseType::Service => Some(make.dialer(lease_patience(settings.lease.ttl))),
+    }
 }

@@ -9,12 +9,13 @@ ghost use Rattle.txn_log.specs.Durable.{Durable};
 ghost use Rattle.txn_log.specs.Putting.{IsSettled};
 ghost use Rattle.world_laws.specs.Store.{StoreState};
 
+use crate::duties::stands_as_primary;
 use crate::place::Place;
 use lf_base::{NoMemory, Text};
 use lf_disk::Disk;
 use node_core::{Answer, Ask, Node, NodeConfig};
 use node_recovery::{RecoverFault, recover};
-use node_settings::Settings;
+use node_settings::{LeaseType, Settings};
 use std::alloc::Global;
 use std::sync::Arc;
 use turn_desk::{Desk, Machine, Seat};
@@ -81,20 +82,19 @@ pub fn config_of(alloc: Global, settings: &Settings, node: u64) -> Result<NodeCo
     Ok(NodeConfig {
         name,
         node,
-        candidate: settings.lease.candidate,
+        candidate: stands_as_primary(&settings.lease),
         primary_host,
         halt_ttl: settings.lease.ttl,
         retention: settings.retention_files,
     })
 }
 
-/// What a replica calls the primary. The primary has no name for itself.
+/// What a replica calls the primary before it is told. The primary has no name for itself.
 fn primary_host(alloc: Global, settings: &Settings) -> Result<Text, NoMemory>
     ensures { IfOk result (λ host. host ≡ host_of settings.now) }
 {
-    if settings.lease.candidate {
-        Text::of(alloc, "")
-    } else {
-        settings.lease.hostname.copy()
+    match settings.lease.lease_type {
+        LeaseType::Static if !settings.lease.candidate => settings.lease.hostname.copy(),
+        _ => Text::of(alloc, ""),
     }
 }

@@ -1,10 +1,12 @@
 //! A node's links are served.
 ghost use Rattle.std.specs.Prelude.{◌≡◌, true, OnOk};
-ghost use Rattle.node_mount.specs.Serving.{CountsServing, GivesLimit};
+ghost use Rattle.node_mount.specs.Serving.{CountsServing, CountsStarts, GivesLimit};
 
+use crate::duties::Duties;
 use crate::file_links::serve_file_links;
-use crate::following::{Primary, start_replica};
+use crate::following::start_following;
 use crate::http_links::start_http;
+use crate::lease_rounds::start_rounds;
 use crate::means::Means;
 use crate::mount_fault::MountFault;
 use crate::place::Place;
@@ -30,7 +32,7 @@ pub fn serve_links<
     files: &mut A,
     http: B,
     name: &Name,
-    primary: Option<Primary<T>>,
+    duties: Option<Duties<T>>,
     spawner: &mut S,
 ) -> Result<(), MountFault>
     requires { A.given files.old ≡ 0 }
@@ -43,7 +45,7 @@ pub fn serve_links<
         return Err(MountFault::NoMemory);
     };
     let served = serve_all(
-        means, &mut place, files, http, name, primary, &closing, spawner,
+        means, &mut place, files, http, name, duties, &closing, spawner,
     );
     closing.close();
     if served.is_ok() {
@@ -52,8 +54,7 @@ pub fn serve_links<
     served
 }
 
-/// Starts the jobs that follow a primary, where there is one, and those of HTTP links, and serves file
-/// links.
+/// Starts the jobs of these duties and those of HTTP links, and serves file links.
 fn serve_all<
     R: Handles + Copy + Send + 'static,
     K: Machine<Ask = Ask, Answer = Answer> + Send + Drop + 'static,
@@ -70,7 +71,7 @@ fn serve_all<
     files: &mut A,
     http: B,
     name: &Name,
-    primary: Option<Primary<T>>,
+    duties: Option<Duties<T>>,
     closing: &Closing,
     spawner: &mut S,
 ) -> Result<(), MountFault>
@@ -79,12 +80,40 @@ fn serve_all<
     ensures limit { GivesLimit (A.given files.new) result }
     ensures cause { CountsServing (A.faults files.old) (A.faults files.new) (S.faults spawner.old) (S.faults spawner.new) result }
 {
-    match start_replica(means, place, primary, closing, spawner) {
+    match start_duties(means, place, duties, closing, spawner) {
         Ok(()) => {}
         Err(fault) => return Err(fault),
     }
     match start_http(means, place, http, name, closing, spawner) {
         Ok(()) => serve_file_links(means, place, files, spawner),
+        Err(fault) => Err(fault),
+    }
+}
+
+/// Starts the jobs that follow a primary, and that of the rounds.
+fn start_duties<
+    R: Handles + Copy + Send + 'static,
+    K: Machine<Ask = Ask, Answer = Answer> + Send + Drop + 'static,
+    L: Link + Send + Drop + 'static,
+    T: Dialer<L = L> + Send + Drop + 'static,
+    S: Spawner,
+    C: Clock + Copy + Send + 'static,
+    P: Pause + Copy + Send + 'static,
+>(
+    means: Means<R, C, P>,
+    place: &mut Place<K>,
+    duties: Option<Duties<T>>,
+    closing: &Closing,
+    spawner: &mut S,
+) -> Result<(), MountFault>
+    ensures cause { CountsStarts (S.faults spawner.old) (S.faults spawner.new) result }
+{
+    let Some(duties) = duties else {
+        return Ok(());
+    };
+    let Duties { primary, rounds } = duties;
+    match start_following(means, place, primary, closing, spawner) {
+        Ok(()) => start_rounds(means, place, rounds, closing, spawner),
         Err(fault) => Err(fault),
     }
 }

@@ -75,12 +75,17 @@ fn accept_at<R: System>(rt: &R, path: &str, closing: &Closing) -> Result<UnixAcc
     }
 }
 
-fn accept_on<R: System>(rt: &R, address: &str, closing: &Closing) -> Result<TcpAccept, Failed>
+fn accept_on<R: System>(
+    rt: &R,
+    address: &str,
+    closing: &Closing,
+    patience: u64,
+) -> Result<TcpAccept, Failed>
     ensures { IfOk result (λ accept. IsNew accept.given accept.faults accept.ended) }
 {
     let listener = listen_on(rt, address)?;
     match closing.another() {
-        Ok(closing) => TcpAccept::new(listener, closing),
+        Ok(closing) => Ok(TcpAccept::new(listener, closing)?.patient(patience)),
         Err(_) => Err(Failed),
     }
 }
@@ -132,8 +137,8 @@ impl<R: System + Send + 'static> Maker for SystemMaker<R> {
         }
     }
 
-    fn http(&mut self, address: &Text) -> Result<TcpAccept, Failed> {
-        match accept_on(&self.rt, address.as_str(), &self.closing) {
+    fn http(&mut self, address: &Text, patience: u64) -> Result<TcpAccept, Failed> {
+        match accept_on(&self.rt, address.as_str(), &self.closing, patience) {
             Ok(accept) => Ok(accept),
             Err(failed) => {
                 self.counts.fail_network();
@@ -142,8 +147,8 @@ impl<R: System + Send + 'static> Maker for SystemMaker<R> {
         }
     }
 
-    fn dialer(&mut self) -> TcpDial {
-        TcpDial::new()
+    fn dialer(&mut self, patience: u64) -> TcpDial {
+        TcpDial::new().patient(patience)
     }
 
     fn spawner(&mut self) -> MemSpawn {

@@ -79,16 +79,16 @@ impl<R: System + Send + 'static> Maker for SocketMaker<R> {
         made
     }
 
-    fn http(&mut self, address: &Text) -> Result<ListAcceptor, Failed> {
-        let made = self.memory.http(address);
+    fn http(&mut self, address: &Text, patience: u64) -> Result<ListAcceptor, Failed> {
+        let made = self.memory.http(address, patience);
         if made.is_err() {
             self.counts.fail_network();
         }
         made
     }
 
-    fn dialer(&mut self) -> MemDialer {
-        self.memory.dialer()
+    fn dialer(&mut self, patience: u64) -> MemDialer {
+        self.memory.dialer(patience)
     }
 
     fn spawner(&mut self) -> MemSpawn {

@@ -49,8 +49,8 @@ impl Stage {
 
     /// Where the node stands.
     pub fn position<R: Wait + Copy>(&mut self, rt: R) -> Result<Pos, Fault> {
-        match self.desk.step(rt, &mut self.seat, &Ask::Where) {
-            Ok(Answer::At(position)) => Ok(position),
+        match self.desk.step(rt, &mut self.seat, &Ask::Info { now: 0 }) {
+            Ok(Answer::Info(info)) => Ok(info.pos),
             _ => Err(Fault::Worn),
         }
     }

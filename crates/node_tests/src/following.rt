@@ -4,14 +4,14 @@ mod scripted;
 use crate::links::link_of;
 use crate::same::same;
 use lf_base::{FixedClock, MemLink, Name, NoPause, Pos};
-use node_core::Refusal;
-use replica_apply::{FollowEnd, follow_seat};
+use node_core::{Refusal, Whereabouts};
+use replica_apply::{Doubt, FollowEnd, follow_seat};
 use scripted::{Scripted, Word};
 use std::alloc::Global;
 use std::process::Abort;
 use std::sync::Wait;
 use turn_desk::Desk;
-use txn_log::StoreFault;
+use txn_log::{LastFile, StoreFault};
 
 /// The request, from nothing on.
 const REQUEST: &[u8] = b"POST /stream HTTP/1.1\r\nHost: localhost\r\nContent-Length: 38\r\n\r\n\
@@ -161,14 +161,17 @@ fn followed<R: Wait + Copy + Abort>(
     alloc: Global,
     link: &mut MemLink,
     row: &Row,
+    last: Option<LastFile>,
+    unknown: bool,
 ) -> (FollowEnd, Scripted) {
-    let machine = Scripted::new(alloc, Pos { txid: 0, sum: 0 }, row.script);
+    let pos = Pos { txid: 0, sum: 0 };
+    let machine = Scripted::new(alloc, Whereabouts { pos, last }, row.script);
     let (desk, mut seat) = Desk::open(alloc, machine).ok().expect(&rt, "a desk");
     let name = Name::read(alloc, b"app").expect(&rt, "a name");
     let mut clock = FixedClock::new(5);
     let mut pause = NoPause::new();
     let end = follow_seat(
-        rt, alloc, &desk, &mut seat, &name, link, &mut clock, &mut pause, row.budget,
+        rt, alloc, &desk, &mut seat, &name, link, &mut clock, &mut pause, unknown, row.budget,
     );
     (end, desk.close(rt, seat))
 }
@@ -184,8 +187,99 @@ fn has_stream<R: Wait + Copy + Abort>(rt: R, alloc: Global, row: &Row) {
     let input = joined(rt, alloc, row.input);
     let mut link = link_of(rt, alloc, input, row.size, row.failing);
     let watch = link.watch();
-    let (end, machine) = followed(rt, alloc, &mut link, row);
+    let (end, machine) = followed(rt, alloc, &mut link, row, None, false);
     let written = watch.bytes().expect(&rt, "memory");
     same(rt, written.as_slice(), REQUEST);
     same(rt, (end, machine.asked.as_slice()), (row.end, row.asked));
+}
+
+/// The last file of a node's log.
+const LAST: LastFile = LastFile::File {
+    min: 7,
+    max: 10,
+    sum: 0xb8dc_e586_6977_8c30,
+};
+
+/// The requests with the last file, and of one whose position is unknown.
+const WITH_LAST: &[u8] = b"POST /stream HTTP/1.1\r\nHost: localhost\r\nContent-Length: 38\r\n\
+    Litefs-Last-File: 0000000000000007-000000000000000a/b8dce58669778c30\r\n\r\n\
+    app 0000000000000000/0000000000000000\n";
+
+const WITH_UNKNOWN: &[u8] = b"POST /stream HTTP/1.1\r\nHost: localhost\r\nContent-Length: 38\r\n\
+    Litefs-Last-File: unknown\r\n\r\n\
+    app 0000000000000000/0000000000000000\n";
+
+/// What the node tells of its last file, whether its position is unknown, and the request.
+const SAID: &[(Option<LastFile>, bool, &[u8])] = &[
+    (None, false, REQUEST),
+    (Some(LAST), false, WITH_LAST),
+    (None, true, WITH_UNKNOWN),
+    (Some(LAST), true, WITH_UNKNOWN),
+];
+
+#[test]
+fn last_files(rt: HostRuntime) {
+    for (last, unknown, request) in SAID {
+        has_said(rt, rt.alloc(), *last, *unknown, *request);
+    }
+}
+
+fn has_said<R: Wait + Copy + Abort>(
+    rt: R,
+    alloc: Global,
+    last: Option<LastFile>,
+    unknown: bool,
+    request: &[u8],
+) {
+    let mut link = link_of(rt, alloc, Vec::new(alloc), 99_999, NEVER);
+    let watch = link.watch();
+    followed(rt, alloc, &mut link, &CUT, last, unknown);
+    let written = watch.bytes().expect(&rt, "memory");
+    same(rt, written.as_slice(), request);
+}
+
+/// How streams ended, one after another, and what speaks against the node's log then.
+const DOUBTS: &[(&[FollowEnd], Doubt)] = &[
+    (&[FollowEnd::Cut], Doubt::Nothing),
+    (&[SUM_DIFFERS], Doubt::Unknown),
+    (&[SUM_DIFFERS, FollowEnd::Cut], Doubt::Nothing),
+    (&[NOT_NEXT], Doubt::NotNext(NINTH)),
+    (&[NOT_NEXT, FollowEnd::Cut], Doubt::NotNext(NINTH)),
+    (&[NOT_NEXT, FollowEnd::Cut, NOT_NEXT], Doubt::Unknown),
+    (&[NOT_NEXT, NEXT_ELSEWHERE], Doubt::NotNext(TENTH)),
+    (&[NOT_NEXT, NOT_NEXT, NOT_NEXT], Doubt::NotNext(NINTH)),
+];
+
+const NINTH: Pos = Pos { txid: 9, sum: 1 };
+
+const TENTH: Pos = Pos { txid: 10, sum: 1 };
+
+const NOT_NEXT: FollowEnd = FollowEnd::Refused(Refusal::Store(StoreFault::NotNext {
+    have: NINTH,
+    want: TENTH,
+}));
+
+const NEXT_ELSEWHERE: FollowEnd = FollowEnd::Refused(Refusal::Store(StoreFault::NotNext {
+    have: TENTH,
+    want: NINTH,
+}));
+
+const SUM_DIFFERS: FollowEnd = FollowEnd::Refused(Refusal::Store(StoreFault::SumDiffers {
+    want: 1,
+    got: 2,
+}));
+
+#[test]
+fn doubts(rt: HostRuntime) {
+    for (ended, doubt) in DOUBTS {
+        same(rt, doubt_behind(*ended), *doubt);
+    }
+}
+
+fn doubt_behind(ended: &[FollowEnd]) -> Doubt {
+    let mut doubt = Doubt::Nothing;
+    for end in ended {
+        doubt = doubt.after(*end);
+    }
+    doubt
 }

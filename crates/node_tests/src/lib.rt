@@ -9,6 +9,8 @@ mod files;
 #[cfg(test)]
 mod following;
 #[cfg(test)]
+mod leased;
+#[cfg(test)]
 mod leases;
 #[cfg(test)]
 mod links;

@@ -52,7 +52,7 @@ fn objects_are_given_and_fail(rt: HostRuntime) {
     same(rt, maker.files(&path).is_err(), true);
     same(rt, maker.disk(&name).is_err(), true);
     same(rt, maker.files(&path).is_ok(), true);
-    same(rt, maker.http(&path).is_ok(), true);
+    same(rt, maker.http(&path, 0).is_ok(), true);
     same(rt, maker.node_id(), 9);
 }
 
@@ -61,7 +61,7 @@ fn objects_are_given_and_fail(rt: HostRuntime) {
 fn objects_are_taken_back(rt: HostRuntime) {
     let _named: Option<(TcpListener, TcpStream)> = None;
     let mut maker = maker(rt, rt.alloc());
-    let dialer = maker.dialer();
+    let dialer = maker.dialer(0);
     let spawner = maker.spawner();
     maker.back_dial(dialer);
     maker.back_spawn(spawner);
@@ -70,7 +70,7 @@ fn objects_are_taken_back(rt: HostRuntime) {
         Some([Returned::Dialer(_), Returned::Spawner(_)])
     );
     same(rt, back, true);
-    let dialer = maker.dialer();
+    let dialer = maker.dialer(0);
     maker.back_dial(dialer);
     same(rt, maker.back().is_none(), true);
 }

@@ -195,6 +195,48 @@ const ROWS: &[Row] = &[
         written: &[BAD],
         ..CLOSED
     },
+    // A body that is longer than a line of a stream is.
+    Row {
+        size: 7,
+        input: b"POST /stream HTTP/1.1\r\nContent-Length: 100\r\n\r\n\
+            app 0000000000000000/0000000000000000\n\
+            app 0000000000000000/0000000000000000\n\
+            app 0000000000000000/000",
+        written: &[BAD],
+        ..CLOSED
+    },
+    // Each call that has a name and is not served. Its body is passed over.
+    Row {
+        input: b"POST /halt HTTP/1.1\r\nContent-Length: 21\r\n\r\napp 0000000000000001\n",
+        written: &[NOT_FOUND],
+        ..CLOSED
+    },
+    Row {
+        input: b"DELETE /halt HTTP/1.1\r\nContent-Length: 21\r\n\r\napp 0000000000000001\n",
+        written: &[NOT_FOUND],
+        ..CLOSED
+    },
+    Row {
+        size: 3,
+        input: b"POST /tx HTTP/1.1\r\nContent-Length: 21\r\n\r\napp 0000000000000001\n",
+        written: &[NOT_FOUND],
+        ..CLOSED
+    },
+    Row {
+        input: b"GET /export?name=app HTTP/1.1\r\n\r\n",
+        written: &[NOT_FOUND],
+        ..CLOSED
+    },
+    Row {
+        input: b"POST /import?name=app HTTP/1.1\r\nContent-Length: 3\r\n\r\nabc",
+        written: &[NOT_FOUND],
+        ..CLOSED
+    },
+    Row {
+        input: b"POST /lease HTTP/1.1\r\nContent-Length: 2\r\n\r\n{}",
+        written: &[NOT_FOUND],
+        ..CLOSED
+    },
     // Another request behind it is not read.
     Row {
         input: b"GET / HTTP/1.0\r\n\r\nGET / HTTP/1.0\r\n\r\n",

@@ -50,12 +50,12 @@ fn http_listens_once_on_a_port(rt: HostRuntime) {
     let _named: Option<(TcpListener, TcpStream)> = None;
     let mut maker = maker(rt);
     let any = Text::of(rt.alloc(), ":0").expect(&rt, "memory");
-    same(rt, maker.http(&any).is_ok(), true);
+    same(rt, maker.http(&any, 0).is_ok(), true);
     let listener = TcpListener::bind(&rt, "127.0.0.1:0").expect(&rt, "a listener");
     let address = listener.local_addr().expect(&rt, "its address");
     let taken = format!(in rt.alloc(); "{address}").expect(&rt, "memory");
     let taken = Text::of(rt.alloc(), taken.as_str()).expect(&rt, "memory");
-    same(rt, maker.http(&taken).is_err(), true);
+    same(rt, maker.http(&taken, 0).is_err(), true);
 }
 
 /// A node has a number of its own, which is not 0.
@@ -76,7 +76,7 @@ fn http_listens_on_every_address(rt: HostRuntime) {
     let mut maker = maker(rt);
     let address = format!(in rt.alloc(); ":{port}").expect(&rt, "memory");
     let address = Text::of(rt.alloc(), address.as_str()).expect(&rt, "memory");
-    let accept = maker.http(&address);
+    let accept = maker.http(&address, 0);
     same(rt, accept.is_ok(), true);
     let other = format!(in rt.alloc(); "127.0.0.2:{port}").expect(&rt, "memory");
     same(rt, TcpStream::connect(&rt, other.as_str()).is_ok(), true);

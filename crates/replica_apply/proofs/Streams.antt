@@ -59,6 +59,7 @@ frame_answered who name text asked (answer.Item ltx after) old new turns is a = 
 frame_answered who name text asked answer.Gone old new turns is a = (answer.Gone, record { asked = asked; is = is; until = a }, refl)
 frame_answered who name text asked (answer.Held lock) old new turns is a = (answer.Held lock, record { asked = asked; is = is; until = a }, refl)
 frame_answered who name text asked (answer.Pruned n) old new turns is a = (answer.Pruned n, record { asked = asked; is = is; until = a }, refl)
+frame_answered who name text asked (answer.Info i) old new turns is a = (answer.Info i, record { asked = asked; is = is; until = a }, refl)
 
 -- it was asked where the node stands
 pub where_said : (caller : ℕ) (given : Answer) (old new : List NodeEntry) (turns : ℕ) → new ≡ asks_where caller given old → SaysWhere caller old new turns (place_in given)
@@ -73,6 +74,7 @@ where_said caller answer.Gone old new turns e = (answer.Gone, e, refl)
 where_said caller (answer.Applied pos) old new turns e = (answer.Applied pos, e, refl)
 where_said caller (answer.Held lock) old new turns e = (answer.Held lock, e, refl)
 where_said caller (answer.Pruned n) old new turns e = (answer.Pruned n, e, refl)
+where_said caller (answer.Info i) old new turns e = (answer.Info i, e, refl)
 
 -- behind a message that was taken out
 pub behind : (text left : Option (List ℕ)) (message ahead : List ℕ) → Keeps text (text_of message ahead left) → Consumes text (text_of [] ahead left) message

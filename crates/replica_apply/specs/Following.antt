@@ -1,5 +1,5 @@
 -- Following a stream, from the question where the node stands to the end.
-use Rattle.std.specs.Prelude.{◌≡◌, ◌≤◌, ◌+◌, ℕ, Bool, true, false, codes, List, [], ◌∷◌, ◌++◌, length, Option, Result, Ok, Err}
+use Rattle.std.specs.Prelude.{◌≡◌, ◌≤◌, ◌+◌, ℕ, Bool, true, false, codes, List, [], ◌∷◌, ◌++◌, length, Option, Some, None, Result, Ok, Err}
 use Rattle.std.specs.Io.KnownBytes.{Appends, Consumes, Keeps}
 use Rattle.lf_base.specs.Faults.{Rose}
 use Rattle.lf_base.specs.declared.pos.Pos.{Pos}
@@ -17,10 +17,14 @@ use Rattle.link_session.specs.Writing.{AppendsPart}
 use Rattle.node_core.specs.declared.ask.Ask.TheVariants as ask
 use Rattle.node_core.specs.declared.answer.Answer.{Answer}
 use Rattle.node_core.specs.declared.answer.Answer.TheVariants as answer
-use Rattle.stream_wire.specs.declared.call.Call.TheVariants as call
 use Rattle.stream_wire.specs.Head.{NeverTakesResponse}
 use Rattle.stream_wire.specs.StreamLine.{stream_line}
-use Rattle.stream_wire.specs.Writing.{request_head}
+use Rattle.stream_wire.specs.Writing.{stream_head}
+use Rattle.stream_wire.specs.declared.last_file.LastFile.{LastFile as Said}
+use Rattle.stream_wire.specs.declared.last_file.LastFile.TheVariants as wire
+use Rattle.world_laws.specs.declared.last_file.LastFile.{LastFile}
+use Rattle.world_laws.specs.declared.last_file.LastFile.TheVariants as last_file
+use Rattle.node_core.specs.declared.whereabouts.Whereabouts.{Whereabouts}
 use Rattle.replica_apply.specs.declared.follow_end.FollowEnd.{FollowEnd}
 use Rattle.replica_apply.specs.declared.follow_end.FollowEnd.TheVariants as ends
 use Rattle.replica_apply.specs.Asking.{NodeEntry}
@@ -31,9 +35,16 @@ use Rattle.replica_apply.specs.Heads.{IsHead, IsHeadPart}
 abbrev pub frame_limit : ℕ
 frame_limit = 2147483648
 
--- the request for the stream of this database from this position on
-abbrev pub request_for : List ℕ → Pos → List ℕ
-request_for name pos = request_head call.Stream (codes "localhost") (length (stream_line name pos)) ++ stream_line name pos
+-- what the request says of the last file of the log: which it is, where there is one; or that the position is unknown
+abbrev pub said : Bool → Option LastFile → Option Said
+said true last = Some wire.Unknown
+said false None = None
+said false (Some last_file.Unknown) = Some wire.Unknown
+said false (Some (last_file.File min max sum)) = Some (wire.File min max sum)
+
+-- the request for the stream of this database from this position on, which says this of the last file
+abbrev pub request_for : List ℕ → Pos → Option Said → List ℕ
+request_for name pos last = stream_head (codes "localhost") (length (stream_line name pos)) last ++ stream_line name pos
 
 -- the end where a message could not be read
 abbrev pub end_of : Unread → FollowEnd
@@ -50,19 +61,19 @@ asks_where caller given entries = entries ++ entry caller ask.Where given ∷ []
 
 -- whether an answer says where the node stands, or refuses to
 abbrev pub says_where : Answer → Bool
-says_where (answer.At pos) = true
+says_where (answer.At here) = true
 says_where (answer.Refused refused) = true
 says_where _ = false
 
--- the position that an answer says
-abbrev pub place_in : Answer → Result Pos FollowEnd
-place_in (answer.At pos) = Ok pos
+-- where the node stands, as an answer says it
+abbrev pub place_in : Answer → Result Whereabouts FollowEnd
+place_in (answer.At here) = Ok here
 place_in (answer.Refused refused) = Err (ends.Refused refused)
 place_in _ = Err ends.OddAnswer
 
--- what asking where the node stands gives: a position, or no answer that is one. It takes no memory
-abbrev pub SaysWhere : ℕ → List NodeEntry → List NodeEntry → ℕ → Result Pos FollowEnd → Type 0
-SaysWhere caller old new turns (Ok pos) = new ≡ asks_where caller (answer.At pos) old
+-- what asking where the node stands gives: that it says so, or no answer that does. It takes no memory
+abbrev pub SaysWhere : ℕ → List NodeEntry → List NodeEntry → ℕ → Result Whereabouts FollowEnd → Type 0
+SaysWhere caller old new turns (Ok here) = new ≡ asks_where caller (answer.At here) old
 SaysWhere caller old new turns (Err (ends.Refused refused)) = new ≡ asks_where caller (answer.Refused refused) old
 SaysWhere caller old new turns (Err ends.Turns) = (new ≡ old) × (turns ≡ 0)
 SaysWhere caller old new turns (Err ends.Worn) = new ≡ old
@@ -151,15 +162,15 @@ pub data EndsAnswer (who : Asker) (name : List ℕ) (old new : Stand NodeEntry) 
 
 -- how far it came: the node did not say where it stands, and nothing was read or written; or the request for the stream from there on
 -- was not written whole; or it was, and this became of its reply
-pub data Ends (who : Asker) (name : List ℕ) (old new : Stand NodeEntry) (turns : ℕ) (end : FollowEnd) : Type 0 where
+pub data Ends (who : Asker) (name : List ℕ) (unknown : Bool) (old new : Stand NodeEntry) (turns : ℕ) (end : FollowEnd) : Type 0 where
   unplaced : SaysWhere who.caller old.place.entries new.place.entries turns (Err end) → Keeps old.place.taken new.place.taken → Keeps old.place.text new.place.text
-      → new.faults ≡ old.faults → Ends who name old new turns end
-  unsent : (pos : Pos) → new.place.entries ≡ asks_where who.caller (answer.At pos) old.place.entries
-      → IsUnsent (request_for name pos) old.place.taken new.place.taken old.faults new.faults turns end → Keeps old.place.text new.place.text
-      → Ends who name old new turns end
-  answered : (pos : Pos) (sent : Stand NodeEntry) → sent.place.entries ≡ asks_where who.caller (answer.At pos) old.place.entries
-      → Appends old.place.taken sent.place.taken (request_for name pos) → Keeps old.place.text sent.place.text → sent.faults ≡ old.faults
-      → EndsAnswer who name sent new turns end → Ends who name old new turns end
+      → new.faults ≡ old.faults → Ends who name unknown old new turns end
+  unsent : (here : Whereabouts) → new.place.entries ≡ asks_where who.caller (answer.At here) old.place.entries
+      → IsUnsent (request_for name here.pos (said unknown here.last)) old.place.taken new.place.taken old.faults new.faults turns end → Keeps old.place.text new.place.text
+      → Ends who name unknown old new turns end
+  answered : (here : Whereabouts) (sent : Stand NodeEntry) → sent.place.entries ≡ asks_where who.caller (answer.At here) old.place.entries
+      → Appends old.place.taken sent.place.taken (request_for name here.pos (said unknown here.last)) → Keeps old.place.text sent.place.text → sent.faults ≡ old.faults
+      → EndsAnswer who name sent new turns end → Ends who name unknown old new turns end
 
 -- each turn that is gone was a call of the link that moved bytes, or an ask, where it went on or used up the turns
 abbrev pub Uses : {T : Type 0} → ℕ → Stand NodeEntry → ℕ → Stand NodeEntry → Result T FollowEnd → Type 0
@@ -167,8 +178,8 @@ Uses turns old turns_now new (Ok _) = (turns_now ≤ turns) × Spent turns old t
 Uses turns old turns_now new (Err ends.Turns) = Spent turns old turns_now new
 Uses turns old turns_now new (Err _) = Unit {0}
 
--- FOLLOWING the stream of this database, with so many turns
-pub record Follows (who : Asker) (name : List ℕ) (budget : ℕ) (old new : Stand NodeEntry) (end : FollowEnd) : Type 0 where
+-- FOLLOWING the stream of this database, with so many turns, by a follower whose position is unknown or not
+pub record Follows (who : Asker) (name : List ℕ) (unknown : Bool) (budget : ℕ) (old new : Stand NodeEntry) (end : FollowEnd) : Type 0 where
   pub left : ℕ
-  pub ends : Ends who name old new left end
+  pub ends : Ends who name unknown old new left end
   pub spent : Uses {T = Unit {0}} budget old left new (Err end)

@@ -5,15 +5,14 @@ ghost use Rattle.replica_apply.specs.declared.follow_end.FollowEnd.TheVariants a
 ghost use Rattle.replica_apply.specs.Following.{place_in, Asks, SaysWhere};
 
 use crate::follow_end::FollowEnd;
-use lf_base::Pos;
 use link_session::{Steps, Turns};
-use node_core::{Answer, Ask};
+use node_core::{Answer, Ask, Whereabouts};
 
 /// Asks the node, once, where it stands. It is a turn.
 pub fn ask_where<S: Steps<Ask = Ask, Answer = Answer>>(
     steps: &mut S,
     turns: &mut Turns,
-) -> Result<Pos, FollowEnd>
+) -> Result<Whereabouts, FollowEnd>
     ensures says { SaysWhere (S.number steps.old) (S.entries steps.old) (S.entries steps.new) turns.new result }
     ensures same { (S.of steps.new ≡ S.of steps.old) × (S.number steps.new ≡ S.number steps.old) × GoesOn S.Steps steps.old steps.new }
     ensures spent { Asks turns.old (length (S.entries steps.old)) turns.new (length (S.entries steps.new)) result }
@@ -30,11 +29,11 @@ pub fn ask_where<S: Steps<Ask = Ask, Answer = Answer>>(
 }
 
 /// What an answer says of where the node stands.
-fn place_in(answer: Answer) -> Result<Pos, FollowEnd>
+fn place_in(answer: Answer) -> Result<Whereabouts, FollowEnd>
     ensures { result ≡ place_in answer }
 {
     match answer {
-        Answer::At(pos) => Ok(pos),
+        Answer::At(here) => Ok(here),
         Answer::Refused(refusal) => Err(FollowEnd::Refused(refusal)),
         Answer::Done(_)
         | Answer::Quiet
@@ -44,6 +43,7 @@ fn place_in(answer: Answer) -> Result<Pos, FollowEnd>
         | Answer::Gone
         | Answer::Applied(_)
         | Answer::Held(_)
-        | Answer::Pruned(_) => Err(FollowEnd::OddAnswer),
+        | Answer::Pruned(_)
+        | Answer::Info(_) => Err(FollowEnd::OddAnswer),
     }
 }

@@ -30,7 +30,8 @@ const FRAME_MAX: u64 = 2_147_483_648;
 /// The status of a stream.
 const OK: u16 = 200;
 
-/// Follows the stream of another node over the link, to its end.
+/// Follows the stream of another node over the link, to its end. Its request says what the last file of
+/// the node's log is, or that its position is unknown.
 pub fn follow_link<S: Steps<Ask = Ask, Answer = Answer>, L: Link, C: Clock, P: Pause>(
     alloc: Global,
     steps: &mut S,
@@ -38,14 +39,15 @@ pub fn follow_link<S: Steps<Ask = Ask, Answer = Answer>, L: Link, C: Clock, P: P
     link: &mut L,
     clock: &mut C,
     pause: &mut P,
+    unknown: bool,
     budget: u64,
 ) -> FollowEnd
-    ensures follows { Follows (asker S.Steps C.Clock steps.old clock.old) name.now budget (stand L.Link link.old (S.entries steps.old)) (stand L.Link link.new (S.entries steps.new)) result }
+    ensures follows { Follows (asker S.Steps C.Clock steps.old clock.old) name.now unknown budget (stand L.Link link.old (S.entries steps.old)) (stand L.Link link.new (S.entries steps.new)) result }
     ensures same { AsksOn S.Steps C.Clock steps.old steps.new clock.old clock.new }
     ensures worn { result ≡ ends.Worn → S.is_worn steps.new }
 {
     let mut turns = Turns::new(budget);
-    follow_all(alloc, steps, name, link, clock, pause, &mut turns)
+    follow_all(alloc, steps, name, link, clock, pause, unknown, &mut turns)
 }
 
 /// Asks where the node stands, asks the other for the stream from there on, and follows it.
@@ -56,18 +58,19 @@ fn follow_all<S: Steps<Ask = Ask, Answer = Answer>, L: Link, C: Clock, P: Pause>
     link: &mut L,
     clock: &mut C,
     pause: &mut P,
+    unknown: bool,
     turns: &mut Turns,
 ) -> FollowEnd
-    ensures ends { Ends (asker S.Steps C.Clock steps.old clock.old) name.now (stand L.Link link.old (S.entries steps.old)) (stand L.Link link.new (S.entries steps.new)) turns.new result }
+    ensures ends { Ends (asker S.Steps C.Clock steps.old clock.old) name.now unknown (stand L.Link link.old (S.entries steps.old)) (stand L.Link link.new (S.entries steps.new)) turns.new result }
     ensures same { AsksOn S.Steps C.Clock steps.old steps.new clock.old clock.new }
     ensures spent { Uses {T = Unit {0}} turns.old (stand L.Link link.old (S.entries steps.old)) turns.new (stand L.Link link.new (S.entries steps.new)) (Err result) }
     ensures worn { result ≡ ends.Worn → S.is_worn steps.new }
 {
-    let pos = match ask_where(steps, turns) {
-        Ok(pos) => pos,
+    let here = match ask_where(steps, turns) {
+        Ok(here) => here,
         Err(end) => return end,
     };
-    match send_request(alloc, link, name, pos, turns) {
+    match send_request(alloc, link, name, here, unknown, turns) {
         Ok(()) => {}
         Err(why) => return unsent_by(why),
     }

@@ -103,6 +103,7 @@ fn said_by(answer: Answer) -> Result<(), FollowEnd>
         | Answer::Item { .. }
         | Answer::Gone
         | Answer::Held(_)
-        | Answer::Pruned(_) => Err(FollowEnd::OddAnswer),
+        | Answer::Pruned(_)
+        | Answer::Info(_) => Err(FollowEnd::OddAnswer),
     }
 }

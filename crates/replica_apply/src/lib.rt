@@ -3,6 +3,7 @@
 
 mod applying;
 mod asking;
+mod doubt;
 mod ends;
 mod follow_end;
 mod following;
@@ -13,6 +14,7 @@ mod requesting;
 mod seat;
 
 pub use applying::follow;
+pub use doubt::Doubt;
 pub use follow_end::FollowEnd;
 pub use following::follow_link;
 pub use seat::follow_seat;

@@ -31,10 +31,11 @@ pub fn follow_seat<
     link: &mut L,
     clock: &mut C,
     pause: &mut P,
+    unknown: bool,
     budget: u64,
 ) -> FollowEnd
     requires { IsOf seat.old desk.now }
-    ensures follows { Follows (record { caller = number_of seat.old; may = C.may_give clock.old }) name.now budget (stand L.Link link.old (view seat.old).mine) (stand L.Link link.new (view seat.new).mine) result }
+    ensures follows { Follows (record { caller = number_of seat.old; may = C.may_give clock.old }) name.now unknown budget (stand L.Link link.old (view seat.old).mine) (stand L.Link link.new (view seat.new).mine) result }
     ensures worn { result ≡ ends.Worn → FoundWorn seat.new }
     ensures history { HasGoneOn M.steps (opened_on desk.now) (number_of seat.new) (view seat.old) (view seat.new) }
     ensures seat { IsOf seat.new desk.now × (number_of seat.new ≡ number_of seat.old) }
@@ -47,5 +48,5 @@ pub fn follow_seat<
         desk,
         seat,
     };
-    follow_link(alloc, &mut steps, name, link, clock, pause, budget)
+    follow_link(alloc, &mut steps, name, link, clock, pause, unknown, budget)
 }

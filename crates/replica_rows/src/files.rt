@@ -32,7 +32,15 @@ fn goes_on(alloc: Global, primary: &mut MemNode, from: u8, count: u8) -> Result<
 
 /// The file that a primary owes at a position.
 fn owed_at(primary: &mut MemNode, pos: Pos) -> Result<Ask, Fault> {
-    match asked_by(ask(primary, 0, &Ask::Hello { now: NOW, pos })) {
+    match asked_by(ask(
+        primary,
+        0,
+        &Ask::Hello {
+            now: NOW,
+            pos,
+            last: None,
+        },
+    )) {
         Some(frame) => Ok(frame),
         None => Err(Fault::Owed),
     }

@@ -21,7 +21,15 @@ pub fn asked_by(owed: Answer) -> Option<Ask> {
 /// The follower is given what it is owed next. Whether it took something, and whether it is level.
 fn gives_next(primary: &mut MemNode, follower: &mut MemNode) -> (bool, bool) {
     let pos = position(follower);
-    let owed = ask(primary, 0, &Ask::Hello { now: NOW, pos });
+    let owed = ask(
+        primary,
+        0,
+        &Ask::Hello {
+            now: NOW,
+            pos,
+            last: None,
+        },
+    );
     let is_level = matches!(owed, Answer::Level(_));
     match asked_by(owed) {
         Some(asked) => (

@@ -4,7 +4,7 @@ ghost use Rattle.std.specs.Prelude.{◌≡◌, [], IfOk};
 use crate::fault::Fault;
 use lf_base::{Name, Pos, Text};
 use lf_disk::MemDisk;
-use node_core::{Answer, Ask, Node, NodeConfig};
+use node_core::{Answer, Ask, Node, NodeConfig, Whereabouts};
 use node_recovery::recover;
 use std::alloc::Global;
 use std::mem;
@@ -164,10 +164,18 @@ pub fn ask(node: &mut MemNode, caller: u64, ask: &Ask) -> Answer {
     node.step(caller, ask)
 }
 
+/// Where a node stands, with its last file.
+pub fn whereabouts(node: &mut MemNode) -> Whereabouts {
+    match ask(node, 0, &Ask::Where) {
+        Answer::At(here) => here,
+        _ => Whereabouts {
+            pos: NOWHERE,
+            last: None,
+        },
+    }
+}
+
 /// Where a node stands.
 pub fn position(node: &mut MemNode) -> Pos {
-    match ask(node, 0, &Ask::Where) {
-        Answer::At(position) => position,
-        _ => NOWHERE,
-    }
+    whereabouts(node).pos
 }

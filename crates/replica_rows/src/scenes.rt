@@ -2,7 +2,7 @@
 
 use crate::fault::Fault;
 use crate::nodes::{MemNode, NOWHERE, Part};
-use crate::turns::{Pair, Turn, Who, play};
+use crate::turns::{Pair, Said, Turn, Who, play};
 use fuse_msgs::LockWish;
 use lf_base::Pos;
 
@@ -127,7 +127,36 @@ const REFUSALS: &[Turn] = &[
     Turn::Journal,
 ];
 
-const SCENES: &[&[Turn]] = &[FOLLOWING, PRIMARIES, LOG, READER, DROP, REFUSALS];
+/// Pages 2 and 3 are full of the same byte. An old primary and a new one each fill one of them with
+/// another, so that both come to the same sum. The old one, restarted as a replica, follows: saying
+/// nothing of its last file, and then saying it.
+const FORK: &[Turn] = &[
+    Turn::Title("a fork that the sum can't see"),
+    PRIMARY,
+    REPLICA,
+    Turn::Commit(Who::Primary, &[(1, 0), (2, 0), (3, 0)]),
+    Turn::Follow,
+    Turn::Restart(Who::Replica, Part::Primary),
+    Turn::Commit(Who::Primary, &[(2, 9)]),
+    Turn::Commit(Who::Replica, &[(3, 9)]),
+    Turn::Restart(Who::Replica, Part::Replica),
+    Turn::Title("it says nothing of its last file"),
+    Turn::Follow,
+    Turn::Title("it says its last file"),
+    Turn::Say(Said::LastFile),
+    Turn::Follow,
+    Turn::Title("its last file is the primary's"),
+    Turn::Commit(Who::Primary, &[(1, 1)]),
+    Turn::Follow,
+    Turn::Commit(Who::Primary, &[(1, 2)]),
+    Turn::Follow,
+    Turn::Title("it says that its position is unknown"),
+    Turn::Say(Said::Unknown),
+    Turn::Owe,
+    Turn::Take(Who::Replica),
+];
+
+const SCENES: &[&[Turn]] = &[FOLLOWING, PRIMARIES, LOG, READER, DROP, REFUSALS, FORK];
 
 /// The scenes, one after another. Each begins its nodes anew.
 pub fn print_scenes(
@@ -140,6 +169,7 @@ pub fn print_scenes(
         replica,
         owed: None,
         took: false,
+        said: Said::Nothing,
     };
     for turns in SCENES {
         play(rt, &mut pair, *turns)?;

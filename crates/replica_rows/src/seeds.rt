@@ -51,7 +51,15 @@ fn said_position(cluster: &mut Cluster<'_>, road: &mut Road, who: Who) -> Pos {
 fn sends(cluster: &mut Cluster<'_>, road: &mut Road) -> Result<(), Fault> {
     let who = replica(road);
     let pos = said_position(cluster, road, who);
-    let owed = ask(cluster.primary, 0, &Ask::Hello { now: NOW, pos });
+    let owed = ask(
+        cluster.primary,
+        0,
+        &Ask::Hello {
+            now: NOW,
+            pos,
+            last: None,
+        },
+    );
     match asked_by(owed) {
         Some(frame) => road.send(who, frame),
         None => Ok(()),

@@ -41,13 +41,14 @@ pub fn told_by(alloc: Global, answer: &Answer) -> Told {
     match answer {
         Answer::Done(_) | Answer::Quiet => Told::Word("done"),
         Answer::Refuse(number) => Told::Number(number.0),
-        Answer::At(at) => Told::At("at", *at),
+        Answer::At(here) => Told::At("at", here.pos),
         Answer::Level(at) => Told::At("level at", *at),
         Answer::Item { ltx, after } => file_of(alloc, ltx, *after),
         Answer::Gone => Told::Word("dropped"),
         Answer::Applied(at) => Told::At("applied, at", *at),
         Answer::Held(lock) => Told::Held(*lock),
         Answer::Pruned(count) => Told::Pruned(*count),
+        Answer::Info(info) => Told::At("at", info.pos),
         Answer::Refused(Refusal::Store(StoreFault::NotNext { have, want })) => Told::NotNext {
             have: *have,
             want: *want,

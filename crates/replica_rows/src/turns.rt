@@ -3,12 +3,13 @@
 use crate::clients::{FOLDER, Filled, bytes, commit, creates, does};
 use crate::fault::Fault;
 use crate::levels::asked_by;
-use crate::nodes::{MemNode, NOW, Part, ask, position, renew, restart};
+use crate::nodes::{MemNode, NOW, Part, ask, renew, restart, whereabouts};
 use crate::readers::{opens, reads_around, wishes};
 use crate::told::told_by;
 use fuse_msgs::{LockWish, Op};
 use lf_base::Pos;
-use node_core::{Answer, Ask};
+use node_core::{Answer, Ask, Whereabouts};
+use txn_log::LastFile;
 
 /// More files than a replica here is owed.
 const ENOUGH: u64 = 100;
@@ -18,6 +19,14 @@ const ENOUGH: u64 = 100;
 pub enum Who {
     Primary,
     Replica,
+}
+
+/// What the replica says of its last file where it asks what it is owed.
+#[derive(Clone, Copy)]
+pub enum Said {
+    Nothing,
+    LastFile,
+    Unknown,
 }
 
 #[derive(Clone, Copy)]
@@ -51,6 +60,8 @@ pub enum Turn {
     Lock(LockWish),
     /// It reads before the replica is given what was owed last, and after it.
     ReadAround,
+    /// From now on the replica says this of its last file.
+    Say(Said),
 }
 
 /// Two nodes, what the primary owed the replica last, and whether a node took it.
@@ -60,6 +71,7 @@ pub struct Pair<'a> {
     pub replica: &'a mut MemNode,
     pub owed: Option<Ask>,
     pub took: bool,
+    pub said: Said,
 }
 
 impl Pair<'_> {
@@ -86,9 +98,28 @@ fn commits(rt: HostRuntime, node: &mut MemNode, pages: &[Filled]) -> Result<(), 
     asks(rt, "primary", node, Ask::Where)
 }
 
+/// What the replica says of its last file.
+fn last_said(said: Said, here: Whereabouts) -> Option<LastFile> {
+    match said {
+        Said::Nothing => None,
+        Said::LastFile => here.last,
+        Said::Unknown => Some(LastFile::Unknown),
+    }
+}
+
+/// Where the replica stands, as it says that.
+fn greets(pair: &mut Pair<'_>) -> Ask {
+    let here = whereabouts(pair.replica);
+    Ask::Hello {
+        now: NOW,
+        pos: here.pos,
+        last: last_said(pair.said, here),
+    }
+}
+
 fn owes(rt: HostRuntime, pair: &mut Pair<'_>) -> Result<(), Fault> {
-    let pos = position(pair.replica);
-    let answer = ask(pair.primary, 0, &Ask::Hello { now: NOW, pos });
+    let hello = greets(pair);
+    let answer = ask(pair.primary, 0, &hello);
     says(rt, "primary", &answer)?;
     pair.owed = asked_by(answer);
     Ok(())
@@ -140,6 +171,20 @@ fn prints(rt: HostRuntime, title: &str) -> Result<(), Fault> {
     Ok(())
 }
 
+fn asks_at(rt: HostRuntime, node: &mut MemNode, pos: Pos) -> Result<(), Fault> {
+    let asked = Ask::Hello {
+        now: NOW,
+        pos,
+        last: None,
+    };
+    asks(rt, "primary", node, asked)
+}
+
+fn speaks(pair: &mut Pair<'_>, said: Said) -> Result<(), Fault> {
+    pair.said = said;
+    Ok(())
+}
+
 fn happens(rt: HostRuntime, pair: &mut Pair<'_>, turn: &Turn) -> Result<(), Fault> {
     match *turn {
         Turn::Title(title) => prints(rt, title),
@@ -147,7 +192,7 @@ fn happens(rt: HostRuntime, pair: &mut Pair<'_>, turn: &Turn) -> Result<(), Faul
         Turn::Restart(who, part) => restart(rt.alloc(), pair.node(who), part, 0),
         Turn::Commit(who, pages) => commits(rt, pair.node(who), pages),
         Turn::Follow => follows(rt, pair),
-        Turn::Ask(who, pos) => asks(rt, "primary", pair.node(who), Ask::Hello { now: NOW, pos }),
+        Turn::Ask(who, pos) => asks_at(rt, pair.node(who), pos),
         Turn::Owe => owes(rt, pair),
         Turn::Take(who) => takes(rt, pair, who),
         Turn::Drop => asks(rt, "replica", pair.primary, Ask::Drop { now: NOW }),
@@ -157,6 +202,7 @@ fn happens(rt: HostRuntime, pair: &mut Pair<'_>, turn: &Turn) -> Result<(), Faul
         Turn::Open => opens(rt, pair.replica),
         Turn::Lock(kind) => wishes(rt, pair.replica, kind),
         Turn::ReadAround => reads_around(rt, pair),
+        Turn::Say(said) => speaks(pair, said),
     }
 }
 

@@ -4,6 +4,7 @@ use crate::steps::{Step, Way};
 use crate::stores::{MemStore, made};
 use lf_base::Pos;
 use std::io;
+use txn_log::LastFile;
 
 /// A first commit of a page of zeros.
 const COMMIT: Step = Step::Commit(1, &[(1, 0)]);
@@ -52,7 +53,7 @@ const AROUND: &[Pos] = &[UNKNOWN, NOWHERE];
 /// Prints what followers at these positions are owed.
 fn print_owed(rt: HostRuntime, store: &MemStore, positions: &[Pos]) -> io::Result<()> {
     for position in positions {
-        let answer = store.answer(*position);
+        let answer = store.answer(*position, false);
         println!(rt; "  at ({}, {:x}): {answer:?}", position.txid, position.sum)?;
     }
     Ok(())
@@ -70,6 +71,49 @@ fn print_pruned(rt: HostRuntime, store: &mut MemStore) -> io::Result<()> {
 pub fn print_log(rt: HostRuntime) -> io::Result<()> {
     match made(rt.alloc(), Way::Whole, FOUR) {
         Some(mut store) => print_pruned(rt, &mut store),
+        None => println!(rt; "no log of four"),
+    }
+}
+
+/// The file checksum of the last of the four, by an LTX encoder of another language.
+const LAST_SUM: u64 = 9868616420478503202;
+
+/// What a follower at the end of the log says of its last file.
+const SAID: &[Option<LastFile>] = &[
+    None,
+    Some(LastFile::File {
+        min: 4,
+        max: 4,
+        sum: LAST_SUM,
+    }),
+    Some(LastFile::File {
+        min: 4,
+        max: 4,
+        sum: 1,
+    }),
+    Some(LastFile::File {
+        min: 3,
+        max: 4,
+        sum: 1,
+    }),
+    Some(LastFile::Unknown),
+];
+
+/// What the store says of its last file, and what followers are owed that say something of theirs.
+fn print_said(rt: HostRuntime, store: &mut MemStore) -> io::Result<()> {
+    println!(rt; "the last of four files: {:?}", store.last_file())?;
+    for said in SAID {
+        let doubted = store.doubts(*said).unwrap_or(false);
+        let answer = store.answer(FOURTH, doubted);
+        println!(rt; "  {said:?}: {answer:?}")?;
+    }
+    Ok(())
+}
+
+/// The same of the log of four files.
+pub fn print_last(rt: HostRuntime) -> io::Result<()> {
+    match made(rt.alloc(), Way::Whole, FOUR) {
+        Some(mut store) => print_said(rt, &mut store),
         None => println!(rt; "no log of four"),
     }
 }

@@ -21,6 +21,7 @@ use std::io;
 fn main(rt: HostRuntime) -> io::Result<()> {
     scenes::print_scenes(rt)?;
     answers::print_log(rt)?;
+    answers::print_last(rt)?;
     answers::print_drops(rt)?;
     primaries::print_primaries(rt)?;
     sources::print_sources(rt)?;

@@ -70,7 +70,7 @@ fn take(rt: HostRuntime, old: &mut MemStore, file: &Ltx) -> io::Result<()>
 /// Prints where the old store is, and what it is owed there, and it takes that.
 fn follow(rt: HostRuntime, old: &mut MemStore, new: &mut MemStore) -> io::Result<()> {
     let stands = old.pos();
-    let owed = new.answer(stands);
+    let owed = new.answer(stands, false);
     println!(rt; "  old at ({}, {:x}): {owed:?}", stands.txid, stands.sum)?;
     match owed_file(rt.alloc(), new, owed) {
         Some(file) => take(rt, old, &file),

@@ -1,4 +1,5 @@
-pub mod Wholes
+pub mod Requests
 pub mod Streams
+pub mod Endings
 pub mod Made
 pub mod OneRun

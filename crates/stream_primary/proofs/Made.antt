@@ -3,6 +3,7 @@ use Rattle.std.proofs.Common.{◌≡◌, ◌≢◌, ◌⊎◌, inl, inr, Bool, t
 use Rattle.lf_base.specs.declared.pos.Pos.{Pos}
 use Rattle.link_session.specs.Stands.{Asker}
 use Rattle.node_core.specs.declared.answer.Answer.{Answer}
+use Rattle.node_core.specs.declared.whereabouts.Whereabouts.{Whereabouts}
 use Rattle.node_core.specs.declared.answer.Answer.TheVariants as answer
 use Rattle.stream_wire.specs.declared.frame.Frame.TheVariants as frame
 use Rattle.stream_wire.specs.Frame.{frame_text}
@@ -94,8 +95,8 @@ abbrev head : List ℕ
 head = reply_head 200 None
 
 -- a head was sent to the follower at this position, and nothing behind it
-abbrev headed : Pos → Standing
-headed pos = record { pos = pos; sent = sent.Head }
+abbrev headed : Whereabouts → Standing
+headed from = record { here = from; sent = sent.Head }
 
 first_words : (name : List ℕ) (given : Answer) → IsTrue (goes_on given) → words name sent.Nothing given ≡ head ++ words name sent.Head given
 first_words name (answer.Item ltx after) goes = refl
@@ -103,7 +104,7 @@ first_words name answer.Gone goes = refl
 first_words name (answer.Level pos) goes = refl
 first_words name given goes = no_stream goes
 
-first_next : (from : Pos) (given : Answer) → IsTrue (goes_on given) → next (standing_at from) given ≡ next (headed from) given
+first_next : (from : Whereabouts) (given : Answer) → IsTrue (goes_on given) → next (standing_at from) given ≡ next (headed from) given
 first_next from (answer.Item ltx after) goes = refl
 first_next from answer.Gone goes = refl
 first_next from (answer.Level pos) goes = refl
@@ -117,7 +118,7 @@ with_head name one more bytes rest is (never all same) = behind_all (some_hellos
 with_head name one more bytes rest is (level front pos back at same) = level_at front pos back at (is ∙ ap (λ (l : List ℕ). head ++ l) same)
 
 -- what was sent for Hellos that were all told
-pub made_of : (who : Asker) (name : List ℕ) (from : Pos) (hellos : List NodeEntry) → AreHellos who (standing_at from) hellos → IsMadeOf name hellos (sent_by name (standing_at from) hellos)
+pub made_of : (who : Asker) (name : List ℕ) (from : Whereabouts) (hellos : List NodeEntry) → AreHellos who (standing_at from) hellos → IsMadeOf name hellos (sent_by name (standing_at from) hellos)
 made_of who name from [] all = nothing refl refl
 made_of who name from (one ∷ more) all =
     let then : next (standing_at from) one.answer ≡ next (headed from) one.answer = first_next from one.answer all.1 in

@@ -17,10 +17,12 @@ use Rattle.link_session.specs.Seats.{HasGoneOn}
 use Rattle.link_session.specs.Stands.{Asker, IsStill, Stand}
 use Rattle.link_session.proofs.Runs.{has_run}
 use Rattle.node_core.specs.declared.answer.Answer.{Answer}
+use Rattle.node_core.specs.declared.whereabouts.Whereabouts.{Whereabouts}
 use Rattle.node_core.specs.declared.answer.Answer.TheVariants as answer
 use Rattle.node_core.specs.declared.ask.Ask.{Ask}
 use Rattle.node_core.specs.declared.ask.Ask.TheVariants as ask
 use Rattle.node_core.specs.declared.node.Node.{Node}
+use Rattle.world_laws.specs.declared.last_file.LastFile.{LastFile}
 use Rattle.node_core.specs.Hello.{AnswersHello, TellsFollower}
 use Rattle.node_core.specs.Nodes.{NodeParts, history, parts_of}
 use Rattle.node_core.specs.Steps.{Does, IsStep}
@@ -66,7 +68,7 @@ stopped_still who name at place new still = record {
 }
 
 -- it was, and this front of its words was written
-stopped_at : (who : Asker) (name : List ℕ) (at : Standing) (given : Answer) (place new : Place NodeEntry) (part : List ℕ) → AsksHello who at.pos given place.entries new.entries
+stopped_at : (who : Asker) (name : List ℕ) (at : Standing) (given : Answer) (place new : Place NodeEntry) (part : List ℕ) → AsksHello who at.here given place.entries new.entries
     → StartsWith (words name at.sent given) part → Appends place.taken new.taken part → Stopped who name at place new
 stopped_at who name at given place new part hello starts written = record {
   last = hello.one ∷ [];
@@ -96,7 +98,7 @@ stopped who name at place new before now turns ends.ReadFault e = absurd e
 stopped who name at place new before now turns ends.BadMessage e = absurd e
 
 -- what a stream came to, and that its entries are behind those from before
-pub comes_to : (who : Asker) (name : List ℕ) (from : Pos) (old new : Stand NodeEntry) (turns : ℕ) (end : SessionEnd) → Streams who name from old new turns end
+pub comes_to : (who : Asker) (name : List ℕ) (from : Whereabouts) (old new : Stand NodeEntry) (turns : ℕ) (end : SessionEnd) → Streams who name from old new turns end
     → (told : List NodeEntry) × (last : List NodeEntry) × (new.place.entries ≡ old.place.entries ++ (told ++ last)) × ComesTo who name from old.place new.place told last
 comes_to who name from old new turns end s =
     let told : List NodeEntry = s.rounds.hellos in
@@ -117,28 +119,28 @@ comes_to who name from old new turns end s =
 
 -- ---- what the log owed
 
-owes : (start : History) (old : NodeParts) (from : Pos) (given : Answer) (new : StoreFields) → TellsFollower start old from given new → IsTrue (goes_on given) → Owes start old.store from given
+owes : (start : History) (old : NodeParts) (from : Whereabouts) (given : Answer) (new : StoreFields) → TellsFollower start old from.pos from.last given new → IsTrue (goes_on given) → Owes start old.store from given
 owes start old from (answer.Level here) new tells goes = (tells.1, tells.2)
 owes start old from (answer.Item ltx to) new tells goes = tells.1
 owes start old from answer.Gone new tells goes = tells.1
 owes start old from given new tells goes = absurd (let no : false ≡ true = goes in cc)
 
-answer_owes : {start end : History} {old new : NodeParts} {from : Pos} {given : Answer} → AnswersHello start old from given end new → IsTrue (goes_on given) → Owes start old.store from given
-answer_owes {start = start} {old = old} {new = new} {from = from} {given = given} answers goes = owes start old from given new.store answers.tells goes
+answer_owes : {start end : History} {old new : NodeParts} (from : Whereabouts) {given : Answer} → AnswersHello start old from.pos from.last given end new → IsTrue (goes_on given) → Owes start old.store from given
+answer_owes {start = start} {old = old} {new = new} from {given = given} answers goes = owes start old from given new.store answers.tells goes
 
 module _ {D : Type 0} {G : Ghosts D} where
   abbrev pub node_steps : Node D G → ℕ → Ask → Answer → Node D G → Type 0
   node_steps old caller ask answer new = IsStep (history old) (parts_of old) caller ask answer (history new) (parts_of new)
 
   -- a Hello
-  hello_owes : (who : Asker) (pos : Pos) (hello : MadeStep (Node D G) Ask Answer) → IsHello who pos hello.entry → IsMade node_steps hello → IsTrue (goes_on hello.entry.answer)
-      → Owes (history hello.before) (parts_of hello.before).store pos hello.entry.answer
-  hello_owes who pos hello is made goes =
+  hello_owes : (who : Asker) (here : Whereabouts) (hello : MadeStep (Node D G) Ask Answer) → IsHello who here hello.entry → IsMade node_steps hello → IsTrue (goes_on hello.entry.answer)
+      → Owes (history hello.before) (parts_of hello.before).store here hello.entry.answer
+  hello_owes who here hello is made goes =
       let start : History = history hello.before in
       let old : NodeParts = parts_of hello.before in
-      let does : Does start old hello.entry.caller (ask.Hello is.now pos) hello.entry.answer (history hello.after) (parts_of hello.after) =
+      let does : Does start old hello.entry.caller (ask.Hello is.now here.pos here.last) hello.entry.answer (history hello.after) (parts_of hello.after) =
       subst (λ (q : Ask). Does start old hello.entry.caller q hello.entry.answer (history hello.after) (parts_of hello.after)) is.asked made.does in
-      answer_owes does goes
+      answer_owes here does goes
 
   -- the last one
   last_owed : (who : Asker) (name : List ℕ) (at : Standing) (last : List (MadeStep (Node D G) Ask Answer)) (part : List ℕ) → AllByRecursion (IsMade node_steps) last → EndsBehind who name at (entries_of last) part
@@ -148,7 +150,7 @@ module _ {D : Type 0} {G : Ghosts D} where
   last_owed who name at (s ∷ []) part each (asked one is hello starts) =
       let is_one : s.entry ∷ [] ≡ one ∷ [] = is in
       let same : s.entry ≡ one = cc in
-      (λ goes. hello_owes who at.pos s (subst (λ (e : NodeEntry). IsHello who at.pos e) (sym same) hello) each.0 goes, tt)
+      (λ goes. hello_owes who at.here s (subst (λ (e : NodeEntry). IsHello who at.here e) (sym same) hello) each.0 goes, tt)
   last_owed who name at (s ∷ t ∷ more) part each (unasked none empty) = absurd (let no : s.entry ∷ t.entry ∷ entries_of more ≡ [] = none in cc)
   last_owed who name at (s ∷ t ∷ more) part each (asked one is hello starts) = absurd (let no : s.entry ∷ t.entry ∷ entries_of more ≡ one ∷ [] = is in cc)
 
@@ -157,7 +159,7 @@ module _ {D : Type 0} {G : Ghosts D} where
       → AreOwed (behind at (entries_of told)) last → AreOwed at (told ++ last)
   are_owed who at [] last hellos each rest = rest
   are_owed who at (one ∷ told) last hellos each rest =
-      (λ goes. hello_owes who at.pos one hellos.0 each.0 goes, are_owed who (next at one.entry.answer) told last hellos.2 each.1 rest)
+      (λ goes. hello_owes who at.here one hellos.0 each.0 goes, are_owed who (next at one.entry.answer) told last hellos.2 each.1 rest)
 
   -- in one run of its node
   pub in_one_run : StreamsAreInOneRun node_steps
@@ -196,15 +198,15 @@ last_front who name at last part (asked one is hello starts) =
 
 -- at some moment, of some position
 abbrev pub IsHelloAsk : NodeEntry → Type 0
-IsHelloAsk one = (now : ℕ) × (pos : Pos) × (one.ask ≡ ask.Hello now pos)
+IsHelloAsk one = (now : ℕ) × (pos : Pos) × (last : Option LastFile) × (one.ask ≡ ask.Hello now pos last)
 
 hellos_ask : (who : Asker) (name : List ℕ) (at : Standing) (told last : List NodeEntry) (part : List ℕ) → AreHellos who at told → EndsBehind who name (behind at told) last part
     → AllByRecursion IsHelloAsk (told ++ last)
 hellos_ask who name at [] last part all (unasked none empty) = subst (λ (es : List NodeEntry). AllByRecursion IsHelloAsk es) (sym none) tt
-hellos_ask who name at [] last part all (asked one is hello starts) = subst (λ (es : List NodeEntry). AllByRecursion IsHelloAsk es) (sym is) ((hello.now, at.pos, hello.asked), tt)
-hellos_ask who name at (one ∷ told) last part all ends = ((all.0.now, at.pos, all.0.asked), hellos_ask who name (next at one.answer) told last part all.2 ends)
+hellos_ask who name at [] last part all (asked one is hello starts) = subst (λ (es : List NodeEntry). AllByRecursion IsHelloAsk es) (sym is) ((hello.now, at.here.pos, at.here.last, hello.asked), tt)
+hellos_ask who name at (one ∷ told) last part all ends = ((all.0.now, at.here.pos, at.here.last, all.0.asked), hellos_ask who name (next at one.answer) told last part all.2 ends)
 
-pub told_front : (who : Asker) (name : List ℕ) (from : Pos) (old new : Stand NodeEntry) (turns : ℕ) (end : SessionEnd) → Streams who name from old new turns end
+pub told_front : (who : Asker) (name : List ℕ) (from : Whereabouts) (old new : Stand NodeEntry) (turns : ℕ) (end : SessionEnd) → Streams who name from old new turns end
     → (hellos : List NodeEntry) × (bytes : List ℕ) × (new.place.entries ≡ old.place.entries ++ hellos) × AllByRecursion IsHelloAsk hellos
     × Appends old.place.taken new.place.taken bytes × StartsWith (sent_by name (standing_at from) hellos) bytes
 told_front who name from old new turns end s =

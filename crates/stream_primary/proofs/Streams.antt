@@ -1,9 +1,7 @@
 -- Streams: what was sent so far, and how they end.
-use Rattle.std.proofs.Common.{◌≡◌, inl, inr, ℕ, ◌+◌, Bool, true, false, IsTrue, List, [], ◌∷◌, ◌++◌, length, take, Option, Result, Ok, Err, OnOk, OnErr, refl, sym, ap, ◌∙◌, subst, append_assoc, append-nil, length-append, arith}
+use Rattle.std.proofs.Common.{◌≡◌, inl, inr, ℕ, Bool, true, false, IsTrue, List, [], ◌∷◌, ◌++◌, Option, Some, None, Result, Ok, Err, refl, sym, ap, ◌∙◌, subst, append_assoc, append-nil}
 use Rattle.std.specs.Io.KnownBytes.{Appends, Keeps}
 use Rattle.std.proofs.KnownBytes.{Appends-kept, Appends-nil, Appends-trans, Keeps-refl}
-use Rattle.std.proofs.lemmas.List.{take-append-le}
-use Rattle.std.proofs.Math.Seq.{take-append-add}
 use Rattle.lf_base.specs.declared.pos.Pos.{Pos}
 use Rattle.lf_base.specs.declared.session_end.SessionEnd.{SessionEnd}
 use Rattle.lf_base.specs.declared.session_end.SessionEnd.TheVariants as ends
@@ -12,42 +10,16 @@ use Rattle.link_session.specs.Rounds.{Place}
 use Rattle.link_session.specs.Stands.{Asker, Stand}
 use Rattle.link_session.specs.Writing.{AppendsPart}
 use Rattle.node_core.specs.declared.answer.Answer.{Answer}
+use Rattle.node_core.specs.declared.whereabouts.Whereabouts.{Whereabouts}
 use Rattle.stream_primary.specs.declared.standing.Standing.{Standing}
 use Rattle.stream_primary.specs.Telling.{goes_on, next, standing_at, words}
 use Rattle.stream_primary.specs.Streaming.{NodeEntry, AreHellos, AsksHello, EndsRound, EndsTelling, IsHello, OwesStill, Streamed, Streams, behind, sent_by}
-use Rattle.stream_primary.proofs.Wholes.{kept_appends}
-
--- ---- two texts, one behind the other
-
-pub part_of_front : (old new : Option (List ℕ)) (front back : List ℕ) → AppendsPart old new front → AppendsPart old new (front ++ back)
-part_of_front old new front back a = (
-  a.0,
-  omega (arith, length-append front back, a.1),
-  subst (λ (text : List ℕ). Appends old new text) (sym (take-append-le a.0 front back (omega (arith, a.1)))) a.2,
-)
-
-pub part_of_back : (old mid new : Option (List ℕ)) (front back : List ℕ) → Appends old mid front → AppendsPart mid new back → AppendsPart old new (front ++ back)
-part_of_back old mid new front back w a = (
-  length front + a.0,
-  omega (arith, length-append front back, a.1),
-  subst (λ (text : List ℕ). Appends old new text) (sym (take-append-add front back a.0)) (Appends-trans old mid new front (take a.0 back) w a.2),
-)
-
-pub both_written : {T F : Type 0} (old mid new : Option (List ℕ)) (front back : List ℕ) (r : Result T F) → Appends old mid front → OnOk r (Appends mid new back)
-    → OnOk r (Appends old new (front ++ back))
-both_written old mid new front back (Ok x) w a = Appends-trans old mid new front back w a
-both_written old mid new front back (Err e) w a = tt
-
-pub back_in_part : {T F : Type 0} (old mid new : Option (List ℕ)) (front back : List ℕ) (r : Result T F) → Appends old mid front → OnErr r (AppendsPart mid new back)
-    → OnErr r (AppendsPart old new (front ++ back))
-back_in_part old mid new front back (Ok x) w a = tt
-back_in_part old mid new front back (Err e) w a = part_of_back old mid new front back w a
 
 -- ---- one Hello
 
 -- it was asked, and so its answer was sent
 pub sent_on : (who : Asker) (name : List ℕ) (at : Standing) (given : Answer) (old new : Place NodeEntry) (before now turns : ℕ) (r : Result Standing SessionEnd)
-    → AsksHello who at.pos given old.entries new.entries → EndsTelling name at given old.taken new.taken before now turns r
+    → AsksHello who at.here given old.entries new.entries → EndsTelling name at given old.taken new.taken before now turns r
     → EndsRound who name at old new before now turns r
 sent_on who name at given old new before now turns (Ok then) h t = (given, record { hello = h; written = t.0 }, t.1, t.2, t.3)
 sent_on who name at given old new before now turns (Err ends.Closed) h t = (given, record { hello = h; written = t.0 }, t.1, t.2)
@@ -83,7 +55,7 @@ none_sent who name start place = record {
   asked = sym (append-nil place.entries);
 }
 
-each_pushed : (who : Asker) (start : Standing) (hellos : List NodeEntry) (one : NodeEntry) → AreHellos who start hellos → IsHello who (behind start hellos).pos one
+each_pushed : (who : Asker) (start : Standing) (hellos : List NodeEntry) (one : NodeEntry) → AreHellos who start hellos → IsHello who (behind start hellos).here one
     → IsTrue (goes_on one.answer) → AreHellos who start (hellos ++ one ∷ [])
 each_pushed who start [] one all h g = (h, g, tt)
 each_pushed who start (x ∷ xs) one all h g = (all.0, all.1, each_pushed who (next start x.answer) xs one all.2 h g)
@@ -113,7 +85,7 @@ one_sent who who_now name start at then old mid new before now turns by s sent =
     let same : one.answer ≡ given = e.1.hello.answered in
     record {
       hellos = s.hellos ++ one ∷ [];
-      each = each_pushed who start s.hellos one s.each (subst (λ (st : Standing). IsHello who st.pos one) s.stands e.1.hello.hello)
+      each = each_pushed who start s.hellos one s.each (subst (λ (st : Standing). IsHello who st.here one) s.stands e.1.hello.hello)
           (is_true (goes_on one.answer) (ap goes_on same ∙ e.2));
       stands = e.3 ∙ ap (λ (st : Standing). next st given) s.stands ∙ ap (λ (a : Answer). next (behind start s.hellos) a) (sym same)
           ∙ sym (behind_pushed start s.hellos one);
@@ -125,8 +97,14 @@ one_sent who who_now name start at then old mid new before now turns by s sent =
       asked = e.1.hello.asked ∙ ap (λ (es : List NodeEntry). es ++ one ∷ []) s.asked ∙ append_assoc old.entries s.hellos (one ∷ []);
     }
 
+pub kept_appends : (old mid new : Option (List ℕ)) (bytes : List ℕ) → Keeps old mid → Appends mid new bytes → Appends old new bytes
+kept_appends None mid new bytes k a = tt
+kept_appends (Some x) None new bytes k a = absurd k
+kept_appends (Some x) (Some y) None bytes k a = absurd a
+kept_appends (Some x) (Some y) (Some z) bytes k a = a ∙ ap (λ xs. xs ++ bytes) k
+
 -- the stream begins where the request was read
-pub stream_from : (who : Asker) (name : List ℕ) (from : Pos) (old mid new : Stand NodeEntry) (turns : ℕ) (end : SessionEnd) → Keeps old.place.taken mid.place.taken
+pub stream_from : (who : Asker) (name : List ℕ) (from : Whereabouts) (old mid new : Stand NodeEntry) (turns : ℕ) (end : SessionEnd) → Keeps old.place.taken mid.place.taken
     → mid.place.entries ≡ old.place.entries → mid.faults ≡ old.faults → Streams who name from mid new turns end → Streams who name from old new turns end
 stream_from who name from old mid new turns end kept entries faults s = record {
   at = s.at;
@@ -142,7 +120,7 @@ stream_from who name from old mid new turns end kept entries faults s = record {
 }
 
 -- want of memory drops nothing
-pub owes_still : (who : Asker) (name : List ℕ) (from : Pos) (old new : Stand NodeEntry) (turns : ℕ) → Streams who name from old new turns ends.NoMemory
+pub owes_still : (who : Asker) (name : List ℕ) (from : Whereabouts) (old new : Stand NodeEntry) (turns : ℕ) → Streams who name from old new turns ends.NoMemory
     → OwesStill who name from old.place new.place
 owes_still who name from old new turns s =
     let unsent = s.last.0.1 in
@@ -153,5 +131,5 @@ owes_still who name from old new turns s =
       each = s.rounds.each;
       written = Appends-kept old.place.taken s.place.taken new.place.taken (sent_by name (standing_at from) s.rounds.hellos) s.rounds.written unsent.written;
       asked = unsent.hello.asked ∙ ap (λ (es : List NodeEntry). es ++ one ∷ []) s.rounds.asked ∙ append_assoc old.place.entries s.rounds.hellos (one ∷ []);
-      again = subst (λ (st : Standing). IsHello who st.pos one) s.rounds.stands unsent.hello.hello;
+      again = subst (λ (st : Standing). IsHello who st.here one) s.rounds.stands unsent.hello.hello;
     }

@@ -12,13 +12,13 @@ use Rattle.link_session.specs.Rounds.{Place}
 use Rattle.link_session.specs.Runs.{IsInRun, MadeStep, entries_of}
 use Rattle.link_session.specs.Seats.{HasGoneOn}
 use Rattle.link_session.specs.Stands.{Asker, Stand}
-use Rattle.txn_log.specs.Answering.{Answers}
 use Rattle.txn_log.specs.declared.answer.Answer.TheVariants as owed
 use Rattle.node_core.specs.declared.answer.Answer.{Answer}
 use Rattle.node_core.specs.declared.answer.Answer.TheVariants as answer
 use Rattle.node_core.specs.declared.ask.Ask.{Ask}
 use Rattle.node_core.specs.declared.node.Node.{Node}
-use Rattle.node_core.specs.Hello.{IsFirstFile, IsWholeDatabase}
+use Rattle.node_core.specs.declared.whereabouts.Whereabouts.{Whereabouts}
+use Rattle.node_core.specs.Hello.{IsFirstFile, IsOwed, IsWholeDatabase}
 use Rattle.node_core.specs.Nodes.{history, parts_of}
 use Rattle.node_core.specs.Stores.{StoreFields, position}
 use Rattle.stream_wire.specs.declared.frame.Frame.TheVariants as frame
@@ -28,12 +28,12 @@ use Rattle.stream_primary.specs.declared.standing.Standing.{Standing}
 use Rattle.stream_primary.specs.Streaming.{AreHellos, IsHello, NodeEntry, Streams, behind}
 use Rattle.stream_primary.specs.Telling.{goes_on, next, standing_at, words}
 
--- WHAT THE LOG OWES a follower at this position: nothing, where it stands where the store does; word that the database was dropped;
--- the first file that leads on, or the whole database where the log does not know the position
-abbrev pub Owes : History → StoreFields → Pos → Answer → Type 0
-Owes start store from (answer.Level here) = (here ≡ position store) × Answers store.entries store.dropped from owed.Level
-Owes start store from answer.Gone = Answers store.entries store.dropped from owed.Gone
-Owes start store from (answer.Item ltx to) = IsFirstFile start store from ltx to ⊎ IsWholeDatabase start store from ltx to
+-- WHAT THE LOG OWES a follower that says that it stands here: nothing, where it stands where the store does; word that the database
+-- was dropped; the first file that leads on, or the whole database where the log does not know the position, or it counts as unknown
+abbrev pub Owes : History → StoreFields → Whereabouts → Answer → Type 0
+Owes start store from (answer.Level here) = (here ≡ position store) × IsOwed start store from.pos from.last owed.Level
+Owes start store from answer.Gone = IsOwed start store from.pos from.last owed.Gone
+Owes start store from (answer.Item ltx to) = IsFirstFile start store from.pos from.last ltx to ⊎ IsWholeDatabase start store from.pos from.last ltx to
 Owes start store from _ = ⊥
 
 module _ {D : Type 0} {G : Ghosts D} where
@@ -42,7 +42,7 @@ module _ {D : Type 0} {G : Ghosts D} where
   abbrev pub AreOwed : Standing → List (MadeStep (Node D G) Ask Answer) → Type 0
   AreOwed at [] = Unit {0}
   AreOwed at (hello ∷ more) =
-      (IsTrue (goes_on hello.entry.answer) → Owes (history hello.before) (parts_of hello.before).store at.pos hello.entry.answer)
+      (IsTrue (goes_on hello.entry.answer) → Owes (history hello.before) (parts_of hello.before).store at.here hello.entry.answer)
       × AreOwed (next at hello.entry.answer) more
 
 -- the frame of a file or of a drop
@@ -82,10 +82,10 @@ pub data IsMadeOf (name : List ℕ) (hellos : List NodeEntry) (bytes : List ℕ)
 -- written
 pub data EndsBehind (who : Asker) (name : List ℕ) (at : Standing) (last : List NodeEntry) (part : List ℕ) : Type 0 where
   unasked : last ≡ [] → part ≡ [] → EndsBehind who name at last part
-  asked : (one : NodeEntry) → last ≡ one ∷ [] → IsHello who at.pos one → StartsWith (words name at.sent one.answer) part → EndsBehind who name at last part
+  asked : (one : NodeEntry) → last ≡ one ∷ [] → IsHello who at.here one → StartsWith (words name at.sent one.answer) part → EndsBehind who name at last part
 
 -- WHAT A STREAM CAME TO: Hellos that were told whole, and perhaps one more; and the bytes
-pub record ComesTo (who : Asker) (name : List ℕ) (from : Pos) (old new : Place NodeEntry) (told last : List NodeEntry) : Type 0 where
+pub record ComesTo (who : Asker) (name : List ℕ) (from : Whereabouts) (old new : Place NodeEntry) (told last : List NodeEntry) : Type 0 where
   pub hellos : AreHellos who (standing_at from) told
   pub bytes : List ℕ
   pub made_of : IsMadeOf name told bytes
@@ -95,7 +95,7 @@ pub record ComesTo (who : Asker) (name : List ℕ) (from : Pos) (old new : Place
 
 module _ {D : Type 0} {G : Ghosts D} (steps : Node D G → ℕ → Ask → Answer → Node D G → Type 0) where
   -- A STREAM IN ONE RUN of its node: these steps of the run are its Hellos, and each is told what the log owed at its place
-  pub record IsInOneRun (opened : Node D G) (who : Asker) (name : List ℕ) (from : Pos) (before after : SeatView (Node D G) Ask Answer) (old new : Place NodeEntry) : Type 0 where
+  pub record IsInOneRun (opened : Node D G) (who : Asker) (name : List ℕ) (from : Whereabouts) (before after : SeatView (Node D G) Ask Answer) (old new : Place NodeEntry) : Type 0 where
     pub told : List (MadeStep (Node D G) Ask Answer)
     pub last : List (MadeStep (Node D G) Ask Answer)
     pub run : IsInRun steps opened who.caller before after (told ++ last)
@@ -104,6 +104,6 @@ module _ {D : Type 0} {G : Ghosts D} (steps : Node D G → ℕ → Ask → Answe
 
   -- each stream of a seat that stands at a desk is
   abbrev pub StreamsAreInOneRun : Type 0
-  StreamsAreInOneRun = (opened : Node D G) (who : Asker) (name : List ℕ) (from : Pos) (old new : Stand NodeEntry) (turns : ℕ) (end : SessionEnd)
+  StreamsAreInOneRun = (opened : Node D G) (who : Asker) (name : List ℕ) (from : Whereabouts) (old new : Stand NodeEntry) (turns : ℕ) (end : SessionEnd)
       (before after : SeatView (Node D G) Ask Answer) → Streams who name from old new turns end → HasGoneOn steps opened who.caller before after
       → old.place.entries ≡ before.mine → new.place.entries ≡ after.mine → IsInOneRun opened who name from before after old.place new.place

@@ -1,21 +1,16 @@
 -- The reply to what is refused: a status, and as body the refusal's name.
-use Rattle.std.specs.Prelude.{◌≡◌, ℕ, List, [], ◌∷◌, ◌++◌, codes, length, Option, Some}
+use Rattle.std.specs.Prelude.{◌≡◌, ℕ, List, [], ◌∷◌, ◌++◌, codes, Option, Err}
 use Rattle.std.specs.Io.KnownBytes.{Appends}
-use Rattle.lf_base.specs.Faults.{Rose}
 use Rattle.lf_base.specs.declared.session_end.SessionEnd.{SessionEnd}
 use Rattle.lf_base.specs.declared.session_end.SessionEnd.TheVariants as ends
-use Rattle.link_session.specs.Writing.{AppendsPart}
+use Rattle.link_session.specs.Stands.{Stand}
+use Rattle.http_exchange.specs.Writing.{reply, EndsSending}
 use Rattle.node_core.specs.declared.answer.Answer.{Answer}
 use Rattle.node_core.specs.declared.answer.Answer.TheVariants as answer
 use Rattle.node_core.specs.declared.refusal.Refusal.{Refusal}
 use Rattle.node_core.specs.declared.refusal.Refusal.TheVariants as refusal
-use Rattle.stream_wire.specs.Writing.{reply_head}
 use Rattle.txn_log.specs.declared.fault.StoreFault.{StoreFault}
 use Rattle.txn_log.specs.declared.fault.StoreFault.TheVariants as store
-
--- a reply with a body
-abbrev pub reply : ℕ → List ℕ → List ℕ
-reply status body = reply_head status (Some (length body)) ++ body
 
 abbrev pub store_status : StoreFault → ℕ
 store_status store.Disk = 500
@@ -53,9 +48,13 @@ name_of (refusal.Store fault) = store_name fault
 name_of refusal.Absent = codes "Absent"
 name_of refusal.NoMemory = codes "NoMemory"
 
--- the reply to a refusal: its name and a newline
+-- the line that names it
+abbrev pub line_of : Refusal → List ℕ
+line_of refused = name_of refused ++ 10 ∷ []
+
+-- the reply to it
 abbrev pub refusal_reply : Refusal → List ℕ
-refusal_reply refused = reply (status_of refused) (name_of refused ++ 10 ∷ [])
+refusal_reply refused = reply (status_of refused) (line_of refused)
 
 -- the reply where the node's answer is none to a Hello, which no refusal has
 abbrev pub odd_reply : List ℕ
@@ -66,10 +65,16 @@ abbrev pub refused_reply : Answer → List ℕ
 refused_reply (answer.Refused refused) = refusal_reply refused
 refused_reply _ = odd_reply
 
--- how a request ends that is answered by this text alone, and what became of the count of faults
+-- the reply to a request whose body is longer than its call keeps
+abbrev pub too_long_reply : List ℕ
+too_long_reply = reply 413 (codes "TooLong\n")
+
+-- how a session ends whose last words are this text, and what became of it and of the count of faults
 abbrev pub EndsReply : List ℕ → Option (List ℕ) → Option (List ℕ) → ℕ → ℕ → ℕ → SessionEnd → Type 0
 EndsReply text old new before now turns ends.Closed = Appends old new text × (now ≡ before)
-EndsReply text old new before now turns ends.WriteFault = AppendsPart old new text × Rose before now
-EndsReply text old new before now turns ends.Turns = AppendsPart old new text × (turns ≡ 0) × (now ≡ before)
-EndsReply text old new before now turns ends.NoMemory = AppendsPart old new text × (now ≡ before)
-EndsReply text old new before now turns _ = ⊥
+EndsReply text old new before now turns end = EndsSending {T = Unit {0}} text old new before now turns (Err end)
+
+-- this text is the reply, and nothing was asked
+pub record AnswersUnasked {E : Type 0} (text : List ℕ) (old new : Stand E) (turns : ℕ) (end : SessionEnd) : Type 0 where
+  pub written : EndsReply text old.place.taken new.place.taken old.faults new.faults turns end
+  pub unasked : new.place.entries ≡ old.place.entries

@@ -2,7 +2,6 @@
 use Rattle.std.specs.Prelude.{◌≡◌, ◌⊎◌, ℕ, true, false, IsTrue, List, [], ◌∷◌, ◌++◌, Option, Result, Ok, Err}
 use Rattle.std.specs.Io.KnownBytes.{Appends, Keeps}
 use Rattle.lf_base.specs.Faults.{Rose}
-use Rattle.lf_base.specs.declared.pos.Pos.{Pos}
 use Rattle.lf_base.specs.declared.session_end.SessionEnd.{SessionEnd}
 use Rattle.lf_base.specs.declared.session_end.SessionEnd.TheVariants as ends
 use Rattle.turn_desk.specs.declared.history.Entry.{Entry}
@@ -12,6 +11,7 @@ use Rattle.link_session.specs.Writing.{AppendsPart}
 use Rattle.node_core.specs.declared.ask.Ask.{Ask}
 use Rattle.node_core.specs.declared.ask.Ask.TheVariants as ask
 use Rattle.node_core.specs.declared.answer.Answer.{Answer}
+use Rattle.node_core.specs.declared.whereabouts.Whereabouts.{Whereabouts}
 use Rattle.stream_primary.specs.declared.standing.Standing.{Standing}
 use Rattle.stream_primary.specs.Telling.{goes_on, next, standing_at, words}
 
@@ -19,17 +19,17 @@ use Rattle.stream_primary.specs.Telling.{goes_on, next, standing_at, words}
 abbrev pub NodeEntry : Type 0
 NodeEntry = Entry Ask Answer
 
--- a Hello at this position, at a moment that the clock may give
-pub record IsHello (who : Asker) (pos : Pos) (one : NodeEntry) : Type 0 where
+-- a Hello of a follower that stands here, at a moment that the clock may give
+pub record IsHello (who : Asker) (here : Whereabouts) (one : NodeEntry) : Type 0 where
   pub caller : one.caller ≡ who.caller
   pub now : ℕ
   pub given : IsTrue (who.may now)
-  pub asked : one.ask ≡ ask.Hello now pos
+  pub asked : one.ask ≡ ask.Hello now here.pos here.last
 
 -- HELLOS, each at the position that those before it led to, and each with an answer with which the stream goes on
 abbrev pub AreHellos : Asker → Standing → List NodeEntry → Type 0
 AreHellos who at [] = Unit {0}
-AreHellos who at (one ∷ more) = IsHello who at.pos one × IsTrue (goes_on one.answer) × AreHellos who (next at one.answer) more
+AreHellos who at (one ∷ more) = IsHello who at.here one × IsTrue (goes_on one.answer) × AreHellos who (next at one.answer) more
 
 -- how the follower stands behind them
 abbrev pub behind : Standing → List NodeEntry → Standing
@@ -50,25 +50,25 @@ pub record Streamed (who : Asker) (name : List ℕ) (start at : Standing) (old n
   pub asked : new.entries ≡ old.entries ++ hellos
 
 -- one Hello more was asked
-pub record AsksHello (who : Asker) (pos : Pos) (given : Answer) (old new : List NodeEntry) : Type 0 where
+pub record AsksHello (who : Asker) (here : Whereabouts) (given : Answer) (old new : List NodeEntry) : Type 0 where
   pub one : NodeEntry
-  pub hello : IsHello who pos one
+  pub hello : IsHello who here one
   pub answered : one.answer ≡ given
   pub asked : new ≡ old ++ one ∷ []
 
 -- and its answer sent
 pub record IsRound (who : Asker) (name : List ℕ) (at : Standing) (given : Answer) (old new : Place NodeEntry) : Type 0 where
-  pub hello : AsksHello who at.pos given old.entries new.entries
+  pub hello : AsksHello who at.here given old.entries new.entries
   pub written : Appends old.taken new.taken (words name at.sent given)
 
 -- and its answer sent in part
 pub record IsHalfRound (who : Asker) (name : List ℕ) (at : Standing) (given : Answer) (old new : Place NodeEntry) : Type 0 where
-  pub hello : AsksHello who at.pos given old.entries new.entries
+  pub hello : AsksHello who at.here given old.entries new.entries
   pub written : AppendsPart old.taken new.taken (words name at.sent given)
 
 -- and nothing of its answer sent
 pub record IsUnsent (who : Asker) (at : Standing) (given : Answer) (old new : Place NodeEntry) : Type 0 where
-  pub hello : AsksHello who at.pos given old.entries new.entries
+  pub hello : AsksHello who at.here given old.entries new.entries
   pub written : Keeps old.taken new.taken
 
 -- what became of one Hello, and of the count of faults. The stream goes on, standing so; or it is at its end, since the Hello was
@@ -100,16 +100,16 @@ EndsTelling name at given old new before now turns (Err _) = ⊥
 
 -- WHAT IS OWED STILL: the bytes are those of the Hellos before the last; and that one was asked at the position that they led to, at
 -- which the follower stands, so a stream from there asks it first
-pub record OwesStill (who : Asker) (name : List ℕ) (from : Pos) (old new : Place NodeEntry) : Type 0 where
+pub record OwesStill (who : Asker) (name : List ℕ) (from : Whereabouts) (old new : Place NodeEntry) : Type 0 where
   pub sent : List NodeEntry
   pub owed : NodeEntry
   pub each : AreHellos who (standing_at from) sent
   pub written : Appends old.taken new.taken (sent_by name (standing_at from) sent)
   pub asked : new.entries ≡ old.entries ++ (sent ++ owed ∷ [])
-  pub again : IsHello who (behind (standing_at from) sent).pos owed
+  pub again : IsHello who (behind (standing_at from) sent).here owed
 
 -- A STREAM from a position on, to its end: rounds, and then the one that ended it
-pub record Streams (who : Asker) (name : List ℕ) (from : Pos) (old new : Stand NodeEntry) (turns : ℕ) (end : SessionEnd) : Type 0 where
+pub record Streams (who : Asker) (name : List ℕ) (from : Whereabouts) (old new : Stand NodeEntry) (turns : ℕ) (end : SessionEnd) : Type 0 where
   pub at : Standing
   pub place : Place NodeEntry
   pub rounds : Streamed who name (standing_at from) at old.place place

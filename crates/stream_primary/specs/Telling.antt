@@ -3,6 +3,7 @@ use Rattle.std.specs.Prelude.{ℕ, Bool, true, false, List, [], ◌++◌, None, 
 use Rattle.lf_base.specs.declared.pos.Pos.{Pos}
 use Rattle.node_core.specs.declared.answer.Answer.{Answer}
 use Rattle.node_core.specs.declared.answer.Answer.TheVariants as answer
+use Rattle.node_core.specs.declared.whereabouts.Whereabouts.{Whereabouts}
 use Rattle.node_core.specs.declared.refusal.Refusal.TheVariants as refusal
 use Rattle.stream_wire.specs.declared.frame.Frame.TheVariants as frame
 use Rattle.stream_wire.specs.Frame.{frame_text}
@@ -60,13 +61,18 @@ abbrev pub begun : Sent → Sent
 begun sent.Ready = sent.Ready
 begun _ = sent.Head
 
--- THE NEXT STANDING, behind this answer: behind a drop the follower has nothing
+-- a follower at this position, of whose last file nothing is said
+abbrev pub unsaid : Pos → Whereabouts
+unsaid pos = record { pos = pos; last = None }
+
+-- THE NEXT STANDING, behind this answer: behind a drop the follower has nothing. What it said of its last file counts until it was
+-- sent something
 abbrev pub next : Standing → Answer → Standing
-next at (answer.Item ltx after) = record { pos = after; sent = begun at.sent }
-next at answer.Gone = record { pos = record { txid = 0; sum = 0 }; sent = begun at.sent }
-next at (answer.Level pos) = record { pos = at.pos; sent = sent.Ready }
+next at (answer.Item ltx after) = record { here = unsaid after; sent = begun at.sent }
+next at answer.Gone = record { here = unsaid (record { txid = 0; sum = 0 }); sent = begun at.sent }
+next at (answer.Level pos) = record { here = at.here; sent = sent.Ready }
 next at _ = at
 
 -- a stream from a position on, before anything was sent
-abbrev pub standing_at : Pos → Standing
-standing_at pos = record { pos = pos; sent = sent.Nothing }
+abbrev pub standing_at : Whereabouts → Standing
+standing_at from = record { here = from; sent = sent.Nothing }

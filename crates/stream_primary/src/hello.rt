@@ -1,18 +1,18 @@
 //! One Hello: it is asked, and its answer sent.
-ghost use Rattle.std.specs.Prelude.{◌≡◌, ◌++◌, length, Err, IfErr, IfOk, OnErr, OnOk};
-ghost use Rattle.std.specs.Io.KnownBytes.{Appends, Keeps};
+ghost use Rattle.std.specs.Prelude.{◌≡◌, length, Err, IfErr, IfOk, OnErr};
+ghost use Rattle.std.specs.Io.KnownBytes.{Keeps};
 ghost use Rattle.lf_base.specs.declared.session_end.SessionEnd.TheVariants as ends;
 ghost use Rattle.link_session.specs.Asking.{EndsAsking};
 ghost use Rattle.link_session.specs.Spending.{AsksFor, MovesFor};
 ghost use Rattle.link_session.specs.Stands.{asker, stand, AsksOn, Spends};
-ghost use Rattle.link_session.specs.Writing.{AppendsPart, EndsWriting};
 ghost use Rattle.stream_primary.specs.Streaming.{AsksHello, EndsRound, EndsTelling};
 
+use crate::ending::end_stream;
 use crate::standing::Standing;
 use crate::telling::{file_of, goes_on, next, put_words};
-use lf_base::{Clock, Link, Name, Pause, Pos, SessionEnd};
-use link_session::{Steps, Turns, write_whole};
-use node_core::{Answer, Ask};
+use lf_base::{Clock, Link, Name, Pause, SessionEnd};
+use link_session::{Steps, Turns, write_both};
+use node_core::{Answer, Ask, Whereabouts};
 use std::alloc::Global;
 
 /// Asks one Hello and tells its answer, and answers how the follower stands then.
@@ -35,20 +35,20 @@ pub fn greet<S: Steps<Ask = Ask, Answer = Answer>, L: Link, C: Clock, P: Pause>(
     ensures spent { Spends turns.old (stand L.Link link.old (S.entries steps.old)) turns.new (stand L.Link link.new (S.entries steps.new)) result }
     ensures worn { IfErr result (λ end. end ≡ ends.Worn → S.is_worn steps.new) }
 {
-    match ask_hello(steps, clock, at.pos, turns) {
+    match ask_hello(steps, clock, at.here, turns) {
         Ok(answer) => tell(alloc, name, link, pause, at, answer, text, turns),
         Err(end) => Err(end),
     }
 }
 
-/// Asks what is owed to a follower at this position. It is a turn.
+/// Asks what is owed to a follower that stands here. It is a turn.
 fn ask_hello<S: Steps<Ask = Ask, Answer = Answer>, C: Clock>(
     steps: &mut S,
     clock: &mut C,
-    pos: Pos,
+    here: Whereabouts,
     turns: &mut Turns,
 ) -> Result<Answer, SessionEnd>
-    ensures asked { IfOk result (λ answer. AsksHello (asker S.Steps C.Clock steps.old clock.old) pos answer (S.entries steps.old) (S.entries steps.new)) }
+    ensures asked { IfOk result (λ answer. AsksHello (asker S.Steps C.Clock steps.old clock.old) here answer (S.entries steps.old) (S.entries steps.new)) }
     ensures still { OnErr result (S.entries steps.new ≡ S.entries steps.old) }
     ensures same { AsksOn S.Steps C.Clock steps.old steps.new clock.old clock.new }
     ensures spent { AsksFor result turns.old (length (S.entries steps.old)) turns.new (length (S.entries steps.new)) }
@@ -60,7 +60,8 @@ fn ask_hello<S: Steps<Ask = Ask, Answer = Answer>, C: Clock>(
     }
     let ask = Ask::Hello {
         now: clock.now_ms(),
-        pos,
+        pos: here.pos,
+        last: here.last,
     };
     match steps.ask(&ask) {
         Ok(answer) => Ok(answer),
@@ -83,6 +84,9 @@ fn tell<L: Link, P: Pause>(
     ensures left { Keeps (L.left link.old) (L.left link.new) }
     ensures spent { MovesFor result turns.old (L.moves link.old) turns.new (L.moves link.new) }
 {
+    if !goes_on(&answer) {
+        return Err(end_stream(alloc, link, at.sent, &answer, text, turns));
+    }
     match put_words(alloc, name, at.sent, &answer, text) {
         Ok(()) => {}
         Err(_) => return Err(SessionEnd::NoMemory),
@@ -91,30 +95,8 @@ fn tell<L: Link, P: Pause>(
         Ok(()) => {}
         Err(end) => return Err(end),
     }
-    if !goes_on(&answer) {
-        return Err(SessionEnd::Closed);
-    }
     if matches!(answer, Answer::Level(_)) {
         pause.nap();
     }
     Ok(next(at, &answer))
-}
-
-/// Writes one text and then another.
-fn write_both<L: Link>(
-    link: &mut L,
-    front: &[u8],
-    back: &[u8],
-    turns: &mut Turns,
-) -> Result<(), SessionEnd>
-    ensures whole { OnOk result (Appends (L.taken link.old) (L.taken link.new) (front.now ++ back.now)) }
-    ensures part { OnErr result (AppendsPart (L.taken link.old) (L.taken link.new) (front.now ++ back.now)) }
-    ensures left { Keeps (L.left link.old) (L.left link.new) }
-    ensures spent { MovesFor result turns.old (L.moves link.old) turns.new (L.moves link.new) }
-    ensures cause { EndsWriting (L.faults link.old) (L.faults link.new) turns.new result }
-{
-    match write_whole(link, front, turns) {
-        Ok(()) => write_whole(link, back, turns),
-        Err(end) => Err(end),
-    }
 }

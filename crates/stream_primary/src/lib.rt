@@ -1,23 +1,23 @@
 //! HTTP requests to the node, one a link.
 //!
-//! A request is read to the end of its body and answered. The stream of the database is served; every
-//! other call is answered with status 404.
+//! A request is read to the end of its body and served by its call: a call is one row of the tables in
+//! `calls`, a file that serves it, and a clause of `specs/Calls.antt`. The stream of the database is
+//! served; every other call is answered with status 404.
 #![tactic(auto)]
 
-mod bodies;
-mod heads;
+mod calls;
+mod ending;
 mod hello;
 mod laws;
 mod refusals;
 mod replies;
-mod requests;
 mod seat;
 mod serving;
 mod session;
 mod standing;
+mod stream_call;
 mod streaming;
 mod telling;
-mod wish;
 
 pub use laws::{owed_again, stream_in_one_run};
 pub use seat::serve_seat;

@@ -1,7 +1,7 @@
 //! Status and name of a refusal.
-ghost use Rattle.std.specs.Prelude.{◌≡◌};
+ghost use Rattle.std.specs.Prelude.{◌≡◌, ◌∷◌, ◌++◌, []};
 ghost use Rattle.http.specs.StatusCode.{IsStatusCode};
-ghost use Rattle.stream_primary.specs.Refusing.{name_of, status_of, store_name, store_status};
+ghost use Rattle.stream_primary.specs.Refusing.{line_of, status_of, store_name, store_status};
 
 use node_core::Refusal;
 use txn_log::StoreFault;
@@ -33,30 +33,30 @@ fn store_status(fault: StoreFault) -> u16
     }
 }
 
-/// The name of a refusal.
-pub fn name_of(refusal: Refusal) -> &'static [u8]
-    ensures { result.now ≡ name_of refusal }
+/// The line that names a refusal.
+pub fn line_of(refusal: Refusal) -> &'static [u8]
+    ensures { result.now ≡ line_of refusal }
 {
     match refusal {
-        Refusal::NotPrimary => b"NotPrimary",
-        Refusal::NotReplica => b"NotReplica",
-        Refusal::Ltx(_) => b"Ltx",
-        Refusal::Store(fault) => store_name(fault),
-        Refusal::Absent => b"Absent",
-        Refusal::NoMemory => b"NoMemory",
+        Refusal::NotPrimary => b"NotPrimary\n",
+        Refusal::NotReplica => b"NotReplica\n",
+        Refusal::Ltx(_) => b"Ltx\n",
+        Refusal::Store(fault) => store_line(fault),
+        Refusal::Absent => b"Absent\n",
+        Refusal::NoMemory => b"NoMemory\n",
     }
 }
 
-fn store_name(fault: StoreFault) -> &'static [u8]
-    ensures { result.now ≡ store_name fault }
+fn store_line(fault: StoreFault) -> &'static [u8]
+    ensures { result.now ≡ store_name fault ++ 10 ∷ [] }
 {
     match fault {
-        StoreFault::Disk => b"Disk",
-        StoreFault::Broken => b"Broken",
-        StoreFault::NotNext { .. } => b"NotNext",
-        StoreFault::SumDiffers { .. } => b"SumDiffers",
-        StoreFault::Limit => b"Limit",
-        StoreFault::NoMemory => b"NoMemory",
-        StoreFault::PageSize { .. } => b"PageSize",
+        StoreFault::Disk => b"Disk\n",
+        StoreFault::Broken => b"Broken\n",
+        StoreFault::NotNext { .. } => b"NotNext\n",
+        StoreFault::SumDiffers { .. } => b"SumDiffers\n",
+        StoreFault::Limit => b"Limit\n",
+        StoreFault::NoMemory => b"NoMemory\n",
+        StoreFault::PageSize { .. } => b"PageSize\n",
     }
 }

@@ -1,16 +1,17 @@
 //! Replies that are no stream.
-ghost use Rattle.std.specs.Prelude.{◌≡◌, ◌++◌, [], Err, OnOk};
+ghost use Rattle.std.specs.Prelude.{◌≡◌, [], codes, Err};
 ghost use Rattle.std.specs.Io.KnownBytes.{Keeps};
 ghost use Rattle.http.specs.StatusCode.{IsStatusCode};
 ghost use Rattle.link_session.specs.Spending.{MovesFor};
-ghost use Rattle.stream_primary.specs.Refusing.{odd_reply, refusal_reply, refused_reply, reply, EndsReply};
+ghost use Rattle.http_exchange.specs.Writing.{reply};
+ghost use Rattle.stream_primary.specs.Refusing.{refused_reply, too_long_reply, EndsReply};
 
-use crate::refusals::{name_of, status_of};
-use lf_base::{Link, NoMemory, SessionEnd};
-use link_session::{Turns, write_whole};
-use node_core::{Answer, Refusal};
+use crate::refusals::{line_of, status_of};
+use http_exchange::write_reply;
+use lf_base::{Link, SessionEnd};
+use link_session::Turns;
+use node_core::Answer;
 use std::alloc::Global;
-use stream_wire::write_head;
 
 /// Answers a request that is not served.
 pub fn refuse<L: Link>(alloc: Global, link: &mut L, status: u16, turns: &mut Turns) -> SessionEnd
@@ -19,23 +20,33 @@ pub fn refuse<L: Link>(alloc: Global, link: &mut L, status: u16, turns: &mut Tur
     ensures left { Keeps (L.left link.old) (L.left link.new) }
     ensures spent { MovesFor {T = Unit {0}} (Err result) turns.old (L.moves link.old) turns.new (L.moves link.new) }
 {
-    let mut text = Vec::new(alloc);
-    match put_status(alloc, status, &mut text) {
-        Ok(()) => {}
-        Err(_) => return SessionEnd::NoMemory,
-    }
-    match write_whole(link, text.as_slice(), turns) {
-        Ok(()) => SessionEnd::Closed,
-        Err(end) => end,
-    }
+    say(alloc, link, status, b"", turns)
 }
 
-/// Appends the reply to a request whose answer is no stream.
-pub fn put_refused(alloc: Global, answer: &Answer, text: &mut Vec<u8>) -> Result<(), NoMemory>
-    ensures { OnOk result (text.new.items ≡ text.old.items ++ refused_reply answer.now) }
+/// Answers a request whose body is longer than its call keeps.
+pub fn refuse_too_long<L: Link>(alloc: Global, link: &mut L, turns: &mut Turns) -> SessionEnd
+    ensures end { EndsReply too_long_reply (L.taken link.old) (L.taken link.new) (L.faults link.old) (L.faults link.new) turns.new result }
+    ensures left { Keeps (L.left link.old) (L.left link.new) }
+    ensures spent { MovesFor {T = Unit {0}} (Err result) turns.old (L.moves link.old) turns.new (L.moves link.new) }
+{
+    say(alloc, link, 413, b"TooLong\n", turns)
+}
+
+/// Answers a request whose answer is no stream.
+pub fn refuse_answer<L: Link>(
+    alloc: Global,
+    link: &mut L,
+    answer: &Answer,
+    turns: &mut Turns,
+) -> SessionEnd
+    ensures end { EndsReply (refused_reply answer.now) (L.taken link.old) (L.taken link.new) (L.faults link.old) (L.faults link.new) turns.new result }
+    ensures left { Keeps (L.left link.old) (L.left link.new) }
+    ensures spent { MovesFor {T = Unit {0}} (Err result) turns.old (L.moves link.old) turns.new (L.moves link.new) }
 {
     match answer {
-        Answer::Refused(refusal) => put_refusal(alloc, *refusal, text),
+        Answer::Refused(refusal) => {
+            say(alloc, link, status_of(*refusal), line_of(*refusal), turns)
+        }
         Answer::Done(_)
         | Answer::Quiet
         | Answer::Refuse(_)
@@ -45,32 +56,26 @@ pub fn put_refused(alloc: Global, answer: &Answer, text: &mut Vec<u8>) -> Result
         | Answer::Gone
         | Answer::Applied(_)
         | Answer::Held(_)
-        | Answer::Pruned(_) => put_odd(alloc, text),
+        | Answer::Pruned(_)
+        | Answer::Info(_) => say(alloc, link, 500, b"OddAnswer\n", turns),
     }
 }
 
-fn put_odd(alloc: Global, text: &mut Vec<u8>) -> Result<(), NoMemory>
-    ensures { OnOk result (text.new.items ≡ text.old.items ++ odd_reply) }
-{
-    write_head(alloc, 500, Some(10), text)?;
-    text.extend_from_slice(b"OddAnswer\n")?;
-    Ok(())
-}
-
-fn put_refusal(alloc: Global, refusal: Refusal, text: &mut Vec<u8>) -> Result<(), NoMemory>
-    ensures { OnOk result (text.new.items ≡ text.old.items ++ refusal_reply refusal) }
-{
-    let name = name_of(refusal);
-    write_head(alloc, status_of(refusal), Some(name.len() as u64 + 1), text)?;
-    text.extend_from_slice(name)?;
-    text.extend_from_slice(b"\n")?;
-    Ok(())
-}
-
-/// Appends a reply without a body.
-fn put_status(alloc: Global, status: u16, text: &mut Vec<u8>) -> Result<(), NoMemory>
+/// Writes a reply, which ends the session.
+fn say<L: Link>(
+    alloc: Global,
+    link: &mut L,
+    status: u16,
+    body: &[u8],
+    turns: &mut Turns,
+) -> SessionEnd
     requires { IsStatusCode status }
-    ensures { OnOk result (text.new.items ≡ text.old.items ++ reply status []) }
+    ensures end { EndsReply (reply status body.now) (L.taken link.old) (L.taken link.new) (L.faults link.old) (L.faults link.new) turns.new result }
+    ensures left { Keeps (L.left link.old) (L.left link.new) }
+    ensures spent { MovesFor {T = Unit {0}} (Err result) turns.old (L.moves link.old) turns.new (L.moves link.new) }
 {
-    write_head(alloc, status, Some(0), text)
+    match write_reply(alloc, link, status, body, turns) {
+        Ok(()) => SessionEnd::Closed,
+        Err(end) => end,
+    }
 }

@@ -1,13 +1,13 @@
 //! A session over one that asks steps: one request, and one reply.
-ghost use Rattle.std.specs.Prelude.{◌≡◌, Err};
+ghost use Rattle.std.specs.Prelude.{◌≡◌, Err, MatchBool};
 ghost use Rattle.lf_base.specs.declared.session_end.SessionEnd.TheVariants as ends;
 ghost use Rattle.link_session.specs.Stands.{asker, stand, AsksOn, Spends};
+ghost use Rattle.http_exchange.specs.declared.called.Body.TheVariants as bodies;
 ghost use Rattle.stream_primary.specs.Session.{Ends, IsSession};
 
-use crate::replies::refuse;
-use crate::requests::read_request;
-use crate::streaming::stream;
-use crate::wish::Wish;
+use crate::calls::{Bodies, serve_call};
+use crate::replies::refuse_too_long;
+use http_exchange::{Body, read_call};
 use lf_base::{Clock, Link, Name, Pause, SessionEnd};
 use link_session::{Steps, Turns};
 use node_core::{Answer, Ask};
@@ -31,7 +31,7 @@ pub fn serve_link<S: Steps<Ask = Ask, Answer = Answer>, L: Link, C: Clock, P: Pa
     converse(alloc, steps, name, link, clock, pause, &mut turns)
 }
 
-/// Reads a request and answers it.
+/// Reads a request and serves it.
 fn converse<S: Steps<Ask = Ask, Answer = Answer>, L: Link, C: Clock, P: Pause>(
     alloc: Global,
     steps: &mut S,
@@ -46,9 +46,19 @@ fn converse<S: Steps<Ask = Ask, Answer = Answer>, L: Link, C: Clock, P: Pause>(
     ensures spent { Spends {T = Unit {0}} turns.old (stand L.Link link.old (S.entries steps.old)) turns.new (stand L.Link link.new (S.entries steps.new)) (Err result) }
     ensures worn { result ≡ ends.Worn → S.is_worn steps.new }
 {
-    match read_request(alloc, name, link, turns) {
-        Ok(Wish::Stream(pos)) => stream(alloc, steps, name, link, clock, pause, pos, turns),
-        Ok(Wish::Refused(status)) => refuse(alloc, link, status, turns),
-        Err(end) => end,
+    let called = match read_call(alloc, link, turns, &Bodies) {
+        Ok(called) => called,
+        Err(end) => return end,
+    };
+    if is_unread(&called.body) {
+        return refuse_too_long(alloc, link, turns);
     }
+    serve_call(alloc, steps, name, link, clock, pause, &called, turns)
+}
+
+/// Whether the body is longer than its call keeps.
+fn is_unread(body: &Body) -> bool
+    ensures { MatchBool result (body.now ≡ bodies.Unread) (body.now ≡ bodies.Unread → ⊥) }
+{
+    matches!(body, Body::Unread)
 }

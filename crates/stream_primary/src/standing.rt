@@ -1,4 +1,4 @@
-use lf_base::Pos;
+use node_core::Whereabouts;
 
 /// What a follower was sent of its stream.
 #[derive(Clone, Copy, Debug, PartialEq, Eq)]
@@ -14,7 +14,8 @@ pub enum Sent {
 /// How a follower stands.
 #[derive(Clone, Copy, Debug, PartialEq, Eq)]
 pub struct Standing {
-    /// The position that it has, once it has applied what it was sent.
-    pub pos: Pos,
+    /// Where it stands, once it has applied what it was sent, and what it said of its last file, while it
+    /// was sent nothing.
+    pub here: Whereabouts,
     pub sent: Sent,
 }

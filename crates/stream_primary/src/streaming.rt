@@ -7,12 +7,12 @@ ghost use Rattle.stream_primary.specs.Streaming.{Streams};
 
 use crate::hello::greet;
 use crate::standing::{Sent, Standing};
-use lf_base::{Clock, Link, Name, Pause, Pos, SessionEnd};
+use lf_base::{Clock, Link, Name, Pause, SessionEnd};
 use link_session::{Steps, Turns};
-use node_core::{Answer, Ask};
+use node_core::{Answer, Ask, Whereabouts};
 use std::alloc::Global;
 
-/// Streams to a follower at this position, to the end of the session: one Hello after another, each
+/// Streams to a follower that says that it stands here, to the end of the session: one Hello after another, each
 /// sent before the next is asked.
 pub fn stream<S: Steps<Ask = Ask, Answer = Answer>, L: Link, C: Clock, P: Pause>(
     alloc: Global,
@@ -21,10 +21,10 @@ pub fn stream<S: Steps<Ask = Ask, Answer = Answer>, L: Link, C: Clock, P: Pause>
     link: &mut L,
     clock: &mut C,
     pause: &mut P,
-    pos: Pos,
+    from: Whereabouts,
     turns: &mut Turns,
 ) -> SessionEnd
-    ensures streams { Streams (asker S.Steps C.Clock steps.old clock.old) name.now pos (stand L.Link link.old (S.entries steps.old)) (stand L.Link link.new (S.entries steps.new)) turns.new result }
+    ensures streams { Streams (asker S.Steps C.Clock steps.old clock.old) name.now from (stand L.Link link.old (S.entries steps.old)) (stand L.Link link.new (S.entries steps.new)) turns.new result }
     ensures left { Keeps (L.left link.old) (L.left link.new) }
     ensures same { AsksOn S.Steps C.Clock steps.old steps.new clock.old clock.new }
     ensures spent { Spends {T = Unit {0}} turns.old (stand L.Link link.old (S.entries steps.old)) turns.new (stand L.Link link.new (S.entries steps.new)) (Err result) }
@@ -32,7 +32,7 @@ pub fn stream<S: Steps<Ask = Ask, Answer = Answer>, L: Link, C: Clock, P: Pause>
 {
     let mut text = Vec::new(alloc);
     let mut at = Standing {
-        pos,
+        here: from,
         sent: Sent::Nothing,
     };
     'hellos: loop {

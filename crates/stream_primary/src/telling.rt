@@ -1,13 +1,12 @@
 //! What an answer is to a follower: the bytes, and how it stands then. Nothing is written here.
-ghost use Rattle.std.specs.Prelude.{◌≡◌, ◌++◌, false, OnOk};
-ghost use Rattle.stream_primary.specs.Telling.{begun, end_frame, file_of, frame_for, goes_on, last_words, next, opening, ready_frame, words};
+ghost use Rattle.std.specs.Prelude.{◌≡◌, ◌++◌, true, OnOk};
+ghost use Rattle.stream_primary.specs.Telling.{begun, end_frame, file_of, frame_for, goes_on, next, opening, ready_frame, words};
 ghost use Rattle.stream_wire.specs.Frame.{frame_text};
 ghost use Rattle.stream_wire.specs.declared.frame.Frame.TheVariants as frame;
 
-use crate::replies::put_refused;
 use crate::standing::{Sent, Standing};
 use lf_base::{Name, NoMemory, Pos};
-use node_core::{Answer, Refusal};
+use node_core::{Answer, Refusal, Whereabouts};
 use std::alloc::Global;
 use stream_wire::{Frame, encode_frame, encode_ltx_front, write_head};
 
@@ -27,15 +26,21 @@ pub fn next(at: Standing, answer: &Answer) -> Standing
 {
     match answer {
         Answer::Item { after, .. } => Standing {
-            pos: *after,
+            here: Whereabouts {
+                pos: *after,
+                last: None,
+            },
             sent: begun(at.sent),
         },
         Answer::Gone => Standing {
-            pos: Pos { txid: 0, sum: 0 },
+            here: Whereabouts {
+                pos: Pos { txid: 0, sum: 0 },
+                last: None,
+            },
             sent: begun(at.sent),
         },
         Answer::Level(_) => Standing {
-            pos: at.pos,
+            here: at.here,
             sent: Sent::Ready,
         },
         _ => at,
@@ -61,7 +66,8 @@ pub fn file_of(answer: &Answer) -> &[u8]
     }
 }
 
-/// Puts the bytes that an answer is to the follower in place of what is in the buffer, up to its file.
+/// Puts the bytes of an answer with which the stream goes on in place of what is in the buffer, up to
+/// its file.
 pub fn put_words(
     alloc: Global,
     name: &Name,
@@ -69,12 +75,10 @@ pub fn put_words(
     answer: &Answer,
     text: &mut Vec<u8>,
 ) -> Result<(), NoMemory>
+    requires { goes_on answer.now ≡ true }
     ensures { OnOk result (text.new.items ++ file_of answer.now ≡ words name.now sent answer.now) }
 {
     text.clear();
-    if !goes_on(answer) {
-        return put_last_words(alloc, sent, answer, text);
-    }
     match put_opening(alloc, sent, text) {
         Ok(()) => put_frame(name, sent, answer, text),
         Err(_) => Err(NoMemory),
@@ -124,23 +128,8 @@ fn put_ready(name: &Name, sent: Sent, pos: Pos, text: &mut Vec<u8>) -> Result<()
     encode_frame(&Frame::Ready { name, pos }, text)
 }
 
-/// Appends what ends the stream, or the reply where none was begun.
-fn put_last_words(
-    alloc: Global,
-    sent: Sent,
-    answer: &Answer,
-    text: &mut Vec<u8>,
-) -> Result<(), NoMemory>
-    requires { goes_on answer.now ≡ false }
-    ensures { OnOk result (text.new.items ++ file_of answer.now ≡ text.old.items ++ last_words sent answer.now) }
-{
-    match sent {
-        Sent::Nothing => put_refused(alloc, answer, text),
-        Sent::Head | Sent::Ready => put_end(answer, text),
-    }
-}
-
-fn put_end(answer: &Answer, text: &mut Vec<u8>) -> Result<(), NoMemory>
+/// Appends the end of a stream that has begun.
+pub fn put_end(answer: &Answer, text: &mut Vec<u8>) -> Result<(), NoMemory>
     ensures { OnOk result (text.new.items ≡ text.old.items ++ end_frame answer.now) }
 {
     match answer {

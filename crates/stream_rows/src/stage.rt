@@ -121,7 +121,7 @@ pub fn renew_both(primary: &mut Stage, replica: &mut Stage) -> Result<(), Fault>
 /// Where the node stands.
 pub fn position<R: Wait + Copy>(rt: R, stage: &mut Stage) -> Result<Pos, Fault> {
     match stage.ask(rt, Wish::Where)? {
-        Answer::At(position) => Ok(position),
+        Answer::At(here) => Ok(here.pos),
         _ => Err(Fault::Answer),
     }
 }
@@ -156,7 +156,7 @@ fn follow_by<R: Wait + Copy, D: Disk, L: Link>(
     let mut clock = FixedClock::new(NOW);
     let mut pause = NoPause::new();
     follow(
-        rt, alloc, desk, seat, name, link, &mut clock, &mut pause, TURNS,
+        rt, alloc, desk, seat, name, link, &mut clock, &mut pause, false, TURNS,
     )
 }
 

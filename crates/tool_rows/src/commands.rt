@@ -110,4 +110,12 @@ pub const COMMANDS: &[CommandRow] = &[
         line: "litefs mount x",
         input: &[],
     },
+    CommandRow {
+        line: "litefs lease x",
+        input: &[],
+    },
+    CommandRow {
+        line: "litefs lease --help",
+        input: &[],
+    },
 ];

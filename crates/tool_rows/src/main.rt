@@ -3,6 +3,7 @@
 
 mod commands;
 mod fault;
+mod leases;
 mod lines;
 mod making;
 mod nodes;
@@ -15,5 +16,6 @@ use std::net::{TcpListener, TcpStream};
 fn main(rt: HostRuntime) -> Result<(), Fault> {
     let _named: Option<(TcpListener, TcpStream)> = None;
     playing::play_commands(rt)?;
-    playing::play_nodes(rt)
+    playing::play_nodes(rt)?;
+    playing::play_leases(rt)
 }

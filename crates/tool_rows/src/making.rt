@@ -1,8 +1,9 @@
-//! What a node is made of.
+//! What a node is made of, and a lease service.
 ghost use Rattle.std.specs.Prelude.{◌≡◌, ◌∷◌, [], All, IfOk};
 ghost use Rattle.node_mount.specs.MemMaker.{IsNewDisk, IsNewDoor, IsNewSpawner};
 
 use crate::fault::Fault;
+use crate::leases::LeaseRow;
 use crate::nodes::{NEVER, NodeRow, ROOM};
 use lf_base::{CallSpawner, FixedClock, ListAcceptor, MemLink, NoMemory, Watch};
 use lf_disk::{Disk, FileName, MemDisk};
@@ -54,16 +55,23 @@ fn disk_with(alloc: Global, file: &[u8]) -> Result<MemDisk, Fault>
     }
 }
 
-/// An acceptor that gives one link.
-fn acceptor(alloc: Global, link: MemLink, failing: u64) -> Result<Vec<ListAcceptor>, Fault>
+/// An acceptor that gives these links.
+fn acceptor(alloc: Global, links: Vec<MemLink>, failing: u64) -> Result<Vec<ListAcceptor>, Fault>
     ensures { IfOk result (λ made. All IsNewDoor made.items) }
 {
-    let links = one(alloc, link)?;
     let acceptor = ListAcceptor::new(links, one(alloc, failing)?).unwrap();
     Ok(one(alloc, acceptor)?)
 }
 
-/// The same for a link that gives these bytes, and what shows what is written on it.
+/// A link that gives these bytes, and what shows what is written on it.
+fn link_of(alloc: Global, input: &[u8], room: usize) -> Result<(MemLink, Watch), Fault> {
+    let input = Vec::from_slice(alloc, input)?;
+    let link = MemLink::new(alloc, input, room, Vec::new(alloc))?;
+    let watch = link.watch();
+    Ok((link, watch))
+}
+
+/// An acceptor that gives one such link.
 fn door(
     alloc: Global,
     input: &[u8],
@@ -72,10 +80,8 @@ fn door(
 ) -> Result<(Vec<ListAcceptor>, Watch), Fault>
     ensures { IfOk result (λ made. All IsNewDoor made.0.items) }
 {
-    let input = Vec::from_slice(alloc, input)?;
-    let link = MemLink::new(alloc, input, room, Vec::new(alloc))?;
-    let watch = link.watch();
-    Ok((acceptor(alloc, link, failing)?, watch))
+    let (link, watch) = link_of(alloc, input, room)?;
+    Ok((acceptor(alloc, one(alloc, link)?, failing)?, watch))
 }
 
 /// A spawner that runs each job in place, or none.
@@ -119,6 +125,36 @@ pub fn maker_of(alloc: Global, row: &NodeRow, file: &[u8]) -> Result<(MemMaker, 
         http: http_link,
     };
     Ok((maker_over(alloc, row, disks, files, http)?, links))
+}
+
+/// Links that give these inputs, and what shows what is written on each.
+fn links_of(alloc: Global, inputs: &[&[u8]]) -> Result<(Vec<MemLink>, Vec<Watch>), Fault> {
+    let (mut links, mut watches) = (Vec::new(alloc), Vec::new(alloc));
+    for input in inputs {
+        let (link, watch) = link_of(alloc, input, ROOM)?;
+        links.push(link)?;
+        watches.push(watch)?;
+    }
+    Ok((links, watches))
+}
+
+/// What a row's lease service is made of, at the moment 1,000, and what shows what its links took.
+pub fn service_of(alloc: Global, row: &LeaseRow) -> Result<(MemMaker, Vec<Watch>), Fault> {
+    let (links, watches) = links_of(alloc, row.links)?;
+    let http = acceptor(alloc, links, row.accepted)?;
+    let make = MemMaker::new(
+        alloc,
+        Vec::new(alloc),
+        Vec::new(alloc),
+        http,
+        Vec::new(alloc),
+        Vec::new(alloc),
+        FixedClock::new(1_000),
+        9,
+        8,
+        one(alloc, row.made)?,
+    )?;
+    Ok((make, watches))
 }
 
 /// What a run has that mounts nothing.

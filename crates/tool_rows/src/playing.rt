@@ -2,11 +2,12 @@
 
 use crate::commands::{COMMANDS, CommandRow};
 use crate::fault::Fault;
+use crate::leases::{LEASES, LeaseRow};
 use crate::lines::{print_end, print_line, print_output, print_taken};
-use crate::making::{Links, empty_maker, maker_of, one};
+use crate::making::{Links, empty_maker, maker_of, one, service_of};
 use crate::nodes::{NODES, NodeRow};
 use crate::running::{MemHost, host_over, run_line};
-use lf_base::{Handles, SliceSource};
+use lf_base::{Handles, SliceSource, Watch};
 use node_mount::Maker;
 use std::alloc::Global;
 use std::fs;
@@ -127,6 +128,57 @@ pub fn play_nodes<R: Handles + Files + Print + AllocGlobal + Copy + Send + 'stat
     let file = fs::read(&rt, "snapshot.ltx")?;
     for row in NODES {
         play_node(rt, rt.alloc(), row, &file)?;
+    }
+    Ok(())
+}
+
+/// Runs a row's lease service, and prints how it ends.
+fn run_service<R: Handles + Print + Copy + Send + 'static, M: Maker>(
+    rt: R,
+    alloc: Global,
+    row: &LeaseRow,
+    host: &mut MemHost<'_, M>,
+) -> Result<(), Fault> {
+    print!(&rt; "litefs lease, {}", row.name)?;
+    ends(rt, alloc, "litefs lease", host)
+}
+
+/// A row's lease service of these objects.
+fn play_served<R: Handles + Print + Copy + Send + 'static, M: Maker + Drop>(
+    rt: R,
+    alloc: Global,
+    row: &LeaseRow,
+    make: M,
+) -> Result<(), Fault> {
+    let config = SliceSource::new(row.config, one(alloc, row.read)?).unwrap();
+    let mut host = host_over(alloc, b"left alone", config, make)?;
+    run_service(rt, alloc, row, &mut host)
+}
+
+/// Prints what each link took.
+fn print_watched(rt: &impl Print, alloc: Global, watches: &[Watch]) -> Result<(), Fault> {
+    for watch in watches {
+        print_taken(rt, alloc, "link", &watch.bytes()?)?;
+    }
+    Ok(())
+}
+
+fn play_lease<R: Handles + Print + Copy + Send + 'static>(
+    rt: R,
+    alloc: Global,
+    row: &LeaseRow,
+) -> Result<(), Fault> {
+    let (make, watches) = service_of(alloc, row)?;
+    play_served(rt, alloc, row, make)?;
+    print_watched(&rt, alloc, watches.as_slice())
+}
+
+/// The runs of `lease`.
+pub fn play_leases<R: Handles + Print + AllocGlobal + Copy + Send + 'static>(
+    rt: R,
+) -> Result<(), Fault> {
+    for row in LEASES {
+        play_lease(rt, rt.alloc(), row)?;
     }
     Ok(())
 }

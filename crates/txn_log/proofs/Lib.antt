@@ -39,6 +39,7 @@ pub mod Republishings
 pub mod Reservings
 pub mod Resting
 pub mod Rewritings
+pub mod Seals
 pub mod Settlings
 pub mod Sourced
 pub mod Stagings

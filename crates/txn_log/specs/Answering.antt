@@ -1,5 +1,5 @@
 -- What a follower at a position is owed.
-use Rattle.std.specs.Prelude.{◌≡◌, ◌≢◌, ◌⊎◌, ℕ, Bool, true, ◌<◌, List, [], length, get_or}
+use Rattle.std.specs.Prelude.{◌≡◌, ◌≢◌, ◌⊎◌, ℕ, Bool, true, false, ◌<◌, List, [], length, get_or}
 use Rattle.lf_base.specs.declared.pos.Pos.{Pos}
 use Rattle.ltx_codec.specs.Positions.{nowhere}
 use Rattle.txn_log.specs.declared.entry.Entry.{Entry}
@@ -31,3 +31,15 @@ Answers entries dropped position answer.Gone = IsGone dropped position
 Answers entries dropped position answer.Level = (IsGone dropped position → ⊥) × IsLevel entries position
 Answers entries dropped position (answer.Files first) = (IsGone dropped position → ⊥) × (IsLevel entries position → ⊥) × IsFirstBehind entries position first
 Answers entries dropped position answer.Snapshot = (IsGone dropped position → ⊥) × (IsLevel entries position → ⊥) × IsLacking entries position
+
+-- what is owed to a follower whose position counts as unknown
+abbrev pub AnswersUnknown : List Entry → Bool → Pos → Answer → Type 0
+AnswersUnknown entries dropped position answer.Gone = IsGone dropped position
+AnswersUnknown entries dropped position answer.Level = (IsGone dropped position → ⊥) × (entries ≡ [])
+AnswersUnknown entries dropped position (answer.Files first) = ⊥
+AnswersUnknown entries dropped position answer.Snapshot = (IsGone dropped position → ⊥) × (entries ≢ [])
+
+-- what is owed, by whether the position counts as unknown
+abbrev pub AnswersBy : Bool → List Entry → Bool → Pos → Answer → Type 0
+AnswersBy true entries dropped position answer = AnswersUnknown entries dropped position answer
+AnswersBy false entries dropped position answer = Answers entries dropped position answer

@@ -18,6 +18,8 @@ pub mod Giving
 pub mod Installing
 pub mod Intake
 pub mod Kept
+pub mod LastFile
+pub mod Looking
 pub mod Modes
 pub mod Opening
 pub mod Pages

@@ -1,6 +1,6 @@
 //! What a follower is owed.
 ghost use Rattle.std.specs.Prelude.{◌≡◌, ◌≤◌, [], IsTrue, IfSome, IfNone};
-ghost use Rattle.txn_log.specs.Answering.{IsFirstBehind, IsLacking, Answers};
+ghost use Rattle.txn_log.specs.Answering.{IsFirstBehind, IsLacking, Answers, AnswersBy, AnswersUnknown};
 ghost use Rattle.txn_log.specs.Store.{state_of};
 
 use crate::answer::Answer;
@@ -37,7 +37,7 @@ impl<D: Disk> Store<D> {
     /// What a follower at this position is owed: that the database was dropped, where the position is
     /// not (0, 0); else nothing where the log is empty or ends there, the files from the first that
     /// follows it, or the whole database.
-    pub fn answer(&self, position: Pos) -> Answer
+    fn answer_known(&self, position: Pos) -> Answer
         ensures { Answers self.now.entries.items self.now.dropped position result }
     {
         if self.dropped && position != NOWHERE {
@@ -49,6 +49,29 @@ impl<D: Disk> Store<D> {
         match first_behind(self.entries.as_slice(), position) {
             Some(first) => Answer::Files { first },
             None => Answer::Snapshot,
+        }
+    }
+    /// The same of one whose position counts as unknown: the whole database, where there is one.
+    fn answer_unknown(&self, position: Pos) -> Answer
+        ensures { AnswersUnknown self.now.entries.items self.now.dropped position result }
+    {
+        if self.dropped && position != NOWHERE {
+            return Answer::Gone;
+        }
+        if self.entries.is_empty() {
+            return Answer::Level;
+        }
+        Answer::Snapshot
+    }
+
+    /// What a follower at this position is owed, by whether it counts as unknown.
+    pub fn answer(&self, position: Pos, doubted: bool) -> Answer
+        ensures { AnswersBy doubted self.now.entries.items self.now.dropped position result }
+    {
+        if doubted {
+            self.answer_unknown(position)
+        } else {
+            self.answer_known(position)
         }
     }
 }

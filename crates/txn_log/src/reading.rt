@@ -1,12 +1,13 @@
-ghost use Rattle.std.specs.Prelude.{◌≡◌, IsTrue, OnOk, length, replicate};
+ghost use Rattle.std.specs.Prelude.{◌≡◌, ◌≤◌, IsTrue, IfOk, OnOk, length, replicate};
 ghost use Rattle.txn_log.specs.Giving.{ReadsFile};
+ghost use Rattle.txn_log.specs.LastFile.{seal_of};
 ghost use Rattle.lf_base.specs.Faults.{CountsFaults};
 ghost use Rattle.lf_base.specs.FileBytes.{read_into};
 ghost use Rattle.lf_disk.specs.Folder.{bytes_of};
 ghost use Rattle.lf_disk.specs.History.{now, Rests};
 
 use crate::fault::StoreFault;
-use lf_base::Failed;
+use lf_base::{Failed, be64_at};
 use lf_disk::{Disk, FileName};
 
 /// Makes every byte 0.
@@ -49,4 +50,32 @@ pub fn read_file<D: Disk>(disk: &mut D, name: FileName, out: &mut Vec<u8>) -> Re
         Ok(()) => Ok(()),
         Err(_) => Err(StoreFault::Disk),
     }
+}
+
+/// The number of bytes of a file, of which an absent one has none.
+pub fn size_of<D: Disk>(disk: &mut D, name: FileName) -> Result<u64, Failed>
+    ensures size { IsTrue (D.honest disk.old) → IfOk result (λ size. size ≡ length (bytes_of (now (D.history disk.old) name))) }
+    ensures rests { Rests (D.history disk.old) (D.history disk.new) }
+    ensures honest { D.honest disk.new ≡ D.honest disk.old }
+    ensures cause { CountsFaults (D.faults disk.old) (D.faults disk.new) result }
+{
+    match disk.size(name) {
+        Ok(Some(size)) => Ok(size),
+        Ok(None) => Ok(0),
+        Err(failed) => Err(failed),
+    }
+}
+
+/// The last eight bytes of a file as a number.
+pub fn read_seal<D: Disk>(disk: &mut D, name: FileName) -> Result<u64, Failed>
+    ensures seal { IsTrue (D.honest disk.old) → 8 ≤ length (bytes_of (now (D.history disk.old) name))
+        → IfOk result (λ sum. sum ≡ seal_of (bytes_of (now (D.history disk.old) name))) }
+    ensures rests { Rests (D.history disk.old) (D.history disk.new) }
+    ensures honest { D.honest disk.new ≡ D.honest disk.old }
+    ensures cause { CountsFaults (D.faults disk.old) (D.faults disk.new) result }
+{
+    let size = size_of(disk, name)?;
+    let mut bytes = [0u8; 8];
+    read_at(disk, name, size.saturating_sub(8), &mut bytes)?;
+    Ok(be64_at(&bytes, 0))
 }

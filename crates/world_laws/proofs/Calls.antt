@@ -1,5 +1,5 @@
 -- What calls on a store keep.
-use Rattle.std.proofs.Common.{◌≡◌, ℕ, ◌+◌, ◌-◌, ◌≤◌, List, [], ◌∷◌, ◌++◌, length, drop, inl, inr, refl, sym, ap, subst, ◌∙◌, arith, ◌<◌, ◌^◌, Bool, true, false}
+use Rattle.std.proofs.Common.{◌≡◌, ℕ, ◌+◌, ◌-◌, ◌≤◌, List, [], ◌∷◌, ◌++◌, length, drop, Option, inl, inr, refl, sym, ap, subst, ◌∙◌, arith, ◌<◌, ◌^◌, Bool, true, false}
 use Rattle.std.specs.List.{Contains}
 use Rattle.std.proofs.lemmas.List.Elements.{Contains-append_left, Contains-push, Contains-push_cases}
 use Rattle.lf_base.specs.declared.pos.Pos.{Pos}
@@ -10,7 +10,8 @@ use Rattle.ltx_codec.specs.Format.{IsFile}
 use Rattle.ltx_codec.specs.declared.file.Ltx.{Ltx}
 use Rattle.ltx_codec.specs.Positions.{Joins, after, before, sum_after}
 use Rattle.ltx_codec.specs.Sums.{image_sum}
-use Rattle.world_laws.specs.Answers.{Owes, by_file, by_snapshot, completed_over, snapshot_of}
+use Rattle.world_laws.specs.declared.last_file.LastFile.{LastFile}
+use Rattle.world_laws.specs.Answers.{Owes, by_doubt, by_file, by_snapshot, completed_over, snapshot_of}
 use Rattle.world_laws.specs.Lineage.{IsAccepted, IsCommitted, IsOfTree, Lineage, Names, Suits, image_of, position_of}
 use Rattle.world_laws.specs.Premises.{OneImagePerPosition}
 use Rattle.world_laws.specs.Safe.{IsAllowed, IsSendable, TakesOfTree}
@@ -245,6 +246,7 @@ snapshot-of_tree tree store never allowed some =
       sum = ap (λ (i : DatabaseImage). sum_after i (snapshot_of store)) image_of-nothing ∙ whole-sum store.image allowed.image ∙ sym (allowed.sum some);
     }
 
-pub owed-sendable : (tree : List Lineage) {store : StoreState} {position : Pos} {file : Ltx} → Contains tree [] → IsAllowed tree store → IsFile file → Owes store position file → IsSendable tree file
-owed-sendable tree {file = f} never allowed sound (by_file here joins) = allowed.files f here
+pub owed-sendable : (tree : List Lineage) {store : StoreState} {position : Pos} {last : Option LastFile} {file : Ltx} → Contains tree [] → IsAllowed tree store → IsFile file → Owes store position last file → IsSendable tree file
+owed-sendable tree {file = f} never allowed sound (by_file here joins relied) = allowed.files f here
 owed-sendable tree {store = s} never allowed sound (by_snapshot some lacks) = record { of_tree = snapshot-of_tree tree s never allowed some; sound = sound }
+owed-sendable tree {store = s} never allowed sound (by_doubt some may) = record { of_tree = snapshot-of_tree tree s never allowed some; sound = sound }

@@ -7,7 +7,8 @@ use Rattle.lf_sqlite_pages.specs.Image.{DatabaseImage, IsImage, SameImage}
 use Rattle.ltx_codec.specs.declared.file.Ltx.{Ltx}
 use Rattle.ltx_codec.specs.Positions.{Joins, after, before, nowhere}
 use Rattle.ltx_codec.specs.Sums.{image_sum}
-use Rattle.world_laws.specs.Answers.{AnswersDrop, AnswersFrame, AnswersHello, Knows, LeavesUndone, Owes, by_file, by_snapshot, call_of, completed_over, snapshot_of}
+use Rattle.world_laws.specs.declared.last_file.LastFile.{LastFile}
+use Rattle.world_laws.specs.Answers.{AnswersDrop, AnswersFrame, AnswersHello, Knows, LeavesUndone, Owes, by_doubt, by_file, by_snapshot, call_of, completed_over, snapshot_of}
 use Rattle.world_laws.specs.CatchUpLaw.{AnswersByWhole, DropInstalls, IsFreeRefusal, IsHeldBack, IsWhole, SentFileApplies, SnapshotInstalls}
 use Rattle.world_laws.specs.Lineage.{Lineage, Suits, image_of, position_of}
 use Rattle.world_laws.specs.Node.{Answer, Applied, BadFile, Broken, Disk, Gone, Held, Item, Level, Limit, NoMemory, NodeState, NotNext, NotPrimary, NotReplica, PageSize, Primary, Refused, Role, SumDiffers}
@@ -21,28 +22,30 @@ use Rattle.world_laws.proofs.Lineages.{at_nothing, image_of-nothing, position_of
 use Rattle.world_laws.proofs.Snapshots.{whole-same}
 use Rattle.world_laws.proofs.Stores.{end_of-none, end_of-one, end_of-push}
 
-owed-lacking : {store : StoreState} {position : Pos} {file : Ltx} → (Knows store position → ⊥) → Owes store position file → (1 ≤ (at store).txid) × (file ≡ snapshot_of store)
-owed-lacking {file = f} lacks (by_file here joins) = absurd (lacks (inr (inl (f, here, joins))))
+owed-lacking : {store : StoreState} {position : Pos} {last : Option LastFile} {file : Ltx} → (Knows store position last → ⊥) → Owes store position last file
+    → (1 ≤ (at store).txid) × (file ≡ snapshot_of store)
+owed-lacking {file = f} lacks (by_file here joins relied) = absurd (lacks (inl (relied, inr (f, here, joins))))
 owed-lacking lacks (by_snapshot some again) = (some, refl)
+owed-lacking lacks (by_doubt some may) = (some, refl)
 
-answered : (old new : NodeState) (role : Role) (position : Pos) (answer : Answer) → AnswersHello old new role position answer → role ≡ Primary →
-    (Knows old.store position → ⊥) → IsWhole old.store answer ⊎ IsFreeRefusal old new answer
-answered old new role position (Level here) answers primary lacks = elim answers.2 [
-  | inl level ↦ absurd (lacks (inl (level ∙ answers.1)))
-  | inr blank ↦ absurd (lacks (inr (inr blank)))
+answered : (old new : NodeState) (role : Role) (position : Pos) (last : Option LastFile) (answer : Answer) → AnswersHello old new role position last answer → role ≡ Primary →
+    (Knows old.store position last → ⊥) → IsWhole old.store answer ⊎ IsFreeRefusal old new answer
+answered old new role position last (Level here) answers primary lacks = elim answers.2 [
+  | inl level ↦ absurd (lacks (inl (level.0, inl (level.1 ∙ answers.1))))
+  | inr blank ↦ absurd (lacks (inr blank))
 ]
-answered old new role position (Item file) answers primary lacks =
+answered old new role position last (Item file) answers primary lacks =
     let owed = owed-lacking lacks answers.1 in
     inl (inl (owed.0, ap (λ (f : Ltx). Item f) owed.1))
-answered old new role position Gone answers primary lacks = inl (inr (answers.1, refl))
-answered old new role position (Refused NotPrimary) answers primary lacks = absurd (answers primary)
-answered old new role position (Refused Disk) answers primary lacks = inr (inl (refl, answers))
-answered old new role position (Refused Broken) answers primary lacks = inr (inr (inl (refl, answers)))
-answered old new role position (Refused NoMemory) answers primary lacks = inr (inr (inr refl))
-answered old new role position other answers primary lacks = absurd answers
+answered old new role position last Gone answers primary lacks = inl (inr (answers.1, refl))
+answered old new role position last (Refused NotPrimary) answers primary lacks = absurd (answers primary)
+answered old new role position last (Refused Disk) answers primary lacks = inr (inl (refl, answers))
+answered old new role position last (Refused Broken) answers primary lacks = inr (inr (inl (refl, answers)))
+answered old new role position last (Refused NoMemory) answers primary lacks = inr (inr (inr refl))
+answered old new role position last other answers primary lacks = absurd answers
 
 pub answers_by_whole-of : AnswersByWhole
-answers_by_whole-of old new position answer facts primary lacks = answered old new facts.role position answer facts.answers (facts.role_is ∙ primary) lacks
+answers_by_whole-of old new position last answer facts primary lacks = answered old new facts.role position last answer facts.answers (facts.role_is ∙ primary) lacks
 
 -- the call that a snapshot asks for, and what it makes
 pub snapshot-call : (old from : StoreState) → call_of old (snapshot_of from) ≡ Install (snapshot_of from)

@@ -134,7 +134,7 @@ pub role-stays : (ask : Ask) (role : Role) → KeepsRole ask role role
 role-stays File role = refl
 role-stays EndSession role = refl
 role-stays Where role = refl
-role-stays (Hello position) role = refl
+role-stays (Hello position last) role = refl
 role-stays (Frame file) role = refl
 role-stays Drop role = refl
 role-stays Import role = refl

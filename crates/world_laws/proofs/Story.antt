@@ -28,10 +28,10 @@ use Rattle.world_laws.proofs.StoryParts.{at-first, call-first, can-commit-first,
 commits-first : (file : Ltx) → IsFirst file → Made (node Primary empty_store None) (node Primary (store_of file) None) File Done (Commit file ∷ []) None
 commits-first file first = made Primary Primary empty_store (store_of file) None None File Done (Commit file ∷ []) commits (can-commit-first file first, tt) refl tt tt refl
 
-sends-file : (file : Ltx) → IsFirst file → Made (node Primary (store_of file) None) (node Primary (store_of file) None) (Hello nowhere) (Item file) [] None
+sends-file : (file : Ltx) → IsFirst file → Made (node Primary (store_of file) None) (node Primary (store_of file) None) (Hello nowhere None) (Item file) [] None
 sends-file file first =
-    made Primary Primary (store_of file) (store_of file) None None (Hello nowhere) (Item file) [] nothing tt refl
-    (refl, by_file (Contains-push [] file) first.joins.next, first.sound) tt refl
+    made Primary Primary (store_of file) (store_of file) None None (Hello nowhere None) (Item file) [] nothing tt refl
+    (refl, by_file (Contains-push [] file) first.joins.next tt, first.sound) tt refl
 
 installs : (file : Ltx) (old : StoreState) → IsFile file → file.header.min ≡ 1 → (position : Pos) → at (installed file) ≡ position →
     Made (node Replica old None) (node Replica (installed file) None) (Frame file) (Applied position) (Install file ∷ []) None
@@ -42,9 +42,9 @@ installs file old sound first position here =
     (ap (λ (c : StoreCall). c ∷ []) (sym (call-first old file first)), refl, sym here) tt refl
 
 sends-snapshot : (here there : Ltx) → IsFirst here → IsFirst there → after here ≢ after there →
-    Made (node Primary (store_of here) None) (node Primary (store_of here) None) (Hello (after there)) (Item (snapshot_of (store_of here))) [] None
+    Made (node Primary (store_of here) None) (node Primary (store_of here) None) (Hello (after there) None) (Item (snapshot_of (store_of here))) [] None
 sends-snapshot here there is other differ =
-    made Primary Primary (store_of here) (store_of here) None None (Hello (after there)) (Item (snapshot_of (store_of here))) [] nothing tt refl
+    made Primary Primary (store_of here) (store_of here) None None (Hello (after there) None) (Item (snapshot_of (store_of here))) [] nothing tt refl
     (refl, by_snapshot (some-first here is) (lacks-other here there is other differ), snapshot-sent here is) tt refl
 
 gets-permit : (store : StoreState) → Made (node Replica store None) (node Halted store None) Permit Done [] None
@@ -82,9 +82,9 @@ written-second store first file second =
 drops-it : (store : StoreState) → 1 ≤ (at store).txid → Made (node Primary store None) (node Primary dropped_store None) File Done (DropAll ∷ []) None
 drops-it store some = made Primary Primary store dropped_store None None File Done (DropAll ∷ []) unlinks (some, tt) refl tt tt refl
 
-says-gone : (first file : Ltx) → IsSecond first file → Made (node Primary dropped_store None) (node Primary dropped_store None) (Hello (after file)) Gone [] None
+says-gone : (first file : Ltx) → IsSecond first file → Made (node Primary dropped_store None) (node Primary dropped_store None) (Hello (after file) None) Gone [] None
 says-gone first file second =
-    made Primary Primary dropped_store dropped_store None None (Hello (after file)) Gone [] nothing tt refl
+    made Primary Primary dropped_store dropped_store None None (Hello (after file) None) Gone [] nothing tt refl
     (refl, refl, λ same. let none : file.header.max ≡ 0 = ap (λ (p : Pos). p.txid) (same ∙ end_of-none) in omega (arith, none, second.max)) tt refl
 
 halted_primary : Halted ≡ Primary → ⊥
@@ -154,8 +154,8 @@ told lost won next_file l w n differ =
     turn-0 (p e) (r e) (p e) (p a) t0 t1 [] [] g1 (Some 0) [] File Done (Commit lost ∷ []) None (commits-first lost l) tt
     (goes-commit 0 1 e t0 lost [] (Contains-push [] []) (position_of-nothing ∙ sym end_of-none))
     in
-    let h03 : LedTurn w02 0 (Hello nowhere) (Item lost) w03 =
-    turn-0 (p a) (r e) (p e) (p a) t1 t1 [] [] g1 (Some 0) k1 (Hello nowhere) (Item lost) [] None (sends-file lost l) tt (goes-idle 0 1 a t1 (Some 0)) in
+    let h03 : LedTurn w02 0 (Hello nowhere None) (Item lost) w03 =
+    turn-0 (p a) (r e) (p e) (p a) t1 t1 [] [] g1 (Some 0) k1 (Hello nowhere None) (Item lost) [] None (sends-file lost l) tt (goes-idle 0 1 a t1 (Some 0)) in
     let h04 : LedTurn w03 1 (Frame lost) (Applied (after lost)) w04 =
     turn-1 (p a) (r e) (p e) (r (installed lost)) t1 t1 s1 [] g1 (Some 0) k1 (Frame lost) (Applied (after lost)) (Install lost ∷ []) None
     (installs lost e l.sound l.min (after lost) (end_of-one lost)) (Contains-push [] (FileFrame lost)) (goes-install 1 1 e t1 (Some 0) lost)
@@ -170,10 +170,10 @@ told lost won next_file l w n differ =
       along = record { finds = inr (refl, grown_b, refl); failing = λ j. refl; frames = (refl, refl); lease = (refl, refl) };
       others = λ other differs. stays-2 (p a) (r (installed lost)) (broken_node (Commit won)) (p b) other differs;
     } in
-    let h08 : LedTurn w07 0 (Hello (after won)) (Item fa) w08 =
-    turn-0 (p a) (r (installed lost)) (p b) (p a) t2 t2 s1 [] g2 (Some 2) k3 (Hello (after won)) (Item fa) [] None (sends-snapshot lost won l w differ) tt (goes-idle 0 2 a t2 (Some 2)) in
-    let h09 : LedTurn w08 2 (Hello (after lost)) (Item fb) w09 =
-    turn-2 (p a) (r (installed lost)) (p b) (p b) t2 t2 s2 [] g2 (Some 2) k3 (Hello (after lost)) (Item fb) [] None (sends-snapshot won lost w l back) tt (goes-idle 2 2 b t2 (Some 2)) in
+    let h08 : LedTurn w07 0 (Hello (after won) None) (Item fa) w08 =
+    turn-0 (p a) (r (installed lost)) (p b) (p a) t2 t2 s1 [] g2 (Some 2) k3 (Hello (after won) None) (Item fa) [] None (sends-snapshot lost won l w differ) tt (goes-idle 0 2 a t2 (Some 2)) in
+    let h09 : LedTurn w08 2 (Hello (after lost) None) (Item fb) w09 =
+    turn-2 (p a) (r (installed lost)) (p b) (p b) t2 t2 s2 [] g2 (Some 2) k3 (Hello (after lost) None) (Item fb) [] None (sends-snapshot won lost w l back) tt (goes-idle 2 2 b t2 (Some 2)) in
     let sent_b : Contains s3 (FileFrame fb) = Contains-push s2 (FileFrame fb) in
     let sent_a : Contains s3 (FileFrame fa) = Contains-append_left s2 (FileFrame fb ∷ []) (FileFrame fa) (Contains-push s1 (FileFrame fa)) in
     let h10 : LedTurn w09 1 (Frame fb) (Applied (after won)) w10 =
@@ -208,8 +208,8 @@ told lost won next_file l w n differ =
     let h17 : Leases w16 g2 (Some 2) w17 = leased (p a) (h d) (p c) t3 s3 (next_file ∷ []) g2 g2 (Some 2) (Some 2) k6 in
     let h18 : LedTurn w17 2 File Done w18 =
     turn-2 (p a) (h d) (p c) (p dropped_store) t3 t3 s3 (next_file ∷ []) g2 (Some 2) k6 File Done (DropAll ∷ []) None (drops-it c (written-second b won next_file n)) tt (goes-drop 2 2 c t3 (Some 2)) in
-    let h19 : LedTurn w18 2 (Hello (after next_file)) Gone w19 =
-    turn-2 (p a) (h d) (p dropped_store) (p dropped_store) t3 t3 s3 (next_file ∷ []) g2 (Some 2) k7 (Hello (after next_file)) Gone [] None (says-gone won next_file n) tt
+    let h19 : LedTurn w18 2 (Hello (after next_file) None) Gone w19 =
+    turn-2 (p a) (h d) (p dropped_store) (p dropped_store) t3 t3 s3 (next_file ∷ []) g2 (Some 2) k7 (Hello (after next_file) None) Gone [] None (says-gone won next_file n) tt
     (goes-idle 2 2 dropped_store t3 (Some 2))
     in
     let h20 : LedTurn w19 1 Drop (Applied nowhere) w20 =

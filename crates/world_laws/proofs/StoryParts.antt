@@ -61,15 +61,15 @@ position-second first file is second =
     ∙ pos_of_parts (record { txid = 1 + 1; sum = image_sum (apply (image_of (first.change ∷ [])) file.change) }) (after file) (sym second.max) sum
 
 -- the store of a first file lacks where another one leads
-pub lacks-other : (here there : Ltx) → IsFirst here → IsFirst there → after here ≢ after there → Knows (store_of here) (after there) → ⊥
-lacks-other here there is other differ (inl same) = differ (sym (same ∙ at-first here))
-lacks-other here there is other differ (inr (inl known)) = elim (Contains-push_cases [] here known.0 known.1) [
+pub lacks-other : (here there : Ltx) → IsFirst here → IsFirst there → after here ≢ after there → Knows (store_of here) (after there) None → ⊥
+lacks-other here there is other differ (inl (_, inl same)) = differ (sym (same ∙ at-first here))
+lacks-other here there is other differ (inl (_, inr known)) = elim (Contains-push_cases [] here known.0 known.1) [
   | inl none_at ↦ omega (arith, none_at.1)
   | inr same ↦
       let txid : here.header.min - 1 ≡ there.header.max = ap (λ (f : Ltx). f.header.min - 1) same ∙ ap (λ (p : Pos). p.txid) known.2 in
       omega (arith, txid, is.min, other.max)
 ]
-lacks-other here there is other differ (inr (inr blank)) = cc
+lacks-other here there is other differ (inr blank) = cc
 
 pub some-first : (file : Ltx) → IsFirst file → 1 ≤ (at (store_of file)).txid
 some-first file first = first.full.some

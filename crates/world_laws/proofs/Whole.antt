@@ -51,11 +51,11 @@ no_file file same = cc
 -- a file that a step sends
 sent_of : (tree : List Lineage) (old new : NodeState) (role : Role) (did : List StoreCall) (failed : Option Failure) → Contains tree [] → IsAllowed tree old.store → (ask : Ask) (answer : Answer) →
     Answers old role ask did failed answer new → (file : Ltx) → Contains (sent_by ask answer) (FileFrame file) → IsSendable tree file
-sent_of tree old new role did failed never allowed (Hello position) (Item other) answers file here = elim (Contains-push_cases [] (FileFrame other) (FileFrame file) here) [
+sent_of tree old new role did failed never allowed (Hello position last) (Item other) answers file here = elim (Contains-push_cases [] (FileFrame other) (FileFrame file) here) [
   | inl none_at ↦ absurd (omega (arith, none_at.1))
   | inr same ↦ subst (λ (f : Ltx). IsSendable tree f) (same_file other file same) (owed-sendable tree never allowed answers.2 answers.1)
 ]
-sent_of tree old new role did failed never allowed (Hello position) Gone answers file here = elim (Contains-push_cases [] DropFrame (FileFrame file) here) [
+sent_of tree old new role did failed never allowed (Hello position last) Gone answers file here = elim (Contains-push_cases [] DropFrame (FileFrame file) here) [
   | inl none_at ↦ absurd (omega (arith, none_at.1))
   | inr same ↦ no_file file same
 ]

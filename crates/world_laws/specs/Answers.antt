@@ -1,6 +1,7 @@
 -- What an answer of a node says of its step: which answers an ask has, and the cause of each refusal.
 --
--- A follower is told that it is level, gets one file, or is told that the database is gone. A frame is applied, held
+-- A follower is told that it is level, gets one file, or is told that the database is gone. What it says of its last
+-- file may make its position count as unknown. A frame is applied, held
 -- back by a lock that somebody holds, or refused. A commit of a halted node is sent and kept, and its reply brings the
 -- node to where the file leads, or changes nothing. Of other asks no answer says anything, but that a refusal and Held
 -- leave every call undone.
@@ -14,6 +15,8 @@ use Rattle.ltx_codec.specs.declared.file.Ltx.{Ltx}
 use Rattle.ltx_codec.specs.Format.{IsFile}
 use Rattle.ltx_codec.specs.Positions.{after, before, nowhere, sum_after}
 use Rattle.lf_sqlite_pages.specs.Writes.{data_writes}
+use Rattle.world_laws.specs.declared.last_file.LastFile.{LastFile}
+use Rattle.world_laws.specs.declared.last_file.LastFile.TheVariants as last_file
 use Rattle.world_laws.specs.Node.{Answer, Applied, Ask, BadFile, Broken, Disk, Done, Drop, File, Forward, Forwarded, Frame, Gone, Halted, Held, Hello, Item, Level, Limit, NoMemory, NodeState, NotNext, NotPrimary, NotReplica, PageSize, Primary, Refusal, Refused, Role, Send, SumDiffers}
 use Rattle.world_laws.specs.Served.{HoldsBack}
 use Rattle.world_laws.specs.Store.{Apply, Commit, DropAll, Failure, Install, StoreCall, StoreState, at}
@@ -46,25 +49,43 @@ snapshot_of store = record {
 abbrev pub IsBlank : StoreState → Type 0
 IsBlank store = (store.log ≡ []) × (store.dropped ≡ false)
 
--- a store knows a position: its own, one from which a file of its log leads on, and any where it is blank
-abbrev pub Knows : StoreState → Pos → Type 0
-Knows store position = (position ≡ at store) ⊎ ((file : Ltx) × Contains store.log file × (before file ≡ position)) ⊎ IsBlank store
+-- a follower's position counts by what it says of its last file: it doesn't say that it is unknown, or the log is empty
+abbrev pub IsRelied : StoreState → Option LastFile → Type 0
+IsRelied store (Some last_file.Unknown) = store.log ≡ []
+IsRelied store last = Unit {0}
 
--- the file that a store owes a follower at that position: the one of its log that leads on, else the snapshot
-pub data Owes : StoreState → Pos → Ltx → Type 0 where
-  by_file : {store : StoreState} {position : Pos} {file : Ltx} → Contains store.log file → before file ≡ position → Owes store position file
-  by_snapshot : {store : StoreState} {position : Pos} → 1 ≤ (at store).txid → (Knows store position → ⊥) → Owes store position (snapshot_of store)
+-- its position may count as unknown: it says so, or the log has a file of just these transactions, whose checksum may be another
+abbrev pub MayDoubt : StoreState → Option LastFile → Type 0
+MayDoubt store None = ⊥
+MayDoubt store (Some last_file.Unknown) = Unit {0}
+MayDoubt store (Some (last_file.File min max sum)) = (file : Ltx) × Contains store.log file × (file.header.min ≡ min) × (file.header.max ≡ max)
+
+-- a store knows a position that doesn't count as unknown: its own, and one from which a file of its log leads on; and any where it
+-- is blank
+abbrev pub Knows : StoreState → Pos → Option LastFile → Type 0
+Knows store position last =
+    (IsRelied store last × ((position ≡ at store) ⊎ ((file : Ltx) × Contains store.log file × (before file ≡ position)))) ⊎ IsBlank store
+
+-- the file that a store owes a follower at that position: the one of its log that leads on, or the snapshot where the log does not
+-- know the position, and where the last file may be another than the log's
+pub data Owes : StoreState → Pos → Option LastFile → Ltx → Type 0 where
+  by_file : {store : StoreState} {position : Pos} {last : Option LastFile} {file : Ltx} → Contains store.log file → before file ≡ position → IsRelied store last
+      → Owes store position last file
+  by_snapshot : {store : StoreState} {position : Pos} {last : Option LastFile} → 1 ≤ (at store).txid → (Knows store position last → ⊥)
+      → Owes store position last (snapshot_of store)
+  by_doubt : {store : StoreState} {position : Pos} {last : Option LastFile} → 1 ≤ (at store).txid → MayDoubt store last
+      → Owes store position last (snapshot_of store)
 
 -- a follower that is level, the file that is owed, word of the drop, or the cause why there is none
-abbrev pub AnswersHello : NodeState → NodeState → Role → Pos → Answer → Type 0
-AnswersHello old new role position (Level here) = (role ≡ Primary) × (here ≡ at old.store) × ((position ≡ here) ⊎ IsBlank old.store)
-AnswersHello old new role position (Item file) = (role ≡ Primary) × Owes old.store position file × IsFile file
-AnswersHello old new role position Gone = (role ≡ Primary) × (old.store.dropped ≡ true) × (position ≢ at old.store)
-AnswersHello old new role position (Refused NotPrimary) = role ≢ Primary
-AnswersHello old new role position (Refused Disk) = Rose old.faults new.faults
-AnswersHello old new role position (Refused Broken) = IsSome old.failed
-AnswersHello old new role position (Refused NoMemory) = Unit {0}
-AnswersHello old new role position other = ⊥
+abbrev pub AnswersHello : NodeState → NodeState → Role → Pos → Option LastFile → Answer → Type 0
+AnswersHello old new role position last (Level here) = (role ≡ Primary) × (here ≡ at old.store) × ((IsRelied old.store last × (position ≡ here)) ⊎ IsBlank old.store)
+AnswersHello old new role position last (Item file) = (role ≡ Primary) × Owes old.store position last file × IsFile file
+AnswersHello old new role position last Gone = (role ≡ Primary) × (old.store.dropped ≡ true) × (position ≢ at old.store)
+AnswersHello old new role position last (Refused NotPrimary) = role ≢ Primary
+AnswersHello old new role position last (Refused Disk) = Rose old.faults new.faults
+AnswersHello old new role position last (Refused Broken) = IsSome old.failed
+AnswersHello old new role position last (Refused NoMemory) = Unit {0}
+AnswersHello old new role position last other = ⊥
 
 -- a file made complete over a store: as zeros it then also holds each data page past the old size that it does not write
 abbrev pub completed_over : StoreState → Ltx → Ltx
@@ -133,7 +154,7 @@ AnswersForwarded old role ok failed other new = ⊥
 abbrev pub Answers : NodeState → Role → Ask → List StoreCall → Option Failure → Answer → NodeState → Type 0
 Answers old role (Frame file) did failed answer new = AnswersFrame old role file did failed answer new
 Answers old role Drop did failed answer new = AnswersDrop old role did failed answer new
-Answers old role (Hello position) did failed answer new = AnswersHello old new role position answer
+Answers old role (Hello position last) did failed answer new = AnswersHello old new role position last answer
 Answers old role (Forwarded ok) did failed answer new = AnswersForwarded old role ok failed answer new
 Answers old role (Forward file) did failed (Applied position) new = (did ≡ Commit (completed_over old.store file) ∷ []) × (failed ≡ None)
 Answers old role File did failed (Send file) new = IsSent old new role file did failed

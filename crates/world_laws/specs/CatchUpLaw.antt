@@ -1,13 +1,14 @@
--- The third law: a position that the primary's log lacks is answered by one snapshot, or by Gone where the database was
--- dropped; and what is then delivered is applied, once nobody holds a lock against it, unless a disk failed, memory was
+-- The third law: a position that the primary's log lacks, and one that counts as unknown by what the follower says of its
+-- last file, is answered by one snapshot, or by Gone where the database was dropped; and what is then delivered is applied, once nobody holds a lock against it, unless a disk failed, memory was
 -- refused, or the store was broken before. A node is primary in such a step where it is so afterwards.
-use Rattle.std.specs.Prelude.{◌≡◌, ◌≢◌, ◌⊎◌, ℕ, ◌≤◌, true, IsSome, []}
+use Rattle.std.specs.Prelude.{◌≡◌, ◌≢◌, ◌⊎◌, ℕ, ◌≤◌, true, Option, IsSome, []}
 use Rattle.lf_base.specs.declared.pos.Pos.{Pos}
 use Rattle.lf_base.specs.Faults.{Rose}
 use Rattle.byte_locks.specs.declared.lock_id.LockId.{LockId}
 use Rattle.lf_sqlite_pages.specs.Image.{IsImage, SameImage}
 use Rattle.ltx_codec.specs.declared.file.Ltx.{Ltx}
 use Rattle.ltx_codec.specs.Positions.{after, before, nowhere}
+use Rattle.world_laws.specs.declared.last_file.LastFile.{LastFile}
 use Rattle.world_laws.specs.Answers.{Knows, snapshot_of}
 use Rattle.world_laws.specs.Events.{Happens, Steps}
 use Rattle.world_laws.specs.Node.{Answer, Applied, Broken, Disk, Drop, Frame, Gone, Held, Hello, Item, NoMemory, NodeState, Primary, Refused}
@@ -29,8 +30,8 @@ IsWhole store answer = ((1 ≤ (at store).txid) × (answer ≡ Item (snapshot_of
 
 -- a primary answers a position that its log lacks by one of the two, and by nothing else
 abbrev pub AnswersByWhole : Type 0
-AnswersByWhole = (old new : NodeState) (position : Pos) (answer : Answer) → StepFacts old (Hello position) answer new → new.role ≡ Primary →
-    (Knows old.store position → ⊥) → IsWhole old.store answer ⊎ IsFreeRefusal old new answer
+AnswersByWhole = (old new : NodeState) (position : Pos) (last : Option LastFile) (answer : Answer) → StepFacts old (Hello position last) answer new → new.role ≡ Primary →
+    (Knows old.store position last → ⊥) → IsWhole old.store answer ⊎ IsFreeRefusal old new answer
 
 -- a lock that somebody holds held the frame back, and the store is as it was
 abbrev pub IsHeldBack : NodeState → NodeState → Answer → Type 0

@@ -6,6 +6,7 @@ use Rattle.std.specs.Prelude.{◌≡◌, ℕ, Bool, Option, None}
 use Rattle.lf_base.specs.declared.pos.Pos.{Pos}
 use Rattle.byte_locks.specs.declared.lock_id.LockId.{LockId}
 use Rattle.ltx_codec.specs.declared.file.Ltx.{Ltx}
+use Rattle.world_laws.specs.declared.last_file.LastFile.{LastFile}
 use Rattle.world_laws.specs.Served.{MeetsOverlay, Served, ShareForReading}
 use Rattle.world_laws.specs.Store.{Failure, StoreState}
 
@@ -26,7 +27,7 @@ pub data Ask : Type 0 where
   File : Ask  -- a request on the served files
   EndSession : Ask
   Where : Ask
-  Hello : Pos → Ask  -- what does a follower at this position need
+  Hello : Pos → Option LastFile → Ask  -- what does a follower at this position need, which says this of its last file
   Frame : Ltx → Ask  -- an LTX frame that was delivered
   Drop : Ask  -- a Drop frame that was delivered
   Import : Ask

@@ -6,7 +6,7 @@
 -- that it lacks by its snapshot. Node 1 installs the winner's, then the loser's, which comes late, then the winner's
 -- again. It gets a write permit, sends a commit to node 2, which accepts it, and is told so. Last, node 2 drops the
 -- database, tells a follower so, and node 1 drops it too.
-use Rattle.std.specs.Prelude.{◌≡◌, ◌≢◌, ℕ, List, [], ◌∷◌, length, true}
+use Rattle.std.specs.Prelude.{◌≡◌, ◌≢◌, ℕ, List, [], ◌∷◌, length, None, true}
 use Rattle.lf_sqlite_pages.specs.Change.{PageChange}
 use Rattle.ltx_codec.specs.Fields.{AreBytes}
 use Rattle.ltx_codec.specs.Sums.{sum_of_writes}
@@ -66,13 +66,13 @@ abbrev pub story : Ltx → Ltx → Ltx → List Event
 story lost won next =
     Grants 0
     ∷ Steps 0 File Done
-    ∷ Steps 0 (Hello nowhere) (Item lost)
+    ∷ Steps 0 (Hello nowhere None) (Item lost)
     ∷ Steps 1 (Frame lost) (Applied (after lost))
     ∷ Grants 2
     ∷ Steps 2 File (Refused Disk)
     ∷ Opens 2 (store_of won)
-    ∷ Steps 0 (Hello (after won)) (Item (snapshot_of (store_of lost)))
-    ∷ Steps 2 (Hello (after lost)) (Item (snapshot_of (store_of won)))
+    ∷ Steps 0 (Hello (after won) None) (Item (snapshot_of (store_of lost)))
+    ∷ Steps 2 (Hello (after lost) None) (Item (snapshot_of (store_of won)))
     ∷ Steps 1 (Frame (snapshot_of (store_of won))) (Applied (after won))
     ∷ Steps 1 (Frame (snapshot_of (store_of lost))) (Applied (after lost))
     ∷ Steps 1 (Frame (snapshot_of (store_of won))) (Applied (after won))
@@ -82,7 +82,7 @@ story lost won next =
     ∷ Steps 1 (Forwarded true) Done
     ∷ Renews
     ∷ Steps 2 File Done
-    ∷ Steps 2 (Hello (after next)) Gone
+    ∷ Steps 2 (Hello (after next) None) Gone
     ∷ Steps 1 Drop (Applied nowhere)
     ∷ Loses
     ∷ []

@@ -59,8 +59,8 @@ acts_along term node (call ∷ calls) acts = acts_along term node calls (acts_by
 
 -- what an answer sends on a stream
 abbrev pub sent_by : Ask → Answer → List SentFrame
-sent_by (Hello position) (Item file) = FileFrame file ∷ []
-sent_by (Hello position) Gone = DropFrame ∷ []
+sent_by (Hello position last) (Item file) = FileFrame file ∷ []
+sent_by (Hello position last) Gone = DropFrame ∷ []
 sent_by ask answer = []
 
 -- the forwarded file that an answer accepts

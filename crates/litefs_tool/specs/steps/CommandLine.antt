@@ -13,7 +13,7 @@ with_name app name = with_subcommand app (new_shape name)
 
 -- the program, with a subcommand for each command
 abbrev pub program : App
-program = with_name (with_name (with_name (on_top bare (new_app (codes "litefs"))) (codes "apply")) (codes "compact")) (codes "mount")
+program = with_name (with_name (with_name (with_name (on_top bare (new_app (codes "litefs"))) (codes "apply")) (codes "compact")) (codes "mount")) (codes "lease")
 
 -- the name is this command's, or no command's
 abbrev pub IsNamed : Option (List ℕ) → Option Command → Type 0

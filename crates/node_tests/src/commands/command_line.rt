@@ -9,6 +9,7 @@ const NAMED: &[(&str, Command)] = &[
     ("apply", Command::Apply),
     ("compact", Command::Compact),
     ("mount", Command::Mount),
+    ("lease", Command::Lease),
 ];
 
 const REFUSED: &[&[&str]] = &[
@@ -37,6 +38,9 @@ const REFUSED: &[&[&str]] = &[
     &["--", "apply"],
     &["mount", "--help"],
     &["help", "mount"],
+    &["lease", "--help"],
+    &["leases"],
+    &["mount", "lease"],
     &["compact", "-x", "mount"],
 ];
 

@@ -72,6 +72,7 @@ impl Machine for Scripted {
             | Ask::Frame { .. }
             | Ask::Drop { .. }
             | Ask::Prune { .. }
+            | Ask::Info { .. }
             | Ask::Lease { .. } => {
                 self.note(0);
                 Answer::Quiet

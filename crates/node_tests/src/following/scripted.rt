@@ -1,8 +1,7 @@
 //! A machine that answers each file and each drop by the next word of a script, and keeps what it was
 //! asked.
 use byte_locks::LockId;
-use lf_base::Pos;
-use node_core::{Answer, Ask, Refusal};
+use node_core::{Answer, Ask, Refusal, Whereabouts};
 use std::alloc::Global;
 use turn_desk::Machine;
 use txn_log::StoreFault;
@@ -17,7 +16,7 @@ pub enum Word {
 
 #[derive(Drop)]
 pub struct Scripted {
-    pos: Pos,
+    here: Whereabouts,
     script: &'static [Word],
     at: usize,
     /// The number of bytes of each file that it was asked, 1 for Where and 0 for a drop.
@@ -25,9 +24,9 @@ pub struct Scripted {
 }
 
 impl Scripted {
-    pub fn new(alloc: Global, pos: Pos, script: &'static [Word]) -> Scripted {
+    pub fn new(alloc: Global, here: Whereabouts, script: &'static [Word]) -> Scripted {
         Scripted {
-            pos,
+            here,
             script,
             at: 0,
             asked: Vec::new(alloc),
@@ -40,7 +39,7 @@ impl Scripted {
         match word {
             Some(Word::Held) => Answer::Held(LockId::Shared),
             Some(Word::Disk) => Answer::Refused(Refusal::Store(StoreFault::Disk)),
-            _ => Answer::Applied(self.pos),
+            _ => Answer::Applied(self.here.pos),
         }
     }
 }
@@ -56,7 +55,7 @@ impl Machine for Scripted {
         match ask {
             Ask::Where => {
                 let _ = self.asked.push(1);
-                Answer::At(self.pos)
+                Answer::At(self.here)
             }
             Ask::Frame { bytes, .. } => {
                 let _ = self.asked.push(bytes.as_slice().len() as u64);

@@ -158,6 +158,7 @@ fn request<R: Copy + Abort>(rt: R, alloc: Global, now: u64, deed: Deed) -> Ask {
         Deed::Hello => Ask::Hello {
             now,
             pos: Pos { txid: 0, sum: 0 },
+            last: None,
         },
         Deed::Frame => Ask::Frame {
             now,
@@ -205,7 +206,7 @@ pub fn told_of(answer: &Answer) -> Told {
         Answer::Done(_) => Told::Done,
         Answer::Quiet => Told::Quiet,
         Answer::Refuse(number) => Told::Refuse(number.0),
-        Answer::At(position) => Told::At(position.txid),
+        Answer::At(here) => Told::At(here.pos.txid),
         Answer::Level(_) => Told::Level,
         Answer::Item { .. } => Told::Item,
         Answer::Refused(Refusal::NotPrimary) => Told::NotPrimary,

@@ -6,11 +6,11 @@ use Rattle.replica_apply.proofs.following.follow_all.Goals as goal
 
 pub returns-in-Err-send_request-clause-ends : goal.returns-in-Err-send_request-clause-ends
 returns-in-Err-send_request-clause-ends g c =
-    unsent c.in-Ok.pos c.in-Ok.ensures.says (record { why = c.in-Err-send_request.why; cause = c.in-Err-send_request.ensures.end; is = c.unsent_by.ensures }) c.send_request.ensures.left
+    unsent c.in-Ok.here c.in-Ok.ensures.says (record { why = c.in-Err-send_request.why; cause = c.in-Err-send_request.ensures.end; is = c.unsent_by.ensures }) c.send_request.ensures.left
 
 pub returns-clause-ends : goal.returns-clause-ends
 returns-clause-ends g c =
-    answered c.in-Ok.pos (stand g.L.Link c.send_request.new.link (g.S.Steps.entries c.ask_where.new.steps)) c.in-Ok.ensures.says
+    answered c.in-Ok.here (stand g.L.Link c.send_request.new.link (g.S.Steps.entries c.ask_where.new.steps)) c.in-Ok.ensures.says
     c.in-Ok-send_request.ensures.end.0 c.send_request.ensures.left c.in-Ok-send_request.ensures.end.1
     (subst (λ (w : Asker). EndsAnswer w c.args.name.now (stand g.L.Link c.send_request.new.link (g.S.Steps.entries c.ask_where.new.steps))
     (stand g.L.Link c.follow_reply.new.link (g.S.Steps.entries c.follow_reply.new.steps)) c.follow_reply.new.turns c.follow_reply.result)

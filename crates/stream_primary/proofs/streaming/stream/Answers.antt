@@ -1,7 +1,8 @@
-use Rattle.std.proofs.Common.{◌∙◌, arith}
+use Rattle.std.proofs.Common.{◌∙◌, arith, Err, ℕ, subst}
 use Rattle.std.proofs.KnownBytes.{Keeps-trans}
-use Rattle.link_session.specs.Stands.{stand}
+use Rattle.link_session.specs.Stands.{Asker, asker, stand}
 use Rattle.link_session.proofs.Stands.{same_asker, spent_on}
+use Rattle.stream_primary.specs.Streaming.{EndsRound}
 use Rattle.stream_primary.proofs.Streams.{one_sent}
 use Rattle.stream_primary.proofs.streaming.stream.Goals as goal
 
@@ -23,3 +24,18 @@ hellos-preserved g c = record {
       (stand g.L.Link c.greet.new.link (g.S.Steps.entries c.greet.new.steps)) c.hellos.invariant.spent c.in-Ok.ensures.spent.1;
   count = c.in-Ok.ensures.round.4 ∙ c.hellos.invariant.count;
 }
+
+pub returns-in-Err-clause-streams : goal.returns-in-Err-clause-streams
+returns-in-Err-clause-streams g c =
+    let place = (stand g.L.Link c.hellos.link (g.S.Steps.entries c.hellos.steps)).place in
+    let new = (stand g.L.Link c.greet.new.link (g.S.Steps.entries c.greet.new.steps)).place in
+    let after = g.L.Link.faults c.greet.new.link in
+    let turns = c.greet.new.turns in
+    let by = same_asker _ _ _ _ c.hellos.invariant.same.1 c.hellos.invariant.same.3 in
+    record {
+      at = c.hellos.at;
+      place = place;
+      rounds = c.hellos.invariant.sent;
+      last = subst (λ (f : ℕ). EndsRound (asker g.S.Steps g.C.Clock c.args.steps.now c.args.clock.now) c.args.name.now c.hellos.at place new f after turns (Err c.in-Err.end)) c.hellos.invariant.count
+          (subst (λ (w : Asker). EndsRound w c.args.name.now c.hellos.at place new (g.L.Link.faults c.hellos.link) after turns (Err c.in-Err.end)) by c.in-Err.ensures.round);
+    }

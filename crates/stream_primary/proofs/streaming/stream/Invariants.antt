@@ -7,7 +7,7 @@ use Rattle.stream_primary.proofs.streaming.stream.Given as goal
 
 abbrev pub invariant-hellos : goal.invariant-hellos
 invariant-hellos g l = record {
-  sent : Streamed (asker g.S.Steps g.C.Clock l.initial.steps l.initial.clock) l.name (standing_at l.fn.pos) l.at
+  sent : Streamed (asker g.S.Steps g.C.Clock l.initial.steps l.initial.clock) l.name (standing_at l.fn.from) l.at
       (stand g.L.Link l.initial.link (g.S.Steps.entries l.initial.steps)).place (stand g.L.Link l.link (g.S.Steps.entries l.steps)).place;
   left : Keeps (g.L.Link.left l.initial.link) (g.L.Link.left l.link);
   same : AsksOn g.S.Steps g.C.Clock l.initial.steps l.steps l.initial.clock l.clock;

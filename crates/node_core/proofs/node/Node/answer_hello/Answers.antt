@@ -18,9 +18,9 @@ returns g c =
     let same : history mid ≡ h = λ i. history_of (given.store i) in
     record {
       step = λ caller.
-          step-still c.moment_is_of_step.ensures h old c.args.now (history mid) (parts_of mid) same given.parts (asks.Hello c.args.now c.args.from) c.hello.result (history m) (parts_of m)
+          step-still c.moment_is_of_step.ensures h old c.args.now (history mid) (parts_of mid) same given.parts (asks.Hello c.args.now c.args.from c.args.last) c.hello.result (history m) (parts_of m)
           record { node = refl; moment = refl } n.image n.locked.together n.replica caller
           (carried c.moment_is_of_step.ensures h old c.args.now (history mid) (parts_of mid) same given.parts
-          (λ (b : History) (p : NodeParts). AnswersHello b p c.args.from c.hello.result (history m) (parts_of m)) c.hello.ensures.does)
+          (λ (b : History) (p : NodeParts). AnswersHello b p c.args.from c.args.last c.hello.result (history m) (parts_of m)) c.hello.ensures.does)
           c.hello.ensures.safe c.hello.ensures.standing (λ r keeps. keeps) refl c.hello.ensures.honest;
     }

@@ -17,3 +17,6 @@ returns-in-Prune g c = rw c.in-Prune.is (c.prune.ensures.step c.args.caller)
 
 pub returns-in-Lease : goal.returns-in-Lease
 returns-in-Lease g c = rw c.in-Lease.is (c.answer_lease.ensures.step c.args.caller)
+
+pub returns-in-Info : goal.returns-in-Info
+returns-in-Info g c = rw c.in-Info.is (c.answer_info.ensures.step c.args.caller)

@@ -1,0 +1,150 @@
+//! What a node does beside serving links: it follows a primary, and makes rounds.
+ghost use Rattle.std.specs.Prelude.{◌≡◌, IfOk};
+ghost use Rattle.node_mount.specs.Duties.{AreDuties, AreRounds, IsFirst, IsKept, first_wish as wish_at, own_of as own_at, round_naps as naps_by};
+ghost use Rattle.node_mount.specs.Standing.{stands_as_primary as stands};
+
+use crate::board::Board;
+use crate::following::Primary;
+use crate::keeper::Keeper;
+use crate::lease_rounds::Rounds;
+use crate::patience::naps_of;
+use crate::to_primary::ToPrimary;
+use crate::wish::Wish;
+use lease_core::Grant;
+use lf_base::{Dialer, NoMemory, Text};
+use node_settings::{LeaseSettings, LeaseType, Settings, Url};
+use std::alloc::Global;
+
+/// The naps of a round of a node that asks no lease service.
+const NAPS: u64 = 200;
+
+/// What a node does beside serving links.
+#[derive(Drop)]
+pub struct Duties<T> {
+    pub primary: Primary<T>,
+    pub rounds: Rounds<T>,
+}
+
+/// Whether a node is primary from the start.
+pub fn stands_as_primary(lease: &LeaseSettings) -> bool
+    ensures { result ≡ stands lease.now.lease_type lease.now.candidate }
+{
+    match lease.lease_type {
+        LeaseType::Static => lease.candidate,
+        LeaseType::Service => false,
+    }
+}
+
+/// What a node of this number does. It follows by dialers of this one's kind; `asking` dials the lease
+/// service, where there is one.
+pub fn duties_of<T: Dialer + Drop>(
+    alloc: Global,
+    settings: &Settings,
+    node: u64,
+    dialer: &T,
+    asking: Option<T>,
+) -> Result<Option<Duties<T>>, NoMemory>
+    ensures { IfOk result (AreDuties settings.now node asking) }
+{
+    if stands_as_primary(&settings.lease) {
+        return Ok(None);
+    }
+    let board = Board::new(alloc, first_address(&settings.lease)?)?;
+    let rounds = rounds_of(alloc, settings, node, asking, board.another()?)?;
+    let primary = Primary {
+        name: settings.database.copy()?,
+        dialer: ToPrimary::new(dialer.another(), board),
+    };
+    Ok(Some(Duties { primary, rounds }))
+}
+
+/// Where a node finds its primary before it is told.
+fn first_address(lease: &LeaseSettings) -> Result<Option<Text>, NoMemory>
+    ensures { IfOk result (IsFirst lease.now) }
+{
+    match lease.lease_type {
+        LeaseType::Static => Ok(Some(lease.advertise_url.address().copy()?)),
+        LeaseType::Service => Ok(None),
+    }
+}
+
+fn rounds_of<T: Drop>(
+    alloc: Global,
+    settings: &Settings,
+    node: u64,
+    asking: Option<T>,
+    board: Board,
+) -> Result<Rounds<T>, NoMemory>
+    ensures { IfOk result (AreRounds settings.now node asking) }
+{
+    let keeper = keeper_of(alloc, settings, node, asking)?;
+    Ok(Rounds {
+        keeper,
+        board,
+        retention: settings.retention_files,
+        naps: round_naps(&settings.lease),
+    })
+}
+
+fn round_naps(lease: &LeaseSettings) -> u64
+    ensures { result ≡ naps_by lease.now.lease_type lease.now.ttl }
+{
+    match lease.lease_type {
+        LeaseType::Static => NAPS,
+        LeaseType::Service => naps_of(lease.ttl),
+    }
+}
+
+fn keeper_of<T: Drop>(
+    alloc: Global,
+    settings: &Settings,
+    node: u64,
+    asking: Option<T>,
+) -> Result<Option<Keeper<T>>, NoMemory>
+    ensures { IfOk result (IsKept settings.now node asking) }
+{
+    let Some(dialer) = asking else {
+        return Ok(None);
+    };
+    let Some(url) = &settings.lease.service_url else {
+        return Ok(None);
+    };
+    let service = url.address().copy()?;
+    let own = own_of(alloc, settings, node)?;
+    Ok(Some(Keeper {
+        dialer,
+        service,
+        own,
+        wish: first_wish(settings, node),
+    }))
+}
+
+fn first_wish(settings: &Settings, node: u64) -> Wish
+    ensures { result ≡ wish_at settings.now node }
+{
+    Wish {
+        candidate: settings.lease.candidate && node != 0,
+        none_named: false,
+    }
+}
+
+/// What a node asks the lease service as.
+fn own_of(alloc: Global, settings: &Settings, node: u64) -> Result<Grant, NoMemory>
+    ensures { IfOk result (λ own. own ≡ own_at settings.now node) }
+{
+    Ok(Grant {
+        node,
+        url: text_of(alloc, &settings.lease.advertise_url)?,
+        host: settings.lease.hostname.copy()?,
+        term: 0,
+        until: 0,
+    })
+}
+
+fn text_of(alloc: Global, url: &Url) -> Result<Text, NoMemory>
+    ensures { IfOk result (λ text. text ≡ url.now) }
+{
+    let mut text = String::from_str(alloc, "http://")?;
+    text.push_str(url.address().as_str())?;
+    Text::of(alloc, text.as_str())
+}

@@ -1,0 +1,216 @@
+//! A node keeps its lease, and its log short: one job, round by round.
+ghost use Rattle.std.specs.Prelude.{◌≡◌, ◌↔◌, IsTrue};
+ghost use Rattle.node_core.specs.declared.answer.Answer.TheVariants as answers;
+ghost use Rattle.node_core.specs.declared.refusal.Refusal.TheVariants as refusals;
+ghost use Rattle.txn_log.specs.declared.fault.StoreFault.TheVariants as faults;
+ghost use Rattle.node_mount.specs.Serving.{CountsStarts};
+
+use crate::board::Board;
+use crate::keeper::Keeper;
+use crate::lease_news::ToNode;
+use crate::means::Means;
+use crate::mount_fault::MountFault;
+use crate::place::Place;
+use crate::posting::{Posting, posted_by};
+use crate::sessions::{BUDGET, LINKS};
+use crate::wish::term_after;
+use crate::work::{Work, start_work};
+use lease_core::Grant;
+use lease_link::{KeepEnd, give_up_lease, keep_lease};
+use lf_base::{Clock, Closing, Dialer, Handles, Link, Pause, Spawner};
+use node_core::{Answer, Ask, Refusal};
+use std::alloc::Global;
+use std::sync::Wait;
+use turn_desk::Machine;
+use txn_log::StoreFault;
+
+/// The rounds of a node.
+#[derive(Drop)]
+pub struct Rounds<T> {
+    /// None where the lease is static.
+    pub keeper: Option<Keeper<T>>,
+    /// Where the following job finds the primary.
+    pub board: Board,
+    /// How many files of the log are kept.
+    pub retention: u64,
+    /// How often a round naps.
+    pub naps: u64,
+}
+
+/// Starts the job of these rounds, at a seat of its own.
+pub fn start_rounds<
+    R: Handles + Copy + Send + 'static,
+    K: Machine<Ask = Ask, Answer = Answer> + Send + Drop + 'static,
+    L: Link + Send + Drop + 'static,
+    T: Dialer<L = L> + Send + Drop + 'static,
+    S: Spawner,
+    C: Clock + Copy + Send + 'static,
+    P: Pause + Copy + Send + 'static,
+>(
+    means: Means<R, C, P>,
+    place: &mut Place<K>,
+    rounds: Rounds<T>,
+    closing: &Closing,
+    spawner: &mut S,
+) -> Result<(), MountFault>
+    ensures cause { CountsStarts (S.faults spawner.old) (S.faults spawner.new) result }
+{
+    let (Some(place), Ok(closing)) = (place.another(means.rt), closing.another()) else {
+        return Err(MountFault::NoMemory);
+    };
+    match start_work(means, place, Going { rounds, closing }, spawner) {
+        Ok(()) => Ok(()),
+        Err(_) => Err(MountFault::NoThread),
+    }
+}
+
+/// The work of the job.
+#[derive(Drop)]
+struct Going<T> {
+    rounds: Rounds<T>,
+    closing: Closing,
+}
+
+impl<T: Dialer + Drop> Work for Going<T> {
+    /// Makes one round after another until the word is closed. Then the lease is given up.
+    fn go<
+        R: Handles + Copy,
+        K: Machine<Ask = Ask, Answer = Answer> + Drop,
+        C: Clock + Copy,
+        P: Pause + Copy,
+    >(self, means: Means<R, C, P>, place: Place<K>) {
+        let Going { rounds, closing } = self;
+        let (mut means, mut place, mut rounds) = (means, place, rounds);
+        for _ in 0..LINKS {
+            if closing.is_closed() {
+                break;
+            }
+            let naps = round(&mut means, &mut place, &mut rounds);
+            nap(&mut means.pause, naps, &closing);
+        }
+        if let Some(keeper) = &mut rounds.keeper {
+            give_up(&mut means, &mut place, keeper);
+        }
+    }
+}
+
+/// One round: the lease is kept, and the log pruned. A node whose store is broken gives its lease up,
+/// and asks for none from then on. Answers how many naps are left of the round's.
+fn round<R: Handles + Copy, K: Machine<Ask = Ask, Answer = Answer>, T: Dialer, C: Clock, P: Pause>(
+    means: &mut Means<R, C, P>,
+    place: &mut Place<K>,
+    rounds: &mut Rounds<T>,
+) -> u64 {
+    let Rounds {
+        keeper,
+        board,
+        retention,
+        naps,
+    } = rounds;
+    let Some(keeper) = keeper else {
+        prune(means, place, *retention);
+        return *naps;
+    };
+    let end = keep(means, place, keeper, board);
+    let broken = prune(means, place, *retention);
+    if broken && keeper.wish.candidate {
+        give_up(means, place, keeper);
+        keeper.own.term = 0;
+        keeper.wish.candidate = false;
+    }
+    match end {
+        // It had one nap.
+        KeepEnd::Done { .. } => naps.saturating_sub(1),
+        _ => *naps,
+    }
+}
+
+/// One round with the lease service.
+fn keep<R: Handles + Copy, K: Machine<Ask = Ask, Answer = Answer>, T: Dialer, C: Clock, P: Pause>(
+    means: &mut Means<R, C, P>,
+    place: &mut Place<K>,
+    keeper: &mut Keeper<T>,
+    board: &Board,
+) -> KeepEnd {
+    let end = keep_lease(
+        means.rt,
+        means.alloc,
+        &*place.desk,
+        &mut place.seat,
+        &ToNode,
+        &mut keeper.dialer,
+        &keeper.service,
+        &keeper.own,
+        keeper.wish.asks_to_be(),
+        &mut means.clock,
+        &mut means.pause,
+        BUDGET,
+    );
+    post(&means.rt, means.alloc, board, &keeper.own, &end);
+    keeper.wish = keeper.wish.after(keeper.own.term, &end);
+    keeper.own.term = term_after(keeper.own.term, &end);
+    end
+}
+
+/// Writes on the board what a round tells. Where memory runs out it stays.
+fn post<R: Wait>(rt: &R, alloc: Global, board: &Board, own: &Grant, end: &KeepEnd) {
+    match posted_by(alloc, own, end) {
+        Ok(Posting::Nobody) => board.set(rt, None),
+        Ok(Posting::At(address)) => board.set(rt, Some(address)),
+        Ok(Posting::AsBefore) | Err(_) => {}
+    }
+}
+
+/// Gives the lease up.
+fn give_up<
+    R: Handles + Copy,
+    K: Machine<Ask = Ask, Answer = Answer>,
+    T: Dialer,
+    C: Clock,
+    P: Pause,
+>(means: &mut Means<R, C, P>, place: &mut Place<K>, keeper: &mut Keeper<T>) {
+    let _ = give_up_lease(
+        means.rt,
+        means.alloc,
+        &*place.desk,
+        &mut place.seat,
+        &ToNode,
+        &mut keeper.dialer,
+        &keeper.service,
+        &keeper.own,
+        &mut means.clock,
+        BUDGET,
+    );
+}
+
+/// Prunes the log to its newest files. Answers whether the store is broken.
+fn prune<R: Handles + Copy, K: Machine<Ask = Ask, Answer = Answer>, C: Clock, P: Pause>(
+    means: &mut Means<R, C, P>,
+    place: &mut Place<K>,
+    keep: u64,
+) -> bool {
+    match place
+        .desk
+        .step(means.rt, &mut place.seat, &Ask::Prune { keep })
+    {
+        Ok(answer) => is_broken(&answer),
+        Err(_) => false,
+    }
+}
+
+/// Whether a node answered that its store is broken.
+fn is_broken(answer: &Answer) -> bool
+    ensures { IsTrue result ↔ (answer.now ≡ answers.Refused (refusals.Store faults.Broken)) }
+{
+    matches!(answer, Answer::Refused(Refusal::Store(StoreFault::Broken)))
+}
+
+/// Naps so often, until the word is closed.
+fn nap<P: Pause>(pause: &mut P, naps: u64, closing: &Closing) {
+    for _ in 0..naps {
+        if closing.is_closed() {
+            break;
+        }
+        pause.nap();
+    }
+}

@@ -1,0 +1,167 @@
+-- Requests that were read, and what is served behind them.
+use Rattle.std.proofs.Common.{◌≡◌, ◌⊎◌, inl, inr, ℕ, true, ◌+◌, ◌<◌, ◌≤◌, List, [], ◌++◌, length, take, drop, Option, Some, None, Err, refl, sym, ap, ◌∙◌, subst, arith}
+use Rattle.std.specs.Io.KnownBytes.{Appends, Keeps}
+use Rattle.std.proofs.KnownBytes.{Consumes-kept, Keeps-trans}
+use Rattle.std.proofs.lemmas.List.{length-drop, length-take-le}
+use Rattle.lf_base.specs.Faults.{Rose}
+use Rattle.lf_base.specs.Name.{IsName}
+use Rattle.lf_base.specs.declared.pos.Pos.{Pos}
+use Rattle.lf_base.specs.declared.session_end.SessionEnd.{SessionEnd}
+use Rattle.lf_base.specs.declared.session_end.SessionEnd.TheVariants as ends
+use Rattle.link_session.specs.Reading.{EndsReading}
+use Rattle.link_session.specs.Stands.{Asker, IsStill, Stand}
+use Rattle.link_session.specs.Writing.{AppendsPart}
+use Rattle.stream_wire.specs.declared.call.Call.{Call}
+use Rattle.stream_wire.specs.declared.call.Call.TheVariants as call
+use Rattle.stream_wire.specs.Head.{NeverTakesRequest}
+use Rattle.stream_wire.specs.StreamLine.{stream_line, IsNoStreamLine}
+use Rattle.stream_wire.proofs.StreamLines.{line_length}
+use Rattle.http_exchange.specs.declared.called.Body.{Body}
+use Rattle.http_exchange.specs.declared.called.Body.TheVariants as body
+use Rattle.http_exchange.specs.declared.called.Called.{Called}
+use Rattle.http_exchange.specs.declared.wants.Kept.{Kept}
+use Rattle.http_exchange.specs.declared.wants.Kept.TheVariants as kept
+use Rattle.http_exchange.specs.declared.wants.Wants.{Ghosts as WantsGhosts}
+use Rattle.http_exchange.specs.Called.{HasBody, IsPart, LeavesUnread, PassesOver, WasCalled, body_in}
+use Rattle.http_exchange.specs.Writing.{reply}
+use Rattle.stream_primary.specs.declared.stream_call.Wish.TheVariants as wish
+use Rattle.stream_primary.specs.Calls.{Serves, kept_of}
+use Rattle.stream_primary.specs.Refusing.{AnswersUnasked, EndsReply}
+use Rattle.stream_primary.specs.Request.{CameOf, CameOfRequest, Request, WasHeard, WasRead}
+use Rattle.stream_primary.specs.StreamCall.{ServesStream, Wants, no_line, other_database, starving, streaming}
+use Rattle.stream_primary.specs.Streaming.{NodeEntry}
+use Rattle.stream_primary.proofs.Streams.{kept_appends, stream_from}
+
+-- ---- what was read
+
+-- a body has the length that its head says
+body_length : (bytes : List ℕ) (size len : ℕ) → size + len ≤ length bytes → length (body_in bytes size len) ≡ len
+body_length bytes size len fits = length-take-le len (drop size bytes) (omega (arith, length-drop size bytes, fits))
+
+-- a body that came is there to its end
+came : (kept : Kept) (bytes : List ℕ) (size len : ℕ) (b : Body) → HasBody kept bytes size len b → (b ≡ body.Unread → ⊥) → (size + len ≤ length bytes) × CameOf kept (body_in bytes size len) b
+came kept bytes size len (body.Whole content) has read = (has.1, has.2)
+came kept bytes size len body.Passed has read = (has.1, subst (λ (n : ℕ). PassesOver kept n) (sym (body_length bytes size len has.1)) has.0)
+came kept bytes size len body.Unread has read = absurd (read refl)
+
+left_unread : (kept : Kept) (bytes : List ℕ) (size len : ℕ) (b : Body) → HasBody kept bytes size len b → b ≡ body.Unread → LeavesUnread kept len
+left_unread kept bytes size len (body.Whole content) has is = absurd cc
+left_unread kept bytes size len body.Passed has is = absurd cc
+left_unread kept bytes size len body.Unread has is = has
+
+-- the request that it is
+abbrev pub request_of : {W : Type 0} {w : WantsGhosts W} {wants : W} {text left : Option (List ℕ)} {called : Called} → WasCalled w wants text left called → Request
+request_of {called = called} c = record { head = called.head; call = called.call; body = body_in c.bytes c.size c.len }
+
+-- all of it was read
+pub was_read : {W : Type 0} (w : WantsGhosts W) (wants : W) (text mid left : Option (List ℕ)) (called : Called) → (c : WasCalled w wants text mid called) → (called.body ≡ body.Unread → ⊥) → Keeps mid left
+    → WasRead text left (request_of c)
+was_read w wants text mid left called c read kept = record {
+  bytes = c.bytes;
+  size = c.size;
+  len = c.len;
+  names = c.head;
+  whole = (came (w.keeps wants called.call) c.bytes c.size c.len called.body c.body read).0;
+  head = c.head_is;
+  body = refl;
+  read = Consumes-kept text mid left c.bytes c.read kept;
+}
+
+pub came_of : {W : Type 0} (w : WantsGhosts W) (wants : W) (text mid : Option (List ℕ)) (called : Called) → w.keeps wants called.call ≡ kept_of called.call → (c : WasCalled w wants text mid called)
+    → (called.body ≡ body.Unread → ⊥) → CameOfRequest (kept_of called.call) (request_of c) called
+came_of w wants text mid called same c read = record {
+  head = refl;
+  call = refl;
+  body = subst (λ (k : Kept). CameOf k (body_in c.bytes c.size c.len) called.body) same (came (w.keeps wants called.call) c.bytes c.size c.len called.body c.body read).1;
+}
+
+-- its head was, and its body is too long
+pub was_heard : {W : Type 0} (w : WantsGhosts W) (wants : W) (text mid left : Option (List ℕ)) (called : Called) → (c : WasCalled w wants text mid called) → Keeps mid left → WasHeard text left called.call c.len
+was_heard w wants text mid left called c kept = record {
+  bytes = c.bytes;
+  size = c.size;
+  names = c.head;
+  read = Consumes-kept text mid left c.bytes c.read kept;
+}
+
+pub is_unread : {W : Type 0} (w : WantsGhosts W) (wants : W) (text mid : Option (List ℕ)) (called : Called) → w.keeps wants called.call ≡ kept_of called.call → (c : WasCalled w wants text mid called)
+    → called.body ≡ body.Unread → LeavesUnread (kept_of called.call) c.len
+is_unread w wants text mid called same c unread =
+    subst (λ (k : Kept). LeavesUnread k c.len) same (left_unread (w.keeps wants called.call) c.bytes c.size c.len called.body c.body unread)
+
+-- ---- what a request for a stream asks
+
+-- a body of more than 99 bytes is no line of a stream
+pub long_body : (line : List ℕ) → 99 < length line → IsNoStreamLine line
+long_body line long = λ name pos is fits e. absurd omega (arith, line_length line name pos e, is.fits.1, long)
+
+-- a body that was passed over; none is left unread
+pub unkept_line : (name : List ℕ) (request : Request) (called : Called) → CameOfRequest (kept.Line 99) request called → (called.body ≡ body.Passed) ⊎ (called.body ≡ body.Unread)
+    → Wants name request wish.NoLine
+unkept_line name request called came (inl is) = long_body request.body (subst (λ (b : Body). CameOf (kept.Line 99) request.body b) is came.body)
+unkept_line name request called came (inr is) = absurd (subst (λ (b : Body). CameOf (kept.Line 99) request.body b) is came.body)
+
+-- one that was kept
+pub whole_line : (line : List ℕ) (request : Request) (called : Called) → CameOfRequest (kept.Line 99) request called → called.body ≡ body.Whole line → line ≡ request.body
+whole_line line request called came is = subst (λ (b : Body). CameOf (kept.Line 99) request.body b) is came.body
+
+-- the line of another database
+pub wants_other : (name other : List ℕ) (request : Request) (pos : Pos) → (other ≡ name → ⊥) → IsName other → request.body ≡ stream_line other pos → Wants name request wish.OtherDatabase
+wants_other name other request pos differs is e = (other, pos, is, differs, e)
+
+-- ---- what is served behind it
+
+kept_part : (old mid new : Option (List ℕ)) (text : List ℕ) → Keeps old mid → AppendsPart mid new text → AppendsPart old new text
+kept_part old mid new text k a = (a.0, a.1, kept_appends old mid new (take a.0 text) k a.2)
+
+-- the reply ends the session, where reading it kept what was written
+replied : (text : List ℕ) (old mid new : Option (List ℕ)) (before between now turns : ℕ) (end : SessionEnd) → Keeps old mid → between ≡ before
+    → EndsReply text mid new between now turns end → EndsReply text old new before now turns end
+replied text old mid new before between now turns ends.Closed k same e = (kept_appends old mid new text k e.0, e.1 ∙ same)
+replied text old mid new before between now turns ends.WriteFault k same e = (kept_part old mid new text k e.0, subst (λ n. Rose n now) same e.1)
+replied text old mid new before between now turns ends.Turns k same e = (kept_part old mid new text k e.0, e.1, e.2 ∙ same)
+replied text old mid new before between now turns ends.NoMemory k same e = (Keeps-trans _ _ _ k e.0, e.1 ∙ same)
+replied text old mid new before between now turns ends.BadMessage k same e = absurd e
+replied text old mid new before between now turns ends.ReadFault k same e = absurd e
+replied text old mid new before between now turns ends.Worn k same e = absurd e
+
+-- while it was read nothing was written or asked, and the count stood
+pub record OnlyRead (old mid : Stand NodeEntry) : Type 0 where
+  pub still : IsStill old.place mid.place
+  pub count : mid.faults ≡ old.faults
+
+pub unasked_behind : (text : List ℕ) (old mid new : Stand NodeEntry) (turns : ℕ) (end : SessionEnd) → OnlyRead old mid → AnswersUnasked text mid new turns end → AnswersUnasked text old new turns end
+unasked_behind text old mid new turns end read a = record {
+  written = replied text old.place.taken mid.place.taken new.place.taken old.faults mid.faults new.faults turns end read.still.written read.count a.written;
+  unasked = a.unasked ∙ read.still.asked;
+}
+
+stream_behind : (who : Asker) (name : List ℕ) (request : Request) (old mid new : Stand NodeEntry) (turns : ℕ) (end : SessionEnd) → OnlyRead old mid
+    → ServesStream who name request mid new turns end → ServesStream who name request old new turns end
+stream_behind who name request old mid new turns end read (streaming from wants says s) =
+    streaming from wants says (stream_from who name from old mid new turns end read.still.written read.still.asked read.count s)
+stream_behind who name request old mid new turns end read (other_database wants a) = other_database wants (unasked_behind (reply 404 []) old mid new turns end read a)
+stream_behind who name request old mid new turns end read (no_line wants a) = no_line wants (unasked_behind (reply 400 []) old mid new turns end read a)
+stream_behind who name request old mid new turns end read (starving is still count) =
+    starving is (record { written = Keeps-trans _ _ _ read.still.written still.written; asked = still.asked ∙ read.still.asked }) (count ∙ read.count)
+
+pub serves_behind : (called : Call) (who : Asker) (name : List ℕ) (request : Request) (old mid new : Stand NodeEntry) (turns : ℕ) (end : SessionEnd) → OnlyRead old mid
+    → Serves called who name request mid new turns end → Serves called who name request old new turns end
+serves_behind call.Stream who name request old mid new turns end read s = stream_behind who name request old mid new turns end read s
+serves_behind call.Halt who name request old mid new turns end read s = unasked_behind (reply 404 []) old mid new turns end read s
+serves_behind call.HaltBack who name request old mid new turns end read s = unasked_behind (reply 404 []) old mid new turns end read s
+serves_behind call.Tx who name request old mid new turns end read s = unasked_behind (reply 404 []) old mid new turns end read s
+serves_behind (call.Export other) who name request old mid new turns end read s = unasked_behind (reply 404 []) old mid new turns end read s
+serves_behind (call.Import other) who name request old mid new turns end read s = unasked_behind (reply 404 []) old mid new turns end read s
+serves_behind call.Lease who name request old mid new turns end read s = unasked_behind (reply 404 []) old mid new turns end read s
+serves_behind call.Other who name request old mid new turns end read s = unasked_behind (reply 404 []) old mid new turns end read s
+
+-- ---- the rows
+
+-- a call is served as its row has it
+pub by_row : (row : Call) (called : Called) (who : Asker) (name : List ℕ) (request : Request) (old new : Stand NodeEntry) (turns : ℕ) (end : SessionEnd) → called.call ≡ row
+    → CameOfRequest (kept_of request.call) request called → (CameOfRequest (kept_of row) request called → Serves row who name request old new turns end)
+    → Serves request.call who name request old new turns end
+by_row row called who name request old new turns end is came serves =
+    let same : request.call ≡ row = sym came.call ∙ is in
+    subst (λ (c : Call). Serves c who name request old new turns end) (sym same) (serves (subst (λ (c : Call). CameOfRequest (kept_of c) request called) same came))

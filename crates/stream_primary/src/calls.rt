@@ -1,0 +1,70 @@
+//! The calls of a node, one row each in both tables: how much of a call's body is kept, and what
+//! serves it.
+ghost use Rattle.std.specs.Prelude.{◌≡◌, Err};
+ghost use Rattle.std.specs.Io.KnownBytes.{Keeps};
+ghost use Rattle.lf_base.specs.declared.session_end.SessionEnd.TheVariants as ends;
+ghost use Rattle.link_session.specs.Stands.{asker, stand, AsksOn, Spends};
+ghost use Rattle.stream_primary.specs.Calls.{Serves, kept_of};
+ghost use Rattle.stream_primary.specs.Request.{CameOfRequest, Request};
+
+use crate::replies::refuse;
+use crate::stream_call::{LINE_MAX, serve_stream};
+use http_exchange::{Called, Kept, Wants};
+use lf_base::{Clock, Link, Name, Pause, SessionEnd};
+use link_session::{Steps, Turns};
+use node_core::{Answer, Ask};
+use std::alloc::Global;
+use stream_wire::Call;
+
+/// The status of a call that is not served.
+const NOT_FOUND: u16 = 404;
+
+/// The bodies that are kept.
+#[derive(Clone, Copy)]
+pub struct Bodies;
+
+impl Wants for Bodies {
+    ghost keeps = { λ _. kept_of };
+
+    fn keeps(&self, call: &Call) -> Kept {
+        match call {
+            Call::Stream => Kept::Line(LINE_MAX),
+            Call::Halt => Kept::Nothing,
+            Call::HaltBack => Kept::Nothing,
+            Call::Tx => Kept::Nothing,
+            Call::Export { .. } => Kept::Nothing,
+            Call::Import { .. } => Kept::Nothing,
+            Call::Lease => Kept::Nothing,
+            Call::Other => Kept::Nothing,
+        }
+    }
+}
+
+/// Serves a request that was read, by its call, to the end of its session.
+pub fn serve_call<S: Steps<Ask = Ask, Answer = Answer>, L: Link, C: Clock, P: Pause>(
+    alloc: Global,
+    steps: &mut S,
+    name: &Name,
+    link: &mut L,
+    clock: &mut C,
+    pause: &mut P,
+    called: &Called,
+    turns: &mut Turns,
+) -> SessionEnd
+    ensures serves { (request : Request) → CameOfRequest (kept_of request.call) request called.now → Serves request.call (asker S.Steps C.Clock steps.old clock.old) name.now request (stand L.Link link.old (S.entries steps.old)) (stand L.Link link.new (S.entries steps.new)) turns.new result }
+    ensures left { Keeps (L.left link.old) (L.left link.new) }
+    ensures same { AsksOn S.Steps C.Clock steps.old steps.new clock.old clock.new }
+    ensures spent { Spends {T = Unit {0}} turns.old (stand L.Link link.old (S.entries steps.old)) turns.new (stand L.Link link.new (S.entries steps.new)) (Err result) }
+    ensures worn { result ≡ ends.Worn → S.is_worn steps.new }
+{
+    match &called.call {
+        Call::Stream => serve_stream(alloc, steps, name, link, clock, pause, called, turns),
+        Call::Halt => refuse(alloc, link, NOT_FOUND, turns),
+        Call::HaltBack => refuse(alloc, link, NOT_FOUND, turns),
+        Call::Tx => refuse(alloc, link, NOT_FOUND, turns),
+        Call::Export { .. } => refuse(alloc, link, NOT_FOUND, turns),
+        Call::Import { .. } => refuse(alloc, link, NOT_FOUND, turns),
+        Call::Lease => refuse(alloc, link, NOT_FOUND, turns),
+        Call::Other => refuse(alloc, link, NOT_FOUND, turns),
+    }
+}

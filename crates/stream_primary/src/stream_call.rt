@@ -1,0 +1,125 @@
+//! `POST /stream`: the stream of the database, to a follower.
+ghost use Rattle.std.specs.Prelude.{◌≡◌, Err, IfOk, MatchBool};
+ghost use Rattle.std.specs.Io.KnownBytes.{Keeps};
+ghost use Rattle.lf_base.specs.Name.{IsName};
+ghost use Rattle.lf_base.specs.declared.session_end.SessionEnd.TheVariants as ends;
+ghost use Rattle.link_session.specs.Stands.{asker, stand, AsksOn, Spends};
+ghost use Rattle.stream_wire.specs.StreamLine.{stream_line};
+ghost use Rattle.http_exchange.specs.declared.wants.Kept.TheVariants as kept;
+ghost use Rattle.stream_primary.specs.Request.{CameOfRequest, Request};
+ghost use Rattle.stream_primary.specs.StreamCall.{heard, Says, ServesStream, Wants, line_max};
+
+use crate::replies::refuse;
+use crate::streaming::stream;
+use http_exchange::{Body, Called};
+use lf_base::{Clock, Link, Name, NoMemory, Pause, Pos, SessionEnd};
+use link_session::{Steps, Turns};
+use node_core::{Answer, Ask, Whereabouts};
+use std::alloc::Global;
+use stream_wire::{LastFile as Said, last_file_in, read_stream_line};
+use txn_log::LastFile;
+
+/// The most bytes of the line that asks for a stream.
+pub const LINE_MAX: u64 = 99;
+
+/// The status of the stream of another database.
+const NOT_FOUND: u16 = 404;
+
+/// The status of a body that is no line of a stream.
+const BAD_REQUEST: u16 = 400;
+
+/// What a request for a stream asks.
+#[derive(Clone, Copy, Debug, PartialEq, Eq)]
+pub enum Wish {
+    /// The stream of the database from this position on.
+    Stream(Pos),
+    /// The stream of another database.
+    OtherDatabase,
+    /// Its body is no line that asks for a stream.
+    NoLine,
+}
+
+/// Serves a request for a stream, to the end of its session.
+pub fn serve_stream<S: Steps<Ask = Ask, Answer = Answer>, L: Link, C: Clock, P: Pause>(
+    alloc: Global,
+    steps: &mut S,
+    name: &Name,
+    link: &mut L,
+    clock: &mut C,
+    pause: &mut P,
+    called: &Called,
+    turns: &mut Turns,
+) -> SessionEnd
+    ensures serves { (request : Request) → CameOfRequest (kept.Line line_max) request called.now → ServesStream (asker S.Steps C.Clock steps.old clock.old) name.now request (stand L.Link link.old (S.entries steps.old)) (stand L.Link link.new (S.entries steps.new)) turns.new result }
+    ensures left { Keeps (L.left link.old) (L.left link.new) }
+    ensures same { AsksOn S.Steps C.Clock steps.old steps.new clock.old clock.new }
+    ensures spent { Spends {T = Unit {0}} turns.old (stand L.Link link.old (S.entries steps.old)) turns.new (stand L.Link link.new (S.entries steps.new)) (Err result) }
+    ensures worn { result ≡ ends.Worn → S.is_worn steps.new }
+{
+    match wish_of(alloc, name, called) {
+        Ok(Wish::Stream(pos)) => {
+            let last = last_in(called.head.as_slice());
+            let from = Whereabouts { pos, last };
+            stream(alloc, steps, name, link, clock, pause, from, turns)
+        }
+        Ok(Wish::OtherDatabase) => refuse(alloc, link, NOT_FOUND, turns),
+        Ok(Wish::NoLine) => refuse(alloc, link, BAD_REQUEST, turns),
+        Err(_) => SessionEnd::NoMemory,
+    }
+}
+
+/// What the head of a request says of the follower's last file.
+fn last_in(head: &[u8]) -> Option<LastFile>
+    ensures { Says head.now result }
+{
+    heard(last_file_in(head))
+}
+
+/// The same as the node is asked.
+fn heard(said: Option<Said>) -> Option<LastFile>
+    ensures { result ≡ heard said }
+{
+    match said {
+        None => None,
+        Some(Said::Unknown) => Some(LastFile::Unknown),
+        Some(Said::File { min, max, sum }) => Some(LastFile::File { min, max, sum }),
+    }
+}
+
+/// What a request for a stream asks, by its head and its body.
+fn wish_of(alloc: Global, name: &Name, called: &Called) -> Result<Wish, NoMemory>
+    ensures { (request : Request) → CameOfRequest (kept.Line line_max) request called.now → IfOk result (Wants name.now request) }
+{
+    match &called.body {
+        Body::Whole(line) => wish_in(alloc, name, line.as_slice()),
+        Body::Passed | Body::Unread => Ok(Wish::NoLine),
+    }
+}
+
+/// What this body asks.
+fn wish_in(alloc: Global, name: &Name, body: &[u8]) -> Result<Wish, NoMemory>
+    ensures { (request : Request) → body.now ≡ request.body → IfOk result (Wants name.now request) }
+{
+    match read_stream_line(alloc, body) {
+        Ok(Some((other, pos))) => Ok(wish_by(name, &other, pos)),
+        Ok(None) => Ok(Wish::NoLine),
+        Err(_) => Err(NoMemory),
+    }
+}
+
+/// What the line of this other database and position asks.
+fn wish_by(name: &Name, other: &Name, pos: Pos) -> Wish
+    ensures { (request : Request) → IsName other.now → request.body ≡ stream_line other.now pos → Wants name.now request result }
+{
+    if is_same(other.bytes(), name.bytes()) {
+        Wish::Stream(pos)
+    } else {
+        Wish::OtherDatabase
+    }
+}
+
+fn is_same(bytes: &[u8], others: &[u8]) -> bool
+    ensures { MatchBool result (bytes.now ≡ others.now) (bytes.now ≡ others.now → ⊥) }
+{
+    bytes == others
+}

@@ -1,0 +1,237 @@
+#!/usr/bin/python3
+"""Three nodes that ask a lease service which of them is primary, under real SQLite: the first candidate is; killed, stopped for
+longer than its lease, cut off from a service that is started anew or that answers nonsense, it is followed by another, and no two
+take writes under one grant. A transaction inside which the lease ends is not committed. An old primary that went on alone is brought
+over, also where it stands at the new one's position with other pages. At the end of each case all three have one position and one image.
+
+At most: 900 seconds.
+Seen to fail: a service that tells a longer time than it grants (stopped, stopped_at_work, inside, cut_off), one that answers at once after
+its start (service_anew): a write at a node while another one's grant stands, a commit that is not refused. A build whose followers say
+nothing of their last file, given the cases of a fork: the old primary stays apart."""
+import contextlib
+import functools
+import os
+import socket
+import sqlite3
+
+from support import (Cluster, Node, Skipped, configuration, connect, holds, in_each_mode, in_mode, insert, length, refuses, run, same,
+                     small_disk, until)
+from support.cluster import Server, keys, standing_still, takes
+
+TURNS = length(2, 10)
+EITHER = length(('wal',), ('delete', 'wal'))
+
+
+def killed(mode):
+    """kill -9 of whoever is primary while it takes rows: what the next one had is there, the third follows it, and then the old one."""
+    with Cluster(mode) as cluster:
+        for _ in range(TURNS):
+            before = cluster.follows()
+            cluster.level(before)
+            kept = keys(before)
+            primary, writer = cluster.at_work()
+            primary.kill()
+            writer.ended()
+            heir = cluster.heir(primary)
+            kept |= keys(heir)
+            same(cluster.follows(primary) is heir, True, 'the other candidate is primary')
+            cluster.level(heir, without=primary)
+            primary.start()
+            cluster.refuses(primary)
+            cluster.ends(kept)
+
+
+def stopped(mode):
+    """A primary that stands still for longer than its lease takes no write when it goes on, and follows."""
+    with Cluster(mode) as cluster:
+        primary = cluster.follows()
+        cluster.level(primary)
+        kept = keys(primary)
+        with cluster.cut_off(primary):
+            with standing_still(primary):
+                cluster.level(cluster.follows(primary), without=primary)
+            cluster.refuses(primary)
+        cluster.ends(kept)
+
+
+def stopped_at_work(mode):
+    """The same while a client writes: of what it is answered afterwards one row at most, which was on its way."""
+    with Cluster(mode) as cluster:
+        for _ in range(length(1, 10)):
+            primary, writer = cluster.at_work()
+            with cluster.cut_off(primary):
+                with standing_still(primary):
+                    heir = cluster.follows(primary)
+                    cluster.level(heir, without=primary)
+                    kept, before = keys(heir), list(writer.answered)
+                after = writer.ended()[len(before):]
+                holds(len(after) <= 1, f'{len(after)} rows are taken behind the lease\'s end')
+            cluster.ends(kept)
+
+
+def inside(mode):
+    """A transaction inside which the lease ends, with pages in the file already, is not committed."""
+    with Cluster(mode) as cluster:
+        before = cluster.follows()
+        cluster.level(before)
+        kept = keys(before)
+        primary, connection = until(lambda: begun(cluster.follows()), 'a transaction is begun')
+        with contextlib.closing(connection):
+            with cluster.cut_off(primary):
+                with standing_still(primary):
+                    cluster.follows(primary)
+                refuses(lambda: connection.execute('commit'), sqlite3.Error, 'the commit')
+        cluster.ends(kept)
+        for node in cluster.nodes:
+            holds(min(keys(node)) > 0, 'nothing of it is there')
+
+
+def begun(primary):
+    """The node, and a connection inside a transaction that has pages in the file; None where a row is refused."""
+    connection = connect(primary.socket)
+    try:
+        connection.execute('pragma cache_size=4')
+        connection.execute('begin immediate')
+        for key in range(-40, 0):
+            connection.execute(*insert(key, 3000))
+        return primary, connection
+    except sqlite3.Error:
+        connection.close()
+
+
+def service_anew(mode):
+    """The service is killed and started again, with and without the primary: no node takes a write while another one's grant stands."""
+    with Cluster(mode) as cluster:
+        primary = cluster.nodes[0]
+        kept = keys(primary)
+        with cluster.cut_off(primary):
+            cluster.service.kill()
+            cluster.service.launch()
+            cluster.refuses(primary)
+        cluster.service.kill()
+        cluster.service.launch()
+        cluster.has_one()
+        cluster.ends(kept)
+
+
+def service_stopped(mode):
+    """The service stands still for longer than a lease: nobody takes writes meanwhile, and it goes on."""
+    with Cluster(mode) as cluster:
+        kept = keys(cluster.nodes[0])
+        with standing_still(cluster.service):
+            until(lambda: not cluster.takers(), 'no node takes writes')
+        cluster.has_one()
+        cluster.ends(kept)
+
+
+def cut_off(mode):
+    """A primary that can't reach the service, and the others can: another one takes over, and it follows once it can again."""
+    with Cluster(mode) as cluster:
+        primary = cluster.nodes[0]
+        kept = keys(primary)
+        with cluster.cut_off(primary):
+            heir = cluster.follows(primary)
+            cluster.refuses(primary)
+            cluster.level(heir, without=primary)
+        cluster.ends(kept)
+
+
+def broken(mode):
+    """A primary whose disk is full gives its lease back, and another one takes over. With room, and started anew, it follows."""
+    with small_disk('size=32m') as disk, Cluster(mode, folder=disk.folder) as cluster:
+        primary = cluster.nodes[0]
+        kept = keys(primary)
+        with open(f'{disk.folder}/filler', 'wb', buffering=0) as filler, contextlib.suppress(OSError):
+            while filler.write(bytes(1000)):
+                pass
+        until(lambda: not cluster.writes(primary), 'a write that finds no room')
+        cluster.level(cluster.follows(primary), without=primary)
+        os.remove(f'{disk.folder}/filler')
+        primary.restart()
+        cluster.ends(kept)
+
+
+def nonsense(mode):
+    """A service that answers nonsense: once its lease has ended nobody takes writes, everybody reads, and it goes on with a sound one."""
+    with Cluster(mode) as cluster:
+        kept = keys(cluster.nodes[0])
+        cluster.service.kill()
+        with Server(cluster.service.port) as server:
+            until(lambda: not cluster.takers(), 'no node takes writes')
+            seen = server.links
+            until(lambda: server.links > seen + 3 * len(cluster.nodes) * 9, 'the nodes go on asking')
+            holds(not cluster.takers(), 'nobody takes writes')
+            for node in cluster.nodes:
+                holds(kept <= keys(node), 'rows are read')
+            server.shutdown()
+        cluster.service.start()
+        cluster.ends(kept)
+
+
+def forked(mode):
+    """The old primary's last row, which nobody else has, and the new one's lead to the same position: it is brought over all the same."""
+    with_last_file()
+    with Cluster(mode) as cluster:
+        old, heir = fork(cluster)
+        until(lambda: old.image() == heir.image(), 'the old primary is brought over')
+        cluster.ends(set())
+
+
+def forked_apart(mode):
+    """The same where the new primary's log has no file of that transaction any more: the next one leads the old primary to another sum."""
+    with_last_file()
+    with Cluster(mode, keep=1) as cluster:
+        old, heir = fork(cluster, 'insert into b values(2)')
+        until(lambda: old.image() == heir.image(), 'the old primary is brought over')
+        cluster.ends(set())
+
+
+def fork(cluster, *more):
+    """An old primary that is back with a row that nobody else has, and the new one, which has another one at the same position, and
+    the rows of these statements."""
+    old = cluster.follows()
+    heir = cluster.heir(old)
+    for table in 'ab':
+        same(takes(old, f'create table {table}(x)'), True, 'a table')
+    cluster.level(old)
+    others = [it for it in cluster.nodes if it is not old]
+    for it in others:
+        it.kill()
+    same(takes(old, 'insert into a values(1)'), True, 'a row at the old primary')
+    position = old.position()
+    old.kill()
+    for it in others:
+        it.start()
+    until(lambda: takes(heir, 'insert into b values(1)'), 'a row at the new primary')
+    same(heir.position(), position, 'the position of the new primary')
+    holds(old.image() != heir.image(), 'their pages differ')
+    for it in more:
+        same(takes(heir, it), True, it)
+    old.start()
+    return old, heir
+
+
+def with_last_file():
+    if not says_last_file():
+        raise Skipped('this build says nothing of a follower\'s last file')
+
+
+@functools.cache
+def says_last_file():
+    """Whether a follower says in its request for a stream which file of its log is the last."""
+    with Node() as node, socket.create_server(('127.0.0.1', 0)) as server:
+        in_mode(node.socket, 'delete').close()
+        node.kill()
+        node.configure(configuration(node.port, server.getsockname()[1]))
+        node.start()
+        server.settimeout(60)
+        link, _ = server.accept()
+        with link, link.makefile('rb') as text:
+            head = iter(lambda: text.readline().strip().lower(), b'')
+            return any(it.startswith(b'litefs-last-file:') for it in head)
+
+
+run({**in_each_mode(('delete', 'wal'), killed=killed, stopped=stopped, stopped_at_work=stopped_at_work, inside=inside, forked=forked,
+                    forked_apart=forked_apart),
+     **in_each_mode(EITHER, service_anew=service_anew, nonsense=nonsense, broken=broken),
+     **in_each_mode(length((), EITHER), service_stopped=service_stopped, cut_off=cut_off)}, at_once=4)
