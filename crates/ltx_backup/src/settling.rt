@@ -1,0 +1,169 @@
+//! Eight files of a level become one of the next.
+ghost use Rattle.std.specs.Prelude.{◌≡◌, IsTrue, ◌↔◌, ◌≤◌, IfOk, IfErr, OnOk, length, drop, take, All};
+
+use crate::adding::append;
+use crate::backup::Backup;
+use crate::entry::Entry;
+use crate::fault::BackupFault;
+use crate::merging::merge;
+use crate::reading::read_file;
+use crate::trimming::trim;
+use lf_disk::Disk;
+use ltx_codec::Ltx;
+use std::alloc::Global;
+
+/// Whether files have pages of this size.
+fn are_alike(entries: &[Entry], size: u32) -> bool {
+    for entry in entries {
+        if entry.page_size != size {
+            return false;
+        }
+    }
+    true
+}
+
+/// Whether a level has eight files or more, of which the eight oldest have one page size.
+fn is_due(entries: &[Entry]) -> bool {
+    if entries.len() < 8 {
+        return false;
+    }
+    let (oldest, _) = entries.split_at(8);
+    are_alike(oldest, oldest[0].page_size)
+}
+
+/// The files of these entries.
+fn read_files<D: Disk>(
+    alloc: Global,
+    disk: &mut D,
+    level: u8,
+    entries: &[Entry],
+) -> Result<Vec<Ltx>, BackupFault> {
+    let mut files = Vec::new(alloc);
+    for entry in entries {
+        let file = match read_file(alloc, disk, level, entry) {
+            Ok(file) => file,
+            Err(why) => return Err(why),
+        };
+        match files.push(file) {
+            Ok(()) => {}
+            Err(_) => return Err(BackupFault::NoMemory),
+        }
+    }
+    Ok(files)
+}
+
+/// Leaves out the eight oldest.
+fn forget_eight(entries: &mut Vec<Entry>)
+    requires { 8 ≤ length entries.old.items }
+    ensures { entries.new.items ≡ drop 8 entries.old.items }
+{
+    for _i in 0..8 {
+        entries.remove(0);
+    }
+}
+
+/// Puts the one file on the next level, and removes the eight that it stands for.
+fn move_up<D: Disk>(
+    alloc: Global,
+    from: &mut D,
+    entries: &mut Vec<Entry>,
+    to: &mut D,
+    uppers: &mut Vec<Entry>,
+    file: &Ltx,
+) -> Result<(), BackupFault> {
+    match append(alloc, to, uppers, file) {
+        Ok(()) => {}
+        Err(why) => return Err(why),
+    }
+    match trim(from, entries.as_slice(), file.header.max) {
+        Ok(()) => {
+            forget_eight(entries);
+            Ok(())
+        }
+        Err(_) => Err(BackupFault::Disk),
+    }
+}
+
+/// Makes the eight oldest files of a level one of the next.
+fn fold<D: Disk>(
+    alloc: Global,
+    level: u8,
+    from: &mut D,
+    entries: &mut Vec<Entry>,
+    to: &mut D,
+    uppers: &mut Vec<Entry>,
+) -> Result<(), BackupFault> {
+    let first = entries[0];
+    let (oldest, _) = entries.as_slice().split_at(8);
+    let files = match read_files(alloc, from, level, oldest) {
+        Ok(files) => files,
+        Err(why) => return Err(why),
+    };
+    let file = match merge(alloc, files, level, first) {
+        Ok(file) => file,
+        Err(why) => return Err(why),
+    };
+    move_up(alloc, from, entries, to, uppers, &file)
+}
+
+impl<D: Disk> Backup<D> {
+    /// Makes one file of the eight oldest of a level while it has eight of one page size, on the lowest
+    /// level and then on the next. It answers how often.
+    pub fn settle(&mut self, alloc: Global) -> Result<u64, BackupFault> {
+        if self.broken {
+            return Err(BackupFault::Broken);
+        }
+        let lows = match self.settle_low(alloc) {
+            Ok(lows) => lows,
+            Err(why) => return Err(why),
+        };
+        match self.settle_middle(alloc) {
+            Ok(middles) => Ok(lows + middles),
+            Err(why) => Err(why),
+        }
+    }
+
+    fn settle_low(&mut self, alloc: Global) -> Result<u64, BackupFault> {
+        let mut count = 0;
+        while is_due(self.index.entries.lows.as_slice()) {
+            match self.fold_low(alloc) {
+                Ok(()) => count += 1,
+                Err(why) => return Err(why),
+            }
+        }
+        Ok(count)
+    }
+
+    fn settle_middle(&mut self, alloc: Global) -> Result<u64, BackupFault> {
+        let mut count = 0;
+        while is_due(self.index.entries.middles.as_slice()) {
+            match self.fold_middle(alloc) {
+                Ok(()) => count += 1,
+                Err(why) => return Err(why),
+            }
+        }
+        Ok(count)
+    }
+
+    fn fold_low(&mut self, alloc: Global) -> Result<(), BackupFault> {
+        let entries = &mut self.index.entries;
+        match fold(alloc, 0, &mut self.low, &mut entries.lows, &mut self.middle, &mut entries.middles) {
+            Ok(()) => Ok(()),
+            Err(why) => {
+                self.broken = why == BackupFault::Disk;
+                Err(why)
+            }
+        }
+    }
+
+    fn fold_middle(&mut self, alloc: Global) -> Result<(), BackupFault> {
+        let entries = &mut self.index.entries;
+        match fold(alloc, 1, &mut self.middle, &mut entries.middles, &mut self.high, &mut entries.highs) {
+            Ok(()) => Ok(()),
+            Err(why) => {
+                self.broken = why == BackupFault::Disk;
+                Err(why)
+            }
+        }
+    }
+}
