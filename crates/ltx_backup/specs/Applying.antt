@@ -1,5 +1,5 @@
 -- Files of a backup are applied to a database, one after another.
-use Rattle.std.specs.Prelude.{◌≡◌, ◌≢◌, ◌⊎◌, ℕ, List, [], ◌∷◌}
+use Rattle.std.specs.Prelude.{◌≡◌, ◌≢◌, ◌⊎◌, ℕ, ◌≤◌, List, [], ◌∷◌}
 use Rattle.lf_disk.specs.Folder.{Folder}
 use Rattle.lf_sqlite_pages.specs.Apply.{Fits, apply}
 use Rattle.ltx_codec.specs.Sums.{image_sum}
@@ -35,6 +35,11 @@ pub record AppliesOne (f : Folder) (entry : Entry) (before next : Restored) : Ty
 abbrev pub IsMisfit : Folder → ℕ → Entry → Restored → BackupFault → Type 0
 IsMisfit f level entry before =
     Blames level entry.min entry.max ((file : Ltx) → HasNumbers file entry → Stands f file → Fits before.image file.change → ⊥)
+
+-- the same of a file up to a transaction
+abbrev pub IsMisfitUpTo : Folder → ℕ → Entry → ℕ → Restored → BackupFault → Type 0
+IsMisfitUpTo f level entry txid before =
+    Blames level entry.min entry.max ((entry.max ≤ txid) × ((file : Ltx) → HasNumbers file entry → Stands f file → Fits before.image file.change → ⊥))
 
 -- the sum that the last of the files says, or another where there is none
 abbrev pub last_post : ℕ → List Ltx → ℕ

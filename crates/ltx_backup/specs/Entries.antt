@@ -35,3 +35,10 @@ pub record IsKept (levels : Levels) (index : Index) (low middle high : History) 
   pub no_snapshot : now low Snapshot ≡ None
   pub joined : LeadOn nowhere (chain levels)
   pub end : index.end ≡ end_of nowhere (chain levels)
+
+-- two indexes are the same
+pub record SameIndex (old new : Index) : Type 0 where
+  pub lows : new.entries.lows.items ≡ old.entries.lows.items
+  pub middles : new.entries.middles.items ≡ old.entries.middles.items
+  pub highs : new.entries.highs.items ≡ old.entries.highs.items
+  pub end : new.end ≡ old.end

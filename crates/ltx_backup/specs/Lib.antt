@@ -1,4 +1,5 @@
 pub mod Adding
+pub mod Applying
 pub mod Causes
 pub mod Entries
 pub mod Finishing
@@ -7,6 +8,7 @@ pub mod Judging
 pub mod Levels
 pub mod Listing
 pub mod Merging
+pub mod Moving
 pub mod Opening
 pub mod Restoring
 pub mod Stops

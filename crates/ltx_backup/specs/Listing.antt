@@ -1,5 +1,6 @@
 -- Which transaction files stand in a folder.
-use Rattle.std.specs.Prelude.{◌≡◌, ◌⊎◌, ℕ, List, [], ◌∷◌, IsSome}
+use Rattle.std.specs.Prelude.{◌≡◌, ◌⊎◌, ℕ, Bool, ◌==◌, ◌&&◌, List, [], ◌∷◌, IsSome}
+use Rattle.std.specs.List.{IsDistinct}
 use Rattle.std.specs.List.Sorted.{IsNonDecreasingBy}
 use Rattle.lf_disk.specs.declared.name.FileName.{FileName}
 use Rattle.lf_disk.specs.declared.name.FileName.TheVariants.{Ltx as LtxName}
@@ -19,8 +20,17 @@ first_of e = e.min
 abbrev pub AreInOrder : List Entry → Type 0
 AreInOrder entries = IsNonDecreasingBy first_of entries
 
--- the transaction files of the folder, by the first transaction
+-- whether two entries have the same numbers
+abbrev pub same_numbers : Entry → Entry → Bool
+same_numbers x y = x.min == y.min && x.max == y.max
+
+-- no file stands there twice
+abbrev pub AreOnce : List Entry → Type 0
+AreOnce entries = IsDistinct same_numbers entries
+
+-- the transaction files of the folder, each once, by the first transaction
 pub record AreListed (entries : List Entry) (f : Folder) : Type 0 where
   pub there : (a b : ℕ) → Lists entries a b → IsSome (f (LtxName a b))
   pub whole : (a b : ℕ) → IsSome (f (LtxName a b)) → Lists entries a b
   pub order : AreInOrder entries
+  pub once : AreOnce entries

@@ -1,19 +1,20 @@
 //! A file is added.
-ghost use Rattle.std.specs.Prelude.{◌≡◌, ◌≢◌, ◌∷◌, [], ◌++◌, IsTrue, IfErr, OnOk};
+ghost use Rattle.std.specs.Prelude.{◌≡◌, ◌≢◌, ◌⊎◌, ◌∷◌, [], ◌++◌, IsTrue, IfErr, OnOk};
 ghost use Rattle.lf_disk.specs.declared.name.FileName.TheVariants as name;
 ghost use Rattle.lf_disk.specs.History.{now, Rests, EachMoment, IsSettledBut};
 ghost use Rattle.lf_disk.specs.Publish.{IsOldOrPublished, IsPublished};
 ghost use Rattle.ltx_codec.specs.Format.{IsFile};
+ghost use Rattle.ltx_codec.specs.Positions.{before, after};
 ghost use Rattle.ltx_backup.specs.Adding.{Adds, Breaks, HoldsEither};
 ghost use Rattle.ltx_backup.specs.Causes.{HasCause, HasCauses, IsBlameless, AreHonest, AreSettled};
-ghost use Rattle.ltx_backup.specs.Entries.{entry_of, IsKept};
+ghost use Rattle.ltx_backup.specs.Entries.{entry_of, IsKept, SameIndex};
 ghost use Rattle.ltx_backup.specs.Levels.{Levels, only_low};
 ghost use Rattle.ltx_backup.specs.Stops.{Stops};
 ghost use Rattle.ltx_backup.specs.Stored.{stored, added};
 
 use crate::backup::Backup;
 use crate::encoding::encoded;
-use crate::entry::{Entries, Entry, Index};
+use crate::entry::{Entry, Index};
 use crate::examining::index_of;
 use crate::fault::BackupFault;
 use crate::finishing::finish_snapshot;
@@ -78,7 +79,8 @@ fn install<D: Disk>(
         → IsKept levels index.old (D.history low.old) (D.history middle.old) (D.history high.old)
         → Stops (D.history low.old) (D.history middle.old) (D.history high.old) (D.history low.new) (D.history middle.new) (D.history high.new)
         (HoldsEither levels (only_low file.now)) }
-    ensures same { IfErr result (λ why. why ≢ BackupFault.Disk → (index.new ≡ index.old) × (low.new ≡ low.old) × (middle.new ≡ middle.old) × (high.new ≡ high.old)) }
+    ensures end { OnOk result (index.new.end ≡ after file.now) }
+    ensures same { IfErr result (λ why. why ≢ BackupFault.Disk → SameIndex index.old index.new × (low.new ≡ low.old) × (middle.new ≡ middle.old) × (high.new ≡ high.old)) }
     ensures blameless { IfErr result IsBlameless }
     ensures settled { OnOk result (AreSettled (D.honest low.old) (D.honest middle.old) (D.honest high.old) (D.history low.new) (D.history middle.new) (D.history high.new)) }
     ensures honest { (D.honest low.new ≡ D.honest low.old) × (D.honest middle.new ≡ D.honest middle.old) × (D.honest high.new ≡ D.honest high.old) }
@@ -110,6 +112,47 @@ fn install<D: Disk>(
     }
 }
 
+/// Puts a file in its place: one from the first transaction on in place of all others, another one
+/// behind the last.
+fn place<D: Disk>(
+    alloc: Global,
+    low: &mut D,
+    middle: &mut D,
+    high: &mut D,
+    index: &mut Index,
+    file: &Ltx,
+) -> Result<(), BackupFault>
+    requires valid { IsFile file.now }
+    requires low_settled { IsTrue (D.honest low.old) → IsSettledBut name.Staged (D.history low.old) }
+    requires middle_settled { IsTrue (D.honest middle.old) → IsSettledBut name.Staged (D.history middle.old) }
+    requires high_settled { IsTrue (D.honest high.old) → IsSettledBut name.Staged (D.history high.old) }
+    ensures placed { AreHonest (D.honest low.old) (D.honest middle.old) (D.honest high.old) → (levels : Levels)
+        → IsKept levels index.old (D.history low.old) (D.history middle.old) (D.history high.old) → (file.now.header.min ≡ 1) ⊎ (before file.now ≡ index.old.end)
+        → OnOk result (IsKept (added levels file.now) index.new (D.history low.new) (D.history middle.new) (D.history high.new)) }
+    ensures stops { AreHonest (D.honest low.old) (D.honest middle.old) (D.honest high.old) → (levels : Levels)
+        → IsKept levels index.old (D.history low.old) (D.history middle.old) (D.history high.old) → (file.now.header.min ≡ 1) ⊎ (before file.now ≡ index.old.end)
+        → Stops (D.history low.old) (D.history middle.old) (D.history high.old) (D.history low.new) (D.history middle.new) (D.history high.new)
+        (HoldsEither levels (added levels file.now)) }
+    ensures end { OnOk result (index.new.end ≡ after file.now) }
+    ensures same { IfErr result (λ why. why ≢ BackupFault.Disk → SameIndex index.old index.new × (low.new ≡ low.old) × (middle.new ≡ middle.old) × (high.new ≡ high.old)) }
+    ensures blameless { IfErr result IsBlameless }
+    ensures settled { OnOk result (AreSettled (D.honest low.old) (D.honest middle.old) (D.honest high.old) (D.history low.new) (D.history middle.new) (D.history high.new)) }
+    ensures honest { (D.honest low.new ≡ D.honest low.old) × (D.honest middle.new ≡ D.honest middle.old) × (D.honest high.new ≡ D.honest high.old) }
+    ensures cause { HasCauses (record { low = D.faults low.old; middle = D.faults middle.old; high = D.faults high.old })
+        (record { low = D.faults low.new; middle = D.faults middle.new; high = D.faults high.new }) result }
+{
+    if file.header.min == 1 {
+        return install(alloc, low, middle, high, index, file);
+    }
+    match append(alloc, low, &mut index.entries.lows, file) {
+        Ok(()) => {
+            index.end = file.after();
+            Ok(())
+        }
+        Err(why) => Err(why),
+    }
+}
+
 impl<D: Disk> Backup<D> {
     /// Adds a file: one from the first transaction on in place of all others, another one behind the
     /// last. It answers where the backup ends then.
@@ -119,7 +162,7 @@ impl<D: Disk> Backup<D> {
         ensures kept { AreHonest (D.honest self.old.low) (D.honest self.old.middle) (D.honest self.old.high) → (levels : Levels)
             → IsKept levels self.old.index (D.history self.old.low) (D.history self.old.middle) (D.history self.old.high)
             → OnOk result (IsKept (added levels file.now) self.new.index (D.history self.new.low) (D.history self.new.middle) (D.history self.new.high)) }
-        ensures same { IfErr result (λ why. why ≢ BackupFault.Disk → (self.new.index ≡ self.old.index)
+        ensures same { IfErr result (λ why. why ≢ BackupFault.Disk → SameIndex self.old.index self.new.index
             × (self.new.low ≡ self.old.low) × (self.new.middle ≡ self.old.middle) × (self.new.high ≡ self.old.high)) }
         ensures breaks { Breaks self.old.broken result self.new.broken }
         ensures honest { (D.honest self.new.low ≡ D.honest self.old.low) × (D.honest self.new.middle ≡ D.honest self.old.middle) × (D.honest self.new.high ≡ D.honest self.old.high) }
@@ -140,33 +183,12 @@ impl<D: Disk> Backup<D> {
         if file.header.min != 1 && want != have {
             return Err(BackupFault::NotNext { have, want });
         }
-        match self.place(alloc, file) {
+        match place(alloc, &mut self.low, &mut self.middle, &mut self.high, &mut self.index, file) {
             Ok(()) => Ok(self.index.end),
             Err(why) => {
                 self.broken = why == BackupFault::Disk;
                 Err(why)
             }
-        }
-    }
-
-    /// Puts a file in its place.
-    fn place(&mut self, alloc: Global, file: &Ltx) -> Result<(), BackupFault> {
-        if file.header.min == 1 {
-            return install(
-                alloc,
-                &mut self.low,
-                &mut self.middle,
-                &mut self.high,
-                &mut self.index,
-                file,
-            );
-        }
-        match append(alloc, &mut self.low, &mut self.index.entries.lows, file) {
-            Ok(()) => {
-                self.index.end = file.after();
-                Ok(())
-            }
-            Err(why) => Err(why),
         }
     }
 }

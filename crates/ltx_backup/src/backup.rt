@@ -1,8 +1,9 @@
 //! A backup between two calls, and its opening.
 ghost use Rattle.std.specs.Prelude.{◌≡◌, false, IsTrue, IfOk, IfErr};
+ghost use Rattle.std.proofs.Props.{props};
 ghost use Rattle.lf_disk.specs.declared.name.FileName.TheVariants as name;
 ghost use Rattle.lf_disk.specs.History.{now, IsSettledBut};
-ghost use Rattle.ltx_backup.specs.Causes.{AreHonest, AllStay, IsCause};
+ghost use Rattle.ltx_backup.specs.Causes.{AreHonest, AllStay, AreSettled, IsCause};
 ghost use Rattle.ltx_backup.specs.Levels.{Levels, Holds};
 ghost use Rattle.ltx_backup.specs.Opening.{IsOpened, WhyClosed};
 ghost use Rattle.ltx_backup.specs.Stops.{Stops};
@@ -23,6 +24,7 @@ pub struct Backup<D: Disk> {
     pub index: Index,
     /// A call that changes something answered Disk.
     pub broken: bool,
+    ghost settled: { broken ≡ false → AreSettled (D.honest low) (D.honest middle) (D.honest high) (D.history low) (D.history middle) (D.history high) } by { Prim.hlevel props },
 }
 
 impl<D: Disk> Backup<D> {

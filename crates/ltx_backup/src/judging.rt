@@ -1,8 +1,10 @@
 //! The files of a level are read and judged, one after another.
-ghost use Rattle.std.specs.Prelude.{◌≡◌, IsTrue, IfOk, IfErr};
+ghost use Rattle.std.specs.Prelude.{◌≡◌, ◌∷◌, [], ◌++◌, List, IsTrue, OnOk, IfOk, IfErr};
+ghost use Rattle.lf_base.specs.declared.pos.Pos.{Pos};
 ghost use Rattle.lf_disk.specs.History.{now, Rests};
 ghost use Rattle.ltx_backup.specs.Causes.{HasCause};
-ghost use Rattle.ltx_backup.specs.Judging.{IsNext, IsRefused, IsJudged, IsBroken};
+ghost use Rattle.ltx_backup.specs.Judging.{IsNext, IsRefused, IsRefusedPast, Judging, IsJudged, IsBroken};
+ghost use Rattle.ltx_backup.specs.declared.entry.Entry.{Entry};
 ghost use Rattle.ltx_backup.specs.Listing.{AreListed};
 
 use crate::entry::Entry;
@@ -59,6 +61,39 @@ fn judge<D: Disk>(
     })
 }
 
+/// Judges the file under the numbers of an entry, where it begins past a number, and puts it behind
+/// those that were found. Another file is passed over.
+fn judge_next<D: Disk>(
+    alloc: Global,
+    disk: &mut D,
+    level: u8,
+    name: &Entry,
+    from: u64,
+    found: &mut Level,
+) -> Result<(), BackupFault>
+    ensures goes_on { IsTrue (D.honest disk.old) → (here : Pos) (names : List Entry) → from ≡ here.txid
+        → Judging (now (D.history disk.old)) here names found.old.entries.items found.old.end
+        → OnOk result (Judging (now (D.history disk.old)) here (names ++ name.now ∷ []) found.new.entries.items found.new.end) }
+    ensures refused { IsTrue (D.honest disk.old) → IfErr result (IsRefusedPast (now (D.history disk.old)) level name.now from found.old.end) }
+    ensures rests { Rests (D.history disk.old) (D.history disk.new) }
+    ensures honest { D.honest disk.new ≡ D.honest disk.old }
+    ensures cause { HasCause (D.faults disk.old) (D.faults disk.new) result }
+{
+    if name.min <= from {
+        return Ok(());
+    }
+    let judged = match judge(alloc, disk, level, name, found.end) {
+        Ok(judged) => judged,
+        Err(why) => return Err(why),
+    };
+    match found.entries.push(judged.entry) {
+        Ok(()) => {}
+        Err(_) => return Err(BackupFault::NoMemory),
+    }
+    found.end = judged.end;
+    Ok(())
+}
+
 /// Judges the files of a level that begin past a position. The others are passed over.
 pub fn judge_level<D: Disk>(
     alloc: Global,
@@ -75,20 +110,15 @@ pub fn judge_level<D: Disk>(
     ensures honest { D.honest disk.new ≡ D.honest disk.old }
     ensures cause { HasCause (D.faults disk.old) (D.faults disk.new) result }
 {
-    let mut entries = Vec::new(alloc);
-    let mut end = here;
+    let mut found = Level {
+        entries: Vec::new(alloc),
+        end: here,
+    };
     for name in names {
-        if name.min > here.txid {
-            let judged = match judge(alloc, disk, level, name, end) {
-                Ok(judged) => judged,
-                Err(why) => return Err(why),
-            };
-            match entries.push(judged.entry) {
-                Ok(()) => {}
-                Err(_) => return Err(BackupFault::NoMemory),
-            }
-            end = judged.end;
+        match judge_next(alloc, disk, level, name, here.txid, &mut found) {
+            Ok(()) => {}
+            Err(why) => return Err(why),
         }
     }
-    Ok(Level { entries, end })
+    Ok(found)
 }

@@ -1,9 +1,11 @@
 //! Which transaction files stand on a disk.
 ghost use Rattle.std.specs.Prelude.{◌≡◌, ◌↔◌, ℕ, IsTrue, IfOk, IfErr};
+ghost use Rattle.std.specs.List.{IsDistinct};
+ghost use Rattle.lf_disk.specs.Folder.{same_name};
 ghost use Rattle.lf_disk.specs.History.{now, Rests};
 ghost use Rattle.ltx_backup.specs.Causes.{HasCause, IsBlameless};
 ghost use Rattle.ltx_backup.specs.Entries.{Lists};
-ghost use Rattle.ltx_backup.specs.Listing.{Names, AreInOrder, AreListed};
+ghost use Rattle.ltx_backup.specs.Listing.{Names, AreInOrder, AreOnce, AreListed};
 
 use crate::entry::Entry;
 use crate::fault::BackupFault;
@@ -13,7 +15,8 @@ use std::alloc::Global;
 
 /// The transaction files among these names. Their page sizes are not known yet.
 fn entries_among(alloc: Global, names: &[FileName]) -> Result<Vec<Entry>, NoMemory>
-    ensures { IfOk result (λ entries. (a b : ℕ) → Lists entries.items a b ↔ Names names.now a b) }
+    ensures lists { IfOk result (λ entries. (a b : ℕ) → Lists entries.items a b ↔ Names names.now a b) }
+    ensures once { IfOk result (λ entries. IsDistinct same_name names.now → AreOnce entries.items) }
 {
     let mut entries = Vec::new(alloc);
     for name in names {
@@ -32,6 +35,7 @@ fn entries_among(alloc: Global, names: &[FileName]) -> Result<Vec<Entry>, NoMemo
 fn sorted_among(alloc: Global, names: &[FileName]) -> Result<Vec<Entry>, NoMemory>
     ensures lists { IfOk result (λ entries. (a b : ℕ) → Lists entries.items a b ↔ Names names.now a b) }
     ensures order { IfOk result (λ entries. AreInOrder entries.items) }
+    ensures once { IfOk result (λ entries. IsDistinct same_name names.now → AreOnce entries.items) }
 {
     let mut entries = entries_among(alloc, names)?;
     entries.sort_unstable_by_key(|entry| entry.min);

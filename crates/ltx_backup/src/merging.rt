@@ -1,6 +1,8 @@
 //! Files become one.
-ghost use Rattle.std.specs.Prelude.{◌≡◌, All, IfOk, IfErr};
+ghost use Rattle.std.specs.Prelude.{◌≡◌, List, All, IfOk, IfErr};
 ghost use Rattle.ltx_codec.specs.Format.{IsFile};
+ghost use Rattle.ltx_codec.specs.declared.file.Ltx.{Ltx as File};
+ghost use Rattle.ltx_compact.specs.Joining.{IsWhy};
 ghost use Rattle.ltx_compact.specs.Compaction.{Compacts, IsFileButSum};
 ghost use Rattle.ltx_compact.specs.Application.{DoesAsFiles};
 ghost use Rattle.ltx_backup.specs.Merging.{IsWrongSum, IsUnmerged};
@@ -28,6 +30,20 @@ fn sealed(file: Ltx) -> Result<Ltx, BackupFault>
     Ok(file)
 }
 
+/// Why files of a level, that begin with the file of this entry, don't become one.
+fn unmerged(why: CompactFault, level: u8, first: Entry) -> BackupFault
+    ensures { (files : List File) → IsWhy files why → IsUnmerged files result }
+{
+    match why {
+        CompactFault::NoMemory => BackupFault::NoMemory,
+        _ => BackupFault::Damaged {
+            level,
+            min: first.min,
+            max: first.max,
+        },
+    }
+}
+
 /// One file in place of several of a level, that begin with the file of this entry.
 pub fn merge(alloc: Global, files: Vec<Ltx>, level: u8, first: Entry) -> Result<Ltx, BackupFault>
     requires { All IsFile files.items }
@@ -38,11 +54,6 @@ pub fn merge(alloc: Global, files: Vec<Ltx>, level: u8, first: Entry) -> Result<
 {
     match compact_owned(alloc, files) {
         Ok(file) => sealed(file),
-        Err(CompactFault::NoMemory) => Err(BackupFault::NoMemory),
-        Err(_) => Err(BackupFault::Damaged {
-            level,
-            min: first.min,
-            max: first.max,
-        }),
+        Err(why) => Err(unmerged(why, level, first)),
     }
 }

@@ -1,10 +1,12 @@
 //! A transaction file is read whole.
-ghost use Rattle.std.specs.Prelude.{◌≡◌, IsTrue, IfOk, IfErr, OnOk, length};
+ghost use Rattle.std.specs.Prelude.{◌≡◌, ℕ, List, IsTrue, IfOk, IfErr, OnOk, length};
 ghost use Rattle.lf_disk.specs.declared.name.FileName.TheVariants as name;
 ghost use Rattle.lf_disk.specs.Folder.{bytes_of};
 ghost use Rattle.lf_disk.specs.History.{now, Rests};
 ghost use Rattle.lf_base.specs.Faults.{CountsFaults};
+ghost use Rattle.ltx_codec.specs.Fields.{AreBytes};
 ghost use Rattle.ltx_codec.specs.Format.{IsFile, IsLtx};
+ghost use Rattle.ltx_codec.specs.Places.{IsRefused};
 ghost use Rattle.ltx_backup.specs.Causes.{HasCause, IsBlameless};
 ghost use Rattle.ltx_backup.specs.Judging.{IsUnread, IsNoFile, IsOther};
 ghost use Rattle.ltx_backup.specs.Levels.{Stands};
@@ -77,6 +79,16 @@ pub fn read_bytes<D: Disk>(alloc: Global, disk: &mut D, name: FileName) -> Resul
     }
 }
 
+/// Why bytes are no file of these transactions on this level.
+fn refused(why: LtxFault, level: u8, min: u64, max: u64) -> BackupFault
+    ensures { (bytes : List ℕ) → AreBytes bytes → IsRefused bytes why → IsNoFile bytes level min max result }
+{
+    match why {
+        LtxFault::NoMemory => BackupFault::NoMemory,
+        _ => BackupFault::Damaged { level, min, max },
+    }
+}
+
 /// The file that bytes are an encoding of. What is none is damaged, on this level and of these
 /// transactions.
 pub fn decode_as(alloc: Global, bytes: &[u8], level: u8, min: u64, max: u64) -> Result<Ltx, BackupFault>
@@ -85,8 +97,7 @@ pub fn decode_as(alloc: Global, bytes: &[u8], level: u8, min: u64, max: u64) -> 
 {
     match decode(alloc, bytes) {
         Ok(file) => Ok(file),
-        Err(LtxFault::NoMemory) => Err(BackupFault::NoMemory),
-        Err(_) => Err(BackupFault::Damaged { level, min, max }),
+        Err(why) => Err(refused(why, level, min, max)),
     }
 }
 

@@ -1,8 +1,8 @@
 //! What three disks hold is examined, and gets its last form.
-ghost use Rattle.std.specs.Prelude.{◌≡◌, None, IsTrue, IsSome, IfOk, IfErr};
+ghost use Rattle.std.specs.Prelude.{◌≡◌, None, IsTrue, IsSome, OnOk, IfOk, IfErr};
 ghost use Rattle.lf_disk.specs.declared.name.FileName.TheVariants as name;
 ghost use Rattle.lf_disk.specs.History.{now, IsSettledBut};
-ghost use Rattle.ltx_backup.specs.Causes.{HasCauses, AreHonest};
+ghost use Rattle.ltx_backup.specs.Causes.{HasCauses, AreHonest, AreSettled};
 ghost use Rattle.ltx_backup.specs.Levels.{Levels, Holds};
 ghost use Rattle.ltx_backup.specs.Opening.{AllListed, IsOpened, WhyClosed};
 ghost use Rattle.ltx_backup.specs.Stops.{Stops};
@@ -36,6 +36,7 @@ fn reopen_files<D: Disk>(
     ensures stops { AreHonest (D.honest low.old) (D.honest middle.old) (D.honest high.old) → (levels : Levels)
         → Holds levels (now (D.history low.old)) (now (D.history middle.old)) (now (D.history high.old))
         → Stops (D.history low.old) (D.history middle.old) (D.history high.old) (D.history low.new) (D.history middle.new) (D.history high.new) (Holds levels) }
+    ensures settled { OnOk result (AreSettled (D.honest low.old) (D.honest middle.old) (D.honest high.old) (D.history low.new) (D.history middle.new) (D.history high.new)) }
     ensures honest { (D.honest low.new ≡ D.honest low.old) × (D.honest middle.new ≡ D.honest middle.old) × (D.honest high.new ≡ D.honest high.old) }
     ensures cause { HasCauses (record { low = D.faults low.old; middle = D.faults middle.old; high = D.faults high.old })
         (record { low = D.faults low.new; middle = D.faults middle.new; high = D.faults high.new }) result }
@@ -71,6 +72,7 @@ fn reopen_snapshot<D: Disk>(
     ensures stops { AreHonest (D.honest low.old) (D.honest middle.old) (D.honest high.old) → (levels : Levels)
         → Holds levels (now (D.history low.old)) (now (D.history middle.old)) (now (D.history high.old))
         → Stops (D.history low.old) (D.history middle.old) (D.history high.old) (D.history low.new) (D.history middle.new) (D.history high.new) (Holds levels) }
+    ensures settled { OnOk result (AreSettled (D.honest low.old) (D.honest middle.old) (D.honest high.old) (D.history low.new) (D.history middle.new) (D.history high.new)) }
     ensures honest { (D.honest low.new ≡ D.honest low.old) × (D.honest middle.new ≡ D.honest middle.old) × (D.honest high.new ≡ D.honest high.old) }
     ensures cause { HasCauses (record { low = D.faults low.old; middle = D.faults middle.old; high = D.faults high.old })
         (record { low = D.faults low.new; middle = D.faults middle.new; high = D.faults high.new }) result }
@@ -106,6 +108,7 @@ pub fn reopen<D: Disk>(
     ensures stops { AreHonest (D.honest low.old) (D.honest middle.old) (D.honest high.old) → (levels : Levels)
         → Holds levels (now (D.history low.old)) (now (D.history middle.old)) (now (D.history high.old))
         → Stops (D.history low.old) (D.history middle.old) (D.history high.old) (D.history low.new) (D.history middle.new) (D.history high.new) (Holds levels) }
+    ensures settled { OnOk result (AreSettled (D.honest low.old) (D.honest middle.old) (D.honest high.old) (D.history low.new) (D.history middle.new) (D.history high.new)) }
     ensures honest { (D.honest low.new ≡ D.honest low.old) × (D.honest middle.new ≡ D.honest middle.old) × (D.honest high.new ≡ D.honest high.old) }
     ensures cause { HasCauses (record { low = D.faults low.old; middle = D.faults middle.old; high = D.faults high.old })
         (record { low = D.faults low.new; middle = D.faults middle.new; high = D.faults high.new }) result }

@@ -1,12 +1,12 @@
 //! The database at a transaction.
-ghost use Rattle.std.specs.Prelude.{◌≡◌, ◌↔◌, List, Err, true, false, IsTrue, OnOk, IfOk, IfErr};
+ghost use Rattle.std.specs.Prelude.{◌≡◌, ◌<◌, ◌≤◌, ◌↔◌, List, Err, true, false, IsTrue, OnOk, IfOk, IfErr};
 ghost use Rattle.lf_disk.specs.History.{now, Rests};
 ghost use Rattle.lf_sqlite_pages.specs.Apply.{Fits, apply};
 ghost use Rattle.lf_sqlite_pages.specs.Image.{empty_image};
 ghost use Rattle.ltx_codec.specs.Format.{IsFile};
 ghost use Rattle.ltx_codec.specs.Sums.{image_sum};
 ghost use Rattle.ltx_codec.specs.declared.file.Ltx.{Ltx as File};
-ghost use Rattle.ltx_backup.specs.Applying.{HasSum, IsOtherSum, AppliesOne, IsMisfit, AppliesAll, IsMisfitAmong, Ends};
+ghost use Rattle.ltx_backup.specs.Applying.{HasSum, IsOtherSum, AppliesOne, IsMisfit, IsMisfitUpTo, AppliesAll, IsMisfitAmong, Ends};
 ghost use Rattle.ltx_backup.specs.Causes.{HasCause, HasCauses, AreHonest};
 ghost use Rattle.ltx_backup.specs.Entries.{IsKept, entries_of};
 ghost use Rattle.ltx_backup.specs.Levels.{Levels, AllStand};
@@ -114,6 +114,33 @@ fn restore_file<D: Disk>(
     before.after(alloc, file)
 }
 
+/// The same, where the file's last transaction is not past `txid`.
+fn restore_next<D: Disk>(
+    alloc: Global,
+    disk: &mut D,
+    level: u8,
+    entry: &Entry,
+    txid: u64,
+    before: Restored,
+) -> Result<Restored, BackupFault>
+    requires sum { HasSum before }
+    ensures restores { IsTrue (D.honest disk.old) → entry.now.max ≤ txid → IfOk result (λ next. AppliesOne (now (D.history disk.old)) entry.now before next) }
+    ensures passes { txid < entry.now.max → IfOk result (λ next. next ≡ before) }
+    ensures misfit { IsTrue (D.honest disk.old) → IfErr result (IsMisfitUpTo (now (D.history disk.old)) level entry.now txid before) }
+    ensures sum { IfOk result HasSum }
+    ensures rests { Rests (D.history disk.old) (D.history disk.new) }
+    ensures honest { D.honest disk.new ≡ D.honest disk.old }
+    ensures cause { HasCause (D.faults disk.old) (D.faults disk.new) result }
+{
+    if entry.max > txid {
+        return Ok(before);
+    }
+    match restore_file(alloc, disk, level, entry, before) {
+        Ok(next) => Ok(next),
+        Err(why) => Err(why),
+    }
+}
+
 /// Applies the files of a level whose last transaction is not past `txid`.
 fn restore_level<D: Disk>(
     alloc: Global,
@@ -135,12 +162,10 @@ fn restore_level<D: Disk>(
 {
     let mut state = before;
     for entry in entries {
-        if entry.max <= txid {
-            state = match restore_file(alloc, disk, level, entry, state) {
-                Ok(state) => state,
-                Err(why) => return Err(why),
-            };
-        }
+        state = match restore_next(alloc, disk, level, entry, txid, state) {
+            Ok(next) => next,
+            Err(why) => return Err(why),
+        };
     }
     Ok(state)
 }

@@ -1,5 +1,13 @@
 //! Eight files of a level become one of the next.
-ghost use Rattle.std.specs.Prelude.{◌≡◌, IsTrue, ◌↔◌, ◌≤◌, IfOk, IfErr, OnOk, length, drop, take, All};
+ghost use Rattle.std.specs.Prelude.{◌≡◌, ◌≢◌, ◌↔◌, ◌≤◌, ◌∷◌, [], ◌++◌, List, false, IsTrue, IfOk, IfErr, OnOk, length, drop, All};
+ghost use Rattle.lf_disk.specs.declared.name.FileName.TheVariants as name;
+ghost use Rattle.lf_disk.specs.History.{now, Rests, IsSettledBut};
+ghost use Rattle.ltx_codec.specs.Format.{IsFile};
+ghost use Rattle.ltx_codec.specs.declared.file.Ltx.{Ltx as File};
+ghost use Rattle.ltx_backup.specs.Causes.{HasCause, HasCauses, IsBlameless};
+ghost use Rattle.ltx_backup.specs.Entries.{entry_of, entries_of};
+ghost use Rattle.ltx_backup.specs.Levels.{AllStand};
+ghost use Rattle.ltx_backup.specs.Moving.{AreAlike, AreDue, MovesUp, HasMovedUp};
 
 use crate::adding::append;
 use crate::backup::Backup;
@@ -13,7 +21,9 @@ use ltx_codec::Ltx;
 use std::alloc::Global;
 
 /// Whether files have pages of this size.
-fn are_alike(entries: &[Entry], size: u32) -> bool {
+fn are_alike(entries: &[Entry], size: u32) -> bool
+    ensures { IsTrue result ↔ AreAlike size entries.now }
+{
     for entry in entries {
         if entry.page_size != size {
             return false;
@@ -23,7 +33,10 @@ fn are_alike(entries: &[Entry], size: u32) -> bool {
 }
 
 /// Whether a level has eight files or more, of which the eight oldest have one page size.
-fn is_due(entries: &[Entry]) -> bool {
+fn is_due(entries: &[Entry]) -> bool
+    ensures due { IsTrue result → AreDue entries.now }
+    ensures not_due { result ≡ false → AreDue entries.now → ⊥ }
+{
     if entries.len() < 8 {
         return false;
     }
@@ -37,7 +50,16 @@ fn read_files<D: Disk>(
     disk: &mut D,
     level: u8,
     entries: &[Entry],
-) -> Result<Vec<Ltx>, BackupFault> {
+) -> Result<Vec<Ltx>, BackupFault>
+    ensures files { IsTrue (D.honest disk.old) → (files : List File) → entries.now ≡ entries_of files → AllStand (now (D.history disk.old)) files
+        → IfOk result (λ read. read.items ≡ files) }
+    ensures valid { IfOk result (λ read. All IsFile read.items) }
+    ensures blameless { IsTrue (D.honest disk.old) → (files : List File) → entries.now ≡ entries_of files → AllStand (now (D.history disk.old)) files
+        → IfErr result IsBlameless }
+    ensures rests { Rests (D.history disk.old) (D.history disk.new) }
+    ensures honest { D.honest disk.new ≡ D.honest disk.old }
+    ensures cause { HasCause (D.faults disk.old) (D.faults disk.new) result }
+{
     let mut files = Vec::new(alloc);
     for entry in entries {
         let file = match read_file(alloc, disk, level, entry) {
@@ -70,7 +92,24 @@ fn move_up<D: Disk>(
     to: &mut D,
     uppers: &mut Vec<Entry>,
     file: &Ltx,
-) -> Result<(), BackupFault> {
+) -> Result<(), BackupFault>
+    requires valid { IsFile file.now }
+    requires eight { 8 ≤ length entries.old.items }
+    requires from_settled { IsTrue (D.honest from.old) → IsSettledBut name.Staged (D.history from.old) }
+    requires to_settled { IsTrue (D.honest to.old) → IsSettledBut name.Staged (D.history to.old) }
+    ensures entries { OnOk result (entries.new.items ≡ drop 8 entries.old.items) }
+    ensures uppers { OnOk result (uppers.new.items ≡ uppers.old.items ++ entry_of file.now ∷ []) }
+    ensures same { IfErr result (λ why. why ≢ BackupFault.Disk → (entries.new.items ≡ entries.old.items) × (uppers.new.items ≡ uppers.old.items)
+        × (from.new ≡ from.old) × (to.new ≡ to.old)) }
+    ensures blameless { IfErr result IsBlameless }
+    ensures moves { IsTrue (D.honest from.old) → IsTrue (D.honest to.old)
+        → MovesUp file.now (D.history from.old) (D.history to.old) (D.history from.new) (D.history to.new) }
+    ensures done { IsTrue (D.honest from.old) → IsTrue (D.honest to.old) → OnOk result
+        (HasMovedUp file.now entries.old.items (D.history from.old) (D.history to.old) (D.history from.new) (D.history to.new)) }
+    ensures honest { (D.honest from.new ≡ D.honest from.old) × (D.honest to.new ≡ D.honest to.old) }
+    ensures cause { HasCauses (record { low = D.faults from.old; middle = D.faults to.old; high = 0 })
+        (record { low = D.faults from.new; middle = D.faults to.new; high = 0 }) result }
+{
     match append(alloc, to, uppers, file) {
         Ok(()) => {}
         Err(why) => return Err(why),
@@ -92,9 +131,14 @@ fn fold<D: Disk>(
     entries: &mut Vec<Entry>,
     to: &mut D,
     uppers: &mut Vec<Entry>,
-) -> Result<(), BackupFault> {
-    let first = entries[0];
-    let (oldest, _) = entries.as_slice().split_at(8);
+) -> Result<(), BackupFault>
+    requires due { AreDue entries.old.items }
+    requires from_settled { IsTrue (D.honest from.old) → IsSettledBut name.Staged (D.history from.old) }
+    requires to_settled { IsTrue (D.honest to.old) → IsSettledBut name.Staged (D.history to.old) }
+{
+    let list = entries.as_slice();
+    let first = list[0];
+    let (oldest, _) = list.split_at(8);
     let files = match read_files(alloc, from, level, oldest) {
         Ok(files) => files,
         Err(why) => return Err(why),
@@ -123,6 +167,7 @@ impl<D: Disk> Backup<D> {
         }
     }
 
+    /// The lowest level.
     fn settle_low(&mut self, alloc: Global) -> Result<u64, BackupFault> {
         let mut count = 0;
         while is_due(self.index.entries.lows.as_slice()) {
