@@ -56,6 +56,12 @@ module _ (levels : Levels) (index : Index) (l m h : History) (kept : IsKept leve
       (apart l m h l_now m h A (SameBut Staged (now m)) (SameBut Staged (now h)) runs
       (started m (SameBut Staged (now m)) kept.middles.settled) (started h (SameBut Staged (now h)) kept.highs.settled))
 
+  -- nothing was done
+  pub standing_stops : (other : Levels) → Stops l m h l m h (HoldsEither levels other)
+  standing_stops other =
+      one_disk l (SameBut Staged (now l)) (HoldsEither levels other) (started l (SameBut Staged (now l)) kept.lows.settled)
+      (λ a b c low middle high. inl (held_same a b c low middle high))
+
   module _ (file : Ltx) (is : IsLtx (stored file) file) (joins : before file ≡ index.end) where
 
 

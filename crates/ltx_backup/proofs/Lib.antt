@@ -12,6 +12,7 @@ pub mod Once
 pub mod Opens
 pub mod Restores
 pub mod Snapshots
+pub mod Steps
 pub mod Stills
 pub mod Tidies
 pub mod Trims

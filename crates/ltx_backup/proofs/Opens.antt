@@ -1,5 +1,5 @@
 -- Three disks are opened.
-use Rattle.std.proofs.Common.{◌≡◌, ◌∙◌, ◌⊎◌, inl, inr, ℕ, ◌+◌, ◌<◌, ◌≤◌, List, [], ◌∷◌, ◌++◌, Option, None, Some, IsSome, refl, sym, ap, subst, arith}
+use Rattle.std.proofs.Common.{◌≡◌, ◌∙◌, ◌⊎◌, inl, inr, ℕ, ◌+◌, ◌<◌, ◌≤◌, List, [], ◌∷◌, ◌++◌, Option, None, Some, IsSome, Result, Ok, Err, IfOk, IfErr, refl, sym, ap, subst, arith}
 use Rattle.lf_base.specs.declared.pos.Pos.{Pos}
 use Rattle.lf_disk.specs.declared.name.FileName.{FileName}
 use Rattle.lf_disk.specs.declared.name.FileName.TheVariants.{Staged, Snapshot, Ltx as LtxName}
@@ -8,6 +8,7 @@ use Rattle.lf_disk.specs.History.{History, now, Rests, EachMoment, IsSettledBut}
 use Rattle.ltx_codec.specs.Format.{IsLtx}
 use Rattle.ltx_codec.specs.Positions.{before, after, nowhere}
 use Rattle.ltx_codec.specs.declared.file.Ltx.{Ltx}
+use Rattle.ltx_backup.specs.Causes.{IsBlameless}
 use Rattle.ltx_backup.specs.Entries.{entry_of, entries_of, Lists, IsLevel, IsKept}
 use Rattle.ltx_backup.specs.Finishing.{AllNamed, Waits, IsAlone}
 use Rattle.ltx_backup.specs.Judging.{IsJudged, IsBroken}
@@ -23,8 +24,8 @@ use Rattle.ltx_backup.specs.declared.fault.BackupFault.{BackupFault}
 use Rattle.ltx_backup.specs.declared.fault.BackupFault.TheVariants as fault
 use Rattle.ltx_backup.specs.declared.tidying.Bounds.{Bounds}
 use Rattle.ltx_backup.proofs.Finishes.{from_nowhere}
-use Rattle.ltx_backup.proofs.Holding.{AllPast, lead_past, has_trimmed, has_alone, holds_same, end_join}
-use Rattle.ltx_backup.proofs.Stills.{Alike, rests_now}
+use Rattle.ltx_backup.proofs.Holding.{AllPast, lead_past, has_trimmed, has_alone, holds_same, end_join, lead_join}
+use Rattle.ltx_backup.proofs.Stills.{Alike, rests_now, trims_after, trimmed_after}
 use Rattle.ltx_backup.proofs.Turns.{resting, apart, weaker, and_then}
 use Rattle.ltx_backup.proofs.Unique.{one_level, one_holding, lead_highs, lead_middles, lead_lows, none_there}
 
@@ -201,3 +202,71 @@ module _ (a b c : Folder) (none : a Snapshot ≡ None) where
         ],
       )
       low_broken fault.NoMemory broken = tt
+
+-- no file is to blame
+pub blameless_closed : (a b c : Folder) (why : BackupFault) → IsBlameless why → WhyClosed a b c why
+blameless_closed a b c fault.Disk blameless = tt
+blameless_closed a b c fault.Broken blameless = absurd blameless
+blameless_closed a b c (fault.NotNext have want) blameless = absurd blameless
+blameless_closed a b c (fault.NoSuchTxid txid last) blameless = absurd blameless
+blameless_closed a b c (fault.SumDiffers want got) blameless = absurd blameless
+blameless_closed a b c (fault.Damaged level min max) blameless = absurd blameless
+blameless_closed a b c fault.NoMemory blameless = tt
+
+-- three disks are read, and then lose what is passed over
+module _ (index : Index) (bounds : Bounds) (names : Entries) (l m h l_mid m_mid h_mid l_now m_now h_now : History)
+    (low_settled : IsSettledBut Staged l) (middle_settled : IsSettledBut Staged m) (high_settled : IsSettledBut Staged h)
+    (low : Rests l l_mid) (middle : Rests m m_mid) (high : Rests h h_mid) (none : now l Snapshot ≡ None) (found : FindsFiles index bounds (now l) (now m) (now h)) where
+  pub tidied_stops : (levels : Levels) → Holds levels (now l) (now m) (now h) → EachMoment l_mid l_now (IsTrimmed bounds.low (now l_mid)) → EachMoment m_mid m_now (IsTrimmed bounds.middle (now m_mid))
+      → EachMoment h_mid h_now (IsTrimmed bounds.high (now h_mid)) → Stops l m h l_now m_now h_now (Holds levels)
+  tidied_stops levels held lows middles highs =
+      let same : levels ≡ found.levels = one_holding found.levels levels (now l) (now m) (now h) (found_holds index bounds (now l) (now m) (now h) none found) held in
+      subst (λ (k : Levels). Stops l m h l_now m_now h_now (Holds k)) (sym same)
+      (weaker l m h l_now m_now h_now (λ a b c. IsTrimmed bounds.low (now l) a × IsTrimmed bounds.middle (now m) b × IsTrimmed bounds.high (now h) c) (Holds found.levels)
+      (trimmed_holds index bounds (now l) (now m) (now h) none found)
+      (apart l m h l_now m_now h_now (IsTrimmed bounds.low (now l)) (IsTrimmed bounds.middle (now m)) (IsTrimmed bounds.high (now h))
+      (trims_after bounds.low l l_mid l_now low_settled low lows) (trims_after bounds.middle m m_mid m_now middle_settled middle middles) (trims_after bounds.high h h_mid h_now high_settled high highs)))
+
+  pub tidied_opens : AllListed names (now l) (now m) (now h) → HasTrimmed bounds.low names.lows.items (now l_mid) l_now → HasTrimmed bounds.middle names.middles.items (now m_mid) m_now
+      → HasTrimmed bounds.high names.highs.items (now h_mid) h_now → IsOpened index l m h l_now m_now h_now
+  tidied_opens listed lows middles highs = record {
+    levels = found.levels;
+    held = found_holds index bounds (now l) (now m) (now h) none found;
+    alone = λ others held. one_holding found.levels others (now l) (now m) (now h) (found_holds index bounds (now l) (now m) (now h) none found) held;
+    kept = kept_now index bounds (now l) (now m) (now h) none found names l_now m_now h_now listed
+        (trimmed_after bounds.low names.lows.items l l_mid l_now low lows) (trimmed_after bounds.middle names.middles.items m m_mid m_now middle middles) (trimmed_after bounds.high names.highs.items h h_mid h_now high highs);
+  }
+
+pub ok_follows : {T E : Type 0} (result : Result T E) (P Q : T → Type 0) → ((v : T) → P v → Q v) → IfOk result P → IfOk result Q
+ok_follows (Ok v) P Q follows is = follows v is
+ok_follows (Err e) P Q follows is = tt
+
+pub err_follows : {T E : Type 0} (result : Result T E) (P Q : E → Type 0) → ((e : E) → P e → Q e) → IfErr result P → IfErr result Q
+err_follows (Ok v) P Q follows is = tt
+err_follows (Err e) P Q follows is = follows e is
+
+-- the levels that were judged, one behind the other
+pub found_all : (a b c : Folder) (e0 e1 e2 : List Entry) (end0 end1 end2 : Pos) (index : Index) (bounds : Bounds) → IsJudged c nowhere e2 end2 → IsJudged b end2 e1 end1 → IsJudged a end1 e0 end0
+    → index.entries.lows.items ≡ e0 → index.entries.middles.items ≡ e1 → index.entries.highs.items ≡ e2 → index.end ≡ end0
+    → bounds.high ≡ 0 → bounds.middle ≡ end2.txid → bounds.low ≡ end1.txid → FindsFiles index bounds a b c
+found_all a b c e0 e1 e2 end0 end1 end2 index bounds highs middles lows lows_is middles_is highs_is end_is high_is middle_is low_is =
+    let both : end_of nowhere (highs.files ++ middles.files) ≡ end1 =
+    end_join nowhere highs.files middles.files ∙ ap (λ (p : Pos). end_of p middles.files) (sym highs.end_is) ∙ sym middles.end_is in
+    let lead_both : LeadOn nowhere (highs.files ++ middles.files) =
+    lead_join nowhere highs.files middles.files highs.joined (subst (λ (p : Pos). LeadOn p middles.files) highs.end_is middles.joined) in
+    record {
+      levels = record { lows = lows.files; middles = middles.files; highs = highs.files };
+      index_is = record {
+        lows = lows_is ∙ lows.entries_are;
+        middles = middles_is ∙ middles.entries_are;
+        highs = highs_is ∙ highs.entries_are;
+        joined = lead_join nowhere (highs.files ++ middles.files) lows.files lead_both (subst (λ (p : Pos). LeadOn p lows.files) (sym both) lows.joined);
+        end = end_is ∙ lows.end_is ∙ ap (λ (p : Pos). end_of p lows.files) (sym both) ∙ sym (end_join nowhere (highs.files ++ middles.files) lows.files);
+      };
+      highs = subst (λ (n : ℕ). HasPast n highs.files c) (sym high_is) highs.has;
+      middles = subst (λ (n : ℕ). HasPast n middles.files b) (sym middle_is) middles.has;
+      lows = subst (λ (n : ℕ). HasPast n lows.files a) (sym low_is) lows.has;
+      from = high_is;
+      above_middle = middle_is ∙ ap (λ (p : Pos). p.txid) highs.end_is;
+      above_low = low_is ∙ ap (λ (p : Pos). p.txid) (sym both);
+    }

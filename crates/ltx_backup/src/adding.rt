@@ -1,9 +1,9 @@
 //! A file is added.
-ghost use Rattle.std.specs.Prelude.{◌≡◌, ◌≢◌, ◌⊎◌, ◌∷◌, [], ◌++◌, IsTrue, IfErr, OnOk};
+ghost use Rattle.std.specs.Prelude.{◌≡◌, ◌≢◌, ◌≤◌, ◌⊎◌, ◌∷◌, [], ◌++◌, false, IsTrue, IfErr, OnOk};
 ghost use Rattle.lf_disk.specs.declared.name.FileName.TheVariants as name;
 ghost use Rattle.lf_disk.specs.History.{now, Rests, EachMoment, IsSettledBut};
 ghost use Rattle.lf_disk.specs.Publish.{IsOldOrPublished, IsPublished};
-ghost use Rattle.ltx_codec.specs.Format.{IsFile};
+ghost use Rattle.ltx_codec.specs.Format.{IsFile, IsLtx};
 ghost use Rattle.ltx_codec.specs.Positions.{before, after};
 ghost use Rattle.ltx_backup.specs.Adding.{Adds, Breaks, HoldsEither};
 ghost use Rattle.ltx_backup.specs.Causes.{HasCause, HasCauses, IsBlameless, AreHonest, AreSettled};
@@ -36,6 +36,7 @@ pub fn append<D: Disk>(
     ensures entries { OnOk result (entries.new.items ≡ entries.old.items ++ entry_of file.now ∷ []) }
     ensures same { IfErr result (λ why. why ≢ BackupFault.Disk → (entries.new.items ≡ entries.old.items) × (disk.new ≡ disk.old)) }
     ensures blameless { IfErr result IsBlameless }
+    ensures reads_back { IsLtx (stored file.now) file.now }
     ensures moments { IsTrue (D.honest disk.old) → EachMoment (D.history disk.old) (D.history disk.new)
         (IsOldOrPublished (now (D.history disk.old)) (name.Ltx file.now.header.min file.now.header.max) (stored file.now)) }
     ensures published { IsTrue (D.honest disk.old) → OnOk result
@@ -153,6 +154,21 @@ fn place<D: Disk>(
     }
 }
 
+/// Whether a file begins at the first transaction, or where a backup ends.
+fn joins(file: &Ltx, end: Pos) -> bool
+    requires { 1 ≤ file.now.header.min }
+    ensures yes { IsTrue result → (file.now.header.min ≡ 1) ⊎ (before file.now ≡ end) }
+    ensures no { result ≡ false → (file.now.header.min ≢ 1) × (before file.now ≢ end) }
+{
+    if file.header.min == 1 {
+        return true;
+    }
+    if file.before() == end {
+        return true;
+    }
+    false
+}
+
 impl<D: Disk> Backup<D> {
     /// Adds a file: one from the first transaction on in place of all others, another one behind the
     /// last. It answers where the backup ends then.
@@ -179,8 +195,8 @@ impl<D: Disk> Backup<D> {
             return Err(BackupFault::Broken);
         }
         let have = self.index.end;
-        let want = file.before();
-        if file.header.min != 1 && want != have {
+        if !joins(file, have) {
+            let want = file.before();
             return Err(BackupFault::NotNext { have, want });
         }
         match place(alloc, &mut self.low, &mut self.middle, &mut self.high, &mut self.index, file) {

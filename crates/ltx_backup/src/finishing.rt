@@ -1,9 +1,9 @@
 //! A snapshot that waits for its name becomes the only file.
-ghost use Rattle.std.specs.Prelude.{◌≡◌, IsTrue, IsSome, OnOk};
+ghost use Rattle.std.specs.Prelude.{◌≡◌, IsTrue, IsSome, IfErr, OnOk};
 ghost use Rattle.lf_disk.specs.declared.name.FileName.TheVariants as name;
 ghost use Rattle.lf_disk.specs.History.{now, IsSettledBut};
 ghost use Rattle.ltx_codec.specs.declared.file.Ltx.{Ltx};
-ghost use Rattle.ltx_backup.specs.Causes.{HasCauses, AreHonest, AreSettled};
+ghost use Rattle.ltx_backup.specs.Causes.{HasCauses, IsBlameless, AreHonest, AreSettled};
 ghost use Rattle.ltx_backup.specs.Finishing.{AllNamed, Waits, IsAlone, HoldsOnly};
 ghost use Rattle.ltx_backup.specs.Stops.{Stops};
 
@@ -39,6 +39,7 @@ pub fn finish_snapshot<D: Disk>(
         → AllNamed names.now (now (D.history low.old)) (now (D.history middle.old)) (now (D.history high.old))
         → (file : Ltx) → Waits file entry.now (now (D.history low.old))
         → OnOk result (IsAlone file (D.history low.new) (D.history middle.new) (D.history high.new)) }
+    ensures blameless { IfErr result IsBlameless }
     ensures settled { OnOk result (AreSettled (D.honest low.old) (D.honest middle.old) (D.honest high.old) (D.history low.new) (D.history middle.new) (D.history high.new)) }
     ensures honest { (D.honest low.new ≡ D.honest low.old) × (D.honest middle.new ≡ D.honest middle.old) × (D.honest high.new ≡ D.honest high.old) }
     ensures cause { HasCauses (record { low = D.faults low.old; middle = D.faults middle.old; high = D.faults high.old })

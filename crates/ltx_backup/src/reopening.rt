@@ -117,9 +117,12 @@ pub fn reopen<D: Disk>(
         Ok(names) => names,
         Err(why) => return Err(why),
     };
-    match is_there(low, FileName::Snapshot) {
-        Ok(true) => reopen_snapshot(alloc, low, middle, high, &names),
-        Ok(false) => reopen_files(alloc, low, middle, high, &names),
-        Err(why) => Err(why),
+    let there = match is_there(low, FileName::Snapshot) {
+        Ok(there) => there,
+        Err(why) => return Err(why),
+    };
+    if there {
+        return reopen_snapshot(alloc, low, middle, high, &names);
     }
+    reopen_files(alloc, low, middle, high, &names)
 }

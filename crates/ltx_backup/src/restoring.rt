@@ -111,7 +111,10 @@ fn restore_file<D: Disk>(
             max: entry.max,
         });
     }
-    before.after(alloc, file)
+    match before.after(alloc, file) {
+        Ok(next) => Ok(next),
+        Err(_) => Err(BackupFault::NoMemory),
+    }
 }
 
 /// The same, where the file's last transaction is not past `txid`.

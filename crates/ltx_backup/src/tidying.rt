@@ -1,8 +1,8 @@
 //! Three disks lose the files that the chain passes over.
-ghost use Rattle.std.specs.Prelude.{◌≡◌, IsTrue, OnOk};
+ghost use Rattle.std.specs.Prelude.{◌≡◌, IsTrue, IfErr, OnOk};
 ghost use Rattle.lf_disk.specs.declared.name.FileName.TheVariants as name;
 ghost use Rattle.lf_disk.specs.History.{now, EachMoment, IsSettledBut};
-ghost use Rattle.ltx_backup.specs.Causes.{HasCauses};
+ghost use Rattle.ltx_backup.specs.Causes.{HasCauses, IsBlameless};
 ghost use Rattle.ltx_backup.specs.Trimming.{IsTrimmed, HasTrimmed};
 
 use crate::entry::Entries;
@@ -36,6 +36,7 @@ pub fn tidy_all<D: Disk>(
     ensures low_done { IsTrue (D.honest low.old) → OnOk result (HasTrimmed bounds.low names.now.lows.items (now (D.history low.old)) (D.history low.new)) }
     ensures middle_done { IsTrue (D.honest middle.old) → OnOk result (HasTrimmed bounds.middle names.now.middles.items (now (D.history middle.old)) (D.history middle.new)) }
     ensures high_done { IsTrue (D.honest high.old) → OnOk result (HasTrimmed bounds.high names.now.highs.items (now (D.history high.old)) (D.history high.new)) }
+    ensures blameless { IfErr result IsBlameless }
     ensures honest { (D.honest low.new ≡ D.honest low.old) × (D.honest middle.new ≡ D.honest middle.old) × (D.honest high.new ≡ D.honest high.old) }
     ensures cause { HasCauses (record { low = D.faults low.old; middle = D.faults middle.old; high = D.faults high.old })
         (record { low = D.faults low.new; middle = D.faults middle.new; high = D.faults high.new }) result }
