@@ -1,5 +1,7 @@
 -- Three disks are opened.
-use Rattle.std.proofs.Common.{◌≡◌, ◌∙◌, ◌⊎◌, inl, inr, ℕ, ◌+◌, ◌<◌, ◌≤◌, List, [], ◌∷◌, ◌++◌, Option, None, Some, IsSome, Result, Ok, Err, IfOk, IfErr, refl, sym, ap, subst, arith}
+use Rattle.std.proofs.Common.{◌≡◌, ◌∙◌, ◌⊎◌, inl, inr, ℕ, ◌+◌, ◌<◌, ◌≤◌, List, [], ◌∷◌, ◌++◌, Option, None, Some, IsSome, Result, Ok, Err, IfOk, IfErr, false, refl, sym, ap, subst, arith}
+use Rattle.std.specs.Prelude.{is_some}
+use Rattle.std.proofs.lemmas.Bool.{false≢true}
 use Rattle.lf_base.specs.declared.pos.Pos.{Pos}
 use Rattle.lf_disk.specs.declared.name.FileName.{FileName}
 use Rattle.lf_disk.specs.declared.name.FileName.TheVariants.{Staged, Snapshot, Ltx as LtxName}
@@ -270,3 +272,22 @@ found_all a b c e0 e1 e2 end0 end1 end2 index bounds highs middles lows lows_is 
       above_middle = middle_is ∙ ap (λ (p : Pos). p.txid) highs.end_is;
       above_low = low_is ∙ ap (λ (p : Pos). p.txid) (sym both);
     }
+
+pub is_none : (o : Option (List ℕ)) → is_some o ≡ false → o ≡ None
+is_none None isnt = refl
+is_none (Some bytes) isnt = absurd (false≢true (sym isnt))
+
+pub list_alike : (entries : List Entry) (f g : Folder) → Alike f g → AreListed entries f → AreListed entries g
+list_alike entries f g same listed = record {
+  there = λ x y lists. subst (λ (o : Option (List ℕ)). IsSome o) (sym (same (LtxName x y))) (listed.there x y lists);
+  whole = λ x y some. listed.whole x y (subst (λ (o : Option (List ℕ)). IsSome o) (same (LtxName x y)) some);
+  order = listed.order;
+  once = listed.once;
+}
+
+pub listed_rests : (names : Entries) (l m h l_mid m_mid h_mid : History) → Rests l l_mid → Rests m m_mid → Rests h h_mid → AllListed names (now l) (now m) (now h) → AllListed names (now l_mid) (now m_mid) (now h_mid)
+listed_rests names l m h l_mid m_mid h_mid low middle high listed = record {
+  lows = list_alike names.lows.items (now l) (now l_mid) (rests_now l l_mid low) listed.lows;
+  middles = list_alike names.middles.items (now m) (now m_mid) (rests_now m m_mid middle) listed.middles;
+  highs = list_alike names.highs.items (now h) (now h_mid) (rests_now h h_mid high) listed.highs;
+}
