@@ -1,6 +1,7 @@
 -- A backup after a file was added.
-use Rattle.std.proofs.Common.{◌≡◌, ◌≢◌, ◌∙◌, ◌⊎◌, inl, inr, ℕ, ◌+◌, ◌<◌, ◌≤◌, Bool, true, false, List, [], ◌∷◌, ◌++◌, Option, None, Some, IsSome, refl, sym, ap, subst, arith, eq-eqb}
+use Rattle.std.proofs.Common.{◌≡◌, ◌≢◌, ◌∙◌, ◌⊎◌, inl, inr, ℕ, ◌+◌, ◌<◌, ◌≤◌, Bool, true, false, List, [], ◌∷◌, ◌++◌, Option, None, Some, IsSome, Err, refl, sym, ap, subst, arith, eq-eqb}
 use Rattle.std.specs.Prelude.{◌==◌, if◌then◌else◌}
+use Rattle.std.proofs.lemmas.Bool.{false≢true}
 use Rattle.std.proofs.lemmas.Bool.Decides.{nat_tests}
 use Rattle.lf_base.specs.declared.pos.Pos.{Pos}
 use Rattle.lf_disk.specs.declared.name.FileName.TheVariants.{Staged, Snapshot, Ltx as LtxName}
@@ -11,7 +12,8 @@ use Rattle.lf_disk.proofs.Moments.{started}
 use Rattle.ltx_codec.specs.Format.{IsLtx}
 use Rattle.ltx_codec.specs.Positions.{before, after, nowhere}
 use Rattle.ltx_codec.specs.declared.file.Ltx.{Ltx}
-use Rattle.ltx_backup.specs.Adding.{HoldsEither}
+use Rattle.ltx_backup.specs.Adding.{HoldsEither, Adds, Breaks}
+use Rattle.ltx_backup.specs.Causes.{IsBlameless}
 use Rattle.ltx_backup.specs.Entries.{entry_of, entries_of, IsLevel, IsKept}
 use Rattle.ltx_backup.specs.Finishing.{AllNamed, Waits, HoldsOnly}
 use Rattle.ltx_backup.specs.Levels.{Levels, chain, LeadOn, end_of, HasPast, HoldsFiles, Holds, only_low}
@@ -20,6 +22,8 @@ use Rattle.ltx_backup.specs.Stored.{stored, added}
 use Rattle.ltx_backup.specs.declared.entry.Entries.{Entries}
 use Rattle.ltx_backup.specs.declared.entry.Entry.{Entry}
 use Rattle.ltx_backup.specs.declared.entry.Index.{Index}
+use Rattle.ltx_backup.specs.declared.fault.BackupFault.{BackupFault}
+use Rattle.ltx_backup.specs.declared.fault.BackupFault.TheVariants as fault
 use Rattle.ltx_backup.proofs.Appends.{named_by, has_more, snapshot_stays}
 use Rattle.ltx_backup.proofs.Holding.{has_higher, has_same, holds_same, kept_holds, lead_join, end_join}
 use Rattle.ltx_backup.proofs.Judges.{entries_join}
@@ -35,6 +39,29 @@ pub added_later : (levels : Levels) (file : Ltx) → file.header.min ≢ 1 → a
 added_later levels file later =
     let isnt : (file.header.min == 1) ≡ false = grind (arith, nat_tests) in
     ap (λ (x : Bool). if x then only_low file else record levels { lows = levels.lows ++ file ∷ [] }) isnt
+
+-- a file that isn't the first begins at the end
+pub at_the_end : (file : Ltx) (end : Pos) → file.header.min ≢ 1 → (file.header.min ≡ 1) ⊎ (before file ≡ end) → before file ≡ end
+at_the_end file end later (inl first) = absurd (later first)
+at_the_end file end later (inr joins) = joins
+
+pub breaks_by : (T : Type 0) (was now : Bool) (why : BackupFault) → was ≡ false → (why ≡ fault.Disk → now ≡ true) → (why ≢ fault.Disk → now ≡ false) → Breaks {T = T} was (Err why) now
+breaks_by T was now fault.Disk sound disk other = disk refl
+breaks_by T was now fault.Broken sound disk other = other (λ is. absurd (cc)) ∙ sym sound
+breaks_by T was now (fault.NotNext have want) sound disk other = other (λ is. absurd (cc)) ∙ sym sound
+breaks_by T was now (fault.NoSuchTxid txid last) sound disk other = other (λ is. absurd (cc)) ∙ sym sound
+breaks_by T was now (fault.SumDiffers want got) sound disk other = other (λ is. absurd (cc)) ∙ sym sound
+breaks_by T was now (fault.Damaged level a b) sound disk other = other (λ is. absurd (cc)) ∙ sym sound
+breaks_by T was now fault.NoMemory sound disk other = other (λ is. absurd (cc)) ∙ sym sound
+
+pub adds_by : (broken : Bool) (end : Pos) (file : Ltx) (why : BackupFault) → broken ≡ false → IsBlameless why → Adds broken end file (Err why)
+adds_by broken end file fault.Disk sound blameless = sound
+adds_by broken end file fault.Broken sound blameless = absurd blameless
+adds_by broken end file (fault.NotNext have want) sound blameless = absurd blameless
+adds_by broken end file (fault.NoSuchTxid txid last) sound blameless = absurd blameless
+adds_by broken end file (fault.SumDiffers want got) sound blameless = absurd blameless
+adds_by broken end file (fault.Damaged level a b) sound blameless = absurd blameless
+adds_by broken end file fault.NoMemory sound blameless = sound
 
 -- the files of what is kept have their entries
 pub kept_named : (levels : Levels) (index : Index) (l m h : History) → IsKept levels index l m h → AllNamed index.entries (now l) (now m) (now h)

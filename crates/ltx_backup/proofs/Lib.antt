@@ -11,6 +11,7 @@ pub mod Nths
 pub mod Once
 pub mod Opens
 pub mod Restores
+pub mod Restorings
 pub mod Snapshots
 pub mod Steps
 pub mod Stills

@@ -46,11 +46,11 @@ fit_join image (x ∷ xs) ys first second = (first.0, fit_join (apply image x.ch
 
 pub up_to_join : (txid : ℕ) (xs ys : List Ltx) → up_to txid (xs ++ ys) ≡ up_to txid xs ++ up_to txid ys
 up_to_join txid [] ys = refl
-up_to_join txid (x ∷ xs) ys = pick (nat_le x.header.max txid) x (up_to_join txid xs ys)
+up_to_join txid (x ∷ xs) ys = pick (nat_le x.header.max txid) x (up_to txid (xs ++ ys)) (up_to txid xs) (up_to txid ys) (up_to_join txid xs ys)
   where
-    pick : (b : Bool) (x : Ltx) {p q r : List Ltx} → p ≡ q ++ r → (if b then x ∷ p else p) ≡ (if b then x ∷ q else q) ++ r
-    pick true x same = ap (λ (l : List Ltx). x ∷ l) same
-    pick false x same = same
+    pick : (b : Bool) (x : Ltx) (p q r : List Ltx) → p ≡ q ++ r → (if b then x ∷ p else p) ≡ (if b then x ∷ q else q) ++ r
+    pick true x p q r same = ap (λ (l : List Ltx). x ∷ l) same
+    pick false x p q r same = same
 
 pub taken : (txid : ℕ) (file : Ltx) (files : List Ltx) → file.header.max ≤ txid → up_to txid (file ∷ files) ≡ file ∷ up_to txid files
 taken txid file files within =

@@ -8,14 +8,17 @@ use Rattle.ltx_codec.specs.Positions.{before, after, nowhere}
 use Rattle.ltx_codec.specs.Sums.{image_sum}
 use Rattle.ltx_codec.specs.declared.file.Ltx.{Ltx}
 use Rattle.ltx_compact.specs.Application.{apply_all, FitAll}
-use Rattle.ltx_backup.specs.Applying.{AppliesAll, IsMisfitAmong, IsOtherSum, last_post, Ends}
-use Rattle.ltx_backup.specs.Entries.{entries_of}
+use Rattle.ltx_backup.specs.Applying.{AppliesAll, IsMisfitAmong, IsOtherSum, last_post, Ends, EndsIn}
+use Rattle.ltx_backup.specs.Entries.{entries_of, IsKept}
 use Rattle.ltx_backup.specs.Levels.{Levels, chain, LeadOn, Stands, AllStand, Has, on_level}
 use Rattle.ltx_backup.specs.Restoring.{up_to, restored, EndsWith, IsFirstMisfit, Restores}
+use Rattle.lf_disk.specs.History.{History, now}
+use Rattle.ltx_backup.specs.declared.entry.Entry.{Entry}
+use Rattle.ltx_backup.specs.declared.entry.Index.{Index}
 use Rattle.ltx_backup.specs.declared.fault.BackupFault.{BackupFault}
 use Rattle.ltx_backup.specs.declared.fault.BackupFault.TheVariants as fault
 use Rattle.ltx_backup.specs.declared.restoring.Restored.{Restored}
-use Rattle.ltx_backup.proofs.Restores.{levels_join, up_to_join, taken, left_out, among_left, among_right, misfit_has}
+use Rattle.ltx_backup.proofs.Restores.{levels_join, up_to_join, taken, left_out, among_left, among_right, misfit_has, ends_with, with_ends, ends_left, ends_right, ends_cases}
 
 -- each file's transactions are in order
 abbrev pub AllOrdered : List Ltx → Type 0
@@ -135,3 +138,31 @@ module _ (levels : Levels) (txid : ℕ) (joined : LeadOn nowhere (chain levels))
             (subst (λ (n : ℕ). EndsWith (chain levels) txid n) (sym post_is ∙ sym other.0) ends, other.1 ∙ ap image_sum image_is, other.2)
         gives_sum (fault.Damaged level a b) other = absurd other
         gives_sum fault.NoMemory other = absurd other
+
+-- the transactions that files end with are those of their entries
+module _ (levels : Levels) (index : Index) (l m h : History) (kept : IsKept levels index l m h) (txid : ℕ) where
+  pub any_ends : (sum : ℕ) → EndsWith (chain levels) txid sum → EndsIn index.entries txid
+  any_ends sum ends = elim (ends_cases (levels.highs ++ levels.middles) levels.lows txid sum ends) [
+    | inl upper ↦ elim (ends_cases levels.highs levels.middles txid sum upper) [
+      | inl high ↦ inr (inr (subst (λ (es : List Entry). Ends es txid) (sym kept.highs.entries_are) (with_ends levels.highs txid sum high)))
+      | inr middle ↦ inr (inl (subst (λ (es : List Entry). Ends es txid) (sym kept.middles.entries_are) (with_ends levels.middles txid sum middle)))
+    ]
+    | inr low ↦ inl (subst (λ (es : List Entry). Ends es txid) (sym kept.lows.entries_are) (with_ends levels.lows txid sum low))
+  ]
+
+  pub kept_ends : EndsIn index.entries txid → (sum : ℕ) × EndsWith (chain levels) txid sum
+  kept_ends (inl low) =
+      let it = ends_with levels.lows txid (subst (λ (es : List Entry). Ends es txid) kept.lows.entries_are low) in
+      (it.0, ends_right (levels.highs ++ levels.middles) levels.lows txid it.0 it.1)
+  kept_ends (inr (inl middle)) =
+      let it = ends_with levels.middles txid (subst (λ (es : List Entry). Ends es txid) kept.middles.entries_are middle) in
+      (it.0, ends_left (levels.highs ++ levels.middles) levels.lows txid it.0 (ends_right levels.highs levels.middles txid it.0 it.1))
+  kept_ends (inr (inr high)) =
+      let it = ends_with levels.highs txid (subst (λ (es : List Entry). Ends es txid) kept.highs.entries_are high) in
+      (it.0, ends_left (levels.highs ++ levels.middles) levels.lows txid it.0 (ends_left levels.highs levels.middles txid it.0 it.1))
+
+  pub chain_ordered : AllOrdered (chain levels)
+  chain_ordered =
+      ordered_join (levels.highs ++ levels.middles) levels.lows
+      (ordered_join levels.highs levels.middles (ordered (now h) levels.highs kept.highs.has.stand) (ordered (now m) levels.middles kept.middles.has.stand))
+      (ordered (now l) levels.lows kept.lows.has.stand)

@@ -8,6 +8,7 @@ use Rattle.ltx_compact.specs.Application.{apply_all, FitAll}
 use Rattle.ltx_backup.specs.Judging.{Blames, HasNumbers}
 use Rattle.ltx_backup.specs.Levels.{Stands}
 use Rattle.ltx_backup.specs.Restoring.{IsFirstMisfit}
+use Rattle.ltx_backup.specs.declared.entry.Entries.{Entries}
 use Rattle.ltx_backup.specs.declared.entry.Entry.{Entry}
 use Rattle.ltx_backup.specs.declared.fault.BackupFault.{BackupFault}
 use Rattle.ltx_backup.specs.declared.fault.BackupFault.TheVariants as fault
@@ -63,3 +64,7 @@ IsMisfitAmong files level before _ = ⊥
 abbrev pub Ends : List Entry → ℕ → Type 0
 Ends [] txid = ⊥
 Ends (e ∷ es) txid = (e.max ≡ txid) ⊎ Ends es txid
+
+-- an entry of any level ends with a transaction
+abbrev pub EndsIn : Entries → ℕ → Type 0
+EndsIn entries txid = Ends entries.lows.items txid ⊎ (Ends entries.middles.items txid ⊎ Ends entries.highs.items txid)

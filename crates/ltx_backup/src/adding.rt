@@ -1,5 +1,5 @@
 //! A file is added.
-ghost use Rattle.std.specs.Prelude.{◌≡◌, ◌≢◌, ◌≤◌, ◌⊎◌, ◌∷◌, [], ◌++◌, false, IsTrue, IfErr, OnOk};
+ghost use Rattle.std.specs.Prelude.{◌≡◌, ◌≢◌, ◌≤◌, ◌⊎◌, ◌∷◌, [], ◌++◌, true, false, IsTrue, IfErr, OnOk};
 ghost use Rattle.lf_disk.specs.declared.name.FileName.TheVariants as name;
 ghost use Rattle.lf_disk.specs.History.{now, Rests, EachMoment, IsSettledBut};
 ghost use Rattle.lf_disk.specs.Publish.{IsOldOrPublished, IsPublished};
@@ -109,7 +109,7 @@ fn install<D: Disk>(
             *index = whole;
             Ok(())
         }
-        Err(_) => Err(BackupFault::Disk),
+        Err(why) => Err(why),
     }
 }
 
@@ -142,7 +142,8 @@ fn place<D: Disk>(
     ensures cause { HasCauses (record { low = D.faults low.old; middle = D.faults middle.old; high = D.faults high.old })
         (record { low = D.faults low.new; middle = D.faults middle.new; high = D.faults high.new }) result }
 {
-    if file.header.min == 1 {
+    let first = file.header.min == 1;
+    if first {
         return install(alloc, low, middle, high, index, file);
     }
     match append(alloc, low, &mut index.entries.lows, file) {
@@ -151,6 +152,17 @@ fn place<D: Disk>(
             Ok(())
         }
         Err(why) => Err(why),
+    }
+}
+
+/// Whether a disk failed.
+pub fn is_disk(why: BackupFault) -> bool
+    ensures yes { why ≡ BackupFault.Disk → result ≡ true }
+    ensures no { why ≢ BackupFault.Disk → result ≡ false }
+{
+    match why {
+        BackupFault::Disk => true,
+        _ => false,
     }
 }
 
@@ -191,7 +203,8 @@ impl<D: Disk> Backup<D> {
             → Stops (D.history self.old.low) (D.history self.old.middle) (D.history self.old.high) (D.history self.new.low) (D.history self.new.middle) (D.history self.new.high)
             (HoldsEither levels (added levels file.now)) }
     {
-        if self.broken {
+        let broken = self.broken;
+        if broken {
             return Err(BackupFault::Broken);
         }
         let have = self.index.end;
@@ -202,7 +215,7 @@ impl<D: Disk> Backup<D> {
         match place(alloc, &mut self.low, &mut self.middle, &mut self.high, &mut self.index, file) {
             Ok(()) => Ok(self.index.end),
             Err(why) => {
-                self.broken = why == BackupFault::Disk;
+                self.broken = is_disk(why);
                 Err(why)
             }
         }

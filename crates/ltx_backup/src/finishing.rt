@@ -40,6 +40,7 @@ pub fn finish_snapshot<D: Disk>(
         → (file : Ltx) → Waits file entry.now (now (D.history low.old))
         → OnOk result (IsAlone file (D.history low.new) (D.history middle.new) (D.history high.new)) }
     ensures blameless { IfErr result IsBlameless }
+    ensures disk { IfErr result (λ why. why ≡ BackupFault.Disk) }
     ensures settled { OnOk result (AreSettled (D.honest low.old) (D.honest middle.old) (D.honest high.old) (D.history low.new) (D.history middle.new) (D.history high.new)) }
     ensures honest { (D.honest low.new ≡ D.honest low.old) × (D.honest middle.new ≡ D.honest middle.old) × (D.honest high.new ≡ D.honest high.old) }
     ensures cause { HasCauses (record { low = D.faults low.old; middle = D.faults middle.old; high = D.faults high.old })

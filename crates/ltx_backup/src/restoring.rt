@@ -6,14 +6,14 @@ ghost use Rattle.lf_sqlite_pages.specs.Image.{empty_image};
 ghost use Rattle.ltx_codec.specs.Format.{IsFile};
 ghost use Rattle.ltx_codec.specs.Sums.{image_sum};
 ghost use Rattle.ltx_codec.specs.declared.file.Ltx.{Ltx as File};
-ghost use Rattle.ltx_backup.specs.Applying.{HasSum, IsOtherSum, AppliesOne, IsMisfit, IsMisfitUpTo, AppliesAll, IsMisfitAmong, Ends};
+ghost use Rattle.ltx_backup.specs.Applying.{HasSum, IsOtherSum, AppliesOne, IsMisfit, IsMisfitUpTo, AppliesAll, IsMisfitAmong, Ends, EndsIn};
 ghost use Rattle.ltx_backup.specs.Causes.{HasCause, HasCauses, AreHonest};
 ghost use Rattle.ltx_backup.specs.Entries.{IsKept, entries_of};
 ghost use Rattle.ltx_backup.specs.Levels.{Levels, AllStand};
 ghost use Rattle.ltx_backup.specs.Restoring.{Restores, up_to};
 
 use crate::backup::Backup;
-use crate::entry::Entry;
+use crate::entry::{Entries, Entry};
 use crate::fault::BackupFault;
 use crate::reading::read_file;
 use lf_disk::Disk;
@@ -185,6 +185,23 @@ fn ends(entries: &[Entry], txid: u64) -> bool
     false
 }
 
+/// Whether a file of any level ends with a transaction.
+fn is_kept(entries: &Entries, txid: u64) -> bool
+    ensures yes { IsTrue result → EndsIn entries.now txid }
+    ensures no { result ≡ false → EndsIn entries.now txid → ⊥ }
+{
+    if ends(entries.lows.as_slice(), txid) {
+        return true;
+    }
+    if ends(entries.middles.as_slice(), txid) {
+        return true;
+    }
+    if ends(entries.highs.as_slice(), txid) {
+        return true;
+    }
+    false
+}
+
 impl<D: Disk> Backup<D> {
     /// The database at the last transaction of a file. The disks are only read.
     pub fn restore(&mut self, alloc: Global, txid: u64) -> Result<Image, BackupFault>
@@ -199,17 +216,15 @@ impl<D: Disk> Backup<D> {
         ensures cause { HasCauses (record { low = D.faults self.old.low; middle = D.faults self.old.middle; high = D.faults self.old.high })
             (record { low = D.faults self.new.low; middle = D.faults self.new.middle; high = D.faults self.new.high }) result }
     {
-        if self.broken {
+        let broken = self.broken;
+        if broken {
             return Err(BackupFault::Broken);
         }
-        let entries = &self.index.entries;
-        let is_kept = ends(entries.lows.as_slice(), txid)
-            || ends(entries.middles.as_slice(), txid)
-            || ends(entries.highs.as_slice(), txid);
-        if !is_kept {
+        if !is_kept(&self.index.entries, txid) {
             let last = self.index.end.txid;
             return Err(BackupFault::NoSuchTxid { txid, last });
         }
+        let entries = &self.index.entries;
         let highs = entries.highs.as_slice();
         let middles = entries.middles.as_slice();
         let lows = entries.lows.as_slice();
@@ -222,8 +237,12 @@ impl<D: Disk> Backup<D> {
             Ok(state) => state,
             Err(why) => return Err(why),
         };
-        match restore_level(alloc, &mut self.low, 0, lows, txid, middle) {
-            Ok(state) => state.finish(),
+        let low = match restore_level(alloc, &mut self.low, 0, lows, txid, middle) {
+            Ok(state) => state,
+            Err(why) => return Err(why),
+        };
+        match low.finish() {
+            Ok(image) => Ok(image),
             Err(why) => Err(why),
         }
     }

@@ -9,7 +9,7 @@ ghost use Rattle.ltx_backup.specs.Entries.{entry_of, entries_of};
 ghost use Rattle.ltx_backup.specs.Levels.{AllStand};
 ghost use Rattle.ltx_backup.specs.Moving.{AreAlike, AreDue, MovesUp, HasMovedUp};
 
-use crate::adding::append;
+use crate::adding::{append, is_disk};
 use crate::backup::Backup;
 use crate::entry::Entry;
 use crate::fault::BackupFault;
@@ -195,7 +195,7 @@ impl<D: Disk> Backup<D> {
         match fold(alloc, 0, &mut self.low, &mut entries.lows, &mut self.middle, &mut entries.middles) {
             Ok(()) => Ok(()),
             Err(why) => {
-                self.broken = why == BackupFault::Disk;
+                self.broken = is_disk(why);
                 Err(why)
             }
         }
@@ -206,7 +206,7 @@ impl<D: Disk> Backup<D> {
         match fold(alloc, 1, &mut self.middle, &mut entries.middles, &mut self.high, &mut entries.highs) {
             Ok(()) => Ok(()),
             Err(why) => {
-                self.broken = why == BackupFault::Disk;
+                self.broken = is_disk(why);
                 Err(why)
             }
         }

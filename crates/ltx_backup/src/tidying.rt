@@ -37,6 +37,7 @@ pub fn tidy_all<D: Disk>(
     ensures middle_done { IsTrue (D.honest middle.old) → OnOk result (HasTrimmed bounds.middle names.now.middles.items (now (D.history middle.old)) (D.history middle.new)) }
     ensures high_done { IsTrue (D.honest high.old) → OnOk result (HasTrimmed bounds.high names.now.highs.items (now (D.history high.old)) (D.history high.new)) }
     ensures blameless { IfErr result IsBlameless }
+    ensures disk { IfErr result (λ why. why ≡ BackupFault.Disk) }
     ensures honest { (D.honest low.new ≡ D.honest low.old) × (D.honest middle.new ≡ D.honest middle.old) × (D.honest high.new ≡ D.honest high.old) }
     ensures cause { HasCauses (record { low = D.faults low.old; middle = D.faults middle.old; high = D.faults high.old })
         (record { low = D.faults low.new; middle = D.faults middle.new; high = D.faults high.new }) result }

@@ -34,8 +34,8 @@ finish_snapshot-requires-clause-low_settled g c honest = (c.in-Ok-publish.ensure
 pub finish_snapshot-requires-clause-there : goal.finish_snapshot-requires-clause-there
 finish_snapshot-requires-clause-there g c honest = let there = (c.in-Ok-publish.ensures.published (sym c.publish.ensures.honest ∙ honest)).seen Snapshot refl in some_same _ _ (sym there) refl
 
-pub returns-in-Err-finish_snapshot-clause-stops : goal.returns-in-Err-finish_snapshot-clause-stops
-returns-in-Err-finish_snapshot-clause-stops g c honest levels kept =
+pub returns-clause-stops : goal.returns-clause-stops
+returns-clause-stops g c honest levels kept =
     let l = g.D.Disk.history c.args.low.now in
     let m = g.D.Disk.history c.args.middle.now in
     let h = g.D.Disk.history c.args.high.now in
@@ -79,3 +79,15 @@ returns-in-Ok-finish_snapshot-clause-installed g c honest levels kept =
     (waits_now levels c.args.index.now l m h kept c.args.file.now c.of.result c.encoded.ensures.reads_back c.requires.first c.of.ensures l_mid there))
     (from_nowhere c.args.file.now (stored c.args.file.now) c.encoded.ensures.reads_back c.requires.first) c.of.ensures
     c.in-Ok-index_of.ensures.lows c.in-Ok-index_of.ensures.others (c.in-Ok-index_of.ensures.end ∙ c.after.ensures)
+
+pub returns-in-Err-clause-same : goal.returns-in-Err-clause-same
+returns-in-Err-clause-same g c not = (record { lows = refl; middles = refl; highs = refl; end = refl }, refl, refl, refl)
+
+pub returns-in-Err-index_of-clause-same : goal.returns-in-Err-index_of-clause-same
+returns-in-Err-index_of-clause-same g c not = (record { lows = refl; middles = refl; highs = refl; end = refl }, refl, refl, refl)
+
+pub returns-in-Err-publish-clause-same : goal.returns-in-Err-publish-clause-same
+returns-in-Err-publish-clause-same g c not = absurd (not refl)
+
+pub returns-clause-same : goal.returns-clause-same
+returns-clause-same g c not = absurd (not c.in-Err-finish_snapshot.ensures.disk)
