@@ -2,6 +2,7 @@ pub mod Adds
 pub mod Appends
 pub mod Blaming
 pub mod Finishes
+pub mod Gathers
 pub mod Holding
 pub mod Judges
 pub mod Listings

@@ -1,6 +1,6 @@
 -- A file of a level and its entry.
-use Rattle.std.proofs.Common.{◌≡◌, ◌∙◌, ℕ, zero, suc, ◌+◌, ◌<◌, List, [], ◌∷◌, length, get_or, drop, map, refl, ap, subst, sym, arith}
-use Rattle.std.proofs.lemmas.List.{drop_more}
+use Rattle.std.proofs.Common.{◌≡◌, ◌∙◌, ℕ, zero, suc, ◌+◌, ◌<◌, List, [], ◌∷◌, ◌++◌, length, get_or, take, drop, map, refl, ap, subst, sym, arith}
+use Rattle.std.proofs.lemmas.List.{drop_more, take_more}
 use Rattle.lf_disk.specs.Folder.{Folder}
 use Rattle.ltx_codec.specs.declared.file.Ltx.{Ltx}
 use Rattle.ltx_backup.specs.Entries.{entry_of, entries_of}
@@ -26,6 +26,7 @@ stands_nth f (x ∷ xs) (suc i) d more stand = stands_nth f xs i d (omega arith)
 pub record Nth (f : Folder) (files : List Ltx) (i : ℕ) (entry : Entry) : Type 0 where
   pub file : Ltx
   pub splits : drop i files ≡ file ∷ drop (i + 1) files
+  pub front : take (i + 1) files ≡ take i files ++ file ∷ []
   pub is : entry ≡ entry_of file
   pub stands : Stands f file
 
@@ -34,6 +35,7 @@ nth_of f [] i more stand = absurd (omega arith)
 nth_of f (x ∷ xs) i more stand = record {
   file = get_or (x ∷ xs) i x;
   splits = drop_more (x ∷ xs) i x more;
+  front = take_more (x ∷ xs) i x more;
   is = entry_nth (x ∷ xs) i x more;
   stands = stands_nth f (x ∷ xs) i x more stand;
 }
