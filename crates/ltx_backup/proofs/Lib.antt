@@ -1,9 +1,11 @@
 pub mod Adds
 pub mod Appends
 pub mod Blaming
+pub mod Eights
 pub mod Finishes
 pub mod Gathers
 pub mod Holding
+pub mod Images
 pub mod Judges
 pub mod Listings
 pub mod Lists

@@ -11,6 +11,7 @@ use Rattle.ltx_compact.specs.Application.{apply_all, FitAll}
 use Rattle.ltx_backup.specs.Applying.{AppliesAll, IsMisfitAmong, IsOtherSum, last_post, Ends, EndsIn}
 use Rattle.ltx_backup.specs.Entries.{entries_of, IsKept}
 use Rattle.ltx_backup.specs.Levels.{Levels, chain, LeadOn, Stands, AllStand, Has, on_level}
+use Rattle.ltx_backup.specs.Ordered.{AllOrdered}
 use Rattle.ltx_backup.specs.Restoring.{up_to, restored, EndsWith, IsFirstMisfit, Restores}
 use Rattle.lf_disk.specs.History.{History, now}
 use Rattle.ltx_backup.specs.declared.entry.Entry.{Entry}
@@ -20,11 +21,6 @@ use Rattle.ltx_backup.specs.declared.fault.BackupFault.TheVariants as fault
 use Rattle.ltx_backup.specs.declared.restoring.Restored.{Restored}
 use Rattle.ltx_backup.proofs.Restores.{levels_join, up_to_join, taken, left_out, among_left, among_right, misfit_has, ends_with, with_ends, ends_left, ends_right, ends_cases}
 
--- each file's transactions are in order
-abbrev pub AllOrdered : List Ltx → Type 0
-AllOrdered [] = Unit {0}
-AllOrdered (file ∷ files) = (1 ≤ file.header.min) × (file.header.min ≤ file.header.max) × AllOrdered files
-
 pub ordered : (f : Folder) (files : List Ltx) → AllStand f files → AllOrdered files
 ordered f [] stand = tt
 ordered f (file ∷ files) stand = (stand.0.valid.header.min, stand.0.valid.header.max, ordered f files stand.1)
@@ -33,17 +29,17 @@ pub ordered_join : (xs ys : List Ltx) → AllOrdered xs → AllOrdered ys → Al
 ordered_join [] ys first second = second
 ordered_join (x ∷ xs) ys first second = (first.0, first.1, ordered_join xs ys first.2 second)
 
-follows : (here : Pos) (file : Ltx) → before file ≡ here → 1 ≤ file.header.min → here.txid < file.header.min
+pub follows : (here : Pos) (file : Ltx) → before file ≡ here → 1 ≤ file.header.min → here.txid < file.header.min
 follows here file joins some = let at : file.header.min - 1 ≡ here.txid = ap (λ (p : Pos). p.txid) joins in omega (arith, at, some)
 
 -- past a transaction there is none up to it
-none_up_to : (txid : ℕ) (here : Pos) (files : List Ltx) → txid ≤ here.txid → LeadOn here files → AllOrdered files → up_to txid files ≡ []
+pub none_up_to : (txid : ℕ) (here : Pos) (files : List Ltx) → txid ≤ here.txid → LeadOn here files → AllOrdered files → up_to txid files ≡ []
 none_up_to txid here [] past lead order = refl
 none_up_to txid here (file ∷ files) past lead order =
     let first = follows here file lead.0 order.0 in
     left_out txid file files (omega (arith, first, past, order.1)) ∙ none_up_to txid (after file) files (omega (arith, first, past, order.1)) lead.1 order.2
 
-ends_past : (here : Pos) (files : List Ltx) (txid sum : ℕ) → LeadOn here files → AllOrdered files → EndsWith files txid sum → here.txid < txid
+pub ends_past : (here : Pos) (files : List Ltx) (txid sum : ℕ) → LeadOn here files → AllOrdered files → EndsWith files txid sum → here.txid < txid
 ends_past here [] txid sum lead order ends = absurd ends
 ends_past here (file ∷ files) txid sum lead order (inl is) = let first = follows here file lead.0 order.0 in omega (arith, first, is.0, order.1)
 ends_past here (file ∷ files) txid sum lead order (inr ends) =

@@ -10,6 +10,7 @@ pub mod Listing
 pub mod Merging
 pub mod Moving
 pub mod Opening
+pub mod Ordered
 pub mod Restoring
 pub mod Stops
 pub mod Stored

@@ -1,13 +1,15 @@
 //! Eight files of a level become one of the next.
-ghost use Rattle.std.specs.Prelude.{◌≡◌, ◌≢◌, ◌↔◌, ◌≤◌, ◌∷◌, [], ◌++◌, List, false, IsTrue, IfOk, IfErr, OnOk, length, drop, All};
+ghost use Rattle.std.specs.Prelude.{◌≡◌, ◌≢◌, ◌↔◌, ◌≤◌, ◌∷◌, [], ◌++◌, List, false, IsTrue, IfOk, IfErr, OnOk, length, take, drop, All};
+ghost use Rattle.lf_base.specs.declared.pos.Pos.{Pos};
 ghost use Rattle.lf_disk.specs.declared.name.FileName.TheVariants as name;
 ghost use Rattle.lf_disk.specs.History.{now, Rests, IsSettledBut};
-ghost use Rattle.ltx_codec.specs.Format.{IsFile};
+ghost use Rattle.ltx_codec.specs.Format.{IsFile, IsLtx};
+ghost use Rattle.ltx_backup.specs.Stored.{stored};
 ghost use Rattle.ltx_codec.specs.declared.file.Ltx.{Ltx as File};
 ghost use Rattle.ltx_backup.specs.Causes.{HasCause, HasCauses, IsBlameless};
-ghost use Rattle.ltx_backup.specs.Entries.{entry_of, entries_of};
-ghost use Rattle.ltx_backup.specs.Levels.{AllStand};
-ghost use Rattle.ltx_backup.specs.Moving.{AreAlike, AreDue, MovesUp, HasMovedUp};
+ghost use Rattle.ltx_backup.specs.Entries.{IsLevel, entry_of, entries_of};
+ghost use Rattle.ltx_backup.specs.Levels.{AllStand, LeadOn};
+ghost use Rattle.ltx_backup.specs.Moving.{AreAlike, AreDue, MovesUp, HasMovedUp, HasFolded, MayFold, IsUnfolded};
 
 use crate::adding::{append, is_disk};
 use crate::backup::Backup;
@@ -32,6 +34,15 @@ fn are_alike(entries: &[Entry], size: u32) -> bool
     true
 }
 
+/// The eight oldest.
+fn oldest(entries: &[Entry]) -> &[Entry]
+    requires { 8 ≤ length entries.now }
+    ensures { result.now ≡ take 8 entries.now }
+{
+    let (front, _) = entries.split_at(8);
+    front
+}
+
 /// Whether a level has eight files or more, of which the eight oldest have one page size.
 fn is_due(entries: &[Entry]) -> bool
     ensures due { IsTrue result → AreDue entries.now }
@@ -40,8 +51,9 @@ fn is_due(entries: &[Entry]) -> bool
     if entries.len() < 8 {
         return false;
     }
-    let (oldest, _) = entries.split_at(8);
-    are_alike(oldest, oldest[0].page_size)
+    let front = oldest(entries);
+    let size = front[0].page_size;
+    are_alike(front, size)
 }
 
 /// The files of these entries.
@@ -102,6 +114,8 @@ fn move_up<D: Disk>(
     ensures same { IfErr result (λ why. why ≢ BackupFault.Disk → (entries.new.items ≡ entries.old.items) × (uppers.new.items ≡ uppers.old.items)
         × (from.new ≡ from.old) × (to.new ≡ to.old)) }
     ensures blameless { IfErr result IsBlameless }
+    ensures reads_back { IsLtx (stored file.now) file.now }
+    ensures settled { OnOk result ((IsTrue (D.honest from.old) → IsSettledBut name.Staged (D.history from.new)) × (IsTrue (D.honest to.old) → IsSettledBut name.Staged (D.history to.new))) }
     ensures moves { IsTrue (D.honest from.old) → IsTrue (D.honest to.old)
         → MovesUp file.now (D.history from.old) (D.history to.old) (D.history from.new) (D.history to.new) }
     ensures done { IsTrue (D.honest from.old) → IsTrue (D.honest to.old) → OnOk result
@@ -135,11 +149,23 @@ fn fold<D: Disk>(
     requires due { AreDue entries.old.items }
     requires from_settled { IsTrue (D.honest from.old) → IsSettledBut name.Staged (D.history from.old) }
     requires to_settled { IsTrue (D.honest to.old) → IsSettledBut name.Staged (D.history to.old) }
+    ensures folds { IsTrue (D.honest from.old) → IsTrue (D.honest to.old) → (files : List File) → IsLevel entries.old.items files (D.history from.old)
+        → OnOk result (HasFolded files entries.old.items uppers.old.items entries.new.items uppers.new.items
+        (D.history from.old) (D.history to.old) (D.history from.new) (D.history to.new)) }
+    ensures moves { IsTrue (D.honest from.old) → IsTrue (D.honest to.old) → (files : List File) → IsLevel entries.old.items files (D.history from.old)
+        → MayFold files (D.history from.old) (D.history to.old) (D.history from.new) (D.history to.new) }
+    ensures why { IsTrue (D.honest from.old) → (files : List File) → IsLevel entries.old.items files (D.history from.old)
+        → (here : Pos) → LeadOn here files → IfErr result (IsUnfolded files) }
+    ensures same { IfErr result (λ why. why ≢ BackupFault.Disk → (entries.new.items ≡ entries.old.items) × (uppers.new.items ≡ uppers.old.items)
+        × Rests (D.history from.old) (D.history from.new) × (to.new ≡ to.old)) }
+    ensures settled { OnOk result ((IsTrue (D.honest from.old) → IsSettledBut name.Staged (D.history from.new)) × (IsTrue (D.honest to.old) → IsSettledBut name.Staged (D.history to.new))) }
+    ensures honest { (D.honest from.new ≡ D.honest from.old) × (D.honest to.new ≡ D.honest to.old) }
+    ensures cause { HasCauses (record { low = D.faults from.old; middle = D.faults to.old; high = 0 })
+        (record { low = D.faults from.new; middle = D.faults to.new; high = 0 }) result }
 {
-    let list = entries.as_slice();
-    let first = list[0];
-    let (oldest, _) = list.split_at(8);
-    let files = match read_files(alloc, from, level, oldest) {
+    let front = oldest(entries.as_slice());
+    let first = front[0];
+    let files = match read_files(alloc, from, level, front) {
         Ok(files) => files,
         Err(why) => return Err(why),
     };
@@ -147,7 +173,10 @@ fn fold<D: Disk>(
         Ok(file) => file,
         Err(why) => return Err(why),
     };
-    move_up(alloc, from, entries, to, uppers, &file)
+    match move_up(alloc, from, entries, to, uppers, &file) {
+        Ok(()) => Ok(()),
+        Err(why) => Err(why),
+    }
 }
 
 impl<D: Disk> Backup<D> {

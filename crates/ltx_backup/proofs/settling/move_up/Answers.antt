@@ -38,3 +38,6 @@ returns-in-Ok-trim-clause-done g c from to = record {
   gone = subst (λ (es : List Entry). HasTrimmed c.args.file.now.header.max es (now (g.D.Disk.history c.args.from.now)) (g.D.Disk.history c.trim.new.disk)) c.as_slice.ensures.value
       (c.in-Ok-trim.ensures.done from);
 }
+
+pub returns-in-Ok-trim-clause-settled : goal.returns-in-Ok-trim-clause-settled
+returns-in-Ok-trim-clause-settled g c = (λ honest. (c.in-Ok-trim.ensures.done honest).settled, λ honest. (c.in-Ok.ensures.published honest).settled)
