@@ -22,7 +22,7 @@ none_fails : (files : List Ltx) (why : CompactFault) → AllJoin files → First
 none_fails files why all fails = no_reason fails.before fails.file fails.place why (all.join fails.place fails.before fails.file (within files fails.place fails.before fails.file fails.stand) fails.stand) fails.fails
 
 pub not_joined : (files : List Ltx) (why : CompactFault) → (why ≡ fault.NoMemory → ⊥) → IsWhy files why → AllJoin files → ⊥
-not_joined files fault.Empty not is all = let some : 0 < length [] = subst (λ (l : List Ltx). 0 < length l) is all.some in absurd (omega (arith, some))
+not_joined files fault.Empty not is all = let some : 0 < length {A = Ltx} [] = subst (λ (l : List Ltx). 0 < length l) is all.some in absurd (omega (arith, some))
 not_joined files (fault.Gap at) not is all = none_fails files (fault.Gap at) all is
 not_joined files (fault.SumGap at want got) not is all = none_fails files (fault.SumGap at want got) all is
 not_joined files (fault.PageSize at) not is all = none_fails files (fault.PageSize at) all is

@@ -91,7 +91,7 @@ fn forget_eight(entries: &mut Vec<Entry>)
     requires { 8 ≤ length entries.old.items }
     ensures { entries.new.items ≡ drop 8 entries.old.items }
 {
-    for _i in 0..8 {
+    for _i in 0..8usize {
         entries.remove(0);
     }
 }

@@ -55,11 +55,11 @@ pub move_up-requires-clause-from_settled : goal.move_up-requires-clause-from_set
 move_up-requires-clause-from_settled g c honest =
     settled_rests (g.D.Disk.history c.args.from.now) (g.D.Disk.history c.read_files.new.disk) (c.requires.from_settled (sym c.read_files.ensures.honest ∙ honest)) c.read_files.ensures.rests
 
-pub returns-in-Err-move_up-clause-why : goal.returns-in-Err-move_up-clause-why
-returns-in-Err-move_up-clause-why g c from files level here lead = blameless_unfolded files c.in-Err-move_up.why c.in-Err-move_up.ensures.blameless
+pub returns-clause-why : goal.returns-clause-why
+returns-clause-why g c from files level here lead = blameless_unfolded files c.in-Err-move_up.why c.in-Err-move_up.ensures.blameless
 
-pub returns-in-Err-move_up-clause-moves : goal.returns-in-Err-move_up-clause-moves
-returns-in-Err-move_up-clause-moves g c from to files level =
+pub returns-clause-moves : goal.returns-clause-moves
+returns-clause-moves g c from to files level =
     let f = now (g.D.Disk.history c.args.from.now) in
     let es = c.args.entries.now.items in
     let are : c.oldest-front.result.now ≡ entries_of (take 8 files) =
@@ -73,8 +73,8 @@ returns-in-Err-move_up-clause-moves g c from to files level =
     inr (c.in-Ok-merge.file, eight, moves_after c.in-Ok-merge.file (g.D.Disk.history c.args.from.now) (g.D.Disk.history c.read_files.new.disk) (g.D.Disk.history c.args.to.now)
     (g.D.Disk.history c.move_up.new.from) (g.D.Disk.history c.move_up.new.to) (c.requires.from_settled from) c.read_files.ensures.rests (c.move_up.ensures.moves (c.read_files.ensures.honest ∙ from) to))
 
-pub returns-in-Err-move_up-clause-same : goal.returns-in-Err-move_up-clause-same
-returns-in-Err-move_up-clause-same g c not =
+pub returns-clause-same : goal.returns-clause-same
+returns-clause-same g c not =
     let same = c.in-Err-move_up.ensures.same not in
     (same.0, same.1, subst (λ d. Rests (g.D.Disk.history c.args.from.now) (g.D.Disk.history d)) (sym same.2) c.read_files.ensures.rests, same.3)
 
