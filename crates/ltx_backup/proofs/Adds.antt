@@ -90,9 +90,6 @@ module _ (levels : Levels) (index : Index) (l m h : History) (kept : IsKept leve
       (λ a b c low middle high. inl (held_same a b c low middle high))
 
   module _ (file : Ltx) (is : IsLtx (stored file) file) (joins : before file ≡ index.end) where
-
-
-
     at_end : before file ≡ end_of (end_of nowhere (levels.highs ++ levels.middles)) levels.lows
     at_end =
         joins ∙ kept.end ∙ end_join nowhere (levels.highs ++ levels.middles) levels.lows

@@ -111,8 +111,11 @@ misfit_left image (x ∷ xs) ys a b (inr later) = inr (later.0, misfit_left (app
 misfit_right : (image : DatabaseImage) (xs ys : List Ltx) (a b : ℕ) → FitAll image xs → IsFirstMisfit (apply_all image xs) ys a b → IsFirstMisfit image (xs ++ ys) a b
 misfit_right image [] ys a b fit first = subst (λ (i : DatabaseImage). IsFirstMisfit i ys a b) (applied_none image) first
 misfit_right image (x ∷ xs) ys a b fit first =
-    inr (fit.0, subst (λ (i : DatabaseImage). IsFirstMisfit i (xs ++ ys) a b) (sym (applied_one image x))
-    (misfit_right (apply image x.change) xs ys a b fit.1 (subst (λ (i : DatabaseImage). IsFirstMisfit i ys a b) (applied_more image x xs) first)))
+    inr (
+      fit.0,
+      subst (λ (i : DatabaseImage). IsFirstMisfit i (xs ++ ys) a b) (sym (applied_one image x))
+          (misfit_right (apply image x.change) xs ys a b fit.1 (subst (λ (i : DatabaseImage). IsFirstMisfit i ys a b) (applied_more image x xs) first)),
+    )
 
 pub among_left : (xs ys : List Ltx) (before : Restored) (a b : ℕ) → IsFirstMisfit before.image xs a b → IsFirstMisfit before.image (xs ++ ys) a b
 among_left xs ys before a b first = misfit_left before.image xs ys a b first

@@ -67,7 +67,7 @@ module _ (f g : Folder) (entries : List Entry) (files : List Ltx) (i : ℕ) wher
     misfit_among (fault.Damaged level_at a b) misfit = (
       misfit.0,
       subst (λ (y : ℕ). IsFirstMisfit before.image (up_to txid files) a y) (sym misfit.2)
-      (subst (λ (x : ℕ). IsFirstMisfit before.image (up_to txid files) x (get_or entries i no_entry).max) (sym misfit.1)
-      (first_misfit misfit.3.0 (λ fits. misfit.3.1 at_it.file (sym (ap (λ (e : Entry). e.min) at_it.is), sym (ap (λ (e : Entry). e.max) at_it.is)) at_it.stands fits))),
+          (subst (λ (x : ℕ). IsFirstMisfit before.image (up_to txid files) x (get_or entries i no_entry).max) (sym misfit.1)
+          (first_misfit misfit.3.0 (λ fits. misfit.3.1 at_it.file (sym (ap (λ (e : Entry). e.min) at_it.is), sym (ap (λ (e : Entry). e.max) at_it.is)) at_it.stands fits))),
     )
     misfit_among fault.NoMemory misfit = tt

@@ -100,23 +100,32 @@ module _ (l m h l_now m_now h_now : History) (P : Folder → Folder → Folder �
   turns_join : (at : Moments) (xs ys : List Turn) → EachTurn l m h P at xs → EachTurn l_now m_now h_now P (moments_of l m h) ys → EachTurn l_now m_now h_now P at (xs ++ ys)
   turns_join at [] ys first second = subst (λ (k : Moments). EachTurn l_now m_now h_now P k ys) (sym first) second
   turns_join at (low to ∷ more) ys first second =
-      let rest = within l m h P (record at { low_at = to }) more first.2 in
-      (first.0, (λ t u v a b c when x y z. first.1 t u v a b c when
-      (low_past.no_more t a (omega (arith, when.1, rest.low_within)) x)
-      (middle_past.no_more u b (omega (arith, when.2, rest.middle_within)) y)
-      (high_past.no_more v c (omega (arith, when.3, rest.high_within)) z)), turns_join (record at { low_at = to }) more ys first.2 second)
+      let rest = within l m h P (record at { low_at = to }) more first.2 in (
+        first.0,
+        (λ t u v a b c when x y z. first.1 t u v a b c when
+            (low_past.no_more t a (omega (arith, when.1, rest.low_within)) x)
+            (middle_past.no_more u b (omega (arith, when.2, rest.middle_within)) y)
+            (high_past.no_more v c (omega (arith, when.3, rest.high_within)) z)),
+        turns_join (record at { low_at = to }) more ys first.2 second,
+      )
   turns_join at (middle to ∷ more) ys first second =
-      let rest = within l m h P (record at { middle_at = to }) more first.2 in
-      (first.0, (λ t u v a b c when x y z. first.1 t u v a b c when
-      (low_past.no_more t a (omega (arith, when.0, rest.low_within)) x)
-      (middle_past.no_more u b (omega (arith, when.2, rest.middle_within)) y)
-      (high_past.no_more v c (omega (arith, when.3, rest.high_within)) z)), turns_join (record at { middle_at = to }) more ys first.2 second)
+      let rest = within l m h P (record at { middle_at = to }) more first.2 in (
+        first.0,
+        (λ t u v a b c when x y z. first.1 t u v a b c when
+            (low_past.no_more t a (omega (arith, when.0, rest.low_within)) x)
+            (middle_past.no_more u b (omega (arith, when.2, rest.middle_within)) y)
+            (high_past.no_more v c (omega (arith, when.3, rest.high_within)) z)),
+        turns_join (record at { middle_at = to }) more ys first.2 second,
+      )
   turns_join at (high to ∷ more) ys first second =
-      let rest = within l m h P (record at { high_at = to }) more first.2 in
-      (first.0, (λ t u v a b c when x y z. first.1 t u v a b c when
-      (low_past.no_more t a (omega (arith, when.0, rest.low_within)) x)
-      (middle_past.no_more u b (omega (arith, when.1, rest.middle_within)) y)
-      (high_past.no_more v c (omega (arith, when.3, rest.high_within)) z)), turns_join (record at { high_at = to }) more ys first.2 second)
+      let rest = within l m h P (record at { high_at = to }) more first.2 in (
+        first.0,
+        (λ t u v a b c when x y z. first.1 t u v a b c when
+            (low_past.no_more t a (omega (arith, when.0, rest.low_within)) x)
+            (middle_past.no_more u b (omega (arith, when.1, rest.middle_within)) y)
+            (high_past.no_more v c (omega (arith, when.3, rest.high_within)) z)),
+        turns_join (record at { high_at = to }) more ys first.2 second,
+      )
 
 -- one stretch after another
 pub and_then : (l m h l_mid m_mid h_mid l_now m_now h_now : History) (P : Folder → Folder → Folder → Type 0)

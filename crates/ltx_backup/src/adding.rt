@@ -212,7 +212,14 @@ impl<D: Disk> Backup<D> {
             let want = file.before();
             return Err(BackupFault::NotNext { have, want });
         }
-        match place(alloc, &mut self.low, &mut self.middle, &mut self.high, &mut self.index, file) {
+        match place(
+            alloc,
+            &mut self.low,
+            &mut self.middle,
+            &mut self.high,
+            &mut self.index,
+            file,
+        ) {
             Ok(()) => Ok(self.index.end),
             Err(why) => {
                 self.broken = is_disk(why);

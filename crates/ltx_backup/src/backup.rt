@@ -88,7 +88,10 @@ impl<D: Disk> Backup<D> {
         ensures { (result.0 ≡ self.low) × (result.1 ≡ self.middle) × (result.2 ≡ self.high) }
     {
         let Backup {
-            low, middle, high, ..
+            low,
+            middle,
+            high,
+            ..
         } = self;
         (low, middle, high)
     }

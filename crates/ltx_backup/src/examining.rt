@@ -33,7 +33,12 @@ pub fn is_there<D: Disk>(disk: &mut D, name: FileName) -> Result<bool, BackupFau
 }
 
 /// The transaction files on three disks.
-pub fn list_all<D: Disk>(alloc: Global, low: &mut D, middle: &mut D, high: &mut D) -> Result<Entries, BackupFault>
+pub fn list_all<D: Disk>(
+    alloc: Global,
+    low: &mut D,
+    middle: &mut D,
+    high: &mut D,
+) -> Result<Entries, BackupFault>
     ensures listed { AreHonest (D.honest low.old) (D.honest middle.old) (D.honest high.old)
         → IfOk result (λ names. AllListed names (now (D.history low.old)) (now (D.history middle.old)) (now (D.history high.old))) }
     ensures blameless { IfErr result IsBlameless }
@@ -51,7 +56,11 @@ pub fn list_all<D: Disk>(alloc: Global, low: &mut D, middle: &mut D, high: &mut 
         Err(why) => return Err(why),
     };
     match list_entries(alloc, high) {
-        Ok(highs) => Ok(Entries { lows, middles, highs }),
+        Ok(highs) => Ok(Entries {
+            lows,
+            middles,
+            highs,
+        }),
         Err(why) => Err(why),
     }
 }

@@ -58,7 +58,11 @@ fn fill<D: Disk>(disk: &mut D, name: FileName, out: &mut [u8]) -> Result<(), Fai
 }
 
 /// The bytes of a file, of which an absent one has none.
-pub fn read_bytes<D: Disk>(alloc: Global, disk: &mut D, name: FileName) -> Result<Vec<u8>, BackupFault>
+pub fn read_bytes<D: Disk>(
+    alloc: Global,
+    disk: &mut D,
+    name: FileName,
+) -> Result<Vec<u8>, BackupFault>
     ensures bytes { IsTrue (D.honest disk.old) → IfOk result (λ bytes. bytes.items ≡ bytes_of (now (D.history disk.old) name)) }
     ensures blameless { IfErr result IsBlameless }
     ensures rests { Rests (D.history disk.old) (D.history disk.new) }
@@ -91,7 +95,13 @@ fn refused(why: LtxFault, level: u8, min: u64, max: u64) -> BackupFault
 
 /// The file that bytes are an encoding of. What is none is damaged, on this level and of these
 /// transactions.
-pub fn decode_as(alloc: Global, bytes: &[u8], level: u8, min: u64, max: u64) -> Result<Ltx, BackupFault>
+pub fn decode_as(
+    alloc: Global,
+    bytes: &[u8],
+    level: u8,
+    min: u64,
+    max: u64,
+) -> Result<Ltx, BackupFault>
     ensures file { IfOk result (IsLtx bytes.now) }
     ensures none { IfErr result (IsNoFile bytes.now level min max) }
 {
@@ -119,7 +129,12 @@ fn named(file: Ltx, level: u8, entry: &Entry) -> Result<Ltx, BackupFault>
 }
 
 /// The file under the numbers of an entry.
-pub fn read_file<D: Disk>(alloc: Global, disk: &mut D, level: u8, entry: &Entry) -> Result<Ltx, BackupFault>
+pub fn read_file<D: Disk>(
+    alloc: Global,
+    disk: &mut D,
+    level: u8,
+    entry: &Entry,
+) -> Result<Ltx, BackupFault>
     ensures stands { IsTrue (D.honest disk.old) → IfOk result (Stands (now (D.history disk.old))) }
     ensures valid { IfOk result IsFile }
     ensures min { IfOk result (λ file. file.header.min ≡ entry.now.min) }

@@ -221,7 +221,14 @@ impl<D: Disk> Backup<D> {
 
     fn fold_low(&mut self, alloc: Global) -> Result<(), BackupFault> {
         let entries = &mut self.index.entries;
-        match fold(alloc, 0, &mut self.low, &mut entries.lows, &mut self.middle, &mut entries.middles) {
+        match fold(
+            alloc,
+            0,
+            &mut self.low,
+            &mut entries.lows,
+            &mut self.middle,
+            &mut entries.middles,
+        ) {
             Ok(()) => Ok(()),
             Err(why) => {
                 self.broken = is_disk(why);
@@ -232,7 +239,14 @@ impl<D: Disk> Backup<D> {
 
     fn fold_middle(&mut self, alloc: Global) -> Result<(), BackupFault> {
         let entries = &mut self.index.entries;
-        match fold(alloc, 1, &mut self.middle, &mut entries.middles, &mut self.high, &mut entries.highs) {
+        match fold(
+            alloc,
+            1,
+            &mut self.middle,
+            &mut entries.middles,
+            &mut self.high,
+            &mut entries.highs,
+        ) {
             Ok(()) => Ok(()),
             Err(why) => {
                 self.broken = is_disk(why);

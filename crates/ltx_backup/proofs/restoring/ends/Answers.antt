@@ -11,8 +11,7 @@ pub loop-entry-preserved : goal.loop-entry-preserved
 loop-entry-preserved c =
     let es = c.args.entries.now in
     let i = c.loop-entry.entry-index in
-    let split : drop i es ≡ get_or es i no_entry ∷ drop (i + 1) es = drop_more es i no_entry c.loop-entry-test.true in
-    (
+    let split : drop i es ≡ get_or es i no_entry ∷ drop (i + 1) es = drop_more es i no_entry c.loop-entry-test.true in (
       λ ends. elim (subst (λ (l : List Entry). Ends l c.args.txid) split (c.loop-entry.invariant.0 ends)) [
         | inl here ↦ absurd (let at : (get_or es i no_entry).max ≡ c.args.txid = here in grind (arith, nat_tests))
         | inr later ↦ later

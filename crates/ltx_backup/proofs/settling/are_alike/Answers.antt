@@ -12,8 +12,7 @@ loop-entry-preserved c =
     let es = c.args.entries.now in
     let i = c.loop-entry.entry-index in
     let split : drop i es ≡ get_or es i no_entry ∷ drop (i + 1) es = drop_more es i no_entry c.loop-entry-test.true in
-    let same : (get_or es i no_entry).page_size ≡ c.args.size = grind (arith, nat_tests) in
-    (
+    let same : (get_or es i no_entry).page_size ≡ c.args.size = grind (arith, nat_tests) in (
       λ all. (subst (λ (l : List Entry). AreAlike c.args.size l) split (c.loop-entry.invariant.0 all)).1,
       λ rest. c.loop-entry.invariant.1 (subst (λ (l : List Entry). AreAlike c.args.size l) (sym split) (same, rest)),
     )
@@ -22,12 +21,11 @@ pub returns-then-entry-size : goal.returns-then-entry-size
 returns-then-entry-size c =
     let es = c.args.entries.now in
     let i = c.loop-entry.entry-index in
-    let split : drop i es ≡ get_or es i no_entry ∷ drop (i + 1) es = drop_more es i no_entry c.loop-entry-test.true in
-    (
+    let split : drop i es ≡ get_or es i no_entry ∷ drop (i + 1) es = drop_more es i no_entry c.loop-entry-test.true in (
       λ no. absurd (false≢true no),
       λ all.
-      let same : (get_or es i no_entry).page_size ≡ c.args.size = (subst (λ (l : List Entry). AreAlike c.args.size l) split (c.loop-entry.invariant.0 all)).0 in
-      absurd (grind (arith, nat_tests)),
+          let same : (get_or es i no_entry).page_size ≡ c.args.size = (subst (λ (l : List Entry). AreAlike c.args.size l) split (c.loop-entry.invariant.0 all)).0 in
+          absurd (grind (arith, nat_tests)),
     )
 
 pub returns : goal.returns

@@ -24,8 +24,10 @@ returns-in-Err-clause-why g c from files level here lead =
 
 pub returns-in-Err-clause-moves : goal.returns-in-Err-clause-moves
 returns-in-Err-clause-moves g c from to files level =
-    inl (resting (g.D.Disk.history c.args.from.now) (g.D.Disk.history c.read_files.new.disk) (c.requires.from_settled from) c.read_files.ensures.rests,
-    started (g.D.Disk.history c.args.to.now) (SameBut Staged (now (g.D.Disk.history c.args.to.now))) (c.requires.to_settled to))
+    inl (
+      resting (g.D.Disk.history c.args.from.now) (g.D.Disk.history c.read_files.new.disk) (c.requires.from_settled from) c.read_files.ensures.rests,
+      started (g.D.Disk.history c.args.to.now) (SameBut Staged (now (g.D.Disk.history c.args.to.now))) (c.requires.to_settled to),
+    )
 
 pub returns-in-Err-clause-same : goal.returns-in-Err-clause-same
 returns-in-Err-clause-same g c not = (refl, refl, c.read_files.ensures.rests, refl)
@@ -41,8 +43,10 @@ returns-in-Err-merge-clause-why g c from files level here lead =
 
 pub returns-in-Err-merge-clause-moves : goal.returns-in-Err-merge-clause-moves
 returns-in-Err-merge-clause-moves g c from to files level =
-    inl (resting (g.D.Disk.history c.args.from.now) (g.D.Disk.history c.read_files.new.disk) (c.requires.from_settled from) c.read_files.ensures.rests,
-    started (g.D.Disk.history c.args.to.now) (SameBut Staged (now (g.D.Disk.history c.args.to.now))) (c.requires.to_settled to))
+    inl (
+      resting (g.D.Disk.history c.args.from.now) (g.D.Disk.history c.read_files.new.disk) (c.requires.from_settled from) c.read_files.ensures.rests,
+      started (g.D.Disk.history c.args.to.now) (SameBut Staged (now (g.D.Disk.history c.args.to.now))) (c.requires.to_settled to),
+    )
 
 pub returns-in-Err-merge-clause-same : goal.returns-in-Err-merge-clause-same
 returns-in-Err-merge-clause-same g c not = (refl, refl, c.read_files.ensures.rests, refl)
@@ -70,8 +74,12 @@ returns-clause-moves g c from to files level =
       does = subst (λ (l : List Ltx). DoesAsFiles l c.in-Ok-merge.file.change) read c.in-Ok-merge.ensures.does;
       reads_back = c.move_up.ensures.reads_back;
     } in
-    inr (c.in-Ok-merge.file, eight, moves_after c.in-Ok-merge.file (g.D.Disk.history c.args.from.now) (g.D.Disk.history c.read_files.new.disk) (g.D.Disk.history c.args.to.now)
-    (g.D.Disk.history c.move_up.new.from) (g.D.Disk.history c.move_up.new.to) (c.requires.from_settled from) c.read_files.ensures.rests (c.move_up.ensures.moves (c.read_files.ensures.honest ∙ from) to))
+    inr (
+      c.in-Ok-merge.file,
+      eight,
+      moves_after c.in-Ok-merge.file (g.D.Disk.history c.args.from.now) (g.D.Disk.history c.read_files.new.disk) (g.D.Disk.history c.args.to.now)
+          (g.D.Disk.history c.move_up.new.from) (g.D.Disk.history c.move_up.new.to) (c.requires.from_settled from) c.read_files.ensures.rests (c.move_up.ensures.moves (c.read_files.ensures.honest ∙ from) to),
+    )
 
 pub returns-clause-same : goal.returns-clause-same
 returns-clause-same g c not =
@@ -90,8 +98,12 @@ returns-in-Ok-move_up-clause-moves g c from to files level =
       does = subst (λ (l : List Ltx). DoesAsFiles l c.in-Ok-merge.file.change) read c.in-Ok-merge.ensures.does;
       reads_back = c.move_up.ensures.reads_back;
     } in
-    inr (c.in-Ok-merge.file, eight, moves_after c.in-Ok-merge.file (g.D.Disk.history c.args.from.now) (g.D.Disk.history c.read_files.new.disk) (g.D.Disk.history c.args.to.now)
-    (g.D.Disk.history c.move_up.new.from) (g.D.Disk.history c.move_up.new.to) (c.requires.from_settled from) c.read_files.ensures.rests (c.move_up.ensures.moves (c.read_files.ensures.honest ∙ from) to))
+    inr (
+      c.in-Ok-merge.file,
+      eight,
+      moves_after c.in-Ok-merge.file (g.D.Disk.history c.args.from.now) (g.D.Disk.history c.read_files.new.disk) (g.D.Disk.history c.args.to.now)
+          (g.D.Disk.history c.move_up.new.from) (g.D.Disk.history c.move_up.new.to) (c.requires.from_settled from) c.read_files.ensures.rests (c.move_up.ensures.moves (c.read_files.ensures.honest ∙ from) to),
+    )
 
 pub returns-in-Ok-move_up-clause-folds : goal.returns-in-Ok-move_up-clause-folds
 returns-in-Ok-move_up-clause-folds g c from to files level =
