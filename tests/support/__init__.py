@@ -7,10 +7,11 @@ from .cases import holds, length, refuses, run, same, skip_all
 from .client import Client
 from .cluster import Cluster
 from .mounted import small_disk
-from .node import KEEP_ALL, Node, applied, configuration, free_port, outcome, read
+from .node import KEEP_ALL, Node, applied, configuration, read
 from .outcomes import Skipped, Wrong
 from .places import ROOT, TESTS, program, vfs
 from .relay import Relay
+from .running import free_port, outcome
 from .service import Service
 from .sqlite import MODES, connect, in_mode, seen_by
 from .waiting import Late, until

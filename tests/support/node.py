@@ -2,15 +2,10 @@
 import collections
 import glob
 import os
-import random
-import shutil
-import socket
 import subprocess
-import tempfile
 
-from . import places
 from .cases import holds, same
-from .outcomes import Wrong
+from .running import Running
 from .waiting import until
 from .wire import Link
 
@@ -39,18 +34,6 @@ ttl = {ttl}
 Position = collections.namedtuple('Position', 'txid sum')
 
 
-def free_port():
-    """A port that is free, below those that the system gives to who dials: a replica whose primary is down might get just that one."""
-    while True:
-        port = random.randrange(12000, 32000)
-        with socket.socket() as tried:
-            try:
-                tried.bind(('127.0.0.1', port))
-                return port
-            except OSError:
-                pass
-
-
 def configuration(port, primary=None, keep=KEEP_ALL, database='app'):
     """The text of `litefs.toml`: of a primary, or of a replica of the node at the port `primary`."""
     return CONFIGURATION.format(database=database, port=port, keep=keep, primary=primary or port,
@@ -63,43 +46,22 @@ def leased(port, service, candidate, keep=KEEP_ALL, database='app'):
     return before + LEASED.format(candidate=str(candidate).lower(), port=port, host=f'db{port}', service=service.port, ttl=service.ttl)
 
 
-class Node:
+class Node(Running):
     """A primary, or a replica of the node `following`; with a lease `service`, either, and a primary only where it is a `candidate`.
-    Ended and removed at the end of its block.
 
-    It keeps more files than a script commits, so that its log can be applied from the first on. `folder`: where it
-    runs; a new temporary one where none is given. `program`: another build than the one under test."""
+    It keeps more files than a script commits, so that its log can be applied from the first on."""
+    word, called = 'mount', 'node'
 
     def __init__(self, following=None, keep=KEEP_ALL, database='app', folder=None, program=None, starts=True, service=None, candidate=True):
-        self.program = program or places.program()
-        self.made = folder is None
-        self.folder = folder or tempfile.mkdtemp(prefix='litefs-test-')
+        super().__init__(folder, program)
         self.database = database
         self.keep = keep
-        self.port = free_port()
         self.socket = os.path.join(self.folder, f'{database}.sock')
         self.data = os.path.join(self.folder, 'dbs', database)
-        self.process = None
         self.configure(leased(self.port, service, candidate, keep, database) if service else
                        configuration(self.port, following and following.port, keep, database))
         if starts:
-            try:
-                self.start()
-            except BaseException:
-                self.__exit__()
-                raise
-
-    def __enter__(self):
-        return self
-
-    def __exit__(self, *_):
-        self.kill()
-        if self.made:
-            shutil.rmtree(self.folder, ignore_errors=True)
-
-    def configure(self, text):
-        with open(os.path.join(self.folder, 'litefs.toml'), 'w') as file:
-            file.write(text)
+            self.begin()
 
     def follow(self, primary):
         """Makes it a replica of that node from its next start on."""
@@ -109,45 +71,12 @@ class Node:
         """Makes it a primary from its next start on."""
         self.configure(configuration(self.port, None, self.keep, self.database))
 
-    def launch(self):
-        """Starts the program and waits for nothing."""
-        with open(os.path.join(self.folder, 'errors'), 'ab') as errors:
-            self.process = subprocess.Popen([self.program, 'mount'], cwd=self.folder, stdin=subprocess.DEVNULL,
-                                            stdout=subprocess.DEVNULL, stderr=errors)
-
-    def start(self):
-        """Starts the program and waits until it answers."""
-        self.launch()
-        until(self.answers, 'the node answers')
-
-    def answers(self):
-        if self.process.poll() is not None:
-            raise Wrong(f'the node ended with {self.process.returncode}: {self.errors()}')
+    def responds(self):
         try:
             self.position()
             return True
         except OSError:
             return False
-
-    def kill(self):
-        """Ends it at once, as kill -9 does."""
-        if self.process and self.process.poll() is None:
-            self.process.kill()
-        if self.process:
-            self.process.wait()
-
-    def restart(self):
-        self.kill()
-        self.start()
-
-    def outcome(self):
-        """Runs the program to its end, which is to come of itself: its status and what it wrote to standard error."""
-        return outcome(self.program, ['mount'], self.folder)
-
-    def errors(self):
-        """What it wrote to standard error, in all its runs."""
-        with open(os.path.join(self.folder, 'errors')) as file:
-            return file.read()
 
     def lines(self):
         """The lines that it told, in all its runs, each behind `litefs: `."""
@@ -161,11 +90,6 @@ class Node:
     def news(self):
         """Its lines, but those of its starts."""
         return [it for it in self.lines() if not it.startswith('start ')]
-
-    def ended(self):
-        """Waits until it ends by itself, and answers its status."""
-        until(lambda: self.process.poll() is not None, 'the node ends')
-        return self.process.returncode
 
     def position(self):
         """What its position file says."""
@@ -201,12 +125,6 @@ class Node:
             same(seen == image, True, 'the database file is what SQLite saw')
         self.start()
         same(self.position(), before, 'the position after a restart')
-
-
-def outcome(program, words, folder=None, given=b''):
-    """Runs the program to its end: its status and its standard error."""
-    ran = subprocess.run([program, *words], cwd=folder, input=given, stdout=subprocess.PIPE, stderr=subprocess.PIPE, timeout=60)
-    return ran.returncode, ran.stderr.decode()
 
 
 def read(path):

@@ -1,15 +1,8 @@
 """A lease service: a folder of its own with a `litefs.toml`, and the program `litefs lease` in it."""
 import http.client
 import json
-import os
-import shutil
-import subprocess
-import tempfile
 
-from . import places
-from .node import free_port, outcome
-from .outcomes import Wrong
-from .waiting import until
+from .running import Running
 
 CONFIGURATION = '''[http]
 addr = "127.0.0.1:{port}"
@@ -18,64 +11,19 @@ ttl = {ttl}
 '''
 
 
-class Service:
-    """Grants leases of `ttl` milliseconds. Ended and removed at the end of its block."""
+class Service(Running):
+    """Grants leases of `ttl` milliseconds."""
+    word, called = 'lease', 'lease service'
 
     def __init__(self, ttl=2000, starts=True):
-        self.folder = tempfile.mkdtemp(prefix='litefs-test-')
+        super().__init__()
         self.ttl = ttl
-        self.port = free_port()
-        self.process = None
         self.configure(CONFIGURATION.format(port=self.port, ttl=ttl))
         if starts:
-            try:
-                self.start()
-            except BaseException:
-                self.__exit__()
-                raise
+            self.begin()
 
-    def __enter__(self):
-        return self
-
-    def __exit__(self, *_):
-        self.kill()
-        shutil.rmtree(self.folder, ignore_errors=True)
-
-    def configure(self, text):
-        with open(os.path.join(self.folder, 'litefs.toml'), 'w') as file:
-            file.write(text)
-
-    def launch(self):
-        """Starts the program and waits for nothing."""
-        with open(os.path.join(self.folder, 'errors'), 'ab') as errors:
-            self.process = subprocess.Popen([places.program(), 'lease'], cwd=self.folder, stdin=subprocess.DEVNULL,
-                                            stdout=subprocess.DEVNULL, stderr=errors)
-
-    def start(self):
-        """Starts the program and waits until it answers."""
-        self.launch()
-        until(self.answers, 'the lease service answers')
-
-    def answers(self):
-        if self.process.poll() is not None:
-            raise Wrong(f'the lease service ended with {self.process.returncode}: {self.errors()}')
+    def responds(self):
         return self.info() is not None
-
-    def kill(self):
-        """Ends it at once, as kill -9 does."""
-        if self.process and self.process.poll() is None:
-            self.process.kill()
-        if self.process:
-            self.process.wait()
-
-    def outcome(self):
-        """Runs the program to its end, which is to come of itself: its status and what it wrote to standard error."""
-        return outcome(places.program(), ['lease'], self.folder)
-
-    def errors(self):
-        """What it wrote to standard error, in all its runs."""
-        with open(os.path.join(self.folder, 'errors')) as file:
-            return file.read()
 
     def asked(self, body, method='POST', path='/lease'):
         """The reply to this body: its status, its header fields and its bytes."""
