@@ -52,9 +52,7 @@ Comes fault.Disk = Unit {0}
 Comes fault.Broken = Unit {0}
 Comes fault.Limit = Unit {0}
 Comes fault.NoMemory = Unit {0}
-Comes (fault.NotNext have want) = ⊥
-Comes (fault.SumDiffers want got) = ⊥
-Comes (fault.PageSize have want) = ⊥
+Comes why = ⊥
 
 -- what a request waited for is committed: the files are those over the new image, and tell the new position
 pub record IsCommitted (start : History) (old : NodeParts) (caller : ℕ) (request : Request) (reply : Reply) (end : History) (new : NodeParts) : Type 0 where

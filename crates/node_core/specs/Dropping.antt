@@ -25,10 +25,7 @@ abbrev pub RefusesDrop : History → NodeParts → Refusal → History → NodeP
 RefusesDrop start old refusals.NotReplica end new = (role_in old ≡ role.Primary) × IsUntouched start old end new
 RefusesDrop start old (refusals.Store why) end new =
     (role_in old ≢ role.Primary) × IsFree old × (1 ≤ (position old.store).txid) × IsNotDropped {T = Unit {0}} start old (Err why) end new
-RefusesDrop start old refusals.NotPrimary end new = ⊥
-RefusesDrop start old (refusals.Ltx why) end new = ⊥
-RefusesDrop start old refusals.Absent end new = ⊥
-RefusesDrop start old refusals.NoMemory end new = ⊥
+RefusesDrop start old why end new = ⊥
 
 -- what it answers. A database that was written is dropped; else nothing is done
 abbrev pub AnswersDrop : History → NodeParts → Answer → History → NodeParts → Type 0
@@ -36,12 +33,4 @@ AnswersDrop start old (answers.Applied here) end new = (role_in old ≢ role.Pri
 AnswersDrop start old (answers.Held lock) end new =
     (role_in old ≢ role.Primary) × (first_blocking old.files old.store.wal ≡ Some lock) × IsUntouched start old end new
 AnswersDrop start old (answers.Refused why) end new = RefusesDrop start old why end new
-AnswersDrop start old (answers.Done reply) end new = ⊥
-AnswersDrop start old answers.Quiet end new = ⊥
-AnswersDrop start old (answers.Refuse number) end new = ⊥
-AnswersDrop start old (answers.At here) end new = ⊥
-AnswersDrop start old (answers.Level here) end new = ⊥
-AnswersDrop start old (answers.Item ltx to) end new = ⊥
-AnswersDrop start old answers.Gone end new = ⊥
-AnswersDrop start old (answers.Pruned count) end new = ⊥
-AnswersDrop start old (answers.Info info) end new = ⊥
+AnswersDrop start old answer end new = ⊥

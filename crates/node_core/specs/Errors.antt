@@ -16,13 +16,8 @@ ENOMEM = record { 0 = 12 }
 
 -- the refusal of a fault of the store. Want of memory is one of its own
 abbrev pub refusal_of : StoreFault → Refusal
-refusal_of store.Disk = refusals.Store store.Disk
-refusal_of store.Broken = refusals.Store store.Broken
-refusal_of store.Limit = refusals.Store store.Limit
 refusal_of store.NoMemory = refusals.NoMemory
-refusal_of (store.NotNext have want) = refusals.Store (store.NotNext have want)
-refusal_of (store.SumDiffers want got) = refusals.Store (store.SumDiffers want got)
-refusal_of (store.PageSize have want) = refusals.Store (store.PageSize have want)
+refusal_of why = refusals.Store why
 
 -- the refusal of bytes that are no file, by their fault
 abbrev pub refusal_of_encoding : LtxFault → Refusal

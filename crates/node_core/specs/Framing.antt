@@ -59,45 +59,20 @@ abbrev pub RefusesFile : History → NodeParts → Ltx → Refusal → History �
 RefusesFile start old file (refusals.Store fault.NoMemory) end new = ⊥
 RefusesFile start old file (refusals.Store why) end new = IsNotTaken start old file why end new
 RefusesFile start old file refusals.NoMemory end new = IsNotTaken start old file fault.NoMemory end new
-RefusesFile start old file refusals.NotPrimary end new = ⊥
-RefusesFile start old file refusals.NotReplica end new = ⊥
-RefusesFile start old file (refusals.Ltx why) end new = ⊥
-RefusesFile start old file refusals.Absent end new = ⊥
+RefusesFile start old file why end new = ⊥
 
 -- what it answers to a file
 abbrev pub AnswersLtx : History → NodeParts → Ltx → Answer → History → NodeParts → Type 0
 AnswersLtx start old file (answers.Applied here) end new = (here ≡ after file) × IsTaken start old file end new
 AnswersLtx start old file (answers.Held lock) end new = (first_blocking old.files old.store.wal ≡ Some lock) × IsUntouched start old end new
 AnswersLtx start old file (answers.Refused why) end new = RefusesFile start old file why end new
-AnswersLtx start old file (answers.Done reply) end new = ⊥
-AnswersLtx start old file answers.Quiet end new = ⊥
-AnswersLtx start old file (answers.Refuse number) end new = ⊥
-AnswersLtx start old file (answers.At here) end new = ⊥
-AnswersLtx start old file (answers.Level here) end new = ⊥
-AnswersLtx start old file (answers.Item ltx to) end new = ⊥
-AnswersLtx start old file answers.Gone end new = ⊥
-AnswersLtx start old file (answers.Pruned count) end new = ⊥
-AnswersLtx start old file (answers.Info info) end new = ⊥
+AnswersLtx start old file answer end new = ⊥
 
 -- why bytes are refused before there is a file: by their earliest fault, or for want of memory
 abbrev pub RefusesBytes : List ℕ → Answer → Type 0
 RefusesBytes bytes (answers.Refused (refusals.Ltx why)) = IsEarliest bytes why
 RefusesBytes bytes (answers.Refused refusals.NoMemory) = Unit {0}
-RefusesBytes bytes (answers.Refused (refusals.Store why)) = ⊥
-RefusesBytes bytes (answers.Refused refusals.NotPrimary) = ⊥
-RefusesBytes bytes (answers.Refused refusals.NotReplica) = ⊥
-RefusesBytes bytes (answers.Refused refusals.Absent) = ⊥
-RefusesBytes bytes (answers.Applied here) = ⊥
-RefusesBytes bytes (answers.Held lock) = ⊥
-RefusesBytes bytes (answers.Done reply) = ⊥
-RefusesBytes bytes answers.Quiet = ⊥
-RefusesBytes bytes (answers.Refuse number) = ⊥
-RefusesBytes bytes (answers.At here) = ⊥
-RefusesBytes bytes (answers.Level here) = ⊥
-RefusesBytes bytes (answers.Item ltx to) = ⊥
-RefusesBytes bytes answers.Gone = ⊥
-RefusesBytes bytes (answers.Pruned count) = ⊥
-RefusesBytes bytes (answers.Info info) = ⊥
+RefusesBytes bytes answer = ⊥
 
 -- the primary takes nothing; elsewhere the bytes are no file that can be read, or the file that they are is answered
 abbrev pub AnswersFrame : History → NodeParts → List ℕ → Answer → History → NodeParts → Type 0

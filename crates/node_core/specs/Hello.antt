@@ -68,14 +68,7 @@ RefusesHello old from last refusals.NotPrimary new = role_in old ≢ role.Primar
 RefusesHello old from last (refusals.Store fault.Disk) new = (role_in old ≡ role.Primary) × WantsFile old.store from last × Rose old.store.faults new.faults
 RefusesHello old from last (refusals.Store fault.Broken) new = (role_in old ≡ role.Primary) × WantsFile old.store from last × (old.store.broken ≡ true)
 RefusesHello old from last refusals.NoMemory new = (role_in old ≡ role.Primary) × WantsFile old.store from last
-RefusesHello old from last (refusals.Store fault.Limit) new = ⊥
-RefusesHello old from last (refusals.Store fault.NoMemory) new = ⊥
-RefusesHello old from last (refusals.Store (fault.NotNext have want)) new = ⊥
-RefusesHello old from last (refusals.Store (fault.SumDiffers want got)) new = ⊥
-RefusesHello old from last (refusals.Store (fault.PageSize have want)) new = ⊥
-RefusesHello old from last refusals.NotReplica new = ⊥
-RefusesHello old from last (refusals.Ltx why) new = ⊥
-RefusesHello old from last refusals.Absent new = ⊥
+RefusesHello old from last why new = ⊥
 
 -- what it answers
 abbrev pub TellsFollower : History → NodeParts → Pos → Option LastFile → Answer → StoreFields → Type 0
@@ -85,14 +78,7 @@ TellsFollower start old from last (answers.Item ltx to) new =
     (role_in old ≡ role.Primary) × (IsFirstFile start old.store from last ltx to ⊎ IsWholeDatabase start old.store from last ltx to)
 TellsFollower start old from last answers.Gone new = (role_in old ≡ role.Primary) × IsOwed start old.store from last owed.Gone
 TellsFollower start old from last (answers.Refused why) new = RefusesHello old from last why new
-TellsFollower start old from last (answers.Done reply) new = ⊥
-TellsFollower start old from last answers.Quiet new = ⊥
-TellsFollower start old from last (answers.Refuse number) new = ⊥
-TellsFollower start old from last (answers.At here) new = ⊥
-TellsFollower start old from last (answers.Applied here) new = ⊥
-TellsFollower start old from last (answers.Held lock) new = ⊥
-TellsFollower start old from last (answers.Pruned count) new = ⊥
-TellsFollower start old from last (answers.Info info) new = ⊥
+TellsFollower start old from last answer new = ⊥
 
 -- the node is as before
 pub record AnswersHello (start : History) (old : NodeParts) (from : Pos) (last : Option LastFile) (answer : Answer) (end : History) (new : NodeParts) : Type 0 where

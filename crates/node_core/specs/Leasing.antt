@@ -35,28 +35,12 @@ pub record Believes (start : History) (old : NodeParts) (belief : LeaseBelief) (
 abbrev pub NamesPrimary : History → NodeParts → List ℕ → Answer → History → NodeParts → Type 0
 NamesPrimary start old host answers.Quiet end new = (new ≡ record old { files = record old.files { host = host_in host } }) × OnlyRead start end
 NamesPrimary start old host (answers.Refused refusals.NoMemory) end new = IsUntouched start old end new
-NamesPrimary start old host (answers.Refused refusals.NotPrimary) end new = ⊥
-NamesPrimary start old host (answers.Refused refusals.NotReplica) end new = ⊥
-NamesPrimary start old host (answers.Refused (refusals.Ltx why)) end new = ⊥
-NamesPrimary start old host (answers.Refused (refusals.Store why)) end new = ⊥
-NamesPrimary start old host (answers.Refused refusals.Absent) end new = ⊥
-NamesPrimary start old host (answers.Done reply) end new = ⊥
-NamesPrimary start old host (answers.Refuse number) end new = ⊥
-NamesPrimary start old host (answers.At here) end new = ⊥
-NamesPrimary start old host (answers.Level here) end new = ⊥
-NamesPrimary start old host (answers.Item ltx to) end new = ⊥
-NamesPrimary start old host answers.Gone end new = ⊥
-NamesPrimary start old host (answers.Applied here) end new = ⊥
-NamesPrimary start old host (answers.Held lock) end new = ⊥
-NamesPrimary start old host (answers.Pruned count) end new = ⊥
-NamesPrimary start old host (answers.Info info) end new = ⊥
+NamesPrimary start old host answer end new = ⊥
 
 -- what it answers
 abbrev pub AnswersLease : History → NodeParts → ℕ → LeaseNews → Answer → History → NodeParts → Type 0
-AnswersLease start old now news.Asked answer end new = Believes start old (believes now news.Asked old.standing.belief) answer end new
-AnswersLease start old now (news.Granted term ttl) answer end new = Believes start old (believes now (news.Granted term ttl) old.standing.belief) answer end new
-AnswersLease start old now news.Lost answer end new = Believes start old (believes now news.Lost old.standing.belief) answer end new
 AnswersLease start old now (news.Primary host) answer end new = NamesPrimary start old host answer end new
+AnswersLease start old now told answer end new = Believes start old (believes now told old.standing.belief) answer end new
 
 -- a step in the role that the node had before it
 abbrev pub StepsAs : NodeState → laws.Ask → laws.Answer → NodeState → History → History → Type 0

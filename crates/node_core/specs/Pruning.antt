@@ -29,25 +29,13 @@ pub record PrunesStore (start : History) (old : StoreFields) (keep : ℕ) (resul
 abbrev pub RefusesPrune : History → StoreFields → ℕ → Refusal → History → StoreFields → Type 0
 RefusesPrune start old keep refusals.Absent end new = ((position old).txid ≡ 0) × (new ≡ old)
 RefusesPrune start old keep (refusals.Store why) end new = (1 ≤ (position old).txid) × PrunesStore start old (kept_of keep) (Err why) end new
-RefusesPrune start old keep refusals.NotPrimary end new = ⊥
-RefusesPrune start old keep refusals.NotReplica end new = ⊥
-RefusesPrune start old keep (refusals.Ltx why) end new = ⊥
-RefusesPrune start old keep refusals.NoMemory end new = ⊥
+RefusesPrune start old keep why end new = ⊥
 
 -- what it answers: how many files are gone
 abbrev pub TellsPruned : History → StoreFields → ℕ → Answer → History → StoreFields → Type 0
 TellsPruned start old keep (answers.Pruned count) end new = (1 ≤ (position old).txid) × PrunesStore start old (kept_of keep) (Ok count) end new
 TellsPruned start old keep (answers.Refused why) end new = RefusesPrune start old keep why end new
-TellsPruned start old keep (answers.Done reply) end new = ⊥
-TellsPruned start old keep answers.Quiet end new = ⊥
-TellsPruned start old keep (answers.Refuse number) end new = ⊥
-TellsPruned start old keep (answers.At here) end new = ⊥
-TellsPruned start old keep (answers.Level here) end new = ⊥
-TellsPruned start old keep (answers.Item ltx to) end new = ⊥
-TellsPruned start old keep answers.Gone end new = ⊥
-TellsPruned start old keep (answers.Applied here) end new = ⊥
-TellsPruned start old keep (answers.Held lock) end new = ⊥
-TellsPruned start old keep (answers.Info info) end new = ⊥
+TellsPruned start old keep answer end new = ⊥
 
 pub record AnswersPrune (start : History) (old : NodeParts) (keep : ℕ) (answer : Answer) (end : History) (new : NodeParts) : Type 0 where
   pub tells : TellsPruned start old.store keep answer end new.store

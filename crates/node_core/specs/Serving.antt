@@ -38,12 +38,4 @@ ServesFiles start old caller request (answers.Done reply) end new =
 ServesFiles start old caller request answers.Quiet end new = IsServed start old caller request plan.Silent end new
 ServesFiles start old caller request (answers.Refuse number) end new =
     IsRefused start old caller request number end new ⊎ IsNotCommitted start old caller request number end new
-ServesFiles start old caller request (answers.At position) end new = ⊥
-ServesFiles start old caller request (answers.Level position) end new = ⊥
-ServesFiles start old caller request (answers.Item ltx after) end new = ⊥
-ServesFiles start old caller request answers.Gone end new = ⊥
-ServesFiles start old caller request (answers.Applied position) end new = ⊥
-ServesFiles start old caller request (answers.Held lock) end new = ⊥
-ServesFiles start old caller request (answers.Pruned count) end new = ⊥
-ServesFiles start old caller request (answers.Info info) end new = ⊥
-ServesFiles start old caller request (answers.Refused why) end new = ⊥
+ServesFiles start old caller request answer end new = ⊥

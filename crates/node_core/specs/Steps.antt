@@ -48,38 +48,27 @@ Does start old caller (asks.Lease now news) answer end new = AnswersLease start 
 -- the node at the moment of an ask, where one comes with it
 abbrev pub at_ask : NodeParts → Ask → NodeParts
 at_ask old (asks.File now request) = at_moment old now
-at_ask old asks.EndSession = old
-at_ask old asks.Where = old
 at_ask old (asks.Hello now from last) = at_moment old now
 at_ask old (asks.Frame now bytes) = at_moment old now
 at_ask old (asks.Drop now) = at_moment old now
-at_ask old (asks.Prune keep) = old
 at_ask old (asks.Info now) = at_moment old now
 at_ask old (asks.Lease now news) = at_moment old now
+at_ask old ask = old
 
 -- the greatest moment that a node was given, once it was asked
 abbrev pub moment_by : Ask → ℕ → ℕ
 moment_by (asks.File now request) moment = max moment now
-moment_by asks.EndSession moment = moment
-moment_by asks.Where moment = moment
 moment_by (asks.Hello now from last) moment = max moment now
 moment_by (asks.Frame now bytes) moment = max moment now
 moment_by (asks.Drop now) moment = max moment now
-moment_by (asks.Prune keep) moment = moment
 moment_by (asks.Info now) moment = max moment now
 moment_by (asks.Lease now news) moment = max moment now
+moment_by ask moment = moment
 
 -- what it believes of its lease then: only news change it
 abbrev pub belief_by : Ask → LeaseBelief → LeaseBelief
 belief_by (asks.Lease now news) belief = believes now news belief
-belief_by (asks.File now request) belief = belief
-belief_by asks.EndSession belief = belief
-belief_by asks.Where belief = belief
-belief_by (asks.Hello now from last) belief = belief
-belief_by (asks.Frame now bytes) belief = belief
-belief_by (asks.Drop now) belief = belief
-belief_by (asks.Prune keep) belief = belief
-belief_by (asks.Info now) belief = belief
+belief_by ask belief = belief
 
 -- ONE STEP: what it does; over an honest disk what it tells the cluster and what a crash leaves at each of its moments, in the role
 -- that the node has at its moment; and what it believes of its lease

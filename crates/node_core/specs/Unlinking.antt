@@ -73,14 +73,5 @@ RefusesDrop start old number end new =
 -- what it answers
 abbrev pub UnlinksDatabase : History → NodeParts → Answer → History → NodeParts → Type 0
 UnlinksDatabase start old (answers.Done given) end new = (given ≡ reply.Empty) × IsAllowed (unlink_rows old) × DropsWhatIsThere start old end new
-UnlinksDatabase start old answers.Quiet end new = ⊥
 UnlinksDatabase start old (answers.Refuse number) end new = RefusesDrop start old number end new
-UnlinksDatabase start old (answers.At position) end new = ⊥
-UnlinksDatabase start old (answers.Level position) end new = ⊥
-UnlinksDatabase start old (answers.Item ltx after) end new = ⊥
-UnlinksDatabase start old answers.Gone end new = ⊥
-UnlinksDatabase start old (answers.Applied position) end new = ⊥
-UnlinksDatabase start old (answers.Held lock) end new = ⊥
-UnlinksDatabase start old (answers.Pruned count) end new = ⊥
-UnlinksDatabase start old (answers.Info info) end new = ⊥
-UnlinksDatabase start old (answers.Refused why) end new = ⊥
+UnlinksDatabase start old answer end new = ⊥
