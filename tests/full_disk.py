@@ -1,6 +1,7 @@
 #!/usr/bin/python3
 """A disk that is full, has no inode left, or turns read-only under real SQLite: the write that meets it is refused, the node says
-which call of the disk failed and ends, and once it is started again each transaction that was answered is there.
+which call of the disk failed and ends, and once it is started again each transaction that was answered is there. That the disk is
+full is what the application is told, but where SQLite removes or cuts the journal at the end of a transaction.
 
 At most: 1200 seconds.
 Seen to fail: a node that takes a write without room for done: it doesn't end."""
@@ -10,6 +11,8 @@ from re import fullmatch
 from support import Node, connect, count, fill, holds, in_each_mode, in_mode, insert, run, same, seen_by, small_disk
 
 MOST = 5000
+FULL = 'database or disk is full'
+TOLD = {'delete': 'disk I/O error', 'truncate': 'disk I/O error', 'persist': FULL, 'wal': FULL}
 
 
 def until_refused(connection):
@@ -41,7 +44,7 @@ def broken(options, mode, breaks, mends):
         fill(made, range(-3, 0))
         breaks(disk)
         answered, refused = until_refused(made)
-        same(str(refused), 'disk I/O error', 'what the application is told')
+        same(str(refused), TOLD[mode], 'what the application is told')
         broke(node)
         mends(disk)
         works_again(node, 3 + answered, mode)

@@ -10,6 +10,7 @@ use Rattle.fuse_msgs.specs.declared.reply.Reply.TheVariants as reply
 use Rattle.fuse_msgs.specs.declared.request.Op.{Op}
 use Rattle.fuse_msgs.specs.declared.request.Op.TheVariants as op
 use Rattle.fuse_msgs.specs.declared.request.Request.{Request}
+use Rattle.lf_base.specs.declared.errno.Errno.{Errno}
 use Rattle.lf_disk.specs.History.{History}
 use Rattle.lf_sqlite_pages.specs.Image.{DatabaseImage, image_bytes}
 use Rattle.file_view.specs.declared.plan.Plan.{Plan}
@@ -38,13 +39,13 @@ no-commit : (given : Reply) (change : PageChange) (bytes : List ℕ) → plan.Co
 no-commit given change bytes same = cc
 
 -- a request that unlinks nothing is one of the files
-is-served : (start : History) (old : NodeParts) (caller : ℕ) (request : Request) (answer : Answer) (end : History) (new : NodeParts) (here unlinked : Bool) → unlinked ≡ false →
-    AnswersFile (here && unlinked) start old caller request answer end new → ServesFiles start old caller request answer end new
-is-served start old caller request answer end new true false none serves = serves
-is-served start old caller request answer end new true true none serves = absurd (let no : true ≡ false = none in cc)
-is-served start old caller request answer end new false unlinked none serves = serves
+is-served : (start : History) (old : NodeParts) (caller : ℕ) (request : Request) (answer : Answer) (end : History) (new : NodeParts) (said : Option Errno) (here unlinked : Bool) → unlinked ≡ false →
+    AnswersFile (here && unlinked) start old caller request answer end new said → ServesFiles start old caller request answer end new said
+is-served start old caller request answer end new said true false none serves = serves
+is-served start old caller request answer end new said true true none serves = absurd (let no : true ≡ false = none in cc)
+is-served start old caller request answer end new said false unlinked none serves = serves
 
-module _ (start end : History) (old new : NodeParts) (caller : ℕ) (request : Request) (honest : IsTrue old.store.honest) where
+module _ (start end : History) (old new : NodeParts) (said : Option Errno) (caller : ℕ) (request : Request) (honest : IsTrue old.store.honest) where
   -- the bytes of the database file, as the cluster sees it
   abbrev contents : List ℕ
   contents = image_bytes (seen start old).served.file
@@ -60,7 +61,7 @@ module _ (start end : History) (old new : NodeParts) (caller : ℕ) (request : R
       subst (λ (kind : Option FileKind). Reads kind place size p files) database done
 
   gives-read : (fh place size : ℕ) (owner : Option ℕ) → request.op ≡ op.Read fh place size owner → file_at request.node ≡ Some file.Database → (bytes : List ℕ) →
-      ServesFiles start old caller request (answers.Done (reply.Bytes bytes)) end new → bytes ≡ bytes_from contents place size
+      ServesFiles start old caller request (answers.Done (reply.Bytes bytes)) end new said → bytes ≡ bytes_from contents place size
   gives-read fh place size owner reads database bytes (inl served) =
       let read = planned-reads fh place size owner reads database (plan.Reply (reply.Bytes bytes)) new.files served.planned in
       bytes-alike bytes read.0 read.1.reply.reply
@@ -70,15 +71,15 @@ module _ (start end : History) (old new : NodeParts) (caller : ℕ) (request : R
       absurd (no-commit (reply.Bytes bytes) committed.change read.0 read.1.reply.reply)
 
   gives-file : (kind : Option FileKind) → file_at request.node ≡ kind → (o : Op) → request.op ≡ o → (r : Reply) →
-      AnswersFile ((request.node == root) && unlinks old.config.name o) start old caller request (answers.Done r) end new → ReadGives contents kind o r
+      AnswersFile ((request.node == root) && unlinks old.config.name o) start old caller request (answers.Done r) end new said → ReadGives contents kind o r
   gives-file (Some file.Database) database (op.Read fh place size owner) reads (reply.Bytes bytes) answers_it =
-      gives-read fh place size owner reads database bytes (is-served start old caller request (answers.Done (reply.Bytes bytes)) end new (request.node == root) false refl answers_it)
+      gives-read fh place size owner reads database bytes (is-served start old caller request (answers.Done (reply.Bytes bytes)) end new said (request.node == root) false refl answers_it)
   gives-file kind is o also r answers_it = tt
 
 -- each step of a node without uncommitted pages, of which its moment takes none
-pub step-gives : (start end : History) (old new : NodeParts) (caller : ℕ) (ask : Ask) (answer : Answer) → IsTrue old.store.honest → old.files.writer ≡ None → Does start old caller ask answer end new →
+pub step-gives : (start end : History) (old new : NodeParts) (said : Option Errno) (caller : ℕ) (ask : Ask) (answer : Answer) → IsTrue old.store.honest → old.files.writer ≡ None → Does start old caller ask answer end new said →
     GivesBytes (image_bytes (seen start old).served.file) ask answer
-step-gives start end old new caller (asks.File now request) (answers.Done r) honest none does =
+step-gives start end old new said caller (asks.File now request) (answers.Done r) honest none does =
     subst (λ (s : Served). ReadGives (image_bytes (file_over s.database (state start old.store).image)) (file_at request.node) request.op r) (files-still old.files none (role_in (at_moment old now)))
-    (gives-file start end (at_moment old now) new caller request honest (file_at request.node) refl request.op refl r does)
-step-gives start end old new caller ask answer honest none does = tt
+    (gives-file start end (at_moment old now) new said caller request honest (file_at request.node) refl request.op refl r does)
+step-gives start end old new said caller ask answer honest none does = tt

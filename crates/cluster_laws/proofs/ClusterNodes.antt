@@ -18,7 +18,7 @@ use Rattle.node_core.specs.declared.node.Node.{Node}
 use Rattle.cluster_laws.specs.Bytes.{GivesBytes}
 use Rattle.cluster_laws.specs.Cluster.{Program}
 use Rattle.cluster_laws.specs.ClusterLaws.{BegunIsStart, ClusterIsKept, ClusterIsLed, MovesAreEvents, DeliveredDropInstalls, DeliveredFileApplies, DeliveredSnapshotInstalls, InterruptedIsRestart, ReaderIsSteady, RecoveredIsOpened, RestartsAreMoves, StepAnswersByWhole, StepsAreMoves, StopsAreMoves, program}
-use Rattle.node_core.specs.Nodes.{history, parts_of, role_in}
+use Rattle.node_core.specs.Nodes.{history, parts_of, role_in, said_to}
 use Rattle.node_core.specs.Steps.{IsStep}
 use Rattle.node_core.specs.Stores.{fields_of, state}
 use Rattle.cluster_laws.proofs.Bytes.{step-gives}
@@ -29,7 +29,7 @@ use Rattle.node_core.proofs.Sound.{is-replica, sound}
 
 module _ {D : Type 0} {G : Ghosts D} where
   abbrev step : Node D G → ℕ → Ask → Answer → Node D G → Type 0
-  step old caller ask answer new = IsStep (history old) (parts_of old) caller ask answer (history new) (parts_of new)
+  step old caller ask answer new = IsStep (history old) (parts_of old) caller ask answer (history new) (parts_of new) (said_to new)
 
   abbrev pub nodes : Program (Node D G)
   nodes = program step (λ old new caller ask answer taken. taken.safe)
@@ -83,7 +83,7 @@ module _ {D : Type 0} {G : Ghosts D} where
   -- a READ at a replica gives the file that is seen
   gives : (old new : Node D G) (caller : ℕ) (ask : Ask) (answer : Answer) → IsTrue (nodes.honest old) → (nodes.seen old).role ≡ laws.Replica → nodes.steps old caller ask answer new → GivesBytes (image_bytes (nodes.seen old).served.file) ask answer
   gives old new caller ask answer disk plain taken =
-      step-gives (history old) (history new) (parts_of old) (parts_of new) caller ask answer disk (old.replica (is-replica (role_in (parts_of old)) plain)) taken.does
+      step-gives (history old) (history new) (parts_of old) (parts_of new) (said_to new) caller ask answer disk (old.replica (is-replica (role_in (parts_of old)) plain)) taken.does
 
   pub steady : ReaderSteady → ReaderIsSteady nodes
   steady law = reader-is-steady nodes stays is-sound law gives

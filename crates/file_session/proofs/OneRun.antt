@@ -16,7 +16,7 @@ use Rattle.node_core.specs.declared.ask.Ask.{Ask}
 use Rattle.node_core.specs.declared.ask.Ask.TheVariants as ask
 use Rattle.node_core.specs.declared.answer.Answer.{Answer}
 use Rattle.node_core.specs.declared.node.Node.{Node}
-use Rattle.node_core.specs.Nodes.{history, parts_of}
+use Rattle.node_core.specs.Nodes.{history, parts_of, said_to}
 use Rattle.node_core.specs.Steps.{IsStep}
 use Rattle.file_session.specs.Asking.{FileEntry}
 use Rattle.file_session.specs.Message.{IsRound, IsUnanswered, IsUnwritten, EndsMessage}
@@ -158,7 +158,7 @@ module _ {M : Type 0} (steps : M → ℕ → Ask → Answer → M → Type 0) wh
 -- the same of the nodes of this program
 module _ {D : Type 0} {G : Ghosts D} where
   abbrev node_steps : Node D G → ℕ → Ask → Answer → Node D G → Type 0
-  node_steps old caller ask answer new = IsStep (history old) (parts_of old) caller ask answer (history new) (parts_of new)
+  node_steps old caller ask answer new = IsStep (history old) (parts_of old) caller ask answer (history new) (parts_of new) (said_to new)
 
   pub in_node_run : SessionsAreInOneRun node_steps
   in_node_run = in_one_run node_steps

@@ -1,6 +1,7 @@
 -- A step over a node at its moment is a step of the node.
 use Rattle.std.proofs.Common.{◌≡◌, ◌∙◌, ℕ, IsTrue, List, Option, None, refl, sym, ap, subst}
 use Rattle.std.specs.Prelude.{max, ◌++◌}
+use Rattle.lf_base.specs.declared.errno.Errno.{Errno}
 use Rattle.lf_disk.specs.History.{History, Since}
 use Rattle.file_view.specs.declared.role.Role.TheVariants as role
 use Rattle.file_view.specs.Overlay.{IsOverImage}
@@ -54,11 +55,11 @@ module _ (law : MomentIsOfStep) (h : History) (n : NodeParts) (now : ℕ) where
     pub node : at_ask n ask ≡ at_now
     pub moment : moment_by ask n.standing.moment ≡ max n.standing.moment now
 
-  module _ (between : History) (mid : NodeParts) (same : between ≡ h) (is : mid ≡ at_now) (ask : Ask) (answer : Answer) (end : History) (new : NodeParts) (comes : ComesAt ask)
+  module _ (between : History) (mid : NodeParts) (same : between ≡ h) (is : mid ≡ at_now) (ask : Ask) (answer : Answer) (end : History) (new : NodeParts) (said : Option Errno) (comes : ComesAt ask)
       (over : IsTrue n.store.honest → IsOverImage n.files (state h n.store).image) (locks : ShareForReading n.files.locks) (replica : role_in n ≡ role.Replica → n.files.writer ≡ None) where
     -- the node's step, from what was done over the node at that moment
-    pub step-of : (caller : ℕ) → Does h n caller ask answer end new → (IsTrue mid.store.honest → StepsAs (seen between mid) (law_ask ask) (law_answer answer) (seen end new) between end) →
-        new.standing.belief ≡ belief_by ask n.standing.belief → new.standing.moment ≡ mid.standing.moment → new.store.honest ≡ mid.store.honest → IsStep h n caller ask answer end new
+    pub step-of : (caller : ℕ) → Does h n caller ask answer end new said → (IsTrue mid.store.honest → StepsAs (seen between mid) (law_ask ask) (law_answer answer) (seen end new) between end) →
+        new.standing.belief ≡ belief_by ask n.standing.belief → new.standing.moment ≡ mid.standing.moment → new.store.honest ≡ mid.store.honest → IsStep h n caller ask answer end new said
     step-of caller does safe belief moment honest =
         let there : IsTrue n.store.honest → StepsAs (seen h at_now) (law_ask ask) (law_answer answer) (seen end new) h end =
         subst (λ (b : History). IsTrue n.store.honest → StepsAs (seen b at_now) (law_ask ask) (law_answer answer) (seen end new) b end) same
@@ -81,9 +82,9 @@ module _ (law : MomentIsOfStep) (h : History) (n : NodeParts) (now : ℕ) where
         let s = safe disk in
         (s, keeps s.facts.role s.facts.role_is ∙ ap (λ (t : Standing). law_role (role_of t)) stays)
 
-    pub step-still : (caller : ℕ) → Does h n caller ask answer end new → (IsTrue mid.store.honest → StepsSafely (seen between mid) (law_ask ask) (law_answer answer) (seen end new) between end) →
+    pub step-still : (caller : ℕ) → Does h n caller ask answer end new said → (IsTrue mid.store.honest → StepsSafely (seen between mid) (law_ask ask) (law_answer answer) (seen end new) between end) →
         new.standing ≡ mid.standing → ((r : laws.Role) → KeepsRole (law_ask ask) r (law_role (role_in new)) → r ≡ law_role (role_in new)) →
-        belief_by ask n.standing.belief ≡ n.standing.belief → new.store.honest ≡ mid.store.honest → IsStep h n caller ask answer end new
+        belief_by ask n.standing.belief ≡ n.standing.belief → new.store.honest ≡ mid.store.honest → IsStep h n caller ask answer end new said
     step-still caller does safe stays keeps believed honest =
         step-of caller does (keeps-standing safe stays keeps)
         (ap (λ (t : Standing). t.belief) stays ∙ ap (λ (m : NodeParts). m.standing.belief) is ∙ sym believed)

@@ -19,7 +19,7 @@ use Rattle.world_laws.specs.Store.{Failure, MayBeFound, StoreState, begun_by}
 use Rattle.node_core.specs.declared.answer.Answer.{Answer}
 use Rattle.node_core.specs.declared.ask.Ask.{Ask}
 use Rattle.node_core.specs.declared.node.Node.{Node}
-use Rattle.node_core.specs.Nodes.{history, parts_of, seen}
+use Rattle.node_core.specs.Nodes.{history, parts_of, said_to, seen}
 use Rattle.node_core.specs.Runs.{AreSteps, Begins, CrashesAreOpened, IsOpenable, RunsAreSteps, between, event, more, none, within}
 use Rattle.node_core.specs.Safely.{law_answer, law_ask}
 use Rattle.node_core.specs.Steps.{IsStep}
@@ -77,7 +77,7 @@ module _ (k : ℕ) (start : NodeState) (e : Entry Ask Answer) (es : List (Entry 
 
 module _ {D : Type 0} {G : Ghosts D} where
   abbrev step : Node D G → ℕ → Ask → Answer → Node D G → Type 0
-  step old caller ask answer new = IsStep (history old) (parts_of old) caller ask answer (history new) (parts_of new)
+  step old caller ask answer new = IsStep (history old) (parts_of old) caller ask answer (history new) (parts_of new) (said_to new)
 
   abbrev is_honest : Node D G → Bool
   is_honest n = G.honest n.store.disk

@@ -1,6 +1,6 @@
 -- A commit of the primary: one transaction with the complete change, the node's moment as its stamp and the node's own number;
 -- then the log is pruned to the retention. What becomes of the prune does not change the answer.
-use Rattle.std.specs.Prelude.{◌≡◌, ◌⊎◌, ℕ, ◌≤◌, true, IsTrue, max, Result, Ok, Err}
+use Rattle.std.specs.Prelude.{◌≡◌, ◌⊎◌, ℕ, ◌≤◌, true, IsTrue, max, Option, Result, Ok, Err}
 use Rattle.lf_base.specs.Faults.{Rose}
 use Rattle.lf_base.specs.declared.errno.Errno.{Errno}
 use Rattle.lf_base.specs.declared.pos.Pos.{Pos}
@@ -64,8 +64,8 @@ pub record IsCommitted (start : History) (old : NodeParts) (caller : ℕ) (reque
   pub shape : (new.store.page_size ≡ change.page_size) × (new.store.commit ≡ change.commit) × (position new.store ≡ told)
   pub same : new ≡ record old { store = new.store; files = record (committed waiting) { position = told } }
 
--- the store refused the change or its disk failed: the request has changed nothing in the files
-pub record IsNotCommitted (start : History) (old : NodeParts) (caller : ℕ) (request : Request) (number : Errno) (end : History) (new : NodeParts) : Type 0 where
+-- the store refused the change or its disk failed, and the system said this: the request has changed nothing in the files
+pub record IsNotCommitted (start : History) (old : NodeParts) (caller : ℕ) (request : Request) (number : Errno) (end : History) (new : NodeParts) (said : Option Errno) : Type 0 where
   pub reply : Reply
   pub change : PageChange
   pub waiting : Served
@@ -73,6 +73,6 @@ pub record IsNotCommitted (start : History) (old : NodeParts) (caller : ℕ) (re
   pub planned : IsPlanned start old caller request (plan.Commit reply change) waiting
   pub store : CommitsStore start old change (Err why) end new.store
   pub comes : Comes why
-  pub number_is : number ≡ errno_of_store why
+  pub number_is : number ≡ errno_of_store said why
   pub shape : (new.store.page_size ≡ old.store.page_size) × (new.store.commit ≡ old.store.commit) × (position new.store ≡ position old.store)
   pub same : new ≡ record old { store = new.store }

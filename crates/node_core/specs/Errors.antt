@@ -1,8 +1,10 @@
 -- The error number of each fault (errno(3)), and the refusal of a fault of the store or of an encoding.
+use Rattle.std.specs.Prelude.{Option, if◌then◌else◌}
 use Rattle.lf_base.specs.declared.errno.Errno.{Errno}
+use Rattle.lf_disk.specs.SystemError.{is_want_of_room}
 use Rattle.file_view.specs.declared.fault.ViewFault.{ViewFault}
 use Rattle.file_view.specs.declared.fault.ViewFault.TheVariants as view
-use Rattle.file_view.specs.Errno.{EFBIG, EIO}
+use Rattle.file_view.specs.Errno.{EFBIG, EIO, ENOSPC}
 use Rattle.ltx_codec.specs.declared.fault.LtxFault.{LtxFault}
 use Rattle.ltx_codec.specs.declared.fault.LtxFault.TheVariants as encoding
 use Rattle.txn_log.specs.declared.fault.StoreFault.{StoreFault}
@@ -24,15 +26,14 @@ abbrev pub refusal_of_encoding : LtxFault → Refusal
 refusal_of_encoding encoding.NoMemory = refusals.NoMemory
 refusal_of_encoding why = refusals.Ltx why
 
--- of a fault of the store: where the database grows past its limit, the file is too large; the last three don't come
-abbrev pub errno_of_store : StoreFault → Errno
-errno_of_store store.Disk = EIO
-errno_of_store store.Broken = EIO
-errno_of_store store.Limit = EFBIG
-errno_of_store store.NoMemory = ENOMEM
-errno_of_store (store.NotNext have want) = EIO
-errno_of_store (store.SumDiffers want got) = EIO
-errno_of_store (store.PageSize have want) = EIO
+-- of a fault of the store, by what the system said at the disk's call that failed last: where there is no room, no space is left;
+-- where the database grows past its limit, the file is too large; the last three don't come
+abbrev pub errno_of_store : Option Errno → StoreFault → Errno
+errno_of_store said store.Disk = if is_want_of_room said then ENOSPC else EIO
+errno_of_store said store.Broken = EIO
+errno_of_store said store.Limit = EFBIG
+errno_of_store said store.NoMemory = ENOMEM
+errno_of_store said why = EIO
 
 -- of a request's fault: a rule's own, and where a page can't be read, an input/output error
 abbrev pub errno_of_view : ViewFault → Errno

@@ -4,6 +4,7 @@ use Rattle.std.specs.FinMap as pages
 use Rattle.std.specs.List.{range_with_len}
 use Rattle.std.specs.Option.{option_map}
 use Rattle.byte_locks.specs.declared.owner.Owner.{Owner}
+use Rattle.lf_base.specs.declared.errno.Errno.{Errno}
 use Rattle.lf_disk.specs.declared.disk.Disk.{Ghosts}
 use Rattle.lf_disk.specs.History.{History}
 use Rattle.lf_sqlite_pages.specs.Change.{PageChange}
@@ -20,7 +21,7 @@ use Rattle.node_core.specs.declared.config.NodeConfig.{NodeConfig}
 use Rattle.node_core.specs.declared.node.Node.{Node}
 use Rattle.node_core.specs.declared.standing.Standing.{Standing}
 use Rattle.node_core.specs.Roles.{files_at, law_role, role_of}
-use Rattle.node_core.specs.Stores.{StoreFields, failed, fields_of, history_of, state}
+use Rattle.node_core.specs.Stores.{StoreFields, failed, fields_of, history_of, said_of, state}
 
 -- a node at one moment: the served files, with the position and the primary's host as they were given; its store; what it was
 -- given of itself; and what it believes of its lease, with the greatest moment that it was given
@@ -52,6 +53,9 @@ module _ {D : Type 0} {G : Ghosts D} where
   -- the history of its disk
   abbrev pub history : Node D G → History
   history n = history_of n.store
+
+  abbrev pub said_to : Node D G → Option Errno
+  said_to n = said_of n.store
 
 -- the newest committed frame of each page of a log, and the size of its last commit; none where nothing is committed
 abbrev pub frames_of : List ℕ → Option PageChange

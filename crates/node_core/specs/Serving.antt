@@ -1,6 +1,6 @@
 -- A request on the served files: the files' rules decide, by the caller, the node's role and whether its store is broken; what a
 -- request commits is committed by the store.
-use Rattle.std.specs.Prelude.{◌≡◌, ◌⊎◌, ℕ}
+use Rattle.std.specs.Prelude.{◌≡◌, ◌⊎◌, ℕ, Option}
 use Rattle.lf_base.specs.declared.errno.Errno.{Errno}
 use Rattle.fuse_msgs.specs.declared.request.Request.{Request}
 use Rattle.lf_disk.specs.History.{History}
@@ -31,11 +31,11 @@ pub record IsRefused (start : History) (old : NodeParts) (caller : ℕ) (request
   pub read : IsRead start old.store end new.store
   pub same : new ≡ record old { store = new.store }
 
--- what it answers
-abbrev pub ServesFiles : History → NodeParts → ℕ → Request → Answer → History → NodeParts → Type 0
-ServesFiles start old caller request (answers.Done reply) end new =
+-- what it answers, where the system said this at the disk's call that failed last
+abbrev pub ServesFiles : History → NodeParts → ℕ → Request → Answer → History → NodeParts → Option Errno → Type 0
+ServesFiles start old caller request (answers.Done reply) end new said =
     IsServed start old caller request (plan.Reply reply) end new ⊎ IsCommitted start old caller request reply end new
-ServesFiles start old caller request answers.Quiet end new = IsServed start old caller request plan.Silent end new
-ServesFiles start old caller request (answers.Refuse number) end new =
-    IsRefused start old caller request number end new ⊎ IsNotCommitted start old caller request number end new
-ServesFiles start old caller request answer end new = ⊥
+ServesFiles start old caller request answers.Quiet end new said = IsServed start old caller request plan.Silent end new
+ServesFiles start old caller request (answers.Refuse number) end new said =
+    IsRefused start old caller request number end new ⊎ IsNotCommitted start old caller request number end new said
+ServesFiles start old caller request answer end new said = ⊥

@@ -1,5 +1,6 @@
 -- THE STEPS OF A NODE, one row for each ask.
-use Rattle.std.specs.Prelude.{◌≡◌, ℕ, Bool, true, false, IsTrue, max}
+use Rattle.std.specs.Prelude.{◌≡◌, ℕ, Bool, true, false, IsTrue, Option, max}
+use Rattle.lf_base.specs.declared.errno.Errno.{Errno}
 use Rattle.lf_disk.specs.History.{History}
 use Rattle.fuse_msgs.specs.declared.request.Request.{Request}
 use Rattle.file_view.specs.Endings.{ended}
@@ -23,9 +24,9 @@ use Rattle.node_core.specs.Unlinking.{UnlinksDatabase, unlinks_database}
 use Rattle.node_core.specs.Where.{TellsPosition}
 
 -- a request: UNLINK of the database file is answered by the node itself
-abbrev pub AnswersFile : Bool → History → NodeParts → ℕ → Request → Answer → History → NodeParts → Type 0
-AnswersFile true start old caller request answer end new = UnlinksDatabase start old answer end new
-AnswersFile false start old caller request answer end new = ServesFiles start old caller request answer end new
+abbrev pub AnswersFile : Bool → History → NodeParts → ℕ → Request → Answer → History → NodeParts → Option Errno → Type 0
+AnswersFile true start old caller request answer end new said = UnlinksDatabase start old answer end new said
+AnswersFile false start old caller request answer end new said = ServesFiles start old caller request answer end new said
 
 -- a session's end takes its handles and its locks, and what goes with these
 pub record EndsSession (start : History) (old : NodeParts) (caller : ℕ) (answer : Answer) (end : History) (new : NodeParts) : Type 0 where
@@ -33,17 +34,17 @@ pub record EndsSession (start : History) (old : NodeParts) (caller : ℕ) (answe
   pub files : new ≡ record old { files = ended old.files caller }
   pub rests : OnlyRead start end
 
--- what each ask does, over any disk
-abbrev pub Does : History → NodeParts → ℕ → Ask → Answer → History → NodeParts → Type 0
-Does start old caller (asks.File now request) answer end new = AnswersFile (unlinks_database old.config request) start (at_moment old now) caller request answer end new
-Does start old caller asks.EndSession answer end new = EndsSession start old caller answer end new
-Does start old caller asks.Where answer end new = TellsPosition start old answer end new
-Does start old caller (asks.Hello now from last) answer end new = AnswersHello start (at_moment old now) from last answer end new
-Does start old caller (asks.Frame now bytes) answer end new = AnswersFrame start (at_moment old now) bytes answer end new
-Does start old caller (asks.Drop now) answer end new = AnswersDrop start (at_moment old now) answer end new
-Does start old caller (asks.Prune keep) answer end new = AnswersPrune start old keep answer end new
-Does start old caller (asks.Info now) answer end new = AnswersInfo start (at_moment old now) answer end new
-Does start old caller (asks.Lease now news) answer end new = AnswersLease start (at_moment old now) now news answer end new
+-- what each ask does, over any disk, where the system said this at the disk's call that failed last
+abbrev pub Does : History → NodeParts → ℕ → Ask → Answer → History → NodeParts → Option Errno → Type 0
+Does start old caller (asks.File now request) answer end new said = AnswersFile (unlinks_database old.config request) start (at_moment old now) caller request answer end new said
+Does start old caller asks.EndSession answer end new said = EndsSession start old caller answer end new
+Does start old caller asks.Where answer end new said = TellsPosition start old answer end new
+Does start old caller (asks.Hello now from last) answer end new said = AnswersHello start (at_moment old now) from last answer end new
+Does start old caller (asks.Frame now bytes) answer end new said = AnswersFrame start (at_moment old now) bytes answer end new
+Does start old caller (asks.Drop now) answer end new said = AnswersDrop start (at_moment old now) answer end new
+Does start old caller (asks.Prune keep) answer end new said = AnswersPrune start old keep answer end new
+Does start old caller (asks.Info now) answer end new said = AnswersInfo start (at_moment old now) answer end new
+Does start old caller (asks.Lease now news) answer end new said = AnswersLease start (at_moment old now) now news answer end new
 
 -- the node at the moment of an ask, where one comes with it
 abbrev pub at_ask : NodeParts → Ask → NodeParts
@@ -72,8 +73,8 @@ belief_by ask belief = belief
 
 -- ONE STEP: what it does; over an honest disk what it tells the cluster and what a crash leaves at each of its moments, in the role
 -- that the node has at its moment; and what it believes of its lease
-pub record IsStep (start : History) (old : NodeParts) (caller : ℕ) (ask : Ask) (answer : Answer) (end : History) (new : NodeParts) : Type 0 where
-  pub does : Does start old caller ask answer end new
+pub record IsStep (start : History) (old : NodeParts) (caller : ℕ) (ask : Ask) (answer : Answer) (end : History) (new : NodeParts) (said : Option Errno) : Type 0 where
+  pub does : Does start old caller ask answer end new said
   pub safe : IsTrue old.store.honest → StepsSafely (seen start old) (law_ask ask) (law_answer answer) (seen end new) start end
   pub role : (disk : IsTrue old.store.honest) → (safe disk).facts.role ≡ law_role (role_in (at_ask old ask))
   pub lease : (new.standing.belief ≡ belief_by ask old.standing.belief) × (new.standing.moment ≡ moment_by ask old.standing.moment)

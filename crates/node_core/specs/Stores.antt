@@ -1,8 +1,16 @@
 -- A store as a node's words see it: its fields, and the disk's history beside them.
-use Rattle.std.specs.Prelude.{◌≡◌, ◌≤◌, false, IsTrue, []}
+use Rattle.std.specs.Prelude.{◌≡◌, ◌≤◌, false, IsTrue, [], Option}
+use Rattle.lf_base.specs.declared.errno.Errno.{Errno}
+use Rattle.lf_disk.specs.declared.disk.Disk.{Ghosts}
 use Rattle.lf_disk.specs.History.{History, Rests}
+use Rattle.txn_log.specs.declared.store.Store.{Store}
 use Rattle.txn_log.specs.declared.attempt.Attempt.TheVariants.{Unpublished}
 pub use Rattle.txn_log.specs.Fields.{StoreFields, fields_of, history_of, state, failed, position}
+
+module _ {D : Type 0} {G : Ghosts D} where
+  -- what the system said at its disk's call that failed last
+  abbrev pub said_of : Store D G → Option Errno
+  said_of s = G.error s.disk
 
 -- of no store
 abbrev pub no_fields : StoreFields

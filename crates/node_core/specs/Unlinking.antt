@@ -1,5 +1,5 @@
 -- UNLINK of the database file drops the database. The node answers it itself, since what goes is the store's.
-use Rattle.std.specs.Prelude.{◌≡◌, ◌⊎◌, ℕ, ◌≤◌, Bool, false, ◌&&◌, ◌==◌, IsTrue, List, [], ◌∷◌, Some, is_some, Result, Ok, Err}
+use Rattle.std.specs.Prelude.{◌≡◌, ◌⊎◌, ℕ, ◌≤◌, Bool, false, ◌&&◌, ◌==◌, IsTrue, List, [], ◌∷◌, Option, Some, is_some, Result, Ok, Err}
 use Rattle.lf_base.specs.declared.errno.Errno.{Errno}
 use Rattle.std.specs.Str.{bytes_eq}
 use Rattle.lf_disk.specs.History.{History}
@@ -63,15 +63,15 @@ DropsWhatIsThere start old end new =
     ((1 ≤ (position old.store).txid) × IsDropped {T = Unit {0}} start old (Ok tt) end new)
     ⊎ (((position old.store).txid ≡ 0) × (new ≡ old) × OnlyRead start end)
 
--- why it is refused: by its rows, else by the store
-abbrev pub RefusesDrop : History → NodeParts → Errno → History → NodeParts → Type 0
-RefusesDrop start old number end new =
+-- why it is refused: by its rows, else by the store, where the system said this
+abbrev pub RefusesDrop : History → NodeParts → Errno → History → NodeParts → Option Errno → Type 0
+RefusesDrop start old number end new said =
     ((first_refusal (unlink_rows old) ≡ Some number) × (new ≡ old) × OnlyRead start end)
     ⊎ (IsAllowed (unlink_rows old) × (1 ≤ (position old.store).txid)
-    × ((why : StoreFault) × (number ≡ errno_of_store why) × IsNotDropped {T = Unit {0}} start old (Err why) end new))
+    × ((why : StoreFault) × (number ≡ errno_of_store said why) × IsNotDropped {T = Unit {0}} start old (Err why) end new))
 
 -- what it answers
-abbrev pub UnlinksDatabase : History → NodeParts → Answer → History → NodeParts → Type 0
-UnlinksDatabase start old (answers.Done given) end new = (given ≡ reply.Empty) × IsAllowed (unlink_rows old) × DropsWhatIsThere start old end new
-UnlinksDatabase start old (answers.Refuse number) end new = RefusesDrop start old number end new
-UnlinksDatabase start old answer end new = ⊥
+abbrev pub UnlinksDatabase : History → NodeParts → Answer → History → NodeParts → Option Errno → Type 0
+UnlinksDatabase start old (answers.Done given) end new said = (given ≡ reply.Empty) × IsAllowed (unlink_rows old) × DropsWhatIsThere start old end new
+UnlinksDatabase start old (answers.Refuse number) end new said = RefusesDrop start old number end new said
+UnlinksDatabase start old answer end new said = ⊥

@@ -1,7 +1,7 @@
 //! Word that the database was dropped at another node.
 ghost use Rattle.std.specs.Prelude.{◌≡◌, ℕ, IsTrue};
 ghost use Rattle.node_core.specs.Dropping.{AnswersDrop};
-ghost use Rattle.node_core.specs.Nodes.{history, parts_of, seen};
+ghost use Rattle.node_core.specs.Nodes.{history, parts_of, said_to, seen};
 ghost use Rattle.node_core.specs.Safely.{StepsSafely, law_answer};
 ghost use Rattle.node_core.specs.Steps.{IsStep};
 ghost use Rattle.world_laws.specs.Node as laws;
@@ -47,7 +47,7 @@ impl<D: Disk> Node<D> {
 
     /// Drops the database, at a moment.
     pub(crate) fn answer_drop(&mut self, now: u64) -> Answer
-        ensures step { (caller : ℕ) → IsStep (history self.old) (parts_of self.old) caller (Ask.Drop now) result (history self.new) (parts_of self.new) }
+        ensures step { (caller : ℕ) → IsStep (history self.old) (parts_of self.old) caller (Ask.Drop now) result (history self.new) (parts_of self.new) (said_to self.new) }
     {
         moment_is_of_step();
         self.at_moment(now);

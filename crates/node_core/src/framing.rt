@@ -8,7 +8,7 @@ ghost use Rattle.world_laws.specs.Answers.{call_of};
 ghost use Rattle.world_laws.specs.Node as laws;
 ghost use Rattle.node_core.specs.Dropping.{IsFree};
 ghost use Rattle.node_core.specs.Framing.{AnswersFrame, AnswersLtx, Stands, Takes};
-ghost use Rattle.node_core.specs.Nodes.{history, parts_of, role_in, seen};
+ghost use Rattle.node_core.specs.Nodes.{history, parts_of, role_in, said_to, seen};
 ghost use Rattle.node_core.specs.Safely.{StepsSafely, law_answer, law_frame};
 ghost use Rattle.node_core.specs.Steps.{IsStep};
 ghost use Rattle.node_core.specs.Stores.{failed, fields_of, history_of, state};
@@ -103,7 +103,7 @@ impl<D: Disk> Node<D> {
 
     /// Answers the bytes of a file, at a moment.
     pub(crate) fn answer_frame(&mut self, now: u64, bytes: &Bytes) -> Answer
-        ensures step { (caller : ℕ) → IsStep (history self.old) (parts_of self.old) caller (Ask.Frame now bytes.now) result (history self.new) (parts_of self.new) }
+        ensures step { (caller : ℕ) → IsStep (history self.old) (parts_of self.old) caller (Ask.Frame now bytes.now) result (history self.new) (parts_of self.new) (said_to self.new) }
     {
         moment_is_of_step();
         self.at_moment(now);

@@ -3,7 +3,7 @@ ghost use Rattle.std.specs.Prelude.{◌≡◌, ◌<◌, ◌≤◌, ℕ, true, Is
 ghost use Rattle.file_view.specs.declared.role.Role.TheVariants as role;
 ghost use Rattle.lf_disk.specs.History.{now as folder};
 ghost use Rattle.node_core.specs.Hello.{AnswersHello, IsOwed};
-ghost use Rattle.node_core.specs.Nodes.{history, parts_of, role_in, seen};
+ghost use Rattle.node_core.specs.Nodes.{history, parts_of, role_in, said_to, seen};
 ghost use Rattle.node_core.specs.Safely.{StepsSafely, law_answer};
 ghost use Rattle.node_core.specs.Steps.{IsStep};
 ghost use Rattle.txn_log.specs.LastFile.{Doubts};
@@ -111,7 +111,7 @@ impl<D: Disk> Node<D> {
 
     /// Answers a follower at a position, at a moment.
     pub(crate) fn answer_hello(&mut self, now: u64, from: Pos, last: Option<LastFile>) -> Answer
-        ensures step { (caller : ℕ) → IsStep (history self.old) (parts_of self.old) caller (Ask.Hello now from last) result (history self.new) (parts_of self.new) }
+        ensures step { (caller : ℕ) → IsStep (history self.old) (parts_of self.old) caller (Ask.Hello now from last) result (history self.new) (parts_of self.new) (said_to self.new) }
     {
         moment_is_of_step();
         self.at_moment(now);

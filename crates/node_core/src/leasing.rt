@@ -1,7 +1,7 @@
 //! News of leases.
 ghost use Rattle.std.specs.Prelude.{◌≡◌, ℕ, IsTrue};
 ghost use Rattle.node_core.specs.Leasing.{AnswersLease, Believes, NamesPrimary, StepsAs, believes};
-ghost use Rattle.node_core.specs.Nodes.{history, parts_of, seen};
+ghost use Rattle.node_core.specs.Nodes.{history, parts_of, said_to, seen};
 ghost use Rattle.node_core.specs.Safely.{law_answer};
 ghost use Rattle.node_core.specs.Steps.{IsStep};
 ghost use Rattle.world_laws.specs.Node as laws;
@@ -89,7 +89,7 @@ impl<D: Disk> Node<D> {
 
     /// Answers news, at a moment.
     pub(crate) fn answer_lease(&mut self, now: u64, news: &LeaseNews) -> Answer
-        ensures step { (caller : ℕ) → IsStep (history self.old) (parts_of self.old) caller (Ask.Lease now news.now) result (history self.new) (parts_of self.new) }
+        ensures step { (caller : ℕ) → IsStep (history self.old) (parts_of self.old) caller (Ask.Lease now news.now) result (history self.new) (parts_of self.new) (said_to self.new) }
     {
         moment_is_of_step();
         self.at_moment(now);

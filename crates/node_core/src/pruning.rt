@@ -1,6 +1,6 @@
 //! The log keeps its newest files.
 ghost use Rattle.std.specs.Prelude.{◌≡◌, ℕ, max};
-ghost use Rattle.node_core.specs.Nodes.{history, parts_of};
+ghost use Rattle.node_core.specs.Nodes.{history, parts_of, said_to};
 ghost use Rattle.node_core.specs.Steps.{IsStep};
 
 use crate::answer::Answer;
@@ -12,7 +12,7 @@ use lf_disk::Disk;
 impl<D: Disk> Node<D> {
     /// Prunes the log to its newest files.
     pub(crate) fn prune(&mut self, keep: u64) -> Answer
-        ensures step { (caller : ℕ) → IsStep (history self.old) (parts_of self.old) caller (Ask.Prune keep) result (history self.new) (parts_of self.new) }
+        ensures step { (caller : ℕ) → IsStep (history self.old) (parts_of self.old) caller (Ask.Prune keep) result (history self.new) (parts_of self.new) (said_to self.new) }
     {
         if self.store.pos().txid == 0 {
             return Answer::Refused(Refusal::Absent);

@@ -1,6 +1,6 @@
 //! A request on the served files.
 ghost use Rattle.std.specs.Prelude.{◌≡◌, IsTrue};
-ghost use Rattle.node_core.specs.Nodes.{history, parts_of, seen};
+ghost use Rattle.node_core.specs.Nodes.{history, parts_of, said_to, seen};
 ghost use Rattle.node_core.specs.Safely.{StepsSafely, law_answer};
 ghost use Rattle.node_core.specs.Serving.{ServesFiles};
 ghost use Rattle.node_core.specs.Steps.{AnswersFile, IsStep};
@@ -20,7 +20,7 @@ use world_laws::moment_is_of_step;
 impl<D: Disk> Node<D> {
     /// Answers a request by the files' rules.
     fn serve(&mut self, caller: u64, request: &Request) -> Answer
-        ensures does { ServesFiles (history self.old) (parts_of self.old) caller request.now result (history self.new) (parts_of self.new) }
+        ensures does { ServesFiles (history self.old) (parts_of self.old) caller request.now result (history self.new) (parts_of self.new) (said_to self.new) }
         ensures safe { IsTrue (D.honest self.old.store.disk) → StepsSafely (seen (history self.old) (parts_of self.old)) laws.File
             (law_answer result) (seen (history self.new) (parts_of self.new)) (history self.old) (history self.new) }
         ensures standing { self.new.standing ≡ self.old.standing }
@@ -50,7 +50,7 @@ impl<D: Disk> Node<D> {
                     }
                     Err(fault) => {
                         self.view.abandon();
-                        Answer::Refuse(errno_of_store(fault))
+                        Answer::Refuse(errno_of_store(&self.store.disk, fault))
                     }
                 }
             }
@@ -60,7 +60,8 @@ impl<D: Disk> Node<D> {
 
     /// Answers a request: UNLINK of the database file is the node's own.
     fn answer_request(&mut self, caller: u64, request: &Request) -> Answer
-        ensures does { AnswersFile (unlinks_database self.old.config request.now) (history self.old) (parts_of self.old) caller request.now result (history self.new) (parts_of self.new) }
+        ensures does { AnswersFile (unlinks_database self.old.config request.now) (history self.old) (parts_of self.old) caller request.now
+            result (history self.new) (parts_of self.new) (said_to self.new) }
         ensures safe { IsTrue (D.honest self.old.store.disk) → StepsSafely (seen (history self.old) (parts_of self.old)) laws.File
             (law_answer result) (seen (history self.new) (parts_of self.new)) (history self.old) (history self.new) }
         ensures standing { self.new.standing ≡ self.old.standing }
@@ -75,7 +76,7 @@ impl<D: Disk> Node<D> {
 
     /// Answers a request, at a moment.
     pub(crate) fn answer_file(&mut self, caller: u64, now: u64, request: &Request) -> Answer
-        ensures step { IsStep (history self.old) (parts_of self.old) caller (Ask.File now request.now) result (history self.new) (parts_of self.new) }
+        ensures step { IsStep (history self.old) (parts_of self.old) caller (Ask.File now request.now) result (history self.new) (parts_of self.new) (said_to self.new) }
     {
         moment_is_of_step();
         self.at_moment(now);

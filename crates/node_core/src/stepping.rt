@@ -1,6 +1,6 @@
 //! The node as one machine.
 ghost use Rattle.std.specs.Prelude.{◌≡◌, ℕ};
-ghost use Rattle.node_core.specs.Nodes.{history, parts_of};
+ghost use Rattle.node_core.specs.Nodes.{history, parts_of, said_to};
 ghost use Rattle.node_core.specs.Steps.{IsStep};
 
 use crate::answer::Answer;
@@ -14,7 +14,7 @@ use turn_desk::Machine;
 impl<D: Disk> Node<D> {
     /// The session of this caller has ended.
     fn end_session(&mut self, caller: u64) -> Answer
-        ensures step { IsStep (history self.old) (parts_of self.old) caller Ask.EndSession result (history self.new) (parts_of self.new) }
+        ensures step { IsStep (history self.old) (parts_of self.old) caller Ask.EndSession result (history self.new) (parts_of self.new) (said_to self.new) }
     {
         self.view.end_session(caller);
         Answer::Quiet
@@ -22,7 +22,7 @@ impl<D: Disk> Node<D> {
 
     /// Where the node stands. The store is read for the checksum of its last file.
     fn tell_position(&mut self) -> Answer
-        ensures step { (caller : ℕ) → IsStep (history self.old) (parts_of self.old) caller Ask.Where result (history self.new) (parts_of self.new) }
+        ensures step { (caller : ℕ) → IsStep (history self.old) (parts_of self.old) caller Ask.Where result (history self.new) (parts_of self.new) (said_to self.new) }
     {
         let pos = self.store.pos();
         match self.store.last_file() {
@@ -37,7 +37,7 @@ impl<D: Disk> Machine for Node<D> {
 
     type Answer = Answer;
 
-    ghost steps = { λ old caller ask answer new. IsStep (history old) (parts_of old) caller ask answer (history new) (parts_of new) };
+    ghost steps = { λ old caller ask answer new. IsStep (history old) (parts_of old) caller ask answer (history new) (parts_of new) (said_to new) };
 
     fn step(&mut self, caller: u64, ask: &Ask) -> Answer {
         match ask {

@@ -1,6 +1,6 @@
 //! What a node says of itself.
 ghost use Rattle.std.specs.Prelude.{◌≡◌, ℕ, IsTrue};
-ghost use Rattle.node_core.specs.Nodes.{history, parts_of, seen};
+ghost use Rattle.node_core.specs.Nodes.{history, parts_of, said_to, seen};
 ghost use Rattle.node_core.specs.Safely.{StepsSafely, law_answer};
 ghost use Rattle.node_core.specs.Steps.{IsStep};
 ghost use Rattle.node_core.specs.Telling.{TellsInfo, first_of};
@@ -48,7 +48,7 @@ impl<D: Disk> Node<D> {
 
     /// What it is at a moment, and where it stands.
     pub(crate) fn answer_info(&mut self, now: u64) -> Answer
-        ensures step { (caller : ℕ) → IsStep (history self.old) (parts_of self.old) caller (Ask.Info now) result (history self.new) (parts_of self.new) }
+        ensures step { (caller : ℕ) → IsStep (history self.old) (parts_of self.old) caller (Ask.Info now) result (history self.new) (parts_of self.new) (said_to self.new) }
     {
         moment_is_of_step();
         self.at_moment(now);

@@ -1,7 +1,7 @@
 //! UNLINK of the database file drops the database.
 ghost use Rattle.std.specs.Prelude.{◌≡◌, IsTrue};
 ghost use Rattle.file_view.specs.Refusal.{first_refusal};
-ghost use Rattle.node_core.specs.Nodes.{history, parts_of, seen};
+ghost use Rattle.node_core.specs.Nodes.{history, parts_of, said_to, seen};
 ghost use Rattle.node_core.specs.Safely.{StepsSafely, law_answer};
 ghost use Rattle.node_core.specs.Unlinking.{UnlinksDatabase, unlink_rows, unlinks, unlinks_database};
 ghost use Rattle.world_laws.specs.Node as laws;
@@ -49,7 +49,7 @@ impl<D: Disk> Node<D> {
 
     /// Answers UNLINK of the database file. After it is done its files are those of no database.
     pub(crate) fn unlink_database(&mut self) -> Answer
-        ensures does { UnlinksDatabase (history self.old) (parts_of self.old) result (history self.new) (parts_of self.new) }
+        ensures does { UnlinksDatabase (history self.old) (parts_of self.old) result (history self.new) (parts_of self.new) (said_to self.new) }
         ensures safe { IsTrue (D.honest self.old.store.disk) → StepsSafely (seen (history self.old) (parts_of self.old)) laws.File
             (law_answer result) (seen (history self.new) (parts_of self.new)) (history self.old) (history self.new) }
         ensures standing { self.new.standing ≡ self.old.standing }
@@ -67,7 +67,7 @@ impl<D: Disk> Node<D> {
                 self.view.told_position(self.store.pos());
                 Answer::Done(Reply::Empty)
             }
-            Err(fault) => Answer::Refuse(errno_of_store(fault)),
+            Err(fault) => Answer::Refuse(errno_of_store(&self.store.disk, fault)),
         }
     }
 }

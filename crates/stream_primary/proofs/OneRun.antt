@@ -24,7 +24,7 @@ use Rattle.node_core.specs.declared.ask.Ask.TheVariants as ask
 use Rattle.node_core.specs.declared.node.Node.{Node}
 use Rattle.world_laws.specs.declared.last_file.LastFile.{LastFile}
 use Rattle.node_core.specs.Hello.{AnswersHello, TellsFollower}
-use Rattle.node_core.specs.Nodes.{NodeParts, history, parts_of}
+use Rattle.node_core.specs.Nodes.{NodeParts, history, parts_of, said_to}
 use Rattle.node_core.specs.Steps.{Does, IsStep}
 use Rattle.node_core.specs.Stores.{StoreFields}
 use Rattle.stream_primary.specs.declared.standing.Standing.{Standing}
@@ -130,7 +130,7 @@ answer_owes {start = start} {old = old} {new = new} from {given = given} answers
 
 module _ {D : Type 0} {G : Ghosts D} where
   abbrev pub node_steps : Node D G → ℕ → Ask → Answer → Node D G → Type 0
-  node_steps old caller ask answer new = IsStep (history old) (parts_of old) caller ask answer (history new) (parts_of new)
+  node_steps old caller ask answer new = IsStep (history old) (parts_of old) caller ask answer (history new) (parts_of new) (said_to new)
 
   -- a Hello
   hello_owes : (who : Asker) (here : Whereabouts) (hello : MadeStep (Node D G) Ask Answer) → IsHello who here hello.entry → IsMade node_steps hello → IsTrue (goes_on hello.entry.answer)
@@ -138,8 +138,8 @@ module _ {D : Type 0} {G : Ghosts D} where
   hello_owes who here hello is made goes =
       let start : History = history hello.before in
       let old : NodeParts = parts_of hello.before in
-      let does : Does start old hello.entry.caller (ask.Hello is.now here.pos here.last) hello.entry.answer (history hello.after) (parts_of hello.after) =
-      subst (λ (q : Ask). Does start old hello.entry.caller q hello.entry.answer (history hello.after) (parts_of hello.after)) is.asked made.does in
+      let does : Does start old hello.entry.caller (ask.Hello is.now here.pos here.last) hello.entry.answer (history hello.after) (parts_of hello.after) (said_to hello.after) =
+      subst (λ (q : Ask). Does start old hello.entry.caller q hello.entry.answer (history hello.after) (parts_of hello.after) (said_to hello.after)) is.asked made.does in
       answer_owes here does goes
 
   -- the last one

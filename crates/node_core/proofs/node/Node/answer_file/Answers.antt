@@ -1,7 +1,7 @@
 use Rattle.std.proofs.Common.{◌≡◌, refl}
 use Rattle.lf_disk.specs.History.{History}
 use Rattle.node_core.specs.declared.ask.Ask.TheVariants as asks
-use Rattle.node_core.specs.Nodes.{NodeParts, history, parts_of}
+use Rattle.node_core.specs.Nodes.{NodeParts, history, parts_of, said_to}
 use Rattle.node_core.specs.Stores.{history_of}
 use Rattle.node_core.specs.Steps.{AnswersFile}
 use Rattle.node_core.specs.Unlinking.{unlinks_database}
@@ -19,9 +19,9 @@ returns g c =
     let same : history mid ≡ h = λ i. history_of (given.store i) in
     record {
       step =
-          step-still c.moment_is_of_step.ensures h old c.args.now (history mid) (parts_of mid) same given.parts (asks.File c.args.now c.args.request.now) c.answer_request.result (history m) (parts_of m)
+          step-still c.moment_is_of_step.ensures h old c.args.now (history mid) (parts_of mid) same given.parts (asks.File c.args.now c.args.request.now) c.answer_request.result (history m) (parts_of m) (said_to m)
           record { node = refl; moment = refl } n.image n.locked.together n.replica c.args.caller
           (carried c.moment_is_of_step.ensures h old c.args.now (history mid) (parts_of mid) same given.parts
-          (λ (b : History) (p : NodeParts). AnswersFile (unlinks_database p.config c.args.request.now) b p c.args.caller c.args.request.now c.answer_request.result (history m) (parts_of m)) c.answer_request.ensures.does)
+          (λ (b : History) (p : NodeParts). AnswersFile (unlinks_database p.config c.args.request.now) b p c.args.caller c.args.request.now c.answer_request.result (history m) (parts_of m) (said_to m)) c.answer_request.ensures.does)
           c.answer_request.ensures.safe c.answer_request.ensures.standing (λ r keeps. keeps) refl c.answer_request.ensures.honest;
     }

@@ -2,7 +2,7 @@ use Rattle.std.proofs.Common.{◌≡◌, refl}
 use Rattle.lf_disk.specs.History.{History}
 use Rattle.node_core.specs.declared.ask.Ask.TheVariants as asks
 use Rattle.node_core.specs.Framing.{AnswersFrame}
-use Rattle.node_core.specs.Nodes.{NodeParts, history, parts_of}
+use Rattle.node_core.specs.Nodes.{NodeParts, history, parts_of, said_to}
 use Rattle.node_core.specs.Stores.{history_of}
 use Rattle.node_core.proofs.AtMoment.{carried, step-still}
 use Rattle.node_core.proofs.Encodings.{frame-keeps}
@@ -19,7 +19,7 @@ returns g c =
     let same : history mid ≡ h = λ i. history_of (given.store i) in
     record {
       step = λ caller.
-          step-still c.moment_is_of_step.ensures h old c.args.now (history mid) (parts_of mid) same given.parts (asks.Frame c.args.now c.args.bytes.now) c.frame.result (history m) (parts_of m)
+          step-still c.moment_is_of_step.ensures h old c.args.now (history mid) (parts_of mid) same given.parts (asks.Frame c.args.now c.args.bytes.now) c.frame.result (history m) (parts_of m) (said_to m)
           record { node = refl; moment = refl } n.image n.locked.together n.replica caller
           (carried c.moment_is_of_step.ensures h old c.args.now (history mid) (parts_of mid) same given.parts
           (λ (b : History) (p : NodeParts). AnswersFrame b p c.args.bytes.now c.frame.result (history m) (parts_of m)) c.frame.ensures.does)

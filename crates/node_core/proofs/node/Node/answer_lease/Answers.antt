@@ -4,7 +4,7 @@ use Rattle.lease_core.specs.Belief.{LeaseBelief}
 use Rattle.node_core.specs.declared.ask.Ask.TheVariants as asks
 use Rattle.node_core.specs.declared.standing.Standing.{Standing}
 use Rattle.node_core.specs.Leasing.{AnswersLease, believes}
-use Rattle.node_core.specs.Nodes.{NodeParts, history, parts_of}
+use Rattle.node_core.specs.Nodes.{NodeParts, history, parts_of, said_to}
 use Rattle.node_core.specs.Stores.{history_of}
 use Rattle.node_core.proofs.AtMoment.{carried, step-of}
 use Rattle.node_core.proofs.node.Node.answer_lease.Goals as goal
@@ -22,7 +22,7 @@ returns g c =
     let now = c.args.now in
     record {
       step = λ caller.
-          step-of c.moment_is_of_step.ensures h old now (history mid) (parts_of mid) same given.parts (asks.Lease now news) c.news.result (history m) (parts_of m)
+          step-of c.moment_is_of_step.ensures h old now (history mid) (parts_of mid) same given.parts (asks.Lease now news) c.news.result (history m) (parts_of m) (said_to m)
           record { node = refl; moment = refl } n.image n.locked.together n.replica caller
           (carried c.moment_is_of_step.ensures h old now (history mid) (parts_of mid) same given.parts
           (λ (b : History) (p : NodeParts). AnswersLease b p now news c.news.result (history m) (parts_of m)) c.news.ensures.does)

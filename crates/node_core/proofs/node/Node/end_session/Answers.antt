@@ -6,7 +6,7 @@ use Rattle.world_laws.specs.Node as laws
 use Rattle.byte_locks.specs.LockList.{IsLockList}
 use Rattle.node_core.specs.declared.answer.Answer.TheVariants as answers
 use Rattle.node_core.specs.declared.ask.Ask.TheVariants as asks
-use Rattle.node_core.specs.Nodes.{parts_of, role_in, seen}
+use Rattle.node_core.specs.Nodes.{parts_of, role_in, said_to, seen}
 use Rattle.node_core.specs.Safely.{StepsSafely}
 use Rattle.node_core.specs.Steps.{IsStep}
 use Rattle.node_core.specs.Stores.{fields_of, history_of, state}
@@ -47,7 +47,7 @@ returns g c =
     (sound h (record old { files = files }) (ended-over n.view c.args.caller image (n.image honest)) (ended-locked n.view c.args.caller n.locked).together
     (λ not. ended-writer n.view c.args.caller (n.replica not)))) in
     record {
-      step = subst (λ (s : Served). IsStep h old c.args.caller asks.EndSession answers.Quiet h (record old { files = s })) (sym is) record {
+      step = subst (λ (s : Served). IsStep h old c.args.caller asks.EndSession answers.Quiet h (record old { files = s }) (said_to n)) (sym is) record {
         does = record { quiet = refl; files = refl; rests = ∣ rests_stay h ∣₁ };
         safe = safe;
         role = λ honest. (safe honest).facts.role_is;

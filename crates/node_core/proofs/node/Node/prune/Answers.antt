@@ -10,7 +10,7 @@ use Rattle.node_core.specs.Nodes.{NodeParts, parts_of, seen}
 use Rattle.node_core.specs.Pruning.{PrunesStore, kept_of}
 use Rattle.node_core.specs.Safely.{StepsSafely, law_answer, law_store_fault}
 use Rattle.node_core.specs.Steps.{IsStep}
-use Rattle.node_core.specs.Stores.{fields_of, history_of, position}
+use Rattle.node_core.specs.Stores.{fields_of, history_of, position, said_of}
 use Rattle.node_core.proofs.Facts.{says-none}
 use Rattle.node_core.proofs.Looked.{prune-changes, prunes-safely}
 use Rattle.node_core.proofs.Reading.{rests_stay}
@@ -97,7 +97,7 @@ returns-in-Err g c =
     (prunes-safely h end old (fields_of t) keep (Err why) c.in-Err.ensures.prunes (c.in-Err.ensures.went honest) (n.store.kept honest) (t.kept (c.prune.ensures.honest ∙ honest))
     c.prune.ensures.position (laws.Refused (law_store_fault why)) (n.image honest) n.locked.together n.replica c.in-Err.ensures.cause (ran-undone ℕ why (PruneTo keep)))) in
     record {
-      step = λ caller. subst (λ (r : Refusal). IsStep h old caller (asks.Prune c.args.keep) (answers.Refused r) end new) (sym c.refusal_of.ensures) record {
+      step = λ caller. subst (λ (r : Refusal). IsStep h old caller (asks.Prune c.args.keep) (answers.Refused r) end new (said_of t)) (sym c.refusal_of.ensures) record {
         does = record {
           tells = refuses-prune h old.store c.args.keep why end (fields_of t) some (subst (λ (k : ℕ). PrunesStore h old.store k (Err why) end (fields_of t)) is record {
             answers = c.in-Err.ensures.prunes;
