@@ -6,6 +6,7 @@ use Rattle.txn_log.specs.Calls.{MayFind, RestsAs}
 use Rattle.txn_log.specs.Durable.{Durable}
 use Rattle.txn_log.specs.Kept.{LogFile}
 use Rattle.world_laws.specs.Ledger.{FindsAlong}
+use Rattle.world_laws.specs.Node as laws
 use Rattle.world_laws.specs.Premises.{OneImagePerPosition, WasSent}
 use Rattle.world_laws.specs.Safe.{IsSafe}
 use Rattle.world_laws.specs.Step.{calls_of}
@@ -18,7 +19,7 @@ use Rattle.node_core.specs.declared.answer.Answer.{Answer}
 use Rattle.node_core.specs.declared.ask.Ask.{Ask}
 use Rattle.cluster_laws.specs.Cluster.{Cluster, ComesUp, IsLeftBetween, IsRestart, Leads, Program, Stops, TakesStep, stops, takes_step, world}
 use Rattle.cluster_laws.specs.ClusterLaws.{BegunIsStart, InterruptedIsRestart, no_files, RestartsAreMoves, StepsAreMoves, StopsAreMoves}
-use Rattle.node_core.specs.Safely.{law_answer, law_ask}
+use Rattle.node_core.specs.Safely.{IsAskOf, law_answer}
 use Rattle.cluster_laws.proofs.Clusters.{came-up, step-turns}
 use Rattle.cluster_laws.proofs.Ledgers.{failing-here, failing-in, failing-other, finds-over, grows-split, grows-with}
 
@@ -75,25 +76,26 @@ module _ {M : Type 0} (p : Program M) where
   }
 
   -- a move that takes this step, with its calls
-  abbrev IsMove : (c : Cluster p) (k caller : ℕ) (ask : Ask) (answer : Answer) (new : M) → p.steps (c.nodes k) caller ask answer new → Type 0
-  IsMove c k caller ask answer new step =
+  abbrev IsMove : (c : Cluster p) (k caller : ℕ) (ask : Ask) (answer : Answer) (new : M) → p.steps (c.nodes k) caller ask answer new → (law : laws.Ask) → IsAskOf ask law → Type 0
+  IsMove c k caller ask answer new step law is =
       (d : Cluster p) × (d.nodes k ≡ new) × (taken : TakesStep p c k caller ask answer d)
-      × (calls_of (p.tells taken.step (c.disks k)).facts ≡ calls_of (p.tells step (c.disks k)).facts)
+      × (calls_of (p.tells taken.step (c.disks k) taken.law taken.is).facts ≡ calls_of (p.tells step (c.disks k) law is).facts)
 
   -- a step to the node that stands there, and so to any
   step-moves-there : (c : Cluster p) (k caller : ℕ) (ask : Ask) (answer : Answer) (new : M) (disk : IsTrue (p.honest new)) → IsSafe (world_of c) →
-      (step : p.steps (c.nodes k) caller ask answer (place k new c.nodes k)) → WasSent (world_of c) (p.seen (c.nodes k)).waits (law_ask ask) → IsMove c k caller ask answer (place k new c.nodes k) step
-  step-moves-there c k caller ask answer new disk safe step comes =
+      (step : p.steps (c.nodes k) caller ask answer (place k new c.nodes k)) (law : laws.Ask) (is : IsAskOf ask law) → WasSent (world_of c) (p.seen (c.nodes k)).waits law →
+      IsMove c k caller ask answer (place k new c.nodes k) step law is
+  step-moves-there c k caller ask answer new disk safe step law is comes =
       let w : World = world_of c in
-      let facts = (p.tells step (c.disks k)).facts in
+      let facts = (p.tells step (c.disks k) law is).facts in
       let all = grows-with w.tree (w.nodes k).store (safe.nodes k).allowed.named facts.makes in
       let grows = grows-split w.tree (w.nodes k).store facts.did (begun_by facts.failed) all.0 all.1 in
       let failing : ℕ → ℕ = failing-in k (failing_by (length w.granted) (w.failing k) facts.failed) w.failing in
       let v : World = record {
         nodes = w.nodes;
         tree = grows.0;
-        sent = w.sent ++ sent_by (law_ask ask) (law_answer answer);
-        accepted = w.accepted ++ accepted_by (law_ask ask) (law_answer answer);
+        sent = w.sent ++ sent_by law (law_answer answer);
+        accepted = w.accepted ++ accepted_by law (law_answer answer);
         granted = w.granted;
         holder = w.holder;
         acts = acts_along (length w.granted) k facts.did w.acts;
@@ -103,6 +105,8 @@ module _ {M : Type 0} (p : Program M) where
         refl,
         record {
           step = step;
+          law = law;
+          is = is;
           along = record {
             comes = comes;
             tree = grows.1;
@@ -115,13 +119,13 @@ module _ {M : Type 0} (p : Program M) where
           };
           others = λ other differs. place-other k new c.nodes other differs;
         },
-        refl {a = calls_of (p.tells step (c.disks k)).facts},
+        refl {a = calls_of (p.tells step (c.disks k) law is).facts},
       )
 
   pub steps-are-moves : ((old new : M) (caller : ℕ) (ask : Ask) (answer : Answer) → p.steps old caller ask answer new → p.honest new ≡ p.honest old) → StepsAreMoves p
-  steps-are-moves stays c k caller ask answer new safe step comes =
-      subst (λ (n : M). (taken : p.steps (c.nodes k) caller ask answer n) → IsMove c k caller ask answer n taken)
-      (place-here k new c.nodes) (λ taken. step-moves-there c k caller ask answer new (stays (c.nodes k) new caller ask answer step ∙ c.disks k) safe taken comes) step
+  steps-are-moves stays c k caller ask answer new safe step law is comes =
+      subst (λ (n : M). (taken : p.steps (c.nodes k) caller ask answer n) → IsMove c k caller ask answer n taken law is)
+      (place-here k new c.nodes) (λ taken. step-moves-there c k caller ask answer new (stays (c.nodes k) new caller ask answer step ∙ c.disks k) safe taken law is comes) step
 
   after-finds : (c : Cluster p) (w : World) (k : ℕ) (new : M) (disk : IsTrue (p.honest new)) (left : StoreState) (v : World) → FindsAlong w k left v → FindsAlong w k left (world_of (after c k new disk v))
   after-finds c w k new disk left v along = record {
@@ -159,7 +163,7 @@ module _ {M : Type 0} (p : Program M) where
         (x : TakesStep p c k caller ask answer e) (folder : Folder) (left : IsLeftBetween p (c.nodes k) (e.nodes k) folder)
         (new : M) (disk : IsTrue (p.honest new)) (up : ComesUp (p.seen new) folder) (found : StoreState) (stands : Durable folder found) where
       abbrev IsStopped : Type 0
-      IsStopped = (d : Cluster p) × (d.nodes k ≡ new) × (stopped : Stops p c k x.step d) × (Leads p (takes_step x) → Leads p (stops stopped))
+      IsStopped = (d : Cluster p) × (d.nodes k ≡ new) × (stopped : Stops p c k x.step x.law x.is d) × (Leads p (takes_step x) → Leads p (stops stopped))
 
       -- found as it could be before the step
       stop-before : MayBeFound (p.seen (c.nodes k)).store (p.seen (c.nodes k)).failed found → IsStopped
@@ -178,9 +182,9 @@ module _ {M : Type 0} (p : Program M) where
           )
 
       -- found as it is in the midst of the step
-      stop-within : (p.seen (c.nodes k)).failed ≡ None → IsCut (p.seen (c.nodes k)).store (calls_of (p.tells x.step (c.disks k)).facts) found → IsStopped
+      stop-within : (p.seen (c.nodes k)).failed ≡ None → IsCut (p.seen (c.nodes k)).store (calls_of (p.tells x.step (c.disks k) x.law x.is).facts) found → IsStopped
       stop-within whole cut =
-          let stop = cut-off (world_of c) (world_of e) k (law_ask ask) (law_answer answer) found safe one (step-turns p c e k caller ask answer x) whole cut in (
+          let stop = cut-off (world_of c) (world_of e) k x.law (law_answer answer) found safe one (step-turns p c e k caller ask answer x) whole cut in (
             after c k new disk stop.last,
             place-here k new c.nodes,
             record {
@@ -202,16 +206,16 @@ module _ {M : Type 0} (p : Program M) where
             stop.leads,
           )
 
-      stop-found : StopsAreCuts → (failed : Option Failure) → (p.seen (c.nodes k)).failed ≡ failed → MayFind (p.seen (c.nodes k)).store failed (calls_of (p.tells x.step (c.disks k)).facts) found → IsStopped
+      stop-found : StopsAreCuts → (failed : Option Failure) → (p.seen (c.nodes k)).failed ≡ failed → MayFind (p.seen (c.nodes k)).store failed (calls_of (p.tells x.step (c.disks k) x.law x.is).facts) found → IsStopped
       stop-found cuts (Some failure) is finds = stop-before (subst (λ (f : Option Failure). MayBeFound (p.seen (c.nodes k)).store f found) (sym is) finds)
-      stop-found cuts None is finds = elim (cuts (p.seen (c.nodes k)).store found (calls_of (p.tells x.step (c.disks k)).facts) finds) [
+      stop-found cuts None is finds = elim (cuts (p.seen (c.nodes k)).store found (calls_of (p.tells x.step (c.disks k) x.law x.is).facts) finds) [
         | inl nothing ↦ stop-before (subst (λ (f : Option Failure). MayBeFound (p.seen (c.nodes k)).store f found) (sym is) nothing.1)
         | inr cut ↦ stop-within is cut
       ]
 
     pub stops-are-moves : StopsAreCuts → StopsAreMoves p
     stops-are-moves cuts c e k caller ask answer safe one x folder left new starts =
-        ∥∥₁_map ((p.tells x.step (c.disks k)).moments left.moment folder left.early left.late left.leaves) (λ f.
+        ∥∥₁_map ((p.tells x.step (c.disks k) x.law x.is).moments left.moment folder left.early left.late left.leaves) (λ f.
         stop-found c e k caller ask answer safe one x folder left new starts.disk starts.up f.0 f.2 cuts (p.seen (c.nodes k)).failed refl f.1)
 
   pub interrupted-is-restart : InterruptedIsRestart p

@@ -4,6 +4,7 @@ use Rattle.lf_disk.specs.Folder.{Folder}
 use Rattle.world_laws.specs.Events as events
 use Rattle.world_laws.specs.Events.{Event, Grants, Loses, Opens, Renews, Reopens, Steps, Turns}
 use Rattle.world_laws.specs.Ledger.{FindsAlong}
+use Rattle.world_laws.specs.Node as laws
 use Rattle.world_laws.specs.Node.{NodeState}
 use Rattle.world_laws.specs.Premises.{CommitsAsHolder}
 use Rattle.world_laws.specs.SafetyLaw.{LedKept, SafeKept}
@@ -15,7 +16,7 @@ use Rattle.node_core.specs.declared.answer.Answer.{Answer}
 use Rattle.node_core.specs.declared.ask.Ask.{Ask}
 use Rattle.cluster_laws.specs.Cluster.{AreLed, Cluster, ComesUp, IsOpenedOn, IsRestart, Leads, Move, Moves, Program, Stops, TakesStep, again, begun_in, grants, loses, more, none, opens, renews, restarts, stops, takes_step, world}
 use Rattle.cluster_laws.specs.ClusterLaws.{ClusterIsKept, ClusterIsLed, MovesAreEvents}
-use Rattle.node_core.specs.Safely.{law_answer, law_ask}
+use Rattle.node_core.specs.Safely.{IsAskOf, law_answer}
 
 pub runs-append : {w v u : World} {first then : List Event} → events.Runs w first v → events.Runs v then u → events.Runs w (first ++ then) u
 runs-append events.ends rest = rest
@@ -41,9 +42,9 @@ module _ {M : Type 0} (p : Program M) where
 
   -- a step
   abbrev pub step-turns : (c d : Cluster p) (k caller : ℕ) (ask : Ask) (answer : Answer) → (x : TakesStep p c k caller ask answer d) →
-      Turns (world_of c) k (law_ask ask) (law_answer answer) (world_of d)
+      Turns (world_of c) k x.law (law_answer answer) (world_of d)
   step-turns c d k caller ask answer x = record {
-    facts = (p.tells x.step (c.disks k)).facts;
+    facts = (p.tells x.step (c.disks k) x.law x.is).facts;
     along = x.along;
     others = λ other differs. ap p.seen (x.others other differs);
   }
@@ -58,26 +59,26 @@ module _ {M : Type 0} (p : Program M) where
   }
 
   -- a stop
-  stop-runs : (c d : Cluster p) (k caller : ℕ) (ask : Ask) (answer : Answer) (new : M) (step : p.steps (c.nodes k) caller ask answer new) → (x : Stops p c k step d) →
-      (ledger : FindsAlong (world_of c) k x.found (world_of d) ⊎ IsCutOff (world_of c) k (law_ask ask) (calls_of (p.tells step (c.disks k)).facts) x.found (world_of d)) →
+  stop-runs : (c d : Cluster p) (k caller : ℕ) (ask : Ask) (answer : Answer) (new : M) (step : p.steps (c.nodes k) caller ask answer new) (law : laws.Ask) (is : IsAskOf ask law) → (x : Stops p c k step law is d) →
+      (ledger : FindsAlong (world_of c) k x.found (world_of d) ⊎ IsCutOff (world_of c) k law (calls_of (p.tells step (c.disks k) law is).facts) x.found (world_of d)) →
       RunsSo (world_of c) (world_of d) (CommitsAsHolder (world_of c) k (begun_in ledger))
-  stop-runs c d k caller ask answer new step x (inl before) =
+  stop-runs c d k caller ask answer new step law is x (inl before) =
       (Opens k x.found ∷ [], events.goes {v = world_of d} (restart-opens c d k x.folder x.found x.restart before) events.ends, λ leads. (tt, tt))
-  stop-runs c d k caller ask answer new step x (inr cut) =
+  stop-runs c d k caller ask answer new step law is x (inr cut) =
       let reopens : Reopens cut.mid k x.found (world_of d) = record {
         opened = came-up x.restart.up x.found x.restart.stands;
         along = cut.finds;
         others = λ other differs. ap p.seen (x.restart.others other differs) ∙ sym (cut.fails.others other differs);
       } in (
-        Steps k (law_ask ask) cut.answer ∷ Opens k x.found ∷ [],
+        Steps k law cut.answer ∷ Opens k x.found ∷ [],
         events.goes {v = cut.mid} cut.fails (events.goes {v = world_of d} reopens events.ends),
         λ leads. (leads, (tt, tt)),
       )
 
   move-runs : (c d : Cluster p) → (move : Move p c d) → RunsSo (world_of c) (world_of d) (Leads p move)
   move-runs c d (takes_step {k = k} {caller = caller} {ask = ask} {answer = answer} x) =
-      (Steps k (law_ask ask) (law_answer answer) ∷ [], events.goes {v = world_of d} (step-turns c d k caller ask answer x) events.ends, λ leads. (leads, tt))
-  move-runs c d (stops {k = k} {caller = caller} {ask = ask} {answer = answer} {new = new} {step = step} x) = stop-runs c d k caller ask answer new step x x.ledger
+      (Steps k x.law (law_answer answer) ∷ [], events.goes {v = world_of d} (step-turns c d k caller ask answer x) events.ends, λ leads. (leads, tt))
+  move-runs c d (stops {k = k} {caller = caller} {ask = ask} {answer = answer} {new = new} {step = step} {law = law} {is = is} x) = stop-runs c d k caller ask answer new step law is x x.ledger
   move-runs c d (restarts {k = k} x) = (Opens k x.found ∷ [], events.goes {v = world_of d} (restart-opens c d k x.folder x.found x.restart x.ledger) events.ends, λ leads. (tt, tt))
   move-runs c d (grants k x) = (Grants k ∷ [], events.goes {v = world_of d} x.ledger events.ends, λ leads. (tt, tt))
   move-runs c d (renews x) = (Renews ∷ [], events.goes {v = world_of d} x.ledger events.ends, λ leads. (tt, tt))

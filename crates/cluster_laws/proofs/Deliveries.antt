@@ -11,7 +11,6 @@ use Rattle.world_laws.specs.Node.{IsSoundNode}
 use Rattle.world_laws.specs.ReaderLaw.{ReadRuns, ReaderSteady, reads}
 use Rattle.world_laws.specs.ReaderLaw as reader
 use Rattle.world_laws.specs.Served.{over}
-use Rattle.world_laws.specs.Step.{StepFacts}
 use Rattle.world_laws.specs.World.{World}
 use Rattle.node_core.specs.declared.answer.Answer.{Answer}
 use Rattle.node_core.specs.declared.ask.Ask.{Ask}
@@ -19,6 +18,7 @@ use Rattle.cluster_laws.specs.Bytes.{GivesBytes}
 use Rattle.cluster_laws.specs.Cluster.{Cluster, Program, world}
 use Rattle.cluster_laws.specs.ClusterLaws.{DeliveredDropInstalls, DeliveredFileApplies, DeliveredSnapshotInstalls, Delivers, EachReadGives, ReaderIsSteady, ReadsOn, StepAnswersByWhole, goes_on, rests}
 use Rattle.node_core.specs.Safely.{law_answer}
+use Rattle.node_core.proofs.Deciding.{each-is-an-ask}
 use Rattle.cluster_laws.proofs.Clusters.{step-turns}
 
 waits-or : {A B C : Type 0} → A ⊎ B ⊎ C → (A ⊎ C) ⊎ B
@@ -34,7 +34,8 @@ module _ {M : Type 0} (p : Program M) where
     reads-run : {owner : Owner} {old new : M} → IsTrue (p.honest old) → ReadsOn p owner old new → ReadRuns owner (p.seen old) (p.seen new)
     reads-run disk (rests is) = reads is
     reads-run disk (goes_on {n = n} {m = m} {caller = caller} {ask = ask} {answer = answer} is step rest) =
-        reader.steps is (p.tells step disk).facts (reads-run (stays n m caller ask answer step ∙ disk) rest)
+        let one = each-is-an-ask ask in
+        reader.steps is (p.tells step disk one.0 one.1).facts (reads-run (stays n m caller ask answer step ∙ disk) rest)
 
     module _ (sound : (n : M) → IsTrue (p.honest n) → IsSoundNode (p.seen n)) (law : ReaderSteady)
         (gives : (old new : M) (caller : ℕ) (ask : Ask) (answer : Answer) → IsTrue (p.honest old) → (p.seen old).role ≡ laws.Replica → p.steps old caller ask answer new → GivesBytes (image_bytes (p.seen old).served.file) ask answer) where
@@ -63,7 +64,7 @@ module _ {M : Type 0} (p : Program M) where
 
   pub step-answers-by-whole : AnswersByWhole → StepAnswersByWhole p
   step-answers-by-whole law old new caller ask answer position last asks disk step role lacks =
-      law (p.seen old) (p.seen new) position last (law_answer answer) (subst (λ (a : laws.Ask). StepFacts (p.seen old) a (law_answer answer) (p.seen new)) asks (p.tells step disk).facts) role lacks
+      law (p.seen old) (p.seen new) position last (law_answer answer) (p.tells step disk (laws.Hello position last) asks).facts role lacks
 
   -- a delivery is a step of the laws
   delivered : {c d : Cluster p} {k : ℕ} {frame : laws.Ask} {answer : Answer} → Delivers p c k frame answer d → Turns (world_of c) k frame (law_answer answer) (world_of d)

@@ -19,7 +19,7 @@ use Rattle.world_laws.specs.World.{World}
 use Rattle.node_core.specs.declared.answer.Answer.{Answer}
 use Rattle.node_core.specs.declared.ask.Ask.{Ask}
 use Rattle.node_core.specs.declared.ask.Ask.TheVariants as ask
-use Rattle.node_core.specs.Safely.{law_ask}
+use Rattle.node_core.specs.Safely.{IsAskOf}
 use Rattle.node_core.specs.Steps.{moment_by}
 use Rattle.cluster_laws.specs.Cluster.{AreLed, Cluster, Leads, Move, Moves, Program, begun_in, world}
 use Rattle.cluster_laws.specs.Cluster as cluster
@@ -72,21 +72,21 @@ module _ {M : Type 0} {p : Program M} (h : Leasing p) (owner : ℕ → ℕ) (clo
       reached.follows ∙ ap (λ (o : Option Grant). option_map (λ g. owner g.node) o) held.1 ∙ ap (λ (n : ℕ). Some (owner n)) held.2 ∙ ap (λ (n : ℕ). Some n) (l.owned k)
 
   -- what node k commits in a step, it commits as the holder
-  step-holds : (l : L) (k caller : ℕ) (a : Ask) (answer : Answer) (new : M) → IsReached l → (step : p.steps (l.cluster.nodes k) caller a answer new) → (calls : List StoreCall) →
-      ((file : Ltx) → Contains calls (Commit file) → Contains (calls_of (p.tells step (l.cluster.disks k)).facts) (Commit file)) →
+  step-holds : (l : L) (k caller : ℕ) (a : Ask) (answer : Answer) (new : M) → IsReached l → (step : p.steps (l.cluster.nodes k) caller a answer new) (law : laws.Ask) (of : IsAskOf a law) → (calls : List StoreCall) →
+      ((file : Ltx) → Contains calls (Commit file) → Contains (calls_of (p.tells step (l.cluster.disks k) law of).facts) (Commit file)) →
       CommitsInTime h owner clocks l k a calls → CommitsAsHolder (world p l.cluster) k calls
-  step-holds l k caller a answer new reached step calls among in_time = as-holder-of (world p l.cluster) k calls (λ file here.
-      let primary = commit-primary (p.tells step (l.cluster.disks k)).facts.makes file (among file here) in
-      holds-at l k a reached (primary-may (h.parts (l.cluster.nodes k)) a (sym (h.role step (l.cluster.disks k)) ∙ primary)) (in_time file here))
+  step-holds l k caller a answer new reached step law of calls among in_time = as-holder-of (world p l.cluster) k calls (λ file here.
+      let primary = commit-primary (p.tells step (l.cluster.disks k) law of).facts.makes file (among file here) in
+      holds-at l k a reached (primary-may (h.parts (l.cluster.nodes k)) a (sym (h.role step (l.cluster.disks k) law of) ∙ primary)) (in_time file here))
 
   -- of a stop: nothing, or the calls of a step up to the one that failed
-  stop-holds : (l m : L) (k caller : ℕ) (a : Ask) (answer : Answer) (new : M) (found : StoreState) → IsReached l → (step : p.steps (l.cluster.nodes k) caller a answer new) →
+  stop-holds : (l m : L) (k caller : ℕ) (a : Ask) (answer : Answer) (new : M) (found : StoreState) → IsReached l → (step : p.steps (l.cluster.nodes k) caller a answer new) (law : laws.Ask) (of : IsAskOf a law) →
       (ledger : FindsAlong (world p l.cluster) k found (world p m.cluster)
-      ⊎ IsCutOff (world p l.cluster) k (law_ask a) (calls_of (p.tells step (l.cluster.disks k)).facts) found (world p m.cluster)) →
+      ⊎ IsCutOff (world p l.cluster) k law (calls_of (p.tells step (l.cluster.disks k) law of).facts) found (world p m.cluster)) →
       CommitsInTime h owner clocks l k a (begun_in ledger) → CommitsAsHolder (world p l.cluster) k (begun_in ledger)
-  stop-holds l m k caller a answer new found reached step (inl before) in_time = tt
-  stop-holds l m k caller a answer new found reached step (inr cut) in_time =
-      step-holds l k caller a answer new reached step (calls_of cut.fails.facts) (cut-among (calls_of (p.tells step (l.cluster.disks k)).facts) cut) in_time
+  stop-holds l m k caller a answer new found reached step law of (inl before) in_time = tt
+  stop-holds l m k caller a answer new found reached step law of (inr cut) in_time =
+      step-holds l k caller a answer new reached step law of (calls_of cut.fails.facts) (cut-among (calls_of (p.tells step (l.cluster.disks k) law of).facts) cut) in_time
 
   -- and the lease stays
   stop-stays : (c d : Cluster p) (k : ℕ) (a : laws.Ask) (calls : List StoreCall) (found : StoreState) → FindsAlong (world p c) k found (world p d) ⊎ IsCutOff (world p c) k a calls found (world p d) → d.holder ≡ c.holder
@@ -112,13 +112,13 @@ module _ {M : Type 0} {p : Program M} (h : Leasing p) (owner : ℕ → ℕ) (clo
   move-goes : (l m : L) → IsReached l → LeasedMove h owner clocks l m → Goes l m
   move-goes l m reached (takes_step {k = k} {caller = caller} {ask = a} {answer = answer} x) = (
     cluster.takes_step x.takes,
-    step-holds l k caller a answer (m.cluster.nodes k) reached x.takes.step (calls_of (p.tells x.takes.step (l.cluster.disks k)).facts) (λ file here. here) x.in_time,
+    step-holds l k caller a answer (m.cluster.nodes k) reached x.takes.step x.takes.law x.takes.is (calls_of (p.tells x.takes.step (l.cluster.disks k) x.takes.law x.takes.is).facts) (λ file here. here) x.in_time,
     still l m reached x.takes.along.lease.1 x.rest.service (step-runs h owner clocks l m k caller a answer x),
   )
-  move-goes l m reached (stops {k = k} {caller = caller} {ask = a} {answer = answer} {new = new} {step = step} x) = (
+  move-goes l m reached (stops {k = k} {caller = caller} {ask = a} {answer = answer} {new = new} {step = step} {law = law} {is = of} x) = (
     cluster.stops x.stops,
-    stop-holds l m k caller a answer new x.stops.found reached step x.stops.ledger x.in_time,
-    still l m reached (stop-stays l.cluster m.cluster k (law_ask a) (calls_of (p.tells step (l.cluster.disks k)).facts) x.stops.found x.stops.ledger) x.anew.rest.service (opening-runs h owner clocks l m k x.anew x.stops.restart.others),
+    stop-holds l m k caller a answer new x.stops.found reached step law of x.stops.ledger x.in_time,
+    still l m reached (stop-stays l.cluster m.cluster k law (calls_of (p.tells step (l.cluster.disks k) law of).facts) x.stops.found x.stops.ledger) x.anew.rest.service (opening-runs h owner clocks l m k x.anew x.stops.restart.others),
   )
   move-goes l m reached (restarts {k = k} x) = (
     cluster.restarts x.restarts,

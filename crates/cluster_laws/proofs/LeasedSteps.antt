@@ -9,12 +9,12 @@ use Rattle.lease_core.specs.declared.grant.Grant.{Grant}
 use Rattle.lease_core.specs.LeaseRun.{Clocks, Happens}
 use Rattle.lease_core.specs.Leases.{Leases, live_grant}
 use Rattle.world_laws.specs.Ledger.{FindsAlong}
+use Rattle.world_laws.specs.Node as laws
 use Rattle.world_laws.specs.Step.{calls_of}
 use Rattle.world_laws.specs.StopLaw.{IsCutOff}
 use Rattle.world_laws.specs.Store.{Commit, StoreCall, StoreState}
 use Rattle.world_laws.specs.World.{World}
 use Rattle.node_core.specs.declared.ask.Ask.{Ask}
-use Rattle.node_core.specs.Safely.{law_ask}
 use Rattle.cluster_laws.specs.Cluster.{Cluster, Program, begun_in, world}
 use Rattle.cluster_laws.specs.Cluster as cluster
 use Rattle.cluster_laws.specs.ClusterLaws.{RestartsAreMoves, StepsAreMoves, StopsAreMoves}
@@ -34,7 +34,7 @@ owned-anew owner numbers k number own owned j = by (eqb_tells j k)
 module _ {M : Type 0} {p : Program M} (h : Leasing p) where
   pub steps-are-leased-moves : StepsAreMoves p → StepsAreLeasedMoves h
   steps-are-leased-moves steps owner clocks l k caller a answer new safe step fair =
-      let moved = steps l.cluster k caller a answer new safe step fair.comes in
+      let moved = steps l.cluster k caller a answer new safe step fair.law fair.is fair.comes in
       let n : ℕ = l.numbers k in
       let next : Option ℕ = reply_by a (l.replies n) in (
         record { cluster = moved.0; service = l.service; numbers = l.numbers; owned = l.owned; replies = place n next l.replies },
@@ -50,11 +50,11 @@ module _ {M : Type 0} {p : Program M} (h : Leasing p) where
       )
 
   -- what was committed of a step that was cut off was committed in time, where all of it would have been
-  in-time-cut : (owner : ℕ → ℕ) (clocks : Clocks) (l : Leased p owner) (k : ℕ) (a : Ask) (calls : List StoreCall) (found : StoreState) (v : World) →
-      (ledger : FindsAlong (world p l.cluster) k found v ⊎ IsCutOff (world p l.cluster) k (law_ask a) calls found v) →
+  in-time-cut : (owner : ℕ → ℕ) (clocks : Clocks) (l : Leased p owner) (k : ℕ) (a : Ask) (law : laws.Ask) (calls : List StoreCall) (found : StoreState) (v : World) →
+      (ledger : FindsAlong (world p l.cluster) k found v ⊎ IsCutOff (world p l.cluster) k law calls found v) →
       CommitsInTime h owner clocks l k a calls → CommitsInTime h owner clocks l k a (begun_in ledger)
-  in-time-cut owner clocks l k a calls found v (inl before) in_time file here = absurd (omega (arith, here.1))
-  in-time-cut owner clocks l k a calls found v (inr cut) in_time file here = in_time file (cut-among calls cut file here)
+  in-time-cut owner clocks l k a law calls found v (inl before) in_time file here = absurd (omega (arith, here.1))
+  in-time-cut owner clocks l k a law calls found v (inr cut) in_time file here = in_time file (cut-among calls cut file here)
 
   -- the cluster once node k was opened anew
   abbrev anew : (owner : ℕ → ℕ) (l : Leased p owner) (k number : ℕ) → owner number ≡ k → Cluster p → Leased p owner
@@ -82,7 +82,7 @@ module _ {M : Type 0} {p : Program M} (h : Leasing p) where
         place-here k number l.numbers,
         record {
           stops = r.2;
-          in_time = in-time-cut owner clocks l k a (calls_of (p.tells x.takes.step (l.cluster.disks k)).facts) r.2.found (world p r.0) r.2.ledger x.in_time;
+          in_time = in-time-cut owner clocks l k a x.takes.law (calls_of (p.tells x.takes.step (l.cluster.disks k) x.takes.law x.takes.is).facts) r.2.found (world p r.0) r.2.ledger x.in_time;
           anew = is-anew owner clocks l k folder new number starts r.0 r.1;
         },
       ))

@@ -49,8 +49,8 @@ module _ {M : Type 0} (p : Program M) where
 
   -- what happens next is a move
   occurs : StepsAreMoves p → StopsAreMoves p → RestartsAreMoves p → (c : Cluster p) → IsSafe (world p c) → (next : Occurs p c) → ∥ ((d : Cluster p) × LeadsTo p c next d × Move p c d) ∥₁
-  occurs step stop restart c safe (steps k caller ask answer new taken sent) =
-      let r = step c k caller ask answer new safe taken sent in
+  occurs step stop restart c safe (steps k caller ask answer new taken law is sent) =
+      let r = step c k caller ask answer new safe taken law is sent in
       ∣ (r.0, (r.1, r.2), cluster.takes_step r.2) ∣₁
   occurs step stop restart c safe (stops k caller ask answer done taken one folder left new starts) =
       ∥∥₁_map (stop c done k caller ask answer safe one taken folder left new starts) (λ r. (r.0, (r.1, r.2), cluster.stops r.2))

@@ -3,7 +3,6 @@ use Rattle.std.proofs.Common.{◌≡◌, inl, inr, ℕ, ◌+◌, ◌<◌, ◌^�
 use Rattle.std.specs.Prelude.{Contains}
 use Rattle.std.specs.List.{AllByRecursion}
 use Rattle.std.specs.Io.KnownBytes.{Appends}
-use Rattle.std.proofs.lemmas.List.{get_or_append_left, get_or-append-add}
 use Rattle.lf_base.specs.Name.{IsName}
 use Rattle.lf_base.specs.declared.pos.Pos.{Pos}
 use Rattle.ltx_codec.specs.declared.file.Ltx.{Ltx}
@@ -16,44 +15,41 @@ use Rattle.world_laws.specs.World.{DropFrame, FileFrame, SentFrame, World, sent_
 use Rattle.node_core.specs.declared.answer.Answer.{Answer}
 use Rattle.node_core.specs.declared.answer.Answer.TheVariants as answer
 use Rattle.node_core.specs.declared.ask.Ask.{Ask}
-use Rattle.node_core.specs.Deciding.{Decided, is_encoding}
+use Rattle.node_core.proofs.Deciding.{Decided, is_encoding}
 use Rattle.node_core.specs.Moments.{ask_at}
-use Rattle.node_core.specs.Safely.{law_answer, law_ask, law_frame_by}
+use Rattle.node_core.specs.Safely.{IsAskOf, IsFrameOf, law_answer}
 use Rattle.stream_primary.specs.Streaming.{NodeEntry}
 use Rattle.stream_primary.specs.Telling.{file_of}
 use Rattle.stream_primary.proofs.OneRun.{told_front}
-use Rattle.cluster_laws.specs.StreamLaw.{AreShort, AsksInOrder, FollowersAskWhatWasSent, HasSent, IsHelloAsk, WereSent, again, asks_of, next, no_more, sent_asks, sent_frames}
+use Rattle.cluster_laws.specs.StreamLaw.{AreShort, AsksInOrder, FollowersAskWhatWasSent, HasSent, IsHelloAsk, WereSent, again, asks_of, next, no_more, sent_asks}
 use Rattle.cluster_laws.proofs.Followed.{follower_asked}
 use Rattle.cluster_laws.proofs.Sent.{is_written}
 
--- ---- elements of two lists
-
-in_front : {X : Type 0} (front back : List X) (x : X) → Contains front x → Contains (front ++ back) x
-in_front front back x c = (c.0, omega (arith, c.1, length-append front back), get_or_append_left front back x c.0 c.1 ∙ c.2)
-
-in_back : {X : Type 0} (front back : List X) (x : X) → Contains back x → Contains (front ++ back) x
-in_back front back x c = (length front + c.0, omega (arith, c.1, length-append front back), get_or-append-add front back c.0 x ∙ c.2)
-
 -- ---- what was sent, in the ledger
 
--- an ask is of what was sent, at whatever moment
+-- an ask is of what was sent, as an ask of the laws
+abbrev WasSentAs : World → Option Ltx → Ask → Type 0
+WasSentAs w waits asked = (law : laws.Ask) × IsAskOf asked law × WasSent w waits law
+
+-- and is so at whatever moment
 abbrev IsSentAsk : World → Option Ltx → Ask → Type 0
-IsSentAsk w waits one = (now : ℕ) → WasSent w waits (law_ask (ask_at now one))
+IsSentAsk w waits one = (now : ℕ) → WasSentAs w waits (ask_at now one)
 
 in_order_sent : (w : World) (waits : Option Ltx) {asks : List Ask} {entries : List NodeEntry} → AsksInOrder asks entries → AllByRecursion (IsSentAsk w waits) asks → WereSent w waits entries
 in_order_sent w waits no_more all = tt
-in_order_sent w waits (again now is held rest) all = (subst (λ (q : Ask). WasSent w waits (law_ask q)) (sym is) (all.0 now), in_order_sent w waits rest all)
-in_order_sent w waits (next now is rest) all = (subst (λ (q : Ask). WasSent w waits (law_ask q)) (sym is) (all.0 now), in_order_sent w waits rest all.1)
+in_order_sent w waits (again now is held rest) all = (subst (WasSentAs w waits) (sym is) (all.0 now), in_order_sent w waits rest all)
+in_order_sent w waits (next now is rest) all = (subst (WasSentAs w waits) (sym is) (all.0 now), in_order_sent w waits rest all.1)
 
-frame_sent : (w : World) (waits : Option Ltx) (bytes : List ℕ) (decided : Decided (IsLtx bytes (file_in bytes))) → Contains w.sent (FileFrame (file_in bytes)) → WasSent w waits (law_frame_by bytes decided)
-frame_sent w waits bytes (inl is) sent = sent
-frame_sent w waits bytes (inr none) sent = tt
+-- bytes of which the file that is read in them was sent are such a file, or none
+frame_sent : (w : World) (waits : Option Ltx) (bytes : List ℕ) → Contains w.sent (FileFrame (file_in bytes)) → Decided (IsLtx bytes (file_in bytes)) → (law : laws.Ask) × IsFrameOf bytes law × WasSent w waits law
+frame_sent w waits bytes sent (inl is) = (laws.Frame (file_in bytes), is, sent)
+frame_sent w waits bytes sent (inr none) = (laws.NoFile, none, tt)
 
 -- what a Hello's answer sends
 one_sent : (w : World) (waits : Option Ltx) (pos : Pos) (last : Option LastFile) (given : Answer) → ((frame : SentFrame) → Contains (sent_by (laws.Hello pos last) (law_answer given)) frame → Contains w.sent frame)
     → AllByRecursion (IsSentAsk w waits) (asks_of given)
-one_sent w waits pos last (answer.Item ltx after) has = (λ now. frame_sent w waits ltx (is_encoding ltx) (has (FileFrame (file_in ltx)) (0, omega arith, refl)), tt)
-one_sent w waits pos last answer.Gone has = (λ now. has DropFrame (0, omega arith, refl), tt)
+one_sent w waits pos last (answer.Item ltx after) has = (λ now. frame_sent w waits ltx (has (FileFrame (file_in ltx)) (0, omega arith, refl)) (is_encoding ltx), tt)
+one_sent w waits pos last answer.Gone has = (λ now. (laws.Drop, refl, has DropFrame (0, omega arith, refl)), tt)
 one_sent w waits pos last given has = tt
 
 pub joined : {T : Type 0} (P : T → Type 0) (front back : List T) → AllByRecursion P front → AllByRecursion P back → AllByRecursion P (front ++ back)
@@ -67,12 +63,9 @@ second P (x ∷ front) back all = second P front back all.1
 all_sent : (w : World) (waits : Option Ltx) (hellos : List NodeEntry) → AllByRecursion IsHelloAsk hellos → HasSent w hellos → AllByRecursion (IsSentAsk w waits) (sent_asks hellos)
 all_sent w waits [] each has = tt
 all_sent w waits (one ∷ more) each has =
-    let first : List SentFrame = sent_by (law_ask one.ask) (law_answer one.answer) in
-    let as_hello : law_ask one.ask ≡ laws.Hello each.0.1 each.0.2 = ap law_ask each.0.3 in
-    joined (IsSentAsk w waits) (asks_of one.answer) (sent_asks more)
-    (one_sent w waits each.0.1 each.0.2 one.answer
-    (λ frame c. has frame (in_front first (sent_frames more) frame (subst (λ (q : laws.Ask). Contains (sent_by q (law_answer one.answer)) frame) (sym as_hello) c))))
-    (all_sent w waits more each.1 (λ frame c. has frame (in_back first (sent_frames more) frame c)))
+    let hello : laws.Ask = laws.Hello each.0.1 each.0.2 in
+    let as_hello : IsAskOf one.ask hello = subst (λ (a : Ask). IsAskOf a hello) (sym each.0.3) refl in
+    joined (IsSentAsk w waits) (asks_of one.answer) (sent_asks more) (one_sent w waits each.0.1 each.0.2 one.answer (has.0 hello as_hello)) (all_sent w waits more each.1 has.1)
 
 -- ---- the law
 

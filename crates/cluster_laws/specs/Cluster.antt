@@ -21,17 +21,17 @@ use Rattle.world_laws.specs.Store.{StoreCall, StoreState}
 use Rattle.world_laws.specs.World.{Act, SentFrame, World}
 use Rattle.node_core.specs.declared.answer.Answer.{Answer}
 use Rattle.node_core.specs.declared.ask.Ask.{Ask}
-use Rattle.node_core.specs.Safely.{StepsSafely, law_answer, law_ask}
+use Rattle.node_core.specs.Safely.{IsAskOf, StepsSafely, law_answer}
 
 -- THE PROGRAM that the nodes of a cluster run: its steps; whether a node's disk is honest, how the cluster sees the node, and the
--- history of its disk; and what each of its steps tells
+-- history of its disk; and what each of its steps tells, as each ask of the laws that its ask is
 pub record Program (M : Type 0) : Type 1 where
   pub steps : M → ℕ → Ask → Answer → M → Type 0
   pub honest : M → Bool
   pub seen : M → NodeState
   pub history : M → History
   pub tells : {old new : M} {caller : ℕ} {ask : Ask} {answer : Answer} → steps old caller ask answer new → IsTrue (honest old) →
-      StepsSafely (seen old) (law_ask ask) (law_answer answer) (seen new) (history old) (history new)
+      (law : laws.Ask) → IsAskOf ask law → StepsSafely (seen old) law (law_answer answer) (seen new) (history old) (history new)
 
 -- the calls of its step that a stop had come to
 abbrev pub begun_in : {w v : World} {k : ℕ} {ask : laws.Ask} {calls : List StoreCall} {found : StoreState} → FindsAlong w k found v ⊎ IsCutOff w k ask calls found v → List StoreCall
@@ -83,11 +83,13 @@ module _ {M : Type 0} (p : Program M) where
   abbrev pub OthersAre : ℕ → Cluster p → Cluster p → Type 0
   OthersAre k c d = (other : ℕ) → other ≢ k → d.nodes other ≡ c.nodes other
 
-  -- node k takes a step, and the ledger goes along with the calls that this step tells and with its answer. A delivery is a step
-  -- that asks for a frame, and a loss is one that never comes
+  -- node k takes a step of an ask that is this one of the laws, and the ledger goes along with the calls that this step tells and with
+  -- its answer. A delivery is a step that asks for a frame, and a loss is one that never comes
   pub record TakesStep (c : Cluster p) (k caller : ℕ) (ask : Ask) (answer : Answer) (d : Cluster p) : Type 0 where
     pub step : p.steps (c.nodes k) caller ask answer (d.nodes k)
-    pub along : GoesAlong (world c) k (law_ask ask) (law_answer answer) (p.tells step (c.disks k)).facts.did (p.tells step (c.disks k)).facts.failed (world d)
+    pub law : laws.Ask
+    pub is : IsAskOf ask law
+    pub along : GoesAlong (world c) k law (law_answer answer) (p.tells step (c.disks k) law is).facts.did (p.tells step (c.disks k) law is).facts.failed (world d)
     pub others : OthersAre k c d
 
   -- node k comes up anew on this folder, which stands for this store
@@ -110,13 +112,13 @@ module _ {M : Type 0} (p : Program M) where
 
   -- node k is stopped in the midst of this step, and opened anew: on what could be found before the step, or on what was done of it
   pub record Stops (c : Cluster p) (k : ℕ) {caller : ℕ} {ask : Ask} {answer : Answer} {new : M}
-      (step : p.steps (c.nodes k) caller ask answer new) (d : Cluster p) : Type 0 where
+      (step : p.steps (c.nodes k) caller ask answer new) (law : laws.Ask) (is : IsAskOf ask law) (d : Cluster p) : Type 0 where
     pub folder : Folder
     pub left : IsLeftBetween (c.nodes k) new folder
     pub found : StoreState
     pub restart : IsRestart c k folder found d
     pub ledger : FindsAlong (world c) k found (world d)
-        ⊎ IsCutOff (world c) k (law_ask ask) (calls_of (p.tells step (c.disks k)).facts) found (world d)
+        ⊎ IsCutOff (world c) k law (calls_of (p.tells step (c.disks k) law is).facts) found (world d)
 
   -- node k is stopped between two steps, and opened anew
   pub record Restarts (c : Cluster p) (k : ℕ) (d : Cluster p) : Type 0 where
@@ -134,8 +136,8 @@ module _ {M : Type 0} (p : Program M) where
   -- WHAT MAY HAPPEN
   pub data Move (c d : Cluster p) : Type 0 where
     takes_step : {k caller : ℕ} {ask : Ask} {answer : Answer} → TakesStep c k caller ask answer d → Move c d
-    stops : {k caller : ℕ} {ask : Ask} {answer : Answer} {new : M} {step : p.steps (c.nodes k) caller ask answer new} →
-        Stops c k step d → Move c d
+    stops : {k caller : ℕ} {ask : Ask} {answer : Answer} {new : M} {step : p.steps (c.nodes k) caller ask answer new}
+        {law : laws.Ask} {is : IsAskOf ask law} → Stops c k step law is d → Move c d
     restarts : {k : ℕ} → Restarts c k d → Move c d
     grants : (k : ℕ) → LeasesAre c (k ∷ c.granted) (Some k) d → Move c d
     renews : LeasesAre c c.granted c.holder d → Move c d
@@ -143,7 +145,7 @@ module _ {M : Type 0} (p : Program M) where
 
   -- a move leads: what a node commits in it, it commits as the holder of the lease
   abbrev pub Leads : {c d : Cluster p} → Move c d → Type 0
-  Leads {c = c} (takes_step {k = k} x) = CommitsAsHolder (world c) k (calls_of (p.tells x.step (c.disks k)).facts)
+  Leads {c = c} (takes_step {k = k} x) = CommitsAsHolder (world c) k (calls_of (p.tells x.step (c.disks k) x.law x.is).facts)
   Leads {c = c} (stops {k = k} x) = CommitsAsHolder (world c) k (begun_in x.ledger)
   Leads (restarts x) = Unit {0}
   Leads (grants k x) = Unit {0}

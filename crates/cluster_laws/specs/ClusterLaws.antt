@@ -34,7 +34,7 @@ use Rattle.node_core.specs.declared.config.NodeConfig.{NodeConfig}
 use Rattle.node_core.specs.declared.node.Node.{Node}
 use Rattle.node_core.specs.Nodes.{history, parts_of, seen}
 use Rattle.node_core.specs.Opening.{seen_opened}
-use Rattle.node_core.specs.Safely.{StepsSafely, law_answer, law_ask}
+use Rattle.node_core.specs.Safely.{IsAskOf, StepsSafely, law_answer}
 use Rattle.node_core.specs.Stores.{state}
 
 module _ {M : Type 0} (p : Program M) where
@@ -53,13 +53,13 @@ module _ {M : Type 0} (p : Program M) where
   ClusterIsLed = (c d : Cluster p) → IsStart (world p c) → (moves : Moves p c d) → AreLed p moves → OneImagePerPosition d.tree →
       IsKeptLed (world p d)
 
-  -- every step of a node is a move, where what is delivered was sent, with the calls that this step tells. So it leads where what is
-  -- committed is the holder's
+  -- every step of a node is a move, as each ask of the laws that its ask is, where what is delivered was sent, with the calls that this
+  -- step tells. So it leads where what is committed is the holder's
   abbrev pub StepsAreMoves : Type 0
   StepsAreMoves = (c : Cluster p) (k caller : ℕ) (ask : Ask) (answer : Answer) (new : M) → IsSafe (world p c) → (step : p.steps (c.nodes k) caller ask answer new) →
-      WasSent (world p c) (p.seen (c.nodes k)).waits (law_ask ask) →
+      (law : laws.Ask) (is : IsAskOf ask law) → WasSent (world p c) (p.seen (c.nodes k)).waits law →
       (d : Cluster p) × (d.nodes k ≡ new) × (taken : TakesStep p c k caller ask answer d)
-      × (calls_of (p.tells taken.step (c.disks k)).facts ≡ calls_of (p.tells step (c.disks k)).facts)
+      × (calls_of (p.tells taken.step (c.disks k) taken.law taken.is).facts ≡ calls_of (p.tells step (c.disks k) law is).facts)
 
   -- wherever a node may take a step, a stop at any of its moments is a move, whatever folder the crash leaves and whatever node
   -- starts on it. It leads where the step does
@@ -67,7 +67,7 @@ module _ {M : Type 0} (p : Program M) where
   StopsAreMoves = (c e : Cluster p) (k caller : ℕ) (ask : Ask) (answer : Answer) → IsSafe (world p c) → OneImagePerPosition e.tree →
       (taken : TakesStep p c k caller ask answer e) →
       (folder : Folder) → IsLeftBetween p (c.nodes k) (e.nodes k) folder → (new : M) → StartsOn p folder new →
-      ∥ ((d : Cluster p) × (d.nodes k ≡ new) × (stopped : Stops p c k taken.step d) × (Leads p (takes_step taken) → Leads p (stops stopped))) ∥₁
+      ∥ ((d : Cluster p) × (d.nodes k ≡ new) × (stopped : Stops p c k taken.step taken.law taken.is d) × (Leads p (takes_step taken) → Leads p (stops stopped))) ∥₁
 
   -- and so is a stop between two steps
   abbrev pub RestartsAreMoves : Type 0
@@ -94,7 +94,7 @@ module _ {M : Type 0} (p : Program M) where
 
   -- a node that is primary once the step is done answers a position that its log lacks, or that counts as unknown, by one snapshot, or by word of the drop
   abbrev pub StepAnswersByWhole : Type 0
-  StepAnswersByWhole = (old new : M) (caller : ℕ) (ask : Ask) (answer : Answer) (position : Pos) (last : Option LastFile) → law_ask ask ≡ laws.Hello position last →
+  StepAnswersByWhole = (old new : M) (caller : ℕ) (ask : Ask) (answer : Answer) (position : Pos) (last : Option LastFile) → IsAskOf ask (laws.Hello position last) →
       IsTrue (p.honest old) → p.steps old caller ask answer new → (p.seen new).role ≡ laws.Primary → (Knows (p.seen old).store position last → ⊥) →
       IsWhole (p.seen old).store (law_answer answer) ⊎ IsFreeRefusal (p.seen old) (p.seen new) (law_answer answer)
 
@@ -103,8 +103,8 @@ module _ {M : Type 0} (p : Program M) where
     pub safe : IsSafe (world p c)
     pub caller : ℕ
     pub ask : Ask
-    pub asks : law_ask ask ≡ frame
     pub takes : TakesStep p c k caller ask answer d
+    pub asks : takes.law ≡ frame
     pub role : (p.seen (d.nodes k)).role ≢ laws.Primary
 
   -- it is held back by a lock that somebody holds, or refused for the disk, a broken store or want of memory
@@ -137,13 +137,14 @@ no_files name = None
 module _ {D : Type 0} {G : Ghosts D} where
   abbrev pub program : (steps : Node D G → ℕ → Ask → Answer → Node D G → Type 0) →
       ((old new : Node D G) (caller : ℕ) (ask : Ask) (answer : Answer) → steps old caller ask answer new → IsTrue (parts_of old).store.honest →
-      StepsSafely (seen (history old) (parts_of old)) (law_ask ask) (law_answer answer) (seen (history new) (parts_of new)) (history old) (history new)) → Program (Node D G)
+      (law : laws.Ask) → IsAskOf ask law →
+      StepsSafely (seen (history old) (parts_of old)) law (law_answer answer) (seen (history new) (parts_of new)) (history old) (history new)) → Program (Node D G)
   program steps told = record {
     steps = steps;
     honest = λ n. (parts_of n).store.honest;
     seen = λ n. seen (history n) (parts_of n);
     history = λ n. history n;
-    tells = λ {old} {new} {caller} {ask} {answer} step disk. told old new caller ask answer step disk;
+    tells = λ {old} {new} {caller} {ask} {answer} step disk law is. told old new caller ask answer step disk law is;
   }
 
   -- a node that was opened (`Node::open`, seen) over a store that was recovered (node_recovery's `recover`, store and open_) was

@@ -10,6 +10,7 @@ use Rattle.lease_core.specs.LeaseRun.{Clocks, Happens, Tenancy, Tenant, newcomer
 use Rattle.lease_core.specs.LeaseRun as lease
 use Rattle.lease_core.specs.Leases.{Leases}
 use Rattle.world_laws.specs.Events.{IsStart}
+use Rattle.world_laws.specs.Node as laws
 use Rattle.world_laws.specs.Premises.{WasSent}
 use Rattle.world_laws.specs.Step.{calls_of}
 use Rattle.world_laws.specs.Store.{Commit, StoreCall}
@@ -21,7 +22,7 @@ use Rattle.node_core.specs.declared.standing.Standing.{Standing}
 use Rattle.node_core.specs.Nodes.{NodeParts, role_in}
 use Rattle.node_core.specs.Opening.{first_belief}
 use Rattle.node_core.specs.Roles.{law_role}
-use Rattle.node_core.specs.Safely.{law_ask}
+use Rattle.node_core.specs.Safely.{IsAskOf}
 use Rattle.node_core.specs.Steps.{at_ask, belief_by, moment_by}
 use Rattle.cluster_laws.specs.Cluster.{Cluster, Move, Program, Restarts, StartsOn, Stops, TakesStep, begun_in, world}
 use Rattle.cluster_laws.specs.Cluster as cluster
@@ -33,7 +34,7 @@ use Rattle.cluster_laws.specs.Service.{Follows}
 pub record Leasing {M : Type 0} (p : Program M) : Type 0 where
   pub parts : M → NodeParts
   pub role : {old new : M} {caller : ℕ} {ask : Ask} {answer : Answer} → (step : p.steps old caller ask answer new) → (disk : IsTrue (p.honest old)) →
-      (p.tells step disk).facts.role ≡ law_role (role_in (at_ask (parts old) ask))
+      (law : laws.Ask) (is : IsAskOf ask law) → (p.tells step disk law is).facts.role ≡ law_role (role_in (at_ask (parts old) ask))
   pub lease : {old new : M} {caller : ℕ} {ask : Ask} {answer : Answer} → p.steps old caller ask answer new →
       ((parts new).standing.belief ≡ belief_by ask (parts old).standing.belief) × ((parts new).standing.moment ≡ moment_by ask (parts old).standing.moment)
 
@@ -92,13 +93,15 @@ module _ {M : Type 0} {p : Program M} (h : Leasing p) (owner : ℕ → ℕ) (clo
   abbrev pub CommitsInTime : Leased p owner → ℕ → Ask → List StoreCall → Type 0
   CommitsInTime l k ask calls = (file : Ltx) → Contains calls (Commit file) → IsCurrent l k ask
 
-  -- THE PREMISES of a step of node k: what is delivered was sent; news of a grant are the reply to its last asking; and what it commits,
-  -- it commits at a current moment
+  -- THE PREMISES of a step of node k, as an ask of the laws that its ask is: what is delivered was sent; news of a grant are the reply to
+  -- its last asking; and what it commits, it commits at a current moment
   pub record IsFair (l : Leased p owner) (k : ℕ) {caller : ℕ} {ask : Ask} {answer : Answer} {new : M}
       (step : p.steps (l.cluster.nodes k) caller ask answer new) : Type 0 where
-    pub comes : WasSent (world p l.cluster) (p.seen (l.cluster.nodes k)).waits (law_ask ask)
+    pub law : laws.Ask
+    pub is : IsAskOf ask law
+    pub comes : WasSent (world p l.cluster) (p.seen (l.cluster.nodes k)).waits law
     pub reply : IsReply ask (l.replies (l.numbers k))
-    pub in_time : CommitsInTime l k ask (calls_of (p.tells step (l.cluster.disks k)).facts)
+    pub in_time : CommitsInTime l k ask (calls_of (p.tells step (l.cluster.disks k) law is).facts)
 
   -- the table stays, and so do the numbers of the nodes but one, and the replies to all numbers but its own
   pub record IsOfOne (l : Leased p owner) (k : ℕ) (m : Leased p owner) : Type 0 where
@@ -110,7 +113,7 @@ module _ {M : Type 0} {p : Program M} (h : Leasing p) (owner : ℕ → ℕ) (clo
   pub record TakesLeasedStep (l : Leased p owner) (k caller : ℕ) (ask : Ask) (answer : Answer) (m : Leased p owner) : Type 0 where
     pub takes : TakesStep p l.cluster k caller ask answer m.cluster
     pub reply : IsReply ask (l.replies (l.numbers k))
-    pub in_time : CommitsInTime l k ask (calls_of (p.tells takes.step (l.cluster.disks k)).facts)
+    pub in_time : CommitsInTime l k ask (calls_of (p.tells takes.step (l.cluster.disks k) takes.law takes.is).facts)
     pub number : m.numbers k ≡ l.numbers k
     pub replies : m.replies (l.numbers k) ≡ reply_by ask (l.replies (l.numbers k))
     pub rest : IsOfOne l k m
@@ -130,8 +133,8 @@ module _ {M : Type 0} {p : Program M} (h : Leasing p) (owner : ℕ → ℕ) (clo
 
   -- node k is stopped in the midst of this step, and opened anew. What was cut off of the step was committed in time too
   pub record LeasedStop (l : Leased p owner) (k : ℕ) {caller : ℕ} {ask : Ask} {answer : Answer} {new : M}
-      (step : p.steps (l.cluster.nodes k) caller ask answer new) (m : Leased p owner) : Type 0 where
-    pub stops : Stops p l.cluster k step m.cluster
+      (step : p.steps (l.cluster.nodes k) caller ask answer new) (law : laws.Ask) (is : IsAskOf ask law) (m : Leased p owner) : Type 0 where
+    pub stops : Stops p l.cluster k step law is m.cluster
     pub in_time : CommitsInTime l k ask (begun_in stops.ledger)
     pub anew : IsOpenedAnew l k m
 
@@ -151,8 +154,8 @@ module _ {M : Type 0} {p : Program M} (h : Leasing p) (owner : ℕ → ℕ) (clo
   -- WHAT MAY HAPPEN
   pub data LeasedMove (l m : Leased p owner) : Type 0 where
     takes_step : {k caller : ℕ} {ask : Ask} {answer : Answer} → TakesLeasedStep l k caller ask answer m → LeasedMove l m
-    stops : {k caller : ℕ} {ask : Ask} {answer : Answer} {new : M} {step : p.steps (l.cluster.nodes k) caller ask answer new} →
-        LeasedStop l k step m → LeasedMove l m
+    stops : {k caller : ℕ} {ask : Ask} {answer : Answer} {new : M} {step : p.steps (l.cluster.nodes k) caller ask answer new}
+        {law : laws.Ask} {is : IsAskOf ask law} → LeasedStop l k step law is m → LeasedMove l m
     restarts : {k : ℕ} → LeasedRestart l k m → LeasedMove l m
     serves : Serves l m → LeasedMove l m
 

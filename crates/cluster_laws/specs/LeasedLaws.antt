@@ -9,6 +9,7 @@ use Rattle.lf_disk.specs.Folder.{Folder}
 use Rattle.lf_disk.specs.History.{may_leave}
 use Rattle.lease_core.specs.LeaseRun.{Clocks, Happens}
 use Rattle.lease_core.specs.Leases.{Leases}
+use Rattle.world_laws.specs.Node as laws
 use Rattle.world_laws.specs.Premises.{OneImagePerPosition}
 use Rattle.world_laws.specs.Safe.{IsSafe}
 use Rattle.world_laws.specs.SafetyLaw.{IsKept, IsKeptLed}
@@ -17,7 +18,7 @@ use Rattle.node_core.specs.declared.ask.Ask.{Ask}
 use Rattle.node_core.specs.declared.node.Node.{Node}
 use Rattle.node_core.specs.Nodes.{history, parts_of, role_in, seen}
 use Rattle.node_core.specs.Roles.{law_role}
-use Rattle.node_core.specs.Safely.{StepsSafely, law_answer, law_ask}
+use Rattle.node_core.specs.Safely.{IsAskOf, StepsSafely, law_answer}
 use Rattle.node_core.specs.Steps.{at_ask, belief_by, moment_by}
 use Rattle.cluster_laws.specs.Cluster.{AreLed, IsLeftBetween, Moves, Program, world}
 use Rattle.cluster_laws.specs.ClusterLaws.{program}
@@ -57,7 +58,7 @@ module _ {M : Type 0} {p : Program M} (h : Leasing p) where
       OneImagePerPosition e.cluster.tree → (taken : TakesLeasedStep h owner clocks l k caller ask answer e) →
       (folder : Folder) → IsLeftBetween p (l.cluster.nodes k) (e.cluster.nodes k) folder →
       (new : M) (number : ℕ) → Starts h owner clocks k folder new number →
-      ∥ ((m : Leased p owner) × (m.cluster.nodes k ≡ new) × (m.numbers k ≡ number) × LeasedStop h owner clocks l k taken.takes.step m) ∥₁
+      ∥ ((m : Leased p owner) × (m.cluster.nodes k ≡ new) × (m.numbers k ≡ number) × LeasedStop h owner clocks l k taken.takes.step taken.takes.law taken.takes.is m) ∥₁
 
   -- and so is a stop between two steps
   abbrev pub RestartsAreLeasedMoves : Type 0
@@ -79,14 +80,15 @@ module _ {M : Type 0} {p : Program M} (h : Leasing p) where
 module _ {D : Type 0} {G : Ghosts D} where
   abbrev pub leasing : (steps : Node D G → ℕ → Ask → Answer → Node D G → Type 0) →
       (told : (old new : Node D G) (caller : ℕ) (ask : Ask) (answer : Answer) → steps old caller ask answer new → IsTrue (parts_of old).store.honest →
-      StepsSafely (seen (history old) (parts_of old)) (law_ask ask) (law_answer answer) (seen (history new) (parts_of new)) (history old) (history new)) →
+      (law : laws.Ask) → IsAskOf ask law →
+      StepsSafely (seen (history old) (parts_of old)) law (law_answer answer) (seen (history new) (parts_of new)) (history old) (history new)) →
       ((old new : Node D G) (caller : ℕ) (ask : Ask) (answer : Answer) → (step : steps old caller ask answer new) → (disk : IsTrue (parts_of old).store.honest) →
-      (told old new caller ask answer step disk).facts.role ≡ law_role (role_in (at_ask (parts_of old) ask))) →
+      (law : laws.Ask) (is : IsAskOf ask law) → (told old new caller ask answer step disk law is).facts.role ≡ law_role (role_in (at_ask (parts_of old) ask))) →
       ((old new : Node D G) (caller : ℕ) (ask : Ask) (answer : Answer) → steps old caller ask answer new →
       ((parts_of new).standing.belief ≡ belief_by ask (parts_of old).standing.belief) × ((parts_of new).standing.moment ≡ moment_by ask (parts_of old).standing.moment)) →
       Leasing (program steps told)
   leasing steps told roles leases = record {
     parts = λ n. parts_of n;
-    role = λ {old} {new} {caller} {ask} {answer} step disk. roles old new caller ask answer step disk;
+    role = λ {old} {new} {caller} {ask} {answer} step disk law is. roles old new caller ask answer step disk law is;
     lease = λ {old} {new} {caller} {ask} {answer} step. leases old new caller ask answer step;
   }

@@ -33,7 +33,7 @@ module _ {M : Type 0} {p : Program M} (h : Leasing p) (owner : ℕ → ℕ) (clo
   LeadsTo l (steps k caller ask answer new step fair) m =
       (m.cluster.nodes k ≡ new) × TakesLeasedStep h owner clocks l k caller ask answer m
   LeadsTo l (stops k caller ask answer done taken one folder left new number starts) m =
-      (m.cluster.nodes k ≡ new) × (m.numbers k ≡ number) × LeasedStop h owner clocks l k taken.takes.step m
+      (m.cluster.nodes k ≡ new) × (m.numbers k ≡ number) × LeasedStop h owner clocks l k taken.takes.step taken.takes.law taken.takes.is m
   LeadsTo l (restarts k folder left new number starts) m =
       (m.cluster.nodes k ≡ new) × (m.numbers k ≡ number) × LeasedRestart h owner clocks l k m
   LeadsTo l (serves service replies happens) m =

@@ -5,11 +5,12 @@
 use Rattle.std.specs.Prelude.{◌≡◌, ℕ, zero, suc}
 use Rattle.lf_disk.specs.Folder.{Folder}
 use Rattle.lf_disk.specs.History.{may_leave}
+use Rattle.world_laws.specs.Node as laws
 use Rattle.world_laws.specs.Premises.{OneImagePerPosition, WasSent}
 use Rattle.world_laws.specs.SafetyLaw.{IsKept}
 use Rattle.node_core.specs.declared.answer.Answer.{Answer}
 use Rattle.node_core.specs.declared.ask.Ask.{Ask}
-use Rattle.node_core.specs.Safely.{law_ask}
+use Rattle.node_core.specs.Safely.{IsAskOf}
 use Rattle.cluster_laws.specs.Cluster.{Cluster, IsLeftBetween, Program, Restarts, StartsOn, Stops, TakesStep, world}
 use Rattle.cluster_laws.specs.ClusterLaws.{IsBegun}
 
@@ -25,7 +26,7 @@ module _ {M : Type 0} (p : Program M) where
   -- WHAT HAPPENS NEXT. What is delivered was sent. Of a step that is cut off it is said how the cluster would be had it been done
   pub data Occurs (c : Cluster p) : Type 0 where
     steps : (k caller : ℕ) (ask : Ask) (answer : Answer) (new : M) → p.steps (c.nodes k) caller ask answer new →
-        WasSent (world p c) (p.seen (c.nodes k)).waits (law_ask ask) → Occurs c
+        (law : laws.Ask) → IsAskOf ask law → WasSent (world p c) (p.seen (c.nodes k)).waits law → Occurs c
     stops : (k caller : ℕ) (ask : Ask) (answer : Answer) (done : Cluster p) → TakesStep p c k caller ask answer done →
         OneImagePerPosition done.tree → (folder : Folder) → IsLeftBetween p (c.nodes k) (done.nodes k) folder →
         (new : M) → StartsOn p folder new → Occurs c
@@ -34,9 +35,9 @@ module _ {M : Type 0} (p : Program M) where
 
   -- it leads there: this node is so now, by such a move
   abbrev pub LeadsTo : (c : Cluster p) → Occurs c → Cluster p → Type 0
-  LeadsTo c (steps k caller ask answer new step sent) d = (d.nodes k ≡ new) × TakesStep p c k caller ask answer d
+  LeadsTo c (steps k caller ask answer new step law is sent) d = (d.nodes k ≡ new) × TakesStep p c k caller ask answer d
   LeadsTo c (stops k caller ask answer done taken one folder left new starts) d =
-      (d.nodes k ≡ new) × Stops p c k taken.step d
+      (d.nodes k ≡ new) × Stops p c k taken.step taken.law taken.is d
   LeadsTo c (restarts k folder left new starts) d = (d.nodes k ≡ new) × Restarts p c k d
 
   -- from where a cluster begins the invariant holds on for any number of things, whoever commits

@@ -11,6 +11,7 @@ use Rattle.ltx_codec.specs.declared.file.Ltx.{Ltx}
 use Rattle.turn_desk.specs.History.{StartsWith}
 use Rattle.link_session.specs.Stands.{Asker, Stand}
 use Rattle.world_laws.specs.declared.last_file.LastFile.{LastFile}
+use Rattle.world_laws.specs.Node as laws
 use Rattle.world_laws.specs.Premises.{WasSent}
 use Rattle.world_laws.specs.World.{SentFrame, World, sent_by}
 use Rattle.node_core.specs.declared.whereabouts.Whereabouts.{Whereabouts}
@@ -19,7 +20,7 @@ use Rattle.node_core.specs.declared.answer.Answer.TheVariants as answer
 use Rattle.node_core.specs.declared.ask.Ask.{Ask}
 use Rattle.node_core.specs.declared.ask.Ask.TheVariants as ask
 use Rattle.node_core.specs.Moments.{ask_at}
-use Rattle.node_core.specs.Safely.{law_answer, law_ask}
+use Rattle.node_core.specs.Safely.{IsAskOf, law_answer}
 use Rattle.stream_primary.specs.Streaming.{NodeEntry, Streams}
 use Rattle.stream_primary.specs.Telling.{file_of}
 use Rattle.replica_apply.specs.declared.follow_end.FollowEnd.{FollowEnd}
@@ -54,10 +55,6 @@ asks_of _ = []
 abbrev pub sent_asks : List NodeEntry → List Ask
 sent_asks hellos = flat_map (λ one. asks_of one.answer) hellos
 
--- the same as the ledger of a cluster has it
-abbrev pub sent_frames : List NodeEntry → List SentFrame
-sent_frames hellos = flat_map (λ one. sent_by (law_ask one.ask) (law_answer one.answer)) hellos
-
 -- these are asked, each at some moment, and again while a lock holds it back, in their order, and perhaps not to the last
 pub data AsksInOrder : List Ask → List NodeEntry → Type 0 where
   no_more : {asks : List Ask} → AsksInOrder asks []
@@ -66,13 +63,17 @@ pub data AsksInOrder : List Ask → List NodeEntry → Type 0 where
   next : {one : Ask} {asks : List Ask} {here : NodeEntry} {more : List NodeEntry} (now : ℕ) → here.ask ≡ ask_at now one
       → AsksInOrder asks more → AsksInOrder (one ∷ asks) (here ∷ more)
 
--- each of these entries asks what was sent in this run
+-- each of these entries asks, as an ask of the laws that it is, what was sent in this run
 abbrev pub WereSent : World → Option Ltx → List NodeEntry → Type 0
-WereSent w waits entries = AllByRecursion (λ one. WasSent w waits (law_ask one.ask)) entries
+WereSent w waits entries = AllByRecursion (λ one. (law : laws.Ask) × IsAskOf one.ask law × WasSent w waits law) entries
 
--- all that these Hellos sent is in the ledger
+-- what an entry sent, as an ask of the laws that it is, is in the ledger
+abbrev pub IsInLedger : World → NodeEntry → Type 0
+IsInLedger w one = (law : laws.Ask) → IsAskOf one.ask law → (frame : SentFrame) → Contains (sent_by law (law_answer one.answer)) frame → Contains w.sent frame
+
+-- all that these Hellos sent is
 abbrev pub HasSent : World → List NodeEntry → Type 0
-HasSent w hellos = (frame : SentFrame) → Contains (sent_frames hellos) frame → Contains w.sent frame
+HasSent w hellos = AllByRecursion (IsInLedger w) hellos
 
 -- THE FOLLOWER ASKS WHAT WAS SENT. Behind the question where its node stands it asks just the files and the drops that the stream's
 -- Hellos sent, in their order. So in a cluster whose ledger has these, each was sent

@@ -19,10 +19,11 @@ use Rattle.node_core.specs.declared.standing.Standing.{Standing}
 use Rattle.node_core.specs.Leasing.{StepsAs}
 use Rattle.node_core.specs.Nodes.{NodeParts, at_moment, role_in, seen, served_over}
 use Rattle.node_core.specs.Roles.{law_role, role_of}
-use Rattle.node_core.specs.Safely.{StepsSafely, law_answer, law_ask}
+use Rattle.node_core.specs.Safely.{IsAskOf, StepsSafely, law_answer}
 use Rattle.node_core.specs.Steps.{Does, IsStep, at_ask, belief_by, moment_by}
 use Rattle.node_core.specs.Stores.{state}
 use Rattle.node_core.proofs.Expired.{moment-ends}
+use Rattle.node_core.proofs.OneAsk.{told-as}
 
 module _ (law : MomentIsOfStep) (h : History) (n : NodeParts) (now : ℕ) where
   abbrev at_now : NodeParts
@@ -57,35 +58,43 @@ module _ (law : MomentIsOfStep) (h : History) (n : NodeParts) (now : ℕ) where
 
   module _ (between : History) (mid : NodeParts) (same : between ≡ h) (is : mid ≡ at_now) (ask : Ask) (answer : Answer) (end : History) (new : NodeParts) (said : Option Errno) (comes : ComesAt ask)
       (over : IsTrue n.store.honest → IsOverImage n.files (state h n.store).image) (locks : ShareForReading n.files.locks) (replica : role_in n ≡ role.Replica → n.files.writer ≡ None) where
+    -- what is told of the node at that moment, as each ask of the laws that the ask is
+    abbrev TellsEach : (NodeState → laws.Ask → laws.Answer → NodeState → History → History → Type 0) → Type 0
+    TellsEach Safely = IsTrue mid.store.honest → (one : laws.Ask) → IsAskOf ask one → Safely (seen between mid) one (law_answer answer) (seen end new) between end
+
     -- the node's step, from what was done over the node at that moment
-    pub step-of : (caller : ℕ) → Does h n caller ask answer end new said → (IsTrue mid.store.honest → StepsAs (seen between mid) (law_ask ask) (law_answer answer) (seen end new) between end) →
+    pub step-of : (caller : ℕ) → Does h n caller ask answer end new said → TellsEach StepsAs →
         new.standing.belief ≡ belief_by ask n.standing.belief → new.standing.moment ≡ mid.standing.moment → new.store.honest ≡ mid.store.honest → IsStep h n caller ask answer end new said
     step-of caller does safe belief moment honest =
-        let there : IsTrue n.store.honest → StepsAs (seen h at_now) (law_ask ask) (law_answer answer) (seen end new) h end =
-        subst (λ (b : History). IsTrue n.store.honest → StepsAs (seen b at_now) (law_ask ask) (law_answer answer) (seen end new) b end) same
-        (subst (λ (m : NodeParts). IsTrue m.store.honest → StepsAs (seen between m) (law_ask ask) (law_answer answer) (seen end new) between end) is safe) in
-        let whole : (disk : IsTrue n.store.honest) → (w : StepsSafely (seen h n) (law_ask ask) (law_answer answer) (seen end new) h end) × (w.facts.role ≡ law_role (role_in at_now)) =
-        λ disk. whole-step (over disk) locks replica (seen end new) (law_ask ask) (law_answer answer) end (there disk) in
+        let there : IsTrue n.store.honest → (one : laws.Ask) → IsAskOf ask one → StepsAs (seen h at_now) one (law_answer answer) (seen end new) h end =
+        subst (λ (b : History). IsTrue n.store.honest → (one : laws.Ask) → IsAskOf ask one → StepsAs (seen b at_now) one (law_answer answer) (seen end new) b end) same
+        (subst (λ (m : NodeParts). IsTrue m.store.honest → (one : laws.Ask) → IsAskOf ask one → StepsAs (seen between m) one (law_answer answer) (seen end new) between end) is safe) in
+        let whole : (disk : IsTrue n.store.honest) (one : laws.Ask) → IsAskOf ask one → (w : StepsSafely (seen h n) one (law_answer answer) (seen end new) h end) × (w.facts.role ≡ law_role (role_in at_now)) =
+        λ disk one of. whole-step (over disk) locks replica (seen end new) one (law_answer answer) end (there disk one of) in
         record {
           does = does;
-          safe = λ disk. (whole disk).0;
-          role = λ disk. (whole disk).1 ∙ ap (λ (m : NodeParts). law_role (role_in m)) (sym comes.node);
+          safe = λ disk one of. (whole disk one of).0;
+          role = λ disk one of. (whole disk one of).1 ∙ ap (λ (m : NodeParts). law_role (role_in m)) (sym comes.node);
           lease = (belief, moment ∙ ap (λ (m : NodeParts). m.standing.moment) is ∙ sym comes.moment);
           honest = honest ∙ ap (λ (m : NodeParts). m.store.honest) is;
         }
 
-    -- of an ask that is no news: the role in its step is the one that the node has afterwards
-    pub keeps-standing : (IsTrue mid.store.honest → StepsSafely (seen between mid) (law_ask ask) (law_answer answer) (seen end new) between end) → new.standing ≡ mid.standing →
-        ((r : laws.Role) → KeepsRole (law_ask ask) r (law_role (role_in new)) → r ≡ law_role (role_in new)) →
-        IsTrue mid.store.honest → StepsAs (seen between mid) (law_ask ask) (law_answer answer) (seen end new) between end
-    keeps-standing safe stays keeps disk =
-        let s = safe disk in
-        (s, keeps s.facts.role s.facts.role_is ∙ ap (λ (t : Standing). law_role (role_of t)) stays)
+    -- an ask of the laws that leaves the node's role
+    abbrev Leaves : laws.Ask → Type 0
+    Leaves one = (r : laws.Role) → KeepsRole one r (law_role (role_in new)) → r ≡ law_role (role_in new)
 
-    pub step-still : (caller : ℕ) → Does h n caller ask answer end new said → (IsTrue mid.store.honest → StepsSafely (seen between mid) (law_ask ask) (law_answer answer) (seen end new) between end) →
-        new.standing ≡ mid.standing → ((r : laws.Role) → KeepsRole (law_ask ask) r (law_role (role_in new)) → r ≡ law_role (role_in new)) →
+    -- of an ask that is no news: the role in its step is the one that the node has afterwards
+    pub step-still : (caller : ℕ) → Does h n caller ask answer end new said → TellsEach StepsSafely → new.standing ≡ mid.standing → ((one : laws.Ask) → IsAskOf ask one → Leaves one) →
         belief_by ask n.standing.belief ≡ n.standing.belief → new.store.honest ≡ mid.store.honest → IsStep h n caller ask answer end new said
     step-still caller does safe stays keeps believed honest =
-        step-of caller does (keeps-standing safe stays keeps)
+        let role_is : law_role (role_in new) ≡ law_role (role_in mid) = ap (λ (t : Standing). law_role (role_of t)) stays in
+        step-of caller does (λ disk one of. let s = safe disk one of in (s, keeps one of s.facts.role s.facts.role_is ∙ role_is))
         (ap (λ (t : Standing). t.belief) stays ∙ ap (λ (m : NodeParts). m.standing.belief) is ∙ sym believed)
         (ap (λ (t : Standing). t.moment) stays) honest
+
+    -- the same of an ask that is this one of the laws alone
+    pub step-told : (told : laws.Ask) → ((one : laws.Ask) → IsAskOf ask one → one ≡ told) → (caller : ℕ) → Does h n caller ask answer end new said →
+        (IsTrue mid.store.honest → StepsSafely (seen between mid) told (law_answer answer) (seen end new) between end) → new.standing ≡ mid.standing → Leaves told →
+        belief_by ask n.standing.belief ≡ n.standing.belief → new.store.honest ≡ mid.store.honest → IsStep h n caller ask answer end new said
+    step-told told alone caller does safe stays keeps believed honest =
+        step-still caller does (λ disk one of. told-as (alone one of) (safe disk)) stays (λ one of. subst Leaves (sym (alone one of)) keeps) believed honest

@@ -1,5 +1,5 @@
 -- Bytes that are a file, or none.
-use Rattle.std.proofs.Common.{◌≡◌, ℕ, ◌<◌, ◌≤◌, ◌++◌, List, [], None, length, inl, inr, sym, ap, subst, arith}
+use Rattle.std.proofs.Common.{◌≡◌, ◌∙◌, ℕ, ◌<◌, ◌≤◌, ◌++◌, List, [], None, length, inl, inr, sym, ap, subst, arith}
 use Rattle.std.proofs.lemmas.List.{append-nil}
 use Rattle.ltx_codec.specs.Fields.{AreBytes}
 use Rattle.ltx_codec.specs.FileIn.{file_in}
@@ -13,10 +13,9 @@ use Rattle.world_laws.specs.Node as laws
 use Rattle.world_laws.specs.Node.{NodeState, Role}
 use Rattle.world_laws.specs.Step.{KeepsRole}
 use Rattle.node_core.specs.declared.answer.Answer.TheVariants as answers
-use Rattle.node_core.specs.Deciding.{Decided, is_encoding}
 use Rattle.node_core.specs.Errors.{refusal_of_encoding}
 use Rattle.node_core.specs.Framing.{RefusesBytes}
-use Rattle.node_core.specs.Safely.{law_answer, law_frame, law_frame_by}
+use Rattle.node_core.specs.Safely.{IsFrameOf, law_answer}
 
 -- an encoding has no earliest fault
 none-earliest : ((encoding rest : List ℕ) (file : Ltx) (f : LtxFault) (place : ℕ) → AreBytes (encoding ++ rest) → IsLtx encoding file → IsBroken (encoding ++ rest) f place → (f ≡ fault.Tail) × (length encoding < place))
@@ -52,33 +51,33 @@ refuses-bytes bytes fault.Tail is = named bytes fault.Tail (λ same. cc) is
 
 module _ (old new : NodeState) (role : Role) (bytes : List ℕ) where
   -- whatever they are, the primary takes nothing
-  pub not-replica : role ≡ laws.Primary → (decided : Decided (IsLtx bytes (file_in bytes))) → Answers old role (law_frame_by bytes decided) [] None (laws.Refused laws.NotReplica) new
-  not-replica primary (inl is) = primary
-  not-replica primary (inr none) = tt
+  pub not-replica : role ≡ laws.Primary → (law : laws.Ask) → IsFrameOf bytes law → Answers old role law [] None (laws.Refused laws.NotReplica) new
+  not-replica primary (laws.Frame file) is = primary
+  not-replica primary laws.NoFile is = tt
+  not-replica primary law is = absurd is
 
   -- as the laws say it
-  module _ (law : (encoding rest : List ℕ) (file : Ltx) (f : LtxFault) (place : ℕ) → AreBytes (encoding ++ rest) → IsLtx encoding file → IsBroken (encoding ++ rest) f place → (f ≡ fault.Tail) × (length encoding < place))
+  module _ (rules : (encoding rest : List ℕ) (file : Ltx) (f : LtxFault) (place : ℕ) → AreBytes (encoding ++ rest) → IsLtx encoding file → IsBroken (encoding ++ rest) f place → (f ≡ fault.Tail) × (length encoding < place))
       (octets : AreBytes bytes) where
-    wanting : (f : LtxFault) → IsLtx bytes (file_in bytes) → IsRefused bytes f → f ≡ fault.NoMemory
-    wanting f is (inl same) = same
-    wanting f is (inr earliest) = absurd (none-earliest law bytes (file_in bytes) f octets is earliest)
+    wanting : (file : Ltx) (f : LtxFault) → IsLtx bytes file → IsRefused bytes f → f ≡ fault.NoMemory
+    wanting file f is (inl same) = same
+    wanting file f is (inr earliest) = absurd (none-earliest rules bytes file f octets is earliest)
 
-    pub bytes-refused : (f : LtxFault) → IsRefused bytes f → (decided : Decided (IsLtx bytes (file_in bytes)))
-        → Answers old role (law_frame_by bytes decided) [] None (law_answer (answers.Refused (refusal_of_encoding f))) new
-    bytes-refused f refused (inr none) = tt
-    bytes-refused f refused (inl is) =
-        subst (λ (g : LtxFault). Answers old role (laws.Frame (file_in bytes)) [] None (law_answer (answers.Refused (refusal_of_encoding g))) new) (sym (wanting f is refused)) tt
+    pub bytes-refused : (f : LtxFault) → IsRefused bytes f → (law : laws.Ask) → IsFrameOf bytes law → Answers old role law [] None (law_answer (answers.Refused (refusal_of_encoding f))) new
+    bytes-refused f refused (laws.Frame file) is =
+        subst (λ (g : LtxFault). Answers old role (laws.Frame file) [] None (law_answer (answers.Refused (refusal_of_encoding g))) new) (sym (wanting file f is refused)) tt
+    bytes-refused f refused laws.NoFile is = tt
+    bytes-refused f refused law is = absurd is
 
 -- a step of a frame leaves the role
-pub frame-keeps : (bytes : List ℕ) (role later : Role) → KeepsRole (law_frame bytes) role later → role ≡ later
-frame-keeps bytes role later = go (is_encoding bytes) where
-  go : (decided : Decided (IsLtx bytes (file_in bytes))) → KeepsRole (law_frame_by bytes decided) role later → role ≡ later
-  go (inl is) keeps = keeps
-  go (inr none) keeps = keeps
+pub frame-keeps : (bytes : List ℕ) (law : laws.Ask) → IsFrameOf bytes law → (role later : Role) → KeepsRole law role later → role ≡ later
+frame-keeps bytes (laws.Frame file) is role later keeps = keeps
+frame-keeps bytes laws.NoFile is role later keeps = keeps
+frame-keeps bytes law is role later keeps = absurd is
 
--- the bytes of a file are that frame
-pub frame-is : ((bytes : List ℕ) (file : Ltx) → AreBytes bytes → IsLtx bytes file → file_in bytes ≡ file) → (bytes : List ℕ) (file : Ltx) → AreBytes bytes → IsLtx bytes file → laws.Frame file ≡ law_frame bytes
-frame-is law bytes file octets is = go (is_encoding bytes) where
-  go : (decided : Decided (IsLtx bytes (file_in bytes))) → laws.Frame file ≡ law_frame_by bytes decided
-  go (inl encoding) = ap (λ (f : Ltx). laws.Frame f) (sym (law bytes file octets is))
-  go (inr none) = absurd (none (subst (λ (f : Ltx). IsLtx bytes f) (sym (law bytes file octets is)) is))
+-- the bytes of a file are that frame alone
+pub frame-is : ((bytes : List ℕ) (file : Ltx) → AreBytes bytes → IsLtx bytes file → file_in bytes ≡ file) → (bytes : List ℕ) (file : Ltx) → AreBytes bytes → IsLtx bytes file
+    → (law : laws.Ask) → IsFrameOf bytes law → law ≡ laws.Frame file
+frame-is read bytes file octets is (laws.Frame other) also = ap laws.Frame (sym (read bytes other octets also) ∙ read bytes file octets is)
+frame-is read bytes file octets is laws.NoFile none = absurd (none (subst (λ (f : Ltx). IsLtx bytes f) (sym (read bytes file octets is)) is))
+frame-is read bytes file octets is law other = absurd other

@@ -10,7 +10,7 @@ use Rattle.turn_desk.specs.declared.history.Entry.{Entry}
 use Rattle.turn_desk.specs.History.{Run}
 use Rattle.txn_log.specs.Calls.{MayFind}
 use Rattle.txn_log.specs.Durable.{Durable}
-use Rattle.world_laws.specs.Events.{Event}
+use Rattle.world_laws.specs.Events.{Event, Steps}
 use Rattle.world_laws.specs.Node as laws
 use Rattle.world_laws.specs.Node.{NodeState}
 use Rattle.world_laws.specs.Step.{StepFacts}
@@ -20,36 +20,38 @@ use Rattle.node_core.specs.declared.answer.Answer.{Answer}
 use Rattle.node_core.specs.declared.ask.Ask.{Ask}
 use Rattle.node_core.specs.declared.node.Node.{Node}
 use Rattle.node_core.specs.Nodes.{history, parts_of, said_to, seen}
-use Rattle.node_core.specs.Runs.{AreSteps, Begins, CrashesAreOpened, IsOpenable, RunsAreSteps, between, event, more, none, within}
-use Rattle.node_core.specs.Safely.{law_answer, law_ask}
+use Rattle.node_core.specs.Runs.{AreEvents, AreSteps, Begins, CrashesAreOpened, IsOpenable, RunsAreSteps, between, entry, more, no_entries, none, within}
+use Rattle.node_core.specs.Safely.{IsAskOf, law_answer}
 use Rattle.node_core.specs.Steps.{IsStep}
+use Rattle.node_core.proofs.Deciding.{each-is-an-ask}
 
 -- an entry more in front
-begins-more : (k : ℕ) (e : Entry Ask Answer) (es : List (Entry Ask Answer)) (events : List Event) → Begins k es events → Begins k (e ∷ es) (event k e ∷ events)
-begins-more k e es events (between front back is) = between (e ∷ front) back (ap (λ (l : List (Entry Ask Answer)). e ∷ l) is)
-begins-more k e es events (within front back at answer is) = within (e ∷ front) back at answer (ap (λ (l : List (Entry Ask Answer)). e ∷ l) is)
+begins-more : (k : ℕ) (e : Entry Ask Answer) (es : List (Entry Ask Answer)) (law : laws.Ask) → IsAskOf e.ask law → {events : List Event} → Begins k es events → Begins k (e ∷ es) (Steps k law (law_answer e.answer) ∷ events)
+begins-more k e es law of (between front back is are) = between (e ∷ front) back (ap (λ (l : List (Entry Ask Answer)). e ∷ l) is) (entry of are)
+begins-more k e es law of (within front back at is events are next asks answer) =
+    within (e ∷ front) back at (ap (λ (l : List (Entry Ask Answer)). e ∷ l) is) (Steps k law (law_answer e.answer) ∷ events) (entry of are) next asks answer
 
-module _ (k : ℕ) (start : NodeState) (e : Entry Ask Answer) (es : List (Entry Ask Answer)) (folder : Folder) where
+module _ (k : ℕ) (start : NodeState) (e : Entry Ask Answer) (es : List (Entry Ask Answer)) (law : laws.Ask) (of : IsAskOf e.ask law) (folder : Folder) where
   -- a store that a stop inside a step may leave
-  at-step : StopIsTwoEvents → (next : NodeState) (answer : laws.Answer) (facts : StepFacts start (law_ask e.ask) answer next) (left : StoreState) (failed : Option Failure) →
+  at-step : StopIsTwoEvents → (next : NodeState) (answer : laws.Answer) (facts : StepFacts start law answer next) (left : StoreState) (failed : Option Failure) →
       start.failed ≡ failed → MayFind start.store failed (facts.did ++ begun_by facts.failed) left → Durable folder left → IsOpenable k start (e ∷ es) folder
   at-step stops next answer facts left (Some failure) is finds stands = record {
     left = left;
     stands = stands;
     events = [];
     last = start;
-    begins = between [] (e ∷ es) refl;
+    begins = between [] (e ∷ es) refl no_entries;
     steps = none;
     finds = subst (λ (f : Option Failure). MayBeFound start.store f left) (sym is) finds;
   }
-  at-step stops next answer facts left None is finds stands = go (stops start next (law_ask e.ask) answer left facts is finds) where
-    go : (left ≡ start.store) ⊎ IsFailedStep start (law_ask e.ask) left → IsOpenable k start (e ∷ es) folder
+  at-step stops next answer facts left None is finds stands = go (stops start next law answer left facts is finds) where
+    go : (left ≡ start.store) ⊎ IsFailedStep start law left → IsOpenable k start (e ∷ es) folder
     go (inl same) = record {
       left = left;
       stands = stands;
       events = [];
       last = start;
-      begins = between [] (e ∷ es) refl;
+      begins = between [] (e ∷ es) refl no_entries;
       steps = none;
       finds = subst (λ (f : Option Failure). MayBeFound start.store f left) (sym is) same;
     }
@@ -58,20 +60,20 @@ module _ (k : ℕ) (start : NodeState) (e : Entry Ask Answer) (es : List (Entry 
       stands = stands;
       events = _;
       last = step.mid;
-      begins = within [] es e step.answer refl;
+      begins = within [] es e refl [] no_entries law of step.answer;
       steps = more step.facts none;
       finds = step.leaves;
     }
 
   -- a store that a stop in a later step may leave
-  later : (next : NodeState) (answer : laws.Answer) → answer ≡ law_answer e.answer → StepFacts start (law_ask e.ask) answer next → IsOpenable k next es folder → IsOpenable k start (e ∷ es) folder
+  later : (next : NodeState) (answer : laws.Answer) → answer ≡ law_answer e.answer → StepFacts start law answer next → IsOpenable k next es folder → IsOpenable k start (e ∷ es) folder
   later next answer is facts x = record {
     left = x.left;
     stands = x.stands;
-    events = event k e ∷ x.events;
+    events = Steps k law (law_answer e.answer) ∷ x.events;
     last = x.last;
-    begins = begins-more k e es x.events x.begins;
-    steps = more (subst (λ a. StepFacts start (law_ask e.ask) a next) is facts) x.steps;
+    begins = begins-more k e es law of x.begins;
+    steps = more (subst (λ a. StepFacts start law a next) is facts) x.steps;
     finds = x.finds;
   }
 
@@ -88,16 +90,20 @@ module _ {D : Type 0} {G : Ghosts D} where
   abbrev past : Node D G → History
   past n = history n
 
+  run-steps : (k : ℕ) (start end : Node D G) {entries : List (Entry Ask Answer)} {events : List Event} → AreEvents k entries events → IsTrue (is_honest start) → Run step start entries end → AreSteps k (view start) events (view end)
+  run-steps k start end no_entries honest same = subst (λ (n : Node D G). AreSteps k (view start) [] (view n)) same none
+  run-steps k start end (entry {law = law} of are) honest run = more (run.1.safe honest law of).facts (run-steps k run.0 end are (run.1.honest ∙ honest) run.2)
+
   pub runs-are-steps : RunsAreSteps step is_honest view past
-  runs-are-steps k start end [] honest same = subst (λ (n : Node D G). AreSteps k (view start) [] (view n)) same none
-  runs-are-steps k start end (e ∷ es) honest run = more (run.1.safe honest).facts (runs-are-steps k run.0 end es (run.1.honest ∙ honest) run.2)
+  runs-are-steps k start end entries events honest run are = run-steps k start end are honest run
 
   -- the past of a run stays
   run-past : (start end : Node D G) (entries : List (Entry Ask Answer)) → IsTrue (is_honest start) → Run step start entries end
       → ∥ KeepsPast (past start) (past end) ∥₁ × ((past start).moment ≤ (past end).moment)
   run-past start end [] honest same = subst (λ (n : Node D G). ∥ KeepsPast (past start) (past n) ∥₁ × ((past start).moment ≤ (past n).moment)) same (∣ past_stays (past start) ∣₁, omega arith)
   run-past start end (e ∷ es) honest run =
-      let safe = run.1.safe honest in
+      let one = each-is-an-ask e.ask in
+      let safe = run.1.safe honest one.0 one.1 in
       let rest = run-past run.0 end es (run.1.honest ∙ honest) run.2 in
       (∥∥₁_map₂ safe.past rest.0 (past_joins (past start) (past run.0) (past end) safe.later), omega (arith, safe.later, rest.1))
 
@@ -112,18 +118,19 @@ module _ {D : Type 0} {G : Ghosts D} where
           stands = x.2;
           events = [];
           last = view start;
-          begins = between [] [] refl;
+          begins = between [] [] refl no_entries;
           steps = none;
           finds = x.1;
         })
     crashes-are-opened k start end (e ∷ es) honest run t folder early late leaves =
         let next = run.0 in
-        let safe = run.1.safe honest in
+        let one = each-is-an-ask e.ask in
+        let safe = run.1.safe honest one.0 one.1 in
         let rest = run-past next end es (run.1.honest ∙ honest) run.2 in
         elim (cases_lt (past next).moment t) [
-          | inl after ↦ ∥∥₁_map (crashes-are-opened k next end es (run.1.honest ∙ honest) run.2 t folder (omega (arith, after)) late leaves) (later k (view start) e es folder (view next) (law_answer e.answer) refl safe.facts)
+          | inl after ↦ ∥∥₁_map (crashes-are-opened k next end es (run.1.honest ∙ honest) run.2 t folder (omega (arith, after)) late leaves) (later k (view start) e es one.0 one.1 folder (view next) (law_answer e.answer) refl safe.facts)
           | inr before ↦
               ∥∥₁_elim rest.0 ∥∥₁_prop (λ p.
               ∥∥₁_map (safe.moments t folder early before (p.no_more t folder before leaves)) (λ x.
-              at-step k (view start) e es folder stops (view next) (law_answer e.answer) safe.facts x.0 (view start).failed refl x.1 x.2))
+              at-step k (view start) e es one.0 one.1 folder stops (view next) (law_answer e.answer) safe.facts x.0 (view start).failed refl x.1 x.2))
         ]

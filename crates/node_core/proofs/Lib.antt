@@ -5,7 +5,9 @@ pub mod Facts
 pub mod Overlay
 pub mod Sound
 pub mod Endings
+pub mod Deciding
 pub mod Expired
+pub mod OneAsk
 pub mod AtMoment
 pub mod Opened
 pub mod Dropped

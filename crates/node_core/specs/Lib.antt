@@ -4,7 +4,6 @@ pub mod Stores
 pub mod Nodes
 pub mod Errors
 pub mod Calls
-pub mod Deciding
 pub mod Safely
 pub mod Files
 pub mod Unlinking

@@ -1,6 +1,5 @@
 -- What a step tells the cluster, and what a crash leaves at each of its moments.
-use Rattle.std.specs.Prelude.{◌++◌, ◌≤◌, ℕ, List}
-use Rattle.std.proofs.Common.{inl, inr}
+use Rattle.std.specs.Prelude.{◌≡◌, ◌++◌, ◌≤◌, ℕ, List}
 use Rattle.lf_disk.specs.History.{History, KeepsPast, Since}
 use Rattle.ltx_codec.specs.FileIn.{file_in}
 use Rattle.ltx_codec.specs.Format.{IsLtx}
@@ -15,29 +14,31 @@ use Rattle.node_core.specs.declared.answer.Answer.{Answer}
 use Rattle.node_core.specs.declared.answer.Answer.TheVariants as answers
 use Rattle.node_core.specs.declared.ask.Ask.{Ask}
 use Rattle.node_core.specs.declared.ask.Ask.TheVariants as asks
-use Rattle.node_core.specs.Deciding.{Decided, is_encoding}
 use Rattle.node_core.specs.Pruning.{kept_of}
 use Rattle.node_core.specs.declared.refusal.Refusal.{Refusal}
 use Rattle.node_core.specs.declared.refusal.Refusal.TheVariants as refusals
 
--- a frame is the file whose encoding its bytes are, or none
-abbrev pub law_frame_by : (bytes : List ℕ) → Decided (IsLtx bytes (file_in bytes)) → laws.Ask
-law_frame_by bytes (inl is) = laws.Frame (file_in bytes)
-law_frame_by bytes (inr none) = laws.NoFile
+-- bytes are a file where they are its encoding, and no file where they are not the encoding of the one that is read in them
+abbrev pub IsFrameOf : List ℕ → laws.Ask → Type 0
+IsFrameOf bytes (laws.Frame file) = IsLtx bytes file
+IsFrameOf bytes laws.NoFile = IsLtx bytes (file_in bytes) → ⊥
+IsFrameOf bytes law = ⊥
 
-abbrev pub law_frame : List ℕ → laws.Ask
-law_frame bytes = law_frame_by bytes (is_encoding bytes)
+-- which ask of the laws an ask is
+abbrev pub IsAskOf : Ask → laws.Ask → Type 0
+IsAskOf (asks.File now request) law = law ≡ laws.File
+IsAskOf asks.EndSession law = law ≡ laws.EndSession
+IsAskOf asks.Where law = law ≡ laws.Where
+IsAskOf (asks.Hello now position last) law = law ≡ laws.Hello position last
+IsAskOf (asks.Frame now bytes) law = IsFrameOf bytes law
+IsAskOf (asks.Drop now) law = law ≡ laws.Drop
+IsAskOf (asks.Prune keep) law = law ≡ laws.Prune (kept_of keep)
+IsAskOf (asks.Info now) law = law ≡ laws.Where
+IsAskOf (asks.Lease now news) law = law ≡ laws.Lease
 
-abbrev pub law_ask : Ask → laws.Ask
-law_ask (asks.File now request) = laws.File
-law_ask asks.EndSession = laws.EndSession
-law_ask asks.Where = laws.Where
-law_ask (asks.Hello now position last) = laws.Hello position last
-law_ask (asks.Frame now bytes) = law_frame bytes
-law_ask (asks.Drop now) = laws.Drop
-law_ask (asks.Prune keep) = laws.Prune (kept_of keep)
-law_ask (asks.Info now) = laws.Where
-law_ask (asks.Lease now news) = laws.Lease
+-- each is one
+abbrev pub EachIsAnAsk : Type 0
+EachIsAnAsk = (ask : Ask) → (law : laws.Ask) × IsAskOf ask law
 
 abbrev pub law_store_fault : StoreFault → laws.Refusal
 law_store_fault fault.Disk = laws.Disk

@@ -5,6 +5,7 @@ use Rattle.lf_disk.specs.History.{History}
 use Rattle.fuse_msgs.specs.declared.request.Request.{Request}
 use Rattle.file_view.specs.Endings.{ended}
 use Rattle.lease_core.specs.Belief.{LeaseBelief}
+use Rattle.world_laws.specs.Node as laws
 use Rattle.node_core.specs.declared.answer.Answer.{Answer}
 use Rattle.node_core.specs.declared.answer.Answer.TheVariants as answers
 use Rattle.node_core.specs.declared.ask.Ask.{Ask}
@@ -16,7 +17,7 @@ use Rattle.node_core.specs.Leasing.{AnswersLease, believes}
 use Rattle.node_core.specs.Nodes.{NodeParts, at_moment, role_in, seen}
 use Rattle.node_core.specs.Pruning.{AnswersPrune}
 use Rattle.node_core.specs.Roles.{law_role}
-use Rattle.node_core.specs.Safely.{StepsSafely, law_answer, law_ask}
+use Rattle.node_core.specs.Safely.{IsAskOf, StepsSafely, law_answer}
 use Rattle.node_core.specs.Serving.{ServesFiles}
 use Rattle.node_core.specs.Stores.{OnlyRead}
 use Rattle.node_core.specs.Telling.{AnswersInfo}
@@ -71,11 +72,11 @@ abbrev pub belief_by : Ask → LeaseBelief → LeaseBelief
 belief_by (asks.Lease now news) belief = believes now news belief
 belief_by ask belief = belief
 
--- ONE STEP: what it does; over an honest disk what it tells the cluster and what a crash leaves at each of its moments, in the role
--- that the node has at its moment; and what it believes of its lease
+-- ONE STEP: what it does; over an honest disk what it tells the cluster, as each ask of the laws that its ask is, and what a crash leaves
+-- at each of its moments, in the role that the node has at its moment; and what it believes of its lease
 pub record IsStep (start : History) (old : NodeParts) (caller : ℕ) (ask : Ask) (answer : Answer) (end : History) (new : NodeParts) (said : Option Errno) : Type 0 where
   pub does : Does start old caller ask answer end new said
-  pub safe : IsTrue old.store.honest → StepsSafely (seen start old) (law_ask ask) (law_answer answer) (seen end new) start end
-  pub role : (disk : IsTrue old.store.honest) → (safe disk).facts.role ≡ law_role (role_in (at_ask old ask))
+  pub safe : IsTrue old.store.honest → (law : laws.Ask) → IsAskOf ask law → StepsSafely (seen start old) law (law_answer answer) (seen end new) start end
+  pub role : (disk : IsTrue old.store.honest) (law : laws.Ask) (is : IsAskOf ask law) → (safe disk law is).facts.role ≡ law_role (role_in (at_ask old ask))
   pub lease : (new.standing.belief ≡ belief_by ask old.standing.belief) × (new.standing.moment ≡ moment_by ask old.standing.moment)
   pub honest : new.store.honest ≡ old.store.honest

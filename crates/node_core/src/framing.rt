@@ -9,7 +9,7 @@ ghost use Rattle.world_laws.specs.Node as laws;
 ghost use Rattle.node_core.specs.Dropping.{IsFree};
 ghost use Rattle.node_core.specs.Framing.{AnswersFrame, AnswersLtx, Stands, Takes};
 ghost use Rattle.node_core.specs.Nodes.{history, parts_of, role_in, said_to, seen};
-ghost use Rattle.node_core.specs.Safely.{StepsSafely, law_answer, law_frame};
+ghost use Rattle.node_core.specs.Safely.{IsFrameOf, StepsSafely, law_answer};
 ghost use Rattle.node_core.specs.Steps.{IsStep};
 ghost use Rattle.node_core.specs.Stores.{failed, fields_of, history_of, state};
 
@@ -84,7 +84,7 @@ impl<D: Disk> Node<D> {
     /// Answers the bytes of a file.
     fn frame(&mut self, bytes: &Bytes) -> Answer
         ensures does { AnswersFrame (history self.old) (parts_of self.old) bytes.now result (history self.new) (parts_of self.new) }
-        ensures safe { IsTrue (D.honest self.old.store.disk) → StepsSafely (seen (history self.old) (parts_of self.old)) (law_frame bytes.now)
+        ensures safe { IsTrue (D.honest self.old.store.disk) → (law : laws.Ask) → IsFrameOf bytes.now law → StepsSafely (seen (history self.old) (parts_of self.old)) law
             (law_answer result) (seen (history self.new) (parts_of self.new)) (history self.old) (history self.new) }
         ensures standing { self.new.standing ≡ self.old.standing }
         ensures honest { D.honest self.new.store.disk ≡ D.honest self.old.store.disk }

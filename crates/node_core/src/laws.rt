@@ -1,11 +1,17 @@
 //! Laws of a node's steps, each the contract of a function that does nothing else.
 ghost use Rattle.node_core.specs.Nodes.{history, parts_of, seen};
 ghost use Rattle.node_core.specs.Runs.{CrashesAreOpened, RunsAreSteps};
+ghost use Rattle.node_core.specs.Safely.{EachIsAnAsk};
 
 use crate::node::Node;
 use lf_disk::Disk;
 use turn_desk::Machine;
 use world_laws::stops_are_failures;
+
+/// Each ask is one of the laws, so that what is said of each that it is says something.
+pub fn asks_are_of_the_laws()
+    ensures { EachIsAnAsk }
+{}
 
 /// The history of a desk over a node is a list of steps of this node.
 pub fn runs_are_steps<D: Disk>()

@@ -33,7 +33,7 @@ pub use answer::Answer;
 pub use ask::Ask;
 pub use config::NodeConfig;
 pub use info::NodeInfo;
-pub use laws::{crashes_are_opened, runs_are_steps};
+pub use laws::{asks_are_of_the_laws, crashes_are_opened, runs_are_steps};
 pub use news::LeaseNews;
 pub use node::Node;
 pub use refusal::Refusal;

@@ -1,10 +1,11 @@
 use Rattle.std.proofs.Common.{◌≡◌, refl}
 use Rattle.lf_disk.specs.History.{History}
+use Rattle.world_laws.specs.Node as laws
 use Rattle.node_core.specs.declared.ask.Ask.TheVariants as asks
 use Rattle.node_core.specs.Dropping.{AnswersDrop}
 use Rattle.node_core.specs.Nodes.{NodeParts, history, parts_of, said_to}
 use Rattle.node_core.specs.Stores.{history_of}
-use Rattle.node_core.proofs.AtMoment.{carried, step-still}
+use Rattle.node_core.proofs.AtMoment.{carried, step-told}
 use Rattle.node_core.proofs.node.Node.answer_drop.Goals as goal
 
 pub returns : goal.returns
@@ -18,8 +19,8 @@ returns g c =
     let same : history mid ≡ h = λ i. history_of (given.store i) in
     record {
       step = λ caller.
-          step-still c.moment_is_of_step.ensures h old c.args.now (history mid) (parts_of mid) same given.parts (asks.Drop c.args.now) c.drop_here.result (history m) (parts_of m) (said_to m)
-          record { node = refl; moment = refl } n.image n.locked.together n.replica caller
+          step-told c.moment_is_of_step.ensures h old c.args.now (history mid) (parts_of mid) same given.parts (asks.Drop c.args.now) c.drop_here.result (history m) (parts_of m) (said_to m)
+          record { node = refl; moment = refl } n.image n.locked.together n.replica laws.Drop (λ law of. of) caller
           (carried c.moment_is_of_step.ensures h old c.args.now (history mid) (parts_of mid) same given.parts
           (λ (b : History) (p : NodeParts). AnswersDrop b p c.drop_here.result (history m) (parts_of m)) c.drop_here.ensures.does)
           c.drop_here.ensures.safe c.drop_here.ensures.standing (λ r keeps. keeps) refl c.drop_here.ensures.honest;

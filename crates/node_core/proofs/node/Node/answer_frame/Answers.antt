@@ -23,5 +23,5 @@ returns g c =
           record { node = refl; moment = refl } n.image n.locked.together n.replica caller
           (carried c.moment_is_of_step.ensures h old c.args.now (history mid) (parts_of mid) same given.parts
           (λ (b : History) (p : NodeParts). AnswersFrame b p c.args.bytes.now c.frame.result (history m) (parts_of m)) c.frame.ensures.does)
-          c.frame.ensures.safe c.frame.ensures.standing (λ r. frame-keeps c.args.bytes.now r _) refl c.frame.ensures.honest;
+          c.frame.ensures.safe c.frame.ensures.standing (λ law of r. frame-keeps c.args.bytes.now law of r _) refl c.frame.ensures.honest;
     }

@@ -1,10 +1,11 @@
 use Rattle.std.proofs.Common.{◌≡◌, refl}
 use Rattle.lf_disk.specs.History.{History}
+use Rattle.world_laws.specs.Node as laws
 use Rattle.node_core.specs.declared.ask.Ask.TheVariants as asks
 use Rattle.node_core.specs.Nodes.{NodeParts, history, parts_of, said_to}
 use Rattle.node_core.specs.Stores.{history_of}
 use Rattle.node_core.specs.Telling.{AnswersInfo}
-use Rattle.node_core.proofs.AtMoment.{carried, step-still}
+use Rattle.node_core.proofs.AtMoment.{carried, step-told}
 use Rattle.node_core.proofs.Reading.{rests_stay}
 use Rattle.node_core.proofs.node.Node.answer_info.Goals as goal
 
@@ -18,8 +19,8 @@ returns g c =
     let same : history mid ≡ h = λ i. history_of (given.store i) in
     record {
       step = λ caller.
-          step-still c.moment_is_of_step.ensures h old c.args.now (history mid) (parts_of mid) same given.parts (asks.Info c.args.now) c.tell_info.result (history mid) (parts_of mid) (said_to mid)
-          record { node = refl; moment = refl } n.image n.locked.together n.replica caller
+          step-told c.moment_is_of_step.ensures h old c.args.now (history mid) (parts_of mid) same given.parts (asks.Info c.args.now) c.tell_info.result (history mid) (parts_of mid) (said_to mid)
+          record { node = refl; moment = refl } n.image n.locked.together n.replica laws.Where (λ law of. of) caller
           (carried c.moment_is_of_step.ensures h old c.args.now (history mid) (parts_of mid) same given.parts
           (λ (b : History) (p : NodeParts). AnswersInfo b p c.tell_info.result (history mid) (parts_of mid))
           record { tells = c.tell_info.ensures.tells; same = refl; rests = ∣ rests_stay (history mid) ∣₁ })

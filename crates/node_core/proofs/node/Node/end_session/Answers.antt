@@ -11,6 +11,7 @@ use Rattle.node_core.specs.Safely.{StepsSafely}
 use Rattle.node_core.specs.Steps.{IsStep}
 use Rattle.node_core.specs.Stores.{fields_of, history_of, state}
 use Rattle.node_core.proofs.Endings.{ended-file, ended-fits, ended-over, ended-locked, ended-writer}
+use Rattle.node_core.proofs.OneAsk.{role-as, told-as}
 use Rattle.node_core.proofs.Reading.{rests_stay}
 use Rattle.node_core.proofs.Sound.{is-replica, sound}
 use Rattle.node_core.proofs.Facts.{says-none}
@@ -49,8 +50,8 @@ returns g c =
     record {
       step = subst (λ (s : Served). IsStep h old c.args.caller asks.EndSession answers.Quiet h (record old { files = s }) (said_to n)) (sym is) record {
         does = record { quiet = refl; files = refl; rests = ∣ rests_stay h ∣₁ };
-        safe = safe;
-        role = λ honest. (safe honest).facts.role_is;
+        safe = λ honest law of. told-as of (safe honest);
+        role = λ honest law of. role-as of (safe honest) (λ r keeps. keeps);
         lease = (refl, refl);
         honest = refl;
       };

@@ -13,6 +13,7 @@ use Rattle.node_core.specs.Steps.{IsStep}
 use Rattle.node_core.specs.Stores.{fields_of, history_of, position, said_of}
 use Rattle.node_core.proofs.Facts.{says-none}
 use Rattle.node_core.proofs.Looked.{prune-changes, prunes-safely}
+use Rattle.node_core.proofs.OneAsk.{role-as, told-as}
 use Rattle.node_core.proofs.Reading.{rests_stay}
 use Rattle.node_core.proofs.Refusing.{law-refusal-of, ran-undone, refuses-prune}
 use Rattle.node_core.proofs.Sound.{sound}
@@ -34,8 +35,8 @@ returns-then-pos-eq0 g c =
     record {
       step = λ caller. record {
         does = record { tells = (none, refl); same = refl };
-        safe = safe;
-        role = λ honest. (safe honest).facts.role_is;
+        safe = λ honest law of. told-as of (safe honest);
+        role = λ honest law of. role-as of (safe honest) (λ r keeps. keeps);
         lease = (refl, refl);
         honest = refl;
       };
@@ -71,8 +72,8 @@ returns-in-Ok g c =
           );
           same = refl;
         };
-        safe = safe;
-        role = λ honest. (safe honest).facts.role_is;
+        safe = λ honest law of. told-as of (safe honest);
+        role = λ honest law of. role-as of (safe honest) (λ r keeps. keeps);
         lease = (refl, refl);
         honest = c.prune.ensures.honest;
       };
@@ -108,8 +109,8 @@ returns-in-Err g c =
           });
           same = refl;
         };
-        safe = safe;
-        role = λ honest. (safe honest).facts.role_is;
+        safe = λ honest law of. told-as of (safe honest);
+        role = λ honest law of. role-as of (safe honest) (λ r keeps. keeps);
         lease = (refl, refl);
         honest = c.prune.ensures.honest;
       };

@@ -8,6 +8,7 @@ use Rattle.node_core.specs.Safely.{StepsSafely, law_answer}
 use Rattle.node_core.specs.Stores.{fields_of, history_of}
 use Rattle.node_core.specs.Where.{TellsWhere}
 use Rattle.node_core.proofs.Facts.{says-none}
+use Rattle.node_core.proofs.OneAsk.{role-as, told-as}
 use Rattle.node_core.proofs.Lookups.{looked-into, looked-sound}
 use Rattle.node_core.proofs.Refusing.{looks-reads, reads-later, refuses-where}
 use Rattle.node_core.proofs.Steady.{steady-files, steps-still}
@@ -35,8 +36,8 @@ returns-in-Ok g c =
           same = refl;
           rests = ∣ looked.rests ∣₁;
         };
-        safe = safe;
-        role = λ honest. (safe honest).facts.role_is;
+        safe = λ honest law of. told-as of (safe honest);
+        role = λ honest law of. role-as of (safe honest) (λ r keeps. keeps);
         lease = (refl, refl);
         honest = c.last_file.ensures.honest;
       };
@@ -69,8 +70,8 @@ returns-in-Err g c =
           same = refl;
           rests = ∣ looked.rests ∣₁;
         };
-        safe = safe;
-        role = λ honest. (safe honest).facts.role_is;
+        safe = λ honest law of. told-as of (safe honest);
+        role = λ honest law of. role-as of (safe honest) (λ r keeps. keeps);
         lease = (refl, refl);
         honest = c.last_file.ensures.honest;
       };

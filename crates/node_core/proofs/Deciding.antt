@@ -1,4 +1,5 @@
--- Whether bytes are the encoding of an LTX file. Each decision is what its type says; it is made rule by rule.
+-- Whether bytes are the encoding of an LTX file, and so which ask of the laws an ask is. Each decision is what its type says; it is made
+-- rule by rule.
 use Rattle.std.proofs.Common.{◌≡◌, ◌≢◌, ◌⊎◌, ◌∙◌, ℕ, zero, suc, ◌+◌, ◌^◌, ◌<◌, ◌≤◌, Bool, true, false, IsTrue, IsSome, List, [], ◌∷◌, ◌++◌, length, take, drop, append_assoc, inl, inr, refl, sym, ap, subst, arith}
 use Rattle.std.specs.Prelude.{All, is_some}
 use Rattle.std.specs.Int.{w32, w64, to_be_bytes}
@@ -15,6 +16,10 @@ use Rattle.ltx_codec.specs.Sums.{sum_of_writes}
 use Rattle.ltx_codec.specs.declared.file.Ltx.{Ltx}
 use Rattle.ltx_codec.specs.declared.header.Header.{Header}
 use Rattle.ltx_codec.proofs.LawLemmas.{header_length}
+use Rattle.world_laws.specs.Node as laws
+use Rattle.node_core.specs.declared.ask.Ask.TheVariants as asks
+use Rattle.node_core.specs.Pruning.{kept_of}
+use Rattle.node_core.specs.Safely.{EachIsAnAsk, IsFrameOf}
 
 -- something holds, or it does not
 abbrev pub Decided : Type 0 → Type 0
@@ -176,7 +181,7 @@ reserved_is bytes file is =
     let front : head ≡ take 100 bytes = sym (ap (λ (l : List ℕ). take 100 l) whole ∙ ap (λ (n : ℕ). take n (head ++ tail)) (sym hundred) ∙ take-append_seam head tail) in
     ap (λ (l : List ℕ). drop 80 l) front
 
-pub encoding_decided : (bytes : List ℕ) (file : Ltx) → Decided (IsLtx bytes file)
+encoding_decided : (bytes : List ℕ) (file : Ltx) → Decided (IsLtx bytes file)
 encoding_decided bytes file =
     again
     (λ p. record { valid = p.0; reserved = reserved_in bytes; room = p.1.0; encoding = p.1.1 })
@@ -184,5 +189,24 @@ encoding_decided bytes file =
     (both (file_decided file) (both (equal (length (reserved_in bytes)) 20) (same_bytes bytes (file_encoding file (reserved_in bytes)))))
 
 -- whether the bytes are an encoding of the file that is read in them, which is the only one that they can be an encoding of
-unfoldable pub is_encoding : (bytes : List ℕ) → Decided (IsLtx bytes (file_in bytes))
+pub is_encoding : (bytes : List ℕ) → Decided (IsLtx bytes (file_in bytes))
 is_encoding bytes = encoding_decided bytes (file_in bytes)
+
+-- so bytes are a file, or none
+pub frame-of : (bytes : List ℕ) → (law : laws.Ask) × IsFrameOf bytes law
+frame-of bytes = go (is_encoding bytes) where
+  go : Decided (IsLtx bytes (file_in bytes)) → (law : laws.Ask) × IsFrameOf bytes law
+  go (inl is) = (laws.Frame (file_in bytes), is)
+  go (inr none) = (laws.NoFile, none)
+
+-- and each ask is one of the laws
+pub each-is-an-ask : EachIsAnAsk
+each-is-an-ask (asks.File now request) = (laws.File, refl)
+each-is-an-ask asks.EndSession = (laws.EndSession, refl)
+each-is-an-ask asks.Where = (laws.Where, refl)
+each-is-an-ask (asks.Hello now position last) = (laws.Hello position last, refl)
+each-is-an-ask (asks.Frame now bytes) = frame-of bytes
+each-is-an-ask (asks.Drop now) = (laws.Drop, refl)
+each-is-an-ask (asks.Prune keep) = (laws.Prune (kept_of keep), refl)
+each-is-an-ask (asks.Info now) = (laws.Where, refl)
+each-is-an-ask (asks.Lease now news) = (laws.Lease, refl)
