@@ -1,10 +1,15 @@
 -- How a node ends that served.
-use Rattle.std.specs.Prelude.{◌≡◌, ℕ, true, List, [], ◌∷◌, ◌++◌, Result, Ok, Err}
+use Rattle.std.specs.Prelude.{◌≡◌, ◌⊎◌, ℕ, true, List, [], ◌∷◌, ◌++◌, Result, Ok, Err}
+use Rattle.link_session.specs.Seats.{FoundWorn}
 use Rattle.turn_desk.specs.History.{IsLegal, entry}
 use Rattle.turn_desk.specs.declared.history.Entry.{Entry}
+use Rattle.turn_desk.specs.declared.seat.SeatOver.{SeatOver}
 use Rattle.node_core.specs.declared.answer.Answer.{Answer}
 use Rattle.node_core.specs.declared.answer.Answer.TheVariants as answers
+use Rattle.node_core.specs.declared.ask.Ask.{Ask}
+use Rattle.node_core.specs.declared.ask.Ask.TheVariants as asks
 use Rattle.node_core.specs.declared.info.NodeInfo.{NodeInfo}
+use Rattle.node_core.specs.declared.news.LeaseNews.TheVariants as news
 use Rattle.node_mount.specs.Making.{DisksRose}
 use Rattle.node_mount.specs.declared.counts.Counts.{Counts}
 use Rattle.node_mount.specs.declared.ending.End.{End}
@@ -27,6 +32,19 @@ Broke steps opened = (info : NodeInfo) × (info.broken ≡ true) × Said steps o
 abbrev pub BreaksWhere : {M Q : Type 0} → (M → ℕ → Q → Answer → M → Type 0) → M → End → Type 0
 BreaksWhere steps opened ends.Closed = Unit {0}
 BreaksWhere steps opened ends.Broken = Broke steps opened
+
+-- the machine that was opened can have made these steps, and at the last of them it was told that its lease is lost
+pub record WasToldLost {M : Type 0} (steps : M → ℕ → Ask → Answer → M → Type 0) (opened : M) : Type 0 where
+  pub before : List (Entry Ask Answer)
+  pub caller : ℕ
+  pub now : ℕ
+  pub answer : Answer
+  pub legal : IsLegal steps opened (before ++ entry caller (asks.Lease now news.Lost) answer ∷ [])
+
+-- A NODE TO WHICH NO MORE LINKS COME leads no more: it was told so, unless no step was left
+abbrev pub LeadsNoMore : {M S : Type 0} → (M → ℕ → Ask → Answer → M → Type 0) → M → SeatOver S M Ask Answer → End → Type 0
+LeadsNoMore steps opened seat ends.Closed = WasToldLost steps opened ⊎ FoundWorn seat
+LeadsNoMore steps opened seat ends.Broken = Unit {0}
 
 -- A NODE THAT WAS OPENED ends with Disk only where its store broke
 abbrev pub EndsBroken : {M Q R : Type 0} → (M → ℕ → Q → Answer → M → Type 0) → M → Result R MountFault → Type 0

@@ -208,15 +208,15 @@ fn peer_of<R: Handles + Abort + Copy + Send + 'static>(
     started.ok().expect(&rt, "a thread")
 }
 
-/// The configuration of a row's node.
+/// The configuration of a node that asks the service.
 fn config_of<R: Handles + Abort + Copy>(
     rt: R,
     alloc: Global,
-    row: &Row,
+    database: &str,
+    candidate: bool,
     service: &TcpListener,
 ) -> String {
     let address = service.local_addr().expect(&rt, "its address");
-    let (database, candidate) = (row.database, row.candidate);
     format!(in alloc;
         "database = \"{database}\"\n[fuse]\nlisten = \"{database}_socket\"\n[http]\naddr = \"127.0.0.1:0\"\n\
         [lease]\ntype = \"service\"\nservice-url = \"http://{address}\"\ncandidate = {candidate}\nttl = 8000\n\
@@ -225,7 +225,7 @@ fn config_of<R: Handles + Abort + Copy>(
     .expect(&rt, "memory")
 }
 
-/// Removes the socket of a row's node.
+/// Removes the socket of such a node.
 fn remove_socket<R: System + Abort + Copy>(rt: R, alloc: Global, database: &str) {
     let socket = format!(in alloc; "{database}_socket").expect(&rt, "memory");
     fs::remove_file(&rt, socket.as_str()).expect(&rt, "removed");
@@ -245,7 +245,7 @@ fn a_lease_service_is_asked(rt: HostRuntime) {
         let service = TcpListener::bind(&rt, "127.0.0.1:0").expect(&rt, "a listener");
         let other = TcpListener::bind(&rt, "127.0.0.1:0").expect(&rt, "a listener");
         other.set_nonblocking(true).expect(&rt, "no waiting");
-        let config = config_of(rt, alloc, row, &service);
+        let config = config_of(rt, alloc, row.database, row.candidate, &service);
         let closing = Closing::new(alloc).expect(&rt, "memory");
         let theirs = closing.another().expect(&rt, "memory");
         let mut maker = SystemMaker::new(rt, closing).expect(&rt, "a maker");

@@ -7,9 +7,12 @@ mod asking;
 #[cfg(test)]
 mod commands;
 #[cfg(test)]
+mod ended;
+#[cfg(test)]
 mod files;
 #[cfg(test)]
 mod following;
+#[cfg(test)]
 #[cfg(test)]
 mod leased;
 #[cfg(test)]

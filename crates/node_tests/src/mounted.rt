@@ -17,7 +17,7 @@ use std::process::Abort;
 use std::time::Duration;
 use std::{fs, thread};
 
-const PRIMARY: &[u8] = b"database = \"app\"\n[lease]\ncandidate = true\n\
+pub(crate) const PRIMARY: &[u8] = b"database = \"app\"\n[lease]\ncandidate = true\n\
     advertise-url = \"http://localhost:20202\"\nhostname = \"localhost\"\n";
 
 const REQUEST: &[u8] = b"GET /none HTTP/1.1\r\n\r\n";
@@ -92,13 +92,15 @@ const REPLICA: &[u8] = b"database = \"kept\"\n[fuse]\nlisten = \"node_mount_kept
 
 const LOG: &str = "dbs/kept/ltx/0000000000000001-0000000000000001.ltx";
 
-/// Its data directory, with one file of the log.
-fn keep_database<R: System + Copy + Abort + Send + 'static>(rt: R, file: &[u8]) {
-    let closing = Closing::new(rt.alloc()).expect(&rt, "memory");
+/// The data directory of a database, with one file of the log.
+fn keep_database<R: System + Copy + Abort + Send + 'static>(rt: R, database: &str, file: &[u8]) {
+    let alloc = rt.alloc();
+    let closing = Closing::new(alloc).expect(&rt, "memory");
     let mut maker = SystemMaker::new(rt, closing).expect(&rt, "a maker");
-    let name = Name::read(rt.alloc(), b"kept").expect(&rt, "a name");
+    let name = Name::read(alloc, database.as_bytes()).expect(&rt, "a name");
     same(rt, maker.disk(&name).is_ok(), true);
-    fs::write(&rt, LOG, file).expect(&rt, "a file");
+    let log = format!(in alloc; "dbs/{database}/ltx/0000000000000001-0000000000000001.ltx");
+    fs::write(&rt, log.expect(&rt, "memory").as_str(), file).expect(&rt, "a file");
 }
 
 /// A node that was started and ended has its log and its database as before.
@@ -106,7 +108,7 @@ fn keep_database<R: System + Copy + Abort + Send + 'static>(rt: R, file: &[u8]) 
 fn a_start_keeps_the_database(rt: HostRuntime) {
     let _named: Option<(TcpListener, TcpStream)> = None;
     let file = encode_all(rt.alloc(), &[SNAPSHOT]).expect(&rt, "memory");
-    keep_database(rt, file.as_slice());
+    keep_database(rt, "kept", file.as_slice());
     let closing = Closing::new(rt.alloc()).expect(&rt, "memory");
     closing.close();
     let mut maker = SystemMaker::new(rt, closing).expect(&rt, "a maker");
@@ -120,7 +122,7 @@ fn a_start_keeps_the_database(rt: HostRuntime) {
 }
 
 /// A list of one item.
-fn one<T: Drop>(alloc: Global, item: T) -> Result<Vec<T>, NoMemory>
+pub(crate) fn one<T: Drop>(alloc: Global, item: T) -> Result<Vec<T>, NoMemory>
     ensures { IfOk result (λ list. list.items ≡ item ∷ []) }
 {
     let mut list = Vec::new(alloc);
@@ -141,7 +143,7 @@ fn door_that_fails_first(rt: impl Copy + Abort, alloc: Global) -> (Vec<ListAccep
     (one(alloc, accept).expect(&rt, "memory"), watch)
 }
 
-fn no_links(rt: impl Copy + Abort, alloc: Global) -> Vec<ListAcceptor>
+pub(crate) fn no_links(rt: impl Copy + Abort, alloc: Global) -> Vec<ListAcceptor>
     ensures { All IsNewDoor result.items }
 {
     let accept = ListAcceptor::new(Vec::new(alloc), Vec::new(alloc)).unwrap();
@@ -149,7 +151,7 @@ fn no_links(rt: impl Copy + Abort, alloc: Global) -> Vec<ListAcceptor>
 }
 
 #[tactic(auto, using(node_mount::proofs::DiskLemmas::rests))]
-fn empty_disk(rt: impl Copy + Abort, alloc: Global) -> Vec<MemDisk>
+pub(crate) fn empty_disk(rt: impl Copy + Abort, alloc: Global) -> Vec<MemDisk>
     ensures { All IsNewDisk result.items }
 {
     let disk = MemDisk::new(alloc, Vec::new(alloc), None).expect(&rt, "a disk");
@@ -157,7 +159,7 @@ fn empty_disk(rt: impl Copy + Abort, alloc: Global) -> Vec<MemDisk>
 }
 
 /// One that runs each job in place.
-fn one_spawner(rt: impl Copy + Abort, alloc: Global) -> Vec<MemSpawn>
+pub(crate) fn one_spawner(rt: impl Copy + Abort, alloc: Global) -> Vec<MemSpawn>
     ensures { All IsNewSpawner result.items }
 {
     let spawner = CallSpawner::new(Vec::new(alloc)).unwrap();
