@@ -1,11 +1,12 @@
 #!/usr/bin/python3
-"""What a node tells on standard error: whole lines that begin with `litefs: `, of its start, of each change of its role, and of a store
-that broke, in front of the line of its status. A standard error that is closed stops nothing.
+"""What a node tells on standard error: whole lines that begin with `litefs: `, of its start, of each change of its role, of its stream and
+its followers, and of a store that broke, in front of the line of its status. A standard error that is closed stops nothing.
 
 At most: 300 seconds.
 Seen to fail: a node whose standard error goes nowhere: all but closed_errors; a stand-in that ends where it can't write a line:
 closed_errors."""
 import contextlib
+import itertools
 import json
 import os
 import socketserver
@@ -13,11 +14,12 @@ import sqlite3
 import subprocess
 import threading
 import time
-from re import escape, fullmatch
+from re import escape, fullmatch, search
 
-from support import (ROOT, Cluster, Node, Wrong, configuration, connect, fill, holds, in_mode, insert, read, run, same, small_disk,
+from support import (ROOT, Cluster, Link, Node, Wrong, configuration, connect, fill, holds, in_mode, insert, read, run, same, small_disk,
                      until)
 from support.cluster import standing_still
+from support.wire import ROOT_NODE, UNLINK
 
 NOWHERE = '0000000000000000/0000000000000000'
 
@@ -61,12 +63,14 @@ def roles():
     with Cluster('wal') as cluster:
         first, second, third = cluster.nodes
         cluster.level(first)
+        before = position(first)
         until(lambda: told_last(first, 'primary'), 'the first is primary')
         for it in second, third:
             until(lambda: told_last(it, f'replica of db{first.port}'), 'the others name it')
         first.kill()
         cluster.follows(first)
-        until(lambda: told_last(second, 'primary', position(second)), 'the second is primary')
+        until(lambda: told_last(second, 'primary'), 'the second is primary')
+        holds(before <= told_at(second) <= position(second), f'at one of its positions since then: {told(second)[-1]}')
         until(lambda: told_last(third, f'replica of db{second.port}'), 'the third names it')
         first.start()
         until(lambda: told_last(first, f'replica of db{second.port}'), 'the old one names it')
@@ -81,11 +85,15 @@ def told(node):
     return [it for it in node.lines() if 'role ' in it]
 
 
-def told_last(node, role, at=None):
+def told_last(node, role):
     """Whether this is the role that it told last."""
     lines = told(node)
-    where = escape(at) if at else '[0-9a-f]{16}/[0-9a-f]{16}'
-    return lines and fullmatch(rf'(start .*, )?role {escape(role)} at {where}(, files .*)?', lines[-1])
+    return lines and fullmatch(rf'(start .*, )?role {escape(role)} at [0-9a-f]{{16}}/[0-9a-f]{{16}}(, files .*)?', lines[-1])
+
+
+def told_at(node):
+    """The position with which it told its role last."""
+    return search(r' at (\S+?),? ', told(node)[-1] + ' ')[1]
 
 
 def streams():
@@ -135,6 +143,91 @@ class Hello(socketserver.StreamRequestHandler):
     def handle(self):
         self.rfile.readline()
         self.wfile.write(b'SSH-2.0-OpenSSH_9.6\r\n' * 100)
+
+
+def snapshots():
+    """A replica that has transactions of its own takes a snapshot: from where and to where, at both nodes."""
+    with Node() as primary, Node(following=primary) as replica:
+        fill(in_mode(primary.socket, 'wal'), range(3))
+        primary.level(replica)
+        replica.kill()
+        replica.lead()
+        replica.start()
+        fill(connect(replica.socket), range(3, 6))
+        own = position(replica)
+        replica.kill()
+        replica.follow(primary)
+        replica.start()
+        primary.level(replica)
+        at = position(primary)
+        for node, what in (replica, 'snapshot installed'), (primary, 'snapshot for a follower'):
+            until(lambda: f'{what}: at {at} in place of {own}' in node.news(), f'{what}: {at} for {own}')
+
+
+def drop():
+    """A replica drops the database, as its primary does."""
+    with Node() as primary, Node(following=primary) as replica:
+        with contextlib.closing(in_mode(primary.socket, 'delete')) as made:
+            fill(made, range(3))
+        primary.level(replica)
+        at = position(primary)
+        with Link(primary.socket) as link:
+            link.ask(UNLINK, ROOT_NODE, b'app\0')
+        until(lambda: f'database dropped: it was at {at}' in replica.news(), 'the drop')
+        same(position(replica), NOWHERE, 'where the replica stands then')
+
+
+def waits():
+    """A frame that a reader at a replica holds back: once, and by the lock that it holds."""
+    for mode, lock in ('delete', 'SHARED'), ('wal', 'READ[0-4]'):
+        with Node() as primary, Node(following=primary) as replica:
+            writer = in_mode(primary.socket, mode)
+            fill(writer, range(3))
+            primary.level(replica)
+            reader = connect(replica.socket)
+            reader.execute('begin')
+            reader.execute('select count(*) from t').fetchall()
+            fill(writer, range(3, 4))
+            until(lambda: waiting(replica), f'{mode}: it says that a frame waits')
+            holds(fullmatch(f'frame waits: a client holds {lock}', waiting(replica)[0]), f'{mode}: {waiting(replica)}')
+            time.sleep(2)
+            reader.execute('commit')
+            primary.level(replica)
+            same(len(waiting(replica)), 1, f'{mode}: how often it says so')
+
+
+def waiting(node):
+    return [it for it in node.news() if it.startswith('frame waits: ')]
+
+
+def followers():
+    """A primary's follower that comes, comes again from another position, and is gone."""
+    with Node() as primary, Node(following=primary) as replica:
+        writer = in_mode(primary.socket, 'wal')
+        fill(writer, range(3))
+        primary.level(replica)
+        at = position(primary)
+        until(lambda: f'follower at {NOWHERE}' in primary.news(), 'it comes')
+        replica.restart()
+        until(lambda: f'follower at {at}' in primary.news(), 'it comes again, from there')
+        replica.kill()
+        keys = itertools.count(3)
+
+        def gone():
+            """A link is found cut off by what is sent on it."""
+            fill(writer, [next(keys)])
+            return [it for it in primary.news() if fullmatch('follower at .* is gone', it)]
+        until(gone, 'it is gone')
+
+
+def still():
+    """A node that stood still for longer than a lease."""
+    with Node(starts=False) as node:
+        node.configure(configuration(node.port) + 'ttl = 1000\n')
+        node.start()
+        with standing_still(node):
+            time.sleep(2.5)
+        until(lambda: [it for it in node.news() if fullmatch('stood still for [0-9]+ ms', it)], 'it says so')
 
 
 def gives_lease_back():
@@ -198,5 +291,5 @@ def closed_errors():
             same(node.process.poll(), None, 'it goes on')
 
 
-CASES = (start, one_line, roles, streams, no_stream, gives_lease_back, closed_errors)
+CASES = (start, one_line, roles, streams, no_stream, snapshots, drop, waits, followers, still, gives_lease_back, closed_errors)
 run({call.__name__: call for call in CASES}, at_once=4)

@@ -25,3 +25,8 @@ abbrev pub IsDue : Repeats → (now : ℕ) → Option (List ℕ) → Repeats →
 IsDue old now None new = ((old.count ≡ 0) ⊎ (now - old.since < 60000)) × (new ≡ old)
 IsDue old now (Some told) new =
     (0 < old.count) × (60000 ≤ now - old.since) × BeginsWith told old.last × (new ≡ record old { since = now; count = 0 })
+
+-- WHAT IS TOLD OF TWO LOOKS at a node, so many milliseconds apart at most, or else that it stood still
+abbrev pub TellsStill : (before now most : ℕ) → Option (List ℕ) → Type 0
+TellsStill before now most None = now - before ≤ most
+TellsStill before now most (Some line) = (most < now - before) × BeginsWith line (codes "stood still for ")

@@ -3,19 +3,21 @@ ghost use Rattle.lf_base.specs.Faults.{CountsFaults};
 ghost use Rattle.node_mount.specs.Places.{HasSeenNone};
 ghost use Rattle.node_mount.specs.Serving.{CountsStarts};
 
+use crate::frame_notes::{FrameNotes, Replica};
 use crate::hall::{Links, two_holds};
+use crate::hearing::follow_heard;
 use crate::means::Means;
 use crate::mount_fault::MountFault;
 use crate::notes::Notes;
 use crate::place::Place;
-use crate::sessions::{BUDGET, LINKS};
+use crate::sessions::LINKS;
 use crate::to_primary::ToPrimary;
 use crate::work::{Work, start_work};
 use lf_base::{
     Clock, Closing, Dialer, Failed, Handles, Job, Link, Name, NoMemory, Pause, Spawner, Text, start,
 };
 use node_core::{Answer, Ask};
-use replica_apply::{Doubt, follow_seat};
+use replica_apply::Doubt;
 use std::alloc::Global;
 use turn_desk::Machine;
 
@@ -24,7 +26,7 @@ use turn_desk::Machine;
 pub struct Primary<T> {
     pub name: Name,
     pub dialer: ToPrimary<T>,
-    /// Where its jobs note how its streams begin and end.
+    /// Where its jobs note what comes of its streams.
     pub notes: Notes,
 }
 
@@ -192,7 +194,13 @@ fn follow_next<
     let Some(mut link) = streams.links.take(&means.rt) else {
         return None;
     };
-    let end = follow_seat(
+    let mut hears = FrameNotes {
+        rt: means.rt,
+        alloc: means.alloc,
+        notes: &streams.notes,
+        replica: Replica::new(),
+    };
+    let end = follow_heard(
         means.rt,
         means.alloc,
         &*place.desk,
@@ -202,7 +210,7 @@ fn follow_next<
         &mut means.clock,
         &mut means.pause,
         doubt.is_unknown(),
-        BUDGET,
+        &mut hears,
     );
     streams.notes.ended(&means.rt, end);
     streams.links.give_back(&means.rt, link);

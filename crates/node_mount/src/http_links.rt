@@ -2,18 +2,20 @@
 ghost use Rattle.node_mount.specs.Places.{HasSeenNone};
 ghost use Rattle.node_mount.specs.Serving.{CountsStarts};
 
+use crate::follower_notes::FollowerNotes;
 use crate::hall::{Links, two_holds};
+use crate::hearing::serve_heard;
 use crate::means::Means;
 use crate::mount_fault::MountFault;
+use crate::notes::Notes;
 use crate::place::Place;
-use crate::sessions::{BUDGET, LINKS};
+use crate::sessions::LINKS;
 use crate::work::{Work, start_work};
 use lf_base::{
     Acceptor, Clock, Closing, Handles, Job, Link, Name, NoMemory, Pause, Spawner, start,
 };
 use node_core::{Answer, Ask};
 use std::alloc::Global;
-use stream_primary::serve_seat;
 use turn_desk::Machine;
 
 /// How many HTTP links are served at a time, each stream to a follower among them.
@@ -21,6 +23,29 @@ const JOBS: u32 = 256;
 
 // So many followers and clients that stall hold up no other.
 const _: () = prove!(JOBS >= 256);
+
+/// Where HTTP links come from, and what they are served by.
+#[derive(Drop)]
+pub struct Door<A> {
+    pub accept: A,
+    pub calling: Calling,
+}
+
+/// What is asked on HTTP links: a node of this database. The jobs note there what becomes of followers.
+#[derive(Drop)]
+pub struct Calling {
+    pub name: Name,
+    pub notes: Notes,
+}
+
+impl Calling {
+    pub fn of(name: &Name, notes: &Notes) -> Result<Calling, NoMemory> {
+        Ok(Calling {
+            name: name.copy()?,
+            notes: notes.another()?,
+        })
+    }
+}
 
 /// Starts the jobs of HTTP links: one that accepts them, and those that serve them.
 pub fn start_http<
@@ -34,8 +59,7 @@ pub fn start_http<
 >(
     means: Means<R, C, P>,
     place: &mut Place<K>,
-    accept: A,
-    name: &Name,
+    door: Door<A>,
     closing: &Closing,
     spawner: &mut S,
 ) -> Result<(), MountFault>
@@ -43,11 +67,12 @@ pub fn start_http<
     ensures unused { HasSeenNone place.new.seat }
     ensures cause { CountsStarts (S.faults spawner.old) (S.faults spawner.new) result }
 {
+    let Door { accept, calling } = door;
     let Ok((job, links)) = accepting_job(means.alloc, accept, means.pause, closing) else {
         return Err(MountFault::NoMemory);
     };
     match start(means.rt, spawner, job) {
-        Ok(()) => start_serving(means, place, name, &links, spawner),
+        Ok(()) => start_serving(means, place, &calling, &links, spawner),
         Err(_) => Err(MountFault::NoThread),
     }
 }
@@ -117,7 +142,7 @@ fn start_serving<
 >(
     means: Means<R, C, P>,
     place: &mut Place<K>,
-    name: &Name,
+    calling: &Calling,
     links: &Links<L>,
     spawner: &mut S,
 ) -> Result<(), MountFault>
@@ -126,7 +151,7 @@ fn start_serving<
     ensures cause { CountsStarts (S.faults spawner.old) (S.faults spawner.new) result }
 {
     for _ in 0..JOBS {
-        let (Some(place), Ok(work)) = (place.another(means.rt), callers_of(name, links)) else {
+        let (Some(place), Ok(work)) = (place.another(means.rt), callers_of(calling, links)) else {
             return Err(MountFault::NoMemory);
         };
         match start_work(means, place, work, spawner) {
@@ -138,17 +163,17 @@ fn start_serving<
 }
 
 /// The work of one more job that serves these links.
-fn callers_of<L: Drop>(name: &Name, links: &Links<L>) -> Result<Callers<L>, NoMemory> {
-    let name = name.copy()?;
+fn callers_of<L: Drop>(calling: &Calling, links: &Links<L>) -> Result<Callers<L>, NoMemory> {
+    let calling = Calling::of(&calling.name, &calling.notes)?;
     let links = links.another()?;
-    Ok(Callers { links, name })
+    Ok(Callers { links, calling })
 }
 
 /// The work of a job that serves HTTP links.
 #[derive(Drop)]
 struct Callers<L> {
     links: Links<L>,
-    name: Name,
+    calling: Calling,
 }
 
 impl<L: Link + Drop> Work for Callers<L> {
@@ -164,7 +189,7 @@ impl<L: Link + Drop> Work for Callers<L> {
             let Some(link) = self.links.take(&means.rt) else {
                 break;
             };
-            serve_caller(&mut means, &mut place, &self.name, link);
+            serve_caller(&mut means, &mut place, &self.calling, link);
         }
     }
 }
@@ -176,17 +201,19 @@ fn serve_caller<
     L: Link + Drop,
     C: Clock,
     P: Pause,
->(means: &mut Means<R, C, P>, place: &mut Place<K>, name: &Name, link: L) {
+>(means: &mut Means<R, C, P>, place: &mut Place<K>, calling: &Calling, link: L) {
     let mut link = link;
-    serve_seat(
+    let mut hears = FollowerNotes::new(means.rt, means.alloc, &calling.notes);
+    serve_heard(
         means.rt,
         means.alloc,
         &*place.desk,
         &mut place.seat,
-        name,
+        &calling.name,
         &mut link,
         &mut means.clock,
         &mut means.pause,
-        BUDGET,
+        &mut hears,
     );
+    hears.end();
 }

@@ -29,7 +29,28 @@ pub enum NoteKind {
     Begins,
     /// A stream ends, or none begins.
     Ends,
+    /// A snapshot is installed, or goes to a follower.
+    Snapshot,
+    /// The database is dropped.
+    Drop,
+    /// A frame is held back.
+    Waits,
+    /// A follower comes.
+    Comes,
+    /// It is gone.
+    Gone,
 }
+
+/// Every kind, in the order in which what came again is told.
+pub const KINDS: [NoteKind; 7] = [
+    NoteKind::Ends,
+    NoteKind::Begins,
+    NoteKind::Snapshot,
+    NoteKind::Drop,
+    NoteKind::Waits,
+    NoteKind::Gone,
+    NoteKind::Comes,
+];
 
 /// Notes that wait, in the order in which they came. Its copies share them.
 #[derive(Drop)]
@@ -57,26 +78,34 @@ impl Notes {
     pub fn dialed(&self, rt: &impl Wait, address: &Option<Text>, reached: bool) {
         match address {
             Some(address) if reached => {
-                self.put(rt, NoteKind::Begins, begins_line(self.alloc, address));
+                self.put_line(rt, NoteKind::Begins, begins_line(self.alloc, address));
             }
-            Some(address) => self.put(rt, NoteKind::Ends, not_reached_line(self.alloc, address)),
+            Some(address) => {
+                self.put_line(rt, NoteKind::Ends, not_reached_line(self.alloc, address));
+            }
             None => {}
         }
     }
 
     /// A stream ended so.
     pub fn ended(&self, rt: &impl Wait, end: FollowEnd) {
-        self.put(rt, NoteKind::Ends, ends_line(self.alloc, end));
+        self.put_line(rt, NoteKind::Ends, ends_line(self.alloc, end));
     }
 
-    /// Adds a note, while fewer than 64 wait and there was memory for it.
-    fn put(&self, rt: &impl Wait, kind: NoteKind, line: Result<Line, NoMemory>) {
-        let Ok(line) = line else {
+    fn put_line(&self, rt: &impl Wait, kind: NoteKind, line: Result<Line, NoMemory>) {
+        if let Ok(line) = line {
+            self.put(rt, Ok(Some(Note { kind, line })));
+        }
+    }
+
+    /// Adds a note, if there is one, while fewer than 64 wait and there was memory for it.
+    pub fn put(&self, rt: &impl Wait, note: Result<Option<Note>, NoMemory>) {
+        let Ok(Some(note)) = note else {
             return;
         };
         let mut notes = self.notes.lock(rt);
         if notes.len() < MOST {
-            let _ = notes.push(Note { kind, line });
+            let _ = notes.push(note);
         }
     }
 
@@ -144,6 +173,11 @@ impl Repeats {
 pub struct Repeated {
     begins: Repeats,
     ends: Repeats,
+    snapshot: Repeats,
+    drop: Repeats,
+    waits: Repeats,
+    comes: Repeats,
+    gone: Repeats,
 }
 
 impl Repeated {
@@ -151,28 +185,24 @@ impl Repeated {
         Repeated {
             begins: Repeats::new(alloc),
             ends: Repeats::new(alloc),
+            snapshot: Repeats::new(alloc),
+            drop: Repeats::new(alloc),
+            waits: Repeats::new(alloc),
+            comes: Repeats::new(alloc),
+            gone: Repeats::new(alloc),
         }
     }
 
-    /// What is told of a note at this moment.
-    pub fn next(&mut self, alloc: Global, note: Note, now: u64) -> Result<Option<Line>, NoMemory> {
-        let Note { kind, line } = note;
+    /// Those of this kind.
+    pub fn of(&mut self, kind: NoteKind) -> &mut Repeats {
         match kind {
-            NoteKind::Begins => self.begins.next(alloc, line, now),
-            NoteKind::Ends => self.ends.next(alloc, line, now),
-        }
-    }
-
-    /// What is told of the notes of this kind that came again.
-    pub fn due(
-        &mut self,
-        alloc: Global,
-        kind: NoteKind,
-        now: u64,
-    ) -> Result<Option<Line>, NoMemory> {
-        match kind {
-            NoteKind::Begins => self.begins.due(alloc, now),
-            NoteKind::Ends => self.ends.due(alloc, now),
+            NoteKind::Begins => &mut self.begins,
+            NoteKind::Ends => &mut self.ends,
+            NoteKind::Snapshot => &mut self.snapshot,
+            NoteKind::Drop => &mut self.drop,
+            NoteKind::Waits => &mut self.waits,
+            NoteKind::Comes => &mut self.comes,
+            NoteKind::Gone => &mut self.gone,
         }
     }
 }

@@ -12,7 +12,7 @@ use crate::duties::{Duties, rounds_word};
 use crate::ending::{End, end_serving};
 use crate::file_links::serve_file_links;
 use crate::following::start_following;
-use crate::http_links::start_http;
+use crate::http_links::{Calling, Door, start_http};
 use crate::lease_rounds::start_rounds;
 use crate::means::Means;
 use crate::mount_fault::MountFault;
@@ -104,18 +104,18 @@ fn serve_all<
     ensures limit { GivesLimit (A.given files.new) result }
     ensures cause { CountsServing (A.faults files.old) (A.faults files.new) (S.faults spawner.old) (S.faults spawner.new) result }
 {
+    let Ok(calling) = Calling::of(&read.settings.database, &tasks.watching.notes) else {
+        return Err(MountFault::NoMemory);
+    };
     match start_tasks(means, place, tasks, closing, spawner) {
         Ok(()) => {}
         Err(fault) => return Err(fault),
     }
-    match start_http(
-        means,
-        place,
-        http,
-        &read.settings.database,
-        closing,
-        spawner,
-    ) {
+    let door = Door {
+        accept: http,
+        calling,
+    };
+    match start_http(means, place, door, closing, spawner) {
         Ok(()) => serve_file_links(means, place, files, spawner),
         Err(fault) => Err(fault),
     }

@@ -1,5 +1,5 @@
 //! A node is watched: what it is is told, and what its jobs note; and where its store broke no more links come.
-ghost use Rattle.std.specs.Prelude.{◌≡◌, ◌++◌, IfOk};
+ghost use Rattle.std.specs.Prelude.{◌≡◌, ◌++◌, max, IfOk};
 ghost use Rattle.node_mount.specs.RoleLines.{start_behind, start_front};
 ghost use Rattle.node_mount.specs.Places.{HasSeenNone};
 ghost use Rattle.node_mount.specs.Serving.{CountsStarts};
@@ -9,10 +9,11 @@ use crate::lease_rounds::nap;
 use crate::line::Line;
 use crate::means::Means;
 use crate::mount_fault::MountFault;
-use crate::notes::{MOST, NoteKind, Notes, Repeated};
+use crate::notes::{KINDS, MOST, Note, Notes, Repeated};
 use crate::place::Place;
 use crate::role_told::RoleTold;
 use crate::sessions::LINKS;
+use crate::stillness::still_line;
 use crate::tell::{Lines, Tell};
 use crate::work::{Work, start_work};
 use lf_base::{Clock, Closing, Handles, NoMemory, Pause, Spawner};
@@ -33,6 +34,8 @@ pub struct Watching<E> {
     pub behind: Line,
     /// What the jobs note.
     pub notes: Notes,
+    /// How many milliseconds may lie between two looks: those of a lease, and a second at least.
+    pub lease: u64,
     /// Once it is closed no more links come.
     pub ending: Closing,
 }
@@ -47,6 +50,7 @@ pub fn watching_of<E: Drop>(
 ) -> Result<Watching<E>, NoMemory>
     ensures front { IfOk result (λ watching. watching.front ≡ start_front settings.now) }
     ensures behind { IfOk result (λ watching. watching.behind ≡ start_behind settings.now) }
+    ensures lease { IfOk result (λ watching. watching.lease ≡ max settings.now.lease.ttl 1000) }
 {
     let front = front_of(alloc, settings)?;
     let behind = behind_of(alloc, settings)?;
@@ -55,6 +59,7 @@ pub fn watching_of<E: Drop>(
         front,
         behind,
         notes,
+        lease: settings.lease.ttl.max(1000),
         ending,
     })
 }
@@ -128,8 +133,10 @@ impl<E: Tell + Drop> Work for Watcher<E> {
         let (mut means, mut place, mut watching) = (means, place, watching);
         let mut told = RoleTold::new(Line::new(means.alloc));
         let mut repeated = Repeated::new(means.alloc);
+        let mut last = means.clock.now_ms();
         let mut looks = 0u64;
         for _ in 0..LINKS {
+            last = tell_stillness(&mut means, &mut watching, last);
             if look(&mut means, &mut place, &mut watching, &mut told, looks == 0) {
                 watching.ending.close();
             }
@@ -172,24 +179,30 @@ fn tell_notes<R: Handles, E: Tell, C: Clock, P>(
     repeated: &mut Repeated,
 ) {
     for _ in 0..MOST {
-        let Some(note) = watching.notes.take(&means.rt) else {
+        let Some(Note { kind, line }) = watching.notes.take(&means.rt) else {
             break;
         };
         let now = means.clock.now_ms();
-        say_some(
-            &means.rt,
-            &mut watching.lines,
-            repeated.next(means.alloc, note, now),
-        );
+        let told = repeated.of(kind).next(means.alloc, line, now);
+        say_some(&means.rt, &mut watching.lines, told);
     }
-    for kind in [NoteKind::Ends, NoteKind::Begins] {
+    for kind in KINDS {
         let now = means.clock.now_ms();
-        say_some(
-            &means.rt,
-            &mut watching.lines,
-            repeated.due(means.alloc, kind, now),
-        );
+        let told = repeated.of(kind).due(means.alloc, now);
+        say_some(&means.rt, &mut watching.lines, told);
     }
+}
+
+/// Tells that the node stood still, where so much time has passed since the last look. Answers the moment of this one.
+fn tell_stillness<R: Handles, E: Tell, C: Clock, P>(
+    means: &mut Means<R, C, P>,
+    watching: &mut Watching<E>,
+    last: u64,
+) -> u64 {
+    let now = means.clock.now_ms();
+    let line = still_line(means.alloc, last, now, watching.lease);
+    say_some(&means.rt, &mut watching.lines, line);
+    now
 }
 
 fn say_some<R: Handles, E: Tell>(

@@ -1,0 +1,140 @@
+//! One that asks steps, and is heard.
+ghost use Rattle.std.specs.Prelude.{◌≡◌};
+ghost use Rattle.link_session.specs.Seats.{FoundWorn, Gives, HasGoneOn, HasSeen};
+ghost use Rattle.link_session.specs.Stands.{stand};
+ghost use Rattle.lf_base.specs.declared.session_end.SessionEnd.TheVariants as session_ends;
+ghost use Rattle.replica_apply.specs.Following.{Follows};
+ghost use Rattle.replica_apply.specs.declared.follow_end.FollowEnd.TheVariants as follow_ends;
+ghost use Rattle.stream_primary.specs.Session.{IsSession};
+ghost use Rattle.turn_desk.specs.Seats.{view, number_of, opened_on, IsOf};
+
+use crate::sessions::BUDGET;
+use lf_base::{Clock, Link, Name, Pause, SessionEnd};
+use link_session::{SeatPlace, Steps};
+use node_core::{Answer, Ask};
+use replica_apply::{FollowEnd, follow_link};
+use std::alloc::Global;
+use std::sync::Wait;
+use stream_primary::serve_link;
+use turn_desk::{Desk, Machine, Seat, Worn};
+
+/// Hears what is asked of a node, and what it answers.
+pub trait Hear {
+    fn hear(&mut self, ask: &Ask, answer: &Answer);
+}
+
+/// A seat at its desk, as one that asks steps. Each ask that is answered is heard.
+#[derive(Drop)]
+pub struct HeardSeat<'r, 'a, 'h, M: Machine, R, H> {
+    pub rt: &'r R,
+    pub desk: &'a Desk<M>,
+    pub seat: &'a mut Seat<M>,
+    pub hears: &'h mut H,
+    pub ghost at: { IsOf seat.now desk.now },
+}
+
+impl<M: Machine<Ask = Ask, Answer = Answer>, R: Wait + Copy, H: Hear> Steps
+    for HeardSeat<'_, '_, '_, M, R, H> {
+    type Ask = Ask;
+
+    type Answer = Answer;
+
+    type Outside = SeatPlace<Desk<M>>;
+
+    ghost entries = { λ s. (view s.seat.now).mine };
+
+    ghost number = { λ s. number_of s.seat.now };
+
+    ghost of = { λ s. record { seat = s.seat.ghost_name; desk = s.desk.now } };
+
+    ghost goes_on = { λ s. HasSeen M.steps (opened_on s.desk.now) (view s.seat.now).seen };
+
+    ghost is_worn = { λ s. FoundWorn s.seat.now };
+
+    ghost gives = { Gives M.steps };
+
+    fn ask(&mut self, ask: &Ask) -> Result<Answer, Worn> {
+        let answered = self.desk.step(*self.rt, self.seat, ask);
+        tell(self.hears, ask, &answered);
+        answered
+    }
+}
+
+/// Lets an ask be heard that was answered.
+fn tell<H: Hear>(hears: &mut H, ask: &Ask, answered: &Result<Answer, Worn>) {
+    if let Ok(answer) = answered {
+        hears.hear(ask, answer);
+    }
+}
+
+/// Follows the stream of another node over the link, by the seat, to its end; it is heard.
+pub fn follow_heard<
+    R: Wait + Copy,
+    M: Machine<Ask = Ask, Answer = Answer>,
+    L: Link,
+    C: Clock,
+    P: Pause,
+    H: Hear,
+>(
+    rt: R,
+    alloc: Global,
+    desk: &Desk<M>,
+    seat: &mut Seat<M>,
+    name: &Name,
+    link: &mut L,
+    clock: &mut C,
+    pause: &mut P,
+    unknown: bool,
+    hears: &mut H,
+) -> FollowEnd
+    requires { IsOf seat.old desk.now }
+    ensures follows { Follows (record { caller = number_of seat.old; may = C.may_give clock.old }) name.now unknown BUDGET (stand L.Link link.old (view seat.old).mine) (stand L.Link link.new (view seat.new).mine) result }
+    ensures worn { result ≡ follow_ends.Worn → FoundWorn seat.new }
+    ensures history { HasGoneOn M.steps (opened_on desk.now) (number_of seat.new) (view seat.old) (view seat.new) }
+    ensures seat { IsOf seat.new desk.now × (number_of seat.new ≡ number_of seat.old) }
+{
+    // A look at the desk tells that what the seat has seen is the machine's history.
+    desk.edition(seat);
+    let mut steps = HeardSeat {
+        rt: &rt,
+        desk,
+        seat,
+        hears,
+    };
+    follow_link(alloc, &mut steps, name, link, clock, pause, unknown, BUDGET)
+}
+
+/// Serves the one request of a link by the seat, to the end of its session; it is heard.
+pub fn serve_heard<
+    R: Wait + Copy,
+    M: Machine<Ask = Ask, Answer = Answer>,
+    L: Link,
+    C: Clock,
+    P: Pause,
+    H: Hear,
+>(
+    rt: R,
+    alloc: Global,
+    desk: &Desk<M>,
+    seat: &mut Seat<M>,
+    name: &Name,
+    link: &mut L,
+    clock: &mut C,
+    pause: &mut P,
+    hears: &mut H,
+) -> SessionEnd
+    requires { IsOf seat.old desk.now }
+    ensures session { IsSession (record { caller = number_of seat.old; may = C.may_give clock.old }) name.now BUDGET (stand L.Link link.old (view seat.old).mine) (stand L.Link link.new (view seat.new).mine) result }
+    ensures worn { result ≡ session_ends.Worn → FoundWorn seat.new }
+    ensures history { HasGoneOn M.steps (opened_on desk.now) (number_of seat.new) (view seat.old) (view seat.new) }
+    ensures seat { IsOf seat.new desk.now × (number_of seat.new ≡ number_of seat.old) }
+{
+    desk.edition(seat);
+    let mut steps = HeardSeat {
+        rt: &rt,
+        desk,
+        seat,
+        hears,
+    };
+    serve_link(alloc, &mut steps, name, link, clock, pause, BUDGET)
+}
