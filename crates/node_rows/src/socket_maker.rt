@@ -113,8 +113,9 @@ impl<R: System + Send + 'static> Maker for SocketMaker<R> {
         self.memory.tell()
     }
 
+    /// A word of its own, which is closed: what watches a node in place looks at it once.
     fn ending(&mut self) -> Result<Closing, NoMemory> {
-        self.closing.another()
+        self.memory.ending()
     }
 
     fn broke(&mut self) -> Option<FailedCall> {
