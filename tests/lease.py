@@ -8,6 +8,7 @@ A service on whose links a read waits for ever: a client that says nothing holds
 import contextlib
 import socket
 import time
+from re import fullmatch
 
 from support import Service, Skipped, holds, run, same, until
 
@@ -150,7 +151,9 @@ def refusals():
                  'database = "a/b"\n', 'http.addr = "nowhere"\n', 'database'):
         with Service(starts=False) as service:
             service.configure(text)
-            same(service.outcome(), (3, 'litefs: input refused: Config\n'), f'with {text!r}')
+            status, said = service.outcome()
+            same(status, 3, f'the status with {text!r}')
+            holds(fullmatch(r'litefs: litefs\.toml(:1|:2)?: .*wanted .+\nlitefs: input refused: Config\n', said), f'with {text!r}: {said!r}')
     with Service() as service:
         same(service.outcome(), (7, 'litefs: network failed\n'), 'a second one at its port')
         same(service.info(), {}, 'the first one')
