@@ -1,6 +1,7 @@
 #!/usr/bin/python3
-"""Commands and configurations that are wrong, and places that are taken: the status and the one line on standard error that
-docs/COMMANDS.md has for each. And configurations that are right: the node answers.
+"""Commands and configurations that are wrong, and places that are taken: the status and the line on standard error that docs/COMMANDS.md
+has for each; in front of it, of a configuration, the line that says which key is wrong, where it stands and what was wanted. And
+configurations that are right: the node answers.
 
 At most: 600 seconds.
 Seen to fail: a node that doesn't lock its directory: a second one comes as far as the socket, and says network failed."""
@@ -8,7 +9,7 @@ import os
 import socket
 import tempfile
 
-from support import Node, Skipped, holds, in_mode, outcome, places, run, same
+from support import Node, Skipped, holds, in_mode, outcome, places, run, same, until
 
 CONFIG = (3, 'litefs: input refused: Config\n')
 DISK = (5, 'litefs: disk failed\n')
@@ -16,29 +17,40 @@ NETWORK = (7, 'litefs: network failed\n')
 WORDS = (2, 'litefs: words refused\n')
 LEASE = '[lease]\nadvertise-url = "http://127.0.0.1:9"\nhostname = "h"\n'
 RIGHT = 'database = "app"\n' + LEASE
-# what is wrong with the keys of crates/node_settings: each text is refused as Config
+URL = 'a URL, http://host:port'
+# what is wrong with the keys of crates/node_settings: each text is refused as Config, behind a line that says where and what was wanted
 WRONG = {
-    'empty': '',
-    'no_toml': 'database',
-    'no_database': LEASE,
-    'database_no_text': RIGHT.replace('"app"', '5'),
-    'database_named_as_its_log': RIGHT.replace('app', 'app-wal'),
-    'database_with_a_slash': RIGHT.replace('app', 'a/b'),
-    'no_url': 'database = "app"\n[lease]\nhostname = "h"\n',
-    'no_hostname': 'database = "app"\n[lease]\nadvertise-url = "http://h:1"\n',
-    'url_of_another_scheme': RIGHT.replace('http:', 'https:'),
-    'url_without_a_port': RIGHT.replace(':9', ''),
-    'url_with_a_path': RIGHT.replace(':9', ':9/'),
-    'port_past_its_limit': 'http.addr = ":65536"\n' + RIGHT,
-    'address_without_a_port': 'http.addr = "localhost"\n' + RIGHT,
-    'keep_nothing': 'data.retention-files = 0\n' + RIGHT,
-    'compressed': 'data.compress = true\n' + RIGHT,
-    'lease_service': RIGHT + 'type = "service"\n',
-    'candidate_no_boolean': RIGHT + 'candidate = "yes"\n',
-    'key_misspelled': RIGHT + 'candidat = true\n',
-    'key_of_litefs_that_is_not_here': 'proxy.addr = ":8080"\n' + RIGHT,
-    'key_twice': RIGHT + 'hostname = "h"\n',
-    'past_65536_bytes': RIGHT + '#' * (65537 - len(RIGHT)),
+    'empty': ('', 'litefs.toml: database: wanted the name of a database; the key is missing'),
+    'no_toml': ('database', 'litefs.toml:1: wanted TOML in UTF-8'),
+    'no_toml_behind_comments': ('# one\n\n' + RIGHT + '[data\n', 'litefs.toml:7: wanted TOML in UTF-8'),
+    'no_database': (LEASE, 'litefs.toml: database: wanted the name of a database; the key is missing'),
+    'database_no_text': (RIGHT.replace('"app"', '5'), 'litefs.toml:1: database: wanted the name of a database'),
+    'database_named_as_its_log': (RIGHT.replace('app', 'app-wal'), 'litefs.toml:1: database: wanted the name of a database'),
+    'database_with_a_slash': (RIGHT.replace('app', 'a/b'), 'litefs.toml:1: database: wanted the name of a database'),
+    'log_no_word': ('\nlog = true\n' + RIGHT, 'litefs.toml:2: log: wanted on or off, as a text'),
+    'no_url': ('database = "app"\n[lease]\nhostname = "h"\n', f'litefs.toml: lease.advertise-url: wanted {URL}; the key is missing'),
+    'no_hostname': ('database = "app"\n[lease]\nadvertise-url = "http://h:1"\n',
+                    'litefs.toml: lease.hostname: wanted a text; the key is missing'),
+    'url_of_another_scheme': (RIGHT.replace('http:', 'https:'), f'litefs.toml:3: lease.advertise-url: wanted {URL}'),
+    'url_without_a_port': (RIGHT.replace(':9', ''), f'litefs.toml:3: lease.advertise-url: wanted {URL}'),
+    'url_with_a_path': (RIGHT.replace(':9', ':9/'), f'litefs.toml:3: lease.advertise-url: wanted {URL}'),
+    'port_past_its_limit': ('http.addr = ":65536"\n' + RIGHT, 'litefs.toml:1: http.addr: wanted an address, host:port'),
+    'address_without_a_port': ('http.addr = "localhost"\n' + RIGHT, 'litefs.toml:1: http.addr: wanted an address, host:port'),
+    'keep_nothing': ('# files\ndata.retention-files = 0\n' + RIGHT,
+                     'litefs.toml:2: data.retention-files: wanted a number from 1 to 9223372036854775807'),
+    'compressed': ('data.compress = true\n' + RIGHT, 'litefs.toml:1: data.compress: wanted false'),
+    'lease_service': (RIGHT + 'type = "service"\n',
+                      f'litefs.toml: lease.service-url: wanted {URL}, since lease.type is service; the key is missing'),
+    'lease_of_no_time': (RIGHT + 'candidate = true\nttl = 0\n',
+                         'litefs.toml:6: lease.ttl: wanted a number of milliseconds from 1 to 86400000'),
+    'candidate_no_boolean': (RIGHT + 'candidate = "yes"\n', 'litefs.toml:5: lease.candidate: wanted true or false'),
+    'two_keys_of_which_the_first_rule_counts': (RIGHT + 'ttl = 0\ncandidate = "yes"\n', 'litefs.toml:6: lease.candidate: wanted true or false'),
+    'key_misspelled': (RIGHT + 'candidat = true\n', 'litefs.toml:5: lease.candidat: wanted no key of this name'),
+    'key_of_litefs_that_is_not_here': ('proxy.addr = ":8080"\n' + RIGHT, 'litefs.toml:1: proxy: wanted no key of this name'),
+    'key_with_a_newline': (RIGHT + '"a\\nb" = true\n', 'litefs.toml:5: lease.?: wanted no key of this name'),
+    'key_twice': (RIGHT + 'hostname = "h"\n', 'litefs.toml:5: wanted TOML in UTF-8'),
+    'table_no_table': ('fuse = "s"\n' + RIGHT, 'litefs.toml:1: fuse: wanted a table'),
+    'past_65536_bytes': (RIGHT + '#' * (65537 - len(RIGHT)), 'litefs.toml: wanted at most 65536 bytes'),
 }
 ADDRESS = 'http.addr = "127.0.0.1:0"\n'
 ACCEPTED = {
@@ -52,10 +64,10 @@ ACCEPTED = {
 }
 
 
-def refused(text):
+def refused(text, said):
     with Node(starts=False) as node:
         node.configure(text)
-        same(node.outcome(), CONFIG, 'how it ends')
+        same(node.outcome(), (CONFIG[0], f'litefs: {said}\n{CONFIG[1]}'), 'how it ends')
         same(sorted(os.listdir(node.folder)), ['litefs.toml'], 'the folder')
 
 
@@ -66,7 +78,8 @@ def accepted(text, name):
         node.configure(text)
         node.socket = os.path.join(node.folder, name)
         node.start()
-        same(node.errors(), '', 'standard error')
+        until(node.lines, 'the line of its start')
+        same(node.lines()[0][:6], 'start ', 'how it begins')
 
 
 def has_ipv6():
@@ -147,19 +160,18 @@ def other_socket(node, path):
 
 
 def primary_out_of_reach():
-    """A replica whose primary is not there goes on and answers, and says nothing."""
+    """A replica whose primary is not there goes on and answers."""
     with Node() as primary:
         in_mode(primary.socket, 'wal').close()
         primary.kill()
         with Node(following=primary) as replica:
             same(replica.position().txid, 0, 'its position')
-            same(replica.errors(), '', 'standard error')
             primary.start()
             primary.level(replica)
 
 
 ALONE = (no_file, words, directory_in_use, directory_no_folder, socket_in_use, socket_no_socket, socket_without_a_folder,
          socket_path_too_long, socket_left_behind, port_in_use, primary_out_of_reach)
-run({**{f'refused-{name}': lambda text=text: refused(text) for name, text in WRONG.items()},
+run({**{f'refused-{name}': lambda given=given: refused(*given) for name, given in WRONG.items()},
      **{f'accepted-{name}': lambda given=given: accepted(*given) for name, given in ACCEPTED.items()},
      **{call.__name__: call for call in ALONE}})

@@ -53,7 +53,7 @@ def harmless(change):
         made = connect(node.socket)
         same(count(made), ROWS + LATER, 'rows')
         same(made.execute('pragma integrity_check').fetchall(), [('ok',)], 'integrity')
-        same(node.errors(), '', 'standard error')
+        same(node.news(), [], 'its lines, but those of its starts')
 
 
 def flipped(path, at):

@@ -145,9 +145,10 @@ def broken(mode):
             while filler.write(bytes(1000)):
                 pass
         until(lambda: not cluster.writes(primary), 'a write that finds no room')
+        same(primary.ended(), 5, 'its status')
         cluster.level(cluster.follows(primary), without=primary)
         os.remove(f'{disk.folder}/filler')
-        primary.restart()
+        primary.start()
         cluster.ends(kept)
 
 

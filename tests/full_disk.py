@@ -1,12 +1,13 @@
 #!/usr/bin/python3
-"""A disk that is full, has no inode left, or turns read-only under real SQLite: the write that meets it is refused, every
-later one too until the node is started again, and then each transaction that was answered is there.
+"""A disk that is full, has no inode left, or turns read-only under real SQLite: the write that meets it is refused, the node says
+which call of the disk failed and ends, and once it is started again each transaction that was answered is there.
 
 At most: 1200 seconds.
-Seen to fail: a node that takes a write without room for done: a write is taken before the node is started again."""
+Seen to fail: a node that takes a write without room for done: it doesn't end."""
 import sqlite3
+from re import fullmatch
 
-from support import Node, connect, count, fill, holds, in_each_mode, in_mode, insert, refuses, run, same, seen_by, small_disk
+from support import Node, connect, count, fill, holds, in_each_mode, in_mode, insert, run, same, seen_by, small_disk
 
 MOST = 5000
 
@@ -41,9 +42,17 @@ def broken(options, mode, breaks, mends):
         breaks(disk)
         answered, refused = until_refused(made)
         same(str(refused), 'disk I/O error', 'what the application is told')
+        broke(node)
         mends(disk)
-        refuses(lambda: fill(made, [MOST]), sqlite3.Error, 'a write before the node is started again')
         works_again(node, 3 + answered, mode)
+
+
+def broke(node):
+    """The node ends by itself, and its last two lines say why."""
+    same(node.ended(), 5, 'its status')
+    *_, why, last = node.lines()
+    holds(fullmatch(r'store broken: cannot (write|cut|sync|rename) dbs/app/\S+: no space left', why), f'which call failed: {why}')
+    same(last, 'disk failed', 'the last line')
 
 
 def nothing(_):
@@ -72,4 +81,16 @@ def read_only(mode):
         works_again(node, 3, mode)
 
 
-run(in_each_mode(full=full, no_inode=no_inode, read_only=read_only))
+def replica(mode):
+    """A replica that has no room for what its primary has ends too, and with room it is level."""
+    with small_disk('size=1m') as disk, Node() as primary, Node(following=primary, folder=disk.folder) as node:
+        fill(in_mode(primary.socket, mode), range(3))
+        primary.level(node)
+        fill(connect(primary.socket), range(3, 600))
+        broke(node)
+        disk.remount('size=64m')
+        node.start()
+        primary.level(node)
+
+
+run(in_each_mode(full=full, no_inode=no_inode, read_only=read_only) | in_each_mode(('delete', 'wal'), replica=replica))

@@ -149,6 +149,24 @@ class Node:
         with open(os.path.join(self.folder, 'errors')) as file:
             return file.read()
 
+    def lines(self):
+        """The lines that it told, in all its runs, each behind `litefs: `."""
+        text = self.errors()
+        holds(text[-1:] in ('', '\n'), f'the last line is whole: {text[-200:]!r}')
+        lines = text.splitlines()
+        for it in lines:
+            holds(it.startswith('litefs: '), f'a line that begins so: {it!r}')
+        return [it.removeprefix('litefs: ') for it in lines]
+
+    def news(self):
+        """Its lines, but those of its starts."""
+        return [it for it in self.lines() if not it.startswith('start ')]
+
+    def ended(self):
+        """Waits until it ends by itself, and answers its status."""
+        until(lambda: self.process.poll() is not None, 'the node ends')
+        return self.process.returncode
+
     def position(self):
         """What its position file says."""
         with Link(self.socket) as link:

@@ -3,3 +3,4 @@ pub mod LockBytes
 pub mod LockSet
 pub mod LockEntry
 pub mod LockList
+pub mod ModeLocks

@@ -27,7 +27,7 @@ use Rattle.lf_sqlite_pages.proofs.LockPages.{lock_page-first}
 use Rattle.lf_sqlite_pages.proofs.Completing.{completed-lock_page, completed-within, completed-past}
 use Rattle.lf_sqlite_pages.proofs.Writes.{writes_of-same, writes_of-none, written-writes_of}
 use Rattle.database_file.specs.DatabaseFile.{DatabaseFile, size_over, size_of, count_over, count_of, page_of, as_read, is_clean, FitsShape, KeepsDifferences}
-use Rattle.database_file.specs.Commit.{cut_to, has_page, unless_there, page_changed, difference, committed_image, LeadsTo, change_of}
+use Rattle.database_file.specs.Commit.{cut_to, has_page, unless_there, page_changed, difference, committed_image, LeadsTo, change_to}
 use Rattle.database_file.specs.CommitParts.{changes_nothing}
 use Rattle.database_file.proofs.WriteLemmas.{length-read}
 
@@ -138,10 +138,10 @@ same_parts size count one other a b c =
     made
 
 pub change-is : (file : DatabaseFile) (image : DatabaseImage) (count : ℕ) → KeepsDifferences file image → count ≤ count_of file image →
-    change_of file image.page_size (length image.pages) count ≡ difference image (read_to file image count)
+    change_to file image.page_size (length image.pages) count ≡ difference image (read_to file image count)
 change-is file image count differs within =
     let long : length (read_to file image count).pages ≡ count = length-read_to file image count within in
-    same_parts 0 0 (change_of file image.page_size (length image.pages) count) (difference image (read_to file image count)) refl (sym long)
+    same_parts 0 0 (change_to file image.page_size (length image.pages) count) (difference image (read_to file image count)) refl (sym long)
     (writes_of-same (completed_page (kept_change file image count) (length image.pages)) (page_changed image (read_to file image count)) count
     (λ n first last. difference-page file image count n differs within first last)
     ∙ ap (writes_of (page_changed image (read_to file image count))) (sym long))
@@ -258,15 +258,15 @@ leads file image count change true fits within is nothing =
 -- the same where the image is told
 pub told-leads : (told : Option DatabaseImage) (file : DatabaseFile) (page_size commit pages : ℕ) (change : PageChange) (result : Option PageChange) →
     IfSome told (λ i. page_size ≡ i.page_size) → IfSome told (λ i. commit ≡ length i.pages) → FitsShape file page_size commit → is_clean file ≡ false →
-    IfSome told (λ i. pages ≡ image_header_pages (as_read file i)) → pages ≤ count_over file commit → change ≡ change_of file page_size commit pages →
+    IfSome told (λ i. pages ≡ image_header_pages (as_read file i)) → pages ≤ count_over file commit → change ≡ change_to file page_size commit pages →
     result ≡ (if changes_nothing change commit then None else Some change) →
     IfSome told (λ i. KeepsDifferences file i → LeadsTo i (committed_image file i) result)
 told-leads None file page_size commit pages change result t1 t2 fits dirty header within is given = tt
 told-leads (Some i) file page_size commit pages change result t1 t2 fits dirty header within is given = λ differs.
     let fits_i = subst (λ (p : ℕ). FitsShape file p (length i.pages)) t1 (subst (λ (c : ℕ). FitsShape file page_size c) t2 fits) in
     let low : pages ≤ count_of file i = subst (λ (c : ℕ). pages ≤ count_over file c) t2 within in
-    let is_i : change ≡ change_of file i.page_size (length i.pages) pages =
-    is ∙ ap (λ (p : ℕ). change_of file p commit pages) t1 ∙ ap (λ (c : ℕ). change_of file i.page_size c pages) t2 in
+    let is_i : change ≡ change_to file i.page_size (length i.pages) pages =
+    is ∙ ap (λ (p : ℕ). change_to file p commit pages) t1 ∙ ap (λ (c : ℕ). change_to file i.page_size c pages) t2 in
     let difference_is = is_i ∙ change-is file i pages differs low in
     let given_i : result ≡ (if changes_nothing change (length i.pages) then None else Some change) =
     given ∙ ap (λ (c : ℕ). if changes_nothing change c then None else Some change) t2 in

@@ -1,11 +1,12 @@
 -- Texts of pages, one after another.
-use Rattle.std.proofs.Common.{◌≡◌, ℕ, ◌+◌, ◌-◌, ◌*◌, ◌≤◌, map, List, ◌++◌, Option, Some, None, arith, subst, Bool}
+use Rattle.std.proofs.Common.{◌≡◌, ℕ, ◌+◌, ◌-◌, ◌*◌, ◌≤◌, map, List, ◌++◌, Option, Some, None, arith, subst}
 use Rattle.std.specs.Prelude.{IfSome}
 use Rattle.std.specs.List.{concat, range_with_len}
 use Rattle.std.proofs.lemmas.Grind.{common_steps}
 use Rattle.std.proofs.lemmas.List.Folds.{concat-append}
 use Rattle.std.proofs.lemmas.List.FromFn.{map-range_with_len_more}
 use Rattle.lf_sqlite_pages.specs.Image.{DatabaseImage}
+use Rattle.lf_sqlite_pages.specs.declared.page_store.PageStore.{Ghosts}
 use Rattle.database_file.specs.Fault.{SameBase}
 
 -- the text of one more page
@@ -33,8 +34,7 @@ told_on told later f a n old new order same before step =
     rw (← one) (told_more told f (a + 1) (n - a) (n + 1) old new sum before now)
 
 -- the base stays over two calls
-pub SameBase-trans : {a b c : Option DatabaseImage} {d e f g h i : ℕ} {j k l m n o : Bool} → SameBase a b d e g h j k m n → SameBase b c e f h i k l n o →
-    SameBase a c d f g i j l m o
+pub SameBase-trans : {S : Type 0} {s : Ghosts S} {a b c : S} → SameBase s a b → SameBase s b c → SameBase s a c
 SameBase-trans one two = record { image = cc; page_size = cc; commit = cc; wal_mode = cc; is_broken = cc }
 
 -- the bytes of one page more

@@ -12,7 +12,7 @@ use Rattle.lf_sqlite_pages.proofs.PageNumbers.{page_at-past}
 use Rattle.lf_sqlite_pages.proofs.ApplyWrites.{apply-writes_of}
 use Rattle.database_file.specs.DatabaseFile.{DatabaseFile, FitsShape, as_read, count_of, size_of}
 use Rattle.database_file.specs.Writing.{page_or_zeros}
-use Rattle.database_file.specs.WalCommit.{change_over, page_over, page_under, under_log}
+use Rattle.database_file.specs.WalCommit.{change_over, change_page, page_under, under_log}
 use Rattle.database_file.proofs.WriteLemmas.{none-past, read-at, read-past}
 
 -- past the image the file reads what it keeps, else zeros
@@ -32,7 +32,7 @@ either-page o x y = refl
 -- page by page
 under-page : (file : DatabaseFile) (image : DatabaseImage) (news : PageChange) (n : ℕ) → FitsShape file image.page_size (length image.pages) →
     (0 < count_of file image → news.page_size ≡ size_of file image) → 1 ≤ n → IsDataPage news.page_size n →
-    unwrap_or (page_over file news (length image.pages) n) (unwrap_or (page_at image n) (replicate news.page_size 0)) ≡ page_under file image news n
+    unwrap_or (change_page file news (length image.pages) n) (unwrap_or (page_at image n) (replicate news.page_size 0)) ≡ page_under file image news n
 under-page file image news n fits same first data_page =
     let test : eqb n (lock_page_of news.page_size) ≡ false = grind (arith, nat_tests) in
     elim (cases_lt (length image.pages) n) [
@@ -52,6 +52,6 @@ lock-under file image news =
 pub change-under : (file : DatabaseFile) (image : DatabaseImage) (news : PageChange) → FitsShape file image.page_size (length image.pages) →
     (0 < count_of file image → news.page_size ≡ size_of file image) → apply image (change_over file news (length image.pages)) ≡ under_log file image news
 change-under file image news fits same =
-    apply-writes_of image news.page_size news.commit (page_over file news (length image.pages)) (page_under file image news)
+    apply-writes_of image news.page_size news.commit (change_page file news (length image.pages)) (page_under file image news)
     (λ n first last data_page. under-page file image news n fits same first data_page)
     (λ within. lock-under file image news)

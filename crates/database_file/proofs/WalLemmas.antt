@@ -14,7 +14,7 @@ use Rattle.lf_sqlite_pages.proofs.Applying.{AscendsAbove-each, written-lock_page
 use Rattle.lf_sqlite_pages.proofs.Writes.{writes_of-same, writes_of-change}
 use Rattle.database_file.specs.DatabaseFile.{DatabaseFile}
 use Rattle.database_file.specs.CommitParts.{WritesTo, one_write}
-use Rattle.database_file.specs.WalCommit.{page_over, change_over}
+use Rattle.database_file.specs.WalCommit.{change_page, change_over}
 use Rattle.database_file.proofs.KeptLemmas.{written-append, written-one, written-one_other, or_none, same_change}
 
 -- a page that a change writes is whole
@@ -73,14 +73,14 @@ within-next ws at count old new d inside kept is =
     rw (take_more ws at d inside, ap (λ (c : PageChange). c.pages) is) (within-more (take at ws) (get_or ws at d) count old.pages kept)
 
 -- within the image the change writes what the log does
-no_lock_page : (file : DatabaseFile) (news : PageChange) (commit n : ℕ) → eqb n (lock_page_of news.page_size) ≡ true → page_over file news commit n ≡ None
+no_lock_page : (file : DatabaseFile) (news : PageChange) (commit n : ℕ) → eqb n (lock_page_of news.page_size) ≡ true → change_page file news commit n ≡ None
 no_lock_page file news commit n test = rw test refl
 
 data_page_over : (file : DatabaseFile) (news : PageChange) (commit n : ℕ) → eqb n (lock_page_of news.page_size) ≡ false → nat_le n commit ≡ true →
-    page_over file news commit n ≡ written news.pages n
+    change_page file news commit n ≡ written news.pages n
 data_page_over file news commit n a b = rw (a, b) refl
 
-over-within : (file : DatabaseFile) (news : PageChange) (commit n : ℕ) → IsChange news → nat_le n commit ≡ true → written news.pages n ≡ page_over file news commit n
+over-within : (file : DatabaseFile) (news : PageChange) (commit n : ℕ) → IsChange news → nat_le n commit ≡ true → written news.pages n ≡ change_page file news commit n
 over-within file news commit n valid test = elim (cases_eq n (lock_page_of news.page_size)) [
   | inl lock ↦
       let is_lock : eqb n (lock_page_of news.page_size) ≡ true = grind (arith, nat_tests) in
@@ -91,7 +91,7 @@ over-within file news commit n valid test = elim (cases_eq n (lock_page_of news.
 ]
 
 pub within-all : (file : DatabaseFile) (news : PageChange) (at commit : ℕ) (writes : List PageWrite) → IsChange news → length news.pages ≤ at →
-    WritesTo (written (take at news.pages)) commit writes → WritesTo (page_over file news commit) commit writes
+    WritesTo (written (take at news.pages)) commit writes → WritesTo (change_page file news commit) commit writes
 within-all file news at commit writes valid end kept n =
     kept n
     ∙ ap (λ (ws : List PageWrite). if nat_le n commit then written ws n else None) (take_all at news.pages end)
@@ -105,9 +105,9 @@ within-all file news at commit writes valid end kept n =
 -- a log that grows the image by nothing makes its own change
 pub over_same : (file : DatabaseFile) (news : PageChange) (commit : ℕ) → IsChange news → news.commit ≤ commit → news ≡ change_over file news commit
 over_same file news commit valid shrinks =
-    same_change news news.page_size news.commit (writes_of (page_over file news commit) news.commit) refl refl
+    same_change news news.page_size news.commit (writes_of (change_page file news commit) news.commit) refl refl
     (sym (writes_of-change news valid)
-    ∙ writes_of-same (written news.pages) (page_over file news commit) news.commit
+    ∙ writes_of-same (written news.pages) (change_page file news commit) news.commit
     (λ n first last.
     let test : nat_le n commit ≡ true = grind (arith, nat_tests) in
     over-within file news commit n valid test))

@@ -50,8 +50,8 @@ LeadsTo image other None = SameImage other image
 LeadsTo image other (Some change) = (SameImage other image → ⊥) × (change ≡ difference image other)
 
 -- the change that writes what is kept up to a count of pages, and each data page past those of the image
-abbrev pub change_of : DatabaseFile → ℕ → ℕ → ℕ → PageChange
-change_of file page_size commit count = completed (record {
+abbrev pub change_to : DatabaseFile → ℕ → ℕ → ℕ → PageChange
+change_to file page_size commit count = completed (record {
   page_size = size_over file page_size commit;
   commit = count;
   pages = writes_of (pages.get file.kept) count;
@@ -59,5 +59,5 @@ change_of file page_size commit count = completed (record {
 
 -- a change is that of a count of pages within the file
 pub record IsChangeOf (file : DatabaseFile) (page_size commit : ℕ) (change : PageChange) : Type 0 where
-  pub is : change ≡ change_of file page_size commit change.commit
+  pub is : change ≡ change_to file page_size commit change.commit
   pub within : change.commit ≤ count_over file commit

@@ -11,15 +11,15 @@ use Rattle.database_file.specs.Writing.{page_or_zeros}
 
 -- page n of it over an image of a count of pages: nothing at the lock page; within the image what the log writes; past it
 -- what the log writes, else what the file has there, else zeros
-abbrev pub page_over : DatabaseFile → PageChange → ℕ → ℕ → Option (List ℕ)
-page_over file change commit n =
+abbrev pub change_page : DatabaseFile → PageChange → ℕ → ℕ → Option (List ℕ)
+change_page file change commit n =
     if n == lock_page_of change.page_size then None
     else if nat_le n commit then written change.pages n
     else Some (unwrap_or (written change.pages n) (unwrap_or (pages.get file.kept n) (replicate change.page_size 0)))
 
 -- the change that the log's pages make over an image of a count of pages
 abbrev pub change_over : DatabaseFile → PageChange → ℕ → PageChange
-change_over file change commit = record change { pages = writes_of (page_over file change commit) change.commit }
+change_over file change commit = record change { pages = writes_of (change_page file change commit) change.commit }
 
 -- page n of the database under the log's pages: the log's, else within the image the image's, and past it the file's
 abbrev pub page_under : DatabaseFile → DatabaseImage → PageChange → ℕ → List ℕ

@@ -46,7 +46,7 @@ impl DatabaseFile {
         ensures clean { IsTrue (is_clean self.now) → result ≡ Ok None }
         ensures faults { OnOk result (S.faults base.new ≡ S.faults base.old) }
         ensures cause { IfErr result (HasCause (S.faults base.old) (S.faults base.new)) }
-        ensures base { SameBase (S.image base.old) (S.image base.new) (S.page_size base.old) (S.page_size base.new) (S.commit base.old) (S.commit base.new) (S.wal_mode base.old) (S.wal_mode base.new) (S.is_broken base.old) (S.is_broken base.new) }
+        ensures base { SameBase S.PageStore base.old base.new }
     {
         if self.is_clean() {
             return Ok(None);
@@ -66,7 +66,7 @@ impl DatabaseFile {
         ensures within { IfOk result (λ pages. pages ≤ count_over self.now (S.commit base.old)) }
         ensures faults { OnOk result (S.faults base.new ≡ S.faults base.old) }
         ensures cause { IfErr result (HasCause (S.faults base.old) (S.faults base.new)) }
-        ensures base { SameBase (S.image base.old) (S.image base.new) (S.page_size base.old) (S.page_size base.new) (S.commit base.old) (S.commit base.new) (S.wal_mode base.old) (S.wal_mode base.new) (S.is_broken base.old) (S.is_broken base.new) }
+        ensures base { SameBase S.PageStore base.old base.new }
     {
         let commit = base.commit();
         let page_size = self.size_over(base.page_size(), commit);
@@ -93,7 +93,7 @@ impl DatabaseFile {
         ensures told { IfOk result (λ pages. IfSome (S.image base.old) (λ i. pages ≡ image_header_pages (as_read self.now i))) }
         ensures within { IfOk result (λ pages. pages ≤ count) }
         ensures cause { CountsFaults (S.faults base.old) (S.faults base.new) result }
-        ensures base { SameBase (S.image base.old) (S.image base.new) (S.page_size base.old) (S.page_size base.new) (S.commit base.old) (S.commit base.new) (S.wal_mode base.old) (S.wal_mode base.new) (S.is_broken base.old) (S.is_broken base.new) }
+        ensures base { SameBase S.PageStore base.old base.new }
     {
         let _commit = base.commit();
         self.read_page(base, 1, first)?;

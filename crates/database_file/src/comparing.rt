@@ -22,7 +22,7 @@ pub(crate) fn is_committed<S: PageStore>(
     requires whole { n ≤ S.commit base.old → length standing.old ≡ S.page_size base.old }
     ensures same { IfOk result (TellsSame (S.image base.old) n page.now) }
     ensures cause { CountsFaults (S.faults base.old) (S.faults base.new) result }
-    ensures base { SameBase (S.image base.old) (S.image base.new) (S.page_size base.old) (S.page_size base.new) (S.commit base.old) (S.commit base.new) (S.wal_mode base.old) (S.wal_mode base.new) (S.is_broken base.old) (S.is_broken base.new) }
+    ensures base { SameBase S.PageStore base.old base.new }
 {
     if n > base.commit() {
         return Ok(false);
@@ -48,7 +48,7 @@ pub(crate) fn compare<S: PageStore>(
     ensures same { IfOk result (λ same. TellAllSame (S.image base.old) first bytes.now page_size same.items) }
     ensures faults { OnOk result (S.faults base.new ≡ S.faults base.old) }
     ensures cause { IfErr result (HasCause (S.faults base.old) (S.faults base.new)) }
-    ensures base { SameBase (S.image base.old) (S.image base.new) (S.page_size base.old) (S.page_size base.new) (S.commit base.old) (S.commit base.new) (S.wal_mode base.old) (S.wal_mode base.new) (S.is_broken base.old) (S.is_broken base.new) }
+    ensures base { SameBase S.PageStore base.old base.new }
 {
     let size = page_size as usize;
     let mut standing = zeros(alloc, size)?;

@@ -71,7 +71,7 @@ pub(crate) fn keep_zeros<S: PageStore>(
     ensures err { OnErr result (kept.new.pages ≡ kept.old.pages) }
     ensures faults { OnOk result (S.faults base.new ≡ S.faults base.old) }
     ensures cause { IfErr result (HasCause (S.faults base.old) (S.faults base.new)) }
-    ensures base { SameBase (S.image base.old) (S.image base.new) (S.page_size base.old) (S.page_size base.new) (S.commit base.old) (S.commit base.new) (S.wal_mode base.old) (S.wal_mode base.new) (S.is_broken base.old) (S.is_broken base.new) }
+    ensures base { SameBase S.PageStore base.old base.new }
 {
     match fill(kept, base, from, to, blank, standing, more) {
         Ok(()) => Ok(()),
@@ -105,7 +105,7 @@ fn fill<S: PageStore>(
     ensures room { OnOk result (HasRooms kept.new more (length blank.now)) }
     ensures faults { OnOk result (S.faults base.new ≡ S.faults base.old) }
     ensures cause { IfErr result (HasCause (S.faults base.old) (S.faults base.new)) }
-    ensures base { SameBase (S.image base.old) (S.image base.new) (S.page_size base.old) (S.page_size base.new) (S.commit base.old) (S.commit base.new) (S.wal_mode base.old) (S.wal_mode base.new) (S.is_broken base.old) (S.is_broken base.new) }
+    ensures base { SameBase S.PageStore base.old base.new }
 {
     kept.reserve(more, blank.len() as u32)?;
     for number in from..to {
@@ -138,7 +138,7 @@ fn keep_blank<S: PageStore>(
     ensures room { OnOk result (HasRooms kept.new more (length blank.now)) }
     ensures faults { OnOk result (S.faults base.new ≡ S.faults base.old) }
     ensures cause { IfErr result (HasCause (S.faults base.old) (S.faults base.new)) }
-    ensures base { SameBase (S.image base.old) (S.image base.new) (S.page_size base.old) (S.page_size base.new) (S.commit base.old) (S.commit base.new) (S.wal_mode base.old) (S.wal_mode base.new) (S.is_broken base.old) (S.is_broken base.new) }
+    ensures base { SameBase S.PageStore base.old base.new }
 {
     let same = is_blank(base, n, blank, standing)?;
     kept.reserve(more + 1, blank.len() as u32)?;
@@ -164,7 +164,7 @@ fn is_blank<S: PageStore>(
     ensures same { IfOk result (TellsSame (S.image base.old) n blank.now) }
     ensures lock_page { n ≡ lock_page_of (length blank.now) → result ≡ Ok true }
     ensures cause { CountsFaults (S.faults base.old) (S.faults base.new) result }
-    ensures base { SameBase (S.image base.old) (S.image base.new) (S.page_size base.old) (S.page_size base.new) (S.commit base.old) (S.commit base.new) (S.wal_mode base.old) (S.wal_mode base.new) (S.is_broken base.old) (S.is_broken base.new) }
+    ensures base { SameBase S.PageStore base.old base.new }
 {
     let _page_size = base.page_size();
     let _commit = base.commit();

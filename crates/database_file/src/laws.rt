@@ -4,7 +4,7 @@ ghost use Rattle.lf_sqlite_pages.specs.Image.{DatabaseImage, IsImage, SameImage}
 ghost use Rattle.lf_sqlite_pages.specs.Change.{PageChange};
 ghost use Rattle.lf_sqlite_pages.specs.Apply.{apply};
 ghost use Rattle.database_file.specs.DatabaseFile.{DatabaseFile, FitsShape, KeepsDifferences, as_read, clean, count_of, is_clean, size_of};
-ghost use Rattle.database_file.specs.Commit.{change_of, cut_to, difference};
+ghost use Rattle.database_file.specs.Commit.{change_to, cut_to, difference};
 ghost use Rattle.database_file.specs.WalCommit.{change_over, under_log};
 
 /// A file that keeps nothing reads as the image, whatever that is; and of a file that keeps
@@ -30,7 +30,7 @@ pub fn difference_leads_to_the_other_image()
 /// keeps differences alone, from that image to the file cut to that count.
 pub fn change_leads_to_the_file()
     ensures is { (file : DatabaseFile) (image : DatabaseImage) (count : ℕ) → KeepsDifferences file image → count ≤ count_of file image
-        → change_of file image.page_size (length image.pages) count ≡ difference image (cut_to (as_read file image) count) }
+        → change_to file image.page_size (length image.pages) count ≡ difference image (cut_to (as_read file image) count) }
     ensures leads { (file : DatabaseFile) (image : DatabaseImage) (count : ℕ) → FitsShape file image.page_size (length image.pages) → IsImage image
         → count ≤ count_of file image → SameImage (apply image (difference image (cut_to (as_read file image) count))) (cut_to (as_read file image) count) }
 {}

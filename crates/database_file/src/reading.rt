@@ -71,7 +71,7 @@ impl DatabaseFile {
         requires whole { length out.old ≡ size_over self.now (S.page_size base.old) (S.commit base.old) }
         ensures bytes { OnOk result (IfSome (S.image base.old) (λ i. out.new ≡ page_of self.now i n)) }
         ensures cause { CountsFaults (S.faults base.old) (S.faults base.new) result }
-        ensures base { SameBase (S.image base.old) (S.image base.new) (S.page_size base.old) (S.page_size base.new) (S.commit base.old) (S.commit base.new) (S.wal_mode base.old) (S.wal_mode base.new) (S.is_broken base.old) (S.is_broken base.new) }
+        ensures base { SameBase S.PageStore base.old base.new }
     {
         self.read_page_without(&[], base, n, out)
     }
@@ -89,7 +89,7 @@ impl DatabaseFile {
         requires whole { length out.old ≡ size_over self.now (S.page_size base.old) (S.commit base.old) }
         ensures bytes { OnOk result (IfSome (S.image base.old) (λ i. out.new ≡ page_of (without_pages self.now passed.now) i n)) }
         ensures cause { CountsFaults (S.faults base.old) (S.faults base.new) result }
-        ensures base { SameBase (S.image base.old) (S.image base.new) (S.page_size base.old) (S.page_size base.new) (S.commit base.old) (S.commit base.new) (S.wal_mode base.old) (S.wal_mode base.new) (S.is_broken base.old) (S.is_broken base.new) }
+        ensures base { SameBase S.PageStore base.old base.new }
     {
         let _page_size = base.page_size();
         let commit = base.commit();
@@ -121,7 +121,7 @@ impl DatabaseFile {
         ensures length { OnOk result (length text.new.items ≡ length text.old.items + page_size) }
         ensures faults { OnOk result (S.faults base.new ≡ S.faults base.old) }
         ensures cause { IfErr result (HasCause (S.faults base.old) (S.faults base.new)) }
-        ensures base { SameBase (S.image base.old) (S.image base.new) (S.page_size base.old) (S.page_size base.new) (S.commit base.old) (S.commit base.new) (S.wal_mode base.old) (S.wal_mode base.new) (S.is_broken base.old) (S.is_broken base.new) }
+        ensures base { SameBase S.PageStore base.old base.new }
     {
         let start = text.len();
         text.resize(start + page_size as usize, 0)
@@ -150,7 +150,7 @@ impl DatabaseFile {
         ensures length { OnOk result (length text.new.items ≡ (after - before) * page_size) }
         ensures faults { OnOk result (S.faults base.new ≡ S.faults base.old) }
         ensures cause { IfErr result (HasCause (S.faults base.old) (S.faults base.new)) }
-        ensures base { SameBase (S.image base.old) (S.image base.new) (S.page_size base.old) (S.page_size base.new) (S.commit base.old) (S.commit base.new) (S.wal_mode base.old) (S.wal_mode base.new) (S.is_broken base.old) (S.is_broken base.new) }
+        ensures base { SameBase S.PageStore base.old base.new }
     {
         for number in before..after {
             self.append(passed, base, number + 1, page_size, text)?;
@@ -170,7 +170,7 @@ impl DatabaseFile {
         ensures bytes { IfOk result (λ bytes. IfSome (S.image base.old) (λ i. bytes.items ≡ bytes_from (image_bytes (as_read self.now i)) at size)) }
         ensures faults { OnOk result (S.faults base.new ≡ S.faults base.old) }
         ensures cause { IfErr result (HasCause (S.faults base.old) (S.faults base.new)) }
-        ensures base { SameBase (S.image base.old) (S.image base.new) (S.page_size base.old) (S.page_size base.new) (S.commit base.old) (S.commit base.new) (S.wal_mode base.old) (S.wal_mode base.new) (S.is_broken base.old) (S.is_broken base.new) }
+        ensures base { SameBase S.PageStore base.old base.new }
     {
         self.read_without(alloc, &[], base, at, size)
     }
@@ -189,7 +189,7 @@ impl DatabaseFile {
         ensures bytes { IfOk result (λ bytes. IfSome (S.image base.old) (λ i. bytes.items ≡ bytes_from (image_bytes (as_read (without_pages self.now passed.now) i)) at size)) }
         ensures faults { OnOk result (S.faults base.new ≡ S.faults base.old) }
         ensures cause { IfErr result (HasCause (S.faults base.old) (S.faults base.new)) }
-        ensures base { SameBase (S.image base.old) (S.image base.new) (S.page_size base.old) (S.page_size base.new) (S.commit base.old) (S.commit base.new) (S.wal_mode base.old) (S.wal_mode base.new) (S.is_broken base.old) (S.is_broken base.new) }
+        ensures base { SameBase S.PageStore base.old base.new }
     {
         let commit = base.commit();
         let page_size = self.size_over(base.page_size(), commit);

@@ -4,7 +4,7 @@ ghost use Rattle.std.specs.FinMap as pages;
 ghost use Rattle.lf_sqlite_pages.specs.LockPage.{IsDataPage};
 ghost use Rattle.lf_sqlite_pages.specs.Change.{last_number, written};
 ghost use Rattle.database_file.specs.CommitParts.{WritesTo, one_write};
-ghost use Rattle.database_file.specs.WalCommit.{change_over, page_over};
+ghost use Rattle.database_file.specs.WalCommit.{change_over, change_page};
 
 use crate::database_file::DatabaseFile;
 use crate::reading::zeros;
@@ -57,7 +57,7 @@ impl DatabaseFile {
         ensures size { OnOk result (change.new.page_size ≡ change.old.page_size) }
         ensures count { OnOk result (change.new.commit ≡ change.old.commit) }
         ensures last { OnOk result (last_number change.new.pages ≤ commit) }
-        ensures writes { OnOk result (WritesTo (page_over self.now news.now commit) commit change.new.pages) }
+        ensures writes { OnOk result (WritesTo (change_page self.now news.now commit) commit change.new.pages) }
     {
         let pages = news.pages();
         for at in 0..pages.len() {
@@ -80,7 +80,7 @@ impl DatabaseFile {
         requires last { last_number change.old.pages ≤ commit }
         requires blank { blank.now ≡ replicate news.now.page_size 0 }
         requires whole { length blank.now ≡ news.now.page_size }
-        requires writes { WritesTo (page_over self.now news.now commit) commit change.old.pages }
+        requires writes { WritesTo (change_page self.now news.now commit) commit change.old.pages }
         ensures { OnOk result (change.new ≡ change_over self.now news.now commit) }
     {
         for before in commit..news.commit() {
@@ -105,7 +105,7 @@ impl DatabaseFile {
         requires within { n ≤ news.now.commit }
         requires whole { length blank.now ≡ news.now.page_size }
         requires blank { blank.now ≡ replicate news.now.page_size 0 }
-        ensures ok { OnOk result ((commit : ℕ) → commit < n → change.new ≡ record change.old { pages = change.old.pages ++ one_write n (page_over self.now news.now commit n) }) }
+        ensures ok { OnOk result ((commit : ℕ) → commit < n → change.new ≡ record change.old { pages = change.old.pages ++ one_write n (change_page self.now news.now commit n) }) }
         ensures last { OnOk result (last_number change.new.pages ≤ n) }
     {
         if n == lock_page(news.page_size()) {

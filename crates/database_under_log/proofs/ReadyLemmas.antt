@@ -13,7 +13,7 @@ use Rattle.lf_sqlite_pages.specs.Apply.{apply}
 use Rattle.lf_sqlite_pages.proofs.Laws.{length-apply}
 use Rattle.lf_sqlite_pages.proofs.Writes.{written-writes_of}
 use Rattle.database_file.specs.DatabaseFile.{DatabaseFile, FitsShape, KeepsDifferences, count_over, count_of, size_over, size_of, page_of, as_read}
-use Rattle.database_file.specs.WalCommit.{change_over, page_over}
+use Rattle.database_file.specs.WalCommit.{change_over, change_page}
 use Rattle.database_file.specs.WritingParts.{Pages, counted}
 use Rattle.database_file.proofs.WriteLemmas.{counted-over, counted-differs, same-pages}
 use Rattle.database_under_log.specs.Staying.{WaitingWrite, without, finished, forgotten, StaysAsRead}
@@ -29,7 +29,7 @@ use Rattle.wal_watch.proofs.LawLemmas.{last_some}
 use Rattle.database_under_log.specs.Fault.{wanted_size}
 use Rattle.database_under_log.specs.LogChange.{log_change}
 use Rattle.database_under_log.specs.Over.{over, Agrees, FollowsLog}
-use Rattle.database_under_log.specs.Waiting.{Commits, MayChangeHeader}
+use Rattle.database_under_log.specs.Waiting.{WaitsOver, MayChangeHeader}
 use Rattle.database_under_log.specs.WaitingParts.{Stays}
 use Rattle.database_under_log.specs.declared.waiting.LogCommit.{LogCommit}
 use Rattle.database_under_log.proofs.CommitLemmas.{commit-leads}
@@ -43,9 +43,9 @@ change-complete file news change commit is = subst (λ (c : PageChange). (n : �
     (λ n past high data_page.
     let lock : (n == lock_page_of news.page_size) ≡ false = ne_eqb n (lock_page_of news.page_size) data_page in
     let beyond : nat_le n commit ≡ false = grind (arith, nat_tests) in
-    let here : page_over file news commit n ≡ Some (unwrap_or (written news.pages n) (unwrap_or (pages.get file.kept n) (replicate news.page_size 0))) = rw (lock, beyond) refl in
+    let here : change_page file news commit n ≡ Some (unwrap_or (written news.pages n) (unwrap_or (pages.get file.kept n) (replicate news.page_size 0))) = rw (lock, beyond) refl in
     some (written (change_over file news commit).pages n) (unwrap_or (written news.pages n) (unwrap_or (pages.get file.kept n) (replicate news.page_size 0)))
-    (written-writes_of (page_over file news commit) news.commit n (omega (arith, past)) high ∙ here)) where
+    (written-writes_of (change_page file news commit) news.commit n (omega (arith, past)) high ∙ here)) where
       some : (o : Option (List ℕ)) (page : List ℕ) → o ≡ Some page → IsSome o
       some None page e = absurd cc
       some (Some p) page e = refl
@@ -176,7 +176,7 @@ pub told-commits : (told : Option DatabaseImage) (before after : DatabaseFile) (
     KeepsCommitted old new → first_new old new < committed_count new → FitsShape before page_size commit →
     (0 < count_over before commit → size_over before page_size commit ≡ page_size_in new) → c.change ≡ log_change before old new commit →
     IfSome told (λ i. KeepsDifferences before i → Stays before after i c) →
-    IfSome told (λ i. MayChangeHeader before old new → KeepsDifferences before i → Agrees before i old → Commits before after i new c)
+    IfSome told (λ i. MayChangeHeader before old new → KeepsDifferences before i → Agrees before i old → WaitsOver before after i new c)
 told-commits None before after old new page_size commit c t1 t2 kept more fits sized change stays = tt
 told-commits (Some i) before after old new page_size commit c t1 t2 kept more fits sized change stays = λ clean keeps agrees.
     let fits_i : FitsShape before i.page_size (length i.pages) = subst (λ (p : ℕ). FitsShape before p (length i.pages)) t1 (subst (λ (k : ℕ). FitsShape before page_size k) t2 fits) in
@@ -186,10 +186,12 @@ told-commits (Some i) before after old new page_size commit c t1 t2 kept more fi
     let leads : apply i c.change ≡ over (as_read before i) new = ap (apply i) is ∙ commit-leads old new before i kept more clean fits_i sized_i agrees in
     let held = stays keeps in
     record {
-      leads = leads;
       reads = held.reads;
-      stays = held.stays;
-      agrees = over-pages (as_read (finished after c.write) (apply i c.change)) (as_read before i) new held.stays.reads ∙ ap (λ (j : DatabaseImage). j.pages) (sym leads);
+      led = record {
+        leads = leads;
+        stays = held.stays;
+        agrees = over-pages (as_read (finished after c.write) (apply i c.change)) (as_read before i) new held.stays.reads ∙ ap (λ (j : DatabaseImage). j.pages) (sym leads);
+      };
     }
 
 pub told-stored : (told : Option DatabaseImage) (file : DatabaseFile) (old new : List ℕ) → KeepsCommitted old new → change_between old new ≡ None →

@@ -3,6 +3,7 @@ use Rattle.std.specs.Prelude.{◌≡◌, ◌≢◌, ℕ, ◌<◌, true, None, Li
 use Rattle.lf_base.specs.FileBytes.{written}
 use Rattle.lf_sqlite_pages.specs.Apply.{apply}
 use Rattle.lf_sqlite_pages.specs.Blocks.{IsWithin}
+use Rattle.lf_sqlite_pages.specs.Change.{PageChange}
 use Rattle.lf_sqlite_pages.specs.Image.{DatabaseImage}
 use Rattle.lf_sqlite_pages.specs.LockPage.{IsWithinLimit}
 use Rattle.wal_watch.specs.File.{Wal, contents_of, after_write, with_room}
@@ -28,13 +29,18 @@ pub record IsReady (old new : DatabaseFile) (contents : List ℕ) (page_size com
   pub fits : FitsShape new page_size commit
   pub later : FitsShape (finished new c.write) c.change.page_size c.change.commit
 
--- and over the image, where that is told: the change leads to the database under the new contents; meanwhile the file reads as
--- before, and so it does over the new image once it is finished
-pub record Commits (old new : DatabaseFile) (image : DatabaseImage) (contents : List ℕ) (c : LogCommit) : Type 0 where
-  pub leads : apply image c.change ≡ over (as_read old image) contents
+-- a change leads to the database under the log's new bytes; over that image a later file reads as the old one did over the old
+-- image, and agrees with the log
+pub record LeadsUnderLog (old : DatabaseFile) (image : DatabaseImage) (contents : List ℕ) (change : PageChange) (later : DatabaseFile) : Type 0 where
+  pub leads : apply image change ≡ over (as_read old image) contents
+  pub stays : StaysAsRead old image later (apply image change)
+  pub agrees : Agrees later (apply image change) contents
+
+-- and over the image, where that is told: the file reads as before while the write waits, and its change leads on to the file
+-- once it is finished
+pub record WaitsOver (old new : DatabaseFile) (image : DatabaseImage) (contents : List ℕ) (c : LogCommit) : Type 0 where
   pub reads : as_read new image ≡ as_read old image
-  pub stays : StaysAsRead old image (finished new c.write) (apply image c.change)
-  pub agrees : Agrees (finished new c.write) (apply image c.change) contents
+  pub led : LeadsUnderLog old image contents c.change (finished new c.write)
 
 -- the log reads as before, and has room for the write
 pub record HasRoomFor (old new : Wal) (at : ℕ) (bytes : List ℕ) : Type 0 where
@@ -66,4 +72,4 @@ IsLimited contents (Waiting c) = IsWithinLimit (page_size_in contents) (last_siz
 -- and over the image, where that is told
 abbrev pub IsPreparedOver : DatabaseFile → DatabaseFile → DatabaseImage → List ℕ → LogWrite → Type 0
 IsPreparedOver old new image contents Stored = Agrees old image contents
-IsPreparedOver old new image contents (Waiting c) = Commits old new image contents c
+IsPreparedOver old new image contents (Waiting c) = WaitsOver old new image contents c

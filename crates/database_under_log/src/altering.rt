@@ -24,7 +24,7 @@ fn is_there<S: PageStore>(
     requires whole { length page.old ≡ S.page_size base.old }
     ensures same { IfOk result (TellsSame (S.image base.old) n bytes.now) }
     ensures cause { CountsFaults (S.faults base.old) (S.faults base.new) result }
-    ensures base { SameBase (S.image base.old) (S.image base.new) (S.page_size base.old) (S.page_size base.new) (S.commit base.old) (S.commit base.new) (S.wal_mode base.old) (S.wal_mode base.new) (S.is_broken base.old) (S.is_broken base.new) }
+    ensures base { SameBase S.PageStore base.old base.new }
 {
     base.page(n, page)?;
     let page: &[u8] = page;
@@ -43,7 +43,7 @@ fn writes_the_same<S: PageStore>(
     requires whole { length page.old ≡ change.now.page_size }
     ensures told { IfOk result (λ same. IfSome (S.image base.old) (λ i. IsTrue same ↔ SameImage (apply i change.now) i)) }
     ensures cause { CountsFaults (S.faults base.old) (S.faults base.new) result }
-    ensures base { SameBase (S.image base.old) (S.image base.new) (S.page_size base.old) (S.page_size base.new) (S.commit base.old) (S.commit base.new) (S.wal_mode base.old) (S.wal_mode base.new) (S.is_broken base.old) (S.is_broken base.new) }
+    ensures base { SameBase S.PageStore base.old base.new }
 {
     let _page_size = base.page_size();
     let _commit = base.commit();
@@ -69,7 +69,7 @@ pub fn leaves_image<S: PageStore>(
     ensures count { IfOk result (λ same. IsTrue same → change.now.commit ≡ S.commit base.old) }
     ensures faults { OnOk result (S.faults base.new ≡ S.faults base.old) }
     ensures cause { IfErr result (HasCause (S.faults base.old) (S.faults base.new)) }
-    ensures base { SameBase (S.image base.old) (S.image base.new) (S.page_size base.old) (S.page_size base.new) (S.commit base.old) (S.commit base.new) (S.wal_mode base.old) (S.wal_mode base.new) (S.is_broken base.old) (S.is_broken base.new) }
+    ensures base { SameBase S.PageStore base.old base.new }
 {
     if change.commit() != base.commit() {
         return Ok(false);

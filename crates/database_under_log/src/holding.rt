@@ -93,7 +93,7 @@ fn hold<S: PageStore>(
     ensures shape { (file.new.page_size ≡ file.old.page_size) × (file.new.count ≡ file.old.count) }
     ensures faults { OnOk result (S.faults base.new ≡ S.faults base.old) }
     ensures cause { IfErr result (HasCause (S.faults base.old) (S.faults base.new)) }
-    ensures base { SameBase (S.image base.old) (S.image base.new) (S.page_size base.old) (S.page_size base.new) (S.commit base.old) (S.commit base.new) (S.wal_mode base.old) (S.wal_mode base.new) (S.is_broken base.old) (S.is_broken base.new) }
+    ensures base { SameBase S.PageStore base.old base.new }
 {
     file.read_page(base, n, page)?;
     let left = is_left(new, page);
@@ -122,7 +122,7 @@ pub(crate) fn hold_pages<S: PageStore>(
     ensures shape { (file.new.page_size ≡ file.old.page_size) × (file.new.count ≡ file.old.count) }
     ensures faults { OnOk result (S.faults base.new ≡ S.faults base.old) }
     ensures cause { IfErr result (HasCause (S.faults base.old) (S.faults base.new)) }
-    ensures base { SameBase (S.image base.old) (S.image base.new) (S.page_size base.old) (S.page_size base.new) (S.commit base.old) (S.commit base.new) (S.wal_mode base.old) (S.wal_mode base.new) (S.is_broken base.old) (S.is_broken base.new) }
+    ensures base { SameBase S.PageStore base.old base.new }
 {
     let _page_size = base.page_size();
     let commit = base.commit();

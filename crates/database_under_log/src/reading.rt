@@ -24,7 +24,7 @@ pub fn read_before<S: PageStore>(
     ensures bytes { IfOk result (λ bytes. IfSome (S.image base.old) (λ i. bytes.items ≡ bytes_from (image_bytes (as_read (forgotten file.now write.now) i)) at size)) }
     ensures faults { OnOk result (S.faults base.new ≡ S.faults base.old) }
     ensures cause { IfErr result (HasCause (S.faults base.old) (S.faults base.new)) }
-    ensures base { SameBase (S.image base.old) (S.image base.new) (S.page_size base.old) (S.page_size base.new) (S.commit base.old) (S.commit base.new) (S.wal_mode base.old) (S.wal_mode base.new) (S.is_broken base.old) (S.is_broken base.new) }
+    ensures base { SameBase S.PageStore base.old base.new }
 {
     file.read_without(alloc, write.held.added.as_slice(), base, at, size)
 }

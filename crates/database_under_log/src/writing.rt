@@ -68,7 +68,7 @@ fn hold_commit<S: PageStore>(
     ensures told { IfOk result (λ c. IfSome (S.image base.old) (λ i. KeepsDifferences file.old i → Stays file.old file.new i c)) }
     ensures err { OnErr result (file.new ≡ file.old) }
     ensures cause { IfErr result (HasCause (S.faults base.old) (S.faults base.new)) }
-    ensures base { SameBase (S.image base.old) (S.image base.new) (S.page_size base.old) (S.page_size base.new) (S.commit base.old) (S.commit base.new) (S.wal_mode base.old) (S.wal_mode base.new) (S.is_broken base.old) (S.is_broken base.new) }
+    ensures base { SameBase S.PageStore base.old base.new }
     ensures faults { OnOk result (S.faults base.new ≡ S.faults base.old) }
 {
     let before = base.commit();
@@ -116,7 +116,7 @@ fn limited_commit<S: PageStore>(
     ensures limit { OnOk result (IsWithinLimit (page_size_in (contents_of log.now)) (last_size (contents_of log.now))) }
     ensures err { OnErr result (file.new ≡ file.old) }
     ensures cause { IfErr result (HasCommitCause (contents_of log.now) (S.faults base.old) (S.faults base.new)) }
-    ensures base { SameBase (S.image base.old) (S.image base.new) (S.page_size base.old) (S.page_size base.new) (S.commit base.old) (S.commit base.new) (S.wal_mode base.old) (S.wal_mode base.new) (S.is_broken base.old) (S.is_broken base.new) }
+    ensures base { SameBase S.PageStore base.old base.new }
     ensures faults { OnOk result (S.faults base.new ≡ S.faults base.old) }
 {
     if !is_within_limit(news.page_size(), news.commit()) {
@@ -159,7 +159,7 @@ pub fn prepare_log_write<S: PageStore>(
     ensures err_file { OnErr result (file.new ≡ file.old) }
     ensures err_log { OnErr result (log.new.contents ≡ log.old.contents) }
     ensures cause { IfErr result (HasWriteCause (contents_of log.old) (wanted_size (S.page_size base.old) (S.commit base.old)) at bytes.now (S.faults base.old) (S.faults base.new)) }
-    ensures base { SameBase (S.image base.old) (S.image base.new) (S.page_size base.old) (S.page_size base.new) (S.commit base.old) (S.commit base.new) (S.wal_mode base.old) (S.wal_mode base.new) (S.is_broken base.old) (S.is_broken base.new) }
+    ensures base { SameBase S.PageStore base.old base.new }
 {
     let page_size = wanted_size(base);
     match log.write(page_size, at, bytes)? {

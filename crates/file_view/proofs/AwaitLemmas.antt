@@ -9,6 +9,7 @@ use Rattle.byte_locks.specs.declared.lock_bytes.FileKind.TheVariants as file
 use Rattle.database_file.specs.Commit.{IsChangeOf}
 use Rattle.database_file.specs.DatabaseFile.{DatabaseFile, FitsShape, KeepsDifferences, size_over, clean, is_clean}
 use Rattle.database_under_log.specs.Over.{Agrees}
+use Rattle.database_under_log.specs.Waiting.{LeadsUnderLog}
 use Rattle.database_under_log.proofs.KeepLemmas.{clean-agrees}
 use Rattle.file_handles.specs.Names.{file_named}
 use Rattle.file_handles.specs.Nodes.{file_at}
@@ -30,9 +31,9 @@ use Rattle.file_view.specs.declared.plan.Plan.TheVariants as plan
 use Rattle.file_view.specs.declared.scene.Scene.{Scene}
 use Rattle.file_view.specs.Done.{MayCommit, IsWritten, IsSized, IsUnlinked, IsDoneAt, IsDone}
 use Rattle.file_view.specs.Endings.{committed}
-use Rattle.file_view.specs.JournalRules.{ends_writing, finishing_rows, Commits, JournalDone}
+use Rattle.file_view.specs.JournalRules.{ends_writing, finishing_rows, JournalCommits, JournalDone}
 use Rattle.file_view.specs.JournalState.{holding}
-use Rattle.file_view.specs.LogRules.{LeadsUnderLog, log_after, log_write_rows, LogWaits, LogDone}
+use Rattle.file_view.specs.LogRules.{log_after, log_write_rows, LogWaits, LogDone}
 use Rattle.file_view.specs.NameRules.{unlinking_rows}
 use Rattle.file_view.specs.Overlay.{IsOverImage, StandsOver, AwaitsOver}
 use Rattle.file_view.specs.Refusal.{first_refusal, IsAllowed}
@@ -62,7 +63,7 @@ clean-stands told page_size commit s d sized database alone none = record {
 
 -- a call on the journal that waits: the file isn't the image then, so the log has no frames
 waiting-unframed : (told : Option DatabaseImage) (s : Served) (scene : Scene) (given : Option ℕ) (c : JournalCall) (change : PageChange) →
-    first_refusal (finishing_rows s scene given c) ≡ None → Commits told s scene c (Some change) → (ends_writing s c ≡ true) × (has_committed_frames s ≡ false)
+    first_refusal (finishing_rows s scene given c) ≡ None → JournalCommits told s scene c (Some change) → (ends_writing s c ≡ true) × (has_committed_frames s ≡ false)
 waiting-unframed told s scene given c change none commits = elim (cases_Bool (ends_writing s c)) [
   | inl ends ↦ (
     ends,

@@ -23,12 +23,12 @@ use Rattle.database_file.specs.DatabaseFile.{DatabaseFile, KeepsDifferences}
 use Rattle.database_under_log.specs.Fault.{wanted_size}
 use Rattle.database_under_log.specs.Over.{Agrees, FollowsLog}
 use Rattle.database_under_log.specs.Staying.{forgotten}
-use Rattle.database_under_log.specs.Waiting.{IsReady, IsStored, HasRoomFor, MayChangeHeader, Commits}
+use Rattle.database_under_log.specs.Waiting.{IsReady, IsStored, HasRoomFor, LeadsUnderLog, MayChangeHeader, WaitsOver}
 use Rattle.database_under_log.specs.declared.waiting.LogCommit.{LogCommit}
 use Rattle.file_view.specs.DatabaseState.{DatabaseState, HeldWrite}
 use Rattle.file_view.specs.HeldParts.{before, held_of, IsSettled, IsLogStored, IsLogHeld, LogWrites, LogWrote, held_for}
 use Rattle.file_view.specs.declared.database.Held.{Held}
-use Rattle.file_view.specs.LogRules.{FollowsImage, IsMade, commits_frames, LeadsUnderLog}
+use Rattle.file_view.specs.LogRules.{FollowsImage, IsMade, commits_frames}
 use Rattle.file_view.proofs.HeldLemmas.{free-file}
 
 -- where a write leaves committed frames, the log has the image's page size
@@ -126,16 +126,16 @@ same-made : (told : Option DatabaseImage) (change is : PageChange) → change �
 same-made told change is e same = subst (λ (x : PageChange). IfSome told (λ i. IsMade i x None)) e same
 
 same-agrees : (told : Option DatabaseImage) (old mid : DatabaseFile) (log : List ℕ) (contents : List ℕ) (c : LogCommit) → MayChangeHeader old log contents →
-    IfSome told (λ i. MayChangeHeader old log contents → KeepsDifferences old i → Agrees old i log → Commits old mid i contents c) → IfSome told (λ i. SameImage (apply i c.change) i) →
+    IfSome told (λ i. MayChangeHeader old log contents → KeepsDifferences old i → Agrees old i log → WaitsOver old mid i contents c) → IfSome told (λ i. SameImage (apply i c.change) i) →
     IfSome told (λ i. KeepsDifferences old i → Agrees old i log → Agrees old i contents)
 same-agrees None old mid log contents c may commits same = tt
 same-agrees (Some i) old mid log contents c may commits same = λ keeps agrees.
-    subst (λ (x : DatabaseImage). SameImage x i) (commits may keeps agrees).leads same
+    subst (λ (x : DatabaseImage). SameImage x i) (commits may keeps agrees).led.leads same
 
 settled-none : (told : Option DatabaseImage) (page_size commit at : ℕ) (bytes : List ℕ) (old mid new : DatabaseFile) (log room later : Wal) (c : LogCommit) →
     IsReady old mid (contents_of log) page_size commit at bytes c → HasRoomFor log room at bytes → MayChangeHeader old (contents_of log) (written at bytes (contents_of log)) →
     IsSoundWrite (contents_of log) (wanted_size page_size commit) at bytes → (0 < commit → IsPageSize page_size) →
-    IfSome told (λ i. MayChangeHeader old (contents_of log) (written at bytes (contents_of log)) → KeepsDifferences old i → Agrees old i (contents_of log) → Commits old mid i (written at bytes (contents_of log)) c) →
+    IfSome told (λ i. MayChangeHeader old (contents_of log) (written at bytes (contents_of log)) → KeepsDifferences old i → Agrees old i (contents_of log) → WaitsOver old mid i (written at bytes (contents_of log)) c) →
     IsSettled told commit c mid room at bytes None new later → IsLogStored told page_size commit old log at bytes new later
 settled-none told page_size commit at bytes old mid new log room later c ready has may sound valid commits is =
     let count : last_size (written at bytes (contents_of log)) ≡ commit = sym (ap (λ (x : PageChange). x.commit) ready.change) ∙ is.2 in
@@ -161,15 +161,14 @@ other-made : (told : Option DatabaseImage) (change is : PageChange) → change �
 other-made told change is e other = subst (λ (x : PageChange). IfSome told (λ i. IsMade i x (Some change))) e other
 
 leads-on : (told : Option DatabaseImage) (old mid : DatabaseFile) (log : List ℕ) (contents : List ℕ) (c : LogCommit) → MayChangeHeader old log contents →
-    IfSome told (λ i. MayChangeHeader old log contents → KeepsDifferences old i → Agrees old i log → Commits old mid i contents c) →
+    IfSome told (λ i. MayChangeHeader old log contents → KeepsDifferences old i → Agrees old i log → WaitsOver old mid i contents c) →
     IfSome told (λ i. KeepsDifferences old i → Agrees old i log → LeadsUnderLog old i contents c.change (held_for mid c.write).file)
 leads-on None old mid log contents c may commits = tt
-leads-on (Some i) old mid log contents c may commits = λ keeps agrees.
-    let all = commits may keeps agrees in record { leads = all.leads; stays = all.stays; agrees = all.agrees }
+leads-on (Some i) old mid log contents c may commits = λ keeps agrees. (commits may keeps agrees).led
 
 settled-some : (told : Option DatabaseImage) (page_size commit at : ℕ) (bytes : List ℕ) (old mid : DatabaseFile) (log room : Wal) (c : LogCommit) →
     IsReady old mid (contents_of log) page_size commit at bytes c → HasRoomFor log room at bytes → MayChangeHeader old (contents_of log) (written at bytes (contents_of log)) →
-    IfSome told (λ i. MayChangeHeader old (contents_of log) (written at bytes (contents_of log)) → KeepsDifferences old i → Agrees old i (contents_of log) → Commits old mid i (written at bytes (contents_of log)) c) →
+    IfSome told (λ i. MayChangeHeader old (contents_of log) (written at bytes (contents_of log)) → KeepsDifferences old i → Agrees old i (contents_of log) → WaitsOver old mid i (written at bytes (contents_of log)) c) →
     IfSome told (λ i. SameImage (apply i c.change) i → ⊥) → IsLogHeld told commit old log at bytes c mid room
 settled-some told page_size commit at bytes old mid log room c ready has may commits other = record {
   commits = record {
@@ -191,7 +190,7 @@ settled-some told page_size commit at bytes old mid log room c ready has may com
 pub settled : (told : Option DatabaseImage) (page_size commit at : ℕ) (bytes : List ℕ) (old mid new : DatabaseFile) (log room later : Wal) (c : LogCommit) (s : Option LogCommit) →
     IsReady old mid (contents_of log) page_size commit at bytes c → HasRoomFor log room at bytes → MayChangeHeader old (contents_of log) (written at bytes (contents_of log)) →
     IsSoundWrite (contents_of log) (wanted_size page_size commit) at bytes → (0 < commit → IsPageSize page_size) →
-    IfSome told (λ i. MayChangeHeader old (contents_of log) (written at bytes (contents_of log)) → KeepsDifferences old i → Agrees old i (contents_of log) → Commits old mid i (written at bytes (contents_of log)) c) →
+    IfSome told (λ i. MayChangeHeader old (contents_of log) (written at bytes (contents_of log)) → KeepsDifferences old i → Agrees old i (contents_of log) → WaitsOver old mid i (written at bytes (contents_of log)) c) →
     IsSettled told commit c mid room at bytes s new later → LogWrites told page_size commit old log at bytes s new later
 settled told page_size commit at bytes old mid new log room later c None ready has may sound valid commits is =
     settled-none told page_size commit at bytes old mid new log room later c ready has may sound valid commits is

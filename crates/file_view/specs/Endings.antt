@@ -1,11 +1,11 @@
 -- What happens to the served files beside requests.
-use Rattle.std.specs.Prelude.{ℕ, ◌==◌, Bool, true, false, Option, Some, None, List, [], ◌∷◌, find, if◌then◌else◌}
+use Rattle.std.specs.Prelude.{ℕ, ◌==◌, Bool, Option, Some, None, [], find, if◌then◌else◌}
 use Rattle.std.specs.Option.{option_map}
 use Rattle.byte_locks.specs.declared.owner.Owner.{Owner}
 use Rattle.byte_locks.specs.declared.lock_id.LockId.{LockId}
-use Rattle.byte_locks.specs.declared.lock_id.LockId.TheVariants as lock
 use Rattle.byte_locks.specs.LockEntry.{of_session}
 use Rattle.byte_locks.specs.LockList.{is_held, without}
+use Rattle.byte_locks.specs.ModeLocks.{blocking_locks}
 use Rattle.database_file.specs.DatabaseFile.{clean}
 use Rattle.file_handles.specs.Handles.{without_session}
 use Rattle.shm_index.specs.Shared.{Shared}
@@ -60,11 +60,6 @@ applied s page_size commit = record s {
   writer = None;
 }
 
--- the locks that hold a frame back, in order, by the mode of the committed image
-unfoldable pub blocking_locks : Bool → List LockId
-blocking_locks false = lock.Pending ∷ lock.Reserved ∷ lock.Shared ∷ []
-blocking_locks true = lock.Write ∷ lock.Ckpt ∷ lock.Recover ∷ lock.Read0 ∷ lock.Read1 ∷ lock.Read2 ∷ lock.Read3 ∷ lock.Read4 ∷ []
-
--- the first of them that anybody holds
+-- the first lock that holds a frame back, by the mode of the committed image
 abbrev pub first_blocking : Served → Bool → Option LockId
 first_blocking s wal = find (is_held s.locks) (blocking_locks wal)

@@ -57,7 +57,7 @@ journal_unlink_rows s scene =
 
 -- the change that a call commits, if it does: where it ends a transaction that has written pages, the change that leads from the
 -- committed image to the database file, cut to its header's size. A file that is the image commits nothing
-pub record Commits (told : Option DatabaseImage) (s : Served) (scene : Scene) (c : JournalCall) (change : Option PageChange) : Type 0 where
+pub record JournalCommits (told : Option DatabaseImage) (s : Served) (scene : Scene) (c : JournalCall) (change : Option PageChange) : Type 0 where
   pub nothing : ends_writing s c ≡ false → change ≡ None
   pub of_the_image : is_clean s.database ≡ true → change ≡ None
   pub leads : ends_writing s c ≡ true → IfSome told (λ i. KeepsDifferences s.database i → LeadsTo i (committed_image s.database i) change)
@@ -72,5 +72,5 @@ after_journal_call s c =
 
 -- what a call does: it is done where it commits nothing; else it waits for its commit, and all else stays
 abbrev pub JournalDone : Option DatabaseImage → Served → Scene → JournalCall → Option PageChange → Served → Type 0
-JournalDone told old scene c None new = Commits told old scene c None × (new ≡ after_journal_call old c)
-JournalDone told old scene c (Some change) new = Commits told old scene c (Some change) × (new ≡ record old { journal = holding old.journal c })
+JournalDone told old scene c None new = JournalCommits told old scene c None × (new ≡ after_journal_call old c)
+JournalDone told old scene c (Some change) new = JournalCommits told old scene c (Some change) × (new ≡ record old { journal = holding old.journal c })

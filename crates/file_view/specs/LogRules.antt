@@ -3,11 +3,11 @@ use Rattle.std.specs.Prelude.{◌≡◌, ℕ, ◌+◌, ◌<◌, ◌==◌, Bool, 
 use Rattle.std.specs.Str.{bytes_eq}
 use Rattle.byte_locks.specs.declared.lock_id.LockId.TheVariants as lock
 use Rattle.byte_locks.specs.LockList.{LockList}
-use Rattle.database_file.specs.DatabaseFile.{DatabaseFile, FitsShape, KeepsDifferences, as_read, is_clean}
+use Rattle.database_file.specs.DatabaseFile.{DatabaseFile, FitsShape, KeepsDifferences, is_clean}
 use Rattle.database_under_log.specs.Fault.{wanted_size}
 use Rattle.database_under_log.specs.LogChange.{log_change}
-use Rattle.database_under_log.specs.Over.{over, Agrees}
-use Rattle.database_under_log.specs.Staying.{StaysAsRead}
+use Rattle.database_under_log.specs.Over.{Agrees}
+use Rattle.database_under_log.specs.Waiting.{LeadsUnderLog}
 use Rattle.journal_watch.specs.Journal.{is_active}
 use Rattle.lf_base.specs.FileBytes.{resized, written}
 use Rattle.lf_sqlite_pages.specs.Apply.{apply}
@@ -87,13 +87,6 @@ pub record LogCommits (told : Option DatabaseImage) (file : DatabaseFile) (old n
 pub record LogKeeps (told : Option DatabaseImage) (file : DatabaseFile) (old new : List ℕ) (page_size commit : ℕ) : Type 0 where
   pub follows : FollowsImage new page_size commit
   pub agrees : IfSome told (λ i. KeepsDifferences file i → Agrees file i old → Agrees file i new)
-
--- a change leads to the database under the log's new bytes; over that image a later file reads as the old one did over the old
--- image, and agrees with the log
-pub record LeadsUnderLog (old : DatabaseFile) (image : DatabaseImage) (contents : List ℕ) (change : PageChange) (later : DatabaseFile) : Type 0 where
-  pub leads : apply image change ≡ over (as_read old image) contents
-  pub stays : StaysAsRead old image later (apply image change)
-  pub agrees : Agrees later (apply image change) contents
 
 -- a write of bytes waits for its change, and leaves a file that fits the image with it
 pub record IsHeldFor (told : Option DatabaseImage) (file : DatabaseFile) (old : List ℕ) (at : ℕ) (bytes : List ℕ) (change : PageChange) (w : HeldWrite) : Type 0 where

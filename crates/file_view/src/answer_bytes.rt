@@ -50,7 +50,7 @@ impl View {
         ensures done { IfOk result (λ plan. IsSomeAnd (file_number node) (λ file. (bytes : List ℕ) × HasRead (S.image base.old) self.now scene.now file at size bytes plan self.now)) }
         ensures allowed { OnOk result (IsAllowed (handle_rows self.now scene.now node fh)) }
         ensures cause { IfErr result (HasReadCause (read_needs (file_number node)) (handle_rows self.now scene.now node fh) (S.faults base.old) (S.faults base.new)) }
-        ensures base { SameBase (S.image base.old) (S.image base.new) (S.page_size base.old) (S.page_size base.new) (S.commit base.old) (S.commit base.new) (S.wal_mode base.old) (S.wal_mode base.new) (S.is_broken base.old) (S.is_broken base.new) }
+        ensures base { SameBase S.PageStore base.old base.new }
     {
         let file = self.handle(scene, node, fh)?;
         let bytes = self.read_file(alloc, scene, base, file, at, size)?;
@@ -75,7 +75,7 @@ impl View {
         ensures allowed { OnOk result (IsAllowed (write_rows self.old scene.now (Some file) given at bytes.now)) }
         ensures cause { IfErr result (HasReadCause (write_needs (Some file)) (write_rows self.old scene.now (Some file) given at bytes.now) (S.faults base.old) (S.faults base.new)) }
         ensures err { OnErr result (self.new ≡ self.old) }
-        ensures base { SameBase (S.image base.old) (S.image base.new) (S.page_size base.old) (S.page_size base.new) (S.commit base.old) (S.commit base.new) (S.wal_mode base.old) (S.wal_mode base.new) (S.is_broken base.old) (S.is_broken base.new) }
+        ensures base { SameBase S.PageStore base.old base.new }
     {
         match file {
             FileKind::Database => {
@@ -119,7 +119,7 @@ impl View {
         ensures allowed { OnOk result (IsAllowed (handle_rows self.old scene.now node fh ++ write_rows self.old scene.now (file_number node) given at bytes.now)) }
         ensures cause { IfErr result (HasReadCause (write_needs (file_number node)) (handle_rows self.old scene.now node fh ++ write_rows self.old scene.now (file_number node) given at bytes.now) (S.faults base.old) (S.faults base.new)) }
         ensures err { OnErr result (self.new ≡ self.old) }
-        ensures base { SameBase (S.image base.old) (S.image base.new) (S.page_size base.old) (S.page_size base.new) (S.commit base.old) (S.commit base.new) (S.wal_mode base.old) (S.wal_mode base.new) (S.is_broken base.old) (S.is_broken base.new) }
+        ensures base { SameBase S.PageStore base.old base.new }
     {
         let file = self.handle(scene, node, fh)?;
         self.write_file(alloc, scene, base, file, given, at, bytes)

@@ -75,7 +75,7 @@ impl View {
         ensures allowed { OnOk result (IsAllowed (unlinking_rows self.old scene.now (Some file))) }
         ensures cause { IfErr result (HasReadCause (unlink_needs (Some file)) (unlinking_rows self.old scene.now (Some file)) (S.faults base.old) (S.faults base.new)) }
         ensures err { OnErr result (self.new ≡ self.old) }
-        ensures base { SameBase (S.image base.old) (S.image base.new) (S.page_size base.old) (S.page_size base.new) (S.commit base.old) (S.commit base.new) (S.wal_mode base.old) (S.wal_mode base.new) (S.is_broken base.old) (S.is_broken base.new) }
+        ensures base { SameBase S.PageStore base.old base.new }
     {
         match file {
             FileKind::Journal => {
@@ -111,7 +111,7 @@ impl View {
         ensures allowed { OnOk result (IsAllowed (unlink_rows self.old scene.now node name.now)) }
         ensures cause { IfErr result (HasReadCause (unlink_needs (named self.old.name name.now)) (unlink_rows self.old scene.now node name.now) (S.faults base.old) (S.faults base.new)) }
         ensures err { OnErr result (self.new ≡ self.old) }
-        ensures base { SameBase (S.image base.old) (S.image base.new) (S.page_size base.old) (S.page_size base.new) (S.commit base.old) (S.commit base.new) (S.wal_mode base.old) (S.wal_mode base.new) (S.is_broken base.old) (S.is_broken base.new) }
+        ensures base { SameBase S.PageStore base.old base.new }
     {
         let file = self.lookup(scene, node, name)?;
         self.unlink_file(alloc, scene, base, file)

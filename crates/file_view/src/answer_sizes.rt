@@ -53,7 +53,7 @@ impl View {
         ensures allowed { OnOk result (IsAllowed (size_rows self.old scene.now (Some file) given len)) }
         ensures cause { IfErr result (HasReadCause (size_needs (Some file)) (size_rows self.old scene.now (Some file) given len) (S.faults base.old) (S.faults base.new)) }
         ensures err { OnErr result (self.new ≡ self.old) }
-        ensures base { SameBase (S.image base.old) (S.image base.new) (S.page_size base.old) (S.page_size base.new) (S.commit base.old) (S.commit base.new) (S.wal_mode base.old) (S.wal_mode base.new) (S.is_broken base.old) (S.is_broken base.new) }
+        ensures base { SameBase S.PageStore base.old base.new }
     {
         match file {
             FileKind::Database => {
@@ -96,7 +96,7 @@ impl View {
         ensures allowed { OnOk result (IsAllowed (served_rows self.old scene.now node ++ size_rows self.old scene.now (file_number node) given len)) }
         ensures cause { IfErr result (HasReadCause (size_needs (file_number node)) (served_rows self.old scene.now node ++ size_rows self.old scene.now (file_number node) given len) (S.faults base.old) (S.faults base.new)) }
         ensures err { OnErr result (self.new ≡ self.old) }
-        ensures base { SameBase (S.image base.old) (S.image base.new) (S.page_size base.old) (S.page_size base.new) (S.commit base.old) (S.commit base.new) (S.wal_mode base.old) (S.wal_mode base.new) (S.is_broken base.old) (S.is_broken base.new) }
+        ensures base { SameBase S.PageStore base.old base.new }
     {
         let file = self.served(scene, node)?;
         self.size_file(alloc, scene, base, node, file, given, len)

@@ -31,7 +31,7 @@ impl View {
         ensures allowed { OnOk result (IsAllowed (rows_of self.old scene.now request.now)) }
         ensures cause { IfErr result (HasReadCause (needs_of self.old request.now) (rows_of self.old scene.now request.now) (S.faults base.old) (S.faults base.new)) }
         ensures err { OnErr result (self.new ≡ self.old) }
-        ensures base { SameBase (S.image base.old) (S.image base.new) (S.page_size base.old) (S.page_size base.new) (S.commit base.old) (S.commit base.new) (S.wal_mode base.old) (S.wal_mode base.new) (S.is_broken base.old) (S.is_broken base.new) }
+        ensures base { SameBase S.PageStore base.old base.new }
     {
         let node = request.node;
         match &request.op {

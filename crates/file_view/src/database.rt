@@ -119,7 +119,7 @@ impl Database {
         ensures bytes { IfOk result (λ bytes. IfSome (S.image base.old) (λ i. bytes.items ≡ bytes_from (image_bytes (as_read self.now.file i)) at size)) }
         ensures faults { OnOk result (S.faults base.new ≡ S.faults base.old) }
         ensures cause { IfErr result (HasCause (S.faults base.old) (S.faults base.new)) }
-        ensures base { SameBase (S.image base.old) (S.image base.new) (S.page_size base.old) (S.page_size base.new) (S.commit base.old) (S.commit base.new) (S.wal_mode base.old) (S.wal_mode base.new) (S.is_broken base.old) (S.is_broken base.new) }
+        ensures base { SameBase S.PageStore base.old base.new }
     {
         match &self.held {
             None => self.file.read(alloc, base, at, size),
@@ -159,7 +159,7 @@ impl Database {
         ensures err { OnErr result (self.new ≡ self.old) }
         ensures faults { OnOk result (S.faults base.new ≡ S.faults base.old) }
         ensures cause { IfErr result (HasCause (S.faults base.old) (S.faults base.new)) }
-        ensures base { SameBase (S.image base.old) (S.image base.new) (S.page_size base.old) (S.page_size base.new) (S.commit base.old) (S.commit base.new) (S.wal_mode base.old) (S.wal_mode base.new) (S.is_broken base.old) (S.is_broken base.new) }
+        ensures base { SameBase S.PageStore base.old base.new }
     {
         self.file.write_pages(alloc, base, page_size, first, bytes)
     }
@@ -182,7 +182,7 @@ impl Database {
         ensures err { OnErr result (self.new ≡ self.old) }
         ensures faults { OnOk result (S.faults base.new ≡ S.faults base.old) }
         ensures cause { IfErr result (HasCause (S.faults base.old) (S.faults base.new)) }
-        ensures base { SameBase (S.image base.old) (S.image base.new) (S.page_size base.old) (S.page_size base.new) (S.commit base.old) (S.commit base.new) (S.wal_mode base.old) (S.wal_mode base.new) (S.is_broken base.old) (S.is_broken base.new) }
+        ensures base { SameBase S.PageStore base.old base.new }
     {
         self.file.resize(alloc, base, page_size, pages)
     }
@@ -200,7 +200,7 @@ impl Database {
         ensures clean { IsTrue (is_clean self.now.file) → result ≡ Ok None }
         ensures faults { OnOk result (S.faults base.new ≡ S.faults base.old) }
         ensures cause { IfErr result (HasCause (S.faults base.old) (S.faults base.new)) }
-        ensures base { SameBase (S.image base.old) (S.image base.new) (S.page_size base.old) (S.page_size base.new) (S.commit base.old) (S.commit base.new) (S.wal_mode base.old) (S.wal_mode base.new) (S.is_broken base.old) (S.is_broken base.new) }
+        ensures base { SameBase S.PageStore base.old base.new }
     {
         self.file.commit_change(alloc, base)
     }

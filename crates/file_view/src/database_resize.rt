@@ -154,7 +154,7 @@ impl View {
         ensures done { OnOk result (DatabaseSized (S.image base.old) self.old scene.now size (len / size) self.new) }
         ensures cause { IfErr result (HasFileCause (S.faults base.old) (S.faults base.new)) }
         ensures err { OnErr result (self.new ≡ self.old) }
-        ensures base { SameBase (S.image base.old) (S.image base.new) (S.page_size base.old) (S.page_size base.new) (S.commit base.old) (S.commit base.new) (S.wal_mode base.old) (S.wal_mode base.new) (S.is_broken base.old) (S.is_broken base.new) }
+        ensures base { SameBase S.PageStore base.old base.new }
     {
         let count = (len / u64::from(size)) as u32;
         if !self.resizes(scene, count) {
@@ -183,7 +183,7 @@ impl View {
         ensures allowed { OnOk result (IsAllowed (database_size_rows self.old scene.now given len)) }
         ensures cause { IfErr result (HasReadCause needs.Pages (database_size_rows self.old scene.now given len) (S.faults base.old) (S.faults base.new)) }
         ensures err { OnErr result (self.new ≡ self.old) }
-        ensures base { SameBase (S.image base.old) (S.image base.new) (S.page_size base.old) (S.page_size base.new) (S.commit base.old) (S.commit base.new) (S.wal_mode base.old) (S.wal_mode base.new) (S.is_broken base.old) (S.is_broken base.new) }
+        ensures base { SameBase S.PageStore base.old base.new }
     {
         let _commit = base.commit();
         match self.size_allowed(scene, given, len)? {

@@ -2,8 +2,9 @@
 ghost use Rattle.std.specs.Prelude.{◌≡◌, ◌≤◌, Some, None, Ok, Err, OnOk, IfErr, []};
 ghost use Rattle.std.specs.Option.{option_map};
 ghost use Rattle.byte_locks.specs.LockList.{is_held};
+ghost use Rattle.byte_locks.specs.ModeLocks.{blocking_locks};
 ghost use Rattle.database_file.specs.DatabaseFile.{KeepsNothing};
-ghost use Rattle.file_view.specs.Endings.{dropped, ended, committed, abandoned, applied, applied_index, blocking_locks, first_blocking};
+ghost use Rattle.file_view.specs.Endings.{dropped, ended, committed, abandoned, applied, applied_index, first_blocking};
 
 use crate::view::View;
 use byte_locks::LockId;
@@ -25,7 +26,7 @@ const WAL_LOCKS: [LockId; 8] = [
     LockId::Read4,
 ];
 
-#[tactic(auto, unfolding(crate::specs::Endings::blocking_locks))]
+#[tactic(auto, unfolding(byte_locks::specs::ModeLocks::blocking_locks))]
 fn blocking_locks(wal: bool) -> &'static [LockId]
     ensures { result.now ≡ blocking_locks wal }
 {

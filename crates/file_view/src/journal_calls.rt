@@ -41,7 +41,7 @@ impl View {
         ensures allowed { OnOk result (IsAllowed (journal_rows self.old scene.now given call)) }
         ensures cause { IfErr result (HasReadCause needs.Pages (journal_rows self.old scene.now given call) (S.faults base.old) (S.faults base.new)) }
         ensures err { OnErr result (self.new ≡ self.old) }
-        ensures base { SameBase (S.image base.old) (S.image base.new) (S.page_size base.old) (S.page_size base.new) (S.commit base.old) (S.commit base.new) (S.wal_mode base.old) (S.wal_mode base.new) (S.is_broken base.old) (S.is_broken base.new) }
+        ensures base { SameBase S.PageStore base.old base.new }
     {
         if let Some(errno) = self.journal_refusal(scene, given, &call) {
             return Err(ViewFault::Errno(errno));
@@ -67,7 +67,7 @@ impl View {
         ensures allowed { OnOk result (IsAllowed (journal_rows self.old scene.now given (call.Write at bytes.now))) }
         ensures cause { IfErr result (HasReadCause needs.Pages (journal_rows self.old scene.now given (call.Write at bytes.now)) (S.faults base.old) (S.faults base.new)) }
         ensures err { OnErr result (self.new ≡ self.old) }
-        ensures base { SameBase (S.image base.old) (S.image base.new) (S.page_size base.old) (S.page_size base.new) (S.commit base.old) (S.commit base.new) (S.wal_mode base.old) (S.wal_mode base.new) (S.is_broken base.old) (S.is_broken base.new) }
+        ensures base { SameBase S.PageStore base.old base.new }
     {
         let bytes = copied(alloc, bytes)?;
         self.change_journal(alloc, scene, base, given, JournalCall::Write { at, bytes })
@@ -88,7 +88,7 @@ impl View {
         ensures allowed { OnOk result (IsAllowed (journal_unlink_rows self.old scene.now)) }
         ensures cause { IfErr result (HasReadCause needs.Pages (journal_unlink_rows self.old scene.now) (S.faults base.old) (S.faults base.new)) }
         ensures err { OnErr result (self.new ≡ self.old) }
-        ensures base { SameBase (S.image base.old) (S.image base.new) (S.page_size base.old) (S.page_size base.new) (S.commit base.old) (S.commit base.new) (S.wal_mode base.old) (S.wal_mode base.new) (S.is_broken base.old) (S.is_broken base.new) }
+        ensures base { SameBase S.PageStore base.old base.new }
     {
         if let Some(errno) = self.journal_unlink_refusal(scene) {
             return Err(ViewFault::Errno(errno));

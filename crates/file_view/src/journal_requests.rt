@@ -3,7 +3,7 @@ ghost use Rattle.std.specs.Prelude.{◌≡◌, ◌≤◌, None, IsSome, IfNone, 
 ghost use Rattle.database_file.specs.DatabaseFile.{FitsShape};
 ghost use Rattle.database_file.specs.Fault.{SameBase, HasCause as HasFileCause};
 ghost use Rattle.file_view.specs.JournalState.{reach};
-ghost use Rattle.file_view.specs.JournalRules.{may_write_journal, ends_writing, finishing_rows, journal_rows, journal_unlink_rows, after_journal_call, Commits, JournalDone};
+ghost use Rattle.file_view.specs.JournalRules.{may_write_journal, ends_writing, finishing_rows, journal_rows, journal_unlink_rows, after_journal_call, JournalCommits, JournalDone};
 ghost use Rattle.file_view.specs.Refusal.{first_refusal};
 
 use crate::acting::writes;
@@ -118,9 +118,9 @@ impl View {
         requires over { (scene.now.page_size ≡ S.page_size base.old) × (scene.now.commit ≡ S.commit base.old) }
         requires fits { FitsShape self.now.database (S.page_size base.old) (S.commit base.old) }
         requires unheld { self.now.held_write ≡ None }
-        ensures commits { IfOk result (Commits (S.image base.old) self.now scene.now call.now) }
+        ensures commits { IfOk result (JournalCommits (S.image base.old) self.now scene.now call.now) }
         ensures cause { IfErr result (HasFileCause (S.faults base.old) (S.faults base.new)) }
-        ensures base { SameBase (S.image base.old) (S.image base.new) (S.page_size base.old) (S.page_size base.new) (S.commit base.old) (S.commit base.new) (S.wal_mode base.old) (S.wal_mode base.new) (S.is_broken base.old) (S.is_broken base.new) }
+        ensures base { SameBase S.PageStore base.old base.new }
     {
         if !self.ends_writing(call) {
             return Ok(None);
@@ -163,7 +163,7 @@ impl View {
         ensures done { IfOk result (λ change. JournalDone (S.image base.old) self.old scene.now call change self.new) }
         ensures err { OnErr result (self.new ≡ self.old) }
         ensures cause { IfErr result (HasFileCause (S.faults base.old) (S.faults base.new)) }
-        ensures base { SameBase (S.image base.old) (S.image base.new) (S.page_size base.old) (S.page_size base.new) (S.commit base.old) (S.commit base.new) (S.wal_mode base.old) (S.wal_mode base.new) (S.is_broken base.old) (S.is_broken base.new) }
+        ensures base { SameBase S.PageStore base.old base.new }
     {
         match self.change_of(alloc, scene, base, &call)? {
             Some(change) => {

@@ -39,7 +39,7 @@ fn settle_commit<S: PageStore>(
     ensures err_file { OnErr result (file.new ≡ forgotten file.old commit.write) }
     ensures err_log { OnErr result (log.new ≡ log.old) }
     ensures cause { IfErr result (HasCause (S.faults base.old) (S.faults base.new)) }
-    ensures base { SameBase (S.image base.old) (S.image base.new) (S.page_size base.old) (S.page_size base.new) (S.commit base.old) (S.commit base.new) (S.wal_mode base.old) (S.wal_mode base.new) (S.is_broken base.old) (S.is_broken base.new) }
+    ensures base { SameBase S.PageStore base.old base.new }
 {
     match leaves_image(alloc, base, &commit.change) {
         Ok(false) => Ok(Some(commit)),
@@ -75,7 +75,7 @@ fn write_or_prepare<S: PageStore>(
     ensures err_file { OnErr result (file.new ≡ file.old) }
     ensures err_log { OnErr result (log.new.contents ≡ log.old.contents) }
     ensures cause { IfErr result (HasWriteCause (contents_of log.old) (wanted_size (S.page_size base.old) (S.commit base.old)) at bytes.now (S.faults base.old) (S.faults base.new)) }
-    ensures base { SameBase (S.image base.old) (S.image base.new) (S.page_size base.old) (S.page_size base.new) (S.commit base.old) (S.commit base.new) (S.wal_mode base.old) (S.wal_mode base.new) (S.is_broken base.old) (S.is_broken base.new) }
+    ensures base { SameBase S.PageStore base.old base.new }
 {
     let _commit = base.commit();
     match prepare_log_write(alloc, file, log, base, at, bytes)? {
@@ -109,7 +109,7 @@ impl Database {
         ensures err { OnErr result (self.new ≡ self.old) }
         ensures err_log { OnErr result (log.new.contents ≡ log.old.contents) }
         ensures cause { IfErr result (HasWriteCause (contents_of log.old) (wanted_size (S.page_size base.old) (S.commit base.old)) at bytes.now (S.faults base.old) (S.faults base.new)) }
-        ensures base { SameBase (S.image base.old) (S.image base.new) (S.page_size base.old) (S.page_size base.new) (S.commit base.old) (S.commit base.new) (S.wal_mode base.old) (S.wal_mode base.new) (S.is_broken base.old) (S.is_broken base.new) }
+        ensures base { SameBase S.PageStore base.old base.new }
     {
         let kept = self.file.kept_pages();
         let clean = self.file.is_clean();

@@ -140,7 +140,7 @@ impl View {
         ensures allowed { OnOk result (IsAllowed (log_write_rows self.old scene.now given at bytes.now)) }
         ensures cause { IfErr result (HasReadCause needs.Pages (log_write_rows self.old scene.now given at bytes.now) (S.faults base.old) (S.faults base.new)) }
         ensures err { OnErr result (self.new ≡ self.old) }
-        ensures base { SameBase (S.image base.old) (S.image base.new) (S.page_size base.old) (S.page_size base.new) (S.commit base.old) (S.commit base.new) (S.wal_mode base.old) (S.wal_mode base.new) (S.is_broken base.old) (S.is_broken base.new) }
+        ensures base { SameBase S.PageStore base.old base.new }
     {
         if let Some(errno) = self.log_write_refusal(scene, given, at, bytes) {
             return Err(ViewFault::Errno(errno));

@@ -58,7 +58,7 @@ impl View {
         ensures name { self.new.name ≡ self.old.name }
         ensures stands { StandsOver (S.image base.old) (S.page_size base.old) (S.commit base.old) self.new }
         ensures awaits { IfOk result (AwaitsOver (S.image base.old) self.new) }
-        ensures base { SameBase (S.image base.old) (S.image base.new) (S.page_size base.old) (S.page_size base.new) (S.commit base.old) (S.commit base.new) (S.wal_mode base.old) (S.wal_mode base.new) (S.is_broken base.old) (S.is_broken base.new) }
+        ensures base { SameBase S.PageStore base.old base.new }
     {
         let scene = scene_over(session, role, base);
         self.sound();

@@ -124,7 +124,7 @@ impl View {
         ensures done { IfOk result (IsReading (S.image base.old) self.now scene.now file at size) }
         ensures cause { IfErr result (HasFileCause (S.faults base.old) (S.faults base.new)) }
         ensures pages { IfErr result (λ e. e ≡ fault.Unread → file ≡ FileKind.Database) }
-        ensures base { SameBase (S.image base.old) (S.image base.new) (S.page_size base.old) (S.page_size base.new) (S.commit base.old) (S.commit base.new) (S.wal_mode base.old) (S.wal_mode base.new) (S.is_broken base.old) (S.is_broken base.new) }
+        ensures base { SameBase S.PageStore base.old base.new }
     {
         match file {
             FileKind::Database => {

@@ -1,8 +1,8 @@
 //! Texts of configurations, with what they say or that they are refused.
 use crate::same::{holds, same};
 use node_settings::{
-    LeaseType, ServiceSettings, Settings, SettingsFault, read_service_settings, read_settings,
-    read_static_settings,
+    Complaint, LeaseType, ServiceSettings, Settings, SettingsRefusal, read_service_settings,
+    read_settings, read_static_settings,
 };
 use std::alloc::Global;
 use std::process::Abort;
@@ -122,10 +122,10 @@ fn a_lease_service_is_read(rt: HostRuntime) {
         "its type",
     );
     let refused = read_static_settings(alloc, text.as_bytes());
-    holds(
+    same(
         rt,
-        refused.is_err_and(|fault| fault == SettingsFault::Config),
-        "refused",
+        complaint(rt, alloc, refused).as_str(),
+        "lease.type 5 static",
     );
     let required = with_required(rt, alloc, "service-url = \"http://lease:20202\"\n");
     let fixed = read_static_settings(alloc, required.as_bytes());
@@ -181,6 +181,8 @@ const NO_SERVICES: &[&str] = &[
     "lease.promote = true\n",
     "proxy.addr = \":8081\"\n",
     "lease = 1\n",
+    "log = \"Off\"\n",
+    "log = false\n",
     "database",
 ];
 
@@ -190,11 +192,7 @@ fn no_services_are_refused(rt: HostRuntime) {
     let alloc = rt.alloc();
     for text in NO_SERVICES {
         let read = read_service_settings(alloc, text.as_bytes());
-        holds(
-            rt,
-            read.is_err_and(|fault| fault == SettingsFault::Config),
-            text,
-        );
+        holds(rt, matches!(read, Err(SettingsRefusal::Config(_))), text);
     }
 }
 
@@ -305,8 +303,199 @@ fn judged(alloc: Global, bytes: &[u8]) -> (bool, bool) {
     let read = read_settings(alloc, bytes);
     (
         read.is_ok(),
-        read.is_err_and(|fault| fault == SettingsFault::Config),
+        matches!(read, Err(SettingsRefusal::Config(_))),
     )
+}
+
+/// What is complained of: the key, its line, and what was wanted.
+fn complaint<T: Drop>(
+    rt: impl Copy + Abort,
+    alloc: Global,
+    read: Result<T, SettingsRefusal>,
+) -> String {
+    match read {
+        Err(SettingsRefusal::Config(complaint)) => said(rt, alloc, &complaint),
+        _ => String::from_str(alloc, "nothing").expect(&rt, "memory"),
+    }
+}
+
+fn said(rt: impl Copy + Abort, alloc: Global, complaint: &Complaint) -> String {
+    format!(in alloc;
+        "{} {} {}",
+        complaint.key().unwrap_or("none"),
+        complaint.line().unwrap_or(0),
+        complaint.wanted()
+    )
+    .expect(&rt, "memory")
+}
+
+/// Behind the required keys, which are four lines: the key complained of, its line (0 is none), and
+/// what was wanted.
+const COMPLAINTS: &[(&str, &str)] = &[
+    (
+        "ttl = 0\n",
+        "lease.ttl 5 a number of milliseconds from 1 to 86400000",
+    ),
+    (
+        "# the lease\n\nservice-url = \"http://h:1\"\nttl = 86400001 # a day\n",
+        "lease.ttl 8 a number of milliseconds from 1 to 86400000",
+    ),
+    // Both are broken: the key that comes first in the table of keys.
+    (
+        "ttl = 0\ncandidate = 1\n",
+        "lease.candidate 6 true or false",
+    ),
+    ("hostname.a = 1\n", "none 5 TOML in UTF-8"),
+    ("hostname = \"twice\"\n", "none 5 TOML in UTF-8"),
+    ("\r\n[data\r\n", "none 6 TOML in UTF-8"),
+    ("promote = true\n", "lease.promote 5 no key of this name"),
+    ("\"a b\" = true\n", "lease.? 5 no key of this name"),
+    (
+        "\n\n[proxy]\naddr = \":8081\"\n",
+        "proxy 7 no key of this name",
+    ),
+    ("[[fuse]]\nlisten = \"s\"\n", "fuse 5 a table"),
+    ("[fuse]\nlisten = 1\n", "fuse.listen 6 a text"),
+    (
+        "[http]\naddr = '''\n:1x'''\n",
+        "http.addr 6 an address, host:port",
+    ),
+    ("[data]\ncompress = true\n", "data.compress 6 false"),
+    (
+        "[data]\nretention-files = 0\n",
+        "data.retention-files 6 a number from 1 to 9223372036854775807",
+    ),
+    (
+        "type = \"other\"\n",
+        "lease.type 5 static or service, as a text",
+    ),
+    (
+        "type = \"service\"\n",
+        "lease.service-url 0 a URL, http://host:port, since lease.type is service; the key is missing",
+    ),
+    (
+        "service-url = \"h:1\"\n",
+        "lease.service-url 5 a URL, http://host:port",
+    ),
+];
+
+const WHOLE_COMPLAINTS: &[(&str, &str)] = &[
+    ("", "database 0 the name of a database; the key is missing"),
+    ("database = 1\n", "database 1 the name of a database"),
+    (
+        "database = \"app\"\nlog = true\n",
+        "log 2 on or off, as a text",
+    ),
+    ("database = \"app\"\n\nlease = 1\n", "lease 3 a table"),
+    (
+        "database = \"app\"\n[lease]\nhostname = \"h\"\n",
+        "lease.advertise-url 0 a URL, http://host:port; the key is missing",
+    ),
+    (
+        "database = \"app\"\n[lease]\nadvertise-url = \"http://h:1\"\n",
+        "lease.hostname 0 a text; the key is missing",
+    ),
+    (
+        "database = \"app\"\n[lease]\nhostname = 1\nadvertise-url = \"h:1\"\n",
+        "lease.advertise-url 4 a URL, http://host:port",
+    ),
+    // A statement of several lines is said by its first.
+    (
+        "database = \"app\"\nlease = {\n  hostname = \"h\",\n  advertise-url = \"http://h:1\",\n  ttl = 0,\n}\n",
+        "lease.ttl 2 a number of milliseconds from 1 to 86400000",
+    ),
+    (
+        "database = \"app\"\nlease = {\n  hostname = \"h\n",
+        "none 2 TOML in UTF-8",
+    ),
+];
+
+/// What is complained of in a text that is refused.
+#[test]
+fn complaints_are_said(rt: HostRuntime) {
+    let alloc = rt.alloc();
+    for (more, said) in COMPLAINTS {
+        let read = read_settings(alloc, with_required(rt, alloc, more).as_bytes());
+        same(
+            rt,
+            (*more, complaint(rt, alloc, read).as_str()),
+            (*more, *said),
+        );
+    }
+    for (text, said) in WHOLE_COMPLAINTS {
+        let read = read_settings(alloc, text.as_bytes());
+        same(
+            rt,
+            (*text, complaint(rt, alloc, read).as_str()),
+            (*text, *said),
+        );
+    }
+}
+
+const SERVICE_COMPLAINTS: &[(&str, &str)] = &[
+    ("\n# no database\nlog = 1\n", "log 3 on or off, as a text"),
+    (
+        "http.addr = \"20202\"\n",
+        "http.addr 1 an address, host:port",
+    ),
+    (
+        "[lease]\nttl = 0\nhostname = 1\n",
+        "lease.hostname 3 a text",
+    ),
+];
+
+/// The same in what a lease service is told.
+#[test]
+fn complaints_of_services_are_said(rt: HostRuntime) {
+    let alloc = rt.alloc();
+    for (text, said) in SERVICE_COMPLAINTS {
+        let read = read_service_settings(alloc, text.as_bytes());
+        same(
+            rt,
+            (*text, complaint(rt, alloc, read).as_str()),
+            (*text, *said),
+        );
+    }
+}
+
+/// A text that is too long, and bytes that are no UTF-8.
+#[test]
+fn complaints_of_whole_texts_are_said(rt: HostRuntime) {
+    let alloc = rt.alloc();
+    let long = vec![in alloc; b' '; 65_537].expect(&rt, "memory");
+    let read = read_settings(alloc, long.as_slice());
+    same(
+        rt,
+        complaint(rt, alloc, read).as_str(),
+        "none 0 at most 65536 bytes",
+    );
+    let read = read_settings(alloc, b"database = \"app\"\n# \xff\n");
+    same(
+        rt,
+        complaint(rt, alloc, read).as_str(),
+        "none 2 TOML in UTF-8",
+    );
+}
+
+const LOGS: &[(&str, bool)] = &[
+    ("", true),
+    ("log = \"on\"\n", true),
+    ("log = \"off\"\n", false),
+    ("log = 'off' # quiet\n", false),
+];
+
+/// Whether a node, and a lease service, says what happens.
+#[test]
+fn logs_are_read(rt: HostRuntime) {
+    let alloc = rt.alloc();
+    for (text, log) in LOGS {
+        let service = read_service_settings(alloc, text.as_bytes()).expect(&rt, "settings");
+        same(rt, service.log, *log);
+        let mut whole = String::from_str(alloc, text).expect(&rt, "memory");
+        whole.push_str(REQUIRED).expect(&rt, "memory");
+        let settings = read_settings(alloc, whole.as_bytes()).expect(&rt, "settings");
+        same(rt, settings.log, *log);
+    }
 }
 
 /// A configuration has at most 65,536 bytes.

@@ -175,7 +175,9 @@ line_of other name = line (text_of other)
 abbrev pub Says : Stream → List ℕ → Type 0
 Says errors bytes = Holds errors × Takes errors bytes ⊎ Fails errors × AppendsPrefix errors.bytes errors.bytes_after bytes
 
--- how a run went that ended with this status: what it did, and the name of the fault on standard error
+-- how a run went that ended with this status: what it did, and the name of the fault on standard error, which took exactly the line of the
+-- status. In front of that a node tells whole lines there by its maker (`Tell`: each a `Line`, and none once `mount` has returned); no other
+-- command tells any
 pub record RunOutcome (backs : Backs) (run : Run) (status : Status) : Type 0 where
   pub name : List ℕ
   pub went : RunCourse backs run.arguments run.outside status name

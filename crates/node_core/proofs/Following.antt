@@ -21,7 +21,8 @@ use Rattle.txn_log.specs.Pruning.{Prunes}
 use Rattle.lf_disk.specs.History.{History}
 use Rattle.world_laws.specs.Answers.{call_of}
 use Rattle.world_laws.specs.Node as laws
-use Rattle.world_laws.specs.Served.{HoldsBack, blocking_locks}
+use Rattle.byte_locks.specs.ModeLocks.{blocking_locks}
+use Rattle.world_laws.specs.Served.{HoldsBack}
 use Rattle.world_laws.specs.Store.{Failure, PruneTo, StoreState}
 use Rattle.node_core.specs.Calls.{Changes}
 use Rattle.node_core.specs.Nodes.{served_over}

@@ -40,7 +40,7 @@ use Rattle.file_view.specs.Done.{IsDoneAt, IsReplied, IsSized, IsUnlinked, IsWri
 use Rattle.file_view.specs.Endings.{abandoned, committed}
 use Rattle.file_view.specs.Errno.{EBADF, EIO, EINVAL, ENOENT, EROFS}
 use Rattle.file_view.specs.HandleRules.{is_open_at, is_served}
-use Rattle.file_view.specs.JournalRules.{Commits, JournalDone, after_journal_call, ends_writing}
+use Rattle.file_view.specs.JournalRules.{JournalCommits, JournalDone, after_journal_call, ends_writing}
 use Rattle.file_view.specs.LockRules.{after_wish, grant_rows, locks_at, setlk_rows, wish_rows}
 use Rattle.file_view.specs.LogRules.{LogCommits, LogDone, breaks_header, commits_frames, log_after, log_write_rows}
 use Rattle.file_view.specs.NameRules.{with_file}
@@ -114,7 +114,7 @@ module _ (told : Option DatabaseImage) (old : Served) (scene : Scene) (sized : 0
   called-waits c = elim (cases_Bool (ends_writing old c)) [ inl ends ↦ rw (ends, held) refl | inr not ↦ rw (not, held) refl ]
 
   -- the change of a journal's end is of the image's page size, where the image has pages
-  called-fits : (c : JournalCall) (change : PageChange) → Commits told old scene c (Some change) → FitsOver scene.page_size scene.commit change
+  called-fits : (c : JournalCall) (change : PageChange) → JournalCommits told old scene c (Some change) → FitsOver scene.page_size scene.commit change
   called-fits c change commits = elim (cases_Bool (ends_writing old c)) [
     | inl ends ↦ elim (cases_eq scene.commit 0) [
       | inl none ↦ inr (inl none)

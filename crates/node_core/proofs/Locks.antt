@@ -1,5 +1,5 @@
 -- The locks that hold a frame back, as the files' rules find them and as the laws say it.
-use Rattle.std.proofs.Common.{◌≡◌, ◌∙◌, zero, suc, Bool, true, false, List, [], ◌∷◌, Some, None, inl, inr, refl, sym, ap, subst, arith}
+use Rattle.std.proofs.Common.{◌≡◌, ◌∙◌, zero, suc, Bool, true, false, List, [], ◌∷◌, Some, None, inl, inr, refl, sym, ap, arith}
 use Rattle.std.specs.Prelude.{find}
 use Rattle.std.specs.List.{Contains, list_any}
 use Rattle.std.proofs.lemmas.Bool.{cases_Bool}
@@ -8,7 +8,8 @@ use Rattle.byte_locks.specs.declared.lock_id.LockId.{LockId}
 use Rattle.byte_locks.specs.LockId.{same_lock}
 use Rattle.byte_locks.specs.LockList.{is_held}
 use Rattle.byte_locks.proofs.Locks.{same_lock-itself, same_lock-true}
-use Rattle.file_view.specs.Endings.{blocking_locks, first_blocking}
+use Rattle.byte_locks.specs.ModeLocks.{blocking_locks}
+use Rattle.file_view.specs.Endings.{first_blocking}
 use Rattle.file_view.specs.Served.{Served}
 use Rattle.world_laws.specs.Served as laws
 
@@ -52,21 +53,15 @@ unfound p (y ∷ ys) x none (suc k, within, same) hit = elim (cases_Bool (p y)) 
   | inr miss ↦ unfound p ys x (rw miss at none) (k, omega (arith, within), same) hit
 ]
 
--- the locks are those of the laws
-blocking-same : (wal : Bool) → blocking_locks wal ≡ laws.blocking_locks wal
-unfolding blocking_locks
-blocking-same true = refl
-blocking-same false = refl
-
 -- a lock that is held
-pub held-back : (s : Served) (wal : Bool) (which : LockId) → first_blocking s wal ≡ Some which → Contains (laws.blocking_locks wal) which × laws.IsHeld s.locks which
+pub held-back : (s : Served) (wal : Bool) (which : LockId) → first_blocking s wal ≡ Some which → Contains (blocking_locks wal) which × laws.IsHeld s.locks which
 held-back s wal which some =
     let here = found (is_held s.locks) (blocking_locks wal) which some in
     let holder = tested (λ (e : LockEntry). same_lock e.lock which) s.locks here.1 in
-    (subst (λ (ls : List LockId). Contains ls which) (blocking-same wal) here.0, (holder.0, holder.1, same_lock-true holder.0.lock which holder.2))
+    (here.0, (holder.0, holder.1, same_lock-true holder.0.lock which holder.2))
 
 -- where none is found none is held
-pub none-held : (s : Served) (wal : Bool) (which : LockId) → first_blocking s wal ≡ None → Contains (laws.blocking_locks wal) which × laws.IsHeld s.locks which → ⊥
+pub none-held : (s : Served) (wal : Bool) (which : LockId) → first_blocking s wal ≡ None → Contains (blocking_locks wal) which × laws.IsHeld s.locks which → ⊥
 none-held s wal which none held =
-    unfound (is_held s.locks) (blocking_locks wal) which none (subst (λ (ls : List LockId). Contains ls which) (sym (blocking-same wal)) held.0)
+    unfound (is_held s.locks) (blocking_locks wal) which none held.0
     (untested (λ (e : LockEntry). same_lock e.lock which) s.locks held.1.0 held.1.1 (ap (λ (l : LockId). same_lock l which) held.1.2 ∙ same_lock-itself which))

@@ -10,7 +10,7 @@ use Rattle.node_mount.specs.declared.returned.Returned.{Returned}
 use Rattle.node_mount.specs.declared.returned.Returned.TheVariants as returned
 use Rattle.node_mount.specs.Damage.{DamageHasCause}
 use Rattle.node_mount.specs.Making.{TakesBack}
-use Rattle.node_mount.specs.Mounting.{fault_of, IsOfReading, IsServing}
+use Rattle.node_mount.specs.Mounting.{fault_of, IsOfReading, IsOpened}
 use Rattle.node_mount.specs.Returns.{GivesBack, CameBack}
 use Rattle.node_mount.specs.Serving.{CountsServing, GivesLimit}
 
@@ -61,7 +61,7 @@ served_back ended given files dialer spawner a b c d old new (Err fault.Disk) al
 -- a disk came back that was not opened
 pub disk_back : {D F H T S : Type 0} (R : Type 0) (ended : F → Bool) (given : F → ℕ) (disk : D) (old new : Option (List (Returned D F H T S))) (why : RecoverFault)
     → GivesBack (returned.Disk disk ∷ []) old new → CameBack {D = D} {F = F} {H = H} {T = T} {S = S} {R = R} ended given old new (Err (fault_of why))
-disk_back R ended given disk old new recovery.Disk g = inr (disk, g)
+disk_back R ended given disk old new recovery.Disk g = inr (inl (disk, g))
 disk_back R ended given disk old new (recovery.Damaged file want got) g = (disk, g)
 disk_back R ended given disk old new recovery.NoMemory g = tt
 
@@ -74,9 +74,9 @@ damage_found R honest history may_give given disk old new (recovery.Damaged file
     record { given = given; disk = disk; was_next = next; damage = λ h. (file, want, got, is h); same = same; back = back }
 damage_found R honest history may_give given disk old new recovery.NoMemory next is same back = tt
 
--- a node that serves has not found damage
+-- a node that was opened has not found damage
 pub no_damage : {D F H T S R : Type 0} (honest : D → Bool) (history : D → History) (may_give : D → Type 0) (old new : Option (List (Returned D F H T S))) (result : Result R MountFault)
-    → IsServing result → DamageHasCause honest history may_give old new result
+    → IsOpened result → DamageHasCause honest history may_give old new result
 no_damage honest history may_give old new (Ok done) is = tt
 no_damage honest history may_give old new (Err fault.Damaged) is = absurd is
 no_damage honest history may_give old new (Err fault.Read) is = tt

@@ -1,6 +1,6 @@
 -- What the bytes of a configuration say is what was read of its source.
 use Rattle.std.proofs.Common.{◌≡◌, ℕ, List, Option, Result, Ok, Err, refl}
-use Rattle.node_settings.specs.declared.settings.Settings.{Settings}
+use Rattle.node_mount.specs.declared.configuration.Configuration.{Configuration}
 use Rattle.node_mount.specs.Configuring.{CountsSource, ReadsConfiguration, ReadsPast, SaysSettings}
 use Rattle.node_mount.specs.Mounting.{IsOfReading, IsPastReading, RaisesFor}
 use Rattle.node_mount.specs.declared.counts.Counts.{Counts}
@@ -8,9 +8,9 @@ use Rattle.node_mount.specs.declared.mount_fault.MountFault.{MountFault}
 use Rattle.node_mount.specs.declared.mount_fault.MountFault.TheVariants as fault
 
 -- enough was read, and this is what it says
-pub says-reads : (left left_now : Option (List ℕ)) (bytes : List ℕ) (result : Result Settings MountFault)
+pub says-reads : (left left_now : Option (List ℕ)) (bytes : List ℕ) (result : Result Configuration MountFault)
     → ReadsPast 65536 left left_now bytes → SaysSettings bytes result → ReadsConfiguration left left_now result
-says-reads left left_now bytes (Ok settings) read says = (bytes, read, (settings, says))
+says-reads left left_now bytes (Ok c) read says = (bytes, read, (c.settings, says))
 says-reads left left_now bytes (Err fault.Config) read says = (bytes, read, says)
 says-reads left left_now bytes (Err fault.NoMemory) read says = tt
 says-reads left left_now bytes (Err fault.Read) read says = tt
@@ -21,8 +21,8 @@ says-reads left left_now bytes (Err fault.NoThread) read says = absurd says
 says-reads left left_now bytes (Err fault.Limit) read says = absurd says
 
 -- what was read with a configuration was read, however the node ends
-pub reads-on : {T : Type 0} (left left_now : Option (List ℕ)) (settings : Settings) (result : Result T MountFault)
-    → ReadsConfiguration {T = Settings} left left_now (Ok settings) → IsPastReading result → ReadsConfiguration left left_now result
+pub reads-on : {T : Type 0} (left left_now : Option (List ℕ)) (settings : Configuration) (result : Result T MountFault)
+    → ReadsConfiguration {T = Configuration} left left_now (Ok settings) → IsPastReading result → ReadsConfiguration left left_now result
 reads-on left left_now settings (Ok done) read past = read
 reads-on left left_now settings (Err fault.Read) read past = absurd past
 reads-on left left_now settings (Err fault.Config) read past = absurd past

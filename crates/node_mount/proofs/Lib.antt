@@ -3,3 +3,5 @@ mod ConfigLemmas
 mod ServingLemmas
 mod BackLemmas
 mod ServiceLemmas
+mod AskLemmas
+mod EndLemmas

@@ -1,6 +1,6 @@
 -- What a node that serves can no longer end by.
 use Rattle.std.proofs.Common.{ℕ, Result, Ok, Err}
-use Rattle.node_mount.specs.Mounting.{IsPastReading, IsServing}
+use Rattle.node_mount.specs.Mounting.{IsOpened, IsPastReading, IsServing}
 use Rattle.node_mount.specs.Serving.{CountsServing}
 use Rattle.node_mount.specs.declared.mount_fault.MountFault.{MountFault}
 use Rattle.node_mount.specs.declared.mount_fault.MountFault.TheVariants as fault
@@ -12,13 +12,13 @@ counts_serves a b c d (Err fault.NoThread) counts = tt
 counts_serves a b c d (Err fault.NoMemory) counts = tt
 counts_serves a b c d (Err fault.Network) counts = tt
 counts_serves a b c d (Err fault.Limit) counts = tt
-counts_serves a b c d (Err fault.Disk) counts = tt
+counts_serves a b c d (Err fault.Disk) counts = absurd counts
 counts_serves a b c d (Err fault.Read) counts = absurd counts
 counts_serves a b c d (Err fault.Config) counts = absurd counts
 counts_serves a b c d (Err fault.Damaged) counts = absurd counts
 
--- a node that serves is past its configuration
-pub serves_past : {T : Type 0} (result : Result T MountFault) → IsServing result → IsPastReading result
+-- a node that was opened is past its configuration
+pub serves_past : {T : Type 0} (result : Result T MountFault) → IsOpened result → IsPastReading result
 serves_past (Ok done) is = tt
 serves_past (Err fault.NoThread) is = tt
 serves_past (Err fault.NoMemory) is = tt

@@ -4,6 +4,7 @@ use Rattle.std.specs.Io.KnownBytes.{Consumes, IsAtEnd}
 use Rattle.lf_base.specs.Faults.{Rose}
 use Rattle.node_settings.specs.declared.settings.Settings.{Settings}
 use Rattle.node_settings.specs.Configuration.{IsConfiguration}
+use Rattle.node_mount.specs.declared.configuration.Configuration.{Configuration}
 use Rattle.node_mount.specs.declared.mount_fault.MountFault.{MountFault}
 use Rattle.node_mount.specs.declared.mount_fault.MountFault.TheVariants as fault
 
@@ -30,8 +31,8 @@ ReadsConfiguration left left_now (Err fault.NoMemory) = Unit {0}
 ReadsConfiguration left left_now result = (bytes : List ℕ) × ReadsEnough left left_now bytes × IsSaid bytes result
 
 -- what reading bytes gives: the settings that they say, and Config only where they say none
-abbrev pub SaysSettings : List ℕ → Result Settings MountFault → Type 0
-SaysSettings bytes (Ok settings) = IsConfiguration bytes settings
+abbrev pub SaysSettings : List ℕ → Result Configuration MountFault → Type 0
+SaysSettings bytes (Ok read) = IsConfiguration bytes read.settings
 SaysSettings bytes (Err fault.Config) = (settings : Settings) → IsConfiguration bytes settings → ⊥
 SaysSettings bytes (Err fault.NoMemory) = Unit {0}
 SaysSettings bytes (Err why) = ⊥
@@ -47,3 +48,9 @@ IsReading (Err why) = ⊥
 abbrev pub CountsSource : {T : Type 0} → (faults faults_now : ℕ) → Result T MountFault → Type 0
 CountsSource faults faults_now (Err fault.Read) = Rose faults faults_now
 CountsSource faults faults_now result = faults_now ≡ faults
+
+-- the bytes that were read say these settings
+pub record ReadsSettings (left left_now : Option (List ℕ)) (settings : Settings) : Type 0 where
+  pub bytes : List ℕ
+  pub read : ReadsEnough left left_now bytes
+  pub says : IsConfiguration bytes settings

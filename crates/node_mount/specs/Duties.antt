@@ -60,3 +60,7 @@ abbrev pub AreDuties : {T : Type 0} → Settings → ℕ → Option T → Option
 AreDuties settings node asking None = stands_as_primary settings.lease.lease_type settings.lease.candidate ≡ true
 AreDuties settings node asking (Some duties) =
     (stands_as_primary settings.lease.lease_type settings.lease.candidate ≡ false) × (duties.primary.name ≡ settings.database) × AreRounds settings node asking duties.rounds
+
+-- the same of a node of some number, with what dials the lease service where there is one
+abbrev pub AreDutiesBy : {T : Type 0} → Settings → Option (Duties T) → Type 0
+AreDutiesBy {T} settings duties = (node : ℕ) × (asking : Option T) × HasDialer settings.lease.lease_type asking × AreDuties settings node asking duties

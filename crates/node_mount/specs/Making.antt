@@ -1,8 +1,10 @@
--- What a maker of objects tells: how often it failed, and what came back.
-use Rattle.std.specs.Prelude.{◌≡◌, ℕ, ◌==◌, Bool, false, List, [], ◌∷◌, ◌++◌, Option, Some, None, Result, MatchResult, MatchBool, IsTrue}
+-- What a maker of objects tells: how often it failed, what it was asked for, and what came back.
+use Rattle.std.specs.Prelude.{◌≡◌, ℕ, ◌==◌, Bool, true, false, List, [], ◌∷◌, ◌++◌, Option, Some, None, Result, MatchResult, MatchBool, IsTrue}
 use Rattle.lf_base.specs.Faults.{Rose, one_more}
 use Rattle.lf_disk.specs.Folder.{Folder, Same}
 use Rattle.lf_disk.specs.History.{History, now, may_leave}
+use Rattle.node_mount.specs.declared.asked.Asked.{Asked}
+use Rattle.node_mount.specs.declared.asked.Wanted.{Wanted}
 use Rattle.node_mount.specs.declared.counts.Counts.{Counts}
 
 abbrev pub no_faults : Counts
@@ -52,8 +54,20 @@ IsNew given faults ended = (given ≡ 0) × (faults ≡ 0) × (ended ≡ false)
 abbrev pub IsAtRest : Bool → History → Type 0
 IsAtRest honest history = IsTrue honest → (c : Folder) → may_leave history c → Same (now history) c
 
--- one object more came back, where what came back is told
+-- one more in a list, where the list is told, as an object that came back
 abbrev pub TakesBack : {B : Type 0} → B → Option (List B) → Option (List B) → Type 0
 TakesBack object old None = Unit {0}
 TakesBack object None (Some new) = ⊥
 TakesBack object (Some old) (Some new) = new ≡ old ++ object ∷ []
+
+-- this was asked for, and given
+abbrev pub gave : Wanted → Asked
+gave wanted = record { wanted = wanted; given = true }
+
+-- this was asked for, and not given
+abbrev pub refused : Wanted → Asked
+refused wanted = record { wanted = wanted; given = false }
+
+-- a maker was asked for this and nothing else, and gave it or not, where it tells what it was asked for
+abbrev pub IsAskedFor : {T E : Type 0} → Wanted → (old new : Option (List Asked)) → Result T E → Type 0
+IsAskedFor wanted old new result = MatchResult result (λ _. TakesBack (gave wanted) old new) (λ _. TakesBack (refused wanted) old new)

@@ -7,6 +7,7 @@ use Rattle.lf_disk.specs.MemDisk.{Recording, history_of}
 use Rattle.node_mount.specs.Keeping.{Row}
 use Rattle.node_mount.specs.Making.{IsAtRest}
 use Rattle.node_mount.specs.MemSpawn.{faults_of}
+use Rattle.node_mount.specs.declared.asked.Asked.{Asked}
 use Rattle.node_mount.specs.declared.counts.Counts.{Counts}
 use Rattle.node_mount.specs.declared.mem_spawn.MemSpawn.{MemSpawn}
 use Rattle.node_mount.specs.declared.returned.Returned.{Returned}
@@ -16,7 +17,7 @@ abbrev pub Back : Type 0
 Back = Returned Recording Door Door Phone MemSpawn
 
 -- the objects that it is to give, in order; its clock and number; which of its calls of disk, files and http are to fail,
--- counted together, and how many there were; its counts of faults, and what came back
+-- counted together, and how many there were; its counts of faults, what it was asked for, and what came back
 pub record Making : Type 0 where
   pub disks : List Recording
   pub files : List Door
@@ -28,6 +29,7 @@ pub record Making : Type 0 where
   pub failing : List ℕ
   pub calls : ℕ
   pub counts : Counts
+  pub asked : Row Asked
   pub back : Row Back
 
 -- nothing has failed on the disk, and nothing is pending

@@ -31,12 +31,20 @@ IsPastReading (Err fault.Read) = ⊥
 IsPastReading (Err fault.Config) = ⊥
 IsPastReading result = Unit {0}
 
--- a node that serves ends neither by its configuration nor by damage
+-- a node that serves ends neither by its configuration nor by its disk
 abbrev pub IsServing : {T : Type 0} → Result T MountFault → Type 0
 IsServing (Err fault.Read) = ⊥
 IsServing (Err fault.Config) = ⊥
 IsServing (Err fault.Damaged) = ⊥
+IsServing (Err fault.Disk) = ⊥
 IsServing result = Unit {0}
+
+-- a node that was opened ends neither by its configuration nor by damage
+abbrev pub IsOpened : {T : Type 0} → Result T MountFault → Type 0
+IsOpened (Err fault.Read) = ⊥
+IsOpened (Err fault.Config) = ⊥
+IsOpened (Err fault.Damaged) = ⊥
+IsOpened result = Unit {0}
 
 -- reading a configuration ends by it, or for want of memory
 abbrev pub IsOfReading : {T : Type 0} → Result T MountFault → Type 0

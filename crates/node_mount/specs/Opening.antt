@@ -1,7 +1,8 @@
 -- What a node is given of itself, and the node that is opened over a disk.
 use Rattle.std.specs.Prelude.{◌≡◌, ℕ, Bool, None, List}
 use Rattle.lf_disk.specs.Folder.{Folder}
-use Rattle.node_core.specs.Opening.{first_standing}
+use Rattle.node_core.specs.Nodes.{NodeParts}
+use Rattle.node_core.specs.Opening.{first_standing, opened}
 use Rattle.node_core.specs.Roles.{law_role, role_of}
 use Rattle.node_core.specs.declared.config.NodeConfig.{NodeConfig}
 use Rattle.node_recovery.specs.Opening.{IsWhy, IsCause}
@@ -47,3 +48,7 @@ ComesBack honest faults disk opening.NoMemory = Unit {0}
 abbrev pub IsUnopened : {D : Type 0} → Folder → OpenFault D → Type 0
 IsUnopened folder (opening.Unrecovered why back) = IsWhy folder why
 IsUnopened folder opening.NoMemory = Unit {0}
+
+-- THE NODE WAS JUST OPENED over its store, by exactly this configuration
+abbrev pub IsOpenedBy : NodeConfig → NodeParts → Type 0
+IsOpenedBy config parts = parts ≡ opened parts.store config

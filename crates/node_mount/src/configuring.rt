@@ -1,11 +1,14 @@
 //! The configuration read from its source.
 ghost use Rattle.std.specs.Prelude.{◌≡◌, ◌<◌, [], length, IfOk, OnOk, vec_len};
-ghost use Rattle.node_mount.specs.Configuring.{CountsSource, IsReading, ReadsConfiguration, ReadsPast, SaysSettings};
+ghost use Rattle.node_mount.specs.Complaining.{ComplainsOf, ComplainsOfRead};
+ghost use Rattle.node_mount.specs.Configuring.{CountsSource, IsReading, ReadsConfiguration, ReadsPast, ReadsSettings, SaysSettings};
 ghost use Rattle.node_mount.specs.Mounting.{IsOfReading};
+ghost use Rattle.node_settings.specs.Rules.{node_rules};
 
+use crate::configuration::Configuration;
 use crate::mount_fault::MountFault;
 use lf_base::Source;
-use node_settings::{Settings, SettingsFault, read_settings};
+use node_settings::{Complaint, SettingsRefusal, read_settings};
 use std::alloc::{AllocError, Global};
 
 /// The most bytes of a configuration.
@@ -14,9 +17,16 @@ pub const SIZE_MAX: usize = 65_536;
 /// How many bytes are asked for at a time.
 const PIECE: usize = 4_096;
 
-/// The settings that a source says. It is read to its end, or until it is known to be too long.
-pub fn read_configuration<G: Source>(alloc: Global, source: &mut G) -> Result<Settings, MountFault>
+/// The settings that a source says. It is read to its end, or until it is known to be too long. Of what is
+/// no configuration it says what is complained of.
+pub fn read_configuration<G: Source>(
+    alloc: Global,
+    source: &mut G,
+    complaint: &mut Option<Complaint>,
+) -> Result<Configuration, MountFault>
+    ensures complaint { ComplainsOfRead node_rules (G.left source.old) (G.left source.new) result complaint.new }
     ensures config { ReadsConfiguration (G.left source.old) (G.left source.new) result }
+    ensures settings { IfOk result (λ read. ReadsSettings (G.left source.old) (G.left source.new) read.settings) }
     ensures cause { CountsSource (G.faults source.old) (G.faults source.new) result }
     ensures kind { IsOfReading result }
 {
@@ -25,7 +35,7 @@ pub fn read_configuration<G: Source>(alloc: Global, source: &mut G) -> Result<Se
     };
     let mut bytes = Vec::new(alloc);
     read_pieces(source, SIZE_MAX, piece.as_mut_slice(), &mut bytes)?;
-    settings_in(alloc, bytes.as_slice())
+    configuration_in(alloc, &bytes, complaint)
 }
 
 /// Room for what is read at a time.
@@ -68,12 +78,20 @@ pub fn read_pieces<G: Source>(
     }
 }
 
-fn settings_in(alloc: Global, bytes: &[u8]) -> Result<Settings, MountFault>
-    ensures { SaysSettings bytes.now result }
+fn configuration_in(
+    alloc: Global,
+    bytes: &Vec<u8>,
+    complaint: &mut Option<Complaint>,
+) -> Result<Configuration, MountFault>
+    ensures says { SaysSettings bytes.now.items result }
+    ensures complaint { ComplainsOf node_rules bytes.now.items result complaint.new }
 {
-    match read_settings(alloc, bytes) {
-        Ok(settings) => Ok(settings),
-        Err(SettingsFault::Config) => Err(MountFault::Config),
-        Err(SettingsFault::NoMemory) => Err(MountFault::NoMemory),
+    match read_settings(alloc, bytes.as_slice()) {
+        Ok(settings) => Ok(Configuration::new(settings, bytes)),
+        Err(SettingsRefusal::Config(found)) => {
+            *complaint = Some(found);
+            Err(MountFault::Config)
+        }
+        Err(SettingsRefusal::NoMemory) => Err(MountFault::NoMemory),
     }
 }

@@ -7,11 +7,12 @@ use crate::board::Board;
 use crate::following::Primary;
 use crate::keeper::Keeper;
 use crate::lease_rounds::Rounds;
+use crate::notes::Notes;
 use crate::patience::naps_of;
 use crate::to_primary::ToPrimary;
 use crate::wish::Wish;
 use lease_core::Grant;
-use lf_base::{Dialer, NoMemory, Text};
+use lf_base::{Closing, Dialer, NoMemory, Text};
 use node_settings::{LeaseSettings, LeaseType, Settings, Url};
 use std::alloc::Global;
 
@@ -35,14 +36,15 @@ pub fn stands_as_primary(lease: &LeaseSettings) -> bool
     }
 }
 
-/// What a node of this number does. It follows by dialers of this one's kind; `asking` dials the lease
-/// service, where there is one.
+/// What a node of this number does. It follows by dialers of this one's kind, and notes there how;
+/// `asking` dials the lease service, where there is one.
 pub fn duties_of<T: Dialer + Drop>(
     alloc: Global,
     settings: &Settings,
     node: u64,
     dialer: &T,
     asking: Option<T>,
+    notes: &Notes,
 ) -> Result<Option<Duties<T>>, NoMemory>
     ensures { IfOk result (AreDuties settings.now node asking) }
 {
@@ -54,8 +56,21 @@ pub fn duties_of<T: Dialer + Drop>(
     let primary = Primary {
         name: settings.database.copy()?,
         dialer: ToPrimary::new(dialer.another(), board),
+        notes: notes.another()?,
     };
     Ok(Some(Duties { primary, rounds }))
+}
+
+/// The word that is closed once the rounds of these duties have ended; without any it is closed.
+pub fn rounds_word<T>(alloc: Global, duties: &Option<Duties<T>>) -> Result<Closing, NoMemory> {
+    match duties {
+        Some(duties) => duties.rounds.ended.another(),
+        None => {
+            let ended = Closing::new(alloc)?;
+            ended.close();
+            Ok(ended)
+        }
+    }
 }
 
 /// Where a node finds its primary before it is told.
@@ -83,6 +98,7 @@ fn rounds_of<T: Drop>(
         board,
         retention: settings.retention_files,
         naps: round_naps(&settings.lease),
+        ended: Closing::new(alloc)?,
     })
 }
 

@@ -1,5 +1,6 @@
 //! File links are accepted, and each is served in a job of its own.
 ghost use Rattle.std.specs.Prelude.{◌≡◌, true, OnOk};
+ghost use Rattle.node_mount.specs.Places.{HasSeenNone};
 ghost use Rattle.node_mount.specs.Serving.{CountsServing, GivesLimit};
 
 use crate::means::Means;
@@ -24,7 +25,8 @@ pub fn serve_file_links<
     accept: &mut A,
     spawner: &mut S,
 ) -> Result<(), MountFault>
-    requires { A.given accept.old ≡ 0 }
+    requires unused { HasSeenNone place.old.seat }
+    requires new { A.given accept.old ≡ 0 }
     ensures ended { OnOk result (A.ended accept.new ≡ true) }
     ensures limit { GivesLimit (A.given accept.new) result }
     ensures cause { CountsServing (A.faults accept.old) (A.faults accept.new) (S.faults spawner.old) (S.faults spawner.new) result }

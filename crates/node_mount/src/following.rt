@@ -1,10 +1,12 @@
 //! A replica follows its primary: one job dials it, and another follows the stream on each link.
 ghost use Rattle.lf_base.specs.Faults.{CountsFaults};
+ghost use Rattle.node_mount.specs.Places.{HasSeenNone};
 ghost use Rattle.node_mount.specs.Serving.{CountsStarts};
 
 use crate::hall::{Links, two_holds};
 use crate::means::Means;
 use crate::mount_fault::MountFault;
+use crate::notes::Notes;
 use crate::place::Place;
 use crate::sessions::{BUDGET, LINKS};
 use crate::to_primary::ToPrimary;
@@ -22,6 +24,8 @@ use turn_desk::Machine;
 pub struct Primary<T> {
     pub name: Name,
     pub dialer: ToPrimary<T>,
+    /// Where its jobs note how its streams begin and end.
+    pub notes: Notes,
 }
 
 /// Starts the two jobs that follow a primary, the one that follows at a seat of its own.
@@ -40,6 +44,8 @@ pub fn start_following<
     closing: &Closing,
     spawner: &mut S,
 ) -> Result<(), MountFault>
+    requires unused { HasSeenNone place.old.seat }
+    ensures unused { HasSeenNone place.new.seat }
     ensures cause { CountsStarts (S.faults spawner.old) (S.faults spawner.new) result }
 {
     let Some(place) = place.another(means.rt) else {
@@ -63,16 +69,21 @@ fn jobs_of<L: Drop, T: Drop, P: Copy>(
 ) -> Result<(Dialing<L, T, P>, Streams<L>), NoMemory> {
     let closing = closing.another()?;
     let (links, theirs) = two_holds(alloc)?;
-    let Primary { name, dialer } = primary;
+    let Primary {
+        name,
+        dialer,
+        notes,
+    } = primary;
     let nowhere = Text::of(alloc, "")?;
     let dialing = Dialing {
         dialer,
         nowhere,
         pause,
         links: theirs,
+        notes: notes.another()?,
         closing,
     };
-    Ok((dialing, Streams { links, name }))
+    Ok((dialing, Streams { links, name, notes }))
 }
 
 /// Starts one job, and then another at this seat.
@@ -85,6 +96,7 @@ fn start_both<
     C: Clock + Copy + Send + 'static,
     P: Pause + Copy + Send + 'static,
 >(means: Means<R, C, P>, place: Place<K>, job: J, work: W, spawner: &mut S) -> Result<(), Failed>
+    requires unused { HasSeenNone place.seat }
     ensures cause { CountsFaults (S.faults spawner.old) (S.faults spawner.new) result }
 {
     start(means.rt, spawner, job)?;
@@ -99,6 +111,7 @@ struct Dialing<L, T, P> {
     nowhere: Text,
     pause: P,
     links: Links<L>,
+    notes: Notes,
     closing: Closing,
 }
 
@@ -117,7 +130,10 @@ impl<
             if job.closing.is_closed() {
                 break;
             }
-            if let Ok(link) = job.dialer.dial(&rt, &job.nowhere) {
+            let address = job.dialer.address(&rt);
+            let dialed = job.dialer.dial(&rt, &job.nowhere);
+            job.notes.dialed(&rt, &address, dialed.is_ok());
+            if let Ok(link) = dialed {
                 if job.links.put(&rt, link).is_ok() {
                     match job.links.take_back(&rt) {
                         Some(link) => job.dialer.hang_up(link),
@@ -136,6 +152,7 @@ impl<
 struct Streams<L> {
     links: Links<L>,
     name: Name,
+    notes: Notes,
 }
 
 impl<L: Link + Drop> Work for Streams<L> {
@@ -187,6 +204,7 @@ fn follow_next<
         doubt.is_unknown(),
         BUDGET,
     );
+    streams.notes.ended(&means.rt, end);
     streams.links.give_back(&means.rt, link);
     Some(doubt.after(end))
 }

@@ -1,4 +1,5 @@
 //! HTTP links are accepted by one job, and served by a fixed number of others.
+ghost use Rattle.node_mount.specs.Places.{HasSeenNone};
 ghost use Rattle.node_mount.specs.Serving.{CountsStarts};
 
 use crate::hall::{Links, two_holds};
@@ -18,6 +19,9 @@ use turn_desk::Machine;
 /// How many HTTP links are served at a time, each stream to a follower among them.
 const JOBS: u32 = 256;
 
+// So many followers and clients that stall hold up no other.
+const _: () = prove!(JOBS >= 256);
+
 /// Starts the jobs of HTTP links: one that accepts them, and those that serve them.
 pub fn start_http<
     R: Handles + Copy + Send + 'static,
@@ -35,6 +39,8 @@ pub fn start_http<
     closing: &Closing,
     spawner: &mut S,
 ) -> Result<(), MountFault>
+    requires unused { HasSeenNone place.old.seat }
+    ensures unused { HasSeenNone place.new.seat }
     ensures cause { CountsStarts (S.faults spawner.old) (S.faults spawner.new) result }
 {
     let Ok((job, links)) = accepting_job(means.alloc, accept, means.pause, closing) else {
@@ -115,6 +121,8 @@ fn start_serving<
     links: &Links<L>,
     spawner: &mut S,
 ) -> Result<(), MountFault>
+    requires unused { HasSeenNone place.old.seat }
+    ensures unused { HasSeenNone place.new.seat }
     ensures cause { CountsStarts (S.faults spawner.old) (S.faults spawner.new) result }
 {
     for _ in 0..JOBS {

@@ -1,4 +1,4 @@
-ghost use Rattle.std.specs.Prelude.{◌≡◌, [], false, IfOk, MatchOption, None, Some};
+ghost use Rattle.std.specs.Prelude.{◌≡◌, [], true, false, IfOk, MatchOption, None, Some};
 ghost use Rattle.node_mount.specs.Keeping.{told_by, with};
 ghost use Rattle.node_mount.specs.Making.{TakesBack};
 
@@ -51,6 +51,14 @@ impl<T: Drop> Keeping<T> {
             Ok(()) => {}
             Err(_) => unreachable!(),
         }
+    }
+
+    /// There was a value that is not kept.
+    pub fn lose(&mut self)
+        ensures lost { self.new ≡ record self.old { lost = true } }
+        ensures untold { told_by self.new ≡ None }
+    {
+        self.lost = true;
     }
 
     /// The values, while there was a place for each.

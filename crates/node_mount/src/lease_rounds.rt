@@ -3,6 +3,7 @@ ghost use Rattle.std.specs.Prelude.{◌≡◌, ◌↔◌, IsTrue};
 ghost use Rattle.node_core.specs.declared.answer.Answer.TheVariants as answers;
 ghost use Rattle.node_core.specs.declared.refusal.Refusal.TheVariants as refusals;
 ghost use Rattle.txn_log.specs.declared.fault.StoreFault.TheVariants as faults;
+ghost use Rattle.node_mount.specs.Places.{HasSeenNone};
 ghost use Rattle.node_mount.specs.Serving.{CountsStarts};
 
 use crate::board::Board;
@@ -35,6 +36,8 @@ pub struct Rounds<T> {
     pub retention: u64,
     /// How often a round naps.
     pub naps: u64,
+    /// It is closed once the rounds have ended, and the lease is given up.
+    pub ended: Closing,
 }
 
 /// Starts the job of these rounds, at a seat of its own.
@@ -53,6 +56,8 @@ pub fn start_rounds<
     closing: &Closing,
     spawner: &mut S,
 ) -> Result<(), MountFault>
+    requires unused { HasSeenNone place.old.seat }
+    ensures unused { HasSeenNone place.new.seat }
     ensures cause { CountsStarts (S.faults spawner.old) (S.faults spawner.new) result }
 {
     let (Some(place), Ok(closing)) = (place.another(means.rt), closing.another()) else {
@@ -91,6 +96,7 @@ impl<T: Dialer + Drop> Work for Going<T> {
         if let Some(keeper) = &mut rounds.keeper {
             give_up(&mut means, &mut place, keeper);
         }
+        rounds.ended.close();
     }
 }
 
@@ -106,6 +112,7 @@ fn round<R: Handles + Copy, K: Machine<Ask = Ask, Answer = Answer>, T: Dialer, C
         board,
         retention,
         naps,
+        ended: _,
     } = rounds;
     let Some(keeper) = keeper else {
         prune(means, place, *retention);
@@ -206,7 +213,7 @@ fn is_broken(answer: &Answer) -> bool
 }
 
 /// Naps so often, until the word is closed.
-fn nap<P: Pause>(pause: &mut P, naps: u64, closing: &Closing) {
+pub fn nap<P: Pause>(pause: &mut P, naps: u64, closing: &Closing) {
     for _ in 0..naps {
         if closing.is_closed() {
             break;

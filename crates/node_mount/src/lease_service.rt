@@ -1,10 +1,13 @@
 //! A lease service is started, serves, and stops.
 ghost use Rattle.std.specs.Prelude.{◌≡◌, true, OnOk};
+ghost use Rattle.node_mount.specs.Complaining.{ComplainsOf, ComplainsOfRead};
 ghost use Rattle.node_mount.specs.Configuring.{CountsSource};
 ghost use Rattle.node_mount.specs.LeaseService.{CountsAccepts, LeasesBack, ReadsService, ReadsSettings, SaysService, ServesAnew, ServesLinks, ServesTold};
 ghost use Rattle.node_mount.specs.Mounting.{IsMountCause, IsOfReading, IsPastReading, RaisesFor};
 ghost use Rattle.node_mount.specs.Serving.{GivesLimit};
+ghost use Rattle.node_settings.specs.Rules.{service_rules};
 
+use crate::complaining::tell_complaint;
 use crate::configuring::{SIZE_MAX, new_piece, read_pieces};
 use crate::maker::Maker;
 use crate::mount_fault::MountFault;
@@ -13,7 +16,7 @@ use crate::sessions::{BUDGET, LINKS};
 use lease_core::LeaseTable;
 use lease_link::{Waited, serve_lease};
 use lf_base::{Acceptor, Clock, Handles, Source, Text};
-use node_settings::{ServiceSettings, SettingsFault, read_service_settings};
+use node_settings::{Complaint, ServiceSettings, SettingsRefusal, read_service_settings};
 use std::alloc::Global;
 
 /// Runs the lease service that a configuration says, until no more links come.
@@ -31,14 +34,23 @@ pub fn serve_leases<R: Handles, G: Source, M: Maker>(
     ensures back { LeasesBack M.HttpAccept.ended M.HttpAccept.given (ServesTold M.HttpAccept.L.Link (G.left config.old) (G.left config.new)) (M.back make.old) (M.back make.new) result }
     ensures cause { IsMountCause (G.faults config.old) (G.faults config.new) (M.counts make.old) (M.counts make.new) result }
 {
-    match read_service(alloc, config) {
+    let mut complaint = None;
+    match read_service(alloc, config, &mut complaint) {
         Ok(settings) => serve_settings(rt, alloc, &settings, make),
-        Err(fault) => Err(fault),
+        Err(fault) => {
+            tell_complaint(rt, alloc, &complaint, make);
+            Err(fault)
+        }
     }
 }
 
 /// The settings that a source says. It is read to its end, or until it is known to be too long.
-fn read_service<G: Source>(alloc: Global, source: &mut G) -> Result<ServiceSettings, MountFault>
+fn read_service<G: Source>(
+    alloc: Global,
+    source: &mut G,
+    complaint: &mut Option<Complaint>,
+) -> Result<ServiceSettings, MountFault>
+    ensures complaint { ComplainsOfRead service_rules (G.left source.old) (G.left source.new) result complaint.new }
     ensures config { ReadsSettings (G.left source.old) (G.left source.new) result }
     ensures cause { CountsSource (G.faults source.old) (G.faults source.new) result }
     ensures kind { IsOfReading result }
@@ -48,16 +60,24 @@ fn read_service<G: Source>(alloc: Global, source: &mut G) -> Result<ServiceSetti
     };
     let mut bytes = Vec::new(alloc);
     read_pieces(source, SIZE_MAX, piece.as_mut_slice(), &mut bytes)?;
-    settings_in(alloc, bytes.as_slice())
+    settings_in(alloc, bytes.as_slice(), complaint)
 }
 
-fn settings_in(alloc: Global, bytes: &[u8]) -> Result<ServiceSettings, MountFault>
-    ensures { SaysService bytes.now result }
+fn settings_in(
+    alloc: Global,
+    bytes: &[u8],
+    complaint: &mut Option<Complaint>,
+) -> Result<ServiceSettings, MountFault>
+    ensures says { SaysService bytes.now result }
+    ensures complaint { ComplainsOf service_rules bytes.now result complaint.new }
 {
     match read_service_settings(alloc, bytes) {
         Ok(settings) => Ok(settings),
-        Err(SettingsFault::Config) => Err(MountFault::Config),
-        Err(SettingsFault::NoMemory) => Err(MountFault::NoMemory),
+        Err(SettingsRefusal::Config(found)) => {
+            *complaint = Some(found);
+            Err(MountFault::Config)
+        }
+        Err(SettingsRefusal::NoMemory) => Err(MountFault::NoMemory),
     }
 }
 

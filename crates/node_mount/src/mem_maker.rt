@@ -2,18 +2,25 @@
 ghost use Rattle.std.specs.Prelude.{◌≡◌, ◌==◌, ◌↔◌, ◌∷◌, [], true, false, None, Some, All, Contains, IfOk, IsErr, IsTrue, MatchOption, if◌then◌else◌};
 ghost use Rattle.lf_disk.specs.MemDisk.{history_of};
 ghost use Rattle.node_mount.specs.Keeping.{told_by, with};
-ghost use Rattle.node_mount.specs.Making.{no_faults, disk_failed, network_failed, spawner_failed, DisksRose, NetworkRose, SpawnersRose, FailsBy, TellsBy, IsAtRest, IsNew, TakesBack};
+ghost use Rattle.node_mount.specs.Making.{no_faults, disk_failed, network_failed, spawner_failed, DisksRose, NetworkRose, SpawnersRose, FailsBy, TellsBy, IsAskedFor, IsAtRest, IsNew, TakesBack};
 ghost use Rattle.node_mount.specs.MemMaker.{IsNewDisk, IsNewDoor, IsNewPhone, IsNewSpawner, FailsNext, Gives, IsNext, called, no_links};
 ghost use Rattle.node_mount.specs.MemSpawn.{faults_of};
+ghost use Rattle.node_mount.specs.declared.asked.Asked.{Asked};
+ghost use Rattle.node_mount.specs.declared.asked.Wanted.{Wanted};
+ghost use Rattle.node_mount.specs.declared.asked.Wanted.TheVariants as wants;
 ghost use Rattle.node_mount.specs.declared.returned.Returned.TheVariants as returned;
 
+use crate::asked::{Asked, Wanted};
 use crate::counts::Counts;
+use crate::failing::FailedCall;
 use crate::keeping::Keeping;
 use crate::maker::Maker;
 use crate::mem_spawn::MemSpawn;
 use crate::returned::Returned;
+use crate::tell::{KeptLines, KeptPlace};
 use lf_base::{
-    Dialer, Failed, FixedClock, ListAcceptor, MemDialer, MemLink, Name, NoMemory, NoPause, Text,
+    Closing, Dialer, Failed, FixedClock, ListAcceptor, MemDialer, MemLink, Name, NoMemory, NoPause,
+    Text,
 };
 use lf_disk::MemDisk;
 use std::alloc::Global;
@@ -22,22 +29,47 @@ use std::marker::Model;
 /// An object that a maker in memory took back.
 pub type MemReturned = Returned<MemDisk, ListAcceptor, ListAcceptor, MemDialer, MemSpawn>;
 
-/// A maker that gives the objects it was handed, those of each kind in order, and tells what came
-/// back.
+/// What it has beside the objects that it was handed.
+#[derive(Drop)]
+struct Aside {
+    alloc: Global,
+    /// Of which a dialer without links is made.
+    no_dialer: MemDialer,
+    /// Where the lines of its node are kept.
+    lines: KeptPlace,
+    /// It is closed: its acceptors end by themselves.
+    ending: Closing,
+}
+
+impl Aside {
+    fn new(alloc: Global) -> Result<Aside, NoMemory> {
+        let ending = Closing::new(alloc)?;
+        ending.close();
+        Ok(Aside {
+            alloc,
+            no_dialer: MemDialer::new(alloc, Vec::new(alloc), 0, Vec::new(alloc))?,
+            lines: KeptPlace::new(alloc)?,
+            ending,
+        })
+    }
+}
+
+/// A maker that gives the objects it was handed, those of each kind in order, and tells what it was
+/// asked for and what came back.
 #[derive(Drop)]
 pub struct MemMaker {
     disks: Vec<MemDisk>,
     files: Vec<ListAcceptor>,
     http: Vec<ListAcceptor>,
     dialers: Vec<MemDialer>,
-    /// Of which a dialer without links is made.
-    no_dialer: MemDialer,
+    aside: Aside,
     spawners: Vec<MemSpawn>,
     clock: FixedClock,
     node: u64,
     failing: Vec<u64>,
     calls: u64,
     counts: Counts,
+    asked: Keeping<Asked>,
     back: Keeping<MemReturned>,
 }
 
@@ -47,14 +79,15 @@ impl Model for MemMaker {
 
     ghost Value = { Making };
 
-    ghost view = { λ m. record { disks = m.disks.items; files = m.files.items; http = m.http.items; dialers = m.dialers.items; spawners = m.spawners.items; clock = m.clock; node = m.node; failing = m.failing.items; calls = m.calls; counts = m.counts; back = m.back } };
+    ghost view = { λ m. record { disks = m.disks.items; files = m.files.items; http = m.http.items; dialers = m.dialers.items; spawners = m.spawners.items; clock = m.clock; node = m.node; failing = m.failing.items; calls = m.calls; counts = m.counts; asked = m.asked; back = m.back } };
 
     ghost invariant = { λ m. All IsNewDisk m.disks.items × All IsNewDoor m.files.items × All IsNewDoor m.http.items × All IsNewPhone m.dialers.items × All IsNewSpawner m.spawners.items };
 }
 
 impl MemMaker {
     /// A maker of these objects. Its calls of `disk`, `files` and `http` of the numbers `failing` fail,
-    /// counted together from 0. It has `places` places for what comes back.
+    /// counted together from 0. It has `places` places for what comes back, and as many for what it is
+    /// asked for.
     pub fn new(
         alloc: Global,
         disks: Vec<MemDisk>,
@@ -83,25 +116,40 @@ impl MemMaker {
           failing = failing.items;
           calls = 0;
           counts = no_faults;
+          asked = record { values = []; places = places; lost = false };
           back = record { values = []; places = places; lost = false };
         }) }
     {
-        let no_dialer = MemDialer::new(alloc, Vec::new(alloc), 0, Vec::new(alloc))?;
+        let aside = Aside::new(alloc)?;
+        let asked = Keeping::new(alloc, places)?;
         let back = Keeping::new(alloc, places)?;
         Ok(MemMaker {
             disks,
             files,
             http,
             dialers,
-            no_dialer,
+            aside,
             spawners,
             clock,
             node,
             failing,
             calls: 0,
             counts: Counts::new(),
+            asked,
             back,
         })
+    }
+
+    /// What it was asked for, while there was memory and a place for each.
+    pub fn asked(&self) -> Option<&[Asked]>
+        ensures { MatchOption result (told_by self.now.asked ≡ None) (λ asked. told_by self.now.asked ≡ Some asked.now) }
+    {
+        self.asked.told()
+    }
+
+    /// Where the lines of its node are kept. No clause says which they are.
+    pub fn lines(&self) -> Result<KeptPlace, NoMemory> {
+        self.aside.lines.another()
     }
 
     /// The objects that came back, while there was a place for each.
@@ -119,6 +167,17 @@ impl MemMaker {
         let fails = self.failing.contains(&self.calls);
         self.calls = self.calls.saturating_add(1);
         fails
+    }
+
+    /// Keeps what it was asked for, and whether that is given.
+    fn note(&mut self, wanted: Result<Wanted, NoMemory>, given: bool)
+        ensures asked { (what : Wanted) → IfOk wanted (λ made. made ≡ what) → TakesBack (record { wanted = what; given = given }) (told_by self.old.asked) (told_by self.new.asked) }
+        ensures rest { self.new ≡ record self.old { asked = self.new.asked } }
+    {
+        match wanted {
+            Ok(wanted) => self.asked.put(Asked { wanted, given }),
+            Err(_) => self.asked.lose(),
+        }
     }
 }
 
@@ -139,7 +198,13 @@ impl Maker for MemMaker {
 
     type Pause = NoPause;
 
+    type Tell = KeptLines;
+
     ghost counts = { λ m. m.counts };
+
+    ghost asked = { λ m. told_by m.asked };
+
+    ghost number = { λ m. m.node };
 
     ghost back = { λ m. told_by m.back };
 
@@ -151,17 +216,22 @@ impl Maker for MemMaker {
         ensures rest { IfOk result (λ disk. IsAtRest true (history_of disk)) }
         ensures cause { FailsBy DisksRose self.old.counts self.new.counts result }
         ensures back { told_by self.new.back ≡ told_by self.old.back }
+        ensures asked { IsAskedFor (wants.Disk name.now) (told_by self.old.asked) (told_by self.new.asked) result }
+        ensures number { self.new.node ≡ self.old.node }
 
         // It fails where that was planned and where no disk is left, and counts one fault there; else it
         // gives the next disk.
         ensures fails { IsErr result ↔ FailsNext self.old self.old.disks }
-        ensures one { IsErr result → self.new ≡ record (called self.old) { counts = disk_failed self.old.counts } }
-        ensures gives { IfOk result (λ disk. (self.old.disks ≡ disk ∷ self.new.disks) × (self.new ≡ record (called self.old) { disks = self.new.disks })) }
+        ensures one { IsErr result → self.new ≡ record (called self.old) { counts = disk_failed self.old.counts; asked = self.new.asked } }
+        ensures gives { IfOk result (λ disk. (self.old.disks ≡ disk ∷ self.new.disks) × (self.new ≡ record (called self.old) { disks = self.new.disks; asked = self.new.asked })) }
     {
+        let wanted = Wanted::disk(name);
         if self.begin() || self.disks.is_empty() {
             self.counts.fail_disk();
+            self.note(wanted, false);
             return Err(Failed);
         }
+        self.note(wanted, true);
         Ok(self.disks.remove(0))
     }
 
@@ -169,14 +239,19 @@ impl Maker for MemMaker {
         ensures made { IfOk result (λ accept. IsNew accept.given accept.faults accept.ended) }
         ensures cause { FailsBy NetworkRose self.old.counts self.new.counts result }
         ensures back { told_by self.new.back ≡ told_by self.old.back }
+        ensures asked { IsAskedFor (wants.Files path.now) (told_by self.old.asked) (told_by self.new.asked) result }
+        ensures number { self.new.node ≡ self.old.node }
         ensures fails { IsErr result ↔ FailsNext self.old self.old.files }
-        ensures one { IsErr result → self.new ≡ record (called self.old) { counts = network_failed self.old.counts } }
-        ensures gives { IfOk result (λ accept. (self.old.files ≡ accept ∷ self.new.files) × (self.new ≡ record (called self.old) { files = self.new.files })) }
+        ensures one { IsErr result → self.new ≡ record (called self.old) { counts = network_failed self.old.counts; asked = self.new.asked } }
+        ensures gives { IfOk result (λ accept. (self.old.files ≡ accept ∷ self.new.files) × (self.new ≡ record (called self.old) { files = self.new.files; asked = self.new.asked })) }
     {
+        let wanted = Wanted::files(path);
         if self.begin() || self.files.is_empty() {
             self.counts.fail_network();
+            self.note(wanted, false);
             return Err(Failed);
         }
+        self.note(wanted, true);
         Ok(self.files.remove(0))
     }
 
@@ -184,14 +259,19 @@ impl Maker for MemMaker {
         ensures made { IfOk result (λ accept. IsNew accept.given accept.faults accept.ended) }
         ensures cause { FailsBy NetworkRose self.old.counts self.new.counts result }
         ensures back { told_by self.new.back ≡ told_by self.old.back }
+        ensures asked { IsAskedFor (wants.Http address.now) (told_by self.old.asked) (told_by self.new.asked) result }
+        ensures number { self.new.node ≡ self.old.node }
         ensures fails { IsErr result ↔ FailsNext self.old self.old.http }
-        ensures one { IsErr result → self.new ≡ record (called self.old) { counts = network_failed self.old.counts } }
-        ensures gives { IfOk result (λ accept. (self.old.http ≡ accept ∷ self.new.http) × (self.new ≡ record (called self.old) { http = self.new.http })) }
+        ensures one { IsErr result → self.new ≡ record (called self.old) { counts = network_failed self.old.counts; asked = self.new.asked } }
+        ensures gives { IfOk result (λ accept. (self.old.http ≡ accept ∷ self.new.http) × (self.new ≡ record (called self.old) { http = self.new.http; asked = self.new.asked })) }
     {
+        let wanted = Wanted::http(address);
         if self.begin() || self.http.is_empty() {
             self.counts.fail_network();
+            self.note(wanted, false);
             return Err(Failed);
         }
+        self.note(wanted, true);
         Ok(self.http.remove(0))
     }
 
@@ -203,7 +283,7 @@ impl Maker for MemMaker {
         ensures rest { self.new ≡ record self.old { dialers = self.new.dialers } }
     {
         if self.dialers.is_empty() {
-            return self.no_dialer.another();
+            return self.aside.no_dialer.another();
         }
         self.dialers.remove(0)
     }
@@ -232,6 +312,27 @@ impl Maker for MemMaker {
         ensures { self.new ≡ self.old }
     {
         NoPause::new()
+    }
+
+    fn tell(&mut self) -> KeptLines
+        ensures { self.new ≡ self.old }
+    {
+        KeptLines::new(self.aside.alloc, &self.aside.lines)
+    }
+
+    fn ending(&mut self) -> Result<Closing, NoMemory>
+        ensures { self.new ≡ self.old }
+    {
+        self.aside.ending.another()
+    }
+
+    /// It knows of no call that failed.
+    fn broke(&mut self) -> Option<FailedCall>
+        ensures cause { DisksRose self.old.counts self.new.counts }
+        ensures one { self.new ≡ record self.old { counts = disk_failed self.old.counts } }
+    {
+        self.counts.fail_disk();
+        None
     }
 
     fn node_id(&self) -> u64

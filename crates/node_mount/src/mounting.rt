@@ -1,23 +1,39 @@
 //! A node is started, serves, and stops.
-ghost use Rattle.std.specs.Prelude.{◌≡◌};
+ghost use Rattle.std.specs.Prelude.{◌≡◌, IfOk};
+ghost use Rattle.std.specs.Arc.{arc_value};
+ghost use Rattle.node_core.specs.Nodes.{parts_of};
+ghost use Rattle.node_mount.specs.Asking.{Asks, AsksAsRead, AsksLinks};
 ghost use Rattle.node_mount.specs.Configuring.{ReadsConfiguration};
 ghost use Rattle.node_mount.specs.Damage.{DamageHasCause};
-ghost use Rattle.node_mount.specs.Duties.{HasDialer};
+ghost use Rattle.node_mount.specs.Duties.{AreDuties, HasDialer};
+ghost use Rattle.node_mount.specs.Ending.{BreaksWhere, CountsEnd, EndsAs, EndsBroken};
 ghost use Rattle.node_mount.specs.Making.{IsNew};
-ghost use Rattle.node_mount.specs.Mounting.{fault_of as named, IsMountCause, IsPastReading, IsServing, RaisesFor};
+ghost use Rattle.node_mount.specs.Mounting.{fault_of as named, IsMountCause, IsOpened, IsPastReading, IsServing, RaisesFor};
+ghost use Rattle.node_mount.specs.Opening.{config_of as given, IsOpenedBy};
+ghost use Rattle.node_mount.specs.Places.{IsUnused};
 ghost use Rattle.node_mount.specs.Returns.{CameBack};
+ghost use Rattle.turn_desk.specs.Seats.{opened_on};
 
+use crate::broken::broken_line;
+use crate::complaining::tell_complaint;
+use crate::configuration::Configuration;
 use crate::configuring::read_configuration;
 use crate::duties::duties_of;
+use crate::ending::End;
+use crate::failing::FailedCall;
 use crate::maker::Maker;
 use crate::means::Means;
 use crate::mount_fault::MountFault;
+use crate::notes::Notes;
 use crate::opening::{OpenFault, config_of, open_place, open_recovered};
 use crate::patience::{HTTP_PATIENCE, following_patience, lease_patience};
 use crate::place::Place;
 use crate::serving::serve_links;
-use lf_base::{Handles, Source};
-use node_core::{Answer, Ask};
+use crate::tasks::Tasks;
+use crate::tell::Lines;
+use crate::watching::watching_of;
+use lf_base::{Handles, NoMemory, Source};
+use node_core::Node;
 use node_recovery::RecoverFault;
 use node_settings::{LeaseType, Settings};
 use std::alloc::Global;
@@ -25,8 +41,8 @@ use turn_desk::Machine;
 
 /// Runs the node that a configuration says, until no more file links come.
 ///
-/// The configuration is read, the disk made, the node opened over it, and the acceptors made. Each
-/// link has a session of its own. What was made for the caller's own thread comes back.
+/// The configuration is read, the disk made, the node opened over it, and the acceptors made. What is no
+/// configuration is complained of in a line. Each link has a session of its own. What was made for the caller's own thread comes back.
 pub fn mount<R: Handles + Copy + Send + 'static, G: Source, M: Maker>(
     rt: R,
     alloc: Global,
@@ -34,37 +50,44 @@ pub fn mount<R: Handles + Copy + Send + 'static, G: Source, M: Maker>(
     make: &mut M,
 ) -> Result<(), MountFault>
     ensures config { ReadsConfiguration (G.left config.old) (G.left config.new) result }
+    ensures asked { AsksAsRead (G.left config.old) (G.left config.new) (M.asked make.old) (M.asked make.new) result }
     ensures back { CameBack M.FileAccept.ended M.FileAccept.given (M.back make.old) (M.back make.new) result }
     ensures damage { DamageHasCause M.Disk.honest M.Disk.history (M.may_give make.old) (M.back make.old) (M.back make.new) result }
     ensures cause { IsMountCause (G.faults config.old) (G.faults config.new) (M.counts make.old) (M.counts make.new) result }
 {
-    match read_configuration(alloc, config) {
-        Ok(settings) => mount_disk(rt, alloc, &settings, make),
-        Err(fault) => Err(fault),
+    let mut complaint = None;
+    match read_configuration(alloc, config, &mut complaint) {
+        Ok(read) => mount_disk(rt, alloc, &read, make),
+        Err(fault) => {
+            tell_complaint(&rt, alloc, &complaint, make);
+            Err(fault)
+        }
     }
 }
 
 /// Makes the disk and opens a node over it.
+#[tactic(auto, using(crate::proofs::BackLemmas::one_back))]
 fn mount_disk<R: Handles + Copy + Send + 'static, M: Maker>(
     rt: R,
     alloc: Global,
-    settings: &Settings,
+    read: &Configuration,
     make: &mut M,
 ) -> Result<(), MountFault>
+    ensures asked { Asks read.now.settings (M.asked make.old) (M.asked make.new) result }
     ensures back { CameBack M.FileAccept.ended M.FileAccept.given (M.back make.old) (M.back make.new) result }
     ensures damage { DamageHasCause M.Disk.honest M.Disk.history (M.may_give make.old) (M.back make.old) (M.back make.new) result }
     ensures cause { RaisesFor (M.counts make.old) (M.counts make.new) result }
     ensures kind { IsPastReading result }
 {
-    let Ok(config) = config_of(alloc, settings, make.node_id()) else {
+    let Ok(config) = config_of(alloc, &read.settings, make.node_id()) else {
         return Err(MountFault::NoMemory);
     };
-    let disk = match make.disk(&settings.database) {
+    let disk = match make.disk(&read.settings.database) {
         Ok(disk) => disk,
         Err(_) => return Err(MountFault::Disk),
     };
     match open_recovered(alloc, disk, config) {
-        Ok(node) => mount_node(rt, alloc, settings, node, make),
+        Ok(node) => mount_node(rt, alloc, read, node, make),
         Err(OpenFault::Unrecovered(why, disk)) => {
             make.back_disk(disk);
             Err(fault_of(why))
@@ -83,25 +106,31 @@ fn fault_of(why: RecoverFault) -> MountFault
     }
 }
 
-/// Makes where links come from.
-fn mount_node<
-    R: Handles + Copy + Send + 'static,
-    K: Machine<Ask = Ask, Answer = Answer> + Send + Drop + 'static,
-    M: Maker,
->(rt: R, alloc: Global, settings: &Settings, node: K, make: &mut M) -> Result<(), MountFault>
+/// Makes where links come from, for a node that was opened by these settings.
+#[tactic(auto, using(crate::proofs::BackLemmas::one_back))]
+fn mount_node<R: Handles + Copy + Send + 'static, M: Maker>(
+    rt: R,
+    alloc: Global,
+    read: &Configuration,
+    node: Node<M::Disk>,
+    make: &mut M,
+) -> Result<(), MountFault>
+    requires opened { IsOpenedBy (given read.now.settings (M.number make.old)) (parts_of node) }
+    ensures asked { AsksLinks read.now.settings (M.asked make.old) (M.asked make.new) result }
     ensures back { CameBack M.FileAccept.ended M.FileAccept.given (M.back make.old) (M.back make.new) result }
     ensures cause { RaisesFor (M.counts make.old) (M.counts make.new) result }
-    ensures kind { IsServing result }
+    ensures kind { IsOpened result }
+    ensures broken { EndsBroken ⟦<Node<M::Disk> as Machine>⟧.steps node result }
 {
     let Ok(place) = open_place(alloc, node) else {
         return Err(MountFault::NoMemory);
     };
-    let files = match make.files(&settings.socket) {
+    let files = match make.files(&read.settings.socket) {
         Ok(files) => files,
         Err(_) => return Err(MountFault::Network),
     };
-    match make.http(settings.http.text(), HTTP_PATIENCE) {
-        Ok(http) => serve_place(rt, alloc, settings, place, files, http, make),
+    match make.http(read.settings.http.text(), HTTP_PATIENCE) {
+        Ok(http) => serve_place(rt, alloc, read, place, files, http, make),
         Err(_) => {
             make.back_files(files);
             Err(MountFault::Network)
@@ -109,24 +138,48 @@ fn mount_node<
     }
 }
 
-/// Makes what else a node serves by, serves, and takes back all.
-fn serve_place<
-    R: Handles + Copy + Send + 'static,
-    K: Machine<Ask = Ask, Answer = Answer> + Send + Drop + 'static,
-    M: Maker,
->(
+/// Makes what else a node serves by, serves, and ends. The node was opened by these settings, and nobody
+/// has asked it anything.
+fn serve_place<R: Handles + Copy + Send + 'static, M: Maker>(
     rt: R,
     alloc: Global,
-    settings: &Settings,
-    place: Place<K>,
+    read: &Configuration,
+    place: Place<Node<M::Disk>>,
     files: M::FileAccept,
     http: M::HttpAccept,
     make: &mut M,
 ) -> Result<(), MountFault>
+    requires opened { IsOpenedBy (given read.now.settings (M.number make.old)) (parts_of (opened_on (arc_value place.desk))) }
+    requires unused { IsUnused place.seat (arc_value place.desk) }
     requires new { IsNew (M.FileAccept.given files) (M.FileAccept.faults files) (M.FileAccept.ended files) }
+    ensures asked { M.asked make.new ≡ M.asked make.old }
+    ensures back { CameBack M.FileAccept.ended M.FileAccept.given (M.back make.old) (M.back make.new) result }
+    ensures cause { RaisesFor (M.counts make.old) (M.counts make.new) result }
+    ensures kind { IsOpened result }
+    ensures broken { EndsBroken ⟦<Node<M::Disk> as Machine>⟧.steps (opened_on (arc_value place.desk)) result }
+{
+    let served = serve_made(rt, alloc, read, place, files, http, make);
+    end_node(&rt, alloc, &read.settings, served, make)
+}
+
+/// Makes what else it serves by, serves, and takes back all.
+fn serve_made<R: Handles + Copy + Send + 'static, M: Maker>(
+    rt: R,
+    alloc: Global,
+    read: &Configuration,
+    place: Place<Node<M::Disk>>,
+    files: M::FileAccept,
+    http: M::HttpAccept,
+    make: &mut M,
+) -> Result<End, MountFault>
+    requires opened { IsOpenedBy (given read.now.settings (M.number make.old)) (parts_of (opened_on (arc_value place.desk))) }
+    requires unused { IsUnused place.seat (arc_value place.desk) }
+    requires new { IsNew (M.FileAccept.given files) (M.FileAccept.faults files) (M.FileAccept.ended files) }
+    ensures asked { M.asked make.new ≡ M.asked make.old }
     ensures back { CameBack M.FileAccept.ended M.FileAccept.given (M.back make.old) (M.back make.new) result }
     ensures cause { RaisesFor (M.counts make.old) (M.counts make.new) result }
     ensures kind { IsServing result }
+    ensures broken { IfOk result (BreaksWhere ⟦<Node<M::Disk> as Machine>⟧.steps (opened_on (arc_value place.desk))) }
 {
     let mut files = files;
     let (clock, pause) = (make.clock(), make.pause());
@@ -136,29 +189,79 @@ fn serve_place<
         clock,
         pause,
     };
+    let settings = &read.settings;
     let dialer = make.dialer(following_patience(&settings.lease));
     let asking = dialer_of_service(settings, make);
-    let Ok(duties) = duties_of(alloc, settings, make.node_id(), &dialer, asking) else {
+    let Ok(tasks) = tasks_of(alloc, settings, &dialer, asking, make) else {
         return Err(MountFault::NoMemory);
     };
     let mut spawner = make.spawner();
-    let served = serve_links(
-        means,
-        place,
-        &mut files,
-        http,
-        &settings.database,
-        duties,
-        &mut spawner,
-    );
+    let served = serve_links(means, place, &mut files, http, read, tasks, &mut spawner);
     make.back_files(files);
     make.back_dial(dialer);
     make.back_spawn(spawner);
     served
 }
 
+/// What a node does beside serving links, and what watches it.
+fn tasks_of<M: Maker>(
+    alloc: Global,
+    settings: &Settings,
+    dialer: &M::Dial,
+    asking: Option<M::Dial>,
+    make: &mut M,
+) -> Result<Tasks<M::Dial, M::Tell>, NoMemory>
+    ensures duties { IfOk result (λ tasks. AreDuties settings.now (M.number make.old) asking tasks.duties) }
+    ensures kept { (M.asked make.new ≡ M.asked make.old) × (M.number make.new ≡ M.number make.old) }
+    ensures same { (M.counts make.new ≡ M.counts make.old) × (M.back make.new ≡ M.back make.old) }
+{
+    let lines = Lines::new(make.tell(), settings.log);
+    let ending = make.ending()?;
+    let notes = Notes::new(alloc)?;
+    let duties = duties_of(alloc, settings, make.node_id(), dialer, asking, &notes)?;
+    let watching = watching_of(alloc, settings, lines, notes, ending)?;
+    Ok(Tasks { duties, watching })
+}
+
+/// How a node ends that served so. Of a store that broke the maker is told, and a line says which call of
+/// the disk failed. Behind that nothing is told.
+fn end_node<R: Handles, M: Maker>(
+    rt: &R,
+    alloc: Global,
+    settings: &Settings,
+    served: Result<End, MountFault>,
+    make: &mut M,
+) -> Result<(), MountFault>
+    ensures kept { (M.asked make.new ≡ M.asked make.old) × (M.back make.new ≡ M.back make.old) }
+    ensures ends { EndsAs served (M.counts make.old) (M.counts make.new) result }
+{
+    let mut lines = Lines::new(make.tell(), settings.log);
+    let failed = failed_call(&served, make);
+    if let Ok(End::Broken) = served {
+        lines.say(rt, broken_line(alloc, &settings.database, failed));
+    }
+    lines.close(rt);
+    match served {
+        Ok(End::Closed) => Ok(()),
+        Ok(End::Broken) => Err(MountFault::Disk),
+        Err(fault) => Err(fault),
+    }
+}
+
+/// Tells the maker of a store that broke. Answers which call of the disk failed, where it knows that.
+fn failed_call<M: Maker>(served: &Result<End, MountFault>, make: &mut M) -> Option<FailedCall>
+    ensures kept { (M.asked make.new ≡ M.asked make.old) × (M.back make.new ≡ M.back make.old) }
+    ensures counts { CountsEnd served.now (M.counts make.old) (M.counts make.new) }
+{
+    match served {
+        Ok(End::Broken) => make.broke(),
+        _ => None,
+    }
+}
+
 /// What dials the lease service, where there is one.
 fn dialer_of_service<M: Maker>(settings: &Settings, make: &mut M) -> Option<M::Dial>
+    ensures kept { (M.asked make.new ≡ M.asked make.old) × (M.number make.new ≡ M.number make.old) }
     ensures same { (M.counts make.new ≡ M.counts make.old) × (M.back make.new ≡ M.back make.old) }
     ensures service { HasDialer settings.now.lease.lease_type result }
 {

@@ -3,8 +3,10 @@ ghost use Rattle.std.specs.Prelude.{◌≡◌, IsTrue, IfOk, IfErr};
 ghost use Rattle.lf_disk.specs.History.{now};
 ghost use Rattle.node_core.specs.Nodes.{history, parts_of, seen};
 ghost use Rattle.node_recovery.specs.Finding.{HasDamage};
-ghost use Rattle.node_mount.specs.Opening.{config_of as given, primary_host as host_of, seen_anew, ComesBack, IsUnopened};
-ghost use Rattle.turn_desk.specs.Seats.{IsOf};
+ghost use Rattle.node_mount.specs.Opening.{config_of as given, primary_host as host_of, seen_anew, ComesBack, IsOpenedBy, IsUnopened};
+ghost use Rattle.node_mount.specs.Places.{IsUnused};
+ghost use Rattle.std.specs.Arc.{arc_value};
+ghost use Rattle.turn_desk.specs.Seats.{opened_on, IsOf};
 ghost use Rattle.txn_log.specs.Durable.{Durable};
 ghost use Rattle.txn_log.specs.Putting.{IsSettled};
 ghost use Rattle.world_laws.specs.Store.{StoreState};
@@ -29,7 +31,8 @@ pub enum OpenFault<D> {
 }
 
 /// Opens a node over what a disk has kept. Over an honest disk whose folder stands for a store, the
-/// node has this store: nothing has failed, nothing waits, and nobody has used its files.
+/// node has this store: nothing has failed, nothing waits, and nobody has used its files. Over any disk
+/// it has exactly this configuration.
 pub fn open_recovered<D: Disk + Drop>(
     alloc: Global,
     disk: D,
@@ -38,6 +41,7 @@ pub fn open_recovered<D: Disk + Drop>(
     requires settled { IsTrue (D.honest disk) → IsSettled (D.history disk) }
     ensures seen { IsTrue (D.honest disk) → IfOk result (λ node. (stood : StoreState) → Durable (now (D.history disk)) stood
         → seen (history node) (parts_of node) ≡ seen_anew stood (D.faults disk) config) }
+    ensures config { IfOk result (λ node. IsOpenedBy config (parts_of node)) }
     ensures exact { IsTrue (D.honest disk) → IfOk result (λ _. HasDamage (now (D.history disk)) → ⊥) }
     ensures why { IsTrue (D.honest disk) → IfErr result (IsUnopened (now (D.history disk))) }
     ensures back { IfErr result (ComesBack D.honest D.faults disk) }
@@ -51,11 +55,14 @@ pub fn open_recovered<D: Disk + Drop>(
     }
 }
 
-/// The first seat at the desk of a node.
+/// The first seat at the desk of a node. Nobody has asked anything.
 pub fn open_place<K: Machine<Ask = Ask, Answer = Answer> + Drop>(
     alloc: Global,
     node: K,
-) -> Result<Place<K>, NoMemory> {
+) -> Result<Place<K>, NoMemory>
+    ensures opened { IfOk result (λ place. opened_on (arc_value place.desk) ≡ node) }
+    ensures unused { IfOk result (λ place. IsUnused place.seat (arc_value place.desk)) }
+{
     let (desk, seat) = open_desk(alloc, node)?;
     let desk = Arc::new(alloc, desk)?;
     Ok(Place { desk, seat })
@@ -65,7 +72,9 @@ fn open_desk<K: Machine<Ask = Ask, Answer = Answer> + Drop>(
     alloc: Global,
     node: K,
 ) -> Result<(Desk<K>, Seat<K>), NoMemory>
-    ensures { IfOk result (λ opened. IsOf opened.1 opened.0) }
+    ensures of { IfOk result (λ made. IsOf made.1 made.0) }
+    ensures opened { IfOk result (λ made. opened_on made.0 ≡ node) }
+    ensures unused { IfOk result (λ made. IsUnused made.1 made.0) }
 {
     match Desk::open(alloc, node) {
         Ok(opened) => Ok(opened),

@@ -1,8 +1,15 @@
 //! A node's links are served.
-ghost use Rattle.std.specs.Prelude.{◌≡◌, true, OnOk};
+ghost use Rattle.std.specs.Arc.{arc_value};
+ghost use Rattle.std.specs.Prelude.{◌≡◌, true, IfOk, OnOk};
+ghost use Rattle.node_mount.specs.Duties.{AreDutiesBy};
+ghost use Rattle.node_mount.specs.Ending.{BreaksWhere};
+ghost use Rattle.node_mount.specs.Places.{HasSeenNone, IsUnused};
 ghost use Rattle.node_mount.specs.Serving.{CountsServing, CountsStarts, GivesLimit};
+ghost use Rattle.turn_desk.specs.Seats.{opened_on};
 
-use crate::duties::Duties;
+use crate::configuration::Configuration;
+use crate::duties::{Duties, rounds_word};
+use crate::ending::{End, end_serving};
 use crate::file_links::serve_file_links;
 use crate::following::start_following;
 use crate::http_links::start_http;
@@ -10,12 +17,16 @@ use crate::lease_rounds::start_rounds;
 use crate::means::Means;
 use crate::mount_fault::MountFault;
 use crate::place::Place;
-use lf_base::{Acceptor, Clock, Closing, Dialer, Handles, Link, Name, Pause, Spawner};
+use crate::tasks::Tasks;
+use crate::tell::Tell;
+use crate::watching::start_watching;
+use lf_base::{Acceptor, Clock, Closing, Dialer, Handles, Link, Pause, Spawner};
 use node_core::{Answer, Ask};
 use turn_desk::Machine;
 
-/// Starts the jobs of a node, and serves file links until no more come. Then the jobs are told to end,
-/// and after Ok all have ended.
+/// Starts the jobs of a node that nobody has asked anything, with the duties of its settings, and serves
+/// file links until no more come. Then the jobs are told to end: after `Closed` all have ended, and after
+/// `Broken`, as the node says of its store, its rounds, unless they took too long.
 pub fn serve_links<
     R: Handles + Copy + Send + 'static,
     K: Machine<Ask = Ask, Answer = Answer> + Send + Drop + 'static,
@@ -23,6 +34,7 @@ pub fn serve_links<
     B: Acceptor + Send + Drop + 'static,
     L: Link + Send + Drop + 'static,
     T: Dialer<L = L> + Send + Drop + 'static,
+    E: Tell + Send + Drop + 'static,
     S: Spawner,
     C: Clock + Copy + Send + 'static,
     P: Pause + Copy + Send + 'static,
@@ -31,30 +43,39 @@ pub fn serve_links<
     place: Place<K>,
     files: &mut A,
     http: B,
-    name: &Name,
-    duties: Option<Duties<T>>,
+    read: &Configuration,
+    tasks: Tasks<T, E>,
     spawner: &mut S,
-) -> Result<(), MountFault>
-    requires { A.given files.old ≡ 0 }
+) -> Result<End, MountFault>
+    requires unused { IsUnused place.seat (arc_value place.desk) }
+    requires duties { AreDutiesBy read.now.settings tasks.duties }
+    requires new { A.given files.old ≡ 0 }
     ensures ended { OnOk result (A.ended files.new ≡ true) }
     ensures limit { GivesLimit (A.given files.new) result }
+    ensures broken { IfOk result (BreaksWhere K.steps (opened_on (arc_value place.desk))) }
     ensures cause { CountsServing (A.faults files.old) (A.faults files.new) (S.faults spawner.old) (S.faults spawner.new) result }
 {
-    let mut place = place;
-    let Ok(closing) = Closing::new(means.alloc) else {
+    let (mut means, mut place) = (means, place);
+    let Some(mut last) = place.another(means.rt) else {
+        return Err(MountFault::NoMemory);
+    };
+    let (Ok(closing), Ok(rounds)) = (
+        Closing::new(means.alloc),
+        rounds_word(means.alloc, &tasks.duties),
+    ) else {
         return Err(MountFault::NoMemory);
     };
     let served = serve_all(
-        means, &mut place, files, http, name, duties, &closing, spawner,
+        means, &mut place, files, http, read, tasks, &closing, spawner,
     );
     closing.close();
-    if served.is_ok() {
-        spawner.finish(&means.rt);
+    match served {
+        Ok(()) => Ok(end_serving(&mut means, &mut last, &rounds, spawner)),
+        Err(fault) => Err(fault),
     }
-    served
 }
 
-/// Starts the jobs of these duties and those of HTTP links, and serves file links.
+/// Starts the jobs of these tasks and those of HTTP links, and serves file links.
 fn serve_all<
     R: Handles + Copy + Send + 'static,
     K: Machine<Ask = Ask, Answer = Answer> + Send + Drop + 'static,
@@ -62,6 +83,7 @@ fn serve_all<
     B: Acceptor + Send + Drop + 'static,
     L: Link + Send + Drop + 'static,
     T: Dialer<L = L> + Send + Drop + 'static,
+    E: Tell + Send + Drop + 'static,
     S: Spawner,
     C: Clock + Copy + Send + 'static,
     P: Pause + Copy + Send + 'static,
@@ -70,22 +92,59 @@ fn serve_all<
     place: &mut Place<K>,
     files: &mut A,
     http: B,
-    name: &Name,
-    duties: Option<Duties<T>>,
+    read: &Configuration,
+    tasks: Tasks<T, E>,
     closing: &Closing,
     spawner: &mut S,
 ) -> Result<(), MountFault>
-    requires { A.given files.old ≡ 0 }
+    requires unused { HasSeenNone place.old.seat }
+    requires duties { AreDutiesBy read.now.settings tasks.duties }
+    requires new { A.given files.old ≡ 0 }
     ensures ended { OnOk result (A.ended files.new ≡ true) }
     ensures limit { GivesLimit (A.given files.new) result }
     ensures cause { CountsServing (A.faults files.old) (A.faults files.new) (S.faults spawner.old) (S.faults spawner.new) result }
 {
-    match start_duties(means, place, duties, closing, spawner) {
+    match start_tasks(means, place, tasks, closing, spawner) {
         Ok(()) => {}
         Err(fault) => return Err(fault),
     }
-    match start_http(means, place, http, name, closing, spawner) {
+    match start_http(
+        means,
+        place,
+        http,
+        &read.settings.database,
+        closing,
+        spawner,
+    ) {
         Ok(()) => serve_file_links(means, place, files, spawner),
+        Err(fault) => Err(fault),
+    }
+}
+
+/// Starts the job that watches the node, and those of its duties.
+fn start_tasks<
+    R: Handles + Copy + Send + 'static,
+    K: Machine<Ask = Ask, Answer = Answer> + Send + Drop + 'static,
+    L: Link + Send + Drop + 'static,
+    T: Dialer<L = L> + Send + Drop + 'static,
+    E: Tell + Send + Drop + 'static,
+    S: Spawner,
+    C: Clock + Copy + Send + 'static,
+    P: Pause + Copy + Send + 'static,
+>(
+    means: Means<R, C, P>,
+    place: &mut Place<K>,
+    tasks: Tasks<T, E>,
+    closing: &Closing,
+    spawner: &mut S,
+) -> Result<(), MountFault>
+    requires unused { HasSeenNone place.old.seat }
+    ensures unused { HasSeenNone place.new.seat }
+    ensures cause { CountsStarts (S.faults spawner.old) (S.faults spawner.new) result }
+{
+    let Tasks { duties, watching } = tasks;
+    match start_watching(means, place, watching, closing, spawner) {
+        Ok(()) => start_duties(means, place, duties, closing, spawner),
         Err(fault) => Err(fault),
     }
 }
@@ -106,6 +165,8 @@ fn start_duties<
     closing: &Closing,
     spawner: &mut S,
 ) -> Result<(), MountFault>
+    requires unused { HasSeenNone place.old.seat }
+    ensures unused { HasSeenNone place.new.seat }
     ensures cause { CountsStarts (S.faults spawner.old) (S.faults spawner.new) result }
 {
     let Some(duties) = duties else {

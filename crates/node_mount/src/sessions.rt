@@ -1,5 +1,6 @@
 //! The sessions of links, each in a job of its own.
 ghost use Rattle.lf_base.specs.Faults.{CountsFaults};
+ghost use Rattle.node_mount.specs.Places.{HasSeenNone};
 
 use crate::means::Means;
 use crate::place::Place;
@@ -27,6 +28,8 @@ pub fn open_session<
     C: Clock + Copy + Send + 'static,
     P: Pause + Copy + Send + 'static,
 >(means: Means<R, C, P>, place: &mut Place<K>, link: L, spawner: &mut S) -> Result<(), Failed>
+    requires unused { HasSeenNone place.old.seat }
+    ensures unused { HasSeenNone place.new.seat }
     ensures cause { CountsFaults (S.faults spawner.old) (S.faults spawner.new) result }
 {
     match place.another(means.rt) {

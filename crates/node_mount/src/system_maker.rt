@@ -1,16 +1,19 @@
 //! A maker of the system's objects.
-ghost use Rattle.std.specs.Prelude.{◌≡◌, IfOk};
+ghost use Rattle.std.specs.Prelude.{◌≡◌, None, IfOk};
 ghost use Rattle.node_mount.specs.Keeping.{told_by};
 ghost use Rattle.node_mount.specs.Making.{IsNew};
 
 use crate::counts::Counts;
 use crate::data_directory::open_directory;
+use crate::failing::{FailedCall, Failing};
 use crate::keeping::Keeping;
 use crate::listening::{listen_at, listen_on};
 use crate::maker::Maker;
 use crate::mem_spawn::MemSpawn;
+use crate::noting_disk::NotingDisk;
 use crate::returned::Returned;
 use crate::system::System;
+use crate::tell::{ErrorLines, ErrorPlace};
 use lf_base::{
     Closing, Failed, Name, NoMemory, SleepPause, SystemClock, TcpAccept, TcpDial, TcpLink, Text,
     ThreadSpawner, UnixAccept,
@@ -19,7 +22,13 @@ use lf_disk::DirDisk;
 use std::fs::File;
 
 /// An object that a maker of the system's took back.
-pub type SystemReturned<R> = Returned<DirDisk<R>, UnixAccept, TcpAccept, TcpDial, MemSpawn>;
+pub type SystemReturned<R> = Returned<
+    NotingDisk<R, DirDisk<R>>,
+    UnixAccept,
+    TcpAccept,
+    TcpDial,
+    MemSpawn,
+>;
 
 /// How many objects that come back have a place.
 const PLACES: usize = 8;
@@ -33,6 +42,9 @@ const NAP_MS: u64 = 50;
 pub struct SystemMaker<R: System> {
     rt: R,
     closing: Closing,
+    lines: ErrorPlace,
+    /// Which call of the disk failed last.
+    failing: Failing,
     node: u64,
     /// The lock of the data directory. It is held until the maker goes.
     lock: Option<File>,
@@ -45,10 +57,14 @@ impl<R: System> SystemMaker<R> {
     /// where the system gives no random bytes.
     pub fn new(rt: R, closing: Closing) -> Result<SystemMaker<R>, NoMemory> {
         let back = Keeping::new(rt.alloc(), PLACES)?;
+        let lines = ErrorPlace::new(rt.alloc())?;
+        let failing = Failing::new(rt.alloc())?;
         let node = random_number(&rt);
         Ok(SystemMaker {
             rt,
             closing,
+            lines,
+            failing,
             node,
             lock: None,
             counts: Counts::new(),
@@ -62,6 +78,21 @@ fn random_number<R: System>(rt: &R) -> u64 {
     match rt.fill_bytes(&mut bytes) {
         Ok(()) => u64::from_be_bytes(bytes),
         Err(_) => 0,
+    }
+}
+
+/// The data directory of a database, whose calls that fail are noted, and the lock of it.
+fn opened_noting<R: System>(
+    rt: R,
+    name: &Name,
+    failing: &Failing,
+) -> Result<(NotingDisk<R, DirDisk<R>>, File), Failed>
+    ensures { IfOk result (λ made. (made.0.disk.moment ≡ 0) × (made.0.disk.faults ≡ 0)) }
+{
+    let (disk, lock) = open_directory(rt, name)?;
+    match failing.another() {
+        Ok(failing) => Ok((NotingDisk::new(rt, disk, failing), lock)),
+        Err(_) => Err(Failed),
     }
 }
 
@@ -91,7 +122,7 @@ fn accept_on<R: System>(
 }
 
 impl<R: System + Send + 'static> Maker for SystemMaker<R> {
-    type Disk = DirDisk<R>;
+    type Disk = NotingDisk<R, DirDisk<R>>;
 
     type FileAccept = UnixAccept;
 
@@ -107,15 +138,22 @@ impl<R: System + Send + 'static> Maker for SystemMaker<R> {
 
     type Pause = SleepPause<R>;
 
+    type Tell = ErrorLines<R>;
+
     ghost counts = { λ m. m.counts };
+
+    /// What it was asked for is not told.
+    ghost asked = { λ _. None };
+
+    ghost number = { λ m. m.node };
 
     ghost back = { λ m. told_by m.back };
 
     /// Which disk it gives is not told.
     ghost may_give = { λ _ _. Unit {0} };
 
-    fn disk(&mut self, name: &Name) -> Result<DirDisk<R>, Failed> {
-        match open_directory(self.rt, name) {
+    fn disk(&mut self, name: &Name) -> Result<NotingDisk<R, DirDisk<R>>, Failed> {
+        match opened_noting(self.rt, name, &self.failing) {
             Ok((disk, lock)) => {
                 self.lock = Some(lock);
                 Ok(disk)
@@ -166,11 +204,24 @@ impl<R: System + Send + 'static> Maker for SystemMaker<R> {
         SleepPause::new(self.rt, NAP_MS)
     }
 
+    fn tell(&mut self) -> ErrorLines<R> {
+        ErrorLines::new(self.rt, &self.lines)
+    }
+
+    fn ending(&mut self) -> Result<Closing, NoMemory> {
+        self.closing.another()
+    }
+
+    fn broke(&mut self) -> Option<FailedCall> {
+        self.counts.fail_disk();
+        self.failing.last(&self.rt)
+    }
+
     fn node_id(&self) -> u64 {
         self.node
     }
 
-    fn back_disk(&mut self, disk: DirDisk<R>) {
+    fn back_disk(&mut self, disk: NotingDisk<R, DirDisk<R>>) {
         self.counts.take_disk(disk.has_failed());
         self.back.put(Returned::Disk(disk));
     }

@@ -28,6 +28,13 @@ fn another_board(board: &Option<Board>) -> Option<Board> {
     }
 }
 
+impl<T> ToPrimary<T> {
+    /// The address that it dials now.
+    pub fn address<R: Handles>(&self, rt: &R) -> Option<Text> {
+        address_on(rt, &self.board)
+    }
+}
+
 impl<T: Dialer> ToPrimary<T> {
     pub fn new(dialer: T, board: Board) -> ToPrimary<T>
         requires { T.faults dialer ≡ 0 }

@@ -17,7 +17,7 @@ use Rattle.world_laws.specs.Store.{StoreState}
 use Rattle.txn_log.specs.declared.entry.Entry.{Entry}
 use Rattle.txn_log.specs.Pages.{page_in, in_place, patched}
 use Rattle.txn_log.specs.Rewriting.{IsWorn, IsRewritten}
-use Rattle.txn_log.specs.Kept.{LogFile, file_of, change_of, last_of, encoding_of, Decides, IsDecided, Kept, Shows, IsAtRest, IsBySnapshot, IsByMark, Ascends}
+use Rattle.txn_log.specs.Kept.{LogFile, file_of, encoded_change, last_of, encoding_of, Decides, IsDecided, Kept, Shows, IsAtRest, IsBySnapshot, IsByMark, Ascends}
 use Rattle.txn_log.specs.Durable.{Durable, StandsByLog, StandsBySnapshot, StandsByMark}
 use Rattle.txn_log.specs.Settling.{IsUnsettled, IsInstalled}
 use Rattle.txn_log.specs.Store.{files_in}
@@ -79,13 +79,13 @@ module _ (names : List Entry) (f : Folder) (listed : AreListed names f) (ascends
   same_store c kept = inl (record { files = by.files; kept = kept; log = by.log; sound = by.sound; sum = by.sum; unmarked = by.unmarked })
 
 -- the change of the last file is written again
-module _ (image : DatabaseImage) (files : List LogFile) (named : LogFile) (change : PageChange) (last : last_of files ≡ Some named) (tells : change_of named.encoding ≡ change) where
+module _ (image : DatabaseImage) (files : List LogFile) (named : LogFile) (change : PageChange) (last : last_of files ≡ Some named) (tells : encoded_change named.encoding ≡ change) where
   decided_by : (made : DatabaseImage) (bytes : List ℕ) → Decides change made bytes → IsDecided (last_of files) made bytes
   decided_by made bytes is = record {
     none = λ none. let no : None ≡ Some named = sym none ∙ last in absurd (cc);
     some = λ other some.
         let same : named ≡ other = same_Some named other (sym last ∙ some) in
-        subst (λ (x : PageChange). Decides x made bytes) (sym tells ∙ ap (λ (g : LogFile). change_of g.encoding) same) is;
+        subst (λ (x : PageChange). Decides x made bytes) (sym tells ∙ ap (λ (g : LogFile). encoded_change g.encoding) same) is;
   }
 
   pub still : (f c : Folder) → Kept image files false f → IsWorn change f c → Kept image files false c
@@ -216,7 +216,7 @@ module _ (names : List Entry) (f : Folder) (outline : Outline) (entries : List E
   last_encoding = encoding_under outline f
 
   abbrev its : PageChange
-  its = change_of (encoding_under outline f)
+  its = encoded_change (encoding_under outline f)
 
   pub last_held : HoldsFile (Ltx outline.header.min outline.header.max) outline.header (file_of (encoding_under outline f)) f
   last_held = record { octets = finds.read.octets; is = finds.read.is; header_is = ap (λ (o : Outline). o.header) finds.read.tells }
@@ -224,7 +224,7 @@ module _ (names : List Entry) (f : Folder) (outline : Outline) (entries : List E
   pub last : LastIs (files_in names f) (file_of (encoding_under outline f))
   last = last_named (files_in names f) (file_of (encoding_under outline f)) finds.last_is
 
-  pub tells_last : change_of last.named.encoding ≡ change_of (encoding_under outline f)
+  pub tells_last : encoded_change last.named.encoding ≡ encoded_change (encoding_under outline f)
   tells_last = ap (λ (g : LtxFile). g.change) last.tells
 
   pub worn_store : (store : StoreState) → Durable f store → (c : Folder) → IsWorn its f c → Durable c store

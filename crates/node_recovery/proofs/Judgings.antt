@@ -13,7 +13,7 @@ use Rattle.ltx_codec.specs.Positions.{before, after, nowhere}
 use Rattle.ltx_codec.specs.declared.file.Ltx.{Ltx}
 use Rattle.world_laws.specs.Store.{end_of}
 use Rattle.txn_log.specs.declared.entry.Entry.{Entry}
-use Rattle.txn_log.specs.Kept.{LogFile, file_of, change_of}
+use Rattle.txn_log.specs.Kept.{LogFile, file_of, encoded_change}
 use Rattle.txn_log.specs.Durable.{IsEncoding, log_of}
 use Rattle.txn_log.specs.Store.{files_in, AreEntries}
 use Rattle.txn_log.proofs.Commits.{Follows, entries-more}
@@ -48,7 +48,7 @@ behind_read last = option_map (λ read. position_after read.outline) last
 pub record IsReadAt (names : List Entry) (f : Folder) (i : ℕ) (last : FileSummary) : Type 0 where
   pub read : IsOutlineIn (encoding_under last.outline f) last.outline
   pub last_is : Some (file_of (encoding_under last.outline f)) ≡ last_file (take i (files_in names f))
-  pub tallied : i ≡ length names → IsTallied (change_of (encoding_under last.outline f)) last.tally
+  pub tallied : i ≡ length names → IsTallied (encoded_change (encoding_under last.outline f)) last.tally
 
 abbrev pub ReadAt : List Entry → Folder → ℕ → Option FileSummary → Type 0
 ReadAt names f i None = last_file (take i (files_in names f)) ≡ None
@@ -161,7 +161,7 @@ module _ (names : List Entry) (f : Folder) (i : ℕ) (d : Entry) (entries : List
         let high : read.outline.header.max ≡ name.max = ap (λ (o : Outline). o.header.max) is.tells ∙ next.max in
         λ j. bytes_of (f (LtxName (low j) (high j)))
 
-    pub judged : (i + 1 ≡ length names → IsTallied (change_of encoding) read.tally) → Judged names f (i + 1) (entries ++ entry_of read.outline ∷ []) (Some read)
+    pub judged : (i + 1 ≡ length names → IsTallied (encoded_change encoding) read.tally) → Judged names f (i + 1) (entries ++ entry_of read.outline ∷ []) (Some read)
     judged tallied = record {
       are =
           subst (λ (e : Entry). AreEntries (entries ++ e ∷ []) (take (i + 1) (files_in names f))) (sym (ap entry_of is.tells))
@@ -172,7 +172,7 @@ module _ (names : List Entry) (f : Folder) (i : ℕ) (d : Entry) (entries : List
             ap (λ (t : List ℕ). Some (file_of t)) under
             ∙ sym (fold-append (λ (_ : Option Ltx) (g : LogFile). Some (file_of g.encoding)) None files (file_at f name ∷ []))
             ∙ ap (λ (fs : List LogFile). last_file fs) (sym splits);
-        tallied = λ all. subst (λ (t : List ℕ). IsTallied (change_of t) read.tally) (sym under) (tallied all);
+        tallied = λ all. subst (λ (t : List ℕ). IsTallied (encoded_change t) read.tally) (sym under) (tallied all);
       };
     }
 

@@ -14,7 +14,7 @@ use Rattle.world_laws.specs.Store.{StoreState}
 use Rattle.txn_log.specs.declared.entry.Entry.{Entry}
 use Rattle.txn_log.specs.Entries.{AreNamed}
 use Rattle.txn_log.specs.Pages.{page_in}
-use Rattle.txn_log.specs.Kept.{LogFile, file_of, change_of, last_of, Decides, IsAtRest}
+use Rattle.txn_log.specs.Kept.{LogFile, file_of, encoded_change, last_of, Decides, IsAtRest}
 use Rattle.txn_log.specs.Durable.{Durable, log_of}
 use Rattle.txn_log.specs.Store.{files_in, entry_of, image_in, state_in, AreEntries, IsStore, IsShaped, IsSized}
 use Rattle.txn_log.proofs.Installed.{alone}
@@ -111,10 +111,10 @@ state_left d names f = record { image = image_left d f; log = log_of (files_left
 
 -- a file's change has the size and the pages that its outline says
 module _ (encoding : List ℕ) (outline : Outline) (read : IsOutlineIn encoding outline) where
-  size_said : outline.header.page_size ≡ (change_of encoding).page_size
+  size_said : outline.header.page_size ≡ (encoded_change encoding).page_size
   size_said = ap (λ (o : Outline). o.header.page_size) read.tells ∙ sym read.is.valid.block.page_size
 
-  commit_said : outline.header.commit ≡ (change_of encoding).commit
+  commit_said : outline.header.commit ≡ (encoded_change encoding).commit
   commit_said = ap (λ (o : Outline). o.header.commit) read.tells ∙ sym read.is.valid.block.commit
 
 module _ (names : List Entry) (f : Folder) (entries : List Entry) (tally : Tally) (listed : AreListed names f) where
@@ -143,7 +143,7 @@ module _ (names : List Entry) (f : Folder) (entries : List Entry) (tally : Tally
       } in
       record {
         size_is = size_said encoding outline finds.read;
-        commit_is = commit_said encoding outline finds.read ∙ sym (count (change_of encoding) (bytes_of (f Database)) finds.read.is.valid.block.pages);
+        commit_is = commit_said encoding outline finds.read ∙ sym (count (encoded_change encoding) (bytes_of (f Database)) finds.read.is.valid.block.pages);
         log = are;
         named = are_named entries (g ∷ []) are;
         count = long_entries entries (g ∷ []) are;
@@ -153,7 +153,7 @@ module _ (names : List Entry) (f : Folder) (entries : List Entry) (tally : Tally
       let encoding = encoding_under outline f in
       record {
         size_is = size_said encoding outline finds.read;
-        commit_is = commit_said encoding outline finds.read ∙ sym (count (change_of encoding) (bytes_of (f Database)) finds.read.is.valid.block.pages);
+        commit_is = commit_said encoding outline finds.read ∙ sym (count (encoded_change encoding) (bytes_of (f Database)) finds.read.is.valid.block.pages);
         log = finds.entries_are;
         named = are_named entries (files_in names f) finds.entries_are;
         count = long_entries entries (files_in names f) finds.entries_are;
@@ -173,19 +173,19 @@ module _ (names : List Entry) (f : Folder) (entries : List Entry) (tally : Tally
   store_by : (d : Decider) → FindsBy f d names entries tally → (store : StoreState) → Durable f store → state_left d names f ≡ store
   store_by (decider.Snapshot outline) finds store durable =
       let by = by_snapshot f store finds.there durable in
-      let change = change_of (bytes_of (f Snapshot)) in
+      let change = encoded_change (bytes_of (f Snapshot)) in
       let same = encoding_is names f outline entries tally listed finds store by in
       let image : restored_image change (bytes_of (f Database)) ≡ store.image =
-      decided_image change store.image (bytes_of (f Database)) finds.read.is.valid.block.pages (subst (λ (t : List ℕ). Decides (change_of t) store.image (bytes_of (f Database))) same by.by.decides) in
+      decided_image change store.image (bytes_of (f Database)) finds.read.is.valid.block.pages (subst (λ (t : List ℕ). Decides (encoded_change t) store.image (bytes_of (f Database))) same by.by.decides) in
       let log : file_of (bytes_of (f Snapshot)) ∷ [] ≡ store.log = ap (λ (t : List ℕ). file_of t ∷ []) (sym same) ∙ sym by.log in
       λ i. record { image = image i; log = log i; dropped = sym by.unmarked i }
   store_by (decider.Last outline) finds store durable =
       let by = by_log f store finds.no_snapshot finds.no_mark durable in
-      let change = change_of (encoding_under outline f) in
+      let change = encoded_change (encoding_under outline f) in
       let same : files_in names f ≡ by.files = one names f listed finds.entries_are.log.ascends store by in
       let its = last names f outline entries tally listed finds in
       let named : last_of by.files ≡ Some its.named = ap last_of (sym same) ∙ its.last_is in
-      let tells : change_of its.named.encoding ≡ change = tells_last names f outline entries tally listed finds in
+      let tells : encoded_change its.named.encoding ≡ change = tells_last names f outline entries tally listed finds in
       let image : restored_image change (bytes_of (f Database)) ≡ store.image =
       decided_image change store.image (bytes_of (f Database)) finds.read.is.valid.block.pages
       (subst (λ (x : PageChange). Decides x store.image (bytes_of (f Database))) tells (by.kept.decided.some its.named named)) in

@@ -12,7 +12,7 @@ use Rattle.ltx_codec.specs.declared.decoder.Decoder.{Decoder}
 use Rattle.ltx_codec.specs.declared.fault.LtxFault.{LtxFault}
 use Rattle.ltx_codec.specs.declared.file.Ltx.{Ltx}
 use Rattle.ltx_codec.proofs.PartLaws.{file_read}
-use Rattle.txn_log.specs.Kept.{file_of, change_of}
+use Rattle.txn_log.specs.Kept.{file_of, encoded_change}
 use Rattle.node_recovery.specs.declared.piece_reader.PieceReader.{PieceReader}
 use Rattle.node_recovery.specs.declared.outline.Outline.{Outline}
 use Rattle.node_recovery.specs.declared.part.Part.{Part}
@@ -105,7 +105,7 @@ fits_in part.More r encoding next change tally sound known = tt
 
 -- the encoding of a file reads as that file
 outline_in : (encoding : List ℕ) (change : PageChange) (outline : Outline) → AreBytes encoding → IsLtx encoding (record { header = outline.header; change = change; post = outline.post })
-    → IsOutlineIn encoding outline × (change ≡ change_of encoding)
+    → IsOutlineIn encoding outline × (change ≡ encoded_change encoding)
 unfolding file_of
 outline_in encoding change outline octets is =
     let file : Ltx = record { header = outline.header; change = change; post = outline.post } in
@@ -120,12 +120,12 @@ outline_in encoding change outline octets is =
 
 module _ (honest pages : Bool) (bytes : List ℕ) (r : PieceReader) (tally : Tally) (so_far : Reads honest pages bytes r tally) (filled : IsFilled r false) where
   -- what is read then
-  pub read_whole : (outline : Outline) → Ends so_far.encoding so_far.change (Ok outline) → IsTrue honest → IsOutlineIn bytes outline × (pages ≡ true → IsTallied (change_of bytes) tally)
+  pub read_whole : (outline : Outline) → Ends so_far.encoding so_far.change (Ok outline) → IsTrue honest → IsOutlineIn bytes outline × (pages ≡ true → IsTallied (encoded_change bytes) tally)
   read_whole outline ends is =
       let whole : so_far.encoding ≡ bytes = whole_encoding r so_far.encoding bytes filled (so_far.here is) in
       let both = outline_in so_far.encoding so_far.change outline so_far.come.octets ends in (
         subst (λ (t : List ℕ). IsOutlineIn t outline) whole both.0,
-        λ wanted. subst (λ (x : PageChange). IsTallied x tally) (both.1 ∙ ap (λ (t : List ℕ). change_of t) whole) (so_far.known wanted),
+        λ wanted. subst (λ (x : PageChange). IsTallied x tally) (both.1 ∙ ap (λ (t : List ℕ). encoded_change t) whole) (so_far.known wanted),
       )
 
   -- or why nothing is

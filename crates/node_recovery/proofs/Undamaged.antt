@@ -22,7 +22,7 @@ use Rattle.ltx_codec.specs.declared.file.Ltx.{Ltx}
 use Rattle.ltx_codec.proofs.SoundLemmas.{encoding_sound}
 use Rattle.world_laws.specs.Store.{StoreState, end_of}
 use Rattle.txn_log.specs.declared.entry.Entry.{Entry}
-use Rattle.txn_log.specs.Kept.{LogFile, file_of, change_of, last_of, Decides}
+use Rattle.txn_log.specs.Kept.{LogFile, file_of, encoded_change, last_of, Decides}
 use Rattle.txn_log.specs.Durable.{Durable, IsEncoding, IsLog, IsSummed, Follow, log_of, StandsByLog}
 use Rattle.txn_log.specs.Store.{files_in}
 use Rattle.txn_log.proofs.Stores.{file_at, no_entry}
@@ -62,9 +62,9 @@ sum_said files last store is log summed =
     some (g ∷ gs) same none = absurd (cc)
 
 -- and the pages that it leaves have it
-not_otherwise : (encoding bytes : List ℕ) (image : DatabaseImage) (want got : ℕ) → IsEncoding encoding → Decides (change_of encoding) image bytes → (file_of encoding).post ≡ image_sum image → IsSummedOtherwise (file_of encoding) bytes want got → ⊥
+not_otherwise : (encoding bytes : List ℕ) (image : DatabaseImage) (want got : ℕ) → IsEncoding encoding → Decides (encoded_change encoding) image bytes → (file_of encoding).post ≡ image_sum image → IsSummedOtherwise (file_of encoding) bytes want got → ⊥
 not_otherwise encoding bytes image want got is decides said other = ∥∥₁_elim is (λ x y. absurd x) (λ (it : IsLtx encoding (file_of encoding)).
-    let left = decided_image (change_of encoding) image bytes it.valid.block.pages decides in
+    let left = decided_image (encoded_change encoding) image bytes it.valid.block.pages decides in
     other.differ (other.want_is ∙ said ∙ sym (ap image_sum left) ∙ sym other.got_is))
 
 -- a snapshot
@@ -155,7 +155,7 @@ module _ (names : List Entry) (f : Folder) (listed : AreListed names f) (store :
       let its : LastIs files other.last = last_named files other.last other.last_is in
       let named = its.named in
       let is : IsEncoding named.encoding = last_has (λ (g : LogFile). IsEncoding g.encoding) None files (λ g none. absurd (cc)) sound.encodings named its.last_is in
-      let decides : Decides (change_of named.encoding) store.image (bytes_of (f Database)) = by.kept.decided.some named (ap last_of (sym same) ∙ its.last_is) in
+      let decides : Decides (encoded_change named.encoding) store.image (bytes_of (f Database)) = by.kept.decided.some named (ap last_of (sym same) ∙ its.last_is) in
       let said : other.last.post ≡ image_sum store.image = sum_said files other.last store (sym other.last_is) (by.log ∙ ap log_of (sym same)) by.sum in
       not_otherwise named.encoding (bytes_of (f Database)) store.image want got is decides (ap (λ (g : Ltx). g.post) its.tells ∙ said)
       (subst (λ (g : Ltx). IsSummedOtherwise g (bytes_of (f Database)) want got) (sym its.tells) other.sum)

@@ -5,7 +5,7 @@ use Rattle.lf_disk.specs.Folder.{Folder, bytes_of}
 use Rattle.lf_disk.specs.History.{History}
 use Rattle.lf_sqlite_pages.specs.Image.{DatabaseImage, empty_image}
 use Rattle.txn_log.specs.declared.entry.Entry.{Entry}
-use Rattle.txn_log.specs.Kept.{LogFile, change_of, IsAtRest}
+use Rattle.txn_log.specs.Kept.{LogFile, encoded_change, IsAtRest}
 use Rattle.txn_log.specs.Store.{files_in}
 use Rattle.node_recovery.specs.declared.found.Decider.{Decider}
 use Rattle.node_recovery.specs.declared.found.Decider.TheVariants as decider
@@ -14,8 +14,8 @@ use Rattle.node_recovery.specs.Summing.{restored_image}
 
 -- the image that is decided
 abbrev pub image_left : Decider → Folder → DatabaseImage
-image_left (decider.Snapshot outline) f = restored_image (change_of (bytes_of (f SnapshotName))) (bytes_of (f Database))
-image_left (decider.Last outline) f = restored_image (change_of (encoding_under outline f)) (bytes_of (f Database))
+image_left (decider.Snapshot outline) f = restored_image (encoded_change (bytes_of (f SnapshotName))) (bytes_of (f Database))
+image_left (decider.Last outline) f = restored_image (encoded_change (encoding_under outline f)) (bytes_of (f Database))
 image_left _ f = empty_image
 
 -- the log that is decided: a snapshot has its numbers in its name then

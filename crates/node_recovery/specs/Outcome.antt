@@ -7,7 +7,7 @@ use Rattle.lf_disk.specs.declared.name.FileName.TheVariants.{Ltx as LtxName}
 use Rattle.lf_disk.specs.Folder.{Folder}
 use Rattle.ltx_codec.specs.declared.header.Header.{Header}
 use Rattle.txn_log.specs.declared.entry.Entry.{Entry}
-use Rattle.txn_log.specs.Kept.{file_of, change_of}
+use Rattle.txn_log.specs.Kept.{file_of, encoded_change}
 use Rattle.txn_log.specs.Store.{files_in, AreEntries}
 use Rattle.node_recovery.specs.declared.judged.Log.{Log}
 use Rattle.node_recovery.specs.declared.fault.RecoverFault.{RecoverFault}
@@ -37,7 +37,7 @@ IsBlameless fault.NoMemory = Unit {0}
 
 -- what reading a file gives: the outline of the file that its encoding is, with its pages' sums where they were asked for, or that it is none
 abbrev pub ReadsFile : FileName → List ℕ → Bool → Result FileSummary RecoverFault → Type 0
-ReadsFile name encoding pages (Ok read) = IsOutlineIn encoding read.outline × (pages ≡ true → IsTallied (change_of encoding) read.tally)
+ReadsFile name encoding pages (Ok read) = IsOutlineIn encoding read.outline × (pages ≡ true → IsTallied (encoded_change encoding) read.tally)
 ReadsFile name encoding pages (Err why) = Blames name (IsUnread encoding) why
 
 -- whether the header has other numbers than the name, and which
@@ -59,7 +59,7 @@ Judges name position encoding pages (Err why) = Blames (LtxName name.min name.ma
 pub record IsLastRead (names : List Entry) (f : Folder) (last : FileSummary) : Type 0 where
   pub read : IsOutlineIn (encoding_under last.outline f) last.outline
   pub last_is : Some (file_of (encoding_under last.outline f)) ≡ last_file (files_in names f)
-  pub tallied : IsTallied (change_of (encoding_under last.outline f)) last.tally
+  pub tallied : IsTallied (encoded_change (encoding_under last.outline f)) last.tally
 
 -- which file is the last of those under these names
 abbrev pub TellsLast : List Entry → Folder → Option FileSummary → Type 0

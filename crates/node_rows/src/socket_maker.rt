@@ -2,11 +2,11 @@
 ghost use Rattle.std.specs.Prelude.{None};
 
 use lf_base::{
-    Closing, Failed, FixedClock, ListAcceptor, MemDialer, MemLink, Name, SleepPause, Text,
-    UnixAccept,
+    Closing, Failed, FixedClock, ListAcceptor, MemDialer, MemLink, Name, NoMemory, SleepPause,
+    Text, UnixAccept,
 };
 use lf_disk::MemDisk;
-use node_mount::{Counts, Maker, MemMaker, MemSpawn, System};
+use node_mount::{Counts, FailedCall, KeptLines, Maker, MemMaker, MemSpawn, System};
 use std::fs;
 use std::os::unix::net::UnixListener;
 
@@ -51,7 +51,13 @@ impl<R: System + Send + 'static> Maker for SocketMaker<R> {
 
     type Pause = SleepPause<R>;
 
+    type Tell = KeptLines;
+
     ghost counts = { λ m. m.counts };
+
+    ghost asked = { λ _. None };
+
+    ghost number = { λ m. m.memory.node };
 
     ghost back = { λ _. None };
 
@@ -101,6 +107,19 @@ impl<R: System + Send + 'static> Maker for SocketMaker<R> {
 
     fn pause(&mut self) -> SleepPause<R> {
         SleepPause::new(self.rt, NAP_MS)
+    }
+
+    fn tell(&mut self) -> KeptLines {
+        self.memory.tell()
+    }
+
+    fn ending(&mut self) -> Result<Closing, NoMemory> {
+        self.closing.another()
+    }
+
+    fn broke(&mut self) -> Option<FailedCall> {
+        self.counts.fail_disk();
+        None
     }
 
     fn node_id(&self) -> u64 {

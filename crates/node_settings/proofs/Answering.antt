@@ -1,10 +1,12 @@
 -- From what one reader answers to what another does.
-use Rattle.std.proofs.Common.{◌≡◌, ℕ, List, Option, Some, None, IsSomeAnd, IsErrAnd, MatchOption, Result, Ok, Err, [], codes, inl, refl, sym, subst, arith, rules}
+use Rattle.std.proofs.Common.{◌≡◌, ◌↔◌, Bool, IsTrue, ℕ, List, Option, Some, None, IsSomeAnd, IsErrAnd, MatchOption, Result, Ok, Err, IfOk, [], codes, inl, refl, sym, subst, arith, rules}
 use Rattle.toml.specs.Data.{Data, Members}
+use Rattle.lf_base.specs.declared.memory.NoMemory.{NoMemory}
 use Rattle.node_settings.specs.declared.settings_fault.SettingsFault.{SettingsFault}
 use Rattle.node_settings.specs.declared.settings_fault.SettingsFault.TheVariants as fault
 use Rattle.node_settings.specs.Address.{IsAddress}
-use Rattle.node_settings.specs.Answers.{Reads}
+use Rattle.node_settings.specs.Answers.{Judges, Reads}
+use Rattle.node_settings.specs.Rules.{Says}
 use Rattle.node_settings.specs.Values.{IsSomeOf}
 
 -- a refusal where P never holds is one where Q never does, if Q gives P
@@ -62,3 +64,15 @@ pub refused : {A : Type 0} (P : A → Type 0) (f : SettingsFault) (r : Result A 
 refused P f (Ok a) err none = absurd err
 refused P f (Err fault.Config) err none = none
 refused P f (Err fault.NoMemory) err none = tt
+
+-- whether something was read
+pub judged : {A : Type 0} (P : A → Type 0) (r : Result A SettingsFault) (b : Bool) → Reads P r → Judges r b → IsTrue b ↔ ((a : A) × P a)
+judged P (Ok a) b h is = (λ _. (a, h), λ _. is)
+judged P (Err fault.Config) b h is = (λ t. absurd (cc), λ x. absurd (h x.0 x.1))
+judged P (Err fault.NoMemory) b h is = absurd is
+
+-- whether a value is one that a rule allows
+pub fits_from : {A : Type 0} (IsOf : Data → A → Type 0) (d : Data) (r : Result A SettingsFault) (b : Result Bool NoMemory) → Reads (IsOf d) r → IfOk b (Judges r)
+    → IfOk b (λ kept. IsTrue kept ↔ Says IsOf d)
+fits_from IsOf d r (Ok b) h is = judged (IsOf d) r b h is
+fits_from IsOf d r (Err e) h is = tt

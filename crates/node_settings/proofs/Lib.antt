@@ -2,4 +2,7 @@ pub mod Parts
 pub mod Answering
 pub mod Tables
 pub mod OneConfiguration
-pub mod Said
+pub mod Kept
+pub mod Refusing
+pub mod Walking
+pub mod Deciding

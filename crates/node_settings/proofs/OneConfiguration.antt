@@ -1,5 +1,5 @@
 -- A configuration says one thing.
-use Rattle.std.proofs.Common.{◌≡◌, ℕ, pos, List, Option, Some, None, IsSomeAnd, MatchOption, sym, ap, ◌∙◌, subst, refl, codes}
+use Rattle.std.proofs.Common.{◌≡◌, ℕ, pos, List, Option, true, false, Some, None, IsSomeAnd, MatchOption, sym, ap, ◌∙◌, subst, refl, codes}
 use Rattle.toml.specs.Data.{Data, Members}
 use Rattle.node_settings.specs.declared.settings.Settings.{Settings}
 use Rattle.node_settings.specs.declared.settings.LeaseSettings.{LeaseSettings}
@@ -7,7 +7,7 @@ use Rattle.node_settings.specs.declared.settings.LeaseType.TheVariants as lease
 use Rattle.node_settings.specs.declared.settings.ServiceSettings.{ServiceSettings}
 use Rattle.node_settings.specs.Service.{IsServiceConfiguration, IsServiceLease, IsServiceRoot}
 use Rattle.node_settings.specs.Configuration.{IsFuse, IsHttp, IsData, IsLease, IsRoot, IsConfiguration}
-use Rattle.node_settings.specs.Values.{section, IsText, IsNameText, IsAddressText, IsUrlText, IsSomeOf, IsFlag, IsOff, IsNumber, IsLeaseType}
+use Rattle.node_settings.specs.Values.{section, IsText, IsNameText, IsAddressText, IsUrlText, IsSomeOf, IsFlag, IsOff, IsSwitch, IsNumber, IsLeaseType}
 
 -- a rule reads one value
 abbrev ReadsOne : {A : Type 0} → (Data → A → Type 0) → Type 0
@@ -35,6 +35,12 @@ one_flag d a b x y = cc
 
 one_off : ReadsOne IsOff
 one_off d a b x y = x.1 ∙ sym y.1
+
+one_switch : ReadsOne IsSwitch
+one_switch d true true x y = refl
+one_switch d false false x y = refl
+one_switch d true false x y = absurd (cc)
+one_switch d false true x y = absurd (cc)
 
 one_number : (least most : ℕ) → ReadsOne (IsNumber least most)
 one_number least most d a b x y = let e : pos a ≡ pos b = cc (x.0, y.0) in cc
@@ -72,18 +78,19 @@ one_lease t a b x y = λ i. record {
   ttl = holds_or (IsNumber 1 86400000) (one_number 1 86400000) _ _ a.ttl b.ttl x.ttl y.ttl i;
 }
 
-one_root : (root : Members) (s t : Settings) → IsRoot root s → IsRoot root t → s ≡ t
+pub one_root : (root : Members) (s t : Settings) → IsRoot root s → IsRoot root t → s ≡ t
 one_root root s t x y =
     let fuse = both (section (codes "fuse") root) (λ m. IsFuse m s.socket) (λ m. IsFuse m t.socket) x.fuse y.fuse in
     let http = both (section (codes "http") root) (λ m. IsHttp m s.http) (λ m. IsHttp m t.http) x.http y.http in
-    let log = both (section (codes "data") root) (λ m. IsData m s.compress s.retention_files) (λ m. IsData m t.compress t.retention_files) x.log y.log in
+    let kept = both (section (codes "data") root) (λ m. IsData m s.compress s.retention_files) (λ m. IsData m t.compress t.retention_files) x.data_kept y.data_kept in
     let leases = both (section (codes "lease") root) (λ m. IsLease m s.lease) (λ m. IsLease m t.lease) x.lease y.lease in
     λ i. record {
       database = holds IsNameText one_name _ s.database t.database x.database y.database i;
+      log = holds_or IsSwitch one_switch _ _ s.log t.log x.log y.log i;
       socket = holds_or IsText one_text _ _ s.socket t.socket fuse.1.listen fuse.2.listen i;
       http = holds_or IsAddressText one_address _ _ s.http t.http http.1.addr http.2.addr i;
-      compress = holds_or IsOff one_off _ _ s.compress t.compress log.1.compress log.2.compress i;
-      retention_files = holds_or (IsNumber 1 _) (one_number 1 _) _ _ s.retention_files t.retention_files log.1.retention_files log.2.retention_files i;
+      compress = holds_or IsOff one_off _ _ s.compress t.compress kept.1.compress kept.2.compress i;
+      retention_files = holds_or (IsNumber 1 _) (one_number 1 _) _ _ s.retention_files t.retention_files kept.1.retention_files kept.2.retention_files i;
       lease = one_lease leases.0 s.lease t.lease leases.1 leases.2 i;
     }
 
@@ -93,11 +100,12 @@ one_configuration bytes s t x y =
     let root : x.root ≡ y.root = cc in
     one_root x.root s t x.says (subst (λ (r : Members). IsRoot r t) (sym root) y.says)
 
-one_service_root : (root : Members) (s t : ServiceSettings) → IsServiceRoot root s → IsServiceRoot root t → s ≡ t
+pub one_service_root : (root : Members) (s t : ServiceSettings) → IsServiceRoot root s → IsServiceRoot root t → s ≡ t
 one_service_root root s t x y =
     let http = both (section (codes "http") root) (λ m. IsHttp m s.http) (λ m. IsHttp m t.http) x.http y.http in
     let lease = both (section (codes "lease") root) (λ m. IsServiceLease m s.ttl) (λ m. IsServiceLease m t.ttl) x.lease y.lease in
     λ i. record {
+      log = holds_or IsSwitch one_switch _ _ s.log t.log x.log y.log i;
       http = holds_or IsAddressText one_address _ _ s.http t.http http.1.addr http.2.addr i;
       ttl = holds_or (IsNumber 1 86400000) (one_number 1 86400000) _ _ s.ttl t.ttl lease.1.lasts lease.2.lasts i;
     }

@@ -1,11 +1,11 @@
 -- The configuration of a node, `litefs.toml`: TOML of at most 65,536 bytes, with these keys and no others.
-use Rattle.std.specs.Prelude.{◌≡◌, ℕ, ◌≤◌, ◌^◌, ◌-◌, List, [], ◌∷◌, length, Bool, Some, None, false, IsUtf8, IsSomeAnd, codes}
+use Rattle.std.specs.Prelude.{◌≡◌, ℕ, ◌≤◌, ◌^◌, ◌-◌, List, [], ◌∷◌, length, Bool, Some, None, true, false, IsUtf8, IsSomeAnd, codes}
 use Rattle.toml.specs.Data.{Members}
 use Rattle.toml.specs.Parse.{parse_document}
 use Rattle.node_settings.specs.declared.settings.Settings.{Settings}
 use Rattle.node_settings.specs.declared.settings.LeaseSettings.{LeaseSettings}
 use Rattle.node_settings.specs.declared.settings.LeaseType.TheVariants as lease_type
-use Rattle.node_settings.specs.Values.{Holds, HoldsOr, HasOnly, section, IsText, IsNameText, IsAddressText, IsUrlText, IsSomeOf, IsFlag, IsOff, IsNumber, IsLeaseType, HasService}
+use Rattle.node_settings.specs.Values.{Holds, HoldsOr, HasOnly, section, IsText, IsNameText, IsAddressText, IsUrlText, IsSomeOf, IsFlag, IsOff, IsSwitch, IsNumber, IsLeaseType, HasService}
 
 -- [fuse]
 pub record IsFuse (members : Members) (socket : List ℕ) : Type 0 where
@@ -38,16 +38,21 @@ pub record IsLease (members : Members) (lease : LeaseSettings) : Type 0 where
   pub ttl : HoldsOr (codes "ttl") (IsNumber 1 86400000) 10000 members lease.ttl
 
 abbrev pub root_keys : List (List ℕ)
-root_keys = codes "database" ∷ codes "fuse" ∷ codes "http" ∷ codes "data" ∷ codes "lease" ∷ []
+root_keys = codes "database" ∷ codes "log" ∷ codes "fuse" ∷ codes "http" ∷ codes "data" ∷ codes "lease" ∷ []
 
 -- the whole table
 pub record IsRoot (members : Members) (s : Settings) : Type 0 where
   pub keys : HasOnly root_keys members
   pub database : Holds (codes "database") IsNameText members s.database
+  pub log : HoldsOr (codes "log") IsSwitch true members s.log
   pub fuse : IsSomeAnd (section (codes "fuse") members) (λ fuse. IsFuse fuse s.socket)
   pub http : IsSomeAnd (section (codes "http") members) (λ http. IsHttp http s.http)
-  pub log : IsSomeAnd (section (codes "data") members) (λ log. IsData log s.compress s.retention_files)
+  pub data_kept : IsSomeAnd (section (codes "data") members) (λ kept. IsData kept s.compress s.retention_files)
   pub lease : IsSomeAnd (section (codes "lease") members) (λ lease. IsLease lease s.lease)
+
+-- the same of a node that needs no lease service
+abbrev pub IsStaticRoot : Members → Settings → Type 0
+IsStaticRoot members s = IsRoot members s × (s.lease.lease_type ≡ lease_type.Static)
 
 -- the bytes are a configuration that says these settings
 pub record IsConfiguration (bytes : List ℕ) (s : Settings) : Type 0 where

@@ -3,3 +3,8 @@ pub mod Answers
 pub mod Values
 pub mod Configuration
 pub mod Service
+pub mod Rules
+pub mod Words
+pub mod Lines
+pub mod Walks
+pub mod Complaints

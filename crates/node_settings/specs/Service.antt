@@ -1,13 +1,13 @@
--- What a lease service is told by a configuration: where it is served, and how long a lease lasts. Every key may be missing, also those
+-- What a lease service is told by a configuration: where it is served, how long a lease lasts, and whether it says what happens. Every key may be missing, also those
 -- that a node must have; where one stands, it says something by its rule.
-use Rattle.std.specs.Prelude.{◌≡◌, ℕ, ◌≤◌, ◌^◌, ◌-◌, List, length, Bool, Option, Some, None, false, IsUtf8, IsSomeAnd, codes}
+use Rattle.std.specs.Prelude.{◌≡◌, ℕ, ◌≤◌, ◌^◌, ◌-◌, List, length, Bool, Option, Some, None, true, false, IsUtf8, IsSomeAnd, codes}
 use Rattle.toml.specs.Data.{Members}
 use Rattle.toml.specs.Parse.{parse_document}
 use Rattle.node_settings.specs.declared.settings.ServiceSettings.{ServiceSettings}
 use Rattle.node_settings.specs.declared.settings.LeaseType.{LeaseType}
 use Rattle.node_settings.specs.declared.settings.LeaseType.TheVariants as lease_type
 use Rattle.node_settings.specs.Configuration.{IsFuse, IsHttp, IsData, lease_keys, root_keys}
-use Rattle.node_settings.specs.Values.{HoldsOr, HasOnly, section, IsSomeOf, IsText, IsNameText, IsUrlText, IsFlag, IsNumber, IsLeaseType}
+use Rattle.node_settings.specs.Values.{HoldsOr, HasOnly, section, IsSomeOf, IsText, IsNameText, IsUrlText, IsFlag, IsSwitch, IsNumber, IsLeaseType}
 
 -- [lease]
 pub record IsServiceLease (members : Members) (ttl : ℕ) : Type 0 where
@@ -32,9 +32,10 @@ pub record IsServiceRoot (members : Members) (s : ServiceSettings) : Type 0 wher
   pub files : ℕ
   pub keys : HasOnly root_keys members
   pub named : HoldsOr (codes "database") (IsSomeOf IsNameText) None members database
+  pub log : HoldsOr (codes "log") IsSwitch true members s.log
   pub fuse : IsSomeAnd (section (codes "fuse") members) (λ fuse. IsFuse fuse socket)
   pub http : IsSomeAnd (section (codes "http") members) (λ http. IsHttp http s.http)
-  pub log : IsSomeAnd (section (codes "data") members) (λ log. IsData log packed files)
+  pub data_kept : IsSomeAnd (section (codes "data") members) (λ kept. IsData kept packed files)
   pub lease : IsSomeAnd (section (codes "lease") members) (λ lease. IsServiceLease lease s.ttl)
 
 -- the bytes are a configuration that says these settings of a lease service

@@ -47,6 +47,11 @@ IsFlag d flag = d ≡ boolean flag
 abbrev pub IsOff : Data → Bool → Type 0
 IsOff d flag = (d ≡ boolean false) × (flag ≡ false)
 
+-- "on" is true, and "off" is false
+abbrev pub IsSwitch : Data → Bool → Type 0
+IsSwitch d true = d ≡ string (codes "on")
+IsSwitch d false = d ≡ string (codes "off")
+
 -- an integer from the least to the most
 abbrev pub IsNumber : ℕ → ℕ → Data → ℕ → Type 0
 IsNumber least most d n = (d ≡ integer (pos n)) × (least ≤ n) × (n ≤ most)

@@ -8,9 +8,10 @@ ghost use Rattle.node_settings.specs.Answers.{Reads};
 ghost use Rattle.node_settings.specs.Configuration.{IsLease, lease_keys};
 ghost use Rattle.node_settings.specs.Values.{Holds, HasOnly, HoldsOr, section as section_at, members_at, IsSomeOf, IsText, IsUrlText, IsFlag, IsNumber, IsLeaseType, HasService};
 
+use crate::place::keys_of;
 use crate::table::{check_keys, section, value_at};
 use crate::values::{flag, lease_type, number, text, url};
-use crate::{LeaseSettings, LeaseType, SettingsFault, Url};
+use crate::{LeaseSettings, LeaseType, Place, SettingsFault, Url};
 use lf_base::Text;
 use std::alloc::Global;
 use toml::Table;
@@ -47,17 +48,7 @@ pub(crate) fn check_lease_keys(table: Option<&Table>) -> Result<(), SettingsFaul
     ensures ok { OnOk result (HasOnly lease_keys (members_at table.entry)) }
     ensures fault { IfErr result (λ f. (f ≡ fault.Config) × (HasOnly lease_keys (members_at table.entry) → ⊥)) }
 {
-    check_keys(
-        table,
-        &[
-            "type",
-            "candidate",
-            "advertise-url",
-            "hostname",
-            "service-url",
-            "ttl",
-        ],
-    )
+    check_keys(table, keys_of(Place::Lease))
 }
 
 /// A lease that a service keeps has the service's URL.

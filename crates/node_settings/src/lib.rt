@@ -2,21 +2,38 @@
 #![tactic(auto)]
 
 mod address;
+mod complaining;
+mod complaint;
 mod host;
+mod keeping;
+mod key;
 mod laws;
 mod lease_table;
+mod lines;
+mod place;
 mod reading;
+mod rule;
+mod rules;
 mod service;
 mod settings;
 mod settings_fault;
+mod settings_refusal;
 mod table;
 mod url;
 mod values;
 
 pub use address::Address;
-pub use laws::{one_configuration, one_service_configuration};
+pub use complaint::Complaint;
+pub use key::Key;
+pub use laws::{
+    one_configuration, one_service_configuration, rules_decide, service_rules_decide,
+    static_rules_decide,
+};
+pub use place::Place;
 pub use reading::{read_settings, read_static_settings};
+pub use rule::{Rule, words_of};
 pub use service::read_service_settings;
 pub use settings::{LeaseSettings, LeaseType, ServiceSettings, Settings};
 pub use settings_fault::SettingsFault;
+pub use settings_refusal::SettingsRefusal;
 pub use url::Url;

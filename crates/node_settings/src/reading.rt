@@ -1,42 +1,53 @@
 //! The configuration read: its text, its root, and the tables in it but that of the lease.
 
-ghost use Rattle.std.specs.Prelude.{◌≡◌, ◌^◌, ◌-◌, Some, false, codes, IsSomeAnd, OnOk, IfErr};
+ghost use Rattle.std.specs.Prelude.{◌≡◌, ◌^◌, ◌-◌, Some, true, false, codes, IsSomeAnd, OnOk, IfErr};
 ghost use Rattle.toml.specs.View.{table_view};
 ghost use Rattle.node_settings.specs.declared.settings_fault.SettingsFault.TheVariants as fault;
 ghost use Rattle.node_settings.specs.Answers.{Reads};
-ghost use Rattle.node_settings.specs.Configuration.{IsFuse, IsHttp, IsData, IsRoot, IsConfiguration, IsStaticConfiguration, root_keys};
-ghost use Rattle.node_settings.specs.Values.{Holds, HoldsOr, HasOnly, section as section_at, members_at, IsNameText, IsAddressText, IsOff, IsNumber};
+ghost use Rattle.node_settings.specs.Complaints.{Answers};
+ghost use Rattle.node_settings.specs.Configuration.{IsFuse, IsHttp, IsData, IsRoot, IsStaticRoot, IsConfiguration, IsStaticConfiguration, root_keys};
+ghost use Rattle.node_settings.specs.Values.{Holds, HoldsOr, HasOnly, section as section_at, members_at, IsNameText, IsAddressText, IsOff, IsSwitch, IsNumber};
+ghost use Rattle.node_settings.specs.Rules.{node_rules, static_rules};
 
+use crate::complaining::{document, refused};
 use crate::lease_table::lease;
+use crate::place::keys_of;
+use crate::rules::{node_rules, static_rules};
 use crate::table::{check_keys, section, value_at};
-use crate::values::{address, name, number, off, text};
-use crate::{Address, LeaseType, Settings, SettingsFault};
+use crate::values::{address, name, number, off, switch, text};
+use crate::{Address, LeaseType, Place, Settings, SettingsFault, SettingsRefusal};
 use lf_base::{Name, Text};
 use std::alloc::Global;
 use toml::Table;
 
-/// The most bytes of a configuration.
-pub(crate) const SIZE_MAX: usize = 65_536;
-
 /// The settings that a configuration says.
-pub fn read_settings(alloc: Global, bytes: &[u8]) -> Result<Settings, SettingsFault>
-    ensures { Reads (IsConfiguration bytes.now) result }
+pub fn read_settings(alloc: Global, bytes: &[u8]) -> Result<Settings, SettingsRefusal>
+    ensures { Answers (IsConfiguration bytes.now) node_rules bytes.now result }
 {
-    if bytes.len() > SIZE_MAX {
-        return Err(SettingsFault::Config);
-    }
-    match toml::table_from_slice(alloc, bytes) {
-        Ok(root) => settings(alloc, &root),
-        Err(error) if error.is_memory() => Err(SettingsFault::NoMemory),
-        Err(_) => Err(SettingsFault::Config),
+    let root = document(alloc, bytes)?;
+    match settings(alloc, &root) {
+        Ok(settings) => Ok(settings),
+        Err(SettingsFault::Config) => Err(refused(alloc, bytes, &root, node_rules())),
+        Err(SettingsFault::NoMemory) => Err(SettingsRefusal::NoMemory),
     }
 }
 
 /// The settings of a node that needs no lease service. A configuration with one is refused.
-pub fn read_static_settings(alloc: Global, bytes: &[u8]) -> Result<Settings, SettingsFault>
-    ensures { Reads (IsStaticConfiguration bytes.now) result }
+pub fn read_static_settings(alloc: Global, bytes: &[u8]) -> Result<Settings, SettingsRefusal>
+    ensures { Answers (IsStaticConfiguration bytes.now) static_rules bytes.now result }
 {
-    let settings = read_settings(alloc, bytes)?;
+    let root = document(alloc, bytes)?;
+    match static_settings(alloc, &root) {
+        Ok(settings) => Ok(settings),
+        Err(SettingsFault::Config) => Err(refused(alloc, bytes, &root, static_rules())),
+        Err(SettingsFault::NoMemory) => Err(SettingsRefusal::NoMemory),
+    }
+}
+
+fn static_settings(alloc: Global, root: &Table) -> Result<Settings, SettingsFault>
+    ensures { Reads (IsStaticRoot (table_view root.now)) result }
+{
+    let settings = settings(alloc, root)?;
     match settings.lease.lease_type {
         LeaseType::Static => Ok(settings),
         LeaseType::Service => Err(SettingsFault::Config),
@@ -48,12 +59,14 @@ fn settings(alloc: Global, root: &Table) -> Result<Settings, SettingsFault>
 {
     check_root_keys(root)?;
     let database = database(alloc, root)?;
+    let log = log(root)?;
     let socket = socket(alloc, root)?;
     let http = http(alloc, root)?;
-    let (compress, retention_files) = log(root)?;
+    let (compress, retention_files) = kept(root)?;
     let lease = lease(alloc, root)?;
     Ok(Settings {
         database,
+        log,
         socket,
         http,
         compress,
@@ -66,7 +79,7 @@ pub(crate) fn check_root_keys(root: &Table) -> Result<(), SettingsFault>
     ensures ok { OnOk result (HasOnly root_keys (table_view root.now)) }
     ensures fault { IfErr result (λ f. (f ≡ fault.Config) × (HasOnly root_keys (table_view root.now) → ⊥)) }
 {
-    check_keys(Some(root), &["database", "fuse", "http", "data", "lease"])
+    check_keys(Some(root), keys_of(Place::Root))
 }
 
 fn database(alloc: Global, root: &Table) -> Result<Name, SettingsFault>
@@ -75,6 +88,15 @@ fn database(alloc: Global, root: &Table) -> Result<Name, SettingsFault>
     match value_at(Some(root), "database") {
         Some(value) => name(alloc, value),
         None => Err(SettingsFault::Config),
+    }
+}
+
+pub(crate) fn log(root: &Table) -> Result<bool, SettingsFault>
+    ensures { Reads (HoldsOr (codes "log") IsSwitch true (table_view root.now)) result }
+{
+    match value_at(Some(root), "log") {
+        Some(value) => switch(value),
+        None => Ok(true),
     }
 }
 
@@ -109,7 +131,7 @@ fn addr(alloc: Global, table: Option<&Table>) -> Result<Address, SettingsFault>
 }
 
 /// The table `data`.
-pub(crate) fn log(root: &Table) -> Result<(bool, u64), SettingsFault>
+pub(crate) fn kept(root: &Table) -> Result<(bool, u64), SettingsFault>
     ensures { Reads (λ kept. IsSomeAnd (section_at (codes "data") (table_view root.now)) (λ t. IsData t kept.0 kept.1)) result }
 {
     let table = section(root, "data")?;

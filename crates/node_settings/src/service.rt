@@ -1,32 +1,37 @@
-//! The configuration of a lease service read: where it is served, and how long a lease lasts. Every other
-//! key is only checked, where it stands.
+//! The configuration of a lease service read: where it is served, how long a lease lasts, and
+//! whether it says what happens. Every other key is only checked, where it stands.
 
 ghost use Rattle.std.specs.Prelude.{Some, None, codes, IsSomeAnd};
 ghost use Rattle.toml.specs.View.{table_view};
 ghost use Rattle.node_settings.specs.Answers.{Reads};
+ghost use Rattle.node_settings.specs.Complaints.{Answers};
+ghost use Rattle.node_settings.specs.Rules.{service_rules};
 ghost use Rattle.node_settings.specs.Service.{IsServiceConfiguration, IsServiceLease, IsServiceRoot};
 ghost use Rattle.node_settings.specs.Values.{HoldsOr, IsNameText, IsSomeOf, IsText, members_at, section as section_at};
 
+use crate::complaining::{document, refused};
 use crate::lease_table::{candidate, check_lease_keys, kind, ttl, url_at};
-use crate::reading::{SIZE_MAX, check_root_keys, http, log, socket};
+use crate::reading::{check_root_keys, http, kept, log, socket};
+use crate::rules::service_rules;
 use crate::table::{section, value_at};
 use crate::values::{name, text};
-use crate::{ServiceSettings, SettingsFault};
+use crate::{ServiceSettings, SettingsFault, SettingsRefusal};
 use lf_base::{Name, Text};
 use std::alloc::Global;
 use toml::Table;
 
 /// What a configuration says to a lease service.
-pub fn read_service_settings(alloc: Global, bytes: &[u8]) -> Result<ServiceSettings, SettingsFault>
-    ensures { Reads (IsServiceConfiguration bytes.now) result }
+pub fn read_service_settings(
+    alloc: Global,
+    bytes: &[u8],
+) -> Result<ServiceSettings, SettingsRefusal>
+    ensures { Answers (IsServiceConfiguration bytes.now) service_rules bytes.now result }
 {
-    if bytes.len() > SIZE_MAX {
-        return Err(SettingsFault::Config);
-    }
-    match toml::table_from_slice(alloc, bytes) {
-        Ok(root) => service_settings(alloc, &root),
-        Err(error) if error.is_memory() => Err(SettingsFault::NoMemory),
-        Err(_) => Err(SettingsFault::Config),
+    let root = document(alloc, bytes)?;
+    match service_settings(alloc, &root) {
+        Ok(settings) => Ok(settings),
+        Err(SettingsFault::Config) => Err(refused(alloc, bytes, &root, service_rules())),
+        Err(SettingsFault::NoMemory) => Err(SettingsRefusal::NoMemory),
     }
 }
 
@@ -35,11 +40,12 @@ fn service_settings(alloc: Global, root: &Table) -> Result<ServiceSettings, Sett
 {
     check_root_keys(root)?;
     let _database = some_database(alloc, root)?;
+    let log = log(root)?;
     let _socket = socket(alloc, root)?;
     let http = http(alloc, root)?;
-    let _kept = log(root)?;
+    let _kept = kept(root)?;
     let ttl = lease_time(alloc, root)?;
-    Ok(ServiceSettings { http, ttl })
+    Ok(ServiceSettings { log, http, ttl })
 }
 
 fn some_database(alloc: Global, root: &Table) -> Result<Option<Name>, SettingsFault>

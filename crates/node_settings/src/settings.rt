@@ -6,6 +6,8 @@ use lf_base::{Name, Text};
 pub struct Settings {
     /// The database that the node keeps.
     pub database: Name,
+    /// Whether it says what happens, on standard error.
+    pub log: bool,
     /// The path of the Unix socket on which files are served.
     pub socket: Text,
     /// Where HTTP is served.
@@ -46,6 +48,8 @@ pub enum LeaseType {
 /// What a lease service is told when it is started.
 #[derive(Debug, Drop)]
 pub struct ServiceSettings {
+    /// Whether it says what happens, on standard error.
+    pub log: bool,
     /// Where it is served.
     pub http: Address,
     /// How long a lease lasts, in milliseconds.

@@ -1,11 +1,12 @@
 //! Tables and their keys.
 
-ghost use Rattle.std.specs.Prelude.{◌≡◌, Some, None, option_map, map, IfOk, IfErr, OnOk, string_bytes};
-ghost use Rattle.std.specs.List.{list_all};
+ghost use Rattle.std.specs.Prelude.{◌≡◌, Some, None, not, option_map, map, IfOk, IfErr, OnOk, string_bytes};
+ghost use Rattle.std.specs.List.{find, list_all};
 ghost use Rattle.std.specs.BTreeMap.{keys as keys_in};
 ghost use Rattle.toml.specs.Data.{get_member};
 ghost use Rattle.toml.specs.View.{view, table_view};
 ghost use Rattle.node_settings.specs.declared.settings_fault.SettingsFault.TheVariants as fault;
+ghost use Rattle.node_settings.specs.Rules.{other_key};
 ghost use Rattle.node_settings.specs.Values.{HasOnly, has_only, is_among, section as section_at, members_at};
 
 use crate::SettingsFault;
@@ -47,7 +48,7 @@ pub(crate) fn check_keys(table: Option<&Table>, keys: &[&str]) -> Result<(), Set
     }
 }
 
-fn has_only(table: Option<&Table>, keys: &[&str]) -> bool
+pub(crate) fn has_only(table: Option<&Table>, keys: &[&str]) -> bool
     ensures { result ≡ has_only (map (λ k. k.now) keys.now) (members_at table.entry) }
 {
     match table {
@@ -67,4 +68,29 @@ fn is_among(keys: &[&str], key: &str) -> bool
     ensures { result ≡ is_among (map (λ k. k.now) keys.now) key.now }
 {
     keys.contains(&key)
+}
+
+/// The first key of a table that is none of these.
+pub(crate) fn other_key<'a>(table: Option<&'a Table>, keys: &[&str]) -> &'a str
+    ensures { result.now ≡ other_key (map (λ k. k.now) keys.now) (members_at table.entry) }
+{
+    match table {
+        Some(table) => other_in(table, keys),
+        None => "",
+    }
+}
+
+fn other_in<'a>(table: &'a Table, keys: &[&str]) -> &'a str
+    ensures { result.now ≡ other_key (map (λ k. k.now) keys.now) (table_view table.now) }
+{
+    match first_other(table, keys) {
+        Some(key) => key.as_str(),
+        None => "",
+    }
+}
+
+fn first_other<'a>(table: &'a Table, keys: &[&str]) -> Option<&'a String>
+    ensures { option_map (λ k. k.now) result ≡ find (λ k. not (is_among (map (λ w. w.now) keys.now) (string_bytes k))) (keys_in table.now) }
+{
+    table.keys().find(|key| !is_among(keys, key.as_str()))
 }

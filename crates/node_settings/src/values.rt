@@ -5,7 +5,7 @@ ghost use Rattle.toml.specs.Data.{string};
 ghost use Rattle.toml.specs.View.{view};
 ghost use Rattle.node_settings.specs.declared.settings_fault.SettingsFault.TheVariants as fault;
 ghost use Rattle.node_settings.specs.Answers.{Reads};
-ghost use Rattle.node_settings.specs.Values.{IsText, IsNameText, IsAddressText, IsUrlText, IsFlag, IsOff, IsNumber, IsLeaseType};
+ghost use Rattle.node_settings.specs.Values.{IsText, IsNameText, IsAddressText, IsUrlText, IsFlag, IsOff, IsSwitch, IsNumber, IsLeaseType};
 
 use crate::{Address, LeaseType, SettingsFault, Url};
 use lf_base::{Name, NameFault, Text};
@@ -61,6 +61,17 @@ pub(crate) fn off(value: &Value) -> Result<bool, SettingsFault>
 {
     match value.as_bool() {
         Some(false) => Ok(false),
+        _ => Err(SettingsFault::Config),
+    }
+}
+
+/// `on` or `off`.
+pub(crate) fn switch(value: &Value) -> Result<bool, SettingsFault>
+    ensures { Reads (IsSwitch (view value.now)) result }
+{
+    match as_text(value)? {
+        "on" => Ok(true),
+        "off" => Ok(false),
         _ => Err(SettingsFault::Config),
     }
 }

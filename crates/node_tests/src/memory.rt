@@ -1,6 +1,7 @@
 ghost use Rattle.std.specs.Prelude.{All};
 ghost use Rattle.node_mount.specs.MemMaker.{IsNewDisk, IsNewDoor};
 
+use crate::asking::asked_at;
 use crate::same::same;
 use lf_base::{FixedClock, ListAcceptor, Name, Text};
 use lf_disk::MemDisk;
@@ -54,6 +55,22 @@ fn objects_are_given_and_fail(rt: HostRuntime) {
     same(rt, maker.files(&path).is_ok(), true);
     same(rt, maker.http(&path, 0).is_ok(), true);
     same(rt, maker.node_id(), 9);
+}
+
+/// There are two places.
+#[test]
+fn what_is_asked_for_is_told(rt: HostRuntime) {
+    let mut maker = maker(rt, rt.alloc());
+    let name = Name::read(rt.alloc(), b"app").expect(&rt, "a name");
+    let path = Text::of(rt.alloc(), "s").expect(&rt, "a path");
+    same(rt, maker.disk(&name).is_ok(), true);
+    same(rt, maker.files(&path).is_err(), true);
+    let asked = maker.asked().expect(&rt, "told");
+    same(rt, asked.len(), 2);
+    same(rt, asked_at(rt, asked, 0), ('d', "app", true));
+    same(rt, asked_at(rt, asked, 1), ('f', "s", false));
+    same(rt, maker.http(&path, 0).is_ok(), true);
+    same(rt, maker.asked().is_none(), true);
 }
 
 /// There are two places.

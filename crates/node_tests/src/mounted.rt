@@ -2,12 +2,15 @@
 ghost use Rattle.std.specs.Prelude.{◌≡◌, ◌∷◌, [], All, IfOk};
 ghost use Rattle.node_mount.specs.MemMaker.{IsNewDisk, IsNewDoor, IsNewSpawner};
 
+use crate::asking::asked_at;
+use crate::commands::files::{SNAPSHOT, encode_all};
 use crate::same::same;
 use lf_base::{
-    CallSpawner, Closing, FixedClock, Handles, ListAcceptor, MemLink, NoMemory, SliceSource, Watch,
+    CallSpawner, Closing, FixedClock, Handles, ListAcceptor, MemLink, Name, NoMemory, SliceSource,
+    Watch,
 };
 use lf_disk::MemDisk;
-use node_mount::{MemMaker, MemSpawn, SystemMaker, mount};
+use node_mount::{Maker, MemMaker, MemSpawn, System, SystemMaker, mount};
 use std::alloc::Global;
 use std::net::{TcpListener, TcpStream};
 use std::process::Abort;
@@ -21,6 +24,10 @@ const REQUEST: &[u8] = b"GET /none HTTP/1.1\r\n\r\n";
 
 const NOT_FOUND: &[u8] =
     b"HTTP/1.1 404 Not Found\r\nContent-Length: 0\r\nConnection: close\r\n\r\n";
+
+/// What the primary tells.
+const STARTED: &[u8] = b"litefs: start 0.1.0: database app, role primary at \
+    0000000000000000/0000000000000000, files on litefs.sock, http on :20202\n";
 
 /// How often a peer looks whether it is dialed, and how many milliseconds lie between.
 const LOOKS: u64 = 500;
@@ -77,6 +84,39 @@ fn a_replica_dials_again(rt: HostRuntime) {
     same(rt, peer.join(&rt), 2);
     same(rt, ended, Ok(()));
     fs::remove_file(&rt, "node_mount_dialing_socket").expect(&rt, "removed");
+}
+
+/// A replica whose primary is nowhere, of a database that is there.
+const REPLICA: &[u8] = b"database = \"kept\"\n[fuse]\nlisten = \"node_mount_kept_socket\"\n\
+    [http]\naddr = \"127.0.0.1:0\"\n[lease]\nadvertise-url = \"http://127.0.0.1:1\"\nhostname = \"localhost\"\n";
+
+const LOG: &str = "dbs/kept/ltx/0000000000000001-0000000000000001.ltx";
+
+/// Its data directory, with one file of the log.
+fn keep_database<R: System + Copy + Abort + Send + 'static>(rt: R, file: &[u8]) {
+    let closing = Closing::new(rt.alloc()).expect(&rt, "memory");
+    let mut maker = SystemMaker::new(rt, closing).expect(&rt, "a maker");
+    let name = Name::read(rt.alloc(), b"kept").expect(&rt, "a name");
+    same(rt, maker.disk(&name).is_ok(), true);
+    fs::write(&rt, LOG, file).expect(&rt, "a file");
+}
+
+/// A node that was started and ended has its log and its database as before.
+#[test]
+fn a_start_keeps_the_database(rt: HostRuntime) {
+    let _named: Option<(TcpListener, TcpStream)> = None;
+    let file = encode_all(rt.alloc(), &[SNAPSHOT]).expect(&rt, "memory");
+    keep_database(rt, file.as_slice());
+    let closing = Closing::new(rt.alloc()).expect(&rt, "memory");
+    closing.close();
+    let mut maker = SystemMaker::new(rt, closing).expect(&rt, "a maker");
+    let mut source = SliceSource::new(REPLICA, Vec::new(rt.alloc())).expect(&rt, "a source");
+    same(rt, mount(rt, rt.alloc(), &mut source, &mut maker), Ok(()));
+    let log = fs::read(&rt, LOG).expect(&rt, "the log");
+    same(rt, log.as_slice(), file.as_slice());
+    let database = fs::read(&rt, "dbs/kept/database").expect(&rt, "the database");
+    same(rt, database.as_slice(), [0u8; 512].as_slice());
+    fs::remove_file(&rt, "node_mount_kept_socket").expect(&rt, "removed");
 }
 
 /// A list of one item.
@@ -146,4 +186,11 @@ fn http_goes_on_after_a_failed_accept(rt: HostRuntime) {
     same(rt, mount(rt, alloc, &mut config, &mut maker), Ok(()));
     let written = watch.bytes().expect(&rt, "memory");
     same(rt, written.as_slice(), NOT_FOUND);
+    let told = maker.lines().expect(&rt, "memory").bytes(&rt, alloc);
+    same(rt, told.expect(&rt, "memory").as_slice(), STARTED);
+    let asked = maker.asked().expect(&rt, "told");
+    same(rt, asked.len(), 3);
+    same(rt, asked_at(rt, asked, 0), ('d', "app", true));
+    same(rt, asked_at(rt, asked, 1), ('f', "litefs.sock", true));
+    same(rt, asked_at(rt, asked, 2), ('h', ":20202", true));
 }

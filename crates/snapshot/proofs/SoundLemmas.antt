@@ -20,7 +20,7 @@ use Rattle.world_laws.specs.Store.{StoreState, at, end_of}
 use Rattle.world_laws.proofs.Snapshots.{whole-same}
 use Rattle.txn_log.specs.declared.entry.Entry.{Entry}
 use Rattle.txn_log.specs.Durable.{log_of, IsEncoding}
-use Rattle.txn_log.specs.Kept.{LogFile, file_of, last_of, Decides, change_of}
+use Rattle.txn_log.specs.Kept.{LogFile, file_of, last_of, Decides, encoded_change}
 use Rattle.txn_log.specs.Store.{image_in, files_in, state_of, meant, end_of_entries, IsStore, IsSized}
 use Rattle.txn_log.proofs.Commits.{end_of-push}
 use Rattle.txn_log.proofs.PagesRead.{is_image}
@@ -60,14 +60,14 @@ some_entries [] some same = absurd (omega (arith, some))
 some_entries (e ∷ es) some same = cc
 
 -- what the last file's encoding says
-sized_by : (encoding : List ℕ) → IsEncoding encoding → IsPageSize (change_of encoding).page_size
+sized_by : (encoding : List ℕ) → IsEncoding encoding → IsPageSize (encoded_change encoding).page_size
 sized_by encoding is = ∥∥₁_elim is (hlevel props) (λ (it : IsLtx encoding (file_of encoding)). it.valid.block.pages.of_a_page_size)
 
-limited_by : (encoding : List ℕ) → IsEncoding encoding → IsWithinLimit (change_of encoding).page_size (change_of encoding).commit
+limited_by : (encoding : List ℕ) → IsEncoding encoding → IsWithinLimit (encoded_change encoding).page_size (encoded_change encoding).commit
 limited_by encoding is = ∥∥₁_elim is (hlevel props) (λ (it : IsLtx encoding (file_of encoding)). within it) where
-  within : IsLtx encoding (file_of encoding) → IsWithinLimit (change_of encoding).page_size (change_of encoding).commit
+  within : IsLtx encoding (file_of encoding) → IsWithinLimit (encoded_change encoding).page_size (encoded_change encoding).commit
   within it =
-      subst (λ (s : ℕ). IsWithinLimit s (change_of encoding).commit) (sym it.valid.block.page_size)
+      subst (λ (s : ℕ). IsWithinLimit s (encoded_change encoding).commit) (sym it.valid.block.page_size)
       (subst (λ (n : ℕ). IsWithinLimit (file_of encoding).header.page_size n) (sym it.valid.block.commit) it.valid.header.commit)
 
 flagged_by : (encoding : List ℕ) → IsEncoding encoding → IsFlagged (after (file_of encoding)).sum
@@ -89,7 +89,7 @@ module _ (h : History) (size commit : ℕ) (entries : List Entry) (dropped broke
       let files : List LogFile = files_in entries f in
       let image : DatabaseImage = image_in size commit f in
       let last = last_is files some in
-      let decides : Decides (change_of last.0.encoding) image _ = is.rest.kept.decided.some last.0 last.1.last in
+      let decides : Decides (encoded_change last.0.encoding) image _ = is.rest.kept.decided.some last.0 last.1.last in
       let encoding : IsEncoding last.0.encoding = subst (λ (l : LogFile). IsEncoding l.encoding) (last.1.found last.0) (is.log.log.encodings last.1.place last.0 last.1.within) in
       record {
         some = some;
@@ -98,7 +98,7 @@ module _ (h : History) (size commit : ℕ) (entries : List Entry) (dropped broke
         page_size = subst IsPageSize (sym decides.page_size) (sized_by last.0.encoding encoding);
         size_small = small;
         limit = subst (λ (s : ℕ). IsWithinLimit s (length image.pages)) (sym decides.page_size)
-            (subst (λ (n : ℕ). IsWithinLimit (change_of last.0.encoding).page_size n) (sym decides.commit) (limited_by last.0.encoding encoding));
+            (subst (λ (n : ℕ). IsWithinLimit (encoded_change last.0.encoding).page_size n) (sym decides.commit) (limited_by last.0.encoding encoding));
         sum = sum_is ∙ ap (λ (l : List ℕ). flagged (joined l)) is.table ∙ sym (law image);
         width = subst (λ (p : Pos). p.sum < 2 ^ 64) (sym last.1.ends) (narrow_by last.0.encoding encoding);
         flagged = subst (λ (p : Pos). IsFlagged p.sum) (sym last.1.ends) (flagged_by last.0.encoding encoding);

@@ -8,7 +8,7 @@ use Rattle.lf_disk.proofs.Moments.{joined, weakened}
 use Rattle.lf_sqlite_pages.specs.Image.{DatabaseImage}
 use Rattle.lf_sqlite_pages.specs.Change.{PageChange}
 use Rattle.txn_log.specs.declared.entry.Entry.{Entry}
-use Rattle.txn_log.specs.Kept.{LogFile, change_of, Decides, IsBySnapshot}
+use Rattle.txn_log.specs.Kept.{LogFile, encoded_change, Decides, IsBySnapshot}
 use Rattle.txn_log.specs.Installing.{IsReadyAnew, IsAsBeforeOrInstalled}
 use Rattle.txn_log.specs.Settling.{IsUnsettled, IsInstalled}
 use Rattle.txn_log.proofs.Settlings.{without-alike}
@@ -18,7 +18,7 @@ module _ (h : History) (before : Folder) (image : DatabaseImage) (entries : List
   by_snapshot c same = record {
     stands = same Snapshot refl;
     decides =
-        subst (λ (o : Option (List ℕ)). Decides (change_of file.encoding) image (bytes_of o)) (sym (same Database refl))
+        subst (λ (o : Option (List ℕ)). Decides (encoded_change file.encoding) image (bytes_of o)) (sym (same Database refl))
         (subst (λ (x : PageChange). Decides x image (bytes_of (before Database))) (sym ready.would.tells) ready.would.decides);
   }
 

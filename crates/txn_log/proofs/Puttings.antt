@@ -28,7 +28,7 @@ use Rattle.lf_sqlite_pages.proofs.Applying.{written-lock_page}
 use Rattle.lf_sqlite_pages.proofs.Applying.{written-above}
 use Rattle.txn_log.specs.Pages.{in_place, page_in, SamePage, KeepsPages, IsLeft, patched}
 use Rattle.txn_log.specs.Rewriting.{IsWorn, IsRewritten}
-use Rattle.txn_log.specs.Kept.{LogFile, change_of, encoding_of, last_of, Decides, IsDecided, Kept, Shows, IsAtRest, IsComplete}
+use Rattle.txn_log.specs.Kept.{LogFile, encoded_change, encoding_of, last_of, Decides, IsDecided, Kept, Shows, IsAtRest, IsComplete}
 use Rattle.txn_log.specs.Putting.{IsSettled, IsReady, IsBeforeOrAfter}
 use Rattle.txn_log.proofs.Places.{torn_page, cropped_page, page_end}
 
@@ -128,13 +128,13 @@ module _ (files : List LogFile) (file : LogFile) where
   pub some_more : last_of (files ++ file ∷ []) ≡ None → ⊥
   some_more none = let no : None ≡ Some file = sym none ∙ last_more in absurd (cc)
 
-module _ (image : DatabaseImage) (files : List LogFile) (change : PageChange) (file : LogFile) (tells : change_of file.encoding ≡ change) where
+module _ (image : DatabaseImage) (files : List LogFile) (change : PageChange) (file : LogFile) (tells : encoded_change file.encoding ≡ change) where
   pub is_decided : (made : DatabaseImage) (bytes : List ℕ) → Decides change made bytes → IsDecided (last_of (files ++ file ∷ [])) made bytes
   is_decided made bytes is = record {
     none = λ none. let here : None ≡ Some file = sym none ∙ last_more files file in absurd (cc);
     some = λ other some.
         let same : file ≡ other = same_Some file other (sym (last_more files file) ∙ some) in
-        subst (λ (c : PageChange). Decides c made bytes) (sym tells ∙ ap (λ (f : LogFile). change_of f.encoding) same) is;
+        subst (λ (c : PageChange). Decides c made bytes) (sym tells ∙ ap (λ (f : LogFile). encoded_change f.encoding) same) is;
   }
 
   pub undecided : (made : DatabaseImage) (bytes : List ℕ) → IsDecided (last_of (files ++ file ∷ [])) made bytes → Decides change made bytes

@@ -12,7 +12,7 @@ use Rattle.lf_sqlite_pages.specs.Image.{DatabaseImage}
 use Rattle.lf_sqlite_pages.specs.Change.{PageChange, IsChange}
 use Rattle.txn_log.specs.declared.entry.Entry.{Entry}
 use Rattle.txn_log.specs.Rewriting.{IsWorn, IsRewritten}
-use Rattle.txn_log.specs.Kept.{LogFile, change_of, Decides, Kept, Shows, IsAtRest, IsBySnapshot}
+use Rattle.txn_log.specs.Kept.{LogFile, encoded_change, Decides, Kept, Shows, IsAtRest, IsBySnapshot}
 use Rattle.txn_log.specs.Settling.{without, HasNoOthers, IsThinned, IsCleared, IsUnsettled, IsInstalled}
 use Rattle.txn_log.proofs.Clearings.{without-other, cleared_all}
 use Rattle.txn_log.proofs.Puttings.{still_decides, shows_after}
@@ -58,10 +58,10 @@ cleared-other entries f h is n other = is.seen n ∙ without-other entries f n o
 pub by_same : (image : DatabaseImage) (encoding : List ℕ) (f c : Folder) → c Snapshot ≡ f Snapshot → c Database ≡ f Database → IsBySnapshot image encoding f → IsBySnapshot image encoding c
 by_same image encoding f c snapshot database by = record {
   stands = snapshot ∙ by.stands;
-  decides = subst (λ (o : Option (List ℕ)). Decides (change_of encoding) image (bytes_of o)) (sym database) by.decides;
+  decides = subst (λ (o : Option (List ℕ)). Decides (encoded_change encoding) image (bytes_of o)) (sym database) by.decides;
 }
 
-pub by_worn : (image : DatabaseImage) (encoding : List ℕ) (change : PageChange) (f c : Folder) → change_of encoding ≡ change → IsWorn change f c → IsBySnapshot image encoding f → IsBySnapshot image encoding c
+pub by_worn : (image : DatabaseImage) (encoding : List ℕ) (change : PageChange) (f c : Folder) → encoded_change encoding ≡ change → IsWorn change f c → IsBySnapshot image encoding f → IsBySnapshot image encoding c
 by_worn image encoding change f c tells worn by = record {
   stands = worn.others Snapshot refl refl ∙ by.stands;
   decides =
@@ -95,8 +95,8 @@ module _ (image : DatabaseImage) (file : LogFile) (h new : History) (written : I
       none = λ none. let no : None ≡ Some file = sym none in absurd (cc);
       some = λ other some.
           let is : file ≡ other = same_Some file other some in
-          subst (λ (x : LogFile). Decides (change_of x.encoding) image (bytes_of (c Database))) is
-          (subst (λ (o : Option (List ℕ)). Decides (change_of file.encoding) image (bytes_of o)) (sym (same Database refl)) written.by.decides);
+          subst (λ (x : LogFile). Decides (encoded_change x.encoding) image (bytes_of (c Database))) is
+          (subst (λ (o : Option (List ℕ)). Decides (encoded_change file.encoding) image (bytes_of o)) (sym (same Database refl)) written.by.decides);
     };
     bare = λ none. let no : None ≡ Some file = sym none in absurd (cc);
   }

@@ -7,12 +7,9 @@ use Rattle.lf_sqlite_pages.specs.Complete.{completed}
 use Rattle.ltx_codec.specs.Positions.{before, after, IsNotNext}
 use Rattle.ltx_codec.specs.declared.file.Ltx.{Ltx}
 use Rattle.txn_log.specs.Draft.{sums_after}
+pub use Rattle.world_laws.specs.Lineage.{whole_file}
 use Rattle.txn_log.specs.declared.fault.StoreFault.{StoreFault}
 use Rattle.txn_log.specs.declared.fault.StoreFault.TheVariants as fault
-
--- the file as it is published over a count of pages: as zeros it also holds each data page past them that it does not write
-abbrev pub whole_file : ℕ → Ltx → Ltx
-whole_file commit file = record file { change = completed file.change commit }
 
 -- the sum of the pages after the file, from the table of their sums before
 abbrev pub sum_behind : ℕ → List ℕ → Ltx → ℕ

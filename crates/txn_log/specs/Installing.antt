@@ -9,14 +9,14 @@ use Rattle.lf_sqlite_pages.specs.Change.{PageChange}
 use Rattle.txn_log.specs.declared.entry.Entry.{Entry}
 use Rattle.txn_log.specs.declared.placed.Placed.{Placed}
 use Rattle.txn_log.specs.declared.placed.Placed.TheVariants as placed
-use Rattle.txn_log.specs.Kept.{LogFile, change_of, Decides, Kept, IsAtRest}
+use Rattle.txn_log.specs.Kept.{LogFile, encoded_change, Decides, Kept, IsAtRest}
 use Rattle.txn_log.specs.Placing.{IsTried}
 use Rattle.txn_log.specs.Settling.{HasNoOthers, IsInstalled}
 
 -- in a folder, whose transaction files are those of these entries, the encoding would decide this image
 pub record WouldDecide (image : DatabaseImage) (encoding : List ℕ) (entries : List Entry) (change : PageChange) (f : Folder) : Type 0 where
   pub decides : Decides change image (bytes_of (f Database))
-  pub tells : change_of encoding ≡ change
+  pub tells : encoded_change encoding ≡ change
   pub others : HasNoOthers entries f
 
 -- the encoding is staged over such a folder

@@ -23,8 +23,8 @@ unfoldable pub file_of : List ℕ → LtxFile
 file_of encoding = file_in encoding
 
 -- and its change
-abbrev pub change_of : List ℕ → PageChange
-change_of encoding = (file_of encoding).change
+abbrev pub encoded_change : List ℕ → PageChange
+encoded_change encoding = (file_of encoding).change
 
 -- the encoding under a name
 abbrev pub encoding_of : List LogFile → ℕ → ℕ → Option (List ℕ)
@@ -44,7 +44,7 @@ pub record Decides (change : PageChange) (image : DatabaseImage) (bytes : List �
 -- the last file decides the image, and without one it is empty
 pub record IsDecided (last : Option LogFile) (image : DatabaseImage) (bytes : List ℕ) : Type 0 where
   pub none : last ≡ None → image ≡ empty_image
-  pub some : (file : LogFile) → last ≡ Some file → Decides (change_of file.encoding) image bytes
+  pub some : (file : LogFile) → last ≡ Some file → Decides (encoded_change file.encoding) image bytes
 
 -- The folder holds this image, this log and this mark, whatever a crash made of the database file. Without a file and a
 -- mark the database file has no bytes.
@@ -58,7 +58,7 @@ pub record Kept (image : DatabaseImage) (files : List LogFile) (dropped : Bool) 
 -- a snapshot stands in the folder, and decides whatever else stands there
 pub record IsBySnapshot (image : DatabaseImage) (encoding : List ℕ) (f : Folder) : Type 0 where
   pub stands : f Snapshot ≡ Some encoding
-  pub decides : Decides (change_of encoding) image (bytes_of (f Database))
+  pub decides : Decides (encoded_change encoding) image (bytes_of (f Database))
 
 -- the mark of a dropped database decides
 pub record IsByMark (f : Folder) : Type 0 where

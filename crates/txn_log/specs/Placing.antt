@@ -8,13 +8,13 @@ use Rattle.lf_sqlite_pages.specs.Image.{DatabaseImage}
 use Rattle.lf_sqlite_pages.specs.Change.{PageChange, IsChange}
 use Rattle.txn_log.specs.declared.placed.Placed.{Placed}
 use Rattle.txn_log.specs.declared.placed.Placed.TheVariants as placed
-use Rattle.txn_log.specs.Kept.{LogFile, change_of, Kept, IsBySnapshot, IsAtRest, IsComplete}
+use Rattle.txn_log.specs.Kept.{LogFile, encoded_change, Kept, IsBySnapshot, IsAtRest, IsComplete}
 
 -- the encoding is that of a complete change over a store at rest
 pub record IsOver (image : DatabaseImage) (files : List LogFile) (dropped : Bool) (encoding : List ℕ) (change : PageChange) (h : History) : Type 0 where
   pub rest : IsAtRest image files dropped h
   pub empty : dropped ≡ true → files ≡ []
-  pub tells : change_of encoding ≡ change
+  pub tells : encoded_change encoding ≡ change
   pub valid : IsChange change
   pub complete : IsComplete image change
 

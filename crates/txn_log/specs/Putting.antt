@@ -6,7 +6,7 @@ use Rattle.lf_disk.specs.History.{History, now, may_leave}
 use Rattle.lf_disk.specs.Publish.{IsStaged}
 use Rattle.lf_sqlite_pages.specs.Image.{DatabaseImage}
 use Rattle.lf_sqlite_pages.specs.Change.{PageChange, IsChange}
-use Rattle.txn_log.specs.Kept.{LogFile, change_of, Kept, Shows, IsComplete, IsBySnapshot}
+use Rattle.txn_log.specs.Kept.{LogFile, encoded_change, Kept, Shows, IsComplete, IsBySnapshot}
 
 -- nothing is pending
 abbrev pub IsSettled : History → Type 0
@@ -18,7 +18,7 @@ pub record IsReady (image : DatabaseImage) (files : List LogFile) (dropped : Boo
   pub staged : IsStaged before encoding h
   pub kept : Kept image files dropped before
   pub shows : Shows image (bytes_of (before Database))
-  pub tells : change_of encoding ≡ change
+  pub tells : encoded_change encoding ≡ change
   pub valid : IsChange change
   pub complete : IsComplete image change
 

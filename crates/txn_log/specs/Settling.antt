@@ -6,7 +6,7 @@ use Rattle.lf_disk.specs.History.{History, now, IsSettledBut}
 use Rattle.lf_sqlite_pages.specs.Image.{DatabaseImage}
 use Rattle.lf_sqlite_pages.specs.Change.{PageChange}
 use Rattle.txn_log.specs.declared.entry.Entry.{Entry}
-use Rattle.txn_log.specs.Kept.{LogFile, change_of, Kept, IsBySnapshot}
+use Rattle.txn_log.specs.Kept.{LogFile, encoded_change, Kept, IsBySnapshot}
 
 -- the folder without the files of these entries
 abbrev pub without : List Entry → Folder → Folder
@@ -30,7 +30,7 @@ pub record IsCleared (entries : List Entry) (before : Folder) (h : History) : Ty
 -- a snapshot with this change decides the image, and the transaction files are those of these entries
 pub record IsUnsettled (image : DatabaseImage) (encoding : List ℕ) (entries : List Entry) (change : PageChange) (f : Folder) : Type 0 where
   pub by : IsBySnapshot image encoding f
-  pub tells : change_of encoding ≡ change
+  pub tells : encoded_change encoding ≡ change
   pub others : HasNoOthers entries f
 
 -- the file decides as a snapshot, or is the log

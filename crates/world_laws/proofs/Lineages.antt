@@ -10,7 +10,7 @@ use Rattle.lf_sqlite_pages.specs.Apply.{apply}
 use Rattle.ltx_codec.specs.declared.file.Ltx.{Ltx}
 use Rattle.ltx_codec.specs.Positions.{after, before, nowhere}
 use Rattle.ltx_codec.specs.Sums.{image_sum}
-use Rattle.world_laws.specs.Lineage.{IsAccepted, IsCommitted, IsOfTree, Lineage, Names, completed_at, image_of, position_at, position_of}
+use Rattle.world_laws.specs.Lineage.{IsAccepted, IsCommitted, IsOfTree, Lineage, Names, image_of, position_at, position_of, whole_file}
 use Rattle.world_laws.specs.Premises.{OneImagePerPosition}
 use Rattle.world_laws.proofs.Images.{apply-same}
 
@@ -131,7 +131,7 @@ Committed-more tree more file extends is = record {
 
 pub Accepted-more : (tree more : List Lineage) (file : Ltx) → Extends tree more → IsAccepted tree file → IsAccepted more file
 unfolding Committed-more
-Accepted-more tree more file extends was = record { count = was.count; is = Committed-more tree more (completed_at was.count file) extends was.is; over = was.over }
+Accepted-more tree more file extends was = record { count = was.count; is = Committed-more tree more (whole_file was.count file) extends was.is; over = was.over }
 
 pub sum_of : (lineage : Lineage) → 1 ≤ length lineage → (position_of lineage).sum ≡ image_sum (image_of lineage)
 sum_of lineage some = ap (λ (p : Pos). p.sum) (position_at-some (length lineage) (image_of lineage) some)

@@ -8,7 +8,7 @@ use Rattle.lf_sqlite_pages.proofs.Completing.{apply-complete}
 use Rattle.ltx_codec.specs.Sums.{image_sum}
 use Rattle.ltx_codec.specs.declared.file.Ltx.{Ltx}
 use Rattle.world_laws.specs.Answers.{completed_over}
-use Rattle.world_laws.specs.Lineage.{IsAccepted, IsOfTree, Lineage, Suits, completed_at, image_of}
+use Rattle.world_laws.specs.Lineage.{IsAccepted, IsOfTree, Lineage, Suits, image_of, whole_file}
 use Rattle.world_laws.specs.Node.{Ask, IsSoundNode, NodeState, Role}
 use Rattle.world_laws.specs.Premises.{FindsACandidate, IsFoundDone, IsFoundPruned, IsFoundUndone, OneImagePerPosition, WasSent}
 use Rattle.world_laws.specs.Safe.{IsAllowed, IsPending, IsSafe, IsSafeNode, TakesOfTree}
@@ -73,7 +73,7 @@ accepted-of_tree tree store file one allowed was can =
     let image : SameImage (image_of was.is.lineage) store.image =
     one was.is.lineage allowed.named.lineage was.is.stands allowed.named.stands (was.is.before_at ∙ can.1.next ∙ sym allowed.named.position_is) ∙ allowed.named.image_is
     in
-    subst (λ (n : ℕ). IsOfTree tree (completed_at n file)) (was.over ∙ ap length image) (Committed-of_tree tree (completed_at was.count file) was.is)
+    subst (λ (n : ℕ). IsOfTree tree (whole_file n file)) (was.over ∙ ap length image) (Committed-of_tree tree (whole_file was.count file) was.is)
 
 takes_if : (tree : List Lineage) (store : StoreState) (file : Ltx) (b : Bool) → OneImagePerPosition tree → IsAllowed tree store → IsOfTree tree file →
     CanDo store (cond b (Install file) (Apply (completed_over store file))) → TakesOfTree tree (cond b (Install file) (Apply (completed_over store file)))

@@ -9,7 +9,8 @@ use Rattle.lf_sqlite_pages.specs.Image.{DatabaseImage}
 use Rattle.lf_sqlite_pages.specs.Header.{image_is_wal}
 use Rattle.world_laws.specs.Node.{IsSoundNode, NodeState}
 use Rattle.world_laws.specs.ReaderLaw.{IsRead, ReadRuns, ReaderSteady, reads, steps}
-use Rattle.world_laws.specs.Served.{HoldsBack, IsInside, IsUnder, Served, Writer, blocking_locks, reading_locks}
+use Rattle.byte_locks.specs.ModeLocks.{blocking_locks, reading_locks}
+use Rattle.world_laws.specs.Served.{HoldsBack, IsInside, IsUnder, Served, Writer}
 use Rattle.world_laws.specs.Step.{Steady}
 
 Steady-refl : (n : NodeState) → Steady n n
@@ -28,6 +29,7 @@ last-read (steps is facts rest) = last-read rest
 
 -- a lock that readers read under holds frames back
 reading-blocks : (wal : Bool) (which : LockId) → Contains (reading_locks wal) which → Contains (blocking_locks wal) which
+unfolding blocking_locks
 reading-blocks false which here = Contains-append_right (lock.Pending ∷ lock.Reserved ∷ []) (reading_locks false) which here
 reading-blocks true which here = Contains-append_right (lock.Write ∷ lock.Ckpt ∷ lock.Recover ∷ []) (reading_locks true) which here
 

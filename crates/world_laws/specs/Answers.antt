@@ -10,13 +10,13 @@ use Rattle.lf_base.specs.declared.pos.Pos.{Pos}
 use Rattle.lf_base.specs.Faults.{Rose}
 use Rattle.lf_sqlite_pages.specs.LockPage.{IsWithinLimit}
 use Rattle.lf_sqlite_pages.specs.Apply.{Fits}
-use Rattle.lf_sqlite_pages.specs.Complete.{complete}
 use Rattle.ltx_codec.specs.declared.file.Ltx.{Ltx}
 use Rattle.ltx_codec.specs.Format.{IsFile}
 use Rattle.ltx_codec.specs.Positions.{after, before, nowhere, sum_after}
 use Rattle.lf_sqlite_pages.specs.Writes.{data_writes}
 use Rattle.world_laws.specs.declared.last_file.LastFile.{LastFile}
 use Rattle.world_laws.specs.declared.last_file.LastFile.TheVariants as last_file
+use Rattle.world_laws.specs.Lineage.{whole_file}
 use Rattle.world_laws.specs.Node.{Answer, Applied, Ask, BadFile, Broken, Disk, Done, Drop, File, Forward, Forwarded, Frame, Gone, Halted, Held, Hello, Item, Level, Limit, NoMemory, NodeState, NotNext, NotPrimary, NotReplica, PageSize, Primary, Refusal, Refused, Role, Send, SumDiffers}
 use Rattle.world_laws.specs.Served.{HoldsBack}
 use Rattle.world_laws.specs.Store.{Apply, Commit, DropAll, Failure, Install, StoreCall, StoreState, at}
@@ -87,9 +87,9 @@ AnswersHello old new role position last (Refused Broken) = IsSome old.failed
 AnswersHello old new role position last (Refused NoMemory) = Unit {0}
 AnswersHello old new role position last other = ⊥
 
--- a file made complete over a store: as zeros it then also holds each data page past the old size that it does not write
+-- a file made complete over a store: over the pages of its image
 abbrev pub completed_over : StoreState → Ltx → Ltx
-completed_over store file = record file { change = complete store.image file.change }
+completed_over store file = whole_file (length store.image.pages) file
 
 -- the call that an LTX frame asks for
 abbrev pub call_of : StoreState → Ltx → StoreCall

@@ -63,9 +63,9 @@ pub record IsCommitted (tree : List Lineage) (file : Ltx) : Type 0 where
   pub after_at : position_of (lineage ++ file.change ∷ []) ≡ after file
   pub suits : Suits (image_of lineage).pages file.change
 
--- a file made complete over a count of pages
-abbrev pub completed_at : ℕ → Ltx → Ltx
-completed_at count file = record file { change = completed file.change count }
+-- a file made complete over a count of pages: as zeros it then also holds each data page past them that it does not write
+abbrev pub whole_file : ℕ → Ltx → Ltx
+whole_file count file = record file { change = completed file.change count }
 
 -- a lineage goes on by a file, which is made complete over its image
 abbrev pub gone_on : Lineage → Ltx → Lineage
@@ -74,5 +74,5 @@ gone_on lineage file = lineage ++ complete (image_of lineage) file.change ∷ []
 -- a forwarded file that was accepted is one transaction of the tree, made complete over the lineage that goes on by it
 pub record IsAccepted (tree : List Lineage) (file : Ltx) : Type 0 where
   pub count : ℕ
-  pub is : IsCommitted tree (completed_at count file)
+  pub is : IsCommitted tree (whole_file count file)
   pub over : count ≡ length (image_of is.lineage).pages

@@ -2,15 +2,14 @@
 --
 -- The database file as it reads lies under the committed frames of its WAL. Together they are the committed image,
 -- but for the pages that one writer has written and not committed yet: the overlay equation. Which locks keep a
--- frame from being applied depends on the journal mode of the committed image (SQLite: File Locking And Concurrency;
--- Write-Ahead Logging, WAL-mode file locks).
-use Rattle.std.specs.Prelude.{◌≡◌, ℕ, Bool, true, false, List, [], ◌∷◌, Contains, Option, Some, None, IsSome, All}
+-- frame from being applied depends on the journal mode of the committed image.
+use Rattle.std.specs.Prelude.{◌≡◌, ℕ, List, [], Contains, Option, Some, None, IsSome, All}
 use Rattle.byte_locks.specs.declared.owner.Owner.{Owner}
 use Rattle.byte_locks.specs.declared.lock_id.LockId.{LockId}
-use Rattle.byte_locks.specs.declared.lock_id.LockId.TheVariants as lock
 use Rattle.byte_locks.specs.declared.lock_entry.LockEntry.{LockEntry}
 use Rattle.byte_locks.specs.LockEntry.{MayStandTogether}
 use Rattle.byte_locks.specs.LockList.{LockList}
+use Rattle.byte_locks.specs.ModeLocks.{blocking_locks, reading_locks}
 use Rattle.lf_sqlite_pages.specs.Image.{DatabaseImage, page_at, SameImage}
 use Rattle.lf_sqlite_pages.specs.Header.{image_is_wal}
 use Rattle.lf_sqlite_pages.specs.Change.{PageChange}
@@ -52,16 +51,6 @@ MeetsOverlay served image = IsUnder served served.writer image
 -- different owners share a lock only for reading
 abbrev pub ShareForReading : LockList → Type 0
 ShareForReading locks = All (λ one. All (MayStandTogether one) locks) locks
-
--- the locks that a reader reads under, in rollback mode and in WAL mode
-abbrev pub reading_locks : Bool → List LockId
-reading_locks false = lock.Shared ∷ []
-reading_locks true = lock.Read0 ∷ lock.Read1 ∷ lock.Read2 ∷ lock.Read3 ∷ lock.Read4 ∷ []
-
--- the locks that hold a frame back: those of readers, and those of whoever writes or checkpoints
-abbrev pub blocking_locks : Bool → List LockId
-blocking_locks false = lock.Pending ∷ lock.Reserved ∷ reading_locks false
-blocking_locks true = lock.Write ∷ lock.Ckpt ∷ lock.Recover ∷ reading_locks true
 
 -- somebody holds the lock
 abbrev pub IsHeld : LockList → LockId → Type 0

@@ -77,7 +77,7 @@ pub(super) fn append(alloc: Global, out: &mut Vec<u8>, fields: Fields) -> Result
 }
 
 /// Files, one after another.
-pub(super) fn encode_all(alloc: Global, files: &[Fields]) -> Result<Vec<u8>, NoMemory> {
+pub(crate) fn encode_all(alloc: Global, files: &[Fields]) -> Result<Vec<u8>, NoMemory> {
     let mut out = Vec::new(alloc);
     for fields in files {
         append(alloc, &mut out, *fields)?;

@@ -6,9 +6,7 @@ use Rattle.database_file.proofs.comparing.compare.Given as goal
 
 abbrev pub invariant-loop-at : goal.invariant-loop-at
 invariant-loop-at g l = record {
-  base : SameBase (g.S.PageStore.image l.fn.base) (g.S.PageStore.image l.base) (g.S.PageStore.page_size l.fn.base) (g.S.PageStore.page_size l.base)
-      (g.S.PageStore.commit l.fn.base) (g.S.PageStore.commit l.base) (g.S.PageStore.wal_mode l.fn.base) (g.S.PageStore.wal_mode l.base)
-      (g.S.PageStore.is_broken l.fn.base) (g.S.PageStore.is_broken l.base);
+  base : SameBase g.S.PageStore l.fn.base l.base;
   count : length l.same.items ≡ l.at;
   same : TellAllSame (g.S.PageStore.image l.fn.base) l.first l.bytes l.page_size l.same.items;
   faults : g.S.PageStore.faults l.base ≡ g.S.PageStore.faults l.fn.base;

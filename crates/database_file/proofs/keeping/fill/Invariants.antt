@@ -7,9 +7,7 @@ use Rattle.database_file.proofs.keeping.fill.Given as goal
 
 abbrev pub invariant-loop-number : goal.invariant-loop-number
 invariant-loop-number g l = record {
-  base : SameBase (g.S.PageStore.image l.fn.base) (g.S.PageStore.image l.base) (g.S.PageStore.page_size l.fn.base) (g.S.PageStore.page_size l.base)
-      (g.S.PageStore.commit l.fn.base) (g.S.PageStore.commit l.base) (g.S.PageStore.wal_mode l.fn.base) (g.S.PageStore.wal_mode l.base)
-      (g.S.PageStore.is_broken l.fn.base) (g.S.PageStore.is_broken l.base);
+  base : SameBase g.S.PageStore l.fn.base l.base;
   zeros : MayKeepZeros l.fn.kept.pages l.from l.number (length l.blank) l.kept.pages;
   told : IfSome (g.S.PageStore.image l.fn.base) (KeepsZeros l.kept.pages l.from l.number (length l.blank));
   room : HasRooms l.kept l.more (length l.blank);

@@ -7,9 +7,7 @@ use Rattle.database_under_log.proofs.altering.writes_the_same.Given as goal
 
 abbrev pub invariant-loop-at : goal.invariant-loop-at
 invariant-loop-at g l = record {
-  base : SameBase (g.S.PageStore.image l.fn.base) (g.S.PageStore.image l.base) (g.S.PageStore.page_size l.fn.base) (g.S.PageStore.page_size l.base)
-      (g.S.PageStore.commit l.fn.base) (g.S.PageStore.commit l.base) (g.S.PageStore.wal_mode l.fn.base) (g.S.PageStore.wal_mode l.base)
-      (g.S.PageStore.is_broken l.fn.base) (g.S.PageStore.is_broken l.base);
+  base : SameBase g.S.PageStore l.fn.base l.base;
   faults : g.S.PageStore.faults l.base ≡ g.S.PageStore.faults l.fn.base;
   page_is : length l.page ≡ l.change.page_size;
   there : IfSome (g.S.PageStore.image l.fn.base) (AreThere l.change l.at);

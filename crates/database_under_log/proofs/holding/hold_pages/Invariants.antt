@@ -10,9 +10,7 @@ use Rattle.database_under_log.proofs.holding.hold_pages.Given as goal
 
 abbrev pub invariant-loop-at : goal.invariant-loop-at
 invariant-loop-at g l = record {
-  base : SameBase (g.S.PageStore.image l.fn.base) (g.S.PageStore.image l.base) (g.S.PageStore.page_size l.fn.base) (g.S.PageStore.page_size l.base)
-      (g.S.PageStore.commit l.fn.base) (g.S.PageStore.commit l.base) (g.S.PageStore.wal_mode l.fn.base) (g.S.PageStore.wal_mode l.base)
-      (g.S.PageStore.is_broken l.fn.base) (g.S.PageStore.is_broken l.base);
+  base : SameBase g.S.PageStore l.fn.base l.base;
   faults : g.S.PageStore.faults l.base ≡ g.S.PageStore.faults l.fn.base;
   page : length l.page ≡ l.change.page_size;
   page_size : l.file.page_size ≡ l.fn.file.page_size;
@@ -27,9 +25,7 @@ invariant-loop-at g l = record {
 
 abbrev pub invariant-loop-before : goal.invariant-loop-before
 invariant-loop-before g l = record {
-  base : SameBase (g.S.PageStore.image l.fn.base) (g.S.PageStore.image l.base) (g.S.PageStore.page_size l.fn.base) (g.S.PageStore.page_size l.base)
-      (g.S.PageStore.commit l.fn.base) (g.S.PageStore.commit l.base) (g.S.PageStore.wal_mode l.fn.base) (g.S.PageStore.wal_mode l.base)
-      (g.S.PageStore.is_broken l.fn.base) (g.S.PageStore.is_broken l.base);
+  base : SameBase g.S.PageStore l.fn.base l.base;
   faults : g.S.PageStore.faults l.base ≡ g.S.PageStore.faults l.fn.base;
   page : length l.page ≡ l.change.page_size;
   page_size : l.file.page_size ≡ l.fn.file.page_size;

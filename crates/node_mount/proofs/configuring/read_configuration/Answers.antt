@@ -1,8 +1,9 @@
-use Rattle.std.proofs.Common.{subst}
-use Rattle.node_mount.specs.Configuring.{SaysSettings}
 use Rattle.node_mount.proofs.ConfigLemmas.{says-reads}
+use Rattle.node_mount.proofs.AskLemmas.{settings_read}
 use Rattle.node_mount.proofs.configuring.read_configuration.Goals as goal
 
 pub returns-clause-config : goal.returns-clause-config
-returns-clause-config g c =
-    says-reads _ _ _ _ c.in_ok-read_pieces.ensures.read (subst (λ bytes. SaysSettings bytes c.settings_in.result) c.as_slice.ensures.value c.settings_in.ensures)
+returns-clause-config g c = says-reads _ _ _ _ c.in_ok-read_pieces.ensures.read c.configuration_in.ensures.says
+
+pub returns-clause-settings : goal.returns-clause-settings
+returns-clause-settings g c = settings_read _ _ _ _ c.in_ok-read_pieces.ensures.read c.configuration_in.ensures.says

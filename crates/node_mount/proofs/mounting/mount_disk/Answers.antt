@@ -1,5 +1,8 @@
-use Rattle.std.proofs.Common.{[], ◌∷◌, subst}
+use Rattle.std.proofs.Common.{[], ◌∷◌, sym, subst}
+use Rattle.node_mount.specs.Asking.{disk_of}
+use Rattle.node_mount.specs.Making.{gave, TakesBack}
 use Rattle.node_mount.specs.Returns.{GivesBack}
+use Rattle.node_mount.proofs.AskLemmas.{disk_alone, disk_then}
 use Rattle.node_mount.specs.declared.returned.Returned.TheVariants as returned
 use Rattle.node_mount.proofs.BackLemmas.{damage_found, no_damage, one_back}
 use Rattle.node_mount.proofs.ServingLemmas.{serves_past}
@@ -18,3 +21,14 @@ returns-in-Err-Unrecovered-clause-damage g c =
     (λ honest. rw c.in-Err-Unrecovered.field-0-is at (c.in-Err-Unrecovered.ensures.why honest)) ((rw c.in-Err-Unrecovered.field-0-is at c.in-Err-Unrecovered.ensures.back).0)
     (subst (λ before. GivesBack (returned.Disk c.in-Err-Unrecovered.disk ∷ []) before (g.M.Maker.back c.back_disk.new.self)) c.disk.ensures.back
     (rw c.in-Err-Unrecovered.field-0-is at (one_back _ _ _ c.back_disk.ensures.back))))
+
+pub returns-in-Ok-open_recovered-clause-asked : goal.returns-in-Ok-open_recovered-clause-asked
+returns-in-Ok-open_recovered-clause-asked g c =
+    disk_then c.args.read.now.settings (g.M.Maker.asked c.args.make.now) (g.M.Maker.asked c.disk.new.self) (g.M.Maker.asked c.mount_node.new.make) c.mount_node.result
+    c.in-Ok-disk.ensures.asked c.mount_node.ensures.asked
+
+pub returns-in-Err-Unrecovered-clause-asked : goal.returns-in-Err-Unrecovered-clause-asked
+returns-in-Err-Unrecovered-clause-asked g c =
+    let s = c.args.read.now.settings in
+    rw (rw c.in-Err-Unrecovered.field-0-is at c.fault_of.ensures) (disk_alone (Unit {0}) s (g.M.Maker.asked c.args.make.now) (g.M.Maker.asked c.back_disk.new.self)
+    c.in-Err-Unrecovered.why (subst (λ told. TakesBack (gave (disk_of s)) (g.M.Maker.asked c.args.make.now) told) (sym c.back_disk.ensures.kept.0) c.in-Ok-disk.ensures.asked))

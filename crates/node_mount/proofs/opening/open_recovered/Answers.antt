@@ -1,6 +1,6 @@
-use Rattle.std.proofs.Common.{◌≡◌, ◌∙◌, ap, Bool, None}
+use Rattle.std.proofs.Common.{◌≡◌, ◌∙◌, ap, sym, Bool, None}
 use Rattle.world_laws.specs.Served.{untouched}
-use Rattle.node_core.specs.Nodes.{history, parts_of, seen}
+use Rattle.node_core.specs.Nodes.{NodeParts, history, parts_of, seen}
 use Rattle.node_core.specs.Opening.{first_standing, opened, seen_opened}
 use Rattle.node_core.specs.Roles.{law_role, role_of}
 use Rattle.node_core.specs.Stores.{fields_of, history_of, state}
@@ -31,3 +31,9 @@ returns-in-Ok-open-clause-seen g c = λ honest stood durable.
       served = untouched (stands i).image;
     } in
     to_store ∙ opened-seen f config h ∙ anew
+
+-- CONFIG: its store is that of the parts
+pub returns-in-Ok-open-clause-config : goal.returns-in-Ok-open-clause-config
+returns-in-Ok-open-clause-config g c =
+    let parts = c.in-Ok-open.ensures.parts in
+    parts ∙ ap (λ (p : NodeParts). opened p.store c.args.config) (sym parts)

@@ -10,7 +10,7 @@ use Rattle.node_recovery.specs.Finding.{FindsBy, FindsSnapshot, FindsMark, Finds
 use Rattle.node_recovery.specs.Finishing.{IsFinished}
 use Rattle.node_recovery.specs.Listing.{AreListed}
 use Rattle.lf_disk.specs.declared.name.FileName.{FileName}
-use Rattle.txn_log.specs.Kept.{file_of, change_of}
+use Rattle.txn_log.specs.Kept.{file_of, encoded_change}
 use Rattle.node_recovery.specs.Outline.{encoding_under}
 use Rattle.node_recovery.specs.Rewriting.{HoldsFile}
 use Rattle.node_recovery.specs.Summing.{restored_image}
@@ -43,7 +43,7 @@ returns-in-Snapshot-clause-done g c honest =
     let listed : AreListed c.as_slice.result.now (now h) = subst (λ (ns : List Entry). AreListed ns (now h)) (sym c.as_slice.ensures.value) finds.names in
     on_ok c.settle_from.result
     (λ all. subst (λ (d : Decider). IsFinished (now h) d found.names.items new) (sym c.in-Snapshot.is)
-    (all _ (snapshot_held c.as_slice.result.now (now h) outline found.entries.items found.tally listed by) (restored_image (change_of (bytes_of (now h Snapshot))) (bytes_of (now h Database))) (bytes_of (now h Snapshot)) (unsettled_left c.as_slice.result.now (now h) outline found.entries.items found.tally listed by)))
+    (all _ (snapshot_held c.as_slice.result.now (now h) outline found.entries.items found.tally listed by) (restored_image (encoded_change (bytes_of (now h Snapshot))) (bytes_of (now h Database))) (bytes_of (now h Snapshot)) (unsettled_left c.as_slice.result.now (now h) outline found.entries.items found.tally listed by)))
     (c.settle_from.ensures.done honest)
 
 pub returns-in-Mark-clause-done : goal.returns-in-Mark-clause-done

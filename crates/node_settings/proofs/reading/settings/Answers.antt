@@ -23,7 +23,7 @@ pub returns-in_err-compress : goal.returns-in_err-compress
 returns-in_err-compress c =
     let root = table_view c.args.root.now in
     passed (λ (x : Bool × ℕ). IsSomeAnd (section (codes "data") root) (λ t. IsData t x.0 x.1)) (IsRoot root) _ c.from_residual-in_err-compress.result
-    (λ (s : Settings) is. ((s.compress, s.retention_files), is.log)) c.from_residual-in_err-compress.ensures.1 c.in_err-compress.ensures
+    (λ (s : Settings) is. ((s.compress, s.retention_files), is.data_kept)) c.from_residual-in_err-compress.ensures.1 c.in_err-compress.ensures
 
 pub returns-in_err-lease : goal.returns-in_err-lease
 returns-in_err-lease c =

@@ -23,7 +23,7 @@ pub returns-in_err-_kept : goal.returns-in_err-_kept
 returns-in_err-_kept c =
     let root = table_view c.args.root.now in
     passed (λ (x : Bool × ℕ). IsSomeAnd (section (codes "data") root) (λ t. IsData t x.0 x.1)) (IsServiceRoot root) _ c.from_residual-in_err-_kept.result
-    (λ (s : ServiceSettings) is. ((is.packed, is.files), is.log)) c.from_residual-in_err-_kept.ensures.1 c.in_err-_kept.ensures
+    (λ (s : ServiceSettings) is. ((is.packed, is.files), is.data_kept)) c.from_residual-in_err-_kept.ensures.1 c.in_err-_kept.ensures
 
 pub returns-in_err-ttl : goal.returns-in_err-ttl
 returns-in_err-ttl c =
@@ -41,6 +41,7 @@ returns c = record {
   named = c.in_ok-_database.ensures;
   fuse = c.in_ok-_socket.ensures;
   http = c.in_ok-http.ensures;
-  log = c.in_ok-_kept.ensures;
+  log = c.in_ok-log.ensures;
+  data_kept = c.in_ok-_kept.ensures;
   lease = c.in_ok-ttl.ensures;
 }

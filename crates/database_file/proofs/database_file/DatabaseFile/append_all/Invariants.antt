@@ -9,9 +9,7 @@ use Rattle.database_file.proofs.database_file.DatabaseFile.append_all.Given as g
 
 abbrev pub invariant-loop-number : goal.invariant-loop-number
 invariant-loop-number g l = record {
-  base : SameBase (g.S.PageStore.image l.fn.base) (g.S.PageStore.image l.base) (g.S.PageStore.page_size l.fn.base) (g.S.PageStore.page_size l.base)
-      (g.S.PageStore.commit l.fn.base) (g.S.PageStore.commit l.base) (g.S.PageStore.wal_mode l.fn.base) (g.S.PageStore.wal_mode l.base)
-      (g.S.PageStore.is_broken l.fn.base) (g.S.PageStore.is_broken l.base);
+  base : SameBase g.S.PageStore l.fn.base l.base;
   bytes : IfSome (g.S.PageStore.image l.fn.base)
       (λ (i : DatabaseImage). l.text.items ≡ concat (map (page_of (without_pages l.self l.passed) i) (range_with_len (l.before + 1) (l.number - l.before))));
   faults : g.S.PageStore.faults l.base ≡ g.S.PageStore.faults l.fn.base;

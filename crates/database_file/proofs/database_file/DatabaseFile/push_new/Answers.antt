@@ -1,7 +1,7 @@
 -- One page past the image more.
 use Rattle.std.proofs.Common.{rules, arith, ap, ◌∙◌}
 use Rattle.lf_sqlite_pages.specs.Change.{PageChange}
-use Rattle.database_file.specs.WalCommit.{page_over}
+use Rattle.database_file.specs.WalCommit.{change_page}
 use Rattle.database_file.proofs.WalLemmas.{over-next, over-all}
 use Rattle.database_file.proofs.database_file.DatabaseFile.push_new.Goals as goal
 
@@ -12,12 +12,12 @@ loop-before-preserved c =
       size = ap (λ (x : PageChange). x.page_size) ok ∙ c.loop-before.invariant.size;
       commit = ap (λ (x : PageChange). x.commit) ok ∙ c.loop-before.invariant.commit;
       last = c.in_ok-push_over.ensures.last;
-      writes = over-next (page_over c.args.self.now c.args.news.now c.args.commit) c.loop-before.before c.loop-before.change c.push_over.new.change
+      writes = over-next (change_page c.args.self.now c.args.news.now c.args.commit) c.loop-before.before c.loop-before.change c.push_over.new.change
           c.loop-before.invariant.writes ok;
     }
 
 pub returns : goal.returns
 returns c =
-    over-all (page_over c.args.self.now c.args.news.now c.args.commit) c.args.news.now c.loop-before.change c.loop-before.before
+    over-all (change_page c.args.self.now c.args.news.now c.args.commit) c.args.news.now c.loop-before.change c.loop-before.before
     (c.loop-before.invariant.size ∙ c.requires.size) (c.loop-before.invariant.commit ∙ c.requires.count) c.pages-valid.ensures.valid
     c.loop-before.invariant.writes (search rules)

@@ -1,0 +1,61 @@
+-- What a node that is started asks of its maker.
+use Rattle.std.specs.Prelude.{◌≡◌, ◌⊎◌, ℕ, List, [], ◌∷◌, Option, Result, Ok, Err}
+use Rattle.node_settings.specs.declared.settings.Settings.{Settings}
+use Rattle.node_mount.specs.Configuring.{ReadsSettings}
+use Rattle.node_mount.specs.Making.{gave, refused}
+use Rattle.node_mount.specs.Returns.{GivesBack}
+use Rattle.node_mount.specs.declared.asked.Asked.{Asked}
+use Rattle.node_mount.specs.declared.asked.Wanted.{Wanted}
+use Rattle.node_mount.specs.declared.asked.Wanted.TheVariants as wants
+use Rattle.node_mount.specs.declared.mount_fault.MountFault.{MountFault}
+use Rattle.node_mount.specs.declared.mount_fault.MountFault.TheVariants as fault
+
+-- the data directory of its database, its socket, and its HTTP address
+abbrev pub disk_of : Settings → Wanted
+disk_of s = wants.Disk s.database
+
+abbrev pub files_of : Settings → Wanted
+files_of s = wants.Files s.socket
+
+abbrev pub http_of : Settings → Wanted
+http_of s = wants.Http s.http
+
+-- this was asked for, in this order, where it is told
+abbrev pub AreAskedFor : List Asked → (old new : Option (List Asked)) → Type 0
+AreAskedFor asked old new = GivesBack asked old new
+
+-- over a disk that was given: where links come from, by how it ended
+abbrev pub AsksLinks : {R : Type 0} → Settings → (old new : Option (List Asked)) → Result R MountFault → Type 0
+AsksLinks s old new (Err fault.Network) = AreAskedFor (refused (files_of s) ∷ []) old new
+    ⊎ (AreAskedFor (gave (files_of s) ∷ refused (http_of s) ∷ []) old new ⊎ AreAskedFor (gave (files_of s) ∷ gave (http_of s) ∷ []) old new)
+AsksLinks s old new (Err fault.NoMemory) = (new ≡ old) ⊎ AreAskedFor (gave (files_of s) ∷ gave (http_of s) ∷ []) old new
+AsksLinks s old new (Err fault.Read) = ⊥
+AsksLinks s old new (Err fault.Config) = ⊥
+AsksLinks s old new (Err fault.Damaged) = ⊥
+AsksLinks s old new result = AreAskedFor (gave (files_of s) ∷ gave (http_of s) ∷ []) old new
+
+-- WHAT THE MAKER WAS ASKED FOR by these settings, by how it ended: the disk, then the socket, then the HTTP address, each once and
+-- after the one before was given, and all three where it served
+abbrev pub Asks : {R : Type 0} → Settings → (old new : Option (List Asked)) → Result R MountFault → Type 0
+Asks s old new (Err fault.Disk) = AreAskedFor (refused (disk_of s) ∷ []) old new
+    ⊎ (AreAskedFor (gave (disk_of s) ∷ []) old new ⊎ AreAskedFor (gave (disk_of s) ∷ gave (files_of s) ∷ gave (http_of s) ∷ []) old new)
+Asks s old new (Err fault.Damaged) = AreAskedFor (gave (disk_of s) ∷ []) old new
+Asks s old new (Err fault.Network) = AreAskedFor (gave (disk_of s) ∷ refused (files_of s) ∷ []) old new
+    ⊎ (AreAskedFor (gave (disk_of s) ∷ gave (files_of s) ∷ refused (http_of s) ∷ []) old new
+    ⊎ AreAskedFor (gave (disk_of s) ∷ gave (files_of s) ∷ gave (http_of s) ∷ []) old new)
+Asks s old new (Err fault.NoMemory) = (new ≡ old)
+    ⊎ (AreAskedFor (gave (disk_of s) ∷ []) old new ⊎ AreAskedFor (gave (disk_of s) ∷ gave (files_of s) ∷ gave (http_of s) ∷ []) old new)
+Asks s old new (Err fault.Read) = ⊥
+Asks s old new (Err fault.Config) = ⊥
+Asks s old new result = AreAskedFor (gave (disk_of s) ∷ gave (files_of s) ∷ gave (http_of s) ∷ []) old new
+
+-- the same by settings that were read
+abbrev pub AsksBy : {R : Type 0} → (left left_now : Option (List ℕ)) → (old new : Option (List Asked)) → Result R MountFault → Type 0
+AsksBy left left_now old new result = (settings : Settings) × ReadsSettings left left_now settings × Asks settings old new result
+
+-- WHAT THE MAKER WAS ASKED FOR: by the settings that were read, and nothing without any
+abbrev pub AsksAsRead : {R : Type 0} → (left left_now : Option (List ℕ)) → (old new : Option (List Asked)) → Result R MountFault → Type 0
+AsksAsRead left left_now old new (Err fault.Read) = new ≡ old
+AsksAsRead left left_now old new (Err fault.Config) = new ≡ old
+AsksAsRead left left_now old new (Err fault.NoMemory) = (new ≡ old) ⊎ AsksBy {R = Unit {0}} left left_now old new (Err fault.NoMemory)
+AsksAsRead left left_now old new result = AsksBy left left_now old new result

@@ -1,0 +1,84 @@
+//! What is told of a store that broke.
+ghost use Rattle.std.specs.Prelude.{◌≡◌, ◌++◌, IfOk, OnOk, Some};
+ghost use Rattle.node_mount.specs.Breaking.{broken_line as broken_line_of, call_words as words_of, file_path, reason as reason_of};
+ghost use Rattle.lf_disk.specs.declared.name.FileName.TheVariants as names;
+
+use crate::failing::{DiskCall, FailedCall};
+use crate::line::Line;
+use lf_base::{Name, NoMemory, hex16};
+use lf_disk::FileName;
+use std::alloc::Global;
+
+/// The line of a store that broke, by the call that failed, where it is known.
+pub fn broken_line(
+    alloc: Global,
+    database: &Name,
+    failed: Option<FailedCall>,
+) -> Result<Line, NoMemory>
+    ensures { IfOk result (λ line. line ≡ broken_line_of database.now failed) }
+{
+    match failed {
+        Some(failed) => failed_line(alloc, database, failed),
+        None => Line::of(alloc, b"store broken"),
+    }
+}
+
+fn failed_line(alloc: Global, database: &Name, failed: FailedCall) -> Result<Line, NoMemory>
+    ensures { IfOk result (λ line. line ≡ broken_line_of database.now (Some failed)) }
+{
+    let mut line = Line::of(alloc, b"store broken: cannot ")?;
+    line.put(call_words(failed.call))?;
+    line.put(b" dbs/")?;
+    line.put(database.bytes())?;
+    put_file(&mut line, failed.file)?;
+    line.put(reason(failed.full))?;
+    Ok(line)
+}
+
+/// What the system said.
+fn reason(full: bool) -> &'static [u8]
+    ensures { result.now ≡ reason_of full }
+{
+    if full { b": no space left" } else { b"" }
+}
+
+/// What a call is to do.
+fn call_words(call: DiskCall) -> &'static [u8]
+    ensures { result.now ≡ words_of call }
+{
+    match call {
+        DiskCall::Size => b"look at",
+        DiskCall::Read => b"read",
+        DiskCall::Write => b"write",
+        DiskCall::Cut => b"cut",
+        DiskCall::Sync => b"sync",
+        DiskCall::Rename => b"rename",
+        DiskCall::Remove => b"remove",
+        DiskCall::List => b"list",
+    }
+}
+
+/// Adds the path of a file below the data directory.
+fn put_file(line: &mut Line, file: Option<FileName>) -> Result<(), NoMemory>
+    ensures { OnOk result (line.new ≡ line.old ++ file_path file) }
+{
+    match file {
+        Some(FileName::Database) => line.put(b"/database"),
+        Some(FileName::Staged) => line.put(b"/staged"),
+        Some(FileName::Snapshot) => line.put(b"/snapshot.ltx"),
+        Some(FileName::Dropped) => line.put(b"/dropped"),
+        Some(FileName::Ltx { min, max }) => put_transactions(line, min, max),
+        None => Ok(()),
+    }
+}
+
+/// Adds the path of the file of these transactions.
+fn put_transactions(line: &mut Line, min: u64, max: u64) -> Result<(), NoMemory>
+    ensures { OnOk result (line.new ≡ line.old ++ file_path (Some (names.Ltx min max))) }
+{
+    line.put(b"/ltx/")?;
+    line.put(&hex16(min))?;
+    line.put(b"-")?;
+    line.put(&hex16(max))?;
+    line.put(b".ltx")
+}

@@ -1,0 +1,214 @@
+//! A node is watched: what it is is told, and what its jobs note; and where its store broke no more links come.
+ghost use Rattle.std.specs.Prelude.{◌≡◌, ◌++◌, IfOk};
+ghost use Rattle.node_mount.specs.RoleLines.{start_behind, start_front};
+ghost use Rattle.node_mount.specs.Places.{HasSeenNone};
+ghost use Rattle.node_mount.specs.Serving.{CountsStarts};
+
+use crate::ending::info_of;
+use crate::lease_rounds::nap;
+use crate::line::Line;
+use crate::means::Means;
+use crate::mount_fault::MountFault;
+use crate::notes::{MOST, NoteKind, Notes, Repeated};
+use crate::place::Place;
+use crate::role_told::RoleTold;
+use crate::sessions::LINKS;
+use crate::tell::{Lines, Tell};
+use crate::work::{Work, start_work};
+use lf_base::{Clock, Closing, Handles, NoMemory, Pause, Spawner};
+use node_core::{Answer, Ask, NodeInfo};
+use node_settings::Settings;
+use std::alloc::Global;
+use turn_desk::Machine;
+
+/// How many naps lie between two looks at the node.
+const NAPS: u64 = 4;
+
+/// What watches a node.
+#[derive(Drop)]
+pub struct Watching<E> {
+    pub lines: Lines<E>,
+    /// What stands in front of the role and behind it in the line of its start.
+    pub front: Line,
+    pub behind: Line,
+    /// What the jobs note.
+    pub notes: Notes,
+    /// Once it is closed no more links come.
+    pub ending: Closing,
+}
+
+/// What watches a node of these settings.
+pub fn watching_of<E: Drop>(
+    alloc: Global,
+    settings: &Settings,
+    lines: Lines<E>,
+    notes: Notes,
+    ending: Closing,
+) -> Result<Watching<E>, NoMemory>
+    ensures front { IfOk result (λ watching. watching.front ≡ start_front settings.now) }
+    ensures behind { IfOk result (λ watching. watching.behind ≡ start_behind settings.now) }
+{
+    let front = front_of(alloc, settings)?;
+    let behind = behind_of(alloc, settings)?;
+    Ok(Watching {
+        lines,
+        front,
+        behind,
+        notes,
+        ending,
+    })
+}
+
+/// What stands in front of the role: the version of the program, as the file VERSION says it, among it.
+fn front_of(alloc: Global, settings: &Settings) -> Result<Line, NoMemory>
+    ensures { IfOk result (λ line. line ≡ start_front settings.now) }
+{
+    let mut line = Line::of(alloc, b"start 0.1.0: database ")?;
+    line.put(settings.database.bytes())?;
+    line.put(b", ")?;
+    Ok(line)
+}
+
+/// What stands behind it.
+fn behind_of(alloc: Global, settings: &Settings) -> Result<Line, NoMemory>
+    ensures { IfOk result (λ line. line ≡ start_behind settings.now) }
+{
+    let mut line = Line::of(alloc, b", files on ")?;
+    line.put(settings.socket.bytes())?;
+    line.put(b", http on ")?;
+    line.put(settings.http.text().bytes())?;
+    Ok(line)
+}
+
+/// Starts the job that watches, at a seat of its own.
+pub fn start_watching<
+    R: Handles + Copy + Send + 'static,
+    K: Machine<Ask = Ask, Answer = Answer> + Send + Drop + 'static,
+    E: Tell + Send + Drop + 'static,
+    S: Spawner,
+    C: Clock + Copy + Send + 'static,
+    P: Pause + Copy + Send + 'static,
+>(
+    means: Means<R, C, P>,
+    place: &mut Place<K>,
+    watching: Watching<E>,
+    closing: &Closing,
+    spawner: &mut S,
+) -> Result<(), MountFault>
+    requires unused { HasSeenNone place.old.seat }
+    ensures unused { HasSeenNone place.new.seat }
+    ensures cause { CountsStarts (S.faults spawner.old) (S.faults spawner.new) result }
+{
+    let (Some(place), Ok(closing)) = (place.another(means.rt), closing.another()) else {
+        return Err(MountFault::NoMemory);
+    };
+    match start_work(means, place, Watcher { watching, closing }, spawner) {
+        Ok(()) => Ok(()),
+        Err(_) => Err(MountFault::NoThread),
+    }
+}
+
+/// The work of the job.
+#[derive(Drop)]
+struct Watcher<E> {
+    watching: Watching<E>,
+    closing: Closing,
+}
+
+impl<E: Tell + Drop> Work for Watcher<E> {
+    /// Looks at the node one time after another, until one of the words is closed, or its store broke: then it closes the
+    /// word by which no more links come.
+    fn go<
+        R: Handles + Copy,
+        K: Machine<Ask = Ask, Answer = Answer> + Drop,
+        C: Clock + Copy,
+        P: Pause + Copy,
+    >(self, means: Means<R, C, P>, place: Place<K>) {
+        let Watcher { watching, closing } = self;
+        let (mut means, mut place, mut watching) = (means, place, watching);
+        let mut told = RoleTold::new(Line::new(means.alloc));
+        let mut repeated = Repeated::new(means.alloc);
+        let mut looks = 0u64;
+        for _ in 0..LINKS {
+            if look(&mut means, &mut place, &mut watching, &mut told, looks == 0) {
+                watching.ending.close();
+            }
+            tell_notes(&mut means, &mut watching, &mut repeated);
+            if watching.ending.is_closed() || closing.is_closed() {
+                break;
+            }
+            looks = looks.saturating_add(1);
+            nap(&mut means.pause, NAPS, &closing);
+        }
+    }
+}
+
+/// Looks at the node, and tells its start, or a change of its role. Answers whether its store broke.
+fn look<R: Handles + Copy, K: Machine<Ask = Ask, Answer = Answer>, E: Tell, C: Clock, P: Pause>(
+    means: &mut Means<R, C, P>,
+    place: &mut Place<K>,
+    watching: &mut Watching<E>,
+    told: &mut RoleTold,
+    first: bool,
+) -> bool {
+    let Some(info) = info_of(means, place) else {
+        return false;
+    };
+    if let Ok(Some(line)) = told.next(means.alloc, &info) {
+        let line = if first {
+            start_line(means.alloc, watching, &line)
+        } else {
+            Ok(line)
+        };
+        watching.lines.say(&means.rt, line);
+    }
+    info.broken
+}
+
+/// Tells what the jobs noted.
+fn tell_notes<R: Handles, E: Tell, C: Clock, P>(
+    means: &mut Means<R, C, P>,
+    watching: &mut Watching<E>,
+    repeated: &mut Repeated,
+) {
+    for _ in 0..MOST {
+        let Some(note) = watching.notes.take(&means.rt) else {
+            break;
+        };
+        let now = means.clock.now_ms();
+        say_some(
+            &means.rt,
+            &mut watching.lines,
+            repeated.next(means.alloc, note, now),
+        );
+    }
+    for kind in [NoteKind::Ends, NoteKind::Begins] {
+        let now = means.clock.now_ms();
+        say_some(
+            &means.rt,
+            &mut watching.lines,
+            repeated.due(means.alloc, kind, now),
+        );
+    }
+}
+
+fn say_some<R: Handles, E: Tell>(
+    rt: &R,
+    lines: &mut Lines<E>,
+    line: Result<Option<Line>, NoMemory>,
+) {
+    if let Ok(Some(line)) = line {
+        lines.say(rt, Ok(line));
+    }
+}
+
+/// The line of a start, in which this one of a role stands.
+fn start_line<E>(alloc: Global, watching: &Watching<E>, role: &Line) -> Result<Line, NoMemory>
+    ensures { IfOk result (λ line. line ≡ watching.now.front ++ role.now ++ watching.now.behind) }
+{
+    let mut line = Line::new(alloc);
+    line.put_line(&watching.front)?;
+    line.put_line(role)?;
+    line.put_line(&watching.behind)?;
+    Ok(line)
+}

@@ -1,0 +1,361 @@
+-- A configuration's settings are there where all of its rules are kept, and only there.
+use Rattle.std.proofs.Common.{◌≡◌, ◌≢◌, ℕ, ◌^◌, ◌-◌, ◌∷◌, ◌++◌, [], ◌⊎◌, inl, inr, List, Option, Some, None, IsSome, IsSomeAnd, MatchOption, sym, ap, ◌∙◌, subst, refl, codes, true, false}
+use Rattle.toml.specs.Data.{Data, string, Members, get_member}
+use Rattle.node_settings.specs.declared.settings.Settings.{Settings}
+use Rattle.node_settings.specs.declared.settings.ServiceSettings.{ServiceSettings}
+use Rattle.node_settings.specs.declared.settings.LeaseSettings.{LeaseSettings}
+use Rattle.node_settings.specs.declared.settings.LeaseType.{LeaseType}
+use Rattle.node_settings.specs.declared.settings.LeaseType.TheVariants as lease
+use Rattle.node_settings.specs.declared.rule.Rule.{Rule}
+use Rattle.node_settings.specs.declared.rule.Rule.TheVariants as rule
+use Rattle.node_settings.specs.Configuration.{IsFuse, IsHttp, IsData, IsLease, IsRoot, IsStaticRoot, lease_keys}
+use Rattle.node_settings.specs.Service.{IsServiceLease, IsServiceRoot}
+use Rattle.node_settings.specs.Rules.{AllKept, Keeps, Says, members_or_none, node_rules, service_rules, static_rules}
+use Rattle.node_settings.specs.Values.{HasOnly, HasService, section, IsText, IsNameText, IsAddressText, IsUrlText, IsSomeOf, IsFlag, IsOff, IsSwitch, IsNumber, IsLeaseType}
+
+-- ---- one key
+
+-- the rule of a key: where it is, its value says something
+abbrev Allows : {A : Type 0} → (Data → A → Type 0) → Option Data → Type 0
+Allows IsOf o = MatchOption o (Unit {0}) (λ d. Says IsOf d)
+
+held_or : {A : Type 0} (IsOf : Data → A → Type 0) (default : A) (o : Option Data) → Allows IsOf o → (a : A) × MatchOption o (a ≡ default) (λ d. IsOf d a)
+held_or IsOf default None h = (default, refl)
+held_or IsOf default (Some d) h = h
+
+allowed_or : {A : Type 0} (IsOf : Data → A → Type 0) (default : A) (o : Option Data) (a : A) → MatchOption o (a ≡ default) (λ d. IsOf d a) → Allows IsOf o
+allowed_or IsOf default None a h = tt
+allowed_or IsOf default (Some d) a h = (a, h)
+
+held : {A : Type 0} (IsOf : Data → A → Type 0) (o : Option Data) → IsSome o → Allows IsOf o → (a : A) × IsSomeAnd o (λ d. IsOf d a)
+held IsOf None is h = absurd (cc)
+held IsOf (Some d) is h = h
+
+there : {A : Type 0} (IsOf : Data → A → Type 0) (o : Option Data) (a : A) → IsSomeAnd o (λ d. IsOf d a) → IsSome o × Allows IsOf o
+there IsOf None a h = absurd h
+there IsOf (Some d) a h = (refl, (a, h))
+
+-- the same of a value that may be missing
+held_some : {A : Type 0} (IsOf : Data → A → Type 0) (o : Option Data) → Allows IsOf o → (a : Option A) × MatchOption o (a ≡ None) (λ d. IsSomeOf IsOf d a)
+held_some IsOf None h = (None, refl)
+held_some IsOf (Some d) h = (Some h.0, h.1)
+
+allowed_some : {A : Type 0} (IsOf : Data → A → Type 0) (o : Option Data) (a : Option A) → MatchOption o (a ≡ None) (λ d. IsSomeOf IsOf d a) → Allows IsOf o
+allowed_some IsOf None a h = tt
+allowed_some IsOf (Some d) None h = absurd h
+allowed_some IsOf (Some d) (Some a) h = (a, h)
+
+-- ---- one table
+
+in_table : (o : Option Members) (P : Members → Type 0) → IsSome o → P (members_or_none o) → IsSomeAnd o P
+in_table None P is h = absurd (cc)
+in_table (Some t) P is h = h
+
+of_table : (o : Option Members) (P : Members → Type 0) → IsSomeAnd o P → IsSome o × P (members_or_none o)
+of_table None P h = absurd h
+of_table (Some t) P h = (refl, h)
+
+-- ---- the lease's type and its service
+
+abbrev IsService : Option Data → Type 0
+IsService o = o ≡ Some (string (codes "service"))
+
+has_service : (o u : Option Data) (t : LeaseType) (url : Option (List ℕ)) → MatchOption o (t ≡ lease.Static) (λ d. IsLeaseType d t)
+    → MatchOption u (url ≡ None) (λ d. IsSomeOf IsUrlText d url) → (IsService o → IsSome u) → HasService t url
+has_service o u lease.Static url is at asks = tt
+has_service None u lease.Service url is at asks = absurd (cc)
+has_service (Some d) None lease.Service url is at asks = absurd (cc (asks (ap Some is)))
+has_service (Some d) (Some e) lease.Service None is at asks = absurd at
+has_service (Some d) (Some e) lease.Service (Some a) is at asks = refl
+
+asks_service : (o u : Option Data) (t : LeaseType) (url : Option (List ℕ)) → MatchOption o (t ≡ lease.Static) (λ d. IsLeaseType d t)
+    → MatchOption u (url ≡ None) (λ d. IsSomeOf IsUrlText d url) → HasService t url → IsService o → IsSome u
+asks_service None u t url is at has service = absurd (cc)
+asks_service (Some d) u lease.Static url is at has service = absurd (cc)
+asks_service (Some d) None lease.Service None is at has service = absurd (cc)
+asks_service (Some d) None lease.Service (Some a) is at has service = absurd (cc)
+asks_service (Some d) (Some e) lease.Service url is at has service = refl
+
+is_static : (o : Option Data) (t : LeaseType) → MatchOption o (t ≡ lease.Static) (λ d. IsLeaseType d t) → (IsService o → ⊥) → t ≡ lease.Static
+is_static o lease.Static is not = refl
+is_static None lease.Service is not = is
+is_static (Some d) lease.Service is not = absurd (not (ap Some is))
+
+asks_static : (o : Option Data) (t : LeaseType) → MatchOption o (t ≡ lease.Static) (λ d. IsLeaseType d t) → t ≡ lease.Static → IsService o → ⊥
+asks_static None t is static service = absurd (cc)
+asks_static (Some d) lease.Static is static service = absurd (cc)
+asks_static (Some d) lease.Service is static service = absurd (cc)
+
+-- ---- all rules
+
+-- the members of the table of this name
+abbrev Inside : List ℕ → Members → Members
+Inside name root = members_or_none (section name root)
+
+kept_lease : (t : Members) → HasOnly lease_keys t → Allows IsLeaseType (get_member (codes "type") t) → Allows IsFlag (get_member (codes "candidate") t)
+    → IsSome (get_member (codes "advertise-url") t) → Allows IsUrlText (get_member (codes "advertise-url") t)
+    → IsSome (get_member (codes "hostname") t) → Allows IsText (get_member (codes "hostname") t)
+    → Allows IsUrlText (get_member (codes "service-url") t) → (IsService (get_member (codes "type") t) → IsSome (get_member (codes "service-url") t))
+    → Allows (IsNumber 1 86400000) (get_member (codes "ttl") t) → (lease : LeaseSettings) × IsLease t lease
+kept_lease t keys kind candidate has_url url has_hostname hostname service_url service ttl =
+    let k = held_or IsLeaseType lease.Static _ kind in
+    let c = held_or IsFlag false _ candidate in
+    let u = held IsUrlText _ has_url url in
+    let n = held IsText _ has_hostname hostname in
+    let s = held_some IsUrlText _ service_url in
+    let l = held_or (IsNumber 1 86400000) 10000 _ ttl in (
+      record { lease_type = k.0; candidate = c.0; advertise_url = u.0; hostname = n.0; service_url = s.0; ttl = l.0 },
+      record {
+        keys = keys;
+        lease_type = k.1;
+        candidate = c.1;
+        advertise_url = u.1;
+        hostname = n.1;
+        service_url = s.1;
+        has_service = has_service _ _ k.0 s.0 k.1 s.1 service;
+        ttl = l.1;
+      },
+    )
+
+pub kept : (root : Members) → AllKept node_rules root → (s : Settings) × IsRoot root s
+kept root h =
+    let database = held IsNameText _ (h.1.0) (h.1.1.0) in
+    let log = held_or IsSwitch true _ (h.1.1.1.0) in
+    let socket = held_or IsText (codes "litefs.sock") _ (h.1.1.1.1.1.1.0) in
+    let http = held_or IsAddressText (codes ":20202") _ (h.1.1.1.1.1.1.1.1.1.0) in
+    let compress = held_or IsOff false _ (h.1.1.1.1.1.1.1.1.1.1.1.1.0) in
+    let files = held_or (IsNumber 1 (2 ^ 63 - 1)) 1000 _ (h.1.1.1.1.1.1.1.1.1.1.1.1.1.0) in
+    let leased = kept_lease (Inside (codes "lease") root) (h.1.1.1.1.1.1.1.1.1.1.1.1.1.1.1.0) (h.1.1.1.1.1.1.1.1.1.1.1.1.1.1.1.1.0) (h.1.1.1.1.1.1.1.1.1.1.1.1.1.1.1.1.1.0) (h.1.1.1.1.1.1.1.1.1.1.1.1.1.1.1.1.1.1.0) (h.1.1.1.1.1.1.1.1.1.1.1.1.1.1.1.1.1.1.1.0) (h.1.1.1.1.1.1.1.1.1.1.1.1.1.1.1.1.1.1.1.1.0) (h.1.1.1.1.1.1.1.1.1.1.1.1.1.1.1.1.1.1.1.1.1.0)
+    (h.1.1.1.1.1.1.1.1.1.1.1.1.1.1.1.1.1.1.1.1.1.1.0) (h.1.1.1.1.1.1.1.1.1.1.1.1.1.1.1.1.1.1.1.1.1.1.1.0) (h.1.1.1.1.1.1.1.1.1.1.1.1.1.1.1.1.1.1.1.1.1.1.1.1.0) in (
+      record { database = database.0; log = log.0; socket = socket.0; http = http.0; compress = compress.0; retention_files = files.0; lease = leased.0 },
+      record {
+        keys = h.0;
+        database = database.1;
+        log = log.1;
+        fuse = in_table (section (codes "fuse") root) (λ t. IsFuse t socket.0) (h.1.1.1.1.0) (record { keys = h.1.1.1.1.1.0; listen = socket.1 });
+        http = in_table (section (codes "http") root) (λ t. IsHttp t http.0) (h.1.1.1.1.1.1.1.0) (record { keys = h.1.1.1.1.1.1.1.1.0; addr = http.1 });
+        data_kept = in_table (section (codes "data") root) (λ t. IsData t compress.0 files.0) (h.1.1.1.1.1.1.1.1.1.1.0) (record { keys = h.1.1.1.1.1.1.1.1.1.1.1.0; compress = compress.1; retention_files = files.1 });
+        lease = in_table (section (codes "lease") root) (λ t. IsLease t leased.0) (h.1.1.1.1.1.1.1.1.1.1.1.1.1.1.0) leased.1;
+      },
+    )
+
+pub keeps : (root : Members) (s : Settings) → IsRoot root s → AllKept node_rules root
+keeps root s is =
+    let database = there IsNameText _ s.database is.database in
+    let fuse = of_table (section (codes "fuse") root) (λ t. IsFuse t s.socket) is.fuse in
+    let http = of_table (section (codes "http") root) (λ t. IsHttp t s.http) is.http in
+    let stored = of_table (section (codes "data") root) (λ t. IsData t s.compress s.retention_files) is.data_kept in
+    let leased = of_table (section (codes "lease") root) (λ t. IsLease t s.lease) is.lease in
+    let url = there IsUrlText _ s.lease.advertise_url leased.1.advertise_url in
+    let hostname = there IsText _ s.lease.hostname leased.1.hostname in (
+      is.keys,
+      (
+        database.0,
+        (
+          database.1,
+          (
+            allowed_or IsSwitch true _ s.log is.log,
+            (
+              fuse.0,
+              (
+                fuse.1.keys,
+                (
+                  allowed_or IsText (codes "litefs.sock") _ s.socket fuse.1.listen,
+                  (
+                    http.0,
+                    (
+                      http.1.keys,
+                      (
+                        allowed_or IsAddressText (codes ":20202") _ s.http http.1.addr,
+                        (
+                          stored.0,
+                          (
+                            stored.1.keys,
+                            (
+                              allowed_or IsOff false _ s.compress stored.1.compress,
+                              (
+                                allowed_or (IsNumber 1 (2 ^ 63 - 1)) 1000 _ s.retention_files stored.1.retention_files,
+                                (
+                                  leased.0,
+                                  (
+                                    leased.1.keys,
+                                    (
+                                      allowed_or IsLeaseType lease.Static _ s.lease.lease_type leased.1.lease_type,
+                                      (
+                                        allowed_or IsFlag false _ s.lease.candidate leased.1.candidate,
+                                        (
+                                          url.0,
+                                          (
+                                            url.1,
+                                            (
+                                              hostname.0,
+                                              (
+                                                hostname.1,
+                                                (
+                                                  allowed_some IsUrlText _ s.lease.service_url leased.1.service_url,
+                                                  (
+                                                    asks_service _ _ s.lease.lease_type s.lease.service_url leased.1.lease_type leased.1.service_url leased.1.has_service,
+                                                    (allowed_or (IsNumber 1 86400000) 10000 _ s.lease.ttl leased.1.ttl, tt),
+                                                  ),
+                                                ),
+                                              ),
+                                            ),
+                                          ),
+                                        ),
+                                      ),
+                                    ),
+                                  ),
+                                ),
+                              ),
+                            ),
+                          ),
+                        ),
+                      ),
+                    ),
+                  ),
+                ),
+              ),
+            ),
+          ),
+        ),
+      ),
+    )
+
+-- ---- of a node that needs no lease service
+
+-- the rules without the last one
+without_last : (rules : List Rule) (r : Rule) (root : Members) → AllKept (rules ++ r ∷ []) root → AllKept rules root × Keeps r root
+without_last [] r root h = (tt, h.0)
+without_last (q ∷ rules) r root h = let more = without_last rules r root h.1 in ((h.0, more.0), more.1)
+
+with_last : (rules : List Rule) (r : Rule) (root : Members) → AllKept rules root → Keeps r root → AllKept (rules ++ r ∷ []) root
+with_last [] r root h last = (last, tt)
+with_last (q ∷ rules) r root h last = (h.0, with_last rules r root h.1 last)
+
+-- its type as the table says it
+typed : (o : Option Members) (s : LeaseSettings) → IsSomeAnd o (λ t. IsLease t s) → MatchOption (get_member (codes "type") (members_or_none o)) (s.lease_type ≡ lease.Static) (λ d. IsLeaseType d s.lease_type)
+typed None s h = absurd h
+typed (Some t) s h = h.lease_type
+
+pub kept_static : (root : Members) → AllKept static_rules root → (s : Settings) × IsStaticRoot root s
+kept_static root h =
+    let both = without_last node_rules rule.Static root h in
+    let said = kept root both.0 in
+    (said.0, (said.1, is_static _ said.0.lease.lease_type (typed (section (codes "lease") root) said.0.lease said.1.lease) both.1))
+
+pub keeps_static : (root : Members) (s : Settings) → IsStaticRoot root s → AllKept static_rules root
+keeps_static root s is =
+    with_last node_rules rule.Static root (keeps root s is.0) (asks_static _ s.lease.lease_type (typed (section (codes "lease") root) s.lease is.0.lease) is.1)
+
+-- ---- of a lease service
+
+pub kept_service : (root : Members) → AllKept service_rules root → (s : ServiceSettings) × IsServiceRoot root s
+kept_service root h =
+    let database = held_some IsNameText _ (h.1.0) in
+    let log = held_or IsSwitch true _ (h.1.1.0) in
+    let socket = held_or IsText (codes "litefs.sock") _ (h.1.1.1.1.1.0) in
+    let http = held_or IsAddressText (codes ":20202") _ (h.1.1.1.1.1.1.1.1.0) in
+    let compress = held_or IsOff false _ (h.1.1.1.1.1.1.1.1.1.1.1.0) in
+    let files = held_or (IsNumber 1 (2 ^ 63 - 1)) 1000 _ (h.1.1.1.1.1.1.1.1.1.1.1.1.0) in
+    let kind = held_or IsLeaseType lease.Static _ (h.1.1.1.1.1.1.1.1.1.1.1.1.1.1.1.0) in
+    let candidate = held_or IsFlag false _ (h.1.1.1.1.1.1.1.1.1.1.1.1.1.1.1.1.0) in
+    let url = held_some IsUrlText _ (h.1.1.1.1.1.1.1.1.1.1.1.1.1.1.1.1.1.0) in
+    let hostname = held_some IsText _ (h.1.1.1.1.1.1.1.1.1.1.1.1.1.1.1.1.1.1.0) in
+    let service_url = held_some IsUrlText _ (h.1.1.1.1.1.1.1.1.1.1.1.1.1.1.1.1.1.1.1.0) in
+    let ttl = held_or (IsNumber 1 86400000) 10000 _ (h.1.1.1.1.1.1.1.1.1.1.1.1.1.1.1.1.1.1.1.1.0) in (
+      record { log = log.0; http = http.0; ttl = ttl.0 },
+      record {
+        database = database.0;
+        socket = socket.0;
+        packed = compress.0;
+        files = files.0;
+        keys = h.0;
+        named = database.1;
+        log = log.1;
+        fuse = in_table (section (codes "fuse") root) (λ t. IsFuse t socket.0) (h.1.1.1.0) (record { keys = h.1.1.1.1.0; listen = socket.1 });
+        http = in_table (section (codes "http") root) (λ t. IsHttp t http.0) (h.1.1.1.1.1.1.0) (record { keys = h.1.1.1.1.1.1.1.0; addr = http.1 });
+        data_kept = in_table (section (codes "data") root) (λ t. IsData t compress.0 files.0) (h.1.1.1.1.1.1.1.1.1.0) (record { keys = h.1.1.1.1.1.1.1.1.1.1.0; compress = compress.1; retention_files = files.1 });
+        lease = in_table (section (codes "lease") root) (λ t. IsServiceLease t ttl.0) (h.1.1.1.1.1.1.1.1.1.1.1.1.1.0)
+            (record {
+              kind = kind.0;
+              candidate = candidate.0;
+              advertise_url = url.0;
+              hostname = hostname.0;
+              service_url = service_url.0;
+              keys = h.1.1.1.1.1.1.1.1.1.1.1.1.1.1.0;
+              a_type = kind.1;
+              a_flag = candidate.1;
+              advertised = url.1;
+              named = hostname.1;
+              served = service_url.1;
+              lasts = ttl.1;
+            });
+      },
+    )
+
+pub keeps_service : (root : Members) (s : ServiceSettings) → IsServiceRoot root s → AllKept service_rules root
+keeps_service root s is =
+    let fuse = of_table (section (codes "fuse") root) (λ t. IsFuse t is.socket) is.fuse in
+    let http = of_table (section (codes "http") root) (λ t. IsHttp t s.http) is.http in
+    let stored = of_table (section (codes "data") root) (λ t. IsData t is.packed is.files) is.data_kept in
+    let leased = of_table (section (codes "lease") root) (λ t. IsServiceLease t s.ttl) is.lease in (
+      is.keys,
+      (
+        allowed_some IsNameText _ is.database is.named,
+        (
+          allowed_or IsSwitch true _ s.log is.log,
+          (
+            fuse.0,
+            (
+              fuse.1.keys,
+              (
+                allowed_or IsText (codes "litefs.sock") _ is.socket fuse.1.listen,
+                (
+                  http.0,
+                  (
+                    http.1.keys,
+                    (
+                      allowed_or IsAddressText (codes ":20202") _ s.http http.1.addr,
+                      (
+                        stored.0,
+                        (
+                          stored.1.keys,
+                          (
+                            allowed_or IsOff false _ is.packed stored.1.compress,
+                            (
+                              allowed_or (IsNumber 1 (2 ^ 63 - 1)) 1000 _ is.files stored.1.retention_files,
+                              (
+                                leased.0,
+                                (
+                                  leased.1.keys,
+                                  (
+                                    allowed_or IsLeaseType lease.Static _ leased.1.kind leased.1.a_type,
+                                    (
+                                      allowed_or IsFlag false _ leased.1.candidate leased.1.a_flag,
+                                      (
+                                        allowed_some IsUrlText _ leased.1.advertise_url leased.1.advertised,
+                                        (
+                                          allowed_some IsText _ leased.1.hostname leased.1.named,
+                                          (
+                                            allowed_some IsUrlText _ leased.1.service_url leased.1.served,
+                                            (allowed_or (IsNumber 1 86400000) 10000 _ s.ttl leased.1.lasts, tt),
+                                          ),
+                                        ),
+                                      ),
+                                    ),
+                                  ),
+                                ),
+                              ),
+                            ),
+                          ),
+                        ),
+                      ),
+                    ),
+                  ),
+                ),
+              ),
+            ),
+          ),
+        ),
+      ),
+    )

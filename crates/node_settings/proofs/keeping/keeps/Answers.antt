@@ -1,0 +1,4 @@
+use Rattle.node_settings.proofs.keeping.keeps.Goals as goal
+
+pub returns-in-Value : goal.returns-in-Value
+returns-in-Value c = rw c.in-Value.is c.value_fits.ensures

@@ -1,0 +1,44 @@
+-- What each rule wants, in words.
+use Rattle.std.specs.Prelude.{ℕ, List, codes}
+use Rattle.node_settings.specs.declared.key.Key.{Key}
+use Rattle.node_settings.specs.declared.key.Key.TheVariants as key
+use Rattle.node_settings.specs.declared.rule.Rule.{Rule}
+use Rattle.node_settings.specs.declared.rule.Rule.TheVariants as rule
+
+-- of the key's value
+abbrev pub words_of_key : Key → List ℕ
+words_of_key key.Database = codes "the name of a database"
+words_of_key key.Log = codes "on or off, as a text"
+words_of_key key.Listen = codes "a text"
+words_of_key key.Addr = codes "an address, host:port"
+words_of_key key.Compress = codes "false"
+words_of_key key.RetentionFiles = codes "a number from 1 to 9223372036854775807"
+words_of_key key.Type = codes "static or service, as a text"
+words_of_key key.Candidate = codes "true or false"
+words_of_key key.AdvertiseUrl = codes "a URL, http://host:port"
+words_of_key key.Hostname = codes "a text"
+words_of_key key.ServiceUrl = codes "a URL, http://host:port"
+words_of_key key.Ttl = codes "a number of milliseconds from 1 to 86400000"
+
+-- of a key that is missing
+abbrev pub words_of_missing : Key → List ℕ
+words_of_missing key.Database = codes "the name of a database; the key is missing"
+words_of_missing key.AdvertiseUrl = codes "a URL, http://host:port; the key is missing"
+words_of_missing key.Log = codes "a text; the key is missing"
+words_of_missing key.Listen = codes "a text; the key is missing"
+words_of_missing key.Addr = codes "a text; the key is missing"
+words_of_missing key.Compress = codes "a text; the key is missing"
+words_of_missing key.RetentionFiles = codes "a text; the key is missing"
+words_of_missing key.Type = codes "a text; the key is missing"
+words_of_missing key.Candidate = codes "a text; the key is missing"
+words_of_missing key.Hostname = codes "a text; the key is missing"
+words_of_missing key.ServiceUrl = codes "a text; the key is missing"
+words_of_missing key.Ttl = codes "a text; the key is missing"
+
+abbrev pub words_of : Rule → List ℕ
+words_of (rule.Table p) = codes "a table"
+words_of (rule.Keys p) = codes "no key of this name"
+words_of (rule.There k) = words_of_missing k
+words_of (rule.Value k) = words_of_key k
+words_of rule.Service = codes "a URL, http://host:port, since lease.type is service; the key is missing"
+words_of rule.Static = codes "static"

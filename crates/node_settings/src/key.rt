@@ -1,0 +1,59 @@
+ghost use Rattle.std.specs.Prelude.{◌≡◌};
+ghost use Rattle.node_settings.specs.Rules.{name_of, place_of};
+
+use crate::Place;
+
+/// A key of a configuration.
+#[derive(Clone, Copy, Debug, PartialEq, Eq)]
+pub enum Key {
+    Database,
+    Log,
+    Listen,
+    Addr,
+    Compress,
+    RetentionFiles,
+    Type,
+    Candidate,
+    AdvertiseUrl,
+    Hostname,
+    ServiceUrl,
+    Ttl,
+}
+
+/// The table that it stands in.
+pub(crate) fn place_of(key: Key) -> Place
+    ensures { result ≡ place_of key }
+{
+    match key {
+        Key::Database | Key::Log => Place::Root,
+        Key::Listen => Place::Fuse,
+        Key::Addr => Place::Http,
+        Key::Compress | Key::RetentionFiles => Place::Data,
+        Key::Type
+        | Key::Candidate
+        | Key::AdvertiseUrl
+        | Key::Hostname
+        | Key::ServiceUrl
+        | Key::Ttl => Place::Lease,
+    }
+}
+
+/// Its name there.
+pub(crate) fn name_of(key: Key) -> &'static str
+    ensures { result.now ≡ name_of key }
+{
+    match key {
+        Key::Database => "database",
+        Key::Log => "log",
+        Key::Listen => "listen",
+        Key::Addr => "addr",
+        Key::Compress => "compress",
+        Key::RetentionFiles => "retention-files",
+        Key::Type => "type",
+        Key::Candidate => "candidate",
+        Key::AdvertiseUrl => "advertise-url",
+        Key::Hostname => "hostname",
+        Key::ServiceUrl => "service-url",
+        Key::Ttl => "ttl",
+    }
+}

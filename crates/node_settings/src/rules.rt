@@ -1,0 +1,78 @@
+//! The rules of a configuration, in their order.
+ghost use Rattle.std.specs.Prelude.{◌≡◌};
+ghost use Rattle.node_settings.specs.Rules.{node_rules, service_rules, static_rules};
+
+use crate::{Key, Place, Rule};
+
+/// Those of a node that needs no lease service. All but the last are those of a node.
+const RULES: [Rule; 26] = [
+    Rule::Keys(Place::Root),
+    Rule::There(Key::Database),
+    Rule::Value(Key::Database),
+    Rule::Value(Key::Log),
+    Rule::Table(Place::Fuse),
+    Rule::Keys(Place::Fuse),
+    Rule::Value(Key::Listen),
+    Rule::Table(Place::Http),
+    Rule::Keys(Place::Http),
+    Rule::Value(Key::Addr),
+    Rule::Table(Place::Data),
+    Rule::Keys(Place::Data),
+    Rule::Value(Key::Compress),
+    Rule::Value(Key::RetentionFiles),
+    Rule::Table(Place::Lease),
+    Rule::Keys(Place::Lease),
+    Rule::Value(Key::Type),
+    Rule::Value(Key::Candidate),
+    Rule::There(Key::AdvertiseUrl),
+    Rule::Value(Key::AdvertiseUrl),
+    Rule::There(Key::Hostname),
+    Rule::Value(Key::Hostname),
+    Rule::Value(Key::ServiceUrl),
+    Rule::Service,
+    Rule::Value(Key::Ttl),
+    Rule::Static,
+];
+
+/// Those of a lease service.
+const SERVICE_RULES: [Rule; 21] = [
+    Rule::Keys(Place::Root),
+    Rule::Value(Key::Database),
+    Rule::Value(Key::Log),
+    Rule::Table(Place::Fuse),
+    Rule::Keys(Place::Fuse),
+    Rule::Value(Key::Listen),
+    Rule::Table(Place::Http),
+    Rule::Keys(Place::Http),
+    Rule::Value(Key::Addr),
+    Rule::Table(Place::Data),
+    Rule::Keys(Place::Data),
+    Rule::Value(Key::Compress),
+    Rule::Value(Key::RetentionFiles),
+    Rule::Table(Place::Lease),
+    Rule::Keys(Place::Lease),
+    Rule::Value(Key::Type),
+    Rule::Value(Key::Candidate),
+    Rule::Value(Key::AdvertiseUrl),
+    Rule::Value(Key::Hostname),
+    Rule::Value(Key::ServiceUrl),
+    Rule::Value(Key::Ttl),
+];
+
+pub(crate) fn node_rules() -> &'static [Rule]
+    ensures { result.now ≡ node_rules }
+{
+    &RULES[..25]
+}
+
+pub(crate) fn static_rules() -> &'static [Rule]
+    ensures { result.now ≡ static_rules }
+{
+    &RULES
+}
+
+pub(crate) fn service_rules() -> &'static [Rule]
+    ensures { result.now ≡ service_rules }
+{
+    &SERVICE_RULES
+}

@@ -1,0 +1,202 @@
+#!/usr/bin/python3
+"""What a node tells on standard error: whole lines that begin with `litefs: `, of its start, of each change of its role, and of a store
+that broke, in front of the line of its status. A standard error that is closed stops nothing.
+
+At most: 300 seconds.
+Seen to fail: a node whose standard error goes nowhere: all but closed_errors; a stand-in that ends where it can't write a line:
+closed_errors."""
+import contextlib
+import json
+import os
+import socketserver
+import sqlite3
+import subprocess
+import threading
+import time
+from re import escape, fullmatch
+
+from support import (ROOT, Cluster, Node, Wrong, configuration, connect, fill, holds, in_mode, insert, read, run, same, small_disk,
+                     until)
+from support.cluster import standing_still
+
+NOWHERE = '0000000000000000/0000000000000000'
+
+
+def start():
+    """The version, the database, the role, the position, the addresses."""
+    version = read(f'{ROOT}/VERSION').decode().strip()
+    with Node() as primary, Node(following=primary) as replica:
+        fill(in_mode(primary.socket, 'wal'), range(3))
+        primary.level(replica)
+        at = position(primary)
+        primary.restart()
+        replica.restart()
+        for node, role in (primary, 'primary'), (replica, 'replica of db1'):
+            until(lambda: len(starts(node)) == 2, 'a line of each start')
+            behind = f'files on app.sock, http on 127.0.0.1:{node.port}'
+            same(starts(node), [f'start {version}: database app, role {role} at {it}, {behind}' for it in (NOWHERE, at)], 'its lines')
+
+
+def starts(node):
+    return [it for it in node.lines() if it.startswith('start ')]
+
+
+def position(node):
+    """As lines have it."""
+    at = node.position()
+    return f'{at.txid:016x}/{at.sum}'
+
+
+def one_line():
+    """A name with a newline in it doesn't make two lines."""
+    with Node() as primary, Node(following=primary, starts=False) as node:
+        node.configure(configuration(node.port, primary.port).replace('"db1"', '"db\\n1\\u001b["'))
+        node.start()
+        until(node.lines, 'a line')
+        holds(', role replica of db 1 [ at ' in node.lines()[0], f'the name in one line: {node.lines()}')
+
+
+def roles():
+    """Each change of role, with its position, at each of three nodes."""
+    with Cluster('wal') as cluster:
+        first, second, third = cluster.nodes
+        cluster.level(first)
+        until(lambda: told_last(first, 'primary'), 'the first is primary')
+        for it in second, third:
+            until(lambda: told_last(it, f'replica of db{first.port}'), 'the others name it')
+        first.kill()
+        cluster.follows(first)
+        until(lambda: told_last(second, 'primary', position(second)), 'the second is primary')
+        until(lambda: told_last(third, f'replica of db{second.port}'), 'the third names it')
+        first.start()
+        until(lambda: told_last(first, f'replica of db{second.port}'), 'the old one names it')
+        with cluster.cut_off(second), standing_still(second):
+            cluster.follows(second)
+        until(lambda: 'role replica' in told(second)[-1], 'the one that stood still is none any longer')
+        cluster.ends(set())
+
+
+def told(node):
+    """Each role that it told, with the position."""
+    return [it for it in node.lines() if 'role ' in it]
+
+
+def told_last(node, role, at=None):
+    """Whether this is the role that it told last."""
+    lines = told(node)
+    where = escape(at) if at else '[0-9a-f]{16}/[0-9a-f]{16}'
+    return lines and fullmatch(rf'(start .*, )?role {escape(role)} at {where}(, files .*)?', lines[-1])
+
+
+def streams():
+    """How a replica's stream begins and ends, and why there is none; the same once a minute at most."""
+    with Node() as primary, Node(following=primary) as replica:
+        at = f'127.0.0.1:{primary.port}'
+        until(lambda: f'stream from {at} begins' in replica.news(), 'it begins')
+        primary.kill()
+        until(lambda: replica.news()[-1] == f'primary not reached at {at}', 'the primary is gone')
+        holds(replica.news()[-2].startswith('stream ends: '), f'its end: {replica.news()}')
+        before = replica.news()
+        time.sleep(2)
+        same(replica.news(), before, 'lines while it is gone')
+        primary.start()
+        fill(in_mode(primary.socket, 'wal'), range(3))
+        primary.level(replica)
+
+
+def no_stream():
+    """Another database, a replica, itself, and what is no node."""
+    with Node(database='other') as other, Node(following=other) as replica, Silly() as silly:
+        for it, why in ((other, 'status 404, another database, or no node'), (replica, 'status 503, not the primary'),
+                        (silly, 'no stream of this database'), (None, 'status 503, not the primary')):
+            with Node(following=it or other, starts=False) as node:
+                if it is None:
+                    node.configure(configuration(node.port, node.port).replace('candidate = true', 'candidate = false'))
+                node.start()
+                until(lambda: f'stream ends: {why}' in node.news(), f'it says why: {why}')
+                same(node.news().count(f'stream ends: {why}'), 1, f'how often it says {why}')
+
+
+class Silly(socketserver.ThreadingTCPServer):
+    """Answers each link with something that is no reply."""
+    allow_reuse_address = daemon_threads = True
+
+    def __init__(self):
+        super().__init__(('127.0.0.1', 0), Hello)
+        self.port = self.server_address[1]
+        threading.Thread(target=self.serve_forever, daemon=True).start()
+
+    def __exit__(self, *_):
+        self.shutdown()
+        super().__exit__()
+
+
+class Hello(socketserver.StreamRequestHandler):
+    def handle(self):
+        self.rfile.readline()
+        self.wfile.write(b'SSH-2.0-OpenSSH_9.6\r\n' * 100)
+
+
+def gives_lease_back():
+    """A primary whose store broke gives its lease back before it ends."""
+    with small_disk('size=1m') as disk, Granting() as service, Node(folder=disk.folder, service=service) as node:
+        until(lambda: told_last(node, 'primary'), 'it is primary')
+        made = until(lambda: taking(node), 'it takes writes')
+        with contextlib.suppress(sqlite3.Error):
+            for key in range(5000):
+                made.execute(*insert(key, 5000))
+        same(node.ended(), 5, 'its status')
+        same(service.asked[-1], 'release', 'what the service was asked last')
+        same([it.split(':')[0] for it in node.lines()[-2:]], ['store broken', 'disk failed'], 'the last lines')
+
+
+def taking(node):
+    try:
+        return in_mode(node.socket, 'wal')
+    except (sqlite3.Error, Wrong):
+        return None
+
+
+class Granting(socketserver.ThreadingTCPServer):
+    """A lease service that grants what it is asked for, for ten minutes. `asked`: what it was asked for."""
+    allow_reuse_address = daemon_threads = True
+    ttl = 600000
+
+    def __init__(self):
+        self.asked = []
+        super().__init__(('127.0.0.1', 0), Grants)
+        self.port = self.server_address[1]
+        threading.Thread(target=self.serve_forever, daemon=True).start()
+
+    def __exit__(self, *_):
+        self.shutdown()
+        super().__exit__()
+
+
+class Grants(socketserver.StreamRequestHandler):
+    def handle(self):
+        head = list(iter(lambda: self.rfile.readline().strip().lower(), b''))
+        length = next((int(it.split(b':')[1]) for it in head if it.startswith(b'content-length:')), 0)
+        asked = json.loads(self.rfile.read(length))
+        self.server.asked.append(asked['op'])
+        granted = {'host': 'db1', 'term': 1, 'ttl': self.server.ttl, 'url': asked.get('url', '')}
+        text = json.dumps({'acquire': granted, 'renew': {'ttl': self.server.ttl}}.get(asked['op'], {}), separators=(',', ':')).encode()
+        self.wfile.write(b'HTTP/1.1 200 OK\r\nContent-Length: %d\r\nConnection: close\r\n\r\n%s' % (len(text), text))
+
+
+def closed_errors():
+    """Standard error closed, and a pipe that nobody reads any more."""
+    for options in '2>&-', '2> >(exec true)':
+        with Node(starts=False) as node:
+            node.process = subprocess.Popen(['bash', '-c', f'exec "$0" mount {options}', node.program], cwd=node.folder,
+                                            stdin=subprocess.DEVNULL, stdout=subprocess.DEVNULL)
+            open(os.path.join(node.folder, 'errors'), 'w').close()
+            until(node.answers, 'the node answers')
+            fill(in_mode(node.socket, 'delete'), range(10))
+            time.sleep(1)
+            fill(connect(node.socket), range(10, 20))
+            same(node.process.poll(), None, 'it goes on')
+
+
+CASES = (start, one_line, roles, streams, no_stream, gives_lease_back, closed_errors)
+run({call.__name__: call for call in CASES}, at_once=4)
