@@ -51,7 +51,7 @@ def broke(node):
     """The node ends by itself, and its last two lines say why."""
     same(node.ended(), 5, 'its status')
     *_, why, last = node.lines()
-    holds(fullmatch(r'store broken: cannot (write|cut|sync|rename) dbs/app/\S+: no space left', why), f'which call failed: {why}')
+    holds(fullmatch(r'store broken: cannot (write|cut|sync|rename) dbs/app/\S+: no space left, errno 028', why), f'which call failed: {why}')
     same(last, 'disk failed', 'the last line')
 
 

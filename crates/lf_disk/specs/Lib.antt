@@ -12,4 +12,5 @@ pub mod Publish
 pub mod Replay
 pub mod Slots
 pub mod Stretch
+pub mod SystemError
 pub mod Tears

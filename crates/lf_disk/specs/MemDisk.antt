@@ -8,6 +8,7 @@ use Rattle.lf_disk.specs.Slots.{folder_of, IsOrderly}
 use Rattle.lf_disk.specs.Plan.{Plan, fails_next}
 use Rattle.lf_disk.specs.Replay.{State, at_rest, replay}
 use Rattle.lf_disk.specs.History.{History}
+use Rattle.lf_disk.specs.SystemError.{said}
 
 -- the files at first, the changing calls since, the oldest first, and which calls fail
 pub record Recording : Type 0 where
@@ -25,13 +26,13 @@ history_of r = record { moment = length r.calls; seen = λ t. (state_at r t).see
 
 -- a disk with these files, on which nothing is pending and no call is to fail
 abbrev pub fresh : List Slot → Recording
-fresh first = record { first = first; calls = []; plan = record { failing = []; stop_after = None; calls = 0; faults = 0; short = 0; roomless = false; full = false } }
+fresh first = record { first = first; calls = []; plan = record { failing = []; stop_after = None; calls = 0; faults = 0; short = 0; roomless = false; error = None } }
 
 -- a changing call failed: that was planned, no moment was left for it, or there was no memory, which is counted. It counts one fault, and says
 -- that there is no room where it is to
 pub record FailsFor (old new : Recording) : Type 0 where
   pub cause : IsTrue (fails_next old.plan) ⊎ (2 ^ 62 ≤ length old.calls) ⊎ (new.plan.short ≡ one_more old.plan.short)
-  pub full : new.plan.full ≡ old.plan.roomless
+  pub error : new.plan.error ≡ said old.plan.roomless
   pub one : new.plan.faults ≡ one_more old.plan.faults
 
 -- the files in memory are those that the record gives, and no name stands twice

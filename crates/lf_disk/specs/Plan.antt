@@ -1,10 +1,11 @@
 -- Which calls of a disk in memory fail.
 use Rattle.std.specs.Prelude.{◌≡◌, ℕ, ◌+◌, min, Bool, false, ◌||◌, ◌==◌, nat_le, List, Option, None, Some, IsTrue, Result, IsErr, OnOk}
 use Rattle.std.specs.List.{list_any}
+use Rattle.lf_base.specs.declared.errno.Errno.{Errno}
 use Rattle.lf_base.specs.Faults.{one_more}
 
 -- the numbers of the calls that fail, and the number from which on all do; the calls and the faults so far, and how many
--- of the changing calls found no memory; whether calls that fail say that there is no room, and whether the last one said so
+-- of the changing calls found no memory; whether calls that fail say that there is no room, and what the last one said
 pub record Plan : Type 0 where
   pub failing : List ℕ
   pub stop_after : Option ℕ
@@ -12,7 +13,7 @@ pub record Plan : Type 0 where
   pub faults : ℕ
   pub short : ℕ
   pub roomless : Bool
-  pub full : Bool
+  pub error : Option Errno
 
 -- whether the call of this number comes at the stop or after it
 abbrev pub is_after : Option ℕ → ℕ → Bool
@@ -40,4 +41,4 @@ pub record Follows {T E : Type 0} (result : Result T E) (old new : Plan) : Type 
   pub stop_after : new.stop_after ≡ old.stop_after
   pub short : OnOk result (new.short ≡ old.short)
   pub roomless : new.roomless ≡ old.roomless
-  pub full : OnOk result (new.full ≡ old.full)
+  pub error : OnOk result (new.error ≡ old.error)

@@ -14,7 +14,7 @@ use crate::disk::Disk;
 use crate::list_fault::ListFault;
 use crate::name::FileName;
 use folder::Folder;
-use lf_base::Failed;
+use lf_base::{Errno, Failed};
 use std::fs::File;
 use std::io::{self, ErrorKind};
 use std::rt::Files;
@@ -31,7 +31,7 @@ pub struct DirDisk<R: Files<File = File> + AllocGlobal + Copy> {
     folder: Folder<R>,
     moment: u64,
     faults: u64,
-    full: bool,
+    error: Option<Errno>,
 }
 
 impl<R: Files<File = File> + AllocGlobal + Copy> DirDisk<R> {
@@ -45,7 +45,7 @@ impl<R: Files<File = File> + AllocGlobal + Copy> DirDisk<R> {
                 folder,
                 moment: 0,
                 faults: 0,
-                full: false,
+                error: None,
             }),
             Err(_) => Err(Failed),
         }
@@ -58,13 +58,13 @@ impl<R: Files<File = File> + AllocGlobal + Copy> DirDisk<R> {
         self.faults != 0
     }
 
-    /// Counts a fault, and notes whether it is want of room.
-    fn fail(&mut self, full: bool) -> Failed
+    /// Counts a fault, and notes the system's error.
+    fn fail(&mut self, error: Option<Errno>) -> Failed
         ensures rose { Rose self.old.faults self.new.faults }
         ensures moment { self.new.moment ≡ self.old.moment }
     {
         self.faults = self.faults.saturating_add(1);
-        self.full = full;
+        self.error = error;
         Failed
     }
 
@@ -73,11 +73,11 @@ impl<R: Files<File = File> + AllocGlobal + Copy> DirDisk<R> {
         ensures value { IfOk result (λ answer. outcome ≡ Ok answer) }
         ensures moment { self.new.moment ≡ self.old.moment }
         ensures cause { CountsFaults self.old.faults self.new.faults result }
-        ensures full { OnOk result (self.new.full ≡ self.old.full) }
+        ensures error { OnOk result (self.new.error ≡ self.old.error) }
     {
         match outcome {
             Ok(answer) => Ok(answer),
-            Err(error) => Err(self.fail(is_want_of_room(&error))),
+            Err(error) => Err(self.fail(number_of(&error))),
         }
     }
 
@@ -86,7 +86,7 @@ impl<R: Files<File = File> + AllocGlobal + Copy> DirDisk<R> {
         requires { self.old.moment < 2 ^ 62 }
         ensures moment { self.new.moment ≡ self.old.moment + 1 }
         ensures cause { CountsFaults self.old.faults self.new.faults result }
-        ensures full { OnOk result (self.new.full ≡ self.old.full) }
+        ensures error { OnOk result (self.new.error ≡ self.old.error) }
     {
         self.moment += 1;
         self.answer(outcome)
@@ -100,7 +100,7 @@ impl<R: Files<File = File> + AllocGlobal + Copy> Disk for DirDisk<R> {
 
     ghost faults = { λ d. d.faults };
 
-    ghost full = { λ d. d.full };
+    ghost error = { λ d. d.error };
 
     ghost as_it_read = { λ _ _ honest _. absurd (false≢true honest) };
 
@@ -116,7 +116,7 @@ impl<R: Files<File = File> + AllocGlobal + Copy> Disk for DirDisk<R> {
 
     fn write(&mut self, name: FileName, at: u64, bytes: &[u8]) -> Result<(), Failed> {
         if self.moment >= LAST_MOMENT {
-            return Err(self.fail(false));
+            return Err(self.fail(None));
         }
         let outcome = self.folder.write(name, at, bytes);
         self.settle(outcome)
@@ -124,7 +124,7 @@ impl<R: Files<File = File> + AllocGlobal + Copy> Disk for DirDisk<R> {
 
     fn cut(&mut self, name: FileName, len: u64) -> Result<(), Failed> {
         if self.moment >= LAST_MOMENT {
-            return Err(self.fail(false));
+            return Err(self.fail(None));
         }
         let outcome = self.folder.cut(name, len);
         self.settle(outcome)
@@ -132,7 +132,7 @@ impl<R: Files<File = File> + AllocGlobal + Copy> Disk for DirDisk<R> {
 
     fn sync(&mut self, name: FileName) -> Result<(), Failed> {
         if self.moment >= LAST_MOMENT {
-            return Err(self.fail(false));
+            return Err(self.fail(None));
         }
         let outcome = self.folder.sync(name);
         self.settle(outcome)
@@ -140,7 +140,7 @@ impl<R: Files<File = File> + AllocGlobal + Copy> Disk for DirDisk<R> {
 
     fn rename(&mut self, from: FileName, to: FileName) -> Result<(), Failed> {
         if self.moment >= LAST_MOMENT {
-            return Err(self.fail(false));
+            return Err(self.fail(None));
         }
         let outcome = self.folder.rename(from, to);
         self.settle(outcome)
@@ -148,7 +148,7 @@ impl<R: Files<File = File> + AllocGlobal + Copy> Disk for DirDisk<R> {
 
     fn remove(&mut self, name: FileName) -> Result<(), Failed> {
         if self.moment >= LAST_MOMENT {
-            return Err(self.fail(false));
+            return Err(self.fail(None));
         }
         let outcome = self.folder.remove(name);
         self.settle(outcome)
@@ -159,14 +159,14 @@ impl<R: Files<File = File> + AllocGlobal + Copy> Disk for DirDisk<R> {
             Ok(names) => Ok(names),
             Err(error) if error.kind() == ErrorKind::OutOfMemory => Err(ListFault::NoMemory),
             Err(error) => {
-                let _ = self.fail(is_want_of_room(&error));
+                let _ = self.fail(number_of(&error));
                 Err(ListFault::Failed)
             }
         }
     }
 
-    fn is_full(&self) -> bool {
-        self.full
+    fn last_error(&self) -> Option<Errno> {
+        self.error
     }
 
     fn moment(&self) -> u64 {
@@ -174,10 +174,10 @@ impl<R: Files<File = File> + AllocGlobal + Copy> Disk for DirDisk<R> {
     }
 }
 
-/// Whether the system says that the device or the user's share of it has no room.
-fn is_want_of_room(error: &io::Error) -> bool {
-    matches!(
-        error.kind(),
-        ErrorKind::StorageFull | ErrorKind::QuotaExceeded
-    )
+/// The number of an error of the system.
+fn number_of(error: &io::Error) -> Option<Errno> {
+    match u32::try_from(error.raw_os_error()?) {
+        Ok(number) => Some(Errno(number)),
+        Err(_) => None,
+    }
 }

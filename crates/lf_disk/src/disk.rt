@@ -1,16 +1,19 @@
 //! A disk as a node sees it. The history is told in full where the disk is honest; of a disk that
 //! isn't, the moment alone.
-ghost use Rattle.std.specs.Prelude.{◌≡◌, ◌≤◌, ◌↔◌, ℕ, Bool, length, IsTrue, IsSome, IfOk, OnOk, OnErr, Contains, option_map};
+ghost use Rattle.std.specs.Prelude.{◌≡◌, ◌≤◌, ◌↔◌, ℕ, Bool, Option, length, IsTrue, IsSome, IfOk, OnOk, OnErr, Contains, option_map};
 ghost use Rattle.std.specs.List.{IsDistinct};
 ghost use Rattle.lf_base.specs.Faults.{CountsFaults};
+ghost use Rattle.lf_base.specs.declared.errno.Errno.{Errno};
 ghost use Rattle.lf_base.specs.FileBytes.{Reads};
 ghost use Rattle.lf_disk.specs.Folder.{same_name, Same, bytes_of};
 ghost use Rattle.lf_disk.specs.Change.{Both, OnFile, Perhaps, Writes, Cuts, Renames, TearsFile, CropsFile, SetsFile};
+ghost use Rattle.lf_disk.specs.SystemError.{is_want_of_room};
 ghost use Rattle.lf_disk.specs.History.{History, now, Rests, Ticks, Moves, EachMoment, Keeps, MayLeave, Passes};
 
 use crate::list_fault::ListFault;
 use crate::name::FileName;
-use lf_base::Failed;
+use crate::system_error::is_want_of_room;
+use lf_base::{Errno, Failed};
 
 /// The files of a node. Over an honest disk each call does what its clauses say of the history.
 /// A call that changes something may fail with all of its effect, none of it or a part.
@@ -27,8 +30,8 @@ pub trait Disk {
     /// How many of its calls have failed; it stays at the last number of a u64.
     ghost faults: { Self → ℕ };
 
-    /// Whether the system said of the call that failed last that there is no room.
-    ghost full: { Self → Bool };
+    /// The number of the system's error at the call that failed last, where it gave one (errno(3)).
+    ghost error: { Self → Option Errno };
 
     /// The length of a file in bytes, None where it is absent.
     fn size(&mut self, name: FileName) -> Result<Option<u64>, Failed>
@@ -37,7 +40,7 @@ pub trait Disk {
         ensures rests { Rests (history self.old) (history self.new) }
         ensures honest { honest self.new ≡ honest self.old }
         ensures cause { CountsFaults (faults self.old) (faults self.new) result }
-        ensures full { OnOk result (full self.new ≡ full self.old) };
+        ensures error { OnOk result (error self.new ≡ error self.old) };
 
     /// Puts the bytes from an offset on in front of `out`, as many as there are, and answers how
     /// many. An absent file has none.
@@ -48,7 +51,7 @@ pub trait Disk {
         ensures rests { Rests (history self.old) (history self.new) }
         ensures honest { honest self.new ≡ honest self.old }
         ensures cause { CountsFaults (faults self.old) (faults self.new) result }
-        ensures full { OnOk result (full self.new ≡ full self.old) };
+        ensures error { OnOk result (error self.new ≡ error self.old) };
 
     /// Writes bytes at an offset. It makes a file that is absent, and fills a gap with zeros.
     fn write(&mut self, name: FileName, at: u64, bytes: &[u8]) -> Result<(), Failed>
@@ -61,7 +64,7 @@ pub trait Disk {
         ensures ticks { Ticks result (history self.old) (history self.new) }
         ensures honest { honest self.new ≡ honest self.old }
         ensures cause { CountsFaults (faults self.old) (faults self.new) result }
-        ensures full { OnOk result (full self.new ≡ full self.old) };
+        ensures error { OnOk result (error self.new ≡ error self.old) };
 
     /// Gives a file this length. It makes one that is absent, and what is new is zeros.
     fn cut(&mut self, name: FileName, len: u64) -> Result<(), Failed>
@@ -74,7 +77,7 @@ pub trait Disk {
         ensures ticks { Ticks result (history self.old) (history self.new) }
         ensures honest { honest self.new ≡ honest self.old }
         ensures cause { CountsFaults (faults self.old) (faults self.new) result }
-        ensures full { OnOk result (full self.new ≡ full self.old) };
+        ensures error { OnOk result (error self.new ≡ error self.old) };
 
     /// After Ok a crash leaves of this file what a read gives.
     fn sync(&mut self, name: FileName) -> Result<(), Failed>
@@ -87,7 +90,7 @@ pub trait Disk {
         ensures ticks { Ticks result (history self.old) (history self.new) }
         ensures honest { honest self.new ≡ honest self.old }
         ensures cause { CountsFaults (faults self.old) (faults self.new) result }
-        ensures full { OnOk result (full self.new ≡ full self.old) };
+        ensures error { OnOk result (error self.new ≡ error self.old) };
 
     /// Syncs two files. After Ok a crash leaves of both what a read gives; on the way and after a failure
     /// of none, of one, or of both.
@@ -104,7 +107,7 @@ pub trait Disk {
         ensures passes { Passes (history self.old) (history self.new) }
         ensures honest { honest self.new ≡ honest self.old }
         ensures cause { CountsFaults (faults self.old) (faults self.new) result }
-        ensures full { OnOk result (full self.new ≡ full self.old) }
+        ensures error { OnOk result (error self.new ≡ error self.old) }
     {
         self.sync(one)?;
         self.sync(other)
@@ -123,7 +126,7 @@ pub trait Disk {
         ensures ticks { Ticks result (history self.old) (history self.new) }
         ensures honest { honest self.new ≡ honest self.old }
         ensures cause { CountsFaults (faults self.old) (faults self.new) result }
-        ensures full { OnOk result (full self.new ≡ full self.old) };
+        ensures error { OnOk result (error self.new ≡ error self.old) };
 
     /// Removes a file, which may be absent. It is done at once and stays after Ok.
     fn remove(&mut self, name: FileName) -> Result<(), Failed>
@@ -136,7 +139,7 @@ pub trait Disk {
         ensures ticks { Ticks result (history self.old) (history self.new) }
         ensures honest { honest self.new ≡ honest self.old }
         ensures cause { CountsFaults (faults self.old) (faults self.new) result }
-        ensures full { OnOk result (full self.new ≡ full self.old) };
+        ensures error { OnOk result (error self.new ≡ error self.old) };
 
     /// The name of every file, in any order.
     fn list(&mut self) -> Result<Vec<FileName>, ListFault>
@@ -147,11 +150,19 @@ pub trait Disk {
         ensures rests { Rests (history self.old) (history self.new) }
         ensures honest { honest self.new ≡ honest self.old }
         ensures cause { CountsListFaults (faults self.old) (faults self.new) result }
-        ensures full { KeepsUnlessFailed (full self.old) (full self.new) result };
+        ensures error { KeepsUnlessFailed (error self.old) (error self.new) result };
 
-    /// Whether the call that failed last did so for want of room. Only a call that fails changes it.
+    /// The number of the system's error at the call that failed last, where it gave one (errno(3)).
+    /// Only a call that fails changes it.
+    fn last_error(&self) -> Option<Errno>
+        ensures { result ≡ error self.now };
+
+    /// Whether it did so for want of room.
     fn is_full(&self) -> bool
-        ensures { result ≡ full self.now };
+        ensures { result ≡ is_want_of_room (error self.now) }
+    {
+        is_want_of_room(self.last_error())
+    }
 
     /// The number of changing calls so far.
     fn moment(&self) -> u64

@@ -17,6 +17,7 @@ mod plan;
 mod publication;
 mod record;
 mod slots;
+mod system_error;
 
 pub use dir_disk::DirDisk;
 pub use dir_disk::whole::{read_from, write_to};
@@ -25,3 +26,4 @@ pub use list_fault::ListFault;
 pub use mem_disk::MemDisk;
 pub use name::FileName;
 pub use publication::{publish, publish_two, put_in_place, stage};
+pub use system_error::is_want_of_room;

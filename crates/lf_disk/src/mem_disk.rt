@@ -46,7 +46,7 @@ impl MemDisk {
         stop_after: Option<u64>,
     ) -> Result<MemDisk, NoMemory>
         ensures empty { IfOk result (λ disk. disk ≡ record (fresh []) {
-          plan = record { failing = failing.items; stop_after = stop_after; calls = 0; faults = 0; short = 0; roomless = false; full = false };
+          plan = record { failing = failing.items; stop_after = stop_after; calls = 0; faults = 0; short = 0; roomless = false; error = None };
         }) }
         ensures made { IsOk result }
     {

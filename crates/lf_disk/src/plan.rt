@@ -1,9 +1,11 @@
 //! Which calls of a disk in memory fail.
-ghost use Rattle.std.specs.Prelude.{◌≡◌, ◌==◌, not, true, false};
+ghost use Rattle.std.specs.Prelude.{◌≡◌, ◌==◌, not, true, false, None};
 ghost use Rattle.lf_base.specs.Faults.{one_more, Rose};
 ghost use Rattle.lf_disk.specs.Plan.{fails_next, stopped_in};
+ghost use Rattle.lf_disk.specs.SystemError.{said};
 
-use lf_base::Failed;
+use crate::system_error::ENOSPC;
+use lf_base::{Errno, Failed};
 use std::marker::Model;
 
 /// The numbers of the calls that fail, and the calls and faults so far.
@@ -15,7 +17,7 @@ pub struct Schedule {
     faults: u64,
     short: u64,
     roomless: bool,
-    full: bool,
+    error: Option<Errno>,
 }
 
 impl Model for Schedule {
@@ -23,12 +25,12 @@ impl Model for Schedule {
 
     ghost Value = { Plan };
 
-    ghost view = { λ s. record { failing = s.failing.items; stop_after = s.stop_after; calls = s.calls; faults = s.faults; short = s.short; roomless = s.roomless; full = s.full } };
+    ghost view = { λ s. record { failing = s.failing.items; stop_after = s.stop_after; calls = s.calls; faults = s.faults; short = s.short; roomless = s.roomless; error = s.error } };
 }
 
 impl Schedule {
     pub fn new(failing: Vec<u64>, stop_after: Option<u64>) -> Schedule
-        ensures { result ≡ record { failing = failing.items; stop_after = stop_after; calls = 0; faults = 0; short = 0; roomless = false; full = false } }
+        ensures { result ≡ record { failing = failing.items; stop_after = stop_after; calls = 0; faults = 0; short = 0; roomless = false; error = None } }
     {
         Schedule {
             failing,
@@ -37,7 +39,7 @@ impl Schedule {
             faults: 0,
             short: 0,
             roomless: false,
-            full: false,
+            error: None,
         }
     }
 
@@ -64,21 +66,21 @@ impl Schedule {
 
     /// Counts a fault.
     pub fn fail(&mut self) -> Failed
-        ensures counted { self.new ≡ record self.old { faults = one_more self.old.faults; full = self.old.roomless } }
+        ensures counted { self.new ≡ record self.old { faults = one_more self.old.faults; error = said self.old.roomless } }
         ensures rose { Rose self.old.faults self.new.faults }
     {
         self.faults = self.faults.saturating_add(1);
-        self.full = self.roomless;
+        self.error = said(self.roomless);
         Failed
     }
 
     /// Counts a fault of a call that found no memory.
     pub fn lack(&mut self) -> Failed
-        ensures counted { self.new ≡ record self.old { faults = one_more self.old.faults; short = one_more self.old.short; full = self.old.roomless } }
+        ensures counted { self.new ≡ record self.old { faults = one_more self.old.faults; short = one_more self.old.short; error = said self.old.roomless } }
         ensures rose { Rose self.old.faults self.new.faults }
     {
         self.faults = self.faults.saturating_add(1);
-        self.full = self.roomless;
+        self.error = said(self.roomless);
         self.short = self.short.saturating_add(1);
         Failed
     }
@@ -97,11 +99,11 @@ impl Schedule {
         self.roomless = true;
     }
 
-    /// Whether the call that failed last said that there is no room.
-    pub fn is_full(&self) -> bool
-        ensures { result ≡ self.now.full }
+    /// What the call that failed last said.
+    pub fn last_error(&self) -> Option<Errno>
+        ensures { result ≡ self.now.error }
     {
-        self.full
+        self.error
     }
 
     /// How many calls found no memory.
@@ -121,4 +123,11 @@ impl Schedule {
             None => Some(stop),
         };
     }
+}
+
+/// What a call that fails says.
+fn said(roomless: bool) -> Option<Errno>
+    ensures { result ≡ said roomless }
+{
+    if roomless { Some(ENOSPC) } else { None }
 }

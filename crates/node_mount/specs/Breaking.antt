@@ -1,5 +1,6 @@
 -- The line of a store that broke.
-use Rattle.std.specs.Prelude.{ℕ, Bool, true, false, List, [], ◌++◌, codes, Option, Some, None, if◌then◌else◌}
+use Rattle.std.specs.Prelude.{ℕ, ◌+◌, ◌/◌, ◌%◌, ◌==◌, List, [], ◌∷◌, ◌++◌, codes, Option, Some, None, if◌then◌else◌}
+use Rattle.lf_base.specs.declared.errno.Errno.{Errno}
 use Rattle.lf_base.specs.Hex.{hex_digits}
 use Rattle.lf_disk.specs.declared.name.FileName.{FileName}
 use Rattle.lf_disk.specs.declared.name.FileName.TheVariants as name
@@ -28,12 +29,30 @@ file_path (Some name.Snapshot) = codes "/snapshot.ltx"
 file_path (Some name.Dropped) = codes "/dropped"
 file_path (Some (name.Ltx min max)) = codes "/ltx/" ++ shown (hex_digits 16 min) ++ codes "-" ++ shown (hex_digits 16 max) ++ codes ".ltx"
 
+-- an error of the system in words (errno(3)): those that a disk gives where it has no room, fails or takes no writes
+abbrev pub error_words : Errno → List ℕ
+error_words number =
+    if number.0 == 5 then codes "input/output error, "
+    else if number.0 == 24 then codes "too many open files, "
+    else if number.0 == 28 then codes "no space left, "
+    else if number.0 == 30 then codes "read-only file system, "
+    else if number.0 == 122 then codes "quota exceeded, "
+    else []
+
+-- the last digit of a number, in decimal, and its last three
+abbrev pub digit_of : ℕ → ℕ
+digit_of number = 48 + number % 10
+
+abbrev pub digits_of : Errno → List ℕ
+digits_of number = digit_of (number.0 / 100) ∷ digit_of (number.0 / 10) ∷ digit_of number.0 ∷ []
+
 -- what the system said
-abbrev pub reason : (full : Bool) → List ℕ
-reason full = if full then codes ": no space left" else []
+abbrev pub reason : Option Errno → List ℕ
+reason None = []
+reason (Some number) = codes ": " ++ error_words number ++ codes "errno " ++ digits_of number
 
 -- WHAT IS TOLD OF A STORE OF THIS DATABASE THAT BROKE: the call that failed, where it is known
 abbrev pub broken_line : (database : List ℕ) → Option FailedCall → List ℕ
 broken_line database None = codes "store broken"
 broken_line database (Some failed) =
-    codes "store broken: cannot " ++ shown (call_words failed.call) ++ codes " dbs/" ++ shown database ++ file_path failed.file ++ shown (reason failed.full)
+    codes "store broken: cannot " ++ shown (call_words failed.call) ++ codes " dbs/" ++ shown database ++ file_path failed.file ++ shown (reason failed.error)

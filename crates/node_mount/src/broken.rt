@@ -1,11 +1,12 @@
 //! What is told of a store that broke.
 ghost use Rattle.std.specs.Prelude.{◌≡◌, ◌++◌, IfOk, OnOk, Some};
-ghost use Rattle.node_mount.specs.Breaking.{broken_line as broken_line_of, call_words as words_of, file_path, reason as reason_of};
+ghost use Rattle.node_mount.specs.Breaking.{broken_line as broken_line_of, call_words as words_of, digit_of, digits_of, error_words as words_of_error, file_path, reason as reason_of};
+ghost use Rattle.node_mount.specs.Lines.{shown};
 ghost use Rattle.lf_disk.specs.declared.name.FileName.TheVariants as names;
 
 use crate::failing::{DiskCall, FailedCall};
 use crate::line::Line;
-use lf_base::{Name, NoMemory, hex16};
+use lf_base::{Errno, Name, NoMemory, hex16};
 use lf_disk::FileName;
 use std::alloc::Global;
 
@@ -31,15 +32,51 @@ fn failed_line(alloc: Global, database: &Name, failed: FailedCall) -> Result<Lin
     line.put(b" dbs/")?;
     line.put(database.bytes())?;
     put_file(&mut line, failed.file)?;
-    line.put(reason(failed.full))?;
+    put_reason(&mut line, failed.error)?;
     Ok(line)
 }
 
-/// What the system said.
-fn reason(full: bool) -> &'static [u8]
-    ensures { result.now ≡ reason_of full }
+/// Adds what the system said.
+fn put_reason(line: &mut Line, error: Option<Errno>) -> Result<(), NoMemory>
+    ensures { OnOk result (line.new ≡ line.old ++ shown (reason_of error)) }
 {
-    if full { b": no space left" } else { b"" }
+    match error {
+        Some(number) => {
+            line.put(b": ")?;
+            line.put(error_words(number))?;
+            line.put(b"errno ")?;
+            line.put(&three_digits(number))
+        }
+        None => Ok(()),
+    }
+}
+
+/// The words of the errors that a full or failing disk gives.
+fn error_words(number: Errno) -> &'static [u8]
+    ensures { result.now ≡ words_of_error number }
+{
+    match number.0 {
+        5 => b"input/output error, ",
+        24 => b"too many open files, ",
+        28 => b"no space left, ",
+        30 => b"read-only file system, ",
+        122 => b"quota exceeded, ",
+        _ => b"",
+    }
+}
+
+/// The last three digits of a number.
+fn three_digits(number: Errno) -> [u8; 3]
+    ensures { result ≡ digits_of number }
+{
+    [digit(number.0 / 100), digit(number.0 / 10), digit(number.0)]
+}
+
+/// The last digit of a number.
+fn digit(number: u32) -> u8
+    ensures { result ≡ digit_of number }
+{
+    b'0' + (number % 10) as u8
 }
 
 /// What a call is to do.

@@ -1,5 +1,5 @@
 //! The call of a disk that failed last.
-use lf_base::NoMemory;
+use lf_base::{Errno, NoMemory};
 use lf_disk::FileName;
 use std::alloc::Global;
 use std::sync::{Arc, Mutex, Wait};
@@ -23,8 +23,8 @@ pub struct FailedCall {
     pub call: DiskCall,
     /// The file; none where the call is of the whole folder.
     pub file: Option<FileName>,
-    /// Whether the system said that there is no room.
-    pub full: bool,
+    /// The number of the system's error, where it gave one.
+    pub error: Option<Errno>,
 }
 
 /// The call that failed last, if one did. Its copies share it.

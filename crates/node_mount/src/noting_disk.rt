@@ -2,7 +2,7 @@
 ghost use Rattle.std.specs.Prelude.{◌≡◌, ◌==◌, not};
 
 use crate::failing::{DiskCall, FailedCall, Failing};
-use lf_base::{Failed, Handles};
+use lf_base::{Errno, Failed, Handles};
 use lf_disk::{DirDisk, Disk, FileName, ListFault};
 use std::fs::File;
 use std::rt::Files;
@@ -36,9 +36,9 @@ impl<R: Files<File = File> + AllocGlobal + Copy> NotingDisk<R, DirDisk<R>> {
 impl<R: Wait, D: Disk> NotingDisk<R, D> {
     /// Notes that this call failed, where it did.
     fn note(&self, failed: bool, call: DiskCall, file: Option<FileName>) {
-        let full = self.disk.is_full();
+        let error = self.disk.last_error();
         self.failing
-            .note(&self.rt, failed, FailedCall { call, file, full });
+            .note(&self.rt, failed, FailedCall { call, file, error });
     }
 }
 
@@ -49,7 +49,7 @@ impl<R: Wait, D: Disk> Disk for NotingDisk<R, D> {
 
     ghost faults = { λ d. D.faults d.disk };
 
-    ghost full = { λ d. D.full d.disk };
+    ghost error = { λ d. D.error d.disk };
 
     ghost as_it_read = { λ d t honest at. D.as_it_read d.disk t honest at };
 
@@ -105,8 +105,8 @@ impl<R: Wait, D: Disk> Disk for NotingDisk<R, D> {
         outcome
     }
 
-    fn is_full(&self) -> bool {
-        self.disk.is_full()
+    fn last_error(&self) -> Option<Errno> {
+        self.disk.last_error()
     }
 
     fn moment(&self) -> u64 {

@@ -10,6 +10,7 @@ ghost use Rattle.lf_disk.specs.Change.{OnFile, Perhaps, Writes, Cuts, Renames, T
 ghost use Rattle.lf_disk.specs.History.{now, Rests, Ticks, Moves};
 ghost use Rattle.lf_disk.specs.MemDisk.{history_of, FailsFor};
 ghost use Rattle.lf_disk.specs.Plan.{fails_next, Follows};
+ghost use Rattle.lf_disk.specs.SystemError.{said};
 ghost use Rattle.lf_disk.specs.Laws.{as_it_read};
 
 use crate::disk::Disk;
@@ -18,7 +19,7 @@ use crate::mem_disk::MemDisk;
 use crate::name::FileName;
 use crate::record::Change;
 use crate::slots;
-use lf_base::{Bytes, Failed};
+use lf_base::{Bytes, Errno, Failed};
 
 impl Disk for MemDisk {
     ghost honest = { λ _. true };
@@ -27,7 +28,7 @@ impl Disk for MemDisk {
 
     ghost faults = { λ d. d.plan.faults };
 
-    ghost full = { λ d. d.plan.full };
+    ghost error = { λ d. d.plan.error };
 
     ghost as_it_read = { λ d t _ _. as_it_read d t };
 
@@ -38,7 +39,7 @@ impl Disk for MemDisk {
         ensures plan { Follows result self.old.plan self.new.plan }
         ensures only { IsErr result → IsTrue (fails_next self.old.plan) }
         ensures one { IsErr result → self.new.plan.faults ≡ one_more self.old.plan.faults }
-        ensures kind { IsErr result → self.new.plan.full ≡ self.old.plan.roomless }
+        ensures kind { IsErr result → self.new.plan.error ≡ said self.old.plan.roomless }
     {
         if self.schedule.begin() {
             return Err(self.schedule.fail());
@@ -54,7 +55,7 @@ impl Disk for MemDisk {
         ensures plan { Follows result self.old.plan self.new.plan }
         ensures only { IsErr result → IsTrue (fails_next self.old.plan) }
         ensures one { IsErr result → self.new.plan.faults ≡ one_more self.old.plan.faults }
-        ensures kind { IsErr result → self.new.plan.full ≡ self.old.plan.roomless }
+        ensures kind { IsErr result → self.new.plan.error ≡ said self.old.plan.roomless }
     {
         if self.schedule.begin() {
             return Err(self.schedule.fail());
@@ -146,8 +147,8 @@ impl Disk for MemDisk {
         ensures rests { Rests (history_of self.old) (history_of self.new) }
         ensures cause { CountsListFaults self.old.plan.faults self.new.plan.faults result }
         ensures only { IsErrOf result ListFault.Failed → IsTrue (fails_next self.old.plan) }
-        ensures full { KeepsUnlessFailed self.old.plan.full self.new.plan.full result }
-        ensures kind { IsErrOf result ListFault.Failed → self.new.plan.full ≡ self.old.plan.roomless }
+        ensures error { KeepsUnlessFailed self.old.plan.error self.new.plan.error result }
+        ensures kind { IsErrOf result ListFault.Failed → self.new.plan.error ≡ said self.old.plan.roomless }
         ensures plan { Follows result self.old.plan self.new.plan }
     {
         if self.schedule.begin() {
@@ -157,8 +158,8 @@ impl Disk for MemDisk {
         Ok(slots::names(self.alloc, &self.files)?)
     }
 
-    fn is_full(&self) -> bool {
-        self.schedule.is_full()
+    fn last_error(&self) -> Option<Errno> {
+        self.schedule.last_error()
     }
 
     fn moment(&self) -> u64 {

@@ -31,7 +31,8 @@ returns-clause-back g c =
 
 pub returns-clause-cause : goal.returns-clause-cause
 returns-clause-cause g c =
-    let before = g.M.Maker.counts c.args.make.now in
-    (counts-why ServiceSettings (Unit {0}) _ _ c.in-Err.fault c.in-Err.ensures.cause,
-    subst (λ counts. RaisesFor {T = Unit {0}} before counts (Err c.in-Err.fault)) (sym c.tell_complaint.ensures.same.0)
-    (raises-none ServiceSettings (Unit {0}) before c.in-Err.fault c.in-Err.ensures.kind))
+    let before = g.M.Maker.counts c.args.make.now in (
+      counts-why ServiceSettings (Unit {0}) _ _ c.in-Err.fault c.in-Err.ensures.cause,
+      subst (λ counts. RaisesFor {T = Unit {0}} before counts (Err c.in-Err.fault)) (sym c.tell_complaint.ensures.same.0)
+          (raises-none ServiceSettings (Unit {0}) before c.in-Err.fault c.in-Err.ensures.kind),
+    )

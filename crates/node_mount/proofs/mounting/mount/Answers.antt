@@ -17,10 +17,11 @@ returns-in-Ok-clause-cause g c = (counts-on _ _ c.mount_disk.result c.in-Ok.ensu
 
 pub returns-clause-cause : goal.returns-clause-cause
 returns-clause-cause g c =
-    let before = g.M.Maker.counts c.args.make.now in
-    (counts-why Configuration (Unit {0}) _ _ c.in-Err.fault c.in-Err.ensures.cause,
-    subst (λ counts. RaisesFor {T = Unit {0}} before counts (Err c.in-Err.fault)) (sym c.tell_complaint.ensures.same.0)
-    (raises-none Configuration (Unit {0}) before c.in-Err.fault c.in-Err.ensures.kind))
+    let before = g.M.Maker.counts c.args.make.now in (
+      counts-why Configuration (Unit {0}) _ _ c.in-Err.fault c.in-Err.ensures.cause,
+      subst (λ counts. RaisesFor {T = Unit {0}} before counts (Err c.in-Err.fault)) (sym c.tell_complaint.ensures.same.0)
+          (raises-none Configuration (Unit {0}) before c.in-Err.fault c.in-Err.ensures.kind),
+    )
 
 pub returns-clause-back : goal.returns-clause-back
 returns-clause-back g c =
