@@ -1,0 +1,144 @@
+-- One file in place of several changes no image at a transaction that stays.
+use Rattle.std.proofs.Common.{◌≡◌, ◌∙◌, ◌⊎◌, inl, inr, ℕ, zero, suc, ◌+◌, ◌-◌, ◌<◌, ◌≤◌, List, [], ◌∷◌, ◌++◌, Option, None, Some, length, take, drop, append_assoc, refl, sym, ap, subst, arith}
+use Rattle.std.specs.Prelude.{slice_get}
+use Rattle.std.proofs.lemmas.Bool.{cases_lt}
+use Rattle.lf_base.specs.declared.pos.Pos.{Pos}
+use Rattle.lf_sqlite_pages.specs.Apply.{apply}
+use Rattle.lf_sqlite_pages.specs.Image.{DatabaseImage, empty_image}
+use Rattle.ltx_codec.specs.Positions.{before, after, nowhere}
+use Rattle.ltx_codec.specs.declared.file.Ltx.{Ltx}
+use Rattle.ltx_codec.specs.declared.header.Header.{Header}
+use Rattle.ltx_compact.specs.Application.{apply_all, DoesAsFiles}
+use Rattle.ltx_compact.specs.Compaction.{Compacts}
+use Rattle.ltx_backup.specs.Folding.{Folded, FoldsLow, FoldsMiddle, Folds}
+use Rattle.ltx_backup.specs.Levels.{Levels, chain, LeadOn, end_of}
+use Rattle.ltx_backup.specs.Restoring.{up_to, restored, EndsWith}
+use Rattle.ltx_backup.specs.Ordered.{AllOrdered}
+use Rattle.ltx_backup.proofs.Holding.{lead_front, lead_back}
+use Rattle.ltx_backup.proofs.Restores.{applied_one, applied_join, up_to_join, taken, left_out, ends_cases}
+use Rattle.ltx_backup.proofs.Restorings.{follows, none_up_to, ends_past}
+
+take_drop : (n : ℕ) (files : List Ltx) → take n files ++ drop n files ≡ files
+take_drop zero files = refl
+take_drop (suc n) [] = refl
+take_drop (suc n) (x ∷ xs) = ap (λ (l : List Ltx). x ∷ l) (take_drop n xs)
+
+one_some : (x y : Ltx) → Some x ≡ Some y → x ≡ y
+one_some x y same = cc
+
+-- the last of files ends where all of them do
+last_after : (here : Pos) (files : List Ltx) (last : Ltx) → slice_get files (length files - 1) ≡ Some last → after last ≡ end_of here files
+last_after here [] last is = absurd (let no : None ≡ Some last = is in cc)
+last_after here (x ∷ []) last is = ap after (sym (one_some x last is))
+last_after here (x ∷ (y ∷ ys)) last is =
+    last_after (after x) (y ∷ ys) last
+    (let count : length (x ∷ (y ∷ ys)) - 1 ≡ suc (length (y ∷ ys) - 1) = omega arith in
+    subst (λ (k : ℕ). slice_get (x ∷ (y ∷ ys)) k ≡ Some last) count is)
+
+ordered_front : (xs ys : List Ltx) → AllOrdered (xs ++ ys) → AllOrdered xs
+ordered_front [] ys order = tt
+ordered_front (x ∷ xs) ys order = (order.0, order.1, ordered_front xs ys order.2)
+
+ordered_back : (xs ys : List Ltx) → AllOrdered (xs ++ ys) → AllOrdered ys
+ordered_back [] ys order = order
+ordered_back (x ∷ xs) ys order = ordered_back xs ys order.2
+
+end_later : (here : Pos) (files : List Ltx) → LeadOn here files → AllOrdered files → here.txid ≤ (end_of here files).txid
+end_later here [] lead order = omega arith
+end_later here (x ∷ xs) lead order =
+    let first = follows here x lead.0 order.0 in
+    let rest = end_later (after x) xs lead.1 order.2 in
+    omega (arith, first, rest, order.1)
+
+-- up to the end of files, or past it, there are all of them
+all_up_to : (txid : ℕ) (here : Pos) (files : List Ltx) → (end_of here files).txid ≤ txid → LeadOn here files → AllOrdered files → up_to txid files ≡ files
+all_up_to txid here [] past lead order = refl
+all_up_to txid here (x ∷ xs) past lead order =
+    let rest = end_later (after x) xs lead.1 order.2 in
+    taken txid x xs (omega (arith, rest, past)) ∙ ap (λ (l : List Ltx). x ∷ l) (all_up_to txid (after x) xs past lead.1 order.2)
+
+ends_within : (here : Pos) (files : List Ltx) (txid sum : ℕ) → LeadOn here files → AllOrdered files → EndsWith files txid sum → txid ≤ (end_of here files).txid
+ends_within here [] txid sum lead order ends = absurd ends
+ends_within here (x ∷ xs) txid sum lead order (inl is) = let rest = end_later (after x) xs lead.1 order.2 in omega (arith, rest, is.0)
+ends_within here (x ∷ xs) txid sum lead order (inr ends) = ends_within (after x) xs txid sum lead.1 order.2 ends
+
+module _ (fore many behind : List Ltx) (file : Ltx) (is : Compacts many file) (does : DoesAsFiles many file.change)
+    (lead : LeadOn nowhere (fore ++ (many ++ behind))) (order : AllOrdered (fore ++ (many ++ behind))) (txid sum : ℕ) (ends : EndsWith (fore ++ (file ∷ behind)) txid sum) where
+  mid : Pos
+  mid = end_of nowhere fore
+
+  lead_rest : LeadOn (end_of nowhere fore) (many ++ behind)
+  lead_rest = lead_back nowhere fore (many ++ behind) lead
+
+  lead_many : LeadOn (end_of nowhere fore) many
+  lead_many = lead_front (end_of nowhere fore) many behind lead_rest
+
+  order_many : AllOrdered many
+  order_many = ordered_front many behind (ordered_back fore (many ++ behind) order)
+
+  max_is : file.header.max ≡ (end_of (end_of nowhere fore) many).txid
+  max_is = ap (λ (h : Header). h.max) is.header ∙ ap (λ (p : Pos). p.txid) (last_after (end_of nowhere fore) many is.last is.is_last)
+
+  none_before : txid < file.header.max → txid ≤ (end_of nowhere fore).txid
+  none_before past = elim (ends_cases fore (file ∷ behind) txid sum ends) [
+    | inl early ↦ ends_within nowhere fore txid sum (lead_front nowhere fore (many ++ behind) lead) (ordered_front fore (many ++ behind) order) early
+    | inr late ↦ elim late [
+      | inl here ↦ absurd (omega (arith, here.0, past))
+      | inr later ↦
+          let beyond = ends_past (end_of (end_of nowhere fore) many) behind txid sum (lead_back (end_of nowhere fore) many behind lead_rest) (ordered_back many behind (ordered_back fore (many ++ behind) order)) later in
+          absurd (omega (arith, beyond, past, max_is))
+    ]
+  ]
+
+  same_there : (image : DatabaseImage) → apply_all image (up_to txid (file ∷ [])) ≡ apply_all image (up_to txid many)
+  same_there image = elim (cases_lt txid file.header.max) [
+    | inl past ↦
+        ap (λ (l : List Ltx). apply_all image l) (left_out txid file [] past ∙ sym (none_up_to txid (end_of nowhere fore) many (none_before past) lead_many order_many))
+    | inr within ↦
+        ap (λ (l : List Ltx). apply_all image l) (taken txid file [] within) ∙ applied_one image file ∙ does.same image
+        ∙ ap (λ (l : List Ltx). apply_all image l) (sym (all_up_to txid (end_of nowhere fore) many (omega (arith, within, max_is)) lead_many order_many))
+  ]
+
+  part_by_part : (some : List Ltx) → restored (fore ++ (some ++ behind)) txid ≡ apply_all (apply_all (apply_all empty_image (up_to txid fore)) (up_to txid some)) (up_to txid behind)
+  part_by_part some =
+      ap (λ (l : List Ltx). apply_all empty_image l) (up_to_join txid fore (some ++ behind)) ∙ applied_join empty_image (up_to txid fore) (up_to txid (some ++ behind))
+      ∙ ap (λ (l : List Ltx). apply_all (apply_all empty_image (up_to txid fore)) l) (up_to_join txid some behind)
+      ∙ applied_join (apply_all empty_image (up_to txid fore)) (up_to txid some) (up_to txid behind)
+
+  pub same_image : restored (fore ++ (file ∷ behind)) txid ≡ restored (fore ++ (many ++ behind)) txid
+  same_image =
+      part_by_part (file ∷ []) ∙ ap (λ (i : DatabaseImage). apply_all i (up_to txid behind)) (same_there (apply_all empty_image (up_to txid fore))) ∙ sym (part_by_part many)
+
+module _ (old new : Levels) (lead : LeadOn nowhere (chain old)) (order : AllOrdered (chain old)) (txid sum : ℕ) (ends : EndsWith (chain new) txid sum) where
+  by_low : FoldsLow old new → restored (chain new) txid ≡ restored (chain old) txid
+  by_low folds =
+      let it : Folded old.lows old.middles new.lows new.middles = folds.0 in
+      let many = take 8 old.lows in
+      let behind = drop 8 old.lows in
+      let fore = old.highs ++ old.middles in
+      let was : chain old ≡ (old.highs ++ old.middles) ++ (take 8 old.lows ++ drop 8 old.lows) = ap (λ (l : List Ltx). (old.highs ++ old.middles) ++ l) (sym (take_drop 8 old.lows)) in
+      let is : chain new ≡ (old.highs ++ old.middles) ++ (it.file ∷ drop 8 old.lows) =
+      (λ i. (folds.1 i ++ it.made i) ++ it.left i) ∙ ap (λ (l : List Ltx). l ++ drop 8 old.lows) (sym (append_assoc old.highs old.middles (it.file ∷ [])))
+      ∙ append_assoc (old.highs ++ old.middles) (it.file ∷ []) (drop 8 old.lows) in
+      ap (λ (l : List Ltx). restored l txid) is
+      ∙ same_image (old.highs ++ old.middles) (take 8 old.lows) (drop 8 old.lows) it.file it.is it.does
+      (subst (λ (l : List Ltx). LeadOn nowhere l) was lead) (subst (λ (l : List Ltx). AllOrdered l) was order) txid sum (subst (λ (l : List Ltx). EndsWith l txid sum) is ends)
+      ∙ ap (λ (l : List Ltx). restored l txid) (sym was)
+
+  by_middle : FoldsMiddle old new → restored (chain new) txid ≡ restored (chain old) txid
+  by_middle folds =
+      let it : Folded old.middles old.highs new.middles new.highs = folds.0 in
+      let was : chain old ≡ old.highs ++ (take 8 old.middles ++ (drop 8 old.middles ++ old.lows)) =
+      ap (λ (l : List Ltx). (old.highs ++ l) ++ old.lows) (sym (take_drop 8 old.middles)) ∙ append_assoc old.highs (take 8 old.middles ++ drop 8 old.middles) old.lows
+      ∙ ap (λ (l : List Ltx). old.highs ++ l) (append_assoc (take 8 old.middles) (drop 8 old.middles) old.lows) in
+      let is : chain new ≡ old.highs ++ (it.file ∷ (drop 8 old.middles ++ old.lows)) =
+      (λ i. (it.made i ++ it.left i) ++ folds.1 i) ∙ ap (λ (l : List Ltx). l ++ old.lows) (append_assoc old.highs (it.file ∷ []) (drop 8 old.middles))
+      ∙ append_assoc old.highs (it.file ∷ drop 8 old.middles) old.lows in
+      ap (λ (l : List Ltx). restored l txid) is
+      ∙ same_image old.highs (take 8 old.middles) (drop 8 old.middles ++ old.lows) it.file it.is it.does
+      (subst (λ (l : List Ltx). LeadOn nowhere l) was lead) (subst (λ (l : List Ltx). AllOrdered l) was order) txid sum (subst (λ (l : List Ltx). EndsWith l txid sum) is ends)
+      ∙ ap (λ (l : List Ltx). restored l txid) (sym was)
+
+  pub by_one : Folds old new → restored (chain new) txid ≡ restored (chain old) txid
+  by_one (inl low) = by_low low
+  by_one (inr middle) = by_middle middle

@@ -1,0 +1,17 @@
+pub mod Adding
+pub mod Applying
+pub mod Causes
+pub mod Entries
+pub mod Finishing
+pub mod Folding
+pub mod Judging
+pub mod Levels
+pub mod Listing
+pub mod Merging
+pub mod Moving
+pub mod Opening
+pub mod Ordered
+pub mod Restoring
+pub mod Stops
+pub mod Stored
+pub mod Trimming
