@@ -15,19 +15,19 @@ use Rattle.ltx_backup.specs.Levels.{Levels, chain, LeadOn, end_of}
 use Rattle.ltx_backup.specs.Restoring.{up_to, restored, EndsWith}
 use Rattle.ltx_backup.specs.Ordered.{AllOrdered}
 use Rattle.ltx_backup.proofs.Holding.{lead_front, lead_back}
-use Rattle.ltx_backup.proofs.Restores.{applied_one, applied_join, up_to_join, taken, left_out, ends_cases}
+use Rattle.ltx_backup.proofs.Restores.{applied_one, applied_join, up_to_join, taken, left_out, ends_left, ends_right, ends_cases}
 use Rattle.ltx_backup.proofs.Restorings.{follows, none_up_to, ends_past}
 
-take_drop : (n : ℕ) (files : List Ltx) → take n files ++ drop n files ≡ files
+pub take_drop : (n : ℕ) (files : List Ltx) → take n files ++ drop n files ≡ files
 take_drop zero files = refl
 take_drop (suc n) [] = refl
 take_drop (suc n) (x ∷ xs) = ap (λ (l : List Ltx). x ∷ l) (take_drop n xs)
 
-one_some : (x y : Ltx) → Some x ≡ Some y → x ≡ y
+pub one_some : (x y : Ltx) → Some x ≡ Some y → x ≡ y
 one_some x y same = cc
 
 -- the last of files ends where all of them do
-last_after : (here : Pos) (files : List Ltx) (last : Ltx) → slice_get files (length files - 1) ≡ Some last → after last ≡ end_of here files
+pub last_after : (here : Pos) (files : List Ltx) (last : Ltx) → slice_get files (length files - 1) ≡ Some last → after last ≡ end_of here files
 last_after here [] last is = absurd (let no : None ≡ Some last = is in cc)
 last_after here (x ∷ []) last is = ap after (sym (one_some x last is))
 last_after here (x ∷ (y ∷ ys)) last is =
@@ -109,36 +109,69 @@ module _ (fore many behind : List Ltx) (file : Ltx) (is : Compacts many file) (d
   same_image =
       part_by_part (file ∷ []) ∙ ap (λ (i : DatabaseImage). apply_all i (up_to txid behind)) (same_there (apply_all empty_image (up_to txid fore))) ∙ sym (part_by_part many)
 
-module _ (old new : Levels) (lead : LeadOn nowhere (chain old)) (order : AllOrdered (chain old)) (txid sum : ℕ) (ends : EndsWith (chain new) txid sum) where
-  by_low : FoldsLow old new → restored (chain new) txid ≡ restored (chain old) txid
-  by_low folds =
-      let it : Folded old.lows old.middles new.lows new.middles = folds.0 in
-      let many = take 8 old.lows in
-      let behind = drop 8 old.lows in
-      let fore = old.highs ++ old.middles in
-      let was : chain old ≡ (old.highs ++ old.middles) ++ (take 8 old.lows ++ drop 8 old.lows) = ap (λ (l : List Ltx). (old.highs ++ old.middles) ++ l) (sym (take_drop 8 old.lows)) in
-      let is : chain new ≡ (old.highs ++ old.middles) ++ (it.file ∷ drop 8 old.lows) =
-      (λ i. (folds.1 i ++ it.made i) ++ it.left i) ∙ ap (λ (l : List Ltx). l ++ drop 8 old.lows) (sym (append_assoc old.highs old.middles (it.file ∷ [])))
-      ∙ append_assoc (old.highs ++ old.middles) (it.file ∷ []) (drop 8 old.lows) in
-      ap (λ (l : List Ltx). restored l txid) is
-      ∙ same_image (old.highs ++ old.middles) (take 8 old.lows) (drop 8 old.lows) it.file it.is it.does
-      (subst (λ (l : List Ltx). LeadOn nowhere l) was lead) (subst (λ (l : List Ltx). AllOrdered l) was order) txid sum (subst (λ (l : List Ltx). EndsWith l txid sum) is ends)
-      ∙ ap (λ (l : List Ltx). restored l txid) (sym was)
+-- the chain with the eight files apart, and with the one in their place
+module _ (old new : Levels) (folds : FoldsLow old new) where
+  pub low_was : chain old ≡ (old.highs ++ old.middles) ++ (take 8 old.lows ++ drop 8 old.lows)
+  low_was = ap (λ (l : List Ltx). (old.highs ++ old.middles) ++ l) (sym (take_drop 8 old.lows))
 
-  by_middle : FoldsMiddle old new → restored (chain new) txid ≡ restored (chain old) txid
-  by_middle folds =
-      let it : Folded old.middles old.highs new.middles new.highs = folds.0 in
-      let was : chain old ≡ old.highs ++ (take 8 old.middles ++ (drop 8 old.middles ++ old.lows)) =
+  pub low_is : chain new ≡ (old.highs ++ old.middles) ++ (folds.0.file ∷ drop 8 old.lows)
+  low_is =
+      (λ i. (folds.1 i ++ folds.0.made i) ++ folds.0.left i) ∙ ap (λ (l : List Ltx). l ++ drop 8 old.lows) (sym (append_assoc old.highs old.middles (folds.0.file ∷ [])))
+      ∙ append_assoc (old.highs ++ old.middles) (folds.0.file ∷ []) (drop 8 old.lows)
+
+module _ (old new : Levels) (folds : FoldsMiddle old new) where
+  pub middle_was : chain old ≡ old.highs ++ (take 8 old.middles ++ (drop 8 old.middles ++ old.lows))
+  middle_was =
       ap (λ (l : List Ltx). (old.highs ++ l) ++ old.lows) (sym (take_drop 8 old.middles)) ∙ append_assoc old.highs (take 8 old.middles ++ drop 8 old.middles) old.lows
-      ∙ ap (λ (l : List Ltx). old.highs ++ l) (append_assoc (take 8 old.middles) (drop 8 old.middles) old.lows) in
-      let is : chain new ≡ old.highs ++ (it.file ∷ (drop 8 old.middles ++ old.lows)) =
-      (λ i. (it.made i ++ it.left i) ++ folds.1 i) ∙ ap (λ (l : List Ltx). l ++ old.lows) (append_assoc old.highs (it.file ∷ []) (drop 8 old.middles))
-      ∙ append_assoc old.highs (it.file ∷ drop 8 old.middles) old.lows in
+      ∙ ap (λ (l : List Ltx). old.highs ++ l) (append_assoc (take 8 old.middles) (drop 8 old.middles) old.lows)
+
+  pub middle_is : chain new ≡ old.highs ++ (folds.0.file ∷ (drop 8 old.middles ++ old.lows))
+  middle_is =
+      (λ i. (folds.0.made i ++ folds.0.left i) ++ folds.1 i) ∙ ap (λ (l : List Ltx). l ++ old.lows) (append_assoc old.highs (folds.0.file ∷ []) (drop 8 old.middles))
+      ∙ append_assoc old.highs (folds.0.file ∷ drop 8 old.middles) old.lows
+
+module _ (old new : Levels) (lead : LeadOn nowhere (chain old)) (order : AllOrdered (chain old)) (txid sum : ℕ) (ends : EndsWith (chain new) txid sum) where
+  pub by_one : Folds old new → restored (chain new) txid ≡ restored (chain old) txid
+  by_one (inl low) =
+      let was = low_was old new low in
+      let is = low_is old new low in
       ap (λ (l : List Ltx). restored l txid) is
-      ∙ same_image old.highs (take 8 old.middles) (drop 8 old.middles ++ old.lows) it.file it.is it.does
+      ∙ same_image (old.highs ++ old.middles) (take 8 old.lows) (drop 8 old.lows) low.0.file low.0.is low.0.does
+      (subst (λ (l : List Ltx). LeadOn nowhere l) was lead) (subst (λ (l : List Ltx). AllOrdered l) was order) txid sum (subst (λ (l : List Ltx). EndsWith l txid sum) is ends)
+      ∙ ap (λ (l : List Ltx). restored l txid) (sym was)
+  by_one (inr middle) =
+      let was = middle_was old new middle in
+      let is = middle_is old new middle in
+      ap (λ (l : List Ltx). restored l txid) is
+      ∙ same_image old.highs (take 8 old.middles) (drop 8 old.middles ++ old.lows) middle.0.file middle.0.is middle.0.does
       (subst (λ (l : List Ltx). LeadOn nowhere l) was lead) (subst (λ (l : List Ltx). AllOrdered l) was order) txid sum (subst (λ (l : List Ltx). EndsWith l txid sum) is ends)
       ∙ ap (λ (l : List Ltx). restored l txid) (sym was)
 
-  pub by_one : Folds old new → restored (chain new) txid ≡ restored (chain old) txid
-  by_one (inl low) = by_low low
-  by_one (inr middle) = by_middle middle
+-- a transaction with which a file ends now is one with which one ended before
+ends_get : (files : List Ltx) (k : ℕ) (last : Ltx) → slice_get files k ≡ Some last → EndsWith files last.header.max last.post
+ends_get [] k last is = absurd (let no : None ≡ Some last = is in cc)
+ends_get (x ∷ xs) zero last is = let same = one_some x last is in inl (ap (λ (f : Ltx). f.header.max) same, ap (λ (f : Ltx). f.post) same)
+ends_get (x ∷ xs) (suc k) last is = inr (ends_get xs k last is)
+
+ends_of : (many : List Ltx) (file : Ltx) (txid sum : ℕ) → Compacts many file → (file.header.max ≡ txid) × (file.post ≡ sum) → EndsWith many txid sum
+ends_of many file txid sum is here =
+    let max : is.last.header.max ≡ txid = sym (ap (λ (h : Header). h.max) is.header) ∙ here.0 in
+    let post : is.last.post ≡ sum = sym is.post ∙ here.1 in
+    subst (λ (n : ℕ). EndsWith many n sum) max (subst (λ (n : ℕ). EndsWith many is.last.header.max n) post (ends_get many (length many - 1) is.last is.is_last))
+
+ended : (fore many behind : List Ltx) (file : Ltx) (txid sum : ℕ) → Compacts many file → EndsWith (fore ++ (file ∷ behind)) txid sum → EndsWith (fore ++ (many ++ behind)) txid sum
+ended fore many behind file txid sum is ends = elim (ends_cases fore (file ∷ behind) txid sum ends) [
+  | inl early ↦ ends_left fore (many ++ behind) txid sum early
+  | inr late ↦ ends_right fore (many ++ behind) txid sum (elim late [
+    | inl here ↦ ends_left many behind txid sum (ends_of many file txid sum is here)
+    | inr later ↦ ends_right many behind txid sum later
+  ])
+]
+
+pub ended_before : (old new : Levels) (txid sum : ℕ) → Folds old new → EndsWith (chain new) txid sum → EndsWith (chain old) txid sum
+ended_before old new txid sum (inl low) ends =
+    subst (λ (l : List Ltx). EndsWith l txid sum) (sym (low_was old new low))
+    (ended (old.highs ++ old.middles) (take 8 old.lows) (drop 8 old.lows) low.0.file txid sum low.0.is (subst (λ (l : List Ltx). EndsWith l txid sum) (low_is old new low) ends))
+ended_before old new txid sum (inr middle) ends =
+    subst (λ (l : List Ltx). EndsWith l txid sum) (sym (middle_was old new middle))
+    (ended old.highs (take 8 old.middles) (drop 8 old.middles ++ old.lows) middle.0.file txid sum middle.0.is (subst (λ (l : List Ltx). EndsWith l txid sum) (middle_is old new middle) ends))

@@ -12,6 +12,7 @@ pub mod Moving
 pub mod Opening
 pub mod Ordered
 pub mod Restoring
+pub mod Settling
 pub mod Stops
 pub mod Stored
 pub mod Trimming

@@ -11,6 +11,7 @@ mod entry;
 mod examining;
 mod fault;
 mod finishing;
+mod folding;
 mod judging;
 mod laws;
 mod listing;

@@ -1,225 +1,105 @@
-//! Eight files of a level become one of the next.
-ghost use Rattle.std.specs.Prelude.{◌≡◌, ◌≢◌, ◌↔◌, ◌≤◌, ◌∷◌, [], ◌++◌, List, false, IsTrue, IfOk, IfErr, OnOk, length, take, drop, All};
-ghost use Rattle.lf_base.specs.declared.pos.Pos.{Pos};
-ghost use Rattle.lf_disk.specs.declared.name.FileName.TheVariants as name;
-ghost use Rattle.lf_disk.specs.History.{now, Rests, IsSettledBut};
-ghost use Rattle.ltx_codec.specs.Format.{IsFile, IsLtx};
-ghost use Rattle.ltx_backup.specs.Stored.{stored};
-ghost use Rattle.ltx_codec.specs.declared.file.Ltx.{Ltx as File};
-ghost use Rattle.ltx_backup.specs.Causes.{HasCause, HasCauses, IsBlameless};
-ghost use Rattle.ltx_backup.specs.Entries.{IsLevel, entry_of, entries_of};
-ghost use Rattle.ltx_backup.specs.Levels.{AllStand, LeadOn};
-ghost use Rattle.ltx_backup.specs.Moving.{AreAlike, AreDue, MovesUp, HasMovedUp, HasFolded, MayFold, IsUnfolded};
+//! A backup settles: eight files of a level become one of the next until no level is due.
+ghost use Rattle.std.specs.Prelude.{◌≡◌, ◌+◌, ◌<◌, Err, true, false, IsTrue, IfOk, OnOk, length};
+ghost use Rattle.lf_disk.specs.History.{now};
+ghost use Rattle.ltx_backup.specs.Adding.{Breaks};
+ghost use Rattle.ltx_backup.specs.Causes.{HasCauses, AreHonest};
+ghost use Rattle.ltx_backup.specs.Entries.{IsKept};
+ghost use Rattle.ltx_backup.specs.Levels.{Levels};
+ghost use Rattle.ltx_backup.specs.Moving.{AreDue};
+ghost use Rattle.ltx_backup.specs.Settling.{FoldsOnce, GoesOn, HasSettled, HoldsSettled};
+ghost use Rattle.ltx_backup.specs.Stops.{Stops};
 
-use crate::adding::{append, is_disk};
+use crate::adding::is_disk;
 use crate::backup::Backup;
-use crate::entry::Entry;
 use crate::fault::BackupFault;
-use crate::merging::merge;
-use crate::reading::read_file;
-use crate::trimming::trim;
+use crate::folding::{fold, is_due};
 use lf_disk::Disk;
-use ltx_codec::Ltx;
 use std::alloc::Global;
-
-/// Whether files have pages of this size.
-fn are_alike(entries: &[Entry], size: u32) -> bool
-    ensures { IsTrue result ↔ AreAlike size entries.now }
-{
-    for entry in entries {
-        if entry.page_size != size {
-            return false;
-        }
-    }
-    true
-}
-
-/// The eight oldest.
-fn oldest(entries: &[Entry]) -> &[Entry]
-    requires { 8 ≤ length entries.now }
-    ensures { result.now ≡ take 8 entries.now }
-{
-    let (front, _) = entries.split_at(8);
-    front
-}
-
-/// Whether a level has eight files or more, of which the eight oldest have one page size.
-fn is_due(entries: &[Entry]) -> bool
-    ensures due { IsTrue result → AreDue entries.now }
-    ensures not_due { result ≡ false → AreDue entries.now → ⊥ }
-{
-    if entries.len() < 8 {
-        return false;
-    }
-    let front = oldest(entries);
-    let size = front[0].page_size;
-    are_alike(front, size)
-}
-
-/// The files of these entries.
-fn read_files<D: Disk>(
-    alloc: Global,
-    disk: &mut D,
-    level: u8,
-    entries: &[Entry],
-) -> Result<Vec<Ltx>, BackupFault>
-    ensures files { IsTrue (D.honest disk.old) → (files : List File) → entries.now ≡ entries_of files → AllStand (now (D.history disk.old)) files
-        → IfOk result (λ read. read.items ≡ files) }
-    ensures valid { IfOk result (λ read. All IsFile read.items) }
-    ensures blameless { IsTrue (D.honest disk.old) → (files : List File) → entries.now ≡ entries_of files → AllStand (now (D.history disk.old)) files
-        → IfErr result IsBlameless }
-    ensures rests { Rests (D.history disk.old) (D.history disk.new) }
-    ensures honest { D.honest disk.new ≡ D.honest disk.old }
-    ensures cause { HasCause (D.faults disk.old) (D.faults disk.new) result }
-{
-    let mut files = Vec::new(alloc);
-    for entry in entries {
-        let file = match read_file(alloc, disk, level, entry) {
-            Ok(file) => file,
-            Err(why) => return Err(why),
-        };
-        match files.push(file) {
-            Ok(()) => {}
-            Err(_) => return Err(BackupFault::NoMemory),
-        }
-    }
-    Ok(files)
-}
-
-/// Leaves out the eight oldest.
-fn forget_eight(entries: &mut Vec<Entry>)
-    requires { 8 ≤ length entries.old.items }
-    ensures { entries.new.items ≡ drop 8 entries.old.items }
-{
-    for _i in 0..8usize {
-        entries.remove(0);
-    }
-}
-
-/// Puts the one file on the next level, and removes the eight that it stands for.
-fn move_up<D: Disk>(
-    alloc: Global,
-    from: &mut D,
-    entries: &mut Vec<Entry>,
-    to: &mut D,
-    uppers: &mut Vec<Entry>,
-    file: &Ltx,
-) -> Result<(), BackupFault>
-    requires valid { IsFile file.now }
-    requires eight { 8 ≤ length entries.old.items }
-    requires from_settled { IsTrue (D.honest from.old) → IsSettledBut name.Staged (D.history from.old) }
-    requires to_settled { IsTrue (D.honest to.old) → IsSettledBut name.Staged (D.history to.old) }
-    ensures entries { OnOk result (entries.new.items ≡ drop 8 entries.old.items) }
-    ensures uppers { OnOk result (uppers.new.items ≡ uppers.old.items ++ entry_of file.now ∷ []) }
-    ensures same { IfErr result (λ why. why ≢ BackupFault.Disk → (entries.new.items ≡ entries.old.items) × (uppers.new.items ≡ uppers.old.items)
-        × (from.new ≡ from.old) × (to.new ≡ to.old)) }
-    ensures blameless { IfErr result IsBlameless }
-    ensures reads_back { IsLtx (stored file.now) file.now }
-    ensures settled { OnOk result ((IsTrue (D.honest from.old) → IsSettledBut name.Staged (D.history from.new)) × (IsTrue (D.honest to.old) → IsSettledBut name.Staged (D.history to.new))) }
-    ensures moves { IsTrue (D.honest from.old) → IsTrue (D.honest to.old)
-        → MovesUp file.now (D.history from.old) (D.history to.old) (D.history from.new) (D.history to.new) }
-    ensures done { IsTrue (D.honest from.old) → IsTrue (D.honest to.old) → OnOk result
-        (HasMovedUp file.now entries.old.items (D.history from.old) (D.history to.old) (D.history from.new) (D.history to.new)) }
-    ensures honest { (D.honest from.new ≡ D.honest from.old) × (D.honest to.new ≡ D.honest to.old) }
-    ensures cause { HasCauses (record { low = D.faults from.old; middle = D.faults to.old; high = 0 })
-        (record { low = D.faults from.new; middle = D.faults to.new; high = 0 }) result }
-{
-    match append(alloc, to, uppers, file) {
-        Ok(()) => {}
-        Err(why) => return Err(why),
-    }
-    match trim(from, entries.as_slice(), file.header.max) {
-        Ok(()) => {
-            forget_eight(entries);
-            Ok(())
-        }
-        Err(_) => Err(BackupFault::Disk),
-    }
-}
-
-/// Makes the eight oldest files of a level one of the next.
-fn fold<D: Disk>(
-    alloc: Global,
-    level: u8,
-    from: &mut D,
-    entries: &mut Vec<Entry>,
-    to: &mut D,
-    uppers: &mut Vec<Entry>,
-) -> Result<(), BackupFault>
-    requires due { AreDue entries.old.items }
-    requires from_settled { IsTrue (D.honest from.old) → IsSettledBut name.Staged (D.history from.old) }
-    requires to_settled { IsTrue (D.honest to.old) → IsSettledBut name.Staged (D.history to.old) }
-    ensures folds { IsTrue (D.honest from.old) → IsTrue (D.honest to.old) → (files : List File) → IsLevel entries.old.items files (D.history from.old)
-        → OnOk result (HasFolded files entries.old.items uppers.old.items entries.new.items uppers.new.items
-        (D.history from.old) (D.history to.old) (D.history from.new) (D.history to.new)) }
-    ensures moves { IsTrue (D.honest from.old) → IsTrue (D.honest to.old) → (files : List File) → IsLevel entries.old.items files (D.history from.old)
-        → MayFold files (D.history from.old) (D.history to.old) (D.history from.new) (D.history to.new) }
-    ensures why { IsTrue (D.honest from.old) → (files : List File) → IsLevel entries.old.items files (D.history from.old)
-        → (here : Pos) → LeadOn here files → IfErr result (IsUnfolded files) }
-    ensures same { IfErr result (λ why. why ≢ BackupFault.Disk → (entries.new.items ≡ entries.old.items) × (uppers.new.items ≡ uppers.old.items)
-        × Rests (D.history from.old) (D.history from.new) × (to.new ≡ to.old)) }
-    ensures settled { OnOk result ((IsTrue (D.honest from.old) → IsSettledBut name.Staged (D.history from.new)) × (IsTrue (D.honest to.old) → IsSettledBut name.Staged (D.history to.new))) }
-    ensures honest { (D.honest from.new ≡ D.honest from.old) × (D.honest to.new ≡ D.honest to.old) }
-    ensures cause { HasCauses (record { low = D.faults from.old; middle = D.faults to.old; high = 0 })
-        (record { low = D.faults from.new; middle = D.faults to.new; high = 0 }) result }
-{
-    let front = oldest(entries.as_slice());
-    let first = front[0];
-    let files = match read_files(alloc, from, level, front) {
-        Ok(files) => files,
-        Err(why) => return Err(why),
-    };
-    let file = match merge(alloc, files, level, first) {
-        Ok(file) => file,
-        Err(why) => return Err(why),
-    };
-    match move_up(alloc, from, entries, to, uppers, &file) {
-        Ok(()) => Ok(()),
-        Err(why) => Err(why),
-    }
-}
 
 impl<D: Disk> Backup<D> {
     /// Makes one file of the eight oldest of a level while it has eight of one page size, on the lowest
     /// level and then on the next. It answers how often.
-    pub fn settle(&mut self, alloc: Global) -> Result<u64, BackupFault> {
-        if self.broken {
+    pub fn settle(&mut self, alloc: Global) -> Result<u64, BackupFault>
+        ensures settles { AreHonest (D.honest self.old.low) (D.honest self.old.middle) (D.honest self.old.high) → self.old.broken ≡ false → (levels : Levels)
+            → IsKept levels self.old.index (D.history self.old.low) (D.history self.old.middle) (D.history self.old.high)
+            → HasSettled levels result self.new.index (D.history self.new.low) (D.history self.new.middle) (D.history self.new.high) }
+        ensures broken { self.old.broken ≡ true → result ≡ Err BackupFault.Broken }
+        ensures end { self.new.index.end ≡ self.old.index.end }
+        ensures breaks { Breaks self.old.broken result self.new.broken }
+        ensures honest { (D.honest self.new.low ≡ D.honest self.old.low) × (D.honest self.new.middle ≡ D.honest self.old.middle) × (D.honest self.new.high ≡ D.honest self.old.high) }
+        ensures cause { HasCauses (record { low = D.faults self.old.low; middle = D.faults self.old.middle; high = D.faults self.old.high })
+            (record { low = D.faults self.new.low; middle = D.faults self.new.middle; high = D.faults self.new.high }) result }
+
+        // Whatever call stops, the disks hold what some of the compactions leave.
+        ensures stops { AreHonest (D.honest self.old.low) (D.honest self.old.middle) (D.honest self.old.high) → (levels : Levels)
+            → IsKept levels self.old.index (D.history self.old.low) (D.history self.old.middle) (D.history self.old.high)
+            → Stops (D.history self.old.low) (D.history self.old.middle) (D.history self.old.high) (D.history self.new.low) (D.history self.new.middle) (D.history self.new.high) (HoldsSettled levels) }
+    {
+        let broken = self.broken;
+        if broken {
             return Err(BackupFault::Broken);
         }
-        let lows = match self.settle_low(alloc) {
-            Ok(lows) => lows,
-            Err(why) => return Err(why),
-        };
-        match self.settle_middle(alloc) {
-            Ok(middles) => Ok(lows + middles),
-            Err(why) => Err(why),
-        }
-    }
-
-    /// The lowest level.
-    fn settle_low(&mut self, alloc: Global) -> Result<u64, BackupFault> {
         let mut count = 0;
-        while is_due(self.index.entries.lows.as_slice()) {
-            match self.fold_low(alloc) {
-                Ok(()) => count += 1,
+        'folds: loop {
+            match self.fold_next(alloc) {
+                Ok(true) => count += 1,
+                Ok(false) => return Ok(count),
                 Err(why) => return Err(why),
             }
         }
-        Ok(count)
     }
 
-    fn settle_middle(&mut self, alloc: Global) -> Result<u64, BackupFault> {
-        let mut count = 0;
-        while is_due(self.index.entries.middles.as_slice()) {
-            match self.fold_middle(alloc) {
-                Ok(()) => count += 1,
-                Err(why) => return Err(why),
-            }
+    /// One compaction, where one is due: of the lowest level before the next. It answers whether.
+    fn fold_next(&mut self, alloc: Global) -> Result<bool, BackupFault>
+        requires sound { self.old.broken ≡ false }
+        ensures goes_on { AreHonest (D.honest self.old.low) (D.honest self.old.middle) (D.honest self.old.high) → (levels : Levels)
+            → IsKept levels self.old.index (D.history self.old.low) (D.history self.old.middle) (D.history self.old.high)
+            → GoesOn levels result self.new.index (D.history self.new.low) (D.history self.new.middle) (D.history self.new.high) }
+        ensures stops { AreHonest (D.honest self.old.low) (D.honest self.old.middle) (D.honest self.old.high) → (levels : Levels)
+            → IsKept levels self.old.index (D.history self.old.low) (D.history self.old.middle) (D.history self.old.high)
+            → Stops (D.history self.old.low) (D.history self.old.middle) (D.history self.old.high) (D.history self.new.low) (D.history self.new.middle) (D.history self.new.high) (HoldsSettled levels) }
+        ensures fewer { IfOk result (λ more. IsTrue more
+            → length self.new.index.entries.lows.items + length self.new.index.entries.middles.items
+            < length self.old.index.entries.lows.items + length self.old.index.entries.middles.items) }
+        ensures end { self.new.index.end ≡ self.old.index.end }
+        ensures breaks { Breaks self.old.broken result self.new.broken }
+        ensures honest { (D.honest self.new.low ≡ D.honest self.old.low) × (D.honest self.new.middle ≡ D.honest self.old.middle) × (D.honest self.new.high ≡ D.honest self.old.high) }
+        ensures cause { HasCauses (record { low = D.faults self.old.low; middle = D.faults self.old.middle; high = D.faults self.old.high })
+            (record { low = D.faults self.new.low; middle = D.faults self.new.middle; high = D.faults self.new.high }) result }
+    {
+        if is_due(self.index.entries.lows.as_slice()) {
+            return match self.fold_low(alloc) {
+                Ok(()) => Ok(true),
+                Err(why) => Err(why),
+            };
         }
-        Ok(count)
+        if is_due(self.index.entries.middles.as_slice()) {
+            return match self.fold_middle(alloc) {
+                Ok(()) => Ok(true),
+                Err(why) => Err(why),
+            };
+        }
+        Ok(false)
     }
 
-    fn fold_low(&mut self, alloc: Global) -> Result<(), BackupFault> {
+    /// The eight oldest files of the lowest level.
+    fn fold_low(&mut self, alloc: Global) -> Result<(), BackupFault>
+        requires sound { self.old.broken ≡ false }
+        requires due { AreDue self.old.index.entries.lows.items }
+        ensures folds { AreHonest (D.honest self.old.low) (D.honest self.old.middle) (D.honest self.old.high) → (levels : Levels)
+            → IsKept levels self.old.index (D.history self.old.low) (D.history self.old.middle) (D.history self.old.high)
+            → FoldsOnce levels.lows levels result self.new.index (D.history self.new.low) (D.history self.new.middle) (D.history self.new.high) }
+        ensures stops { AreHonest (D.honest self.old.low) (D.honest self.old.middle) (D.honest self.old.high) → (levels : Levels)
+            → IsKept levels self.old.index (D.history self.old.low) (D.history self.old.middle) (D.history self.old.high)
+            → Stops (D.history self.old.low) (D.history self.old.middle) (D.history self.old.high) (D.history self.new.low) (D.history self.new.middle) (D.history self.new.high) (HoldsSettled levels) }
+        ensures fewer { OnOk result (length self.new.index.entries.lows.items + length self.new.index.entries.middles.items
+            < length self.old.index.entries.lows.items + length self.old.index.entries.middles.items) }
+        ensures end { self.new.index.end ≡ self.old.index.end }
+        ensures breaks { Breaks self.old.broken result self.new.broken }
+        ensures honest { (D.honest self.new.low ≡ D.honest self.old.low) × (D.honest self.new.middle ≡ D.honest self.old.middle) × (D.honest self.new.high ≡ D.honest self.old.high) }
+        ensures cause { HasCauses (record { low = D.faults self.old.low; middle = D.faults self.old.middle; high = D.faults self.old.high })
+            (record { low = D.faults self.new.low; middle = D.faults self.new.middle; high = D.faults self.new.high }) result }
+    {
         let entries = &mut self.index.entries;
         match fold(
             alloc,
@@ -237,7 +117,24 @@ impl<D: Disk> Backup<D> {
         }
     }
 
-    fn fold_middle(&mut self, alloc: Global) -> Result<(), BackupFault> {
+    /// The eight oldest files of the level above it.
+    fn fold_middle(&mut self, alloc: Global) -> Result<(), BackupFault>
+        requires sound { self.old.broken ≡ false }
+        requires due { AreDue self.old.index.entries.middles.items }
+        ensures folds { AreHonest (D.honest self.old.low) (D.honest self.old.middle) (D.honest self.old.high) → (levels : Levels)
+            → IsKept levels self.old.index (D.history self.old.low) (D.history self.old.middle) (D.history self.old.high)
+            → FoldsOnce levels.middles levels result self.new.index (D.history self.new.low) (D.history self.new.middle) (D.history self.new.high) }
+        ensures stops { AreHonest (D.honest self.old.low) (D.honest self.old.middle) (D.honest self.old.high) → (levels : Levels)
+            → IsKept levels self.old.index (D.history self.old.low) (D.history self.old.middle) (D.history self.old.high)
+            → Stops (D.history self.old.low) (D.history self.old.middle) (D.history self.old.high) (D.history self.new.low) (D.history self.new.middle) (D.history self.new.high) (HoldsSettled levels) }
+        ensures fewer { OnOk result (length self.new.index.entries.lows.items + length self.new.index.entries.middles.items
+            < length self.old.index.entries.lows.items + length self.old.index.entries.middles.items) }
+        ensures end { self.new.index.end ≡ self.old.index.end }
+        ensures breaks { Breaks self.old.broken result self.new.broken }
+        ensures honest { (D.honest self.new.low ≡ D.honest self.old.low) × (D.honest self.new.middle ≡ D.honest self.old.middle) × (D.honest self.new.high ≡ D.honest self.old.high) }
+        ensures cause { HasCauses (record { low = D.faults self.old.low; middle = D.faults self.old.middle; high = D.faults self.old.high })
+            (record { low = D.faults self.new.low; middle = D.faults self.new.middle; high = D.faults self.new.high }) result }
+    {
         let entries = &mut self.index.entries;
         match fold(
             alloc,

@@ -5,7 +5,7 @@ use Rattle.std.proofs.lemmas.Bool.Decides.{nat_tests}
 use Rattle.ltx_backup.specs.Moving.{AreAlike}
 use Rattle.ltx_backup.specs.declared.entry.Entry.{Entry}
 use Rattle.ltx_backup.proofs.Lists.{no_entry}
-use Rattle.ltx_backup.proofs.settling.are_alike.Goals as goal
+use Rattle.ltx_backup.proofs.folding.are_alike.Goals as goal
 
 pub loop-entry-preserved : goal.loop-entry-preserved
 loop-entry-preserved c =

@@ -3,7 +3,7 @@ use Rattle.lf_disk.specs.History.{now}
 use Rattle.ltx_backup.specs.Trimming.{HasTrimmed}
 use Rattle.ltx_backup.specs.declared.entry.Entry.{Entry}
 use Rattle.ltx_backup.proofs.Trims.{untouched}
-use Rattle.ltx_backup.proofs.settling.move_up.Goals as goal
+use Rattle.ltx_backup.proofs.folding.move_up.Goals as goal
 
 pub returns-in-Err-clause-same : goal.returns-in-Err-clause-same
 returns-in-Err-clause-same g c not = let same = c.in-Err.ensures.same not in (refl, same.0, refl, same.1)

@@ -9,7 +9,7 @@ use Rattle.ltx_backup.proofs.Lists.{no_entry}
 use Rattle.ltx_backup.proofs.Nths.{as_many}
 use Rattle.ltx_backup.proofs.Gathers.{one_more, not_unread}
 use Rattle.ltx_backup.proofs.Stills.{rests_now, rests_stay, rests_join}
-use Rattle.ltx_backup.proofs.settling.read_files.Goals as goal
+use Rattle.ltx_backup.proofs.folding.read_files.Goals as goal
 
 pub loop-entry-init : goal.loop-entry-init
 loop-entry-init g c = record {

@@ -5,7 +5,7 @@ use Rattle.ltx_codec.specs.Format.{IsFile}
 use Rattle.ltx_codec.specs.declared.file.Ltx.{Ltx}
 use Rattle.ltx_backup.specs.Entries.{entries_of}
 use Rattle.ltx_backup.specs.Levels.{AllStand}
-use Rattle.ltx_backup.proofs.settling.read_files.Given as goal
+use Rattle.ltx_backup.proofs.folding.read_files.Given as goal
 
 abbrev pub invariant-loop-entry : goal.invariant-loop-entry
 invariant-loop-entry g l = record {
