@@ -12,6 +12,7 @@ pub mod Levelled
 pub mod Lifts
 pub mod Listings
 pub mod Lists
+pub mod Loops
 pub mod Merges
 pub mod Nths
 pub mod Once

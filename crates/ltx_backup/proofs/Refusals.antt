@@ -51,7 +51,7 @@ module _ (old : Levels) (index : Index) (l m h : History) where
   middle_refused T fault.NoMemory not due once = (once.0, inr (not, due, once.1))
 
   module _ (first : Levels) (count : ℕ) (settles : Settles count first old) where
-    keeps : IsKept old index l m h → KeepsSettled count first index l m h
+    abbrev keeps : IsKept old index l m h → KeepsSettled count first index l m h
     keeps kept = record { levels = old; settles = settles; kept = kept }
 
     -- none is due any more, or the next one is refused

@@ -25,7 +25,9 @@ settles_one old new lead order folds = record {
 }
 
 settling_join : (a b : ℕ) (x y z : Levels) → Settling a x y → Settling b y z → Settling (b + a) x z
-settling_join a zero x y z first second = subst (λ (k : Levels). Settling a x k) second first
+settling_join a zero x y z first second =
+    let same : a ≡ 0 + a = omega arith in
+    subst (λ (n : ℕ). Settling n x z) same (subst (λ (k : Levels). Settling a x k) second first)
 settling_join a (suc b) x y z first second =
     let more : suc (b + a) ≡ suc b + a = omega arith in
     subst (λ (n : ℕ). Settling n x z) more (second.0, settling_join a b x y second.0 first second.1, second.2)

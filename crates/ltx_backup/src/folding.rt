@@ -1,5 +1,5 @@
 //! Eight files of a level become one of the next: two disks of a backup.
-ghost use Rattle.std.specs.Prelude.{◌≡◌, ◌≢◌, ◌↔◌, ◌≤◌, ◌∷◌, [], ◌++◌, ◌+◌, ◌<◌, List, false, IsTrue, IfOk, IfErr, OnOk, length, take, drop, All};
+ghost use Rattle.std.specs.Prelude.{◌≡◌, ◌≢◌, ◌↔◌, ◌≤◌, ◌∷◌, [], ◌++◌, ◌+◌, List, false, IsTrue, IfOk, IfErr, OnOk, length, take, drop, All};
 ghost use Rattle.lf_base.specs.declared.pos.Pos.{Pos};
 ghost use Rattle.lf_disk.specs.declared.name.FileName.TheVariants as name;
 ghost use Rattle.lf_disk.specs.History.{now, Rests, IsSettledBut};
@@ -161,7 +161,8 @@ pub fn fold<D: Disk>(
     ensures honest { (D.honest from.new ≡ D.honest from.old) × (D.honest to.new ≡ D.honest to.old) }
     ensures cause { HasCauses (record { low = D.faults from.old; middle = D.faults to.old; high = 0 })
         (record { low = D.faults from.new; middle = D.faults to.new; high = 0 }) result }
-    ensures fewer { OnOk result (length entries.new.items + length uppers.new.items < length entries.old.items + length uppers.old.items) }
+    ensures left { OnOk result (entries.new.items ≡ drop 8 entries.old.items) }
+    ensures made { OnOk result (length uppers.new.items ≡ length uppers.old.items + 1) }
 {
     let front = oldest(entries.as_slice());
     let first = front[0];

@@ -23,7 +23,8 @@ impl<D: Disk> Backup<D> {
         ensures settles { AreHonest (D.honest self.old.low) (D.honest self.old.middle) (D.honest self.old.high) → self.old.broken ≡ false → (levels : Levels)
             → IsKept levels self.old.index (D.history self.old.low) (D.history self.old.middle) (D.history self.old.high)
             → HasSettled levels result self.new.index (D.history self.new.low) (D.history self.new.middle) (D.history self.new.high) }
-        ensures broken { self.old.broken ≡ true → result ≡ Err BackupFault.Broken }
+        ensures broken { self.old.broken ≡ true → (result ≡ Err BackupFault.Broken) × (self.new.index ≡ self.old.index)
+            × (self.new.low ≡ self.old.low) × (self.new.middle ≡ self.old.middle) × (self.new.high ≡ self.old.high) }
         ensures end { self.new.index.end ≡ self.old.index.end }
         ensures breaks { Breaks self.old.broken result self.new.broken }
         ensures honest { (D.honest self.new.low ≡ D.honest self.old.low) × (D.honest self.new.middle ≡ D.honest self.old.middle) × (D.honest self.new.high ≡ D.honest self.old.high) }
@@ -33,7 +34,8 @@ impl<D: Disk> Backup<D> {
         // Whatever call stops, the disks hold what some of the compactions leave.
         ensures stops { AreHonest (D.honest self.old.low) (D.honest self.old.middle) (D.honest self.old.high) → (levels : Levels)
             → IsKept levels self.old.index (D.history self.old.low) (D.history self.old.middle) (D.history self.old.high)
-            → Stops (D.history self.old.low) (D.history self.old.middle) (D.history self.old.high) (D.history self.new.low) (D.history self.new.middle) (D.history self.new.high) (HoldsSettled levels) }
+            → Stops (D.history self.old.low) (D.history self.old.middle) (D.history self.old.high) (D.history self.new.low) (D.history self.new.middle) (D.history self.new.high)
+            (HoldsSettled levels) }
     {
         let broken = self.broken;
         if broken {
@@ -57,7 +59,8 @@ impl<D: Disk> Backup<D> {
             → GoesOn levels result self.new.index (D.history self.new.low) (D.history self.new.middle) (D.history self.new.high) }
         ensures stops { AreHonest (D.honest self.old.low) (D.honest self.old.middle) (D.honest self.old.high) → (levels : Levels)
             → IsKept levels self.old.index (D.history self.old.low) (D.history self.old.middle) (D.history self.old.high)
-            → Stops (D.history self.old.low) (D.history self.old.middle) (D.history self.old.high) (D.history self.new.low) (D.history self.new.middle) (D.history self.new.high) (HoldsSettled levels) }
+            → Stops (D.history self.old.low) (D.history self.old.middle) (D.history self.old.high) (D.history self.new.low) (D.history self.new.middle) (D.history self.new.high)
+            (HoldsSettled levels) }
         ensures fewer { IfOk result (λ more. IsTrue more
             → length self.new.index.entries.lows.items + length self.new.index.entries.middles.items
             < length self.old.index.entries.lows.items + length self.old.index.entries.middles.items) }
@@ -91,7 +94,8 @@ impl<D: Disk> Backup<D> {
             → FoldsOnce levels.lows levels result self.new.index (D.history self.new.low) (D.history self.new.middle) (D.history self.new.high) }
         ensures stops { AreHonest (D.honest self.old.low) (D.honest self.old.middle) (D.honest self.old.high) → (levels : Levels)
             → IsKept levels self.old.index (D.history self.old.low) (D.history self.old.middle) (D.history self.old.high)
-            → Stops (D.history self.old.low) (D.history self.old.middle) (D.history self.old.high) (D.history self.new.low) (D.history self.new.middle) (D.history self.new.high) (HoldsSettled levels) }
+            → Stops (D.history self.old.low) (D.history self.old.middle) (D.history self.old.high) (D.history self.new.low) (D.history self.new.middle) (D.history self.new.high)
+            (HoldsSettled levels) }
         ensures fewer { OnOk result (length self.new.index.entries.lows.items + length self.new.index.entries.middles.items
             < length self.old.index.entries.lows.items + length self.old.index.entries.middles.items) }
         ensures end { self.new.index.end ≡ self.old.index.end }
@@ -126,7 +130,8 @@ impl<D: Disk> Backup<D> {
             → FoldsOnce levels.middles levels result self.new.index (D.history self.new.low) (D.history self.new.middle) (D.history self.new.high) }
         ensures stops { AreHonest (D.honest self.old.low) (D.honest self.old.middle) (D.honest self.old.high) → (levels : Levels)
             → IsKept levels self.old.index (D.history self.old.low) (D.history self.old.middle) (D.history self.old.high)
-            → Stops (D.history self.old.low) (D.history self.old.middle) (D.history self.old.high) (D.history self.new.low) (D.history self.new.middle) (D.history self.new.high) (HoldsSettled levels) }
+            → Stops (D.history self.old.low) (D.history self.old.middle) (D.history self.old.high) (D.history self.new.low) (D.history self.new.middle) (D.history self.new.high)
+            (HoldsSettled levels) }
         ensures fewer { OnOk result (length self.new.index.entries.lows.items + length self.new.index.entries.middles.items
             < length self.old.index.entries.lows.items + length self.old.index.entries.middles.items) }
         ensures end { self.new.index.end ≡ self.old.index.end }

@@ -1,4 +1,4 @@
-use Rattle.std.proofs.Common.{◌≡◌, ◌∙◌, ◌+◌, ◌-◌, inl, inr, List, [], ◌∷◌, length, length-drop, length-append, arith, take, refl, sym, ap, subst}
+use Rattle.std.proofs.Common.{◌≡◌, ◌∙◌, ◌+◌, inl, inr, List, [], ◌∷◌, length, length-append, take, refl, sym, ap, subst}
 use Rattle.lf_disk.specs.declared.name.FileName.TheVariants.{Staged}
 use Rattle.lf_disk.specs.Folder.{SameBut}
 use Rattle.lf_disk.specs.History.{now, Rests}
@@ -132,9 +132,5 @@ returns-in-Ok-move_up-clause-folds g c from to files level =
 pub returns-in-Ok-move_up-clause-settled : goal.returns-in-Ok-move_up-clause-settled
 returns-in-Ok-move_up-clause-settled g c = (λ honest. c.in-Ok-move_up.ensures.settled.0 (c.read_files.ensures.honest ∙ honest), λ honest. c.in-Ok-move_up.ensures.settled.1 honest)
 
-pub returns-in-Ok-move_up-clause-fewer : goal.returns-in-Ok-move_up-clause-fewer
-returns-in-Ok-move_up-clause-fewer g c =
-    let left : length c.move_up.new.entries.items ≡ length c.args.entries.now.items - 8 = ap length c.in-Ok-move_up.ensures.entries ∙ length-drop 8 c.args.entries.now.items in
-    let made : length c.move_up.new.uppers.items ≡ length c.args.uppers.now.items + 1 =
-    ap length c.in-Ok-move_up.ensures.uppers ∙ length-append c.args.uppers.now.items (entry_of c.in-Ok-merge.file ∷ []) in
-    omega (arith, left, made, c.requires.due.eight)
+pub returns-in-Ok-move_up-clause-made : goal.returns-in-Ok-move_up-clause-made
+returns-in-Ok-move_up-clause-made g c = ap length c.in-Ok-move_up.ensures.uppers ∙ length-append c.args.uppers.now.items (entry_of c.in-Ok-merge.file ∷ [])

@@ -1,4 +1,4 @@
-use Rattle.std.proofs.Common.{◌≡◌, ◌≢◌, ◌∙◌, ◌++◌, refl, sym, subst}
+use Rattle.std.proofs.Common.{◌≡◌, ◌≢◌, ◌∙◌, ◌++◌, ◌-◌, length, length-drop, arith, refl, sym, ap, subst}
 use Rattle.lf_disk.specs.History.{Rests}
 use Rattle.ltx_backup.specs.Entries.{IsKept}
 use Rattle.ltx_backup.specs.Levels.{end_of}
@@ -34,13 +34,18 @@ returns-in-Err-clause-folds g c honest levels kept =
     let index_now : Index = record c.args.self.now.index { entries = record c.args.self.now.index.entries { lows = c.fold.new.entries; middles = c.fold.new.uppers } } in
     once_refused levels index_now (g.D.Disk.history c.fold.new.from) (g.D.Disk.history c.fold.new.to) (g.D.Disk.history c.args.self.now.high) (Unit {0}) levels.lows c.in-Err.why
     (λ not.
-        let same = c.in-Err.ensures.same not in
-        let stays = subst (λ d. Rests (g.D.Disk.history c.args.self.now.middle) (g.D.Disk.history d)) (sym same.3) (rests_stay (g.D.Disk.history c.args.self.now.middle)) in
-        kept_index levels c.args.self.now.index index_now (g.D.Disk.history c.fold.new.from) (g.D.Disk.history c.fold.new.to) (g.D.Disk.history c.args.self.now.high)
-        (kept_rests levels c.args.self.now.index (g.D.Disk.history c.args.self.now.low) (g.D.Disk.history c.args.self.now.middle) (g.D.Disk.history c.args.self.now.high)
-        (g.D.Disk.history c.fold.new.from) (g.D.Disk.history c.fold.new.to) (g.D.Disk.history c.args.self.now.high) kept same.2 stays (rests_stay (g.D.Disk.history c.args.self.now.high)))
-        (record { lows = same.0; middles = same.1; highs = refl; end = refl }))
+    let same = c.in-Err.ensures.same not in
+    let stays = subst (λ d. Rests (g.D.Disk.history c.args.self.now.middle) (g.D.Disk.history d)) (sym same.3) (rests_stay (g.D.Disk.history c.args.self.now.middle)) in
+    kept_index levels c.args.self.now.index index_now (g.D.Disk.history c.fold.new.from) (g.D.Disk.history c.fold.new.to) (g.D.Disk.history c.args.self.now.high)
+    (kept_rests levels c.args.self.now.index (g.D.Disk.history c.args.self.now.low) (g.D.Disk.history c.args.self.now.middle) (g.D.Disk.history c.args.self.now.high)
+    (g.D.Disk.history c.fold.new.from) (g.D.Disk.history c.fold.new.to) (g.D.Disk.history c.args.self.now.high) kept same.2 stays (rests_stay (g.D.Disk.history c.args.self.now.high)))
+    (record { lows = same.0; middles = same.1; highs = refl; end = refl }))
     (c.in-Err.ensures.why honest.0 levels.lows kept.lows (end_of nowhere (levels.highs ++ levels.middles)) (lead_lows levels kept.joined))
 
 pub returns-in-Err-clause-breaks : goal.returns-in-Err-clause-breaks
 returns-in-Err-clause-breaks g c = breaks_by (Unit {0}) c.args.self.now.broken c.is_disk-self.result c.in-Err.why c.requires.sound c.is_disk-self.ensures.yes c.is_disk-self.ensures.no
+
+pub returns-in-Ok-clause-fewer : goal.returns-in-Ok-clause-fewer
+returns-in-Ok-clause-fewer g c =
+    let left : length c.fold.new.entries.items ≡ length c.args.self.now.index.entries.lows.items - 8 = ap length c.in-Ok.ensures.left ∙ length-drop 8 c.args.self.now.index.entries.lows.items in
+    omega (arith, left, c.in-Ok.ensures.made, c.requires.due.eight)
