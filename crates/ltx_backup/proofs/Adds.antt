@@ -1,12 +1,11 @@
 -- A backup after a file was added.
-use Rattle.std.proofs.Common.{◌≡◌, ◌≢◌, ◌∙◌, ◌⊎◌, inl, inr, ℕ, ◌+◌, ◌<◌, ◌≤◌, Bool, true, false, List, [], ◌∷◌, ◌++◌, Option, None, Some, IsSome, Err, refl, sym, ap, subst, arith, eq-eqb}
+use Rattle.std.proofs.Common.{◌≡◌, ◌≢◌, ◌∙◌, ◌⊎◌, inl, inr, ℕ, Bool, true, false, List, [], ◌∷◌, ◌++◌, Err, refl, sym, ap, subst, arith, eq-eqb}
 use Rattle.std.specs.Prelude.{◌==◌, if◌then◌else◌}
-use Rattle.std.proofs.lemmas.Bool.{false≢true}
 use Rattle.std.proofs.lemmas.Bool.Decides.{nat_tests}
 use Rattle.lf_base.specs.declared.pos.Pos.{Pos}
 use Rattle.lf_disk.specs.declared.name.FileName.TheVariants.{Staged, Snapshot, Ltx as LtxName}
 use Rattle.lf_disk.specs.Folder.{Folder, SameBut}
-use Rattle.lf_disk.specs.History.{History, now, EachMoment, IsSettledBut}
+use Rattle.lf_disk.specs.History.{History, now, EachMoment}
 use Rattle.lf_disk.specs.Publish.{IsOldOrPublished, IsPublished, with_bytes}
 use Rattle.lf_disk.proofs.Moments.{started}
 use Rattle.ltx_codec.specs.Format.{IsLtx}
@@ -14,17 +13,16 @@ use Rattle.ltx_codec.specs.Positions.{before, after, nowhere}
 use Rattle.ltx_codec.specs.declared.file.Ltx.{Ltx}
 use Rattle.ltx_backup.specs.Adding.{HoldsEither, Adds, Breaks}
 use Rattle.ltx_backup.specs.Causes.{IsBlameless}
-use Rattle.ltx_backup.specs.Entries.{entry_of, entries_of, IsLevel, IsKept}
+use Rattle.ltx_backup.specs.Entries.{entry_of, IsKept}
 use Rattle.ltx_backup.specs.Finishing.{AllNamed, Waits, HoldsOnly}
-use Rattle.ltx_backup.specs.Levels.{Levels, chain, LeadOn, end_of, HasPast, HoldsFiles, Holds, only_low}
+use Rattle.ltx_backup.specs.Levels.{Levels, chain, LeadOn, end_of, HasPast, Holds, only_low}
 use Rattle.ltx_backup.specs.Stops.{Stops}
 use Rattle.ltx_backup.specs.Stored.{stored, added}
-use Rattle.ltx_backup.specs.declared.entry.Entries.{Entries}
 use Rattle.ltx_backup.specs.declared.entry.Entry.{Entry}
 use Rattle.ltx_backup.specs.declared.entry.Index.{Index}
 use Rattle.ltx_backup.specs.declared.fault.BackupFault.{BackupFault}
 use Rattle.ltx_backup.specs.declared.fault.BackupFault.TheVariants as fault
-use Rattle.ltx_backup.proofs.Appends.{named_by, has_more, snapshot_stays}
+use Rattle.ltx_backup.proofs.Appends.{named_by, has_more}
 use Rattle.ltx_backup.proofs.Holding.{has_higher, has_same, holds_same, kept_holds, lead_join, end_join}
 use Rattle.ltx_backup.proofs.Judges.{entries_join}
 use Rattle.ltx_backup.proofs.Turns.{apart, weaker, and_then}

@@ -1,18 +1,17 @@
 -- A file is published behind those of a level.
-use Rattle.std.proofs.Common.{◌≡◌, ◌∙◌, ◌⊎◌, inl, inr, ℕ, ◌+◌, ◌-◌, ◌<◌, ◌≤◌, Bool, true, false, List, [], ◌∷◌, ◌++◌, Option, None, Some, IsSome, refl, sym, ap, subst, arith}
+use Rattle.std.proofs.Common.{◌≡◌, ◌∙◌, inl, inr, ℕ, ◌<◌, Bool, false, List, [], ◌∷◌, ◌++◌, Option, Some, IsSome, refl, sym, ap, subst, arith}
 use Rattle.std.specs.Prelude.{◌==◌, ◌&&◌, if◌then◌else◌}
 use Rattle.std.proofs.lemmas.Bool.{cases_Bool, and_parts, eqb-true}
 use Rattle.std.proofs.lemmas.Bool.Decides.{nat_tests}
 use Rattle.lf_base.specs.declared.pos.Pos.{Pos}
-use Rattle.lf_disk.specs.declared.name.FileName.{FileName}
 use Rattle.lf_disk.specs.declared.name.FileName.TheVariants.{Staged, Snapshot, Ltx as LtxName}
 use Rattle.lf_disk.specs.Folder.{Folder, bytes_of, same_name, SameBut}
 use Rattle.lf_disk.specs.Names.{same_name-refl}
 use Rattle.lf_disk.specs.Publish.{with_bytes}
 use Rattle.ltx_codec.specs.Format.{IsLtx}
-use Rattle.ltx_codec.specs.Positions.{before, after, nowhere}
+use Rattle.ltx_codec.specs.Positions.{before, after}
 use Rattle.ltx_codec.specs.declared.file.Ltx.{Ltx}
-use Rattle.ltx_backup.specs.Entries.{entry_of, entries_of, Lists}
+use Rattle.ltx_backup.specs.Entries.{entries_of, Lists}
 use Rattle.ltx_backup.specs.Levels.{LeadOn, end_of, Stands, AllStand, Has, HasPast}
 use Rattle.ltx_backup.specs.Stored.{stored}
 use Rattle.ltx_backup.specs.declared.entry.Entry.{Entry}

@@ -1,7 +1,6 @@
 -- A refusal, and what it says of a file.
-use Rattle.std.proofs.Common.{◌≡◌, ◌∙◌, ◌⊎◌, inl, inr, ℕ, ◌<◌, ◌≤◌, List, [], ◌∷◌, ◌++◌, length, Option, Result, Ok, Err, IfErr, refl, sym, ap, subst, arith}
-use Rattle.std.specs.Prelude.{get_or}
-use Rattle.lf_disk.specs.declared.name.FileName.TheVariants.{Snapshot, Ltx as LtxName}
+use Rattle.std.proofs.Common.{◌≡◌, ◌∙◌, ◌⊎◌, inl, inr, ℕ, ◌≤◌, List, [], ◌∷◌, ◌++◌, length, Result, Ok, Err, IfErr, refl, sym, ap, subst, arith}
+use Rattle.lf_disk.specs.declared.name.FileName.TheVariants.{Ltx as LtxName}
 use Rattle.lf_disk.specs.Folder.{Folder, bytes_of}
 use Rattle.ltx_codec.specs.Fields.{AreBytes}
 use Rattle.ltx_codec.specs.Format.{IsLtx}
@@ -11,9 +10,8 @@ use Rattle.ltx_codec.specs.declared.fault.LtxFault.{LtxFault}
 use Rattle.ltx_codec.specs.declared.fault.LtxFault.TheVariants as ltx_fault
 use Rattle.ltx_codec.proofs.SoundLemmas.{encoding_sound}
 use Rattle.ltx_backup.specs.Causes.{HasCause}
-use Rattle.ltx_backup.specs.Judging.{Accuses, Blames, IsNoFile, HasNumbers, IsOther, IsUnread}
+use Rattle.ltx_backup.specs.Judging.{Accuses, Blames, HasNumbers}
 use Rattle.ltx_backup.specs.Levels.{Stands}
-use Rattle.ltx_backup.specs.Opening.{IsNoSnapshot}
 use Rattle.ltx_backup.specs.declared.entry.Entry.{Entry}
 use Rattle.ltx_backup.specs.declared.fault.BackupFault.{BackupFault}
 use Rattle.ltx_backup.specs.declared.fault.BackupFault.TheVariants as fault

@@ -1,5 +1,5 @@
 -- The eight oldest files of a level.
-use Rattle.std.proofs.Common.{◌≡◌, ◌∙◌, ◌⊎◌, inl, inr, ℕ, zero, suc, ◌+◌, ◌-◌, ◌<◌, ◌≤◌, List, [], ◌∷◌, ◌++◌, Option, None, Some, Err, length, take, drop, refl, sym, ap, subst, arith}
+use Rattle.std.proofs.Common.{◌≡◌, ◌∙◌, inl, inr, ℕ, zero, suc, ◌-◌, ◌<◌, ◌≤◌, List, [], ◌∷◌, None, Some, Err, length, take, refl, sym, ap, subst, arith}
 use Rattle.std.specs.Prelude.{slice_get}
 use Rattle.lf_base.specs.declared.pos.Pos.{Pos}
 use Rattle.lf_disk.specs.Folder.{Folder}
@@ -7,17 +7,15 @@ use Rattle.lf_disk.specs.declared.name.FileName.TheVariants.{Staged}
 use Rattle.lf_disk.specs.History.{History, Rests, IsSettledBut}
 use Rattle.ltx_codec.specs.Positions.{before, after}
 use Rattle.ltx_codec.specs.declared.file.Ltx.{Ltx}
-use Rattle.ltx_compact.specs.Compaction.{Compacts}
-use Rattle.ltx_compact.specs.Joining.{Joins, AllJoin, StandAt}
+use Rattle.ltx_compact.specs.Joining.{Joins, AllJoin}
 use Rattle.ltx_backup.specs.Causes.{IsBlameless, Counts, AllStay, HasCauses}
 use Rattle.ltx_backup.specs.Entries.{entry_of, entries_of}
 use Rattle.ltx_backup.specs.Levels.{LeadOn, AllStand}
-use Rattle.ltx_backup.specs.Merging.{IsUnmerged, IsWrongSum}
+use Rattle.ltx_backup.specs.Merging.{IsUnmerged}
 use Rattle.ltx_backup.specs.Moving.{AreAlike, AreDue, MovesUp, IsUnfolded}
 use Rattle.ltx_backup.specs.declared.entry.Entry.{Entry}
 use Rattle.ltx_backup.specs.declared.fault.BackupFault.{BackupFault}
 use Rattle.ltx_backup.specs.declared.fault.BackupFault.TheVariants as fault
-use Rattle.ltx_backup.proofs.Holding.{begins_past}
 use Rattle.ltx_backup.proofs.Stills.{trims_after}
 use Rattle.ltx_backup.proofs.Nths.{as_many}
 

@@ -1,27 +1,24 @@
 -- A snapshot gets its name once all other files are gone.
-use Rattle.std.proofs.Common.{◌≡◌, ◌∙◌, ◌⊎◌, inl, inr, ℕ, ◌+◌, ◌-◌, ◌<◌, ◌≤◌, Bool, true, false, List, [], ◌∷◌, ◌++◌, Option, None, Some, IsSome, Result, refl, sym, ap, subst, arith}
+use Rattle.std.proofs.Common.{◌≡◌, ◌∙◌, ◌⊎◌, inl, inr, ℕ, ◌-◌, Bool, false, List, [], ◌∷◌, Option, None, Some, IsSome, Result, refl, sym, ap, subst, arith}
 use Rattle.std.specs.Prelude.{◌==◌, ◌&&◌, if◌then◌else◌}
 use Rattle.std.proofs.lemmas.Bool.{cases_Bool, and_parts, eqb-true}
-use Rattle.lf_base.specs.declared.pos.Pos.{Pos}
 use Rattle.lf_disk.specs.declared.name.FileName.{FileName}
 use Rattle.lf_disk.specs.declared.name.FileName.TheVariants.{Staged, Snapshot, Ltx as LtxName}
 use Rattle.lf_disk.specs.Folder.{Folder, bytes_of, same_name, renamed, SameBut}
-use Rattle.lf_disk.specs.Names.{same_name-refl, same_name-one}
+use Rattle.lf_disk.specs.Names.{same_name-refl}
 use Rattle.lf_disk.specs.Change.{Step, Perhaps, Renames}
-use Rattle.lf_disk.specs.History.{History, now, may_leave, Ticks, Moves, EachMoment, IsSettledBut}
+use Rattle.lf_disk.specs.History.{History, now, Ticks, Moves, EachMoment, IsSettledBut}
 use Rattle.lf_disk.proofs.Moments.{started, goes_on}
 use Rattle.ltx_codec.specs.Format.{IsLtx}
-use Rattle.ltx_codec.specs.Positions.{before, after, nowhere}
+use Rattle.ltx_codec.specs.Positions.{before, nowhere}
 use Rattle.ltx_codec.specs.declared.file.Ltx.{Ltx}
-use Rattle.ltx_backup.specs.Entries.{entry_of}
-use Rattle.ltx_backup.specs.Finishing.{AllNamed, AreNamed, Waits, HoldsOnly, IsAlone}
-use Rattle.ltx_backup.specs.Levels.{HasPast, HoldsFiles, Holds, only_low}
+use Rattle.ltx_backup.specs.Finishing.{AllNamed, Waits, HoldsOnly, IsAlone}
+use Rattle.ltx_backup.specs.Levels.{HasPast}
 use Rattle.ltx_backup.specs.Stops.{Stops}
 use Rattle.ltx_backup.specs.Trimming.{IsTrimmed, HasTrimmed}
 use Rattle.ltx_backup.specs.declared.entry.Entries.{Entries}
 use Rattle.ltx_backup.specs.declared.entry.Entry.{Entry}
 use Rattle.ltx_backup.proofs.Holding.{has_none, has_same}
-use Rattle.ltx_backup.proofs.Trims.{trimmed_same, left_trimmed}
 use Rattle.ltx_backup.proofs.Turns.{apart, weaker, and_then}
 
 -- a folder with this file alone

@@ -1,16 +1,15 @@
 -- What folders hold stays where they are the same, and where files are removed that the chain passes over.
-use Rattle.std.proofs.Common.{◌≡◌, ◌∙◌, ◌⊎◌, inl, inr, ℕ, ◌+◌, ◌-◌, ◌<◌, ◌≤◌, List, [], ◌∷◌, ◌++◌, Option, None, Some, IsSome, refl, sym, ap, subst, arith}
+use Rattle.std.proofs.Common.{◌≡◌, ◌∙◌, ◌⊎◌, inl, inr, ℕ, ◌-◌, ◌<◌, ◌≤◌, List, [], ◌∷◌, ◌++◌, Option, None, Some, IsSome, refl, sym, ap, subst, arith}
 use Rattle.std.proofs.lemmas.Bool.{cases_lt, false≢true}
 use Rattle.lf_base.specs.declared.pos.Pos.{Pos}
 use Rattle.lf_disk.specs.declared.name.FileName.TheVariants.{Staged, Snapshot, Ltx as LtxName}
 use Rattle.lf_disk.specs.Folder.{Folder, bytes_of, SameBut}
-use Rattle.lf_disk.specs.History.{History, now, Rests, IsSettledBut}
+use Rattle.lf_disk.specs.History.{History, now}
 use Rattle.ltx_codec.specs.Format.{IsLtx}
-use Rattle.ltx_codec.specs.Positions.{before, after, nowhere}
+use Rattle.ltx_codec.specs.Positions.{before, after}
 use Rattle.ltx_codec.specs.declared.file.Ltx.{Ltx}
-use Rattle.ltx_backup.specs.Entries.{entries_of, IsLevel, IsKept, Lists}
-use Rattle.ltx_backup.specs.Levels.{Levels, chain, LeadOn, end_of, Stands, AllStand, Has, HasPast, HoldsFiles, HoldsSnapshot, Holds}
-use Rattle.ltx_backup.specs.Listing.{AreListed}
+use Rattle.ltx_backup.specs.Entries.{IsKept, Lists}
+use Rattle.ltx_backup.specs.Levels.{Levels, LeadOn, end_of, Stands, AllStand, HasPast, Holds}
 use Rattle.ltx_backup.specs.Trimming.{IsTrimmed, HasTrimmed}
 use Rattle.ltx_backup.specs.declared.entry.Entry.{Entry}
 use Rattle.ltx_backup.specs.declared.entry.Index.{Index}

@@ -1,16 +1,15 @@
 -- One file in place of several changes no image at a transaction that stays.
-use Rattle.std.proofs.Common.{◌≡◌, ◌∙◌, ◌⊎◌, inl, inr, ℕ, zero, suc, ◌+◌, ◌-◌, ◌<◌, ◌≤◌, List, [], ◌∷◌, ◌++◌, Option, None, Some, length, take, drop, append_assoc, refl, sym, ap, subst, arith}
+use Rattle.std.proofs.Common.{◌≡◌, ◌∙◌, inl, inr, ℕ, zero, suc, ◌-◌, ◌<◌, ◌≤◌, List, [], ◌∷◌, ◌++◌, None, Some, length, take, drop, append_assoc, refl, sym, ap, subst, arith}
 use Rattle.std.specs.Prelude.{slice_get}
 use Rattle.std.proofs.lemmas.Bool.{cases_lt}
 use Rattle.lf_base.specs.declared.pos.Pos.{Pos}
-use Rattle.lf_sqlite_pages.specs.Apply.{apply}
 use Rattle.lf_sqlite_pages.specs.Image.{DatabaseImage, empty_image}
-use Rattle.ltx_codec.specs.Positions.{before, after, nowhere}
+use Rattle.ltx_codec.specs.Positions.{after, nowhere}
 use Rattle.ltx_codec.specs.declared.file.Ltx.{Ltx}
 use Rattle.ltx_codec.specs.declared.header.Header.{Header}
 use Rattle.ltx_compact.specs.Application.{apply_all, DoesAsFiles}
 use Rattle.ltx_compact.specs.Compaction.{Compacts}
-use Rattle.ltx_backup.specs.Folding.{Folded, FoldsLow, FoldsMiddle, Folds}
+use Rattle.ltx_backup.specs.Folding.{FoldsLow, FoldsMiddle, Folds}
 use Rattle.ltx_backup.specs.Levels.{Levels, chain, LeadOn, end_of}
 use Rattle.ltx_backup.specs.Restoring.{up_to, restored, EndsWith}
 use Rattle.ltx_backup.specs.Ordered.{AllOrdered}

@@ -1,6 +1,6 @@
 -- The files of a level are judged, one after another.
-use Rattle.std.proofs.Common.{◌≡◌, ◌∙◌, ◌⊎◌, inl, inr, ℕ, zero, suc, ◌+◌, ◌-◌, ◌<◌, ◌≤◌, Bool, true, false, List, [], ◌∷◌, ◌++◌, length, take, get_or, map, IsSome, refl, sym, ap, subst, arith, eq-eqb}
-use Rattle.std.specs.Prelude.{◌==◌, ◌&&◌}
+use Rattle.std.proofs.Common.{◌≡◌, ◌∙◌, ◌⊎◌, inl, inr, ℕ, zero, suc, ◌<◌, ◌≤◌, true, false, List, [], ◌∷◌, ◌++◌, length, take, get_or, IsSome, refl, sym, ap, subst, arith, eq-eqb}
+use Rattle.std.specs.Prelude.{◌==◌}
 use Rattle.std.specs.List.{IsDistinct, AllByRecursion}
 use Rattle.std.proofs.lemmas.Bool.{cases_lt, and_from, false≢true}
 use Rattle.lf_base.specs.declared.pos.Pos.{Pos}
@@ -11,14 +11,14 @@ use Rattle.ltx_codec.specs.declared.file.Ltx.{Ltx}
 use Rattle.ltx_backup.specs.Entries.{entry_of, entries_of, Lists}
 use Rattle.ltx_backup.specs.Judging.{HasNumbers, IsNext, Judging, IsJudged, IsBroken, IsRefusedPast}
 use Rattle.ltx_backup.specs.Levels.{LeadOn, end_of, Stands, AllStand, Has, HasPast}
-use Rattle.ltx_backup.specs.Listing.{first_of, same_numbers, AreInOrder, AreOnce, AreListed}
+use Rattle.ltx_backup.specs.Listing.{same_numbers, AreInOrder, AreOnce, AreListed}
 use Rattle.ltx_backup.specs.declared.entry.Entry.{Entry}
 use Rattle.ltx_backup.specs.declared.fault.BackupFault.{BackupFault}
 use Rattle.ltx_backup.specs.declared.fault.BackupFault.TheVariants as fault
 use Rattle.ltx_backup.proofs.Holding.{begins_past, lead_past, lead_join, end_join}
 use Rattle.ltx_backup.proofs.Listings.{lists_old, lists_new, lists_cases, lists_get}
 use Rattle.ltx_backup.proofs.Lists.{no_entry}
-use Rattle.ltx_backup.proofs.Unique.{stands_some, has_past, has_within, end_after, Front, front}
+use Rattle.ltx_backup.proofs.Unique.{stands_some, has_past, has_within, end_after, front}
 
 pub stand_join : (f : Folder) (xs ys : List Ltx) → AllStand f xs → AllStand f ys → AllStand f (xs ++ ys)
 stand_join f [] ys first second = second

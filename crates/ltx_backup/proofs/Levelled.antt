@@ -1,31 +1,28 @@
 -- One compaction of the lowest level, or of the next: what is kept then.
-use Rattle.std.proofs.Common.{◌≡◌, ◌∙◌, ◌⊎◌, inl, inr, ℕ, zero, suc, ◌+◌, ◌<◌, ◌≤◌, List, [], ◌∷◌, ◌++◌, Option, None, Some, length, take, drop, refl, sym, ap, subst, arith}
+use Rattle.std.proofs.Common.{◌≡◌, ◌∙◌, inl, inr, ℕ, zero, suc, List, [], ◌∷◌, ◌++◌, drop, refl, sym, ap, subst, arith}
 use Rattle.lf_base.specs.declared.pos.Pos.{Pos}
 use Rattle.lf_disk.specs.declared.name.FileName.TheVariants.{Staged, Snapshot, Ltx as LtxName}
 use Rattle.lf_disk.specs.Folder.{Folder, SameBut}
-use Rattle.lf_disk.specs.History.{History, now, EachMoment, IsSettledBut}
-use Rattle.lf_disk.specs.Publish.{IsOldOrPublished, with_bytes}
+use Rattle.lf_disk.specs.History.{History, now}
+use Rattle.lf_disk.specs.Publish.{with_bytes}
 use Rattle.lf_disk.proofs.Moments.{started}
-use Rattle.ltx_codec.specs.Positions.{before, after, nowhere}
+use Rattle.ltx_codec.specs.Positions.{after, nowhere}
 use Rattle.ltx_codec.specs.declared.file.Ltx.{Ltx}
 use Rattle.ltx_backup.specs.Entries.{entry_of, entries_of, IsKept}
-use Rattle.ltx_backup.specs.Folding.{HaveSize, IsDue, Folded, FoldsLow, FoldsMiddle, Folds, Settling}
-use Rattle.ltx_backup.specs.Levels.{Levels, chain, LeadOn, end_of, HasPast, HoldsFiles, Holds}
-use Rattle.ltx_backup.specs.Moving.{AreAlike, AreDue, IsEightOf, MovesUp, HasMovedUp, HasFolded, MayFold}
+use Rattle.ltx_backup.specs.Levels.{Levels, chain, LeadOn, end_of, HasPast, Holds}
+use Rattle.ltx_backup.specs.Moving.{AreDue, IsEightOf, HasFolded, MayFold}
 use Rattle.ltx_backup.specs.Settling.{Settles, KeepsSettled, HoldsSettled}
 use Rattle.ltx_backup.specs.Ordered.{AllOrdered}
 use Rattle.ltx_backup.specs.Stops.{Stops}
 use Rattle.ltx_backup.specs.Stored.{stored}
-use Rattle.ltx_backup.specs.Trimming.{IsTrimmed, HasTrimmed}
+use Rattle.ltx_backup.specs.Trimming.{IsTrimmed}
 use Rattle.ltx_backup.specs.declared.entry.Entry.{Entry}
 use Rattle.ltx_backup.specs.declared.entry.Index.{Index}
 use Rattle.ltx_backup.proofs.Adds.{held_same}
-use Rattle.ltx_backup.proofs.Eights.{entries_take}
 use Rattle.ltx_backup.proofs.Folds.{end_above, lead_now, end_now, uppers_more, files_left, files_alone}
 use Rattle.ltx_backup.proofs.Holding.{has_higher, has_same, lead_front, lead_back, lead_join, end_join}
 use Rattle.ltx_backup.proofs.Judges.{entries_join}
 use Rattle.ltx_backup.proofs.Lifts.{goes_up_low, goes_up_middle}
-use Rattle.ltx_backup.proofs.Nths.{as_many}
 use Rattle.ltx_backup.proofs.Restorings.{chain_ordered}
 use Rattle.ltx_backup.proofs.Settlings.{settles_none, settles_one, is_due}
 use Rattle.ltx_backup.proofs.Turns.{apart, weaker}

@@ -1,13 +1,13 @@
 -- A file goes up from one disk to the next, while the third stands.
-use Rattle.std.proofs.Common.{◌≡◌, ◌∙◌, ◌⊎◌, inl, inr, ℕ, ◌≤◌, List, [], ◌∷◌, refl, sym, subst, arith}
+use Rattle.std.proofs.Common.{◌≡◌, ◌∙◌, inl, inr, ℕ, ◌≤◌, [], ◌∷◌, refl, subst, arith}
 use Rattle.lf_disk.specs.declared.name.FileName.TheVariants.{Staged, Ltx as LtxName}
 use Rattle.lf_disk.specs.Folder.{Folder, SameBut}
 use Rattle.lf_disk.specs.History.{History, now, EachMoment, IsSettledBut}
 use Rattle.lf_disk.specs.Publish.{IsOldOrPublished, with_bytes}
 use Rattle.lf_disk.proofs.Moments.{past_stays}
 use Rattle.ltx_codec.specs.declared.file.Ltx.{Ltx}
-use Rattle.ltx_backup.specs.Moving.{MovesUp, IsThere}
-use Rattle.ltx_backup.specs.Stops.{Turn, low, middle, high, EachLeft, Stops}
+use Rattle.ltx_backup.specs.Moving.{MovesUp}
+use Rattle.ltx_backup.specs.Stops.{low, middle, high, EachLeft, Stops}
 use Rattle.ltx_backup.specs.Stored.{stored}
 use Rattle.ltx_backup.specs.Trimming.{IsTrimmed}
 

@@ -1,5 +1,4 @@
 -- Entries, one by one.
-use Rattle.std.proofs.Common.{◌≡◌}
 use Rattle.ltx_backup.specs.declared.entry.Entry.{Entry}
 
 -- an entry of no account

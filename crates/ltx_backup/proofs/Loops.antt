@@ -1,7 +1,7 @@
 -- How a backup settles, one compaction after another.
-use Rattle.std.proofs.Common.{◌≡◌, ◌∙◌, ℕ, ◌+◌, Bool, true, Ok, subst}
+use Rattle.std.proofs.Common.{◌≡◌, ℕ, ◌+◌, Bool, true, Ok, subst}
 use Rattle.lf_disk.specs.declared.name.FileName.TheVariants.{Staged}
-use Rattle.lf_disk.specs.Folder.{Folder, SameBut}
+use Rattle.lf_disk.specs.Folder.{SameBut}
 use Rattle.lf_disk.specs.History.{History, now}
 use Rattle.lf_disk.proofs.Moments.{started}
 use Rattle.ltx_backup.specs.Entries.{IsKept}

@@ -1,8 +1,8 @@
 -- Files that join one another become one.
-use Rattle.std.proofs.Common.{◌≡◌, ◌∙◌, ℕ, ◌+◌, ◌-◌, ◌<◌, ◌≤◌, List, [], ◌∷◌, length, refl, sym, ap, subst, arith}
+use Rattle.std.proofs.Common.{◌≡◌, ◌∙◌, ℕ, ◌-◌, ◌<◌, ◌≤◌, List, [], length, refl, sym, subst, arith}
 use Rattle.std.proofs.lemmas.Option.{slice_get_within}
 use Rattle.ltx_codec.specs.declared.file.Ltx.{Ltx}
-use Rattle.ltx_compact.specs.Joining.{Joins, DoNotJoin, AllJoin, StandAt, JoinUpTo, FirstFails, IsWhy}
+use Rattle.ltx_compact.specs.Joining.{Joins, DoNotJoin, AllJoin, StandAt, FirstFails, IsWhy}
 use Rattle.ltx_compact.specs.declared.fault.CompactFault.{CompactFault}
 use Rattle.ltx_compact.specs.declared.fault.CompactFault.TheVariants as fault
 

@@ -1,5 +1,5 @@
 -- A file of a level and its entry.
-use Rattle.std.proofs.Common.{◌≡◌, ◌∙◌, ℕ, zero, suc, ◌+◌, ◌<◌, List, [], ◌∷◌, ◌++◌, length, get_or, take, drop, map, refl, ap, subst, sym, arith}
+use Rattle.std.proofs.Common.{◌≡◌, ◌∙◌, ℕ, zero, suc, ◌+◌, ◌<◌, List, [], ◌∷◌, ◌++◌, length, get_or, take, drop, refl, ap, subst, sym, arith}
 use Rattle.std.proofs.lemmas.List.{drop_more, take_more}
 use Rattle.lf_disk.specs.Folder.{Folder}
 use Rattle.ltx_codec.specs.declared.file.Ltx.{Ltx}

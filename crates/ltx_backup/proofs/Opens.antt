@@ -1,22 +1,19 @@
 -- Three disks are opened.
-use Rattle.std.proofs.Common.{◌≡◌, ◌∙◌, ◌⊎◌, inl, inr, ℕ, ◌+◌, ◌<◌, ◌≤◌, List, [], ◌∷◌, ◌++◌, Option, None, Some, IsSome, Result, Ok, Err, IfOk, IfErr, false, refl, sym, ap, subst, arith}
+use Rattle.std.proofs.Common.{◌≡◌, ◌∙◌, inl, inr, ℕ, List, ◌++◌, Option, None, Some, IsSome, Result, Ok, Err, IfOk, IfErr, false, refl, sym, ap, subst, arith}
 use Rattle.std.specs.Prelude.{is_some}
 use Rattle.std.proofs.lemmas.Bool.{false≢true}
 use Rattle.lf_base.specs.declared.pos.Pos.{Pos}
-use Rattle.lf_disk.specs.declared.name.FileName.{FileName}
 use Rattle.lf_disk.specs.declared.name.FileName.TheVariants.{Staged, Snapshot, Ltx as LtxName}
-use Rattle.lf_disk.specs.Folder.{Folder, bytes_of, SameBut}
+use Rattle.lf_disk.specs.Folder.{Folder, SameBut}
 use Rattle.lf_disk.specs.History.{History, now, Rests, EachMoment, IsSettledBut}
-use Rattle.ltx_codec.specs.Format.{IsLtx}
-use Rattle.ltx_codec.specs.Positions.{before, after, nowhere}
+use Rattle.ltx_codec.specs.Positions.{nowhere}
 use Rattle.ltx_codec.specs.declared.file.Ltx.{Ltx}
 use Rattle.ltx_backup.specs.Causes.{IsBlameless}
-use Rattle.ltx_backup.specs.Entries.{entry_of, entries_of, Lists, IsLevel, IsKept}
-use Rattle.ltx_backup.specs.Finishing.{AllNamed, Waits, IsAlone}
+use Rattle.ltx_backup.specs.Entries.{IsKept}
 use Rattle.ltx_backup.specs.Judging.{IsJudged, IsBroken}
-use Rattle.ltx_backup.specs.Levels.{Levels, chain, LeadOn, end_of, HasPast, HoldsFiles, Holds, only_low}
+use Rattle.ltx_backup.specs.Levels.{Levels, LeadOn, end_of, HasPast, HoldsFiles, Holds}
 use Rattle.ltx_backup.specs.Listing.{AreListed}
-use Rattle.ltx_backup.specs.Opening.{AllListed, IsIndex, FindsFiles, FindsSnapshot, IsNoSnapshot, IsDamage, folder_on, WhyClosed, IsOpened}
+use Rattle.ltx_backup.specs.Opening.{AllListed, FindsFiles, folder_on, WhyClosed, IsOpened}
 use Rattle.ltx_backup.specs.Stops.{Stops}
 use Rattle.ltx_backup.specs.Trimming.{IsTrimmed, HasTrimmed}
 use Rattle.ltx_backup.specs.declared.entry.Entry.{Entry}
@@ -25,10 +22,9 @@ use Rattle.ltx_backup.specs.declared.entry.Index.{Index}
 use Rattle.ltx_backup.specs.declared.fault.BackupFault.{BackupFault}
 use Rattle.ltx_backup.specs.declared.fault.BackupFault.TheVariants as fault
 use Rattle.ltx_backup.specs.declared.tidying.Bounds.{Bounds}
-use Rattle.ltx_backup.proofs.Finishes.{from_nowhere}
 use Rattle.ltx_backup.proofs.Holding.{AllPast, lead_past, has_trimmed, has_alone, holds_same, end_join, lead_join}
 use Rattle.ltx_backup.proofs.Stills.{Alike, rests_now, trims_after, trimmed_after}
-use Rattle.ltx_backup.proofs.Turns.{resting, apart, weaker, and_then}
+use Rattle.ltx_backup.proofs.Turns.{resting, apart, weaker}
 use Rattle.ltx_backup.proofs.Unique.{one_level, one_holding, lead_highs, lead_middles, lead_lows, none_there}
 
 module _ (index : Index) (bounds : Bounds) (a b c : Folder) (none : a Snapshot ≡ None) (found : FindsFiles index bounds a b c) where

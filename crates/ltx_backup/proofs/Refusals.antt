@@ -1,12 +1,12 @@
 -- A compaction that is refused leaves what was kept.
-use Rattle.std.proofs.Common.{◌≡◌, ◌≢◌, ◌∙◌, ◌⊎◌, inl, inr, ℕ, ◌+◌, Bool, true, false, List, Result, Ok, Err, refl, sym, subst, arith}
+use Rattle.std.proofs.Common.{◌≡◌, ◌≢◌, ◌∙◌, inl, inr, ℕ, ◌+◌, false, List, Ok, Err, subst, arith}
 use Rattle.lf_disk.specs.History.{History}
 use Rattle.ltx_codec.specs.declared.file.Ltx.{Ltx}
 use Rattle.ltx_backup.specs.Entries.{IsKept, SameIndex}
-use Rattle.ltx_backup.specs.Folding.{IsDue, IsSettled}
+use Rattle.ltx_backup.specs.Folding.{IsDue}
 use Rattle.ltx_backup.specs.Levels.{Levels}
 use Rattle.ltx_backup.specs.Moving.{IsUnfolded}
-use Rattle.ltx_backup.specs.Settling.{Settles, KeepsSettled, IsStuck, FoldsOnce, GoesOn, HasSettled}
+use Rattle.ltx_backup.specs.Settling.{Settles, KeepsSettled, FoldsOnce, GoesOn, HasSettled}
 use Rattle.ltx_backup.specs.declared.entry.Index.{Index}
 use Rattle.ltx_backup.specs.declared.fault.BackupFault.{BackupFault}
 use Rattle.ltx_backup.specs.declared.fault.BackupFault.TheVariants as fault

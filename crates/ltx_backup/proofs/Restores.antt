@@ -1,24 +1,20 @@
 -- Files are applied to a database, one after another.
-use Rattle.std.proofs.Common.{◌≡◌, ◌≢◌, ◌∙◌, ◌⊎◌, inl, inr, ℕ, ◌+◌, ◌<◌, ◌≤◌, Bool, true, false, List, [], ◌∷◌, ◌++◌, drop, refl, sym, ap, subst, arith}
+use Rattle.std.proofs.Common.{◌≡◌, ◌∙◌, ◌⊎◌, inl, inr, ℕ, ◌<◌, ◌≤◌, Bool, true, false, List, [], ◌∷◌, ◌++◌, refl, sym, ap, subst, arith}
 use Rattle.std.specs.Prelude.{nat_le, if◌then◌else◌}
 use Rattle.std.proofs.lemmas.Bool.Decides.{nat_tests}
 use Rattle.std.proofs.lemmas.Bool.{cases_lt}
-use Rattle.lf_base.specs.declared.pos.Pos.{Pos}
 use Rattle.lf_disk.specs.Folder.{Folder}
 use Rattle.lf_sqlite_pages.specs.Apply.{Fits, apply}
-use Rattle.lf_sqlite_pages.specs.Image.{DatabaseImage, empty_image}
-use Rattle.ltx_codec.specs.Positions.{before, after, nowhere}
-use Rattle.ltx_codec.specs.Sums.{image_sum}
+use Rattle.lf_sqlite_pages.specs.Image.{DatabaseImage}
+use Rattle.ltx_codec.specs.Positions.{before}
 use Rattle.ltx_codec.specs.declared.file.Ltx.{Ltx}
 use Rattle.ltx_compact.specs.Application.{apply_all, FitAll}
-use Rattle.ltx_backup.specs.Applying.{AppliesOne, IsMisfit, AppliesAll, IsMisfitAmong, last_post, Ends}
+use Rattle.ltx_backup.specs.Applying.{AppliesAll, last_post, Ends}
 use Rattle.ltx_backup.specs.Entries.{entry_of, entries_of}
 use Rattle.ltx_backup.specs.Judging.{HasNumbers}
-use Rattle.ltx_backup.specs.Levels.{Levels, chain, LeadOn, end_of, Stands, AllStand, Has, on_level}
-use Rattle.ltx_backup.specs.Restoring.{up_to, restored, EndsWith, IsFirstMisfit, Restores}
+use Rattle.ltx_backup.specs.Levels.{Stands, Has}
+use Rattle.ltx_backup.specs.Restoring.{up_to, EndsWith, IsFirstMisfit}
 use Rattle.ltx_backup.specs.declared.entry.Entry.{Entry}
-use Rattle.ltx_backup.specs.declared.fault.BackupFault.{BackupFault}
-use Rattle.ltx_backup.specs.declared.fault.BackupFault.TheVariants as fault
 use Rattle.ltx_backup.specs.declared.restoring.Restored.{Restored}
 use Rattle.ltx_backup.proofs.Unique.{stands_once}
 

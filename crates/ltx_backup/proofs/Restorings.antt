@@ -1,6 +1,5 @@
 -- What restoring a backup gives.
-use Rattle.std.proofs.Common.{◌≡◌, ◌≢◌, ◌∙◌, ◌⊎◌, inl, inr, ℕ, ◌+◌, ◌-◌, ◌<◌, ◌≤◌, List, [], ◌∷◌, ◌++◌, Result, Ok, Err, refl, sym, ap, subst, arith}
-use Rattle.std.proofs.lemmas.Bool.{cases_lt}
+use Rattle.std.proofs.Common.{◌≡◌, ◌∙◌, inl, inr, ℕ, ◌-◌, ◌<◌, ◌≤◌, List, [], ◌∷◌, ◌++◌, Ok, Err, refl, sym, ap, subst, arith}
 use Rattle.lf_base.specs.declared.pos.Pos.{Pos}
 use Rattle.lf_disk.specs.Folder.{Folder}
 use Rattle.lf_sqlite_pages.specs.Image.{DatabaseImage, empty_image}
@@ -9,8 +8,8 @@ use Rattle.ltx_codec.specs.Sums.{image_sum}
 use Rattle.ltx_codec.specs.declared.file.Ltx.{Ltx}
 use Rattle.ltx_compact.specs.Application.{apply_all, FitAll}
 use Rattle.ltx_backup.specs.Applying.{AppliesAll, IsMisfitAmong, IsOtherSum, last_post, Ends, EndsIn}
-use Rattle.ltx_backup.specs.Entries.{entries_of, IsKept}
-use Rattle.ltx_backup.specs.Levels.{Levels, chain, LeadOn, Stands, AllStand, Has, on_level}
+use Rattle.ltx_backup.specs.Entries.{IsKept}
+use Rattle.ltx_backup.specs.Levels.{Levels, chain, LeadOn, AllStand, Has, on_level}
 use Rattle.ltx_backup.specs.Ordered.{AllOrdered}
 use Rattle.ltx_backup.specs.Restoring.{up_to, restored, EndsWith, IsFirstMisfit, Restores}
 use Rattle.lf_disk.specs.History.{History, now}

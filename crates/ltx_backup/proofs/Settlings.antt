@@ -1,11 +1,11 @@
 -- Compactions one after another, and which are due.
-use Rattle.std.proofs.Common.{◌≡◌, ◌∙◌, ◌⊎◌, inl, inr, ℕ, zero, suc, ◌+◌, ◌<◌, ◌≤◌, List, [], ◌∷◌, length, take, refl, sym, ap, subst, arith}
+use Rattle.std.proofs.Common.{◌≡◌, ◌∙◌, ℕ, zero, suc, ◌+◌, ◌≤◌, List, [], ◌∷◌, length, take, refl, sym, ap, subst, arith}
 use Rattle.lf_disk.specs.Folder.{Folder}
 use Rattle.ltx_codec.specs.Positions.{nowhere}
 use Rattle.ltx_codec.specs.declared.file.Ltx.{Ltx}
 use Rattle.ltx_backup.specs.Entries.{entries_of}
 use Rattle.ltx_backup.specs.Folding.{HaveSize, IsDue, Folds, Settling}
-use Rattle.ltx_backup.specs.Levels.{Levels, chain, LeadOn, Holds}
+use Rattle.ltx_backup.specs.Levels.{Levels, chain, LeadOn}
 use Rattle.ltx_backup.specs.Moving.{AreAlike, AreDue}
 use Rattle.ltx_backup.specs.Ordered.{AllOrdered}
 use Rattle.ltx_backup.specs.Settling.{Settles, HoldsSettled}

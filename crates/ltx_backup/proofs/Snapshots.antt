@@ -1,5 +1,5 @@
 -- A snapshot that waits for its name is opened.
-use Rattle.std.proofs.Common.{◌≡◌, ◌∙◌, ◌⊎◌, inl, inr, ℕ, ◌<◌, List, [], ◌∷◌, ◌++◌, Option, None, Some, IsSome, refl, sym, ap, subst, arith}
+use Rattle.std.proofs.Common.{◌≡◌, ◌∙◌, inl, inr, ℕ, List, [], ◌∷◌, Option, None, Some, IsSome, refl, sym, ap, subst}
 use Rattle.std.proofs.lemmas.Bool.{false≢true}
 use Rattle.lf_base.specs.declared.pos.Pos.{Pos}
 use Rattle.lf_disk.specs.declared.name.FileName.TheVariants.{Staged, Snapshot, Ltx as LtxName}
@@ -8,9 +8,9 @@ use Rattle.lf_disk.specs.History.{History, now, Rests, IsSettledBut}
 use Rattle.ltx_codec.specs.Format.{IsLtx}
 use Rattle.ltx_codec.specs.Positions.{before, after, nowhere}
 use Rattle.ltx_codec.specs.declared.file.Ltx.{Ltx}
-use Rattle.ltx_backup.specs.Entries.{entry_of, entries_of, Lists, IsLevel, IsKept}
+use Rattle.ltx_backup.specs.Entries.{entry_of, IsKept}
 use Rattle.ltx_backup.specs.Finishing.{AllNamed, Waits, IsAlone, HoldsOnly}
-use Rattle.ltx_backup.specs.Levels.{Levels, HasPast, HoldsFiles, Holds, only_low}
+use Rattle.ltx_backup.specs.Levels.{Levels, Holds, only_low}
 use Rattle.ltx_backup.specs.Opening.{AllListed, FindsSnapshot, IsNoSnapshot, WhyClosed, IsOpened}
 use Rattle.ltx_backup.specs.Stops.{Stops}
 use Rattle.ltx_backup.specs.declared.entry.Entry.{Entry}
@@ -23,7 +23,7 @@ use Rattle.ltx_backup.proofs.Holding.{none_some, some_same}
 use Rattle.ltx_backup.proofs.Opens.{rested}
 use Rattle.ltx_backup.proofs.Stills.{rests_now, rests_stay}
 use Rattle.ltx_backup.proofs.Turns.{and_then}
-use Rattle.ltx_backup.proofs.Unique.{one_holding, none_there}
+use Rattle.ltx_backup.proofs.Unique.{one_holding}
 
 -- what stands there
 pub record There (o : Option (List ℕ)) : Type 0 where

@@ -1,13 +1,13 @@
 -- One file of a level after another is applied, up to a transaction.
-use Rattle.std.proofs.Common.{◌≡◌, ◌∙◌, ◌⊎◌, inl, inr, ℕ, ◌+◌, ◌<◌, ◌≤◌, List, [], ◌∷◌, length, drop, get_or, refl, sym, ap, subst, arith}
+use Rattle.std.proofs.Common.{◌≡◌, ◌∙◌, inl, inr, ℕ, ◌+◌, ◌<◌, ◌≤◌, List, ◌∷◌, length, drop, get_or, sym, ap, subst, arith}
 use Rattle.std.proofs.lemmas.Bool.{cases_lt}
 use Rattle.lf_disk.specs.declared.name.FileName.TheVariants.{Ltx as LtxName}
 use Rattle.lf_disk.specs.Folder.{Folder}
 use Rattle.lf_sqlite_pages.specs.Apply.{Fits, apply}
 use Rattle.ltx_codec.specs.declared.file.Ltx.{Ltx}
 use Rattle.ltx_backup.specs.Applying.{AppliesOne, IsMisfitUpTo, IsMisfitAmong}
-use Rattle.ltx_backup.specs.Entries.{entry_of, entries_of}
-use Rattle.ltx_backup.specs.Levels.{Stands, AllStand}
+use Rattle.ltx_backup.specs.Entries.{entries_of}
+use Rattle.ltx_backup.specs.Levels.{AllStand}
 use Rattle.ltx_backup.specs.Restoring.{up_to, IsFirstMisfit}
 use Rattle.ltx_backup.specs.declared.entry.Entry.{Entry}
 use Rattle.ltx_backup.specs.declared.fault.BackupFault.{BackupFault}

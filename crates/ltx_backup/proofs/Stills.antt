@@ -1,23 +1,22 @@
 -- What is known of a disk stays while it is only read.
-use Rattle.std.proofs.Common.{◌≡◌, ◌∙◌, ◌⊎◌, inl, inr, ℕ, ◌<◌, ◌≤◌, List, Option, None, Some, IsSome, refl, sym, ap, subst, arith}
+use Rattle.std.proofs.Common.{◌≡◌, ◌∙◌, ℕ, ◌<◌, List, refl, sym, subst, arith}
 use Rattle.lf_base.specs.declared.pos.Pos.{Pos}
 use Rattle.lf_disk.specs.declared.name.FileName.{FileName}
 use Rattle.lf_disk.specs.declared.name.FileName.TheVariants.{Staged, Snapshot, Ltx as LtxName}
 use Rattle.lf_disk.specs.Folder.{Folder, SameBut}
-use Rattle.lf_disk.specs.History.{History, now, may_leave, Rests, EachMoment, IsSettledBut}
+use Rattle.lf_disk.specs.History.{History, now, Rests, EachMoment, IsSettledBut}
 use Rattle.lf_disk.proofs.Moments.{past_stays, past_joins, joined, weakened}
 use Rattle.ltx_codec.specs.Positions.{before}
 use Rattle.ltx_codec.specs.declared.file.Ltx.{Ltx}
-use Rattle.ltx_backup.specs.Entries.{entries_of, Lists, IsLevel, IsKept}
+use Rattle.ltx_backup.specs.Entries.{IsLevel, IsKept}
 use Rattle.ltx_backup.specs.Judging.{HasNumbers, Judging, IsRefusedPast}
-use Rattle.ltx_backup.specs.Levels.{Levels, Stands, AllStand, HasPast}
-use Rattle.ltx_backup.specs.Listing.{AreListed}
+use Rattle.ltx_backup.specs.Levels.{Levels, Stands}
 use Rattle.ltx_backup.specs.Trimming.{IsTrimmed, HasTrimmed}
 use Rattle.ltx_backup.specs.declared.entry.Entry.{Entry}
 use Rattle.ltx_backup.specs.declared.entry.Index.{Index}
 use Rattle.ltx_backup.specs.declared.fault.BackupFault.{BackupFault}
 use Rattle.ltx_backup.proofs.Blaming.{blamed_too}
-use Rattle.ltx_backup.proofs.Holding.{stands_same, all_stand_same, some_same, has_same}
+use Rattle.ltx_backup.proofs.Holding.{stands_same, all_stand_same, has_same}
 use Rattle.ltx_backup.proofs.Turns.{resting}
 
 -- two folders have the same files

@@ -1,10 +1,9 @@
 -- What was left staged is removed.
-use Rattle.std.proofs.Common.{◌≡◌, ◌∙◌, inl, inr, ℕ, false, List, None, Result, refl, sym}
-use Rattle.lf_disk.specs.declared.name.FileName.{FileName}
-use Rattle.lf_disk.specs.declared.name.FileName.TheVariants.{Staged, Snapshot, Ltx as LtxName}
-use Rattle.lf_disk.specs.Folder.{Folder, same_name, SameBut}
+use Rattle.std.proofs.Common.{◌∙◌, inl, inr, ℕ, List, None, Result, refl, sym}
+use Rattle.lf_disk.specs.declared.name.FileName.TheVariants.{Staged, Ltx as LtxName}
+use Rattle.lf_disk.specs.Folder.{Folder}
 use Rattle.lf_disk.specs.Change.{Step, Perhaps, SetsFile}
-use Rattle.lf_disk.specs.History.{History, now, may_leave, Ticks, Moves, EachMoment, IsSettledBut}
+use Rattle.lf_disk.specs.History.{History, now, may_leave, Ticks, Moves, EachMoment}
 use Rattle.lf_disk.proofs.Moments.{goes_on}
 use Rattle.ltx_backup.specs.Trimming.{IsTrimmed, HasTrimmed}
 use Rattle.ltx_backup.specs.declared.entry.Entry.{Entry}

@@ -1,10 +1,9 @@
 -- Three disks, one after another.
-use Rattle.std.proofs.Common.{◌≡◌, ◌∙◌, ◌⊎◌, inl, inr, ℕ, ◌≤◌, List, [], ◌∷◌, ◌++◌, refl, sym, ap, subst, arith}
-use Rattle.lf_disk.specs.declared.name.FileName.{FileName}
+use Rattle.std.proofs.Common.{◌≡◌, ◌≤◌, List, [], ◌∷◌, ◌++◌, refl, sym, ap, subst, arith}
 use Rattle.lf_disk.specs.declared.name.FileName.TheVariants.{Staged}
 use Rattle.lf_disk.specs.Folder.{Folder, SameBut}
-use Rattle.lf_disk.specs.History.{History, now, may_leave, KeepsPast, Rests, EachMoment, IsSettledBut}
-use Rattle.lf_disk.proofs.Moments.{past_stays, past_joins, started, rests_on}
+use Rattle.lf_disk.specs.History.{History, now, KeepsPast, Rests, EachMoment, IsSettledBut}
+use Rattle.lf_disk.proofs.Moments.{past_joins, started, rests_on}
 use Rattle.ltx_backup.specs.Stops.{Turn, low, middle, high, Moments, moments_of, EachLeft, EachTurn, Stops}
 
 -- a disk that is only read

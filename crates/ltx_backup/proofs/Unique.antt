@@ -1,5 +1,5 @@
 -- Three folders hold one thing alone.
-use Rattle.std.proofs.Common.{◌≡◌, ◌∙◌, ◌⊎◌, inl, inr, ℕ, ◌+◌, ◌-◌, ◌<◌, ◌≤◌, List, [], ◌∷◌, ◌++◌, Option, None, Some, IsSome, refl, sym, ap, subst, arith}
+use Rattle.std.proofs.Common.{◌≡◌, ◌∙◌, inl, inr, ℕ, ◌-◌, ◌<◌, ◌≤◌, List, [], ◌∷◌, ◌++◌, Option, None, Some, IsSome, refl, sym, ap, subst, arith}
 use Rattle.lf_base.specs.declared.pos.Pos.{Pos}
 use Rattle.lf_disk.specs.declared.name.FileName.TheVariants.{Snapshot, Ltx as LtxName}
 use Rattle.lf_disk.specs.Folder.{Folder, bytes_of}
@@ -7,8 +7,8 @@ use Rattle.ltx_codec.specs.Format.{IsLtx, file_encoding}
 use Rattle.ltx_codec.specs.Positions.{before, after, nowhere}
 use Rattle.ltx_codec.specs.declared.file.Ltx.{Ltx}
 use Rattle.ltx_codec.proofs.LawLemmas.{one_reading_lem}
-use Rattle.ltx_backup.specs.Levels.{Levels, chain, LeadOn, end_of, Stands, AllStand, Has, HasPast, HoldsFiles, HoldsSnapshot, Holds, only_low}
-use Rattle.ltx_backup.proofs.Holding.{AllPast, past_less, begins_past, lead_past, has_higher, none_some, lead_front, lead_back}
+use Rattle.ltx_backup.specs.Levels.{Levels, chain, LeadOn, end_of, Stands, AllStand, Has, HasPast, HoldsFiles, Holds, only_low}
+use Rattle.ltx_backup.proofs.Holding.{AllPast, begins_past, lead_past, has_higher, lead_front, lead_back}
 
 -- bytes are an encoding of one file
 pub one_file : (one other : List ℕ) (x y : Ltx) → one ≡ other → IsLtx one x → IsLtx other y → x ≡ y

@@ -5,7 +5,6 @@ use Rattle.lf_disk.specs.Folder.{Folder}
 use Rattle.ltx_codec.specs.Positions.{before, after}
 use Rattle.ltx_codec.specs.declared.file.Ltx.{Ltx}
 use Rattle.ltx_backup.specs.Levels.{Levels, Holds}
-use Rattle.ltx_backup.specs.Stored.{added}
 use Rattle.ltx_backup.specs.declared.fault.BackupFault.{BackupFault}
 use Rattle.ltx_backup.specs.declared.fault.BackupFault.TheVariants as fault
 

@@ -1,6 +1,5 @@
 -- What is kept in memory of the files on the disks.
 use Rattle.std.specs.Prelude.{◌≡◌, ◌⊎◌, ℕ, List, [], ◌∷◌, map, None}
-use Rattle.lf_base.specs.declared.pos.Pos.{Pos}
 use Rattle.lf_disk.specs.declared.name.FileName.TheVariants.{Snapshot, Staged}
 use Rattle.lf_disk.specs.History.{History, now, IsSettledBut}
 use Rattle.ltx_codec.specs.Positions.{nowhere}

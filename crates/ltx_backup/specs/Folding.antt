@@ -1,8 +1,6 @@
 -- Eight files of a level become one of the next.
 use Rattle.std.specs.Prelude.{◌≡◌, ◌⊎◌, ℕ, ◌≤◌, List, [], ◌∷◌, ◌++◌, length, take, drop, zero, suc}
-use Rattle.ltx_codec.specs.Format.{IsFile}
 use Rattle.ltx_codec.specs.declared.file.Ltx.{Ltx}
-use Rattle.ltx_codec.specs.Sums.{sum_of_writes}
 use Rattle.ltx_compact.specs.Compaction.{Compacts}
 use Rattle.ltx_compact.specs.Application.{DoesAsFiles}
 use Rattle.ltx_backup.specs.Levels.{Levels}

@@ -1,13 +1,13 @@
 -- Which files are damaged, and what judging a folder gives.
-use Rattle.std.specs.Prelude.{◌≡◌, ◌≢◌, ◌⊎◌, ℕ, ◌<◌, List, [], ◌∷◌, Option, Some, None, IsSome, Result, Ok, Err}
+use Rattle.std.specs.Prelude.{◌≡◌, ℕ, ◌<◌, List, IsSome}
 use Rattle.lf_base.specs.declared.pos.Pos.{Pos}
-use Rattle.lf_disk.specs.declared.name.FileName.TheVariants.{Snapshot, Ltx as LtxName}
-use Rattle.lf_disk.specs.Folder.{Folder, bytes_of}
+use Rattle.lf_disk.specs.declared.name.FileName.TheVariants.{Ltx as LtxName}
+use Rattle.lf_disk.specs.Folder.{Folder}
 use Rattle.ltx_codec.specs.Format.{IsLtx}
 use Rattle.ltx_codec.specs.Positions.{before, after}
 use Rattle.ltx_codec.specs.declared.file.Ltx.{Ltx}
 use Rattle.ltx_backup.specs.Entries.{entry_of, entries_of, Lists}
-use Rattle.ltx_backup.specs.Levels.{Stands, AllStand, Has, HasPast, LeadOn, end_of, HoldsSnapshot, only_low, Levels}
+use Rattle.ltx_backup.specs.Levels.{Stands, AllStand, Has, HasPast, LeadOn, end_of}
 use Rattle.ltx_backup.specs.declared.entry.Entry.{Entry}
 use Rattle.ltx_backup.specs.declared.fault.BackupFault.{BackupFault}
 use Rattle.ltx_backup.specs.declared.fault.BackupFault.TheVariants as fault

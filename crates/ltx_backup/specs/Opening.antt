@@ -1,15 +1,14 @@
 -- A backup is opened from what three folders hold.
-use Rattle.std.specs.Prelude.{◌≡◌, ◌⊎◌, ℕ, ◌^◌, List, [], ◌∷◌, ◌++◌, Option, Some, None, IsSome, ◌==◌, if◌then◌else◌}
+use Rattle.std.specs.Prelude.{◌≡◌, ◌⊎◌, ℕ, ◌++◌, IsSome, ◌==◌, if◌then◌else◌}
 use Rattle.lf_base.specs.declared.pos.Pos.{Pos}
-use Rattle.lf_disk.specs.declared.name.FileName.{FileName}
-use Rattle.lf_disk.specs.declared.name.FileName.TheVariants.{Staged, Snapshot, Ltx as LtxName}
+use Rattle.lf_disk.specs.declared.name.FileName.TheVariants.{Snapshot, Ltx as LtxName}
 use Rattle.lf_disk.specs.Folder.{Folder, bytes_of}
-use Rattle.lf_disk.specs.History.{History, now, IsSettledBut}
+use Rattle.lf_disk.specs.History.{History, now}
 use Rattle.ltx_codec.specs.Positions.{nowhere, after}
 use Rattle.ltx_codec.specs.Format.{IsLtx}
 use Rattle.ltx_codec.specs.declared.file.Ltx.{Ltx}
 use Rattle.ltx_backup.specs.Entries.{entry_of, entries_of, IsKept}
-use Rattle.ltx_backup.specs.Levels.{Levels, Holds, HoldsFiles, HasPast, LeadOn, chain, end_of}
+use Rattle.ltx_backup.specs.Levels.{Levels, Holds, HasPast, LeadOn, chain, end_of}
 use Rattle.ltx_backup.specs.Judging.{Blames}
 use Rattle.ltx_backup.specs.Listing.{AreListed}
 use Rattle.ltx_backup.specs.declared.entry.Entry.{Entry}

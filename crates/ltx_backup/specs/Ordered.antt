@@ -1,5 +1,5 @@
 -- Files whose transactions are in order.
-use Rattle.std.specs.Prelude.{ℕ, ◌≤◌, List, [], ◌∷◌}
+use Rattle.std.specs.Prelude.{◌≤◌, List, [], ◌∷◌}
 use Rattle.ltx_codec.specs.declared.file.Ltx.{Ltx}
 
 -- the first transaction of each file is not past its last

@@ -1,6 +1,5 @@
 -- What restoring to a transaction gives.
-use Rattle.std.specs.Prelude.{◌≡◌, ◌≢◌, ◌⊎◌, ℕ, ◌≤◌, List, [], ◌∷◌, ◌++◌, nat_le, if◌then◌else◌, Result, Ok, Err}
-use Rattle.std.specs.List.{filter}
+use Rattle.std.specs.Prelude.{◌≡◌, ◌≢◌, ◌⊎◌, ℕ, List, [], ◌∷◌, nat_le, if◌then◌else◌, Result, Ok, Err}
 use Rattle.lf_sqlite_pages.specs.Apply.{Fits}
 use Rattle.lf_sqlite_pages.specs.Image.{DatabaseImage, empty_image}
 use Rattle.ltx_codec.specs.Sums.{image_sum}

@@ -1,8 +1,7 @@
 -- Files of a folder are removed that begin with a transaction up to a number.
 use Rattle.std.specs.Prelude.{◌≡◌, ◌⊎◌, ℕ, ◌≤◌, ◌<◌, List, None}
-use Rattle.lf_disk.specs.declared.name.FileName.{FileName}
 use Rattle.lf_disk.specs.declared.name.FileName.TheVariants.{Staged, Snapshot, Ltx as LtxName}
-use Rattle.lf_disk.specs.Folder.{Folder, same_name}
+use Rattle.lf_disk.specs.Folder.{Folder}
 use Rattle.lf_disk.specs.History.{History, now, IsSettledBut}
 use Rattle.ltx_backup.specs.Entries.{Lists}
 use Rattle.ltx_backup.specs.declared.entry.Entry.{Entry}

@@ -2,10 +2,8 @@ use Rattle.std.proofs.Common.{◌≡◌, ◌∙◌, List, ℕ, refl, sym, subst}
 use Rattle.lf_disk.specs.declared.name.FileName.TheVariants.{Snapshot}
 use Rattle.lf_disk.specs.History.{now, EachMoment}
 use Rattle.lf_disk.specs.Publish.{IsOldOrPublished, IsPublished}
-use Rattle.ltx_backup.specs.Entries.{IsKept}
 use Rattle.ltx_backup.specs.Levels.{only_low}
 use Rattle.ltx_backup.specs.Stored.{stored}
-use Rattle.ltx_backup.specs.declared.entry.Index.{Index}
 use Rattle.ltx_backup.proofs.Adds.{standing_stops, published_stops, installed_stops, waits_now, named_now}
 use Rattle.ltx_backup.proofs.Holding.{some_same}
 use Rattle.ltx_backup.proofs.Finishes.{from_nowhere}

@@ -1,5 +1,4 @@
-use Rattle.std.proofs.Common.{◌≡◌, ◌∙◌, OnOk, List, refl, sym, subst}
-use Rattle.lf_disk.specs.History.{now}
+use Rattle.std.proofs.Common.{OnOk, refl, sym, subst}
 use Rattle.ltx_backup.specs.Adding.{HoldsEither}
 use Rattle.ltx_backup.specs.Entries.{IsKept}
 use Rattle.ltx_backup.specs.Levels.{Levels}

@@ -1,4 +1,4 @@
-use Rattle.std.proofs.Common.{◌≡◌, ◌∙◌, ap, List, ℕ, ◌++◌}
+use Rattle.std.proofs.Common.{◌∙◌, ap, List, ℕ, ◌++◌}
 use Rattle.ltx_codec.specs.Format.{file_encoding, no_meaning}
 use Rattle.ltx_backup.specs.Stored.{stored}
 use Rattle.ltx_backup.proofs.encoding.encoded.Goals as goal

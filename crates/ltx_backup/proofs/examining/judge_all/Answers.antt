@@ -1,7 +1,5 @@
-use Rattle.std.proofs.Common.{◌≡◌, List, refl, sym, subst}
+use Rattle.std.proofs.Common.{List, refl, sym, subst}
 use Rattle.lf_disk.specs.History.{now}
-use Rattle.ltx_codec.specs.Positions.{nowhere}
-use Rattle.ltx_backup.specs.Judging.{IsJudged}
 use Rattle.ltx_backup.specs.Listing.{AreListed}
 use Rattle.ltx_backup.specs.declared.entry.Entry.{Entry}
 use Rattle.ltx_backup.proofs.Opens.{high_broken, middle_broken, low_broken, found_all}

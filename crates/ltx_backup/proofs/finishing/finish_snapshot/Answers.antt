@@ -1,8 +1,8 @@
-use Rattle.std.proofs.Common.{◌≡◌, ◌∙◌, IsTrue, sym, subst, ap}
+use Rattle.std.proofs.Common.{◌≡◌, ◌∙◌, sym, subst, ap}
 use Rattle.lf_disk.specs.declared.name.FileName.{FileName}
 use Rattle.lf_disk.specs.declared.name.FileName.TheVariants.{Snapshot, Ltx as LtxName}
 use Rattle.lf_disk.specs.Change.{Perhaps, Renames}
-use Rattle.lf_disk.specs.History.{History, Moves, now}
+use Rattle.lf_disk.specs.History.{Moves, now}
 use Rattle.ltx_backup.specs.declared.entry.Entry.{Entry}
 use Rattle.ltx_backup.proofs.Holding.{some_same}
 use Rattle.ltx_backup.proofs.Finishes.{tidied_stops, finished_stops, is_alone, no_lows, renames, has_renamed, renamed_settled}

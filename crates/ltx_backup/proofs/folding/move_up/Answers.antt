@@ -1,4 +1,4 @@
-use Rattle.std.proofs.Common.{◌≡◌, ◌∙◌, inl, inr, List, refl, subst}
+use Rattle.std.proofs.Common.{inl, inr, List, refl, subst}
 use Rattle.lf_disk.specs.History.{now}
 use Rattle.ltx_backup.specs.Trimming.{HasTrimmed}
 use Rattle.ltx_backup.specs.declared.entry.Entry.{Entry}

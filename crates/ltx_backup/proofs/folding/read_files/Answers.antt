@@ -1,11 +1,8 @@
-use Rattle.std.proofs.Common.{◌≡◌, ◌∙◌, List, [], ◌∷◌, ◌++◌, length, take, get_or, refl, sym, ap, subst, arith}
-use Rattle.std.specs.List.{All}
+use Rattle.std.proofs.Common.{◌≡◌, ◌∙◌, [], ◌∷◌, ◌++◌, length, refl, ap, arith}
 use Rattle.std.proofs.lemmas.List.{take_all}
 use Rattle.std.proofs.lemmas.List.Elements.{All-same, All-nil, All-push}
 use Rattle.lf_disk.specs.History.{now}
 use Rattle.ltx_codec.specs.Format.{IsFile}
-use Rattle.ltx_codec.specs.declared.file.Ltx.{Ltx}
-use Rattle.ltx_backup.proofs.Lists.{no_entry}
 use Rattle.ltx_backup.proofs.Nths.{as_many}
 use Rattle.ltx_backup.proofs.Gathers.{one_more, not_unread}
 use Rattle.ltx_backup.proofs.Stills.{rests_now, rests_stay, rests_join}

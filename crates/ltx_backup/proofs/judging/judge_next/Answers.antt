@@ -1,4 +1,4 @@
-use Rattle.std.proofs.Common.{◌≡◌, ◌∙◌, ◌<◌, ◌++◌, ◌∷◌, [], List, sym, subst, arith}
+use Rattle.std.proofs.Common.{◌≡◌, ◌<◌, ◌++◌, ◌∷◌, [], List, sym, subst, arith}
 use Rattle.lf_disk.specs.History.{now}
 use Rattle.ltx_codec.specs.Positions.{before}
 use Rattle.ltx_codec.specs.declared.file.Ltx.{Ltx}

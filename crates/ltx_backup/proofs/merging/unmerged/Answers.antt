@@ -1,4 +1,3 @@
-use Rattle.std.proofs.Common.{◌≡◌}
 use Rattle.ltx_backup.proofs.Merges.{not_joined}
 use Rattle.ltx_backup.proofs.merging.unmerged.Goals as goal
 

@@ -1,4 +1,4 @@
-use Rattle.std.proofs.Common.{◌≡◌, refl, arith}
+use Rattle.std.proofs.Common.{arith}
 use Rattle.ltx_backup.proofs.reading.decode_as.Goals as goal
 
 pub returns-in-Err : goal.returns-in-Err

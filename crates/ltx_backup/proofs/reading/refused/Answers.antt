@@ -1,4 +1,4 @@
-use Rattle.std.proofs.Common.{◌≡◌, refl}
+use Rattle.std.proofs.Common.{refl}
 use Rattle.ltx_backup.proofs.Blaming.{not_a_file, is_earliest}
 use Rattle.ltx_backup.proofs.reading.refused.Goals as goal
 

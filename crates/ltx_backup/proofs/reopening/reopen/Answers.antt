@@ -1,8 +1,6 @@
-use Rattle.std.proofs.Common.{◌≡◌, ◌∙◌, refl, sym, subst}
-use Rattle.lf_disk.specs.declared.name.FileName.TheVariants.{Staged, Snapshot}
-use Rattle.lf_disk.specs.History.{History, now, Rests}
+use Rattle.std.proofs.Common.{◌∙◌, sym}
+use Rattle.lf_disk.specs.declared.name.FileName.TheVariants.{Snapshot}
 use Rattle.ltx_backup.specs.Levels.{Holds}
-use Rattle.ltx_backup.specs.Opening.{IsOpened, WhyClosed}
 use Rattle.ltx_backup.proofs.Opens.{rested, opened_after, why_after, forward, blameless_closed, ok_follows, err_follows, listed_rests, is_none}
 use Rattle.ltx_backup.proofs.Holding.{some_same}
 use Rattle.ltx_backup.proofs.Stills.{rests_join, rests_now, settled_rests}

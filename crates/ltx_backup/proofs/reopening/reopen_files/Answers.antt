@@ -1,5 +1,4 @@
-use Rattle.std.proofs.Common.{◌≡◌, ◌∙◌, sym}
-use Rattle.lf_disk.specs.History.{now}
+use Rattle.std.proofs.Common.{◌∙◌, sym}
 use Rattle.ltx_backup.proofs.Stills.{settled_rests}
 use Rattle.ltx_backup.proofs.Opens.{rested, tidied_stops, tidied_opens, blameless_closed}
 use Rattle.ltx_backup.proofs.reopening.reopen_files.Goals as goal

@@ -1,4 +1,4 @@
-use Rattle.std.proofs.Common.{◌≡◌, ◌∙◌, sym}
+use Rattle.std.proofs.Common.{◌∙◌, sym}
 use Rattle.lf_disk.specs.declared.name.FileName.TheVariants.{Snapshot}
 use Rattle.lf_disk.specs.History.{now}
 use Rattle.ltx_backup.proofs.Holding.{some_same}

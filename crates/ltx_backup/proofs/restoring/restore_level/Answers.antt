@@ -1,12 +1,10 @@
-use Rattle.std.proofs.Common.{◌≡◌, ◌∙◌, inl, inr, ◌≤◌, List, ℕ, [], length, drop, get_or, refl, sym, ap, subst, arith}
+use Rattle.std.proofs.Common.{◌≡◌, ◌∙◌, List, [], length, drop, refl, sym, ap, subst, arith}
 use Rattle.std.proofs.lemmas.List.{drop_all}
 use Rattle.lf_disk.specs.History.{now}
 use Rattle.ltx_codec.specs.declared.file.Ltx.{Ltx}
 use Rattle.ltx_backup.specs.Applying.{AppliesAll}
 use Rattle.ltx_backup.specs.Restoring.{up_to}
-use Rattle.ltx_backup.specs.declared.restoring.Restored.{Restored}
-use Rattle.ltx_backup.proofs.Lists.{no_entry}
-use Rattle.ltx_backup.proofs.Nths.{nth, as_many}
+use Rattle.ltx_backup.proofs.Nths.{as_many}
 use Rattle.ltx_backup.proofs.Restores.{starts, ended}
 use Rattle.ltx_backup.proofs.Steps.{step, misfit_among}
 use Rattle.ltx_backup.proofs.Stills.{rests_now, rests_stay, rests_join}

@@ -1,4 +1,4 @@
-use Rattle.std.proofs.Common.{◌≡◌, ◌≤◌, arith}
+use Rattle.std.proofs.Common.{◌≤◌, arith}
 use Rattle.lf_disk.specs.History.{now}
 use Rattle.lf_sqlite_pages.specs.Apply.{Fits}
 use Rattle.ltx_codec.specs.declared.file.Ltx.{Ltx}

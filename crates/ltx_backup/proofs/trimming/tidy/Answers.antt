@@ -1,5 +1,4 @@
-use Rattle.std.proofs.Common.{◌≡◌, ◌∙◌}
-use Rattle.lf_disk.specs.History.{now}
+use Rattle.std.proofs.Common.{◌∙◌}
 use Rattle.ltx_backup.proofs.Tidies.{tidied, staged_gone, perhaps_gone}
 use Rattle.ltx_backup.proofs.trimming.tidy.Goals as goal
 

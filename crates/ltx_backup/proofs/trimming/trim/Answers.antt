@@ -1,4 +1,4 @@
-use Rattle.std.proofs.Common.{◌≡◌, ◌∙◌, List, refl, sym, subst, take, arith}
+use Rattle.std.proofs.Common.{◌≡◌, ◌∙◌, List, refl, subst, take}
 use Rattle.std.proofs.lemmas.List.{take_all}
 use Rattle.lf_disk.specs.History.{now}
 use Rattle.lf_disk.proofs.Moments.{joined}

@@ -1,8 +1,8 @@
-use Rattle.std.proofs.Common.{◌≡◌, ◌≤◌, ◌∷◌, [], ◌++◌, None, subst, arith}
+use Rattle.std.proofs.Common.{◌≤◌, ◌∷◌, [], ◌++◌, None, subst, arith}
 use Rattle.lf_disk.specs.declared.name.FileName.{FileName}
 use Rattle.lf_disk.specs.declared.name.FileName.TheVariants.{Ltx as LtxName}
 use Rattle.lf_disk.specs.Change.{Perhaps, SetsFile}
-use Rattle.lf_disk.specs.History.{History, Moves}
+use Rattle.lf_disk.specs.History.{Moves}
 use Rattle.lf_disk.proofs.Moments.{started, goes_on}
 use Rattle.ltx_backup.specs.Trimming.{IsTrimmed}
 use Rattle.ltx_backup.proofs.Trims.{passed, removed, left_by, left_trimmed}

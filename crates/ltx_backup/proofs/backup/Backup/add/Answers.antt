@@ -1,4 +1,3 @@
-use Rattle.std.proofs.Common.{◌≡◌, ◌∙◌, refl, sym}
 use Rattle.ltx_backup.specs.Stored.{added}
 use Rattle.ltx_backup.proofs.Adds.{standing_stops, breaks_by, adds_by}
 use Rattle.lf_base.specs.declared.pos.Pos.{Pos}

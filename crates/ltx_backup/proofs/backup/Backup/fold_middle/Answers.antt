@@ -1,11 +1,8 @@
-use Rattle.std.proofs.Common.{◌≡◌, ◌≢◌, ◌∙◌, ◌-◌, length, length-drop, arith, refl, sym, ap, subst}
+use Rattle.std.proofs.Common.{◌≡◌, ◌∙◌, ◌-◌, length, length-drop, arith, refl, sym, ap, subst}
 use Rattle.lf_disk.specs.History.{Rests}
-use Rattle.ltx_backup.specs.Entries.{IsKept}
 use Rattle.ltx_backup.specs.Levels.{end_of}
 use Rattle.ltx_codec.specs.Positions.{nowhere}
 use Rattle.ltx_backup.specs.declared.entry.Index.{Index}
-use Rattle.ltx_backup.specs.declared.fault.BackupFault.{BackupFault}
-use Rattle.ltx_backup.specs.declared.fault.BackupFault.TheVariants as fault
 use Rattle.ltx_backup.proofs.Adds.{breaks_by}
 use Rattle.ltx_backup.proofs.Levelled.{middle_stops, middle_kept}
 use Rattle.ltx_backup.proofs.Refusals.{kept_index, once_refused}

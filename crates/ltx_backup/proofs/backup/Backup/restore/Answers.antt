@@ -1,4 +1,4 @@
-use Rattle.std.proofs.Common.{◌≡◌, ◌∙◌, refl, sym, ap}
+use Rattle.std.proofs.Common.{◌∙◌, refl, ap}
 use Rattle.lf_base.specs.declared.pos.Pos.{Pos}
 use Rattle.ltx_backup.proofs.Restorings.{high_misfit, middle_misfit, low_misfit, gives_image, gives_sum, any_ends, kept_ends, chain_ordered}
 use Rattle.ltx_backup.proofs.backup.Backup.restore.Goals as goal

@@ -1,4 +1,4 @@
-use Rattle.std.proofs.Common.{◌≡◌, ◌∙◌, Bool, Ok, refl, sym, subst, arith}
+use Rattle.std.proofs.Common.{◌∙◌, Bool, Ok, refl, sym, subst, arith}
 use Rattle.std.proofs.lemmas.Bool.{false≢true}
 use Rattle.ltx_backup.specs.Settling.{GoesOn}
 use Rattle.ltx_backup.proofs.Loops.{kept_none, standing_settled, keeps_more, stops_more}

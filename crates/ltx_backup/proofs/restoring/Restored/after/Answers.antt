@@ -1,4 +1,4 @@
-use Rattle.std.proofs.Common.{◌≡◌, ◌∙◌, ap}
+use Rattle.std.proofs.Common.{◌∙◌, ap}
 use Rattle.page_checksum.specs.Sums.{flagged}
 use Rattle.ltx_codec.specs.Sums.{joined_sums}
 use Rattle.lf_sqlite_pages.specs.Writes.{data_writes}

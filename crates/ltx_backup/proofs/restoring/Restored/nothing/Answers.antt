@@ -1,4 +1,3 @@
-use Rattle.std.proofs.Common.{◌≡◌}
 use Rattle.ltx_codec.proofs.ChangedSumLemmas.{sum_of_none}
 use Rattle.ltx_backup.proofs.restoring.Restored.nothing.Goals as goal
 
