@@ -18,14 +18,33 @@ fn count(rt: &impl Abort, disk: &mut MemDisk) -> usize {
 fn eight_files_become_one(rt: HostRuntime) {
     let alloc = rt.alloc();
     let mut backup = filled(&rt, alloc, 8);
-    same(&rt, backup.end(), Pos { txid: 8, sum: 0xbf1b_6cc7_6451_1888 });
+    same(
+        &rt,
+        backup.end(),
+        Pos {
+            txid: 8,
+            sum: 0xbf1b_6cc7_6451_1888,
+        },
+    );
     same(&rt, byte_at(&rt, alloc, &mut backup, 4), Ok(3));
     same(&rt, backup.settle(alloc), Ok(1));
     same(&rt, backup.settle(alloc), Ok(0));
     same(&rt, byte_at(&rt, alloc, &mut backup, 8), Ok(7));
-    same(&rt, byte_at(&rt, alloc, &mut backup, 4), Err(BackupFault::NoSuchTxid { txid: 4, last: 8 }));
+    same(
+        &rt,
+        byte_at(&rt, alloc, &mut backup, 4),
+        Err(BackupFault::NoSuchTxid { txid: 4, last: 8 }),
+    );
     let (mut low, mut middle, mut high) = backup.into_disks();
-    same(&rt, (count(&rt, &mut low), count(&rt, &mut middle), count(&rt, &mut high)), (0, 1, 0));
+    same(
+        &rt,
+        (
+            count(&rt, &mut low),
+            count(&rt, &mut middle),
+            count(&rt, &mut high),
+        ),
+        (0, 1, 0),
+    );
     let one = FileName::Ltx { min: 1, max: 8 };
     same(&rt, middle.size(one), Ok(Some(636)));
     let mut seal = [0u8; 8];
@@ -47,7 +66,11 @@ fn applied(rt: &impl Abort, alloc: Global, disk: &mut MemDisk, before: Image) ->
     let name = *names.first().expect(rt, "a file");
     let size = disk.size(name).expect(rt, "a size").unwrap_or(0);
     let mut bytes = vec![in alloc; 0u8; size as usize].expect(rt, "memory");
-    same(rt, disk.read(name, 0, bytes.as_mut_slice()), Ok(size as usize));
+    same(
+        rt,
+        disk.read(name, 0, bytes.as_mut_slice()),
+        Ok(size as usize),
+    );
     let file = decode(alloc, bytes.as_slice()).expect(rt, "a file");
     assert!(rt; before.fits(&file.change));
     before.after(file.change).expect(rt, "memory")

@@ -1,13 +1,25 @@
 //! One of three disks stops at each of its calls, and all crash.
-use super::{byte_at, file, filled, opened, sum_of};
+ghost use Rattle.lf_disk.specs.declared.name.FileName.TheVariants as name;
+ghost use Rattle.lf_disk.specs.History.{IsSettledBut};
+ghost use Rattle.lf_disk.specs.MemDisk.{history_of};
+
+use super::{blank, byte_at, crashed, encoded, file, filled, opened, sum_of};
 use crate::same::same_at;
-use lf_disk::MemDisk;
+use lf_disk::{FileName, MemDisk, publish};
 use ltx_backup::{Backup, BackupFault};
 use std::alloc::Global;
 use std::process::Abort;
 
 /// What is left of the calls that were pending: none of each, a half, all.
 const CHOICES: [u64; 4] = [0, u64::MAX / 3, u64::MAX / 3 * 2, u64::MAX];
+
+/// In what it stops.
+#[derive(Clone, Copy)]
+enum Doing {
+    Settle,
+    Open,
+    Snapshot,
+}
 
 /// What stops: a disk, in its call of this number, and what a crash leaves.
 #[derive(Clone, Copy, Debug, Drop)]
@@ -17,104 +29,161 @@ struct Stop {
     choice: u64,
 }
 
-fn stop(backup: &mut Backup<MemDisk>, at: Stop) {
-    match at.disk {
-        0 => backup.low.stop_in(at.calls),
-        1 => backup.middle.stop_in(at.calls),
-        _ => backup.high.stop_in(at.calls),
-    }
-}
+type Disks = (MemDisk, MemDisk, MemDisk);
 
-fn crashed(rt: &impl Abort, disk: MemDisk, at: Stop) -> MemDisk {
-    match disk.reopen_as(at.choice) {
-        Ok(disk) => disk,
-        Err(_) => panic!(rt; "memory"),
+/// Lets one of three disks stop.
+fn stop_in(low: &mut MemDisk, middle: &mut MemDisk, high: &mut MemDisk, at: Stop)
+    ensures low { IsSettledBut name.Staged (history_of low.old) → IsSettledBut name.Staged (history_of low.new) }
+    ensures middle { IsSettledBut name.Staged (history_of middle.old) → IsSettledBut name.Staged (history_of middle.new) }
+    ensures high { IsSettledBut name.Staged (history_of high.old) → IsSettledBut name.Staged (history_of high.new) }
+{
+    match at.disk {
+        0 => low.stop_in(at.calls),
+        1 => middle.stop_in(at.calls),
+        _ => high.stop_in(at.calls),
     }
 }
 
 /// Opens what a crash leaves.
-fn crash(rt: &impl Abort, alloc: Global, backup: Backup<MemDisk>, at: Stop) -> Backup<MemDisk> {
-    let (low, middle, high) = backup.into_disks();
-    let low = crashed(rt, low, at);
-    let middle = crashed(rt, middle, at);
-    let high = crashed(rt, high, at);
+fn crash(rt: &impl Abort, alloc: Global, disks: Disks, choice: u64) -> Backup<MemDisk> {
+    let low = crashed(rt, disks.0, choice);
+    let middle = crashed(rt, disks.1, choice);
+    let high = crashed(rt, disks.2, choice);
     opened(rt, Backup::open(alloc, low, middle, high))
 }
 
 /// Eight files become one, or don't: what is last stays. Whether all was done.
 fn settle_stops(rt: &impl Abort, alloc: Global, at: Stop) -> bool {
     let mut backup = filled(rt, alloc, 8);
-    stop(&mut backup, at);
-    let done = backup.settle(alloc);
-    same_at(rt, at, backup.settle(alloc).is_ok(), done.is_ok());
-    let mut left = crash(rt, alloc, backup, at);
-    same_at(rt, at, byte_at(rt, alloc, &mut left, 8), Ok(7));
+    stop_in(&mut backup.low, &mut backup.middle, &mut backup.high, at);
+    let done = backup.settle(alloc).is_ok();
+    same_at(rt, at, backup.settle(alloc).is_ok(), done);
+    let mut left = crash(rt, alloc, backup.into_disks(), at.choice);
     let fourth = byte_at(rt, alloc, &mut left, 4);
-    let gone = Err(BackupFault::NoSuchTxid { txid: 4, last: 8 });
-    same_at(rt, at, fourth == Ok(3) || fourth == gone, true);
-    same_at(rt, at, fourth == gone || done.is_err(), true);
-    done.is_ok()
-}
-
-/// Eight files were half removed: opening stops too, and is done again.
-fn open_stops(rt: &impl Abort, alloc: Global, at: Stop) -> bool {
-    let mut backup = filled(rt, alloc, 8);
-    backup.low.stop_in(20);
-    let settled = backup.settle(alloc);
-    same_at(rt, at, settled, Err(BackupFault::Disk));
-    let (low, middle, high) = backup.into_disks();
-    let mut disks = (crashed(rt, low, at), crashed(rt, middle, at), crashed(rt, high, at));
-    match at.disk {
-        0 => disks.0.stop_in(at.calls),
-        1 => disks.1.stop_in(at.calls),
-        _ => disks.2.stop_in(at.calls),
-    }
-    let (done, low, middle, high) = match Backup::open(alloc, disks.0, disks.1, disks.2) {
-        Ok(backup) => {
-            let (low, middle, high) = backup.into_disks();
-            (true, low, middle, high)
-        }
-        Err((why, low, middle, high)) => {
-            same_at(rt, at, why, BackupFault::Disk);
-            (false, low, middle, high)
-        }
-    };
-    let low = crashed(rt, low, at);
-    let middle = crashed(rt, middle, at);
-    let high = crashed(rt, high, at);
-    let mut left = opened(rt, Backup::open(alloc, low, middle, high));
+    let gone = fourth == Err(BackupFault::NoSuchTxid { txid: 4, last: 8 });
+    same_at(
+        rt,
+        at,
+        (gone || fourth == Ok(3), gone || !done),
+        (true, true),
+    );
     same_at(rt, at, byte_at(rt, alloc, &mut left, 8), Ok(7));
     done
 }
 
+/// Of the eight files that became one, four are removed, and a crash leaves that.
+fn half_settled(rt: &impl Abort, alloc: Global, choice: u64) -> Disks
+    ensures low { IsSettledBut name.Staged (history_of result.0) }
+    ensures middle { IsSettledBut name.Staged (history_of result.1) }
+    ensures high { IsSettledBut name.Staged (history_of result.2) }
+{
+    let mut backup = filled(rt, alloc, 8);
+    backup.low.stop_in(20);
+    same_at(rt, choice, backup.settle(alloc), Err(BackupFault::Disk));
+    let (low, middle, high) = backup.into_disks();
+    (
+        crashed(rt, low, choice),
+        crashed(rt, middle, choice),
+        crashed(rt, high, choice),
+    )
+}
+
+/// Opening that stops, too, and opening once more. Whether all was done at first.
+fn open_stops(rt: &impl Abort, alloc: Global, at: Stop) -> bool {
+    let (mut low, mut middle, mut high) = half_settled(rt, alloc, at.choice);
+    stop_in(&mut low, &mut middle, &mut high, at);
+    let (done, disks) = match Backup::open(alloc, low, middle, high) {
+        Ok(backup) => (true, backup.into_disks()),
+        Err((why, low, middle, high)) => {
+            same_at(rt, at, why, BackupFault::Disk);
+            (false, (low, middle, high))
+        }
+    };
+    let mut left = crash(rt, alloc, disks, at.choice);
+    same_at(rt, at, byte_at(rt, alloc, &mut left, 8), Ok(7));
+    done
+}
+
+/// A disk that has one file.
+fn disk_with(rt: &impl Abort, alloc: Global, min: u64, max: u64, pre: u64) -> MemDisk
+    ensures { IsSettledBut name.Staged (history_of result) }
+{
+    let mut disk = blank(rt, alloc);
+    let bytes = encoded(
+        rt,
+        alloc,
+        (min, max),
+        pre,
+        (max % 256) as u8,
+        sum_of((max % 256) as u8),
+    );
+    let name = FileName::Ltx { min, max };
+    same_at(rt, name, publish(&mut disk, name, bytes.as_slice()), Ok(()));
+    crashed(rt, disk, 0)
+}
+
+/// A backup with a file on each level: 1 to 64, 65 to 72, and 73.
+fn on_all_levels(rt: &impl Abort, alloc: Global) -> Backup<MemDisk> {
+    let high = disk_with(rt, alloc, 1, 64, 0);
+    let middle = disk_with(rt, alloc, 65, 72, sum_of(64));
+    let low = disk_with(rt, alloc, 73, 73, sum_of(72));
+    opened(rt, Backup::open(alloc, low, middle, high))
+}
+
 /// A snapshot takes the place of files on all levels, or doesn't. Whether all was done.
 fn snapshot_stops(rt: &impl Abort, alloc: Global, at: Stop) -> bool {
-    let mut backup = filled(rt, alloc, 73);
-    same_at(rt, at, backup.settle(alloc), Ok(10));
-    stop(&mut backup, at);
+    let mut backup = on_all_levels(rt, alloc);
+    stop_in(&mut backup.low, &mut backup.middle, &mut backup.high, at);
     let snapshot = file(rt, alloc, 1, 0, 99, sum_of(99));
-    let done = backup.add(alloc, &snapshot);
-    let mut left = crash(rt, alloc, backup, at);
+    let done = backup.add(alloc, &snapshot).is_ok();
+    let mut left = crash(rt, alloc, backup.into_disks(), at.choice);
     let first = byte_at(rt, alloc, &mut left, 1);
     let last = byte_at(rt, alloc, &mut left, 73);
-    let old = (first, last) == (Err(BackupFault::NoSuchTxid { txid: 1, last: 73 }), Ok(72));
-    let new = (first, last) == (Ok(99), Err(BackupFault::NoSuchTxid { txid: 73, last: 1 }));
-    same_at(rt, at, old || new, true);
-    same_at(rt, at, new || done.is_err(), true);
-    done.is_ok()
+    let no_first = Err(BackupFault::NoSuchTxid { txid: 1, last: 73 });
+    let no_last = Err(BackupFault::NoSuchTxid { txid: 73, last: 1 });
+    let old = first == no_first && last == Ok(73);
+    let new = first == Ok(99) && last == no_last;
+    same_at(rt, at, (old || new, new || !done), (true, true));
+    done
+}
+
+/// Before which call of a disk it stops last: from then on all is done.
+fn last_stop(rt: &impl Abort, alloc: Global, disk: u8, doing: Doing) -> u64 {
+    for calls in 0..40 {
+        let mut done = true;
+        for choice in CHOICES {
+            let at = Stop {
+                disk,
+                calls,
+                choice,
+            };
+            let all = match doing {
+                Doing::Settle => settle_stops(rt, alloc, at),
+                Doing::Open => open_stops(rt, alloc, at),
+                Doing::Snapshot => snapshot_stops(rt, alloc, at),
+            };
+            done = done && all;
+        }
+        if done {
+            return calls;
+        }
+    }
+    40
 }
 
 #[test]
 fn settle_stops_at_each_call(rt: HostRuntime) {
     let alloc = rt.alloc();
     for disk in 0..3 {
-        for calls in 0..40 {
-            for choice in CHOICES {
-                let at = Stop { disk, calls, choice };
-                let done = settle_stops(&rt, alloc, at);
-                same_at(&rt, at, done || calls < 39, true);
-            }
-        }
+        assert!(&rt; last_stop(&rt, alloc, disk, Doing::Settle) < 40);
+    }
+}
+
+#[test]
+fn open_stops_at_each_call(rt: HostRuntime) {
+    let alloc = rt.alloc();
+    for disk in 0..3 {
+        assert!(&rt; last_stop(&rt, alloc, disk, Doing::Open) < 40);
     }
 }
 
@@ -122,12 +191,6 @@ fn settle_stops_at_each_call(rt: HostRuntime) {
 fn a_snapshot_stops_at_each_call(rt: HostRuntime) {
     let alloc = rt.alloc();
     for disk in 0..3 {
-        for calls in 0..12 {
-            for choice in CHOICES {
-                let at = Stop { disk, calls, choice };
-                let done = snapshot_stops(&rt, alloc, at);
-                same_at(&rt, at, done || calls < 11, true);
-            }
-        }
+        assert!(&rt; last_stop(&rt, alloc, disk, Doing::Snapshot) < 40);
     }
 }
