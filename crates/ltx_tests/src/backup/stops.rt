@@ -44,6 +44,25 @@ fn stop_in(low: &mut MemDisk, middle: &mut MemDisk, high: &mut MemDisk, at: Stop
     }
 }
 
+/// A backup of which one disk stops.
+fn stopping(backup: Backup<MemDisk>, at: Stop) -> Backup<MemDisk> {
+    let Backup {
+        mut low,
+        mut middle,
+        mut high,
+        index,
+        broken,
+    } = backup;
+    stop_in(&mut low, &mut middle, &mut high, at);
+    Backup {
+        low,
+        middle,
+        high,
+        index,
+        broken,
+    }
+}
+
 /// Opens what a crash leaves.
 fn crash(rt: &impl Abort, alloc: Global, disks: Disks, choice: u64) -> Backup<MemDisk> {
     let low = crashed(rt, disks.0, choice);
@@ -54,8 +73,7 @@ fn crash(rt: &impl Abort, alloc: Global, disks: Disks, choice: u64) -> Backup<Me
 
 /// Eight files become one, or don't: what is last stays. Whether all was done.
 fn settle_stops(rt: &impl Abort, alloc: Global, at: Stop) -> bool {
-    let mut backup = filled(rt, alloc, 8);
-    stop_in(&mut backup.low, &mut backup.middle, &mut backup.high, at);
+    let mut backup = stopping(filled(rt, alloc, 8), at);
     let done = backup.settle(alloc).is_ok();
     same_at(rt, at, backup.settle(alloc).is_ok(), done);
     let mut left = crash(rt, alloc, backup.into_disks(), at.choice);
@@ -77,8 +95,12 @@ fn half_settled(rt: &impl Abort, alloc: Global, choice: u64) -> Disks
     ensures middle { IsSettledBut name.Staged (history_of result.1) }
     ensures high { IsSettledBut name.Staged (history_of result.2) }
 {
-    let mut backup = filled(rt, alloc, 8);
-    backup.low.stop_in(20);
+    let at = Stop {
+        disk: 0,
+        calls: 20,
+        choice,
+    };
+    let mut backup = stopping(filled(rt, alloc, 8), at);
     same_at(rt, choice, backup.settle(alloc), Err(BackupFault::Disk));
     let (low, middle, high) = backup.into_disks();
     (
@@ -132,8 +154,7 @@ fn on_all_levels(rt: &impl Abort, alloc: Global) -> Backup<MemDisk> {
 
 /// A snapshot takes the place of files on all levels, or doesn't. Whether all was done.
 fn snapshot_stops(rt: &impl Abort, alloc: Global, at: Stop) -> bool {
-    let mut backup = on_all_levels(rt, alloc);
-    stop_in(&mut backup.low, &mut backup.middle, &mut backup.high, at);
+    let mut backup = stopping(on_all_levels(rt, alloc), at);
     let snapshot = file(rt, alloc, 1, 0, 99, sum_of(99));
     let done = backup.add(alloc, &snapshot).is_ok();
     let mut left = crash(rt, alloc, backup.into_disks(), at.choice);
