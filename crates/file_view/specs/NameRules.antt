@@ -39,8 +39,8 @@ creating_rows s scene (Some file.Primary) = (true, EPERM) ∷ []
 -- CREATE
 abbrev pub create_rows : Served → Scene → ℕ → List ℕ → List Row
 create_rows s scene node name =
-    (is_none (file_named s.name name), EPERM)
-    ∷ (not (node == root), ENOENT)
+    (not (node == root), ENOENT)
+    ∷ (is_none (file_named s.name name), EPERM)
     ∷ (is_none (least_free s.handles scene.session), ENFILE)
     ∷ creating_rows s scene (file_named s.name name)
 

@@ -75,12 +75,12 @@ impl View {
         ensures allowed { OnOk result (IsAllowed (create_rows self.now scene.now node name.now)) }
         ensures cause { IfErr result (HasCause needs.Nothing (create_rows self.now scene.now node name.now)) }
     {
-        let Some(file) = file_named(&self.name, name) else {
-            return Err(ViewFault::Errno(EPERM));
-        };
         if node != ROOT {
             return Err(ViewFault::Errno(ENOENT));
         }
+        let Some(file) = file_named(&self.name, name) else {
+            return Err(ViewFault::Errno(EPERM));
+        };
         let Some(number) = self.handles.least_free(scene.session) else {
             return Err(ViewFault::Errno(ENFILE));
         };
