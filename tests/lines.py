@@ -12,13 +12,13 @@ import os
 import socketserver
 import sqlite3
 import subprocess
-import threading
 import time
 from re import escape, fullmatch, search
 
 from support import (ROOT, Cluster, Link, Node, Wrong, configuration, connect, fill, holds, in_mode, insert, read, run, same, small_disk,
                      until)
 from support.cluster import standing_still
+from support.listening import Listening
 from support.wire import ROOT_NODE, UNLINK
 
 NOWHERE = '0000000000000000/0000000000000000'
@@ -114,7 +114,7 @@ def streams():
 
 def no_stream():
     """Another database, a replica, itself, and what is no node."""
-    with Node(database='other') as other, Node(following=other) as replica, Silly() as silly:
+    with Node(database='other') as other, Node(following=other) as replica, Listening(Hello) as silly:
         for it, why in ((other, 'status 404, another database, or no node'), (replica, 'status 503, not the primary'),
                         (silly, 'no stream of this database'), (None, 'status 503, not the primary')):
             with Node(following=it or other, starts=False) as node:
@@ -125,21 +125,9 @@ def no_stream():
                 same(node.news().count(f'stream ends: {why}'), 1, f'how often it says {why}')
 
 
-class Silly(socketserver.ThreadingTCPServer):
-    """Answers each link with something that is no reply."""
-    allow_reuse_address = daemon_threads = True
-
-    def __init__(self):
-        super().__init__(('127.0.0.1', 0), Hello)
-        self.port = self.server_address[1]
-        threading.Thread(target=self.serve_forever, daemon=True).start()
-
-    def __exit__(self, *_):
-        self.shutdown()
-        super().__exit__()
-
-
 class Hello(socketserver.StreamRequestHandler):
+    """Answers a link with something that is no reply."""
+
     def handle(self):
         self.rfile.readline()
         self.wfile.write(b'SSH-2.0-OpenSSH_9.6\r\n' * 100)
@@ -250,20 +238,13 @@ def taking(node):
         return None
 
 
-class Granting(socketserver.ThreadingTCPServer):
+class Granting(Listening):
     """A lease service that grants what it is asked for, for ten minutes. `asked`: what it was asked for."""
-    allow_reuse_address = daemon_threads = True
     ttl = 600000
 
     def __init__(self):
         self.asked = []
-        super().__init__(('127.0.0.1', 0), Grants)
-        self.port = self.server_address[1]
-        threading.Thread(target=self.serve_forever, daemon=True).start()
-
-    def __exit__(self, *_):
-        self.shutdown()
-        super().__exit__()
+        super().__init__(Grants)
 
 
 class Grants(socketserver.StreamRequestHandler):

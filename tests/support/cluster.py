@@ -9,6 +9,7 @@ import threading
 import time
 
 from .cases import holds
+from .listening import Listening
 from .node import KEEP_ALL, Node
 from .outcomes import Wrong
 from .service import Service
@@ -189,19 +190,12 @@ def keys(node):
         return {it for it, in connection.execute('select a from t')}
 
 
-class Door(socketserver.ThreadingTCPServer):
+class Door(Listening):
     """Stands before a lease service, and passes links on while it is open."""
-    allow_reuse_address = daemon_threads = True
 
     def __init__(self, service):
         self.service, self.ttl, self.open = service, service.ttl, True
-        super().__init__(('127.0.0.1', 0), Passing)
-        self.port = self.server_address[1]
-        threading.Thread(target=self.serve_forever, daemon=True).start()
-
-    def __exit__(self, *_):
-        self.shutdown()
-        super().__exit__()
+        super().__init__(Passing)
 
 
 class Passing(socketserver.BaseRequestHandler):
@@ -234,11 +228,9 @@ class Nonsense(socketserver.BaseRequestHandler):
             self.request.sendall(self.texts[self.server.links % len(self.texts)])
 
 
-class Server(socketserver.ThreadingTCPServer):
+class Server(Listening):
     """Answers so at a port. `links`: how many it has had."""
-    allow_reuse_address = daemon_threads = True
 
     def __init__(self, port):
         self.links = 0
-        super().__init__(('127.0.0.1', port), Nonsense)
-        threading.Thread(target=self.serve_forever, daemon=True).start()
+        super().__init__(Nonsense, port)
