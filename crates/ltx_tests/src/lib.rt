@@ -3,6 +3,8 @@
 #![tactic(auto)]
 
 #[cfg(test)]
+mod backup;
+#[cfg(test)]
 mod base;
 #[cfg(test)]
 mod checksum;
