@@ -1,14 +1,14 @@
 -- Pages that are compared with those of a store.
 use Rattle.std.proofs.Common.{◌≡◌, ◌≢◌, ℕ, ◌+◌, ◌-◌, ◌*◌, ◌<◌, ◌≤◌, Bool, true, false, inl, inr, eqb, Some, None, List, [], ◌∷◌, ◌++◌, drop, length, length-drop, length-take, replicate, refl, sym, ◌∙◌, ap, subst, arith}
 use Rattle.std.specs.List.{All}
-use Rattle.std.specs.Prelude.{◌==◌, ◌&&◌, nat_le, if◌then◌else◌}
+use Rattle.std.specs.Prelude.{◌==◌, ◌&&◌, nat_le, IfSome, IsSome, Option, if◌then◌else◌}
 use Rattle.std.proofs.Math.Nat.{mul-le-mul_right}
-use Rattle.std.proofs.lemmas.Bool.{and_parts, cases_eq, eqb-true}
+use Rattle.std.proofs.lemmas.Bool.{and_parts, cases_eq, cases_lt, eqb-true}
 use Rattle.std.proofs.lemmas.Bool.Decides.{nat_tests}
 use Rattle.std.proofs.lemmas.List.{length-replicate}
 use Rattle.lf_disk.specs.declared.name.FileName.TheVariants.{Database}
 use Rattle.lf_disk.specs.Folder.{Folder, bytes_of}
-use Rattle.lf_sqlite_pages.specs.Change.{PageChange, with_page, written}
+use Rattle.lf_sqlite_pages.specs.Change.{FitsOver, PageChange, with_page, written}
 use Rattle.lf_sqlite_pages.specs.Header.{page_size_of, stated_page_size}
 use Rattle.lf_sqlite_pages.specs.Image.{DatabaseImage, SameImage, page_at}
 use Rattle.lf_sqlite_pages.specs.LockPage.{lock_page_of, IsDataPage}
@@ -212,3 +212,34 @@ leads image other change true alike is nothing =
       empty : (ws : List PageWrite) → length ws ≡ 0 → ws ≡ []
       empty [] e = refl
       empty (w ∷ ws) e = absurd (omega (arith, e))
+
+-- a data page of the bytes is written where the image has no page of its size there
+writes_other : (size commit : ℕ) (f : Folder) (s pages n : ℕ) (bytes : List ℕ) → HasPages size commit f → pages * s ≤ length bytes → size ≢ s → 1 ≤ n → n ≤ pages → n ≢ lock_page_of s →
+    written (difference (image_in size commit f) (image_of_pages s pages bytes)).pages n ≡ Some (in_place s n bytes)
+writes_other size commit f s pages n bytes has room other first last is_data =
+    let image : DatabaseImage = image_in size commit f in
+    let made : DatabaseImage = image_of_pages s pages bytes in
+    let page : List ℕ = in_place s n bytes in
+    let long : length page ≡ s = ap length (sym (place_is s n bytes is_data)) ∙ whole_page s pages bytes n room first last in
+    let none : has_page image n page ≡ false = elim (cases_lt commit n) [
+      | inl past ↦ sym (absent size commit f n page past)
+      | inr within ↦ sym (other_size size commit f n page has first within (λ same. other (sym same ∙ long)))
+    ] in
+    let writes : page_changed image made n ≡ Some page = changed_is image made n page is_data (page_there s pages n bytes first last is_data) ∙ ap (λ (b : Bool). if b then None else Some page) none in
+    written-writes_of (page_changed image made) (length made.pages) n first (omega (arith, last, length_of s pages bytes)) ∙ writes
+
+-- so the change fits the database whatever its page size is
+pub fits : (size commit : ℕ) (f : Folder) (s pages : ℕ) (bytes : List ℕ) → HasPages size commit f → pages * s ≤ length bytes →
+    FitsOver size commit (difference (image_in size commit f) (image_of_pages s pages bytes))
+fits size commit f s pages bytes has room = elim (cases_eq size s) [
+  | inl same ↦ inl same
+  | inr other ↦
+      inr (inr (λ n first last is_data.
+      let within : n ≤ pages = omega (arith, last, length_of s pages bytes) in
+      subst IsSome (sym (writes_other size commit f s pages n bytes has room other first within is_data)) refl))
+]
+
+-- and where it changes nothing there is none
+pub fits-some : (size commit : ℕ) (change : PageChange) (b : Bool) → FitsOver size commit change → IfSome (if b then None else Some change) (FitsOver size commit)
+fits-some size commit change true fit = tt
+fits-some size commit change false fit = fit

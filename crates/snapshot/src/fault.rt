@@ -11,7 +11,7 @@ pub enum IntoFault {
 }
 
 /// Why the bytes of a database do not become a change. In this order.
-#[derive(Debug, Drop)]
+#[derive(Clone, Copy, Debug, PartialEq, Eq)]
 pub enum ImportFault {
     /// The bytes are not at least one page, a whole number of pages of the size that their own first
     /// page gives.

@@ -4,6 +4,7 @@ ghost use Rattle.database_file.specs.Commit.{LeadsTo};
 ghost use Rattle.database_file.specs.CommitParts.{changes_nothing};
 ghost use Rattle.lf_disk.specs.History.{Rests};
 ghost use Rattle.txn_log.specs.Fields.{NoCall, state_now};
+ghost use Rattle.lf_sqlite_pages.specs.Change.{FitsOver};
 ghost use Rattle.lf_sqlite_pages.specs.PageSize.{IsPageSize};
 ghost use Rattle.lf_sqlite_pages.specs.LockPage.{IsWithinLimit};
 ghost use Rattle.snapshot.specs.Bytes.{AreDatabase, ImportsWith, image_of_bytes, size_in};
@@ -25,6 +26,7 @@ pub fn import_change<D: Disk>(
 ) -> Result<Option<Change>, ImportFault>
     ensures leads { IsTrue (D.honest store.old.disk) → IfOk result
         (LeadsTo (state_now store.old).image (image_of_bytes bytes.now)) }
+    ensures fits { IsTrue (D.honest store.old.disk) → IfOk result (λ change. IfSome change (FitsOver store.old.page_size store.old.commit)) }
     ensures cause { ImportsWith bytes.now store.old.broken (D.faults store.old.disk) (D.faults store.new.disk) result }
 
     // The store is as before.

@@ -1,10 +1,10 @@
 use Rattle.std.proofs.Common.{◌≡◌, ℕ, ◌*◌, ◌/◌, ◌≤◌, Option, Some, None, List, length, sym, ◌∙◌, ap, subst, arith}
-use Rattle.std.specs.Prelude.{if◌then◌else◌}
+use Rattle.std.specs.Prelude.{IfSome, if◌then◌else◌}
 use Rattle.std.proofs.Math.Nat.{div-mul-le_self}
 use Rattle.std.proofs.lemmas.Nat.{le-div}
 use Rattle.lf_disk.specs.Folder.{Folder}
 use Rattle.lf_disk.specs.History.{now}
-use Rattle.lf_sqlite_pages.specs.Change.{PageChange, empty_change}
+use Rattle.lf_sqlite_pages.specs.Change.{FitsOver, PageChange, empty_change}
 use Rattle.lf_sqlite_pages.specs.Image.{DatabaseImage}
 use Rattle.lf_sqlite_pages.specs.PageSize.{IsPageSize}
 use Rattle.lf_sqlite_pages.proofs.LockPages.{page_size-positive}
@@ -15,7 +15,7 @@ use Rattle.txn_log.proofs.PagesRead.{count}
 use Rattle.txn_log.specs.Store.{image_in, state_of, failed_of}
 use Rattle.snapshot.specs.Bytes.{AreDatabase, size_in, count_in, image_of_pages, image_of_bytes}
 use Rattle.snapshot.specs.Pages.{HasPages}
-use Rattle.snapshot.proofs.ImportLemmas.{leads, length_of, same_images}
+use Rattle.snapshot.proofs.ImportLemmas.{fits, fits-some, leads, length_of, same_images}
 use Rattle.snapshot.proofs.StoreLemmas.{kept_still, left_still, mode_still, moved_still, has_pages, image_now}
 use Rattle.snapshot.proofs.importing.import_change.Goals as goal
 
@@ -104,3 +104,18 @@ pub returns-clause-went : goal.returns-clause-went
 returns-clause-went g c honest =
     let s = c.args.store.now in
     moved_still (g.D.Disk.history s.disk) (g.D.Disk.history c.push_all.new.disk) c.push_all.ensures.rests s.page_size s.commit s.entries.items s.dropped s.broken s.whole c.if-store.false s.attempt s.tried (s.left honest)
+
+pub returns-in-Ok-push_all-clause-fits : goal.returns-in-Ok-push_all-clause-fits
+returns-in-Ok-push_all-clause-fits g c honest =
+    let s = c.args.store.now in
+    let h = g.D.Disk.history s.disk in
+    let bytes = c.args.bytes.now in
+    let empty : PageChange = c.new-change.result in
+    let change : PageChange = c.push_all.new.change in
+    let has = has_pages h s.page_size s.commit s.entries.items s.dropped s.broken s.sums.sums s.whole s.tried c.if-store.false (s.kept honest) in
+    let room : empty.commit * empty.page_size ≤ length bytes =
+    subst (λ (o : PageChange). o.commit * o.page_size ≤ length bytes) (sym c.new-change.ensures)
+    (pages_fit c.in-Some.size c.in-Some-count_within.count bytes c.in-Some-count_within.ensures.some.0) in
+    let fit : FitsOver s.page_size s.commit change =
+    subst (FitsOver s.page_size s.commit) (sym (c.in-Ok-push_all.ensures.pushed honest has)) (fits s.page_size s.commit (now h) empty.page_size empty.commit bytes has room) in
+    subst (λ (r : Option PageChange). IfSome r (FitsOver s.page_size s.commit)) (sym c.unless_nothing.ensures) (fits-some s.page_size s.commit change (changes_nothing change s.commit) fit)
