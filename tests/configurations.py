@@ -1,7 +1,7 @@
 #!/usr/bin/python3
 """Commands and configurations that are wrong, and places that are taken: the status and the line on standard error that docs/COMMANDS.md
 has for each; in front of it, of a configuration, the line that says which key is wrong, where it stands and what was wanted. And
-configurations that are right: the node answers.
+configurations that are right: the node answers. Of a place, why it can't be had.
 
 At most: 600 seconds.
 Seen to fail: a node that doesn't lock its directory: a second one comes as far as the socket, and says network failed."""
@@ -64,10 +64,16 @@ ACCEPTED = {
 }
 
 
+def behind(said, outcome):
+    """The outcome with this line in front of its own."""
+    status, line = outcome
+    return status, f'litefs: {said}\n{line}'
+
+
 def refused(text, said):
     with Node(starts=False) as node:
         node.configure(text)
-        same(node.outcome(), (CONFIG[0], f'litefs: {said}\n{CONFIG[1]}'), 'how it ends')
+        same(node.outcome(), behind(said, CONFIG), 'how it ends')
         same(sorted(os.listdir(node.folder)), ['litefs.toml'], 'the folder')
 
 
@@ -102,7 +108,7 @@ def words():
 
 def directory_in_use():
     with Node() as node:
-        same(node.outcome(), DISK, 'a second node in the folder')
+        same(node.outcome(), behind('cannot open dbs/app: another process has it', DISK), 'a second node in the folder')
         node.position()
 
 
@@ -110,13 +116,13 @@ def directory_no_folder():
     with Node(starts=False) as node:
         with open(os.path.join(node.folder, 'dbs'), 'w'):
             pass
-        same(node.outcome(), DISK, 'where dbs is a file')
+        same(node.outcome(), behind('cannot open dbs/app: not a directory, errno 020', DISK), 'where dbs is a file')
 
 
 def socket_in_use():
     with Node() as other, Node(starts=False) as node:
         node.configure(other_socket(node, other.socket))
-        same(node.outcome(), NETWORK, 'a socket on which another node listens')
+        same(node.outcome(), unheard(other.socket, 'another process has it'), 'a socket on which another node listens')
         other.position()
 
 
@@ -124,21 +130,22 @@ def socket_no_socket():
     with Node(starts=False) as node:
         with open(node.socket, 'w') as file:
             file.write('mine')
-        same(node.outcome(), NETWORK, 'a file at the path of the socket')
+        same(node.outcome(), unheard('app.sock', 'a file that is no socket has the path'), 'a file at the path of the socket')
         same(open(node.socket).read(), 'mine', 'that file')
 
 
 def socket_without_a_folder():
     with Node(starts=False) as node:
-        node.configure(other_socket(node, os.path.join(node.folder, 'absent', 'app.sock')))
-        same(node.outcome(), NETWORK, 'a socket in a folder that is not there')
+        path = os.path.join(node.folder, 'absent', 'app.sock')
+        node.configure(other_socket(node, path))
+        same(node.outcome(), unheard(path, 'no such file or directory, errno 002'), 'a socket in a folder that is not there')
 
 
 def socket_path_too_long():
     """A path of a Unix socket has at most 107 bytes."""
     with Node(starts=False) as node:
         node.configure(other_socket(node, 's' * 108))
-        same(node.outcome(), NETWORK, 'a path of 108 bytes')
+        same(node.outcome(), unheard('s' * 108, "a socket's path has at most 107 bytes"), 'a path of 108 bytes')
 
 
 def socket_left_behind():
@@ -151,7 +158,20 @@ def socket_left_behind():
 
 def port_in_use():
     with Node(starts=False) as node, socket.create_server(('127.0.0.1', node.port)):
-        same(node.outcome(), NETWORK, 'a port that is taken')
+        same(node.outcome(), unheard(f'127.0.0.1:{node.port}', 'address in use, errno 098'), 'a port that is taken')
+
+
+def address_of_another_machine():
+    """192.0.2.1 is for documents (RFC 5737): no machine has it."""
+    with Node(starts=False) as node:
+        with open(os.path.join(node.folder, 'litefs.toml')) as file:
+            text = file.read()
+        node.configure(text.replace(f'"127.0.0.1:{node.port}"', f'"192.0.2.1:{node.port}"'))
+        same(node.outcome(), unheard(f'192.0.2.1:{node.port}', 'no address of this machine, errno 099'), 'its outcome')
+
+
+def unheard(place, why):
+    return behind(f'cannot listen on {place}: {why}', NETWORK)
 
 
 def other_socket(node, path):
@@ -171,7 +191,7 @@ def primary_out_of_reach():
 
 
 ALONE = (no_file, words, directory_in_use, directory_no_folder, socket_in_use, socket_no_socket, socket_without_a_folder,
-         socket_path_too_long, socket_left_behind, port_in_use, primary_out_of_reach)
+         socket_path_too_long, socket_left_behind, port_in_use, address_of_another_machine, primary_out_of_reach)
 run({**{f'refused-{name}': lambda given=given: refused(*given) for name, given in WRONG.items()},
      **{f'accepted-{name}': lambda given=given: accepted(*given) for name, given in ACCEPTED.items()},
      **{call.__name__: call for call in ALONE}})

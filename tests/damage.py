@@ -1,17 +1,17 @@
 #!/usr/bin/python3
-"""Damaged data directories: each is refused by name with status 3 and left as it is, byte by byte; and what a stop may
-leave, or what no file of the store is, is no damage. What is damage: crates/node_recovery, docs/FORMATS.md.
+"""Damaged data directories: each is refused by name with status 3, behind a line that says which file is damaged and the two numbers that
+differ, and left as it is, byte by byte; and what a stop may leave, or what no file of the store is, is no damage. What is damage: crates/node_recovery, docs/FORMATS.md.
 
 At most: 1200 seconds.
 Seen to fail: a program that touches the directory before it refuses it ("the directory is as it was"), and one that takes every directory for
 damaged (each harmless change is refused)."""
 import contextlib
 import os
+import re
 import shutil
 
-from support import Node, connect, count, fill, in_mode, insert, read, run, same
+from support import Node, connect, count, fill, holds, in_mode, insert, read, run, same
 
-DAMAGED = (3, 'litefs: input refused: Damaged\n')
 PAGE, ROWS, LATER = 4096, 30, 6
 
 
@@ -36,11 +36,17 @@ def files(folder):
             for at, _, names in os.walk(folder) for name in names}
 
 
-def refused(damage):
+def refused(damage, file):
+    """`file`: which one is damaged, of the log's files before."""
     with stopped() as node:
+        log = [os.path.relpath(it, node.data) for it in node.log()]
         damage(node)
         before = files(node.data)
-        same(node.outcome(), DAMAGED, 'the start')
+        status, said = node.outcome()
+        same(status, 3, 'the status')
+        line = f'litefs: damaged: dbs/app/{re.escape(file(log))}: ([0-9a-f]{{16}}) is wanted, ([0-9a-f]{{16}}) is there\n'
+        numbers = re.fullmatch(f'{line}litefs: input refused: Damaged\n', said)
+        holds(numbers and numbers[1] != numbers[2], f'what it says: {said}')
         same(files(node.data) == before, True, 'the directory is as it was')
 
 
@@ -98,24 +104,37 @@ def of_another(node):
         shutil.copy(other.log()[-1], node.log()[-1])
 
 
+def fourth(log):
+    return log[3]
+
+
+def last(log):
+    return log[-1]
+
+
+def database(_):
+    """The log is lost: so the file with pages is there for nothing."""
+    return 'database'
+
+
 REFUSED = {
-    'magic': in_log(3, 0),
-    'a_bit_of_a_page': in_log(3, 300),
-    'a_bit_of_the_file_sum': in_log(3, -1),
-    'a_bit_of_the_last_file': in_log(-1, 300),
-    'a_file_cut_short': lambda node: os.truncate(node.log()[3], 300),
-    'an_empty_file': lambda node: os.truncate(node.log()[-1], 0),
-    'a_byte_behind_a_file': lambda node: appended(node.log()[3], b'x'),
-    'a_gap': lambda node: os.remove(node.log()[3]),
-    'a_file_renamed': renamed,
-    'two_files_exchanged': swapped,
-    'a_file_of_another_database': of_another,
-    'no_snapshot': lambda node: written(f'{node.data}/snapshot.ltx', b'x' * 1000),
-    'a_bit_of_the_database': in_database(5),
-    'the_database_cut_short': lambda node: os.truncate(f'{node.data}/database', 3 * PAGE),
-    'the_database_gone': lambda node: os.remove(f'{node.data}/database'),
-    'the_log_gone': lambda node: shutil.rmtree(f'{node.data}/ltx'),
-    'the_log_emptied': lambda node: [os.remove(file) for file in node.log()],
+    'magic': (in_log(3, 0), fourth),
+    'a_bit_of_a_page': (in_log(3, 300), fourth),
+    'a_bit_of_the_file_sum': (in_log(3, -1), fourth),
+    'a_bit_of_the_last_file': (in_log(-1, 300), last),
+    'a_file_cut_short': (lambda node: os.truncate(node.log()[3], 300), fourth),
+    'an_empty_file': (lambda node: os.truncate(node.log()[-1], 0), last),
+    'a_byte_behind_a_file': (lambda node: appended(node.log()[3], b'x'), fourth),
+    'a_gap': (lambda node: os.remove(node.log()[3]), lambda log: log[4]),
+    'a_file_renamed': (renamed, lambda log: f'ltx/{99:016x}-{99:016x}.ltx'),
+    'two_files_exchanged': (swapped, fourth),
+    'a_file_of_another_database': (of_another, last),
+    'no_snapshot': (lambda node: written(f'{node.data}/snapshot.ltx', b'x' * 1000), lambda log: 'snapshot.ltx'),
+    'a_bit_of_the_database': (in_database(5), last),
+    'the_database_cut_short': (lambda node: os.truncate(f'{node.data}/database', 3 * PAGE), last),
+    'the_database_gone': (lambda node: os.remove(f'{node.data}/database'), last),
+    'the_log_gone': (lambda node: shutil.rmtree(f'{node.data}/ltx'), database),
+    'the_log_emptied': (lambda node: [os.remove(file) for file in node.log()], database),
 }
 HARMLESS = {
     'nothing': lambda node: None,
@@ -127,5 +146,5 @@ HARMLESS = {
 }
 
 
-run({**{f'refused-{name}': lambda damage=damage: refused(damage) for name, damage in REFUSED.items()},
+run({**{f'refused-{name}': lambda given=given: refused(*given) for name, given in REFUSED.items()},
      **{f'harmless-{name}': lambda change=change: harmless(change) for name, change in HARMLESS.items()}})

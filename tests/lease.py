@@ -155,7 +155,8 @@ def refusals():
             same(status, 3, f'the status with {text!r}')
             holds(fullmatch(r'litefs: litefs\.toml(:1|:2)?: .*wanted .+\nlitefs: input refused: Config\n', said), f'with {text!r}: {said!r}')
     with Service() as service:
-        same(service.outcome(), (7, 'litefs: network failed\n'), 'a second one at its port')
+        same(service.outcome(), (7, f'litefs: cannot listen on 127.0.0.1:{service.port}: address in use, errno 098\nlitefs: network failed\n'),
+             'a second one at its port')
         same(service.info(), {}, 'the first one')
 
 

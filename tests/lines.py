@@ -22,6 +22,12 @@ from support.listening import Listening
 from support.wire import ROOT_NODE, UNLINK
 
 NOWHERE = '0000000000000000/0000000000000000'
+PEER = r'127\.0\.0\.1:[0-9]+'
+
+
+def said(node, line):
+    """Those of its lines that fit."""
+    return [it for it in node.news() if fullmatch(line, it)]
 
 
 def start():
@@ -148,8 +154,9 @@ def snapshots():
         replica.start()
         primary.level(replica)
         at = position(primary)
-        for node, what in (replica, 'snapshot installed'), (primary, 'snapshot for a follower'):
-            until(lambda: f'{what}: at {at} in place of {own}' in node.news(), f'{what}: {at} for {own}')
+        for node, what in (replica, 'snapshot installed'), (primary, rf'snapshot for the follower {PEER}'):
+            line = f'{what}: at {at} in place of {own}'
+            until(lambda: said(node, line), line)
 
 
 def drop():
@@ -195,16 +202,16 @@ def followers():
         fill(writer, range(3))
         primary.level(replica)
         at = position(primary)
-        until(lambda: f'follower at {NOWHERE}' in primary.news(), 'it comes')
+        until(lambda: said(primary, f'follower {PEER} at {NOWHERE}'), 'it comes')
         replica.restart()
-        until(lambda: f'follower at {at}' in primary.news(), 'it comes again, from there')
+        until(lambda: said(primary, f'follower {PEER} at {at}'), 'it comes again, from there')
         replica.kill()
         keys = itertools.count(3)
 
         def gone():
             """A link is found cut off by what is sent on it."""
             fill(writer, [next(keys)])
-            return [it for it in primary.news() if fullmatch('follower at .* is gone', it)]
+            return said(primary, f'follower {PEER} at .* is gone')
         until(gone, 'it is gone')
 
 

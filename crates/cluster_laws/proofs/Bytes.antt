@@ -15,6 +15,7 @@ use Rattle.lf_disk.specs.History.{History}
 use Rattle.lf_sqlite_pages.specs.Image.{DatabaseImage, image_bytes}
 use Rattle.file_view.specs.declared.plan.Plan.{Plan}
 use Rattle.file_view.specs.declared.plan.Plan.TheVariants as plan
+use Rattle.file_view.specs.Errno.{EAGAIN}
 use Rattle.file_view.specs.Done.{HasRead, IsDoneAt}
 use Rattle.file_view.specs.Served.{Served}
 use Rattle.lf_sqlite_pages.specs.Change.{PageChange}
@@ -24,10 +25,11 @@ use Rattle.node_core.specs.declared.ask.Ask.{Ask}
 use Rattle.node_core.specs.declared.ask.Ask.TheVariants as asks
 use Rattle.cluster_laws.specs.Bytes.{GivesBytes, ReadGives}
 use Rattle.node_core.specs.Files.{IsPlanned, scene, told}
+use Rattle.node_core.specs.HoldingBack.{is_kept_out}
 use Rattle.node_core.specs.Nodes.{NodeParts, at_moment, file_over, role_in, seen}
 use Rattle.node_core.specs.Serving.{ServesFiles}
 use Rattle.node_core.specs.Stores.{state}
-use Rattle.node_core.specs.Steps.{AnswersFile, Does}
+use Rattle.node_core.specs.Steps.{AnswersFile, AnswersServed, Does}
 use Rattle.node_core.specs.Unlinking.{unlinks}
 use Rattle.node_core.proofs.Answering.{told-image}
 use Rattle.node_core.proofs.Expired.{files-still}
@@ -38,12 +40,21 @@ bytes-alike one other same = cc
 no-commit : (given : Reply) (change : PageChange) (bytes : List ℕ) → plan.Commit given change ≡ plan.Reply (reply.Bytes bytes) → ⊥
 no-commit given change bytes same = cc
 
+done-refused : (r : Reply) (number : Errno) → answers.Done r ≡ answers.Refuse number → ⊥
+done-refused r number same = cc
+
+-- one that is done wasn't kept out
+was-let-in : (start : History) (old : NodeParts) (caller : ℕ) (request : Request) (r : Reply) (end : History) (new : NodeParts) (said : Option Errno) (kept : Bool) →
+    AnswersServed kept start old caller request (answers.Done r) end new said → ServesFiles start old caller request (answers.Done r) end new said
+was-let-in start old caller request r end new said true refused = absurd (done-refused r EAGAIN refused.0)
+was-let-in start old caller request r end new said false serves = serves
+
 -- a request that unlinks nothing is one of the files
-is-served : (start : History) (old : NodeParts) (caller : ℕ) (request : Request) (answer : Answer) (end : History) (new : NodeParts) (said : Option Errno) (here unlinked : Bool) → unlinked ≡ false →
-    AnswersFile (here && unlinked) start old caller request answer end new said → ServesFiles start old caller request answer end new said
-is-served start old caller request answer end new said true false none serves = serves
-is-served start old caller request answer end new said true true none serves = absurd (let no : true ≡ false = none in cc)
-is-served start old caller request answer end new said false unlinked none serves = serves
+is-served : (start : History) (old : NodeParts) (caller : ℕ) (request : Request) (r : Reply) (end : History) (new : NodeParts) (said : Option Errno) (here unlinked : Bool) → unlinked ≡ false →
+    AnswersFile (here && unlinked) start old caller request (answers.Done r) end new said → ServesFiles start old caller request (answers.Done r) end new said
+is-served start old caller request r end new said true false none serves = was-let-in start old caller request r end new said (is_kept_out old caller request) serves
+is-served start old caller request r end new said true true none serves = absurd (let no : true ≡ false = none in cc)
+is-served start old caller request r end new said false unlinked none serves = was-let-in start old caller request r end new said (is_kept_out old caller request) serves
 
 module _ (start end : History) (old new : NodeParts) (said : Option Errno) (caller : ℕ) (request : Request) (honest : IsTrue old.store.honest) where
   -- the bytes of the database file, as the cluster sees it
@@ -73,7 +84,7 @@ module _ (start end : History) (old new : NodeParts) (said : Option Errno) (call
   gives-file : (kind : Option FileKind) → file_at request.node ≡ kind → (o : Op) → request.op ≡ o → (r : Reply) →
       AnswersFile ((request.node == root) && unlinks old.config.name o) start old caller request (answers.Done r) end new said → ReadGives contents kind o r
   gives-file (Some file.Database) database (op.Read fh place size owner) reads (reply.Bytes bytes) answers_it =
-      gives-read fh place size owner reads database bytes (is-served start old caller request (answers.Done (reply.Bytes bytes)) end new said (request.node == root) false refl answers_it)
+      gives-read fh place size owner reads database bytes (is-served start old caller request (reply.Bytes bytes) end new said (request.node == root) false refl answers_it)
   gives-file kind is o also r answers_it = tt
 
 -- each step of a node without uncommitted pages, of which its moment takes none

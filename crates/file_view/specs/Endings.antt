@@ -1,10 +1,11 @@
 -- What happens to the served files beside requests.
-use Rattle.std.specs.Prelude.{ℕ, ◌==◌, Bool, Option, Some, None, [], find, if◌then◌else◌}
+use Rattle.std.specs.Prelude.{ℕ, ◌==◌, Bool, Option, Some, None, is_some, [], find, if◌then◌else◌}
+use Rattle.std.specs.List.{list_any}
 use Rattle.std.specs.Option.{option_map}
 use Rattle.byte_locks.specs.declared.owner.Owner.{Owner}
 use Rattle.byte_locks.specs.declared.lock_id.LockId.{LockId}
 use Rattle.byte_locks.specs.LockEntry.{of_session}
-use Rattle.byte_locks.specs.LockList.{is_held, without}
+use Rattle.byte_locks.specs.LockList.{is_held, kind_held, without}
 use Rattle.byte_locks.specs.ModeLocks.{blocking_locks}
 use Rattle.database_file.specs.DatabaseFile.{clean}
 use Rattle.file_handles.specs.Handles.{without_session}
@@ -63,3 +64,7 @@ applied s page_size commit = record s {
 -- the first lock that holds a frame back, by the mode of the committed image
 abbrev pub first_blocking : Served → Bool → Option LockId
 first_blocking s wal = find (is_held s.locks) (blocking_locks wal)
+
+-- whether an owner is inside: it holds a lock that holds a frame back, by the mode of the committed image
+abbrev pub is_inside : Served → Owner → Bool → Bool
+is_inside s owner wal = list_any (λ lock. is_some (kind_held s.locks owner lock)) (blocking_locks wal)

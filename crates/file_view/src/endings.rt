@@ -4,10 +4,10 @@ ghost use Rattle.std.specs.Option.{option_map};
 ghost use Rattle.byte_locks.specs.LockList.{is_held};
 ghost use Rattle.byte_locks.specs.ModeLocks.{blocking_locks};
 ghost use Rattle.database_file.specs.DatabaseFile.{KeepsNothing};
-ghost use Rattle.file_view.specs.Endings.{dropped, ended, committed, abandoned, applied, applied_index, first_blocking};
+ghost use Rattle.file_view.specs.Endings.{dropped, ended, committed, abandoned, applied, applied_index, first_blocking, is_inside};
 
 use crate::view::View;
-use byte_locks::LockId;
+use byte_locks::{LockId, Owner};
 use shm_index::SharedMemory;
 use wal_watch::{WalFile, committed_frames_say};
 
@@ -103,6 +103,15 @@ impl View {
             None => Ok(()),
             Some(lock) => Err(lock),
         }
+    }
+
+    /// Whether an owner holds a lock that holds a frame back, by the mode of the committed image.
+    pub fn is_inside(&self, owner: Owner, wal: bool) -> bool
+        ensures { result ≡ is_inside self.now owner wal }
+    {
+        blocking_locks(wal)
+            .iter()
+            .any(|lock| self.locks.holds(owner, *lock).is_some())
     }
 
     /// Does the request that waits, over the committed image that its change has led to.

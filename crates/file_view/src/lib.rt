@@ -40,6 +40,7 @@ mod view;
 
 pub use fault::ViewFault;
 pub use laws::log_write_keeps_the_database;
+pub use lock_requests::locks_at;
 pub use plan::Plan;
 pub use role::Role;
 pub use scene::Scene;

@@ -19,7 +19,7 @@ use file_handles::file_at;
 use fuse_msgs::{LockWish, Reply};
 
 /// The locks of a range on a node's file.
-pub(crate) fn locks_at(node: u64, start: u64, end: u64) -> LockSet
+pub fn locks_at(node: u64, start: u64, end: u64) -> LockSet
     ensures { result ≡ locks_at node start end }
 {
     match file_at(node) {

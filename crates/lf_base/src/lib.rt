@@ -12,6 +12,7 @@ mod clock;
 mod closing;
 mod dialer;
 mod digits;
+mod door;
 mod endian;
 mod errno;
 mod file_bytes;
@@ -50,6 +51,7 @@ pub use clock::{Clock, FixedClock};
 pub use closing::Closing;
 pub use dialer::Dialer;
 pub use digits::{hex16, read_hex16};
+pub use door::Door;
 pub use endian::{
     be16_at, be32_at, be64_at, le16_at, le16_bytes, le32_at, le32_bytes, le64_at, le64_bytes,
 };

@@ -5,6 +5,7 @@ ghost use Rattle.lf_base.specs.Faults.{CountsFaults};
 ghost use Rattle.lf_base.specs.Moves.{CountsMoves};
 
 use crate::source::Failed;
+use std::net::SocketAddr;
 
 /// Two ways of bytes, with one count of faults.
 pub trait Link {
@@ -42,4 +43,9 @@ pub trait Link {
         ensures given { Keeps (given self.old) (given self.new) }
         ensures moves { CountsMoves (moves self.old) (moves self.new) result }
         ensures cause { CountsFaults (faults self.old) (faults self.new) result };
+
+    /// Who is at its other end, where that is known. Nothing is told of it.
+    fn peer(&self) -> Option<SocketAddr> {
+        None
+    }
 }

@@ -1,6 +1,9 @@
 /// A nap. It returns, and nothing is told of it.
 pub trait Pause {
     fn nap(&mut self);
+
+    /// So many naps in one.
+    fn naps(&mut self, count: u64);
 }
 
 /// No nap at all.
@@ -15,4 +18,6 @@ impl NoPause {
 
 impl Pause for NoPause {
     fn nap(&mut self) {}
+
+    fn naps(&mut self, _count: u64) {}
 }

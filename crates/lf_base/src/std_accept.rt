@@ -1,22 +1,21 @@
-//! Acceptors over the system's listeners. They look for a link and at the closing word by turns.
+//! Acceptors over the system's listeners. They wait for a link, and look at the closing word before and behind.
 ghost use Rattle.std.specs.Prelude.{◌≡◌, ◌==◌, not, false, IfOk};
 
 use crate::acceptor::Acceptor;
 use crate::closing::Closing;
+use crate::door::Door;
 use crate::handles::Handles;
 use crate::polling_stream::PollingStream;
 use crate::source::Failed;
 use crate::stream_link::{StreamLink, TcpLink, UnixLink};
+use crate::text::Text;
 use crate::watched_stream::WatchedStream;
+use std::io;
 use std::net::{TcpListener, TcpStream};
 use std::os::unix::net::{UnixListener, UnixStream};
-use std::time::Duration;
-use std::{io, thread};
+use std::sync::Wait;
 
-/// How long an acceptor sleeps before it looks again, in milliseconds.
-const NAP_MS: u64 = 5;
-
-/// A listener of the system that does not wait.
+/// A listener of the system.
 trait Listen {
     type Stream: Drop;
 
@@ -41,25 +40,16 @@ impl Listen for UnixListener {
     }
 }
 
-/// The next stream, or `None` once the word is closed.
-fn next_stream<R: Handles, T: Listen>(
-    rt: &R,
-    listener: &T,
-    closing: &Closing,
-) -> io::Result<Option<T::Stream>> {
-    for _ in rt.forever() {
-        if closing.is_closed() {
-            return Ok(None);
-        }
-        match listener.next() {
-            Ok(stream) => return Ok(Some(stream)),
-            Err(error) if error.kind() == io::ErrorKind::WouldBlock => {
-                thread::sleep(rt, Duration::from_millis(NAP_MS));
-            }
-            Err(error) => return Err(error),
-        }
+/// The next stream, or `None` once the word is closed. A stream that comes then is hung up.
+fn next_stream<T: Listen>(listener: &T, closing: &Closing) -> io::Result<Option<T::Stream>> {
+    if closing.is_closed() {
+        return Ok(None);
     }
-    unreachable!()
+    let stream = listener.next()?;
+    if closing.is_closed() {
+        return Ok(None);
+    }
+    Ok(Some(stream))
 }
 
 /// An acceptor over a TCP listener.
@@ -74,12 +64,19 @@ pub struct TcpAccept {
 }
 
 impl TcpAccept {
-    /// It gives links until the word is closed.
-    pub fn new(listener: TcpListener, closing: Closing) -> Result<TcpAccept, Failed>
+    /// It gives links until the word is closed and its door was knocked at.
+    pub fn new<R: Wait>(
+        rt: &R,
+        listener: TcpListener,
+        closing: Closing,
+    ) -> Result<TcpAccept, Failed>
         ensures faults { IfOk result (λ a. a.faults ≡ 0) }
         ensures open { IfOk result (λ a. (a.given ≡ 0) × (a.ended ≡ false)) }
     {
-        if listener.set_nonblocking(true).is_err() {
+        let Ok(address) = listener.local_addr() else {
+            return Err(Failed);
+        };
+        if closing.add_door(rt, Door::Address(address)).is_err() {
             return Err(Failed);
         }
         Ok(TcpAccept {
@@ -116,15 +113,16 @@ impl Acceptor for TcpAccept {
 
     ghost given = { λ a. a.given };
 
-    fn accept<R: Handles>(&mut self, rt: &R) -> Result<Option<TcpLink>, Failed> {
+    fn accept<R: Handles>(&mut self, _rt: &R) -> Result<Option<TcpLink>, Failed> {
         if self.ended {
             return Ok(None);
         }
-        match next_stream(rt, &self.listener, &self.closing) {
+        match next_stream(&self.listener, &self.closing) {
             Ok(Some(stream)) => {
                 self.given = self.given.saturating_add(1);
+                let peer = stream.peer_addr().ok();
                 let stream = WatchedStream::new(stream, self.patience);
-                Ok(Some(StreamLink::new(stream)))
+                Ok(Some(StreamLink::new(stream).with_peer(peer)))
             }
             Ok(None) => {
                 self.ended = true;
@@ -149,12 +147,17 @@ pub struct UnixAccept {
 }
 
 impl UnixAccept {
-    /// It gives links until the word is closed.
-    pub fn new(listener: UnixListener, closing: Closing) -> Result<UnixAccept, Failed>
+    /// It gives links until the word is closed and its door, a socket of this path, was knocked at.
+    pub fn new<R: Wait>(
+        rt: &R,
+        listener: UnixListener,
+        path: Text,
+        closing: Closing,
+    ) -> Result<UnixAccept, Failed>
         ensures faults { IfOk result (λ a. a.faults ≡ 0) }
         ensures open { IfOk result (λ a. (a.given ≡ 0) × (a.ended ≡ false)) }
     {
-        if listener.set_nonblocking(true).is_err() {
+        if closing.add_door(rt, Door::Path(path)).is_err() {
             return Err(Failed);
         }
         Ok(UnixAccept {
@@ -183,11 +186,11 @@ impl Acceptor for UnixAccept {
 
     ghost given = { λ a. a.given };
 
-    fn accept<R: Handles>(&mut self, rt: &R) -> Result<Option<UnixLink>, Failed> {
+    fn accept<R: Handles>(&mut self, _rt: &R) -> Result<Option<UnixLink>, Failed> {
         if self.ended {
             return Ok(None);
         }
-        match next_stream(rt, &self.listener, &self.closing) {
+        match next_stream(&self.listener, &self.closing) {
             Ok(Some(stream)) => {
                 self.given = self.given.saturating_add(1);
                 let stream = PollingStream::new(stream);

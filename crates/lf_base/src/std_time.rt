@@ -68,6 +68,11 @@ impl<R: time::Clock> SleepPause<R> {
 
 impl<R: time::Clock> Pause for SleepPause<R> {
     fn nap(&mut self) {
-        thread::sleep(&self.rt, Duration::from_millis(self.millis));
+        self.naps(1);
+    }
+
+    fn naps(&mut self, count: u64) {
+        let millis = self.millis.saturating_mul(count);
+        thread::sleep(&self.rt, Duration::from_millis(millis));
     }
 }

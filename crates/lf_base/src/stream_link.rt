@@ -5,12 +5,14 @@ use crate::polling_stream::PollingStream;
 use crate::source::Failed;
 use crate::watched_stream::WatchedStream;
 use std::io;
+use std::net::SocketAddr;
 
 /// A stream of the system as a link. It tells its counts alone: of what the other end sends and gets
 /// no contract knows.
 #[derive(Drop)]
 pub struct StreamLink<S: io::Read + io::Write> {
     stream: S,
+    peer: Option<SocketAddr>,
     faults: u64,
     moves: u64,
 }
@@ -28,9 +30,17 @@ impl<S: io::Read + io::Write> StreamLink<S> {
     {
         StreamLink {
             stream,
+            peer: None,
             faults: 0,
             moves: 0,
         }
+    }
+
+    /// It says that this one is at its other end.
+    pub fn with_peer(self, peer: Option<SocketAddr>) -> StreamLink<S>
+        ensures { result ≡ record self { peer = peer } }
+    {
+        StreamLink { peer, ..self }
     }
 
     /// Whether its count of faults is not 0.
@@ -73,5 +83,9 @@ impl<S: io::Read + io::Write> Link for StreamLink<S> {
                 Err(Failed)
             }
         }
+    }
+
+    fn peer(&self) -> Option<SocketAddr> {
+        self.peer
     }
 }

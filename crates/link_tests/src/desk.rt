@@ -48,6 +48,10 @@ impl<D: Device> Machine for Counter<D> {
         self.count = before.wrapping_add(*ask).wrapping_add(more);
         before
     }
+
+    fn news(&self) -> u64 {
+        self.count
+    }
 }
 
 // A desk of such a machine, and its first seat.

@@ -34,8 +34,13 @@ struct Naps<'a> {
 
 impl Pause for Naps<'_> {
     fn nap(&mut self) {
-        self.time.fetch_add(self.millis, Ordering::SeqCst);
-        self.count = self.count.saturating_add(1);
+        self.naps(1);
+    }
+
+    fn naps(&mut self, count: u64) {
+        let millis = self.millis.saturating_mul(count);
+        self.time.fetch_add(millis, Ordering::SeqCst);
+        self.count = self.count.saturating_add(count);
     }
 }
 

@@ -9,6 +9,8 @@ pub mod Deciding
 pub mod Expired
 pub mod OneAsk
 pub mod AtMoment
+pub mod Noted
+mod HoldingRows
 pub mod Opened
 pub mod Dropped
 pub mod Steady

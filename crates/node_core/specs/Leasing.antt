@@ -12,6 +12,7 @@ use Rattle.node_core.specs.declared.news.LeaseNews.TheVariants as news
 use Rattle.node_core.specs.declared.refusal.Refusal.{Refusal}
 use Rattle.node_core.specs.declared.refusal.Refusal.TheVariants as refusals
 use Rattle.node_core.specs.Dropping.{IsUntouched}
+use Rattle.node_core.specs.HoldingBack.{held_after}
 use Rattle.node_core.specs.Nodes.{NodeParts, stands}
 use Rattle.node_core.specs.Opening.{host_in}
 use Rattle.node_core.specs.Safely.{StepsSafely}
@@ -37,10 +38,10 @@ NamesPrimary start old host answers.Quiet end new = (new ≡ record old { files 
 NamesPrimary start old host (answers.Refused refusals.NoMemory) end new = IsUntouched start old end new
 NamesPrimary start old host answer end new = ⊥
 
--- what it answers
+-- what it answers, over the node as it is where the news leave this of frames that are held back
 abbrev pub AnswersLease : History → NodeParts → ℕ → LeaseNews → Answer → History → NodeParts → Type 0
 AnswersLease start old now (news.Primary host) answer end new = NamesPrimary start old host answer end new
-AnswersLease start old now told answer end new = Believes start old (believes now told old.standing.belief) answer end new
+AnswersLease start old now told answer end new = Believes start (record old { held = held_after told old.held }) (believes now told old.standing.belief) answer end new
 
 -- a step in the role that the node had before it
 abbrev pub StepsAs : NodeState → laws.Ask → laws.Answer → NodeState → History → History → Type 0

@@ -6,6 +6,7 @@ pub mod Errors
 pub mod Calls
 pub mod Safely
 pub mod Files
+pub mod HoldingBack
 pub mod Unlinking
 pub mod Committing
 pub mod Serving

@@ -23,13 +23,14 @@ first_belief false = no_belief
 abbrev pub first_standing : NodeConfig → Standing
 first_standing config = record { belief = first_belief config.candidate; moment = 0 }
 
--- nobody was at the files, which tell where the store stands and who the primary is
+-- nobody was at the files, which tell where the store stands and who the primary is; no frame was held back
 abbrev pub opened : StoreFields → NodeConfig → NodeParts
 opened store config = record {
   files = record (new_view config.name) { position = position store; host = host_in config.primary_host };
   store = store;
   config = config;
   standing = first_standing config;
+  held = None;
 }
 
 -- the cluster sees it so: nothing waits, and nobody has used the files

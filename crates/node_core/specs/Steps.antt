@@ -4,15 +4,17 @@ use Rattle.lf_base.specs.declared.errno.Errno.{Errno}
 use Rattle.lf_disk.specs.History.{History}
 use Rattle.fuse_msgs.specs.declared.request.Request.{Request}
 use Rattle.file_view.specs.Endings.{ended}
+use Rattle.file_view.specs.Errno.{EAGAIN}
 use Rattle.lease_core.specs.Belief.{LeaseBelief}
 use Rattle.world_laws.specs.Node as laws
 use Rattle.node_core.specs.declared.answer.Answer.{Answer}
 use Rattle.node_core.specs.declared.answer.Answer.TheVariants as answers
 use Rattle.node_core.specs.declared.ask.Ask.{Ask}
 use Rattle.node_core.specs.declared.ask.Ask.TheVariants as asks
-use Rattle.node_core.specs.Dropping.{AnswersDrop}
+use Rattle.node_core.specs.Dropping.{AnswersDrop, IsUntouched}
 use Rattle.node_core.specs.Framing.{AnswersFrame}
 use Rattle.node_core.specs.Hello.{AnswersHello}
+use Rattle.node_core.specs.HoldingBack.{is_kept_out, noted}
 use Rattle.node_core.specs.Leasing.{AnswersLease, believes}
 use Rattle.node_core.specs.Nodes.{NodeParts, at_moment, role_in, seen}
 use Rattle.node_core.specs.Pruning.{AnswersPrune}
@@ -24,10 +26,22 @@ use Rattle.node_core.specs.Telling.{AnswersInfo}
 use Rattle.node_core.specs.Unlinking.{UnlinksDatabase, unlinks_database}
 use Rattle.node_core.specs.Where.{TellsPosition}
 
+-- a request of the files: who is kept out is refused, before the files' own rules
+abbrev pub AnswersServed : Bool → History → NodeParts → ℕ → Request → Answer → History → NodeParts → Option Errno → Type 0
+AnswersServed true start old caller request answer end new said = (answer ≡ answers.Refuse EAGAIN) × IsUntouched start old end new
+AnswersServed false start old caller request answer end new said = ServesFiles start old caller request answer end new said
+
 -- a request: UNLINK of the database file is answered by the node itself
 abbrev pub AnswersFile : Bool → History → NodeParts → ℕ → Request → Answer → History → NodeParts → Option Errno → Type 0
 AnswersFile true start old caller request answer end new said = UnlinksDatabase start old answer end new said
-AnswersFile false start old caller request answer end new said = ServesFiles start old caller request answer end new said
+AnswersFile false start old caller request answer end new said = AnswersServed (is_kept_out old caller request) start old caller request answer end new said
+
+-- a frame or a drop: it is answered so, and then what the answer says of frames that are held back is noted. Nothing that the cluster
+-- sees looks at that (`seen`), so the step tells what the answer tells
+pub record AnswersNoted (Answers : NodeParts → Type 0) (answer : Answer) (new : NodeParts) : Type 0 where
+  pub between : NodeParts
+  pub answers : Answers between
+  pub noted : new ≡ noted answer between
 
 -- a session's end takes its handles and its locks, and what goes with these
 pub record EndsSession (start : History) (old : NodeParts) (caller : ℕ) (answer : Answer) (end : History) (new : NodeParts) : Type 0 where
@@ -41,8 +55,8 @@ Does start old caller (asks.File now request) answer end new said = AnswersFile 
 Does start old caller asks.EndSession answer end new said = EndsSession start old caller answer end new
 Does start old caller asks.Where answer end new said = TellsPosition start old answer end new
 Does start old caller (asks.Hello now from last) answer end new said = AnswersHello start (at_moment old now) from last answer end new
-Does start old caller (asks.Frame now bytes) answer end new said = AnswersFrame start (at_moment old now) bytes answer end new
-Does start old caller (asks.Drop now) answer end new said = AnswersDrop start (at_moment old now) answer end new
+Does start old caller (asks.Frame now bytes) answer end new said = AnswersNoted (AnswersFrame start (at_moment old now) bytes answer end) answer new
+Does start old caller (asks.Drop now) answer end new said = AnswersNoted (AnswersDrop start (at_moment old now) answer end) answer new
 Does start old caller (asks.Prune keep) answer end new said = AnswersPrune start old keep answer end new
 Does start old caller (asks.Info now) answer end new said = AnswersInfo start (at_moment old now) answer end new
 Does start old caller (asks.Lease now news) answer end new said = AnswersLease start (at_moment old now) now news answer end new

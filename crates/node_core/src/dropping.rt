@@ -51,6 +51,8 @@ impl<D: Disk> Node<D> {
     {
         moment_is_of_step();
         self.at_moment(now);
-        self.drop_here()
+        let answer = self.drop_here();
+        self.note(&answer);
+        answer
     }
 }

@@ -107,6 +107,8 @@ impl<D: Disk> Node<D> {
     {
         moment_is_of_step();
         self.at_moment(now);
-        self.frame(bytes)
+        let answer = self.frame(bytes);
+        self.note(&answer);
+        answer
     }
 }

@@ -81,7 +81,10 @@ impl<D: Disk> Node<D> {
         let belief = believed(&self.standing.belief, now, news);
         match news {
             LeaseNews::Asked => self.believe(belief),
-            LeaseNews::Granted { .. } => self.believe(belief),
+            LeaseNews::Granted { .. } => {
+                self.held = None;
+                self.believe(belief)
+            }
             LeaseNews::Lost => self.believe(belief),
             LeaseNews::Primary { host } => self.name_primary(host),
         }

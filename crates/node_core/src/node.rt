@@ -8,6 +8,7 @@ ghost use Rattle.node_core.specs.Roles.{role_of};
 ghost use Rattle.node_core.specs.Stores.{fields_of, history_of, position, state};
 
 use crate::config::NodeConfig;
+use crate::held_back::HeldBack;
 use crate::standing::Standing;
 use file_view::View;
 use lf_disk::Disk;
@@ -26,6 +27,7 @@ pub struct Node<D: Disk> {
     pub(crate) view: View,
     pub(crate) config: NodeConfig,
     pub(crate) standing: Standing,
+    pub(crate) held: Option<HeldBack>,
     ghost shape: { FitsImage view store.page_size store.commit },
     ghost image: { IsTrue (D.honest store.disk) → IsOverImage view (state (history_of store) (fields_of store)).image } by { Prim.hlevel props },
     ghost named: { view.name ≡ config.name } by { Prim.hlevel props },

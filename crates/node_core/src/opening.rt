@@ -68,6 +68,7 @@ impl<D: Disk> Node<D> {
                     view,
                     config,
                     standing,
+                    held: None,
                 })
             }
             Err(want) => Err((want, store)),

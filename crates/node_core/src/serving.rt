@@ -9,7 +9,7 @@ ghost use Rattle.world_laws.specs.Node as laws;
 
 use crate::answer::Answer;
 use crate::ask::Ask;
-use crate::errno::{errno_of_store, errno_of_view};
+use crate::errno::{EAGAIN, errno_of_store, errno_of_view};
 use crate::lending::prepare;
 use crate::node::Node;
 use file_view::{Plan, replica_requests_leave_the_database};
@@ -58,7 +58,8 @@ impl<D: Disk> Node<D> {
         }
     }
 
-    /// Answers a request: UNLINK of the database file is the node's own.
+    /// Answers a request: UNLINK of the database file is the node's own, and new readers are kept out
+    /// while a frame is held back.
     fn answer_request(&mut self, caller: u64, request: &Request) -> Answer
         ensures does { AnswersFile (unlinks_database self.old.config request.now) (history self.old) (parts_of self.old) caller request.now
             result (history self.new) (parts_of self.new) (said_to self.new) }
@@ -69,6 +70,8 @@ impl<D: Disk> Node<D> {
     {
         if self.unlinks_database(request) {
             self.unlink_database()
+        } else if self.is_kept_out(caller, request) {
+            Answer::Refuse(EAGAIN)
         } else {
             self.serve(caller, request)
         }

@@ -52,4 +52,12 @@ impl<D: Disk> Machine for Node<D> {
             Ask::Lease { now, news } => self.answer_lease(*now, news),
         }
     }
+
+    /// Changes with the last transaction, with whether the node leads, and, where frames are held
+    /// back, once no lock does that any more: then who rests beside the desk looks again.
+    fn news(&self) -> u64 {
+        let free = self.held.is_some() && self.view.apply_clear(self.store.wal).is_ok();
+        let bits = (u64::from(free) << 1) | u64::from(self.leads());
+        self.store.pos().txid.wrapping_mul(4) | bits
+    }
 }

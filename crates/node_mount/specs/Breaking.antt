@@ -29,13 +29,19 @@ file_path (Some name.Snapshot) = codes "/snapshot.ltx"
 file_path (Some name.Dropped) = codes "/dropped"
 file_path (Some (name.Ltx min max)) = codes "/ltx/" ++ shown (hex_digits 16 min) ++ codes "-" ++ shown (hex_digits 16 max) ++ codes ".ltx"
 
--- an error of the system in words (errno(3)): those that a disk gives where it has no room, fails or takes no writes
+-- an error of the system in words (errno(3)): those that a disk gives where it has no room, fails or takes no writes, and those of
+-- paths and addresses on which nobody can listen
 abbrev pub error_words : Errno → List ℕ
 error_words number =
-    if number.0 == 5 then codes "input/output error, "
+    if number.0 == 2 then codes "no such file or directory, "
+    else if number.0 == 5 then codes "input/output error, "
+    else if number.0 == 13 then codes "permission denied, "
+    else if number.0 == 20 then codes "not a directory, "
     else if number.0 == 24 then codes "too many open files, "
     else if number.0 == 28 then codes "no space left, "
     else if number.0 == 30 then codes "read-only file system, "
+    else if number.0 == 98 then codes "address in use, "
+    else if number.0 == 99 then codes "no address of this machine, "
     else if number.0 == 122 then codes "quota exceeded, "
     else []
 

@@ -87,14 +87,15 @@ replica_after known ask answer = known
 
 -- ---- a follower of a primary
 
-abbrev pub comes_line : Pos → List ℕ
-comes_line pos = codes "follower at " ++ at_words pos
+-- `who`: a blank and its address, or nothing where that isn't known
+abbrev pub comes_line : (who : List ℕ) → Pos → List ℕ
+comes_line who pos = codes "follower" ++ who ++ codes " at " ++ at_words pos
 
-abbrev pub gone_line : Pos → List ℕ
-gone_line pos = codes "follower at " ++ at_words pos ++ codes " is gone"
+abbrev pub gone_line : (who : List ℕ) → Pos → List ℕ
+gone_line who pos = comes_line who pos ++ codes " is gone"
 
-abbrev pub sent_line : (to from : Pos) → List ℕ
-sent_line to from = codes "snapshot for a follower: at " ++ at_words to ++ codes " in place of " ++ at_words from
+abbrev pub sent_line : (who : List ℕ) → (to from : Pos) → List ℕ
+sent_line who to from = codes "snapshot for the follower" ++ who ++ codes ": at " ++ at_words to ++ codes " in place of " ++ at_words from
 
 -- where a follower stands that is answered so: with what it is sent it stands behind that
 abbrev pub follower_at : (before : Option Pos) → Ask → Answer → Option Pos
@@ -104,11 +105,11 @@ follower_at before (asks.Hello now from last) (answers.Level here) = Some from
 follower_at before ask answer = before
 
 -- WHAT A PRIMARY NOTES of a follower that it had not heard of, once it answers it
-abbrev pub comes_note : (before after : Option Pos) → Ask → Option Note
-comes_note None (Some after) (asks.Hello now from last) = Some (record { kind = kinds.Comes; line = comes_line from })
-comes_note before after ask = None
+abbrev pub comes_note : (who : List ℕ) → (before after : Option Pos) → Ask → Option Note
+comes_note who None (Some after) (asks.Hello now from last) = Some (record { kind = kinds.Comes; line = comes_line who from })
+comes_note who before after ask = None
 
 -- AND OF AN ANSWER: a snapshot that it is owed
-abbrev pub sent_note : Ask → Answer → Option Note
-sent_note (asks.Hello now from last) (answers.Item ltx to) = if is_snapshot ltx then Some (record { kind = kinds.Snapshot; line = sent_line to from }) else None
-sent_note ask answer = None
+abbrev pub sent_note : (who : List ℕ) → Ask → Answer → Option Note
+sent_note who (asks.Hello now from last) (answers.Item ltx to) = if is_snapshot ltx then Some (record { kind = kinds.Snapshot; line = sent_line who to from }) else None
+sent_note who ask answer = None

@@ -2,6 +2,7 @@ pub mod Making
 pub mod Lines
 pub mod RoleLines
 pub mod Noting
+pub mod Obstacles
 pub mod Hearing
 pub mod Breaking
 pub mod MemSpawn

@@ -37,7 +37,7 @@ fn failed_line(alloc: Global, database: &Name, failed: FailedCall) -> Result<Lin
 }
 
 /// Adds what the system said.
-fn put_reason(line: &mut Line, error: Option<Errno>) -> Result<(), NoMemory>
+pub(crate) fn put_reason(line: &mut Line, error: Option<Errno>) -> Result<(), NoMemory>
     ensures { OnOk result (line.new ≡ line.old ++ shown (reason_of error)) }
 {
     match error {
@@ -51,15 +51,20 @@ fn put_reason(line: &mut Line, error: Option<Errno>) -> Result<(), NoMemory>
     }
 }
 
-/// The words of the errors that a full or failing disk gives.
+/// The words of the errors that a disk or a listener gives most often.
 fn error_words(number: Errno) -> &'static [u8]
     ensures { result.now ≡ words_of_error number }
 {
     match number.0 {
+        2 => b"no such file or directory, ",
         5 => b"input/output error, ",
+        13 => b"permission denied, ",
+        20 => b"not a directory, ",
         24 => b"too many open files, ",
         28 => b"no space left, ",
         30 => b"read-only file system, ",
+        98 => b"address in use, ",
+        99 => b"no address of this machine, ",
         122 => b"quota exceeded, ",
         _ => b"",
     }
@@ -96,7 +101,7 @@ fn call_words(call: DiskCall) -> &'static [u8]
 }
 
 /// Adds the path of a file below the data directory.
-fn put_file(line: &mut Line, file: Option<FileName>) -> Result<(), NoMemory>
+pub(crate) fn put_file(line: &mut Line, file: Option<FileName>) -> Result<(), NoMemory>
     ensures { OnOk result (line.new ≡ line.old ++ file_path file) }
 {
     match file {

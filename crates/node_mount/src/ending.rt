@@ -23,6 +23,9 @@ pub enum End {
 /// For how many naps a node whose store broke waits until its lease is given back.
 const PATIENCE: u64 = 400;
 
+/// For how many it waits before it ends, so that its sessions write their last replies.
+const LAST_NAPS: u64 = 2;
+
 /// Ends a node to which no more file links come. A node whose store broke waits until its rounds have ended, and gives up what
 /// else it does; another one is told that it leads no more, so that streams from it end, and waits for all its jobs.
 pub fn end_serving<
@@ -38,6 +41,7 @@ pub fn end_serving<
 {
     if is_broken(means, place) {
         wait_for(&mut means.pause, rounds);
+        means.pause.naps(LAST_NAPS);
         return End::Broken;
     }
     let _ = tell_lost(means, place);

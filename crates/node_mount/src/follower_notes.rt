@@ -18,17 +18,20 @@ pub struct FollowerNotes<'n, R> {
     rt: R,
     alloc: Global,
     notes: &'n Notes,
+    /// A blank and its address, or nothing where that isn't known.
+    who: Line,
     /// Where it stands, once it was answered.
     at: Option<Pos>,
 }
 
 impl<'n, R: Wait> FollowerNotes<'n, R> {
     /// Nothing was asked.
-    pub fn new(rt: R, alloc: Global, notes: &'n Notes) -> FollowerNotes<'n, R> {
+    pub fn new(rt: R, alloc: Global, notes: &'n Notes, who: Line) -> FollowerNotes<'n, R> {
         FollowerNotes {
             rt,
             alloc,
             notes,
+            who,
             at: None,
         }
     }
@@ -36,7 +39,8 @@ impl<'n, R: Wait> FollowerNotes<'n, R> {
     /// The session ended.
     pub fn end(&self) {
         if let Some(at) = self.at {
-            self.notes.put(&self.rt, gone_note(self.alloc, at));
+            self.notes
+                .put(&self.rt, gone_note(self.alloc, &self.who, at));
         }
     }
 }
@@ -44,9 +48,10 @@ impl<'n, R: Wait> FollowerNotes<'n, R> {
 impl<R: Wait> Hear for FollowerNotes<'_, R> {
     fn hear(&mut self, ask: &Ask, answer: &Answer) {
         let at = follower_at(self.at, ask, answer);
-        self.notes
-            .put(&self.rt, comes_note(self.alloc, self.at, at, ask));
-        self.notes.put(&self.rt, sent_note(self.alloc, ask, answer));
+        let comes = comes_note(self.alloc, &self.who, self.at, at, ask);
+        self.notes.put(&self.rt, comes);
+        let sent = sent_note(self.alloc, &self.who, ask, answer);
+        self.notes.put(&self.rt, sent);
         self.at = at;
     }
 }
@@ -66,15 +71,16 @@ fn follower_at(before: Option<Pos>, ask: &Ask, answer: &Answer) -> Option<Pos>
 /// What is noted of one that stood and stands there.
 fn comes_note(
     alloc: Global,
+    who: &Line,
     before: Option<Pos>,
     after: Option<Pos>,
     ask: &Ask,
 ) -> Result<Option<Note>, NoMemory>
-    ensures { IfOk result (λ note. note ≡ comes_note_of before after ask.now) }
+    ensures { IfOk result (λ note. note ≡ comes_note_of who.now before after ask.now) }
 {
     match (before, after, ask) {
         (None, Some(_), Ask::Hello { pos, .. }) => {
-            let line = at_line(alloc, *pos)?;
+            let line = at_line(alloc, who, *pos)?;
             Ok(Some(Note {
                 kind: NoteKind::Comes,
                 line,
@@ -85,12 +91,17 @@ fn comes_note(
 }
 
 /// What is noted of what it is sent.
-fn sent_note(alloc: Global, ask: &Ask, answer: &Answer) -> Result<Option<Note>, NoMemory>
-    ensures { IfOk result (λ note. note ≡ sent_note_of ask.now answer.now) }
+fn sent_note(
+    alloc: Global,
+    who: &Line,
+    ask: &Ask,
+    answer: &Answer,
+) -> Result<Option<Note>, NoMemory>
+    ensures { IfOk result (λ note. note ≡ sent_note_of who.now ask.now answer.now) }
 {
     match (ask, answer) {
         (Ask::Hello { pos, .. }, Answer::Item { ltx, after }) if is_snapshot(ltx) => {
-            let line = sent_line(alloc, *after, *pos)?;
+            let line = sent_line(alloc, who, *after, *pos)?;
             Ok(Some(Note {
                 kind: NoteKind::Snapshot,
                 line,
@@ -100,18 +111,22 @@ fn sent_note(alloc: Global, ask: &Ask, answer: &Answer) -> Result<Option<Note>, 
     }
 }
 
-fn at_line(alloc: Global, at: Pos) -> Result<Line, NoMemory>
-    ensures { IfOk result (λ line. line ≡ comes_line_of at) }
+fn at_line(alloc: Global, who: &Line, at: Pos) -> Result<Line, NoMemory>
+    ensures { IfOk result (λ line. line ≡ comes_line_of who.now at) }
 {
-    let mut line = Line::of(alloc, b"follower at ")?;
+    let mut line = Line::of(alloc, b"follower")?;
+    line.put_line(who)?;
+    line.put(b" at ")?;
     line.put(&pos_text(at))?;
     Ok(line)
 }
 
-fn sent_line(alloc: Global, to: Pos, from: Pos) -> Result<Line, NoMemory>
-    ensures { IfOk result (λ line. line ≡ sent_line_of to from) }
+fn sent_line(alloc: Global, who: &Line, to: Pos, from: Pos) -> Result<Line, NoMemory>
+    ensures { IfOk result (λ line. line ≡ sent_line_of who.now to from) }
 {
-    let mut line = Line::of(alloc, b"snapshot for a follower: at ")?;
+    let mut line = Line::of(alloc, b"snapshot for the follower")?;
+    line.put_line(who)?;
+    line.put(b": at ")?;
     line.put(&pos_text(to))?;
     line.put(b" in place of ")?;
     line.put(&pos_text(from))?;
@@ -119,10 +134,10 @@ fn sent_line(alloc: Global, to: Pos, from: Pos) -> Result<Line, NoMemory>
 }
 
 /// It is gone.
-fn gone_note(alloc: Global, at: Pos) -> Result<Option<Note>, NoMemory>
-    ensures { IfOk result (λ note. note ≡ Some (record { kind = kinds.Gone; line = gone_line_of at })) }
+fn gone_note(alloc: Global, who: &Line, at: Pos) -> Result<Option<Note>, NoMemory>
+    ensures { IfOk result (λ note. note ≡ Some (record { kind = kinds.Gone; line = gone_line_of who.now at })) }
 {
-    let mut line = at_line(alloc, at)?;
+    let mut line = at_line(alloc, who, at)?;
     line.put(b" is gone")?;
     Ok(Some(Note {
         kind: NoteKind::Gone,

@@ -19,7 +19,10 @@ use lf_base::{
 use node_core::{Answer, Ask};
 use replica_apply::Doubt;
 use std::alloc::Global;
-use turn_desk::Machine;
+use turn_desk::{Machine, Rest};
+
+/// For how many milliseconds a frame that a lock holds back rests at most. The end of the last such lock ends its rest.
+const HELD_MS: u64 = 50;
 
 /// A primary that is followed: of which database, and what dials it.
 #[derive(Drop)]
@@ -200,6 +203,7 @@ fn follow_next<
         notes: &streams.notes,
         replica: Replica::new(),
     };
+    let mut rest = Rest::new(means.rt, &*place.desk, HELD_MS);
     let end = follow_heard(
         means.rt,
         means.alloc,
@@ -208,7 +212,7 @@ fn follow_next<
         &streams.name,
         &mut link,
         &mut means.clock,
-        &mut means.pause,
+        &mut rest,
         doubt.is_unknown(),
         &mut hears,
     );

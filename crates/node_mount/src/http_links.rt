@@ -5,6 +5,7 @@ ghost use Rattle.node_mount.specs.Serving.{CountsStarts};
 use crate::follower_notes::FollowerNotes;
 use crate::hall::{Links, two_holds};
 use crate::hearing::serve_heard;
+use crate::line::Line;
 use crate::means::Means;
 use crate::mount_fault::MountFault;
 use crate::notes::Notes;
@@ -16,10 +17,14 @@ use lf_base::{
 };
 use node_core::{Answer, Ask};
 use std::alloc::Global;
-use turn_desk::Machine;
+use turn_desk::{Machine, Rest};
 
 /// How many HTTP links are served at a time, each stream to a follower among them.
 const JOBS: u32 = 256;
+
+/// For how many milliseconds a stream that is level rests at most. A commit ends its rest; then it looks whether its
+/// follower is gone.
+const LEVEL_MS: u64 = 1000;
 
 // So many followers and clients that stall hold up no other.
 const _: () = prove!(JOBS >= 256);
@@ -203,7 +208,9 @@ fn serve_caller<
     P: Pause,
 >(means: &mut Means<R, C, P>, place: &mut Place<K>, calling: &Calling, link: L) {
     let mut link = link;
-    let mut hears = FollowerNotes::new(means.rt, means.alloc, &calling.notes);
+    let who = peer_line(means.alloc, &link);
+    let mut hears = FollowerNotes::new(means.rt, means.alloc, &calling.notes, who);
+    let mut rest = Rest::new(means.rt, &*place.desk, LEVEL_MS);
     serve_heard(
         means.rt,
         means.alloc,
@@ -212,8 +219,19 @@ fn serve_caller<
         &calling.name,
         &mut link,
         &mut means.clock,
-        &mut means.pause,
+        &mut rest,
         &mut hears,
     );
     hears.end();
+}
+
+/// A blank and the address at the other end of a link, or nothing where that isn't known.
+fn peer_line<L: Link>(alloc: Global, link: &L) -> Line {
+    let Some(address) = link.peer() else {
+        return Line::new(alloc);
+    };
+    match format!(in alloc; " {address}") {
+        Ok(text) => Line::of(alloc, text.as_bytes()).unwrap_or(Line::new(alloc)),
+        Err(_) => Line::new(alloc),
+    }
 }

@@ -212,12 +212,18 @@ fn is_broken(answer: &Answer) -> bool
     matches!(answer, Answer::Refused(Refusal::Store(StoreFault::Broken)))
 }
 
-/// Naps so often, until the word is closed.
+/// How many naps are taken in one.
+const AT_ONCE: u64 = 20;
+
+/// Naps so often, until the word is closed, at which it looks once in so many naps.
 pub fn nap<P: Pause>(pause: &mut P, naps: u64, closing: &Closing) {
-    for _ in 0..naps {
+    for _ in 0..naps / AT_ONCE {
         if closing.is_closed() {
-            break;
+            return;
         }
-        pause.nap();
+        pause.naps(AT_ONCE);
+    }
+    if !closing.is_closed() {
+        pause.naps(naps % AT_ONCE);
     }
 }

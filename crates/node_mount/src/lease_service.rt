@@ -11,6 +11,7 @@ use crate::complaining::tell_complaint;
 use crate::configuring::{SIZE_MAX, new_piece, read_pieces};
 use crate::maker::Maker;
 use crate::mount_fault::MountFault;
+use crate::obstacle::tell_unheard;
 use crate::patience::lease_patience;
 use crate::sessions::{BUDGET, LINKS};
 use lease_core::LeaseTable;
@@ -112,7 +113,10 @@ fn serve_waited<R: Handles, M: Maker>(
 {
     let mut http = match make.http(address, lease_patience(waited.ttl())) {
         Ok(http) => http,
-        Err(_) => return Err(MountFault::Network),
+        Err(_) => {
+            tell_unheard(rt, alloc, address, true, make);
+            return Err(MountFault::Network);
+        }
     };
     let mut table = LeaseTable::new(alloc, waited.ttl());
     let served = serve_each(rt, alloc, &mut http, &mut table, clock);

@@ -1,33 +1,42 @@
 //! The sockets that a node listens on.
+use crate::obstacle::Obstacle;
 use crate::system::System;
-use lf_base::Failed;
 use std::fs;
 use std::io::ErrorKind;
 use std::net::TcpListener;
 use std::os::unix::fs::FileTypeExt;
 use std::os::unix::net::{UnixListener, UnixStream};
 
+/// The most bytes of a path of a Unix socket (unix(7)).
+const PATH_MAX: usize = 107;
+
 /// Listens on the Unix socket of this path. The socket file that a process left behind is replaced.
 /// Where one still answers there, or another file has the path, nothing is changed.
-pub fn listen_at<R: System>(rt: &R, path: &str) -> Result<UnixListener, Failed> {
+pub fn listen_at<R: System>(rt: &R, path: &str) -> Result<UnixListener, Option<Obstacle>> {
+    if path.len() > PATH_MAX {
+        return Err(Some(Obstacle::TooLong));
+    }
     match UnixListener::bind(rt, path) {
         Ok(listener) => Ok(listener),
-        Err(error) => listen_again(rt, path, error.kind()),
+        Err(error) if error.kind() == ErrorKind::AddrInUse => listen_again(rt, path),
+        Err(error) => Err(Obstacle::of(&error)),
     }
 }
 
 /// Listens on the path of a socket on which nobody listens.
-fn listen_again<R: System>(rt: &R, path: &str, why: ErrorKind) -> Result<UnixListener, Failed> {
-    let free = why == ErrorKind::AddrInUse
-        && is_socket(rt, path)
-        && is_refused(rt, path)
-        && fs::remove_file(rt, path).is_ok();
-    if !free {
-        return Err(Failed);
+fn listen_again<R: System>(rt: &R, path: &str) -> Result<UnixListener, Option<Obstacle>> {
+    if !is_socket(rt, path) {
+        return Err(Some(Obstacle::NoSocket));
+    }
+    if !is_refused(rt, path) {
+        return Err(Some(Obstacle::InUse));
+    }
+    if let Err(error) = fs::remove_file(rt, path) {
+        return Err(Obstacle::of(&error));
     }
     match UnixListener::bind(rt, path) {
         Ok(listener) => Ok(listener),
-        Err(_) => Err(Failed),
+        Err(error) => Err(Obstacle::of(&error)),
     }
 }
 
@@ -47,7 +56,7 @@ fn is_refused<R: System>(rt: &R, path: &str) -> bool {
 }
 
 /// Listens on `host:port`; without a host, on every address of the machine.
-pub fn listen_on<R: System>(rt: &R, address: &str) -> Result<TcpListener, Failed> {
+pub fn listen_on<R: System>(rt: &R, address: &str) -> Result<TcpListener, Option<Obstacle>> {
     if !address.starts_with(':') {
         return bind(rt, "", address);
     }
@@ -59,12 +68,12 @@ pub fn listen_on<R: System>(rt: &R, address: &str) -> Result<TcpListener, Failed
 }
 
 /// Listens on this address, behind this host.
-fn bind<R: System>(rt: &R, host: &str, address: &str) -> Result<TcpListener, Failed> {
+fn bind<R: System>(rt: &R, host: &str, address: &str) -> Result<TcpListener, Option<Obstacle>> {
     let Ok(whole) = format!(in rt.alloc(); "{host}{address}") else {
-        return Err(Failed);
+        return Err(None);
     };
     match TcpListener::bind(rt, whole.as_str()) {
         Ok(listener) => Ok(listener),
-        Err(_) => Err(Failed),
+        Err(error) => Err(Obstacle::of(&error)),
     }
 }

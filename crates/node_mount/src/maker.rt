@@ -4,6 +4,7 @@ ghost use Rattle.node_mount.specs.declared.counts.Counts.{Counts};
 ghost use Rattle.node_mount.specs.Making.{DisksRose, NetworkRose, SpawnersRose, FailsBy, TellsBy, IsAtRest, IsAskedFor, IsNew, TakesBack};
 
 use crate::failing::FailedCall;
+use crate::obstacle::Obstacle;
 use crate::tell::Tell;
 use lf_base::{
     Acceptor, Clock, Closing, Dialer, Failed, Link, Name, NoMemory, Pause, Spawner, Text,
@@ -112,6 +113,9 @@ pub trait Maker {
         ensures back { back self.new ≡ back self.old }
         ensures kept { (asked self.new ≡ asked self.old) × (number self.new ≡ number self.old) }
         ensures cause { DisksRose (counts self.old) (counts self.new) };
+
+    /// What stood in the way of what it could not make last, where it knows that. Nothing is told of it.
+    fn obstacle(&self) -> Option<Obstacle>;
 
     /// The number of this node, which its files of the log carry.
     fn node_id(&self) -> u64

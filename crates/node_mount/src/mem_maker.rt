@@ -16,6 +16,7 @@ use crate::failing::FailedCall;
 use crate::keeping::Keeping;
 use crate::maker::Maker;
 use crate::mem_spawn::MemSpawn;
+use crate::obstacle::Obstacle;
 use crate::returned::Returned;
 use crate::tell::{KeptLines, KeptPlace};
 use lf_base::{
@@ -332,6 +333,10 @@ impl Maker for MemMaker {
         ensures one { self.new ≡ record self.old { counts = disk_failed self.old.counts } }
     {
         self.counts.fail_disk();
+        None
+    }
+
+    fn obstacle(&self) -> Option<Obstacle> {
         None
     }
 

@@ -18,6 +18,7 @@ use crate::broken::broken_line;
 use crate::complaining::tell_complaint;
 use crate::configuration::Configuration;
 use crate::configuring::read_configuration;
+use crate::damage::tell_unrecovered;
 use crate::duties::duties_of;
 use crate::ending::End;
 use crate::failing::FailedCall;
@@ -25,6 +26,7 @@ use crate::maker::Maker;
 use crate::means::Means;
 use crate::mount_fault::MountFault;
 use crate::notes::Notes;
+use crate::obstacle::{tell_obstacle, tell_unheard};
 use crate::opening::{OpenFault, config_of, open_place, open_recovered};
 use crate::patience::{HTTP_PATIENCE, following_patience, lease_patience};
 use crate::place::Place;
@@ -84,11 +86,22 @@ fn mount_disk<R: Handles + Copy + Send + 'static, M: Maker>(
     };
     let disk = match make.disk(&read.settings.database) {
         Ok(disk) => disk,
-        Err(_) => return Err(MountFault::Disk),
+        Err(_) => {
+            tell_obstacle(
+                &rt,
+                alloc,
+                b"open dbs/",
+                read.settings.database.bytes(),
+                read.settings.log,
+                make,
+            );
+            return Err(MountFault::Disk);
+        }
     };
     match open_recovered(alloc, disk, config) {
         Ok(node) => mount_node(rt, alloc, read, node, make),
         Err(OpenFault::Unrecovered(why, disk)) => {
+            tell_unrecovered(&rt, alloc, &read.settings, why, make);
             make.back_disk(disk);
             Err(fault_of(why))
         }
@@ -127,11 +140,21 @@ fn mount_node<R: Handles + Copy + Send + 'static, M: Maker>(
     };
     let files = match make.files(&read.settings.socket) {
         Ok(files) => files,
-        Err(_) => return Err(MountFault::Network),
+        Err(_) => {
+            tell_unheard(&rt, alloc, &read.settings.socket, read.settings.log, make);
+            return Err(MountFault::Network);
+        }
     };
     match make.http(read.settings.http.text(), HTTP_PATIENCE) {
         Ok(http) => serve_place(rt, alloc, read, place, files, http, make),
         Err(_) => {
+            tell_unheard(
+                &rt,
+                alloc,
+                read.settings.http.text(),
+                read.settings.log,
+                make,
+            );
             make.back_files(files);
             Err(MountFault::Network)
         }

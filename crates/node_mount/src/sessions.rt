@@ -8,13 +8,16 @@ use crate::work::{Work, start_work};
 use file_session::serve_seat;
 use lf_base::{Clock, Failed, Handles, Link, Pause, Spawner};
 use node_core::{Answer, Ask};
-use turn_desk::Machine;
+use turn_desk::{Machine, Rest};
 
 /// The turns of a session.
 pub const BUDGET: u64 = 1 << 62;
 
 // So many that no client uses them up.
 const _: () = prove!(BUDGET >= 1 << 40);
+
+/// For how many milliseconds a request that waits for a lock rests at most.
+const BUSY_MS: u64 = 50;
 
 /// How many links are accepted.
 pub const LINKS: u64 = 1 << 40;
@@ -52,8 +55,8 @@ impl<L: Link + Drop> Work for Client<L> {
         C: Clock + Copy,
         P: Pause + Copy,
     >(self, means: Means<R, C, P>, place: Place<K>) {
-        let (mut link, mut seat) = (self.link, place.seat);
-        let (mut clock, mut pause) = (means.clock, means.pause);
+        let (mut link, mut seat, mut clock) = (self.link, place.seat, means.clock);
+        let mut rest = Rest::new(means.rt, &*place.desk, BUSY_MS);
         serve_seat(
             means.rt,
             means.alloc,
@@ -61,7 +64,7 @@ impl<L: Link + Drop> Work for Client<L> {
             &mut seat,
             &mut link,
             &mut clock,
-            &mut pause,
+            &mut rest,
             BUDGET,
         );
     }

@@ -1,5 +1,5 @@
 //! A maker of the system's objects.
-ghost use Rattle.std.specs.Prelude.{◌≡◌, None, IfOk};
+ghost use Rattle.std.specs.Prelude.{◌≡◌, None, Ok, IfOk};
 ghost use Rattle.node_mount.specs.Keeping.{told_by};
 ghost use Rattle.node_mount.specs.Making.{IsNew};
 
@@ -11,6 +11,7 @@ use crate::listening::{listen_at, listen_on};
 use crate::maker::Maker;
 use crate::mem_spawn::MemSpawn;
 use crate::noting_disk::NotingDisk;
+use crate::obstacle::Obstacle;
 use crate::returned::Returned;
 use crate::system::System;
 use crate::tell::{ErrorLines, ErrorPlace};
@@ -48,6 +49,8 @@ pub struct SystemMaker<R: System> {
     node: u64,
     /// The lock of the data directory. It is held until the maker goes.
     lock: Option<File>,
+    /// Of what it could not make last.
+    obstacle: Option<Obstacle>,
     counts: Counts,
     back: Keeping<SystemReturned<R>>,
 }
@@ -67,6 +70,7 @@ impl<R: System> SystemMaker<R> {
             failing,
             node,
             lock: None,
+            obstacle: None,
             counts: Counts::new(),
             back,
         })
@@ -86,23 +90,37 @@ fn opened_noting<R: System>(
     rt: R,
     name: &Name,
     failing: &Failing,
-) -> Result<(NotingDisk<R, DirDisk<R>>, File), Failed>
+) -> Result<(NotingDisk<R, DirDisk<R>>, File), Option<Obstacle>>
     ensures { IfOk result (λ made. (made.0.disk.moment ≡ 0) × (made.0.disk.faults ≡ 0)) }
 {
     let (disk, lock) = open_directory(rt, name)?;
     match failing.another() {
         Ok(failing) => Ok((NotingDisk::new(rt, disk, failing), lock)),
-        Err(_) => Err(Failed),
+        Err(_) => Err(None),
     }
 }
 
-fn accept_at<R: System>(rt: &R, path: &str, closing: &Closing) -> Result<UnixAccept, Failed>
+/// Where it failed nothing is known of what stood in the way.
+fn unsaid<T>(made: Result<T, Failed>) -> Result<T, Option<Obstacle>>
+    ensures { IfOk result (λ value. made ≡ Ok value) }
+{
+    match made {
+        Ok(value) => Ok(value),
+        Err(_) => Err(None),
+    }
+}
+
+fn accept_at<R: System>(
+    rt: &R,
+    path: &str,
+    closing: &Closing,
+) -> Result<UnixAccept, Option<Obstacle>>
     ensures { IfOk result (λ accept. IsNew accept.given accept.faults accept.ended) }
 {
     let listener = listen_at(rt, path)?;
-    match closing.another() {
-        Ok(closing) => UnixAccept::new(listener, closing),
-        Err(_) => Err(Failed),
+    match (Text::of(rt.alloc(), path), closing.another()) {
+        (Ok(door), Ok(closing)) => unsaid(UnixAccept::new(rt, listener, door, closing)),
+        _ => Err(None),
     }
 }
 
@@ -111,13 +129,13 @@ fn accept_on<R: System>(
     address: &str,
     closing: &Closing,
     patience: u64,
-) -> Result<TcpAccept, Failed>
+) -> Result<TcpAccept, Option<Obstacle>>
     ensures { IfOk result (λ accept. IsNew accept.given accept.faults accept.ended) }
 {
     let listener = listen_on(rt, address)?;
     match closing.another() {
-        Ok(closing) => Ok(TcpAccept::new(listener, closing)?.patient(patience)),
-        Err(_) => Err(Failed),
+        Ok(closing) => Ok(unsaid(TcpAccept::new(rt, listener, closing))?.patient(patience)),
+        Err(_) => Err(None),
     }
 }
 
@@ -158,9 +176,10 @@ impl<R: System + Send + 'static> Maker for SystemMaker<R> {
                 self.lock = Some(lock);
                 Ok(disk)
             }
-            Err(failed) => {
+            Err(why) => {
+                self.obstacle = why;
                 self.counts.fail_disk();
-                Err(failed)
+                Err(Failed)
             }
         }
     }
@@ -168,9 +187,10 @@ impl<R: System + Send + 'static> Maker for SystemMaker<R> {
     fn files(&mut self, path: &Text) -> Result<UnixAccept, Failed> {
         match accept_at(&self.rt, path.as_str(), &self.closing) {
             Ok(accept) => Ok(accept),
-            Err(failed) => {
+            Err(why) => {
+                self.obstacle = why;
                 self.counts.fail_network();
-                Err(failed)
+                Err(Failed)
             }
         }
     }
@@ -178,9 +198,10 @@ impl<R: System + Send + 'static> Maker for SystemMaker<R> {
     fn http(&mut self, address: &Text, patience: u64) -> Result<TcpAccept, Failed> {
         match accept_on(&self.rt, address.as_str(), &self.closing, patience) {
             Ok(accept) => Ok(accept),
-            Err(failed) => {
+            Err(why) => {
+                self.obstacle = why;
                 self.counts.fail_network();
-                Err(failed)
+                Err(Failed)
             }
         }
     }
@@ -215,6 +236,10 @@ impl<R: System + Send + 'static> Maker for SystemMaker<R> {
     fn broke(&mut self) -> Option<FailedCall> {
         self.counts.fail_disk();
         self.failing.last(&self.rt)
+    }
+
+    fn obstacle(&self) -> Option<Obstacle> {
+        self.obstacle
     }
 
     fn node_id(&self) -> u64 {

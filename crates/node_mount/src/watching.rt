@@ -138,7 +138,7 @@ impl<E: Tell + Drop> Work for Watcher<E> {
         for _ in 0..LINKS {
             last = tell_stillness(&mut means, &mut watching, last);
             if look(&mut means, &mut place, &mut watching, &mut told, looks == 0) {
-                watching.ending.close();
+                watching.ending.close_doors(&means.rt);
             }
             tell_notes(&mut means, &mut watching, &mut repeated);
             if watching.ending.is_closed() || closing.is_closed() {

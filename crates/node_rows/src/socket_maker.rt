@@ -6,7 +6,7 @@ use lf_base::{
     Text, UnixAccept,
 };
 use lf_disk::MemDisk;
-use node_mount::{Counts, FailedCall, KeptLines, Maker, MemMaker, MemSpawn, System};
+use node_mount::{Counts, FailedCall, KeptLines, Maker, MemMaker, MemSpawn, Obstacle, System};
 use std::fs;
 use std::os::unix::net::UnixListener;
 
@@ -75,8 +75,10 @@ impl<R: System + Send + 'static> Maker for SocketMaker<R> {
     fn files(&mut self, path: &Text) -> Result<UnixAccept, Failed> {
         let _ = fs::remove_file(&self.rt, path.as_str());
         let bound = UnixListener::bind(&self.rt, path.as_str());
-        let made = match (bound, self.closing.another()) {
-            (Ok(listener), Ok(closing)) => UnixAccept::new(listener, closing),
+        let made = match (bound, path.copy(), self.closing.another()) {
+            (Ok(listener), Ok(door), Ok(closing)) => {
+                UnixAccept::new(&self.rt, listener, door, closing)
+            }
             _ => Err(Failed),
         };
         if made.is_err() {
@@ -120,6 +122,10 @@ impl<R: System + Send + 'static> Maker for SocketMaker<R> {
 
     fn broke(&mut self) -> Option<FailedCall> {
         self.counts.fail_disk();
+        None
+    }
+
+    fn obstacle(&self) -> Option<Obstacle> {
         None
     }
 

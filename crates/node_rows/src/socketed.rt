@@ -60,7 +60,7 @@ fn play_clients<R: Handles + Copy + Send>(
     } else {
         play_in_order(&rt, alloc, scene)
     };
-    closing.close();
+    closing.close_doors(&rt);
     differs
 }
 

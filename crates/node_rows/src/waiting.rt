@@ -48,8 +48,12 @@ struct Refused<'a, R: Clock> {
 
 impl<R: Clock> Pause for Refused<'_, R> {
     fn nap(&mut self) {
+        self.naps(1);
+    }
+
+    fn naps(&mut self, count: u64) {
         self.words.go_on.raise();
-        self.sleep.nap();
+        self.sleep.naps(count);
     }
 }
 

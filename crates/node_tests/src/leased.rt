@@ -182,7 +182,7 @@ fn serve<R: Handles + Copy + Abort>(
         }
         if number == script.closes {
             seen.late = hang_up_all(other);
-            closing.close();
+            closing.close_doors(&rt);
         }
         if number < script.named {
             write_reply(rt, alloc, &mut stream, named.as_str());

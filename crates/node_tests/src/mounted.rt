@@ -46,7 +46,7 @@ fn count_dials<R: Handles>(rt: &R, listener: &TcpListener, closing: &Closing) ->
         }
         thread::sleep(rt, Duration::from_millis(NAP));
     }
-    closing.close();
+    closing.close_doors(rt);
     dials
 }
 

@@ -18,6 +18,7 @@ mod seeds;
 mod stops;
 mod told;
 mod turns;
+mod waits;
 
 use cluster::Cluster;
 use fault::Fault;

@@ -3,6 +3,7 @@
 use crate::fault::Fault;
 use crate::nodes::{MemNode, NOWHERE, Part};
 use crate::turns::{Pair, Said, Turn, Who, play};
+use crate::waits::{ROLLBACK, WAL};
 use fuse_msgs::LockWish;
 use lf_base::Pos;
 
@@ -93,6 +94,26 @@ const READER: &[Turn] = &[
     Turn::ReadAround,
 ];
 
+/// While a file is held back new readers are asked to wait.
+const WAITS: &[Turn] = &[
+    Turn::Title("a reader comes while a file is held back, in rollback mode"),
+    PRIMARY,
+    REPLICA,
+    Turn::Commit(Who::Primary, &[(1, 1)]),
+    Turn::Follow,
+    Turn::Commit(Who::Primary, &[(2, 2)]),
+    Turn::Owe,
+    Turn::Wait(ROLLBACK),
+    Turn::Title("and in WAL mode"),
+    PRIMARY,
+    REPLICA,
+    Turn::Commit(Who::Primary, &[(1, 2), (2, 1)]),
+    Turn::Follow,
+    Turn::Commit(Who::Primary, &[(2, 3)]),
+    Turn::Owe,
+    Turn::Wait(WAL),
+];
+
 /// The replica drops what the primary dropped, and begins anew with its next file.
 const DROP: &[Turn] = &[
     Turn::Title("a database is dropped, and written again"),
@@ -156,7 +177,9 @@ const FORK: &[Turn] = &[
     Turn::Take(Who::Replica),
 ];
 
-const SCENES: &[&[Turn]] = &[FOLLOWING, PRIMARIES, LOG, READER, DROP, REFUSALS, FORK];
+const SCENES: &[&[Turn]] = &[
+    FOLLOWING, PRIMARIES, LOG, READER, WAITS, DROP, REFUSALS, FORK,
+];
 
 /// The scenes, one after another. Each begins its nodes anew.
 pub fn print_scenes(

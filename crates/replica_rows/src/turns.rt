@@ -6,6 +6,7 @@ use crate::levels::asked_by;
 use crate::nodes::{MemNode, NOW, Part, ask, renew, restart, whereabouts};
 use crate::readers::{opens, reads_around, wishes};
 use crate::told::told_by;
+use crate::waits::{Moment, asks_by};
 use fuse_msgs::{LockWish, Op};
 use lf_base::Pos;
 use node_core::{Answer, Ask, Whereabouts};
@@ -60,6 +61,8 @@ pub enum Turn {
     Lock(LockWish),
     /// It reads before the replica is given what was owed last, and after it.
     ReadAround,
+    /// All of this is asked while what was owed last is held back.
+    Wait(&'static [Moment]),
     /// From now on the replica says this of its last file.
     Say(Said),
 }
@@ -202,6 +205,7 @@ fn happens(rt: HostRuntime, pair: &mut Pair<'_>, turn: &Turn) -> Result<(), Faul
         Turn::Open => opens(rt, pair.replica),
         Turn::Lock(kind) => wishes(rt, pair.replica, kind),
         Turn::ReadAround => reads_around(rt, pair),
+        Turn::Wait(moments) => asks_by(rt, pair, moments),
         Turn::Say(said) => speaks(pair, said),
     }
 }

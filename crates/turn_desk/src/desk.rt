@@ -8,6 +8,7 @@ ghost use Rattle.turn_desk.specs.Seats.{view, number_of, turn_words, greatest_nu
 use crate::fault::{SplitFault, Tried, Worn};
 use crate::machine::Machine;
 use crate::moves::{DrawNumber, JoinSeats, LoadAfterJoin, LoadNumber, LoadTurn, SplitSeat};
+use crate::news::News;
 use crate::rule::TurnRule;
 use crate::seat::{Seat, SeatOver};
 use crate::slot::SlotValue;
@@ -45,8 +46,9 @@ impl<M: Machine> Desk<M> {
         ensures cause { IfErr result (λ refusal. HasCause refusal (turn_words seat.old) (turn_words seat.new)) }
     {
         let number = seat.number;
-        let answer = try_turn(&self.table.shared, &mut seat.place, number, ask)?;
+        let answer = try_turn(&self.table.shared, &mut seat.place, number, ask, &self.news)?;
         self.wake();
+        self.news.tell();
         Ok(answer)
     }
 
@@ -182,8 +184,12 @@ where
         slots.push_reserved(Some(value));
         match Table::new(alloc, &[0, 1], slots, &opened) {
             Ok((table, place)) => {
-                let sleepers = AtomicU64::new(0);
-                Ok((DeskOver { table, sleepers }, SeatOver { place, number: 0 }))
+                let desk = DeskOver {
+                    table,
+                    sleepers: AtomicU64::new(0),
+                    news: News::new(),
+                };
+                Ok((desk, SeatOver { place, number: 0 }))
             }
             Err(Refused { mut slots }) => {
                 let value = slots.pop().unwrap().unwrap();

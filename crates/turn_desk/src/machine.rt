@@ -13,4 +13,7 @@ pub trait Machine {
     /// One step, for the caller of this number.
     fn step(&mut self, caller: u64, ask: &Self::Ask) -> Self::Answer
         ensures { steps self.old caller ask.now result self.new };
+
+    /// A number that is another one where who rests beside the desk should look again. Nothing is told of it.
+    fn news(&self) -> u64;
 }

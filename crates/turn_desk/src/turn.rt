@@ -6,6 +6,7 @@ ghost use Rattle.turn_desk.specs.Moves.{HasTaken};
 use crate::fault::Tried;
 use crate::machine::Machine;
 use crate::moves::{GiveTurn, LoadTurn, TakeTurn};
+use crate::news::News;
 use crate::rule::TurnRule;
 use crate::slot::{LastStep, SlotValue};
 use crate::view::SeatView;
@@ -71,12 +72,13 @@ pub(crate) fn take_turn<M: Machine>(top: &Top<M>, place: &mut Place<M>) -> Resul
     Ok(found)
 }
 
-/// One whole turn, if it is free: take, out, the step, home, give.
+/// One whole turn, if it is free: take, out, the step, home, give. The machine's news are noted.
 pub(crate) fn try_turn<M: Machine>(
     top: &Top<M>,
     place: &mut Place<M>,
     number: u64,
     ask: &M::Ask,
+    news: &News,
 ) -> Result<M::Answer, Tried>
     requires table { (place.old.table_id ≡ top.now.table_id) × (top.now.table_id.words ≡ 2) × (top.now.table_id.slots ≡ 1) }
     requires seated { IsSeated place.old.me number }
@@ -95,6 +97,7 @@ pub(crate) fn try_turn<M: Machine>(
     };
     let value = top.exchange(place, 0, None).unwrap();
     let (value, answer) = stepped(value, number, ask);
+    news.note(value.machine.news());
     let out = top.exchange(place, 0, Some(value));
     let None = out else { unreachable!() };
     top.store::<GiveTurn>(place, TURN, found + 2);

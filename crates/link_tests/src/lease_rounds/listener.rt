@@ -93,6 +93,10 @@ impl Machine for Listener {
             ),
         }
     }
+
+    fn news(&self) -> u64 {
+        0
+    }
 }
 
 /// Brings news as they are.

@@ -91,7 +91,7 @@ fn loopback(rt: HostRuntime) {
     let address = address_of(&rt, rt.alloc(), &listener);
     let closing = Closing::new(rt.alloc()).expect(&rt, "memory");
     let word = closing.another().expect(&rt, "memory");
-    let mut acceptor = TcpAccept::new(listener, word).expect(&rt, "an acceptor");
+    let mut acceptor = TcpAccept::new(&rt, listener, word).expect(&rt, "an acceptor");
     let mut dialer = TcpDial::new();
 
     let link = dialer.dial(&rt, &address).expect(&rt, "a dial");
@@ -108,7 +108,7 @@ fn both_ends<R: Handles + Abort>(rt: &R, alloc: Global, patience: u64) -> (TcpLi
     let listener = TcpListener::bind(rt, "127.0.0.1:0").expect(rt, "a listener");
     let address = address_of(rt, alloc, &listener);
     let closing = Closing::new(alloc).expect(rt, "memory");
-    let acceptor = TcpAccept::new(listener, closing).expect(rt, "an acceptor");
+    let acceptor = TcpAccept::new(rt, listener, closing).expect(rt, "an acceptor");
     let mut acceptor = acceptor.patient(patience);
     let mut dialer = TcpDial::new().patient(patience);
     let link = dialer.dial(rt, &address).expect(rt, "a dial");
@@ -148,7 +148,8 @@ fn unix_socket(rt: HostRuntime) {
     let _ = fs::remove_file(&rt, path);
     let listener = UnixListener::bind(&rt, path).expect(&rt, "a listener");
     let closing = Closing::new(rt.alloc()).expect(&rt, "memory");
-    let mut acceptor = UnixAccept::new(listener, closing).expect(&rt, "an acceptor");
+    let door = Text::of(rt.alloc(), path).expect(&rt, "memory");
+    let mut acceptor = UnixAccept::new(&rt, listener, door, closing).expect(&rt, "an acceptor");
 
     let stream = UnixStream::connect(&rt, path).expect(&rt, "a stream");
     ask_and_echo(rt, rt.alloc(), &mut acceptor, StreamLink::new(stream));

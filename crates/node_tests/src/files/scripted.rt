@@ -79,4 +79,8 @@ impl Machine for Scripted {
             }
         }
     }
+
+    fn news(&self) -> u64 {
+        0
+    }
 }

@@ -68,4 +68,8 @@ impl Machine for Scripted {
             _ => Answer::Quiet,
         }
     }
+
+    fn news(&self) -> u64 {
+        0
+    }
 }

@@ -80,4 +80,8 @@ impl Machine for Scripted {
             _ => Answer::Quiet,
         }
     }
+
+    fn news(&self) -> u64 {
+        0
+    }
 }

@@ -1,4 +1,4 @@
-use Rattle.std.proofs.Common.{[], ◌∷◌, sym, subst}
+use Rattle.std.proofs.Common.{[], ◌∷◌, ◌∙◌, sym, subst}
 use Rattle.node_mount.specs.Asking.{disk_of}
 use Rattle.node_mount.specs.Making.{gave, TakesBack}
 use Rattle.node_mount.specs.Returns.{GivesBack}
@@ -16,11 +16,11 @@ returns-in-Ok-open_recovered-clause-kind g c = serves_past c.mount_node.result c
 
 pub returns-in-Err-Unrecovered-clause-damage : goal.returns-in-Err-Unrecovered-clause-damage
 returns-in-Err-Unrecovered-clause-damage g c =
-    rw (rw c.in-Err-Unrecovered.field-0-is at c.fault_of.ensures) (damage_found (Unit {0}) g.M.Disk.Disk.honest g.M.Disk.Disk.history (g.M.Maker.may_give c.args.make.now) c.in-Ok-disk.disk c.in-Err-Unrecovered.disk
+    rw c.fault_of.ensures (damage_found (Unit {0}) g.M.Disk.Disk.honest g.M.Disk.Disk.history (g.M.Maker.may_give c.args.make.now) c.in-Ok-disk.disk c.in-Err-Unrecovered.disk
     (g.M.Maker.back c.args.make.now) (g.M.Maker.back c.back_disk.new.self) c.in-Err-Unrecovered.why c.in-Ok-disk.ensures.next
     (λ honest. rw c.in-Err-Unrecovered.field-0-is at (c.in-Err-Unrecovered.ensures.why honest)) ((rw c.in-Err-Unrecovered.field-0-is at c.in-Err-Unrecovered.ensures.back).0)
-    (subst (λ before. GivesBack (returned.Disk c.in-Err-Unrecovered.disk ∷ []) before (g.M.Maker.back c.back_disk.new.self)) c.disk.ensures.back
-    (rw c.in-Err-Unrecovered.field-0-is at (one_back _ _ _ c.back_disk.ensures.back))))
+    (subst (λ before. GivesBack (returned.Disk c.in-Err-Unrecovered.disk ∷ []) before (g.M.Maker.back c.back_disk.new.self)) (c.tell_unrecovered.ensures.same.1 ∙ c.disk.ensures.back)
+    (one_back _ _ _ c.back_disk.ensures.back)))
 
 pub returns-in-Ok-open_recovered-clause-asked : goal.returns-in-Ok-open_recovered-clause-asked
 returns-in-Ok-open_recovered-clause-asked g c =
@@ -30,5 +30,5 @@ returns-in-Ok-open_recovered-clause-asked g c =
 pub returns-in-Err-Unrecovered-clause-asked : goal.returns-in-Err-Unrecovered-clause-asked
 returns-in-Err-Unrecovered-clause-asked g c =
     let s = c.args.read.now.settings in
-    rw (rw c.in-Err-Unrecovered.field-0-is at c.fault_of.ensures) (disk_alone (Unit {0}) s (g.M.Maker.asked c.args.make.now) (g.M.Maker.asked c.back_disk.new.self)
-    c.in-Err-Unrecovered.why (subst (λ told. TakesBack (gave (disk_of s)) (g.M.Maker.asked c.args.make.now) told) (sym c.back_disk.ensures.kept.0) c.in-Ok-disk.ensures.asked))
+    rw c.fault_of.ensures (disk_alone (Unit {0}) s (g.M.Maker.asked c.args.make.now) (g.M.Maker.asked c.back_disk.new.self)
+    c.in-Err-Unrecovered.why (subst (λ told. TakesBack (gave (disk_of s)) (g.M.Maker.asked c.args.make.now) told) (sym (c.back_disk.ensures.kept.0 ∙ c.tell_unrecovered.ensures.kept.0)) c.in-Ok-disk.ensures.asked))

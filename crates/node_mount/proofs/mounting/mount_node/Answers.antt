@@ -10,7 +10,7 @@ pub returns-in-Err-http-clause-back : goal.returns-in-Err-http-clause-back
 returns-in-Err-http-clause-back g c =
     let files = c.in-Ok-files.files in
     files_back (Unit {0}) g.M.FileAccept.Acceptor.ended g.M.FileAccept.Acceptor.given files _ _
-    (subst (λ told. TakesBack (returned.Files files) told (g.M.Maker.back c.back_files.new.self)) (c.http.ensures.back ∙ c.files.ensures.back) c.back_files.ensures.back)
+    (subst (λ told. TakesBack (returned.Files files) told (g.M.Maker.back c.back_files.new.self)) (c.tell_unheard-in-Err-http.ensures.same.1 ∙ c.http.ensures.back ∙ c.files.ensures.back) c.back_files.ensures.back)
 
 pub returns-in-Ok-http-clause-asked : goal.returns-in-Ok-http-clause-asked
 returns-in-Ok-http-clause-asked g c =
@@ -27,7 +27,7 @@ returns-in-Err-http-clause-asked g c =
     let asked = g.M.Maker.asked in
     let both = two_asked (gave (files_of s)) (refused (http_of s)) (asked c.args.make.now) (asked c.files.new.self) (asked c.http.new.self)
     c.in-Ok-files.ensures.asked (rw c.text.ensures at c.in-Err-http.ensures.asked) in
-    inr (inl (subst (λ told. AreAskedFor (gave (files_of s) ∷ refused (http_of s) ∷ []) (asked c.args.make.now) told) (sym c.back_files.ensures.kept.0) both))
+    inr (inl (subst (λ told. AreAskedFor (gave (files_of s) ∷ refused (http_of s) ∷ []) (asked c.args.make.now) told) (sym (c.back_files.ensures.kept.0 ∙ c.tell_unheard-in-Err-http.ensures.kept.0)) both))
 
 pub returns-in-Ok-http-clause-broken : goal.returns-in-Ok-http-clause-broken
 returns-in-Ok-http-clause-broken g c = rw c.in-Ok.ensures.opened at c.serve_place.ensures.broken

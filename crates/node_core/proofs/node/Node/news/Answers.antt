@@ -1,4 +1,4 @@
-use Rattle.std.proofs.Common.{◌∙◌, ap, subst}
+use Rattle.std.proofs.Common.{None, ◌∙◌, ap, subst}
 use Rattle.lease_core.specs.Belief.{LeaseBelief}
 use Rattle.node_core.specs.declared.news.LeaseNews.{LeaseNews}
 use Rattle.node_core.specs.Leasing.{Believes, believes}
@@ -21,11 +21,14 @@ returns-in-Granted-clause-does g c =
     let n = c.args.self.now in
     let m = c.believe-in-Granted.new.self in
     rw c.in-Granted.is
-    (subst (λ (b : LeaseBelief). Believes (history n) (parts_of n) b c.believe-in-Granted.result (history m) (parts_of m))
+    (subst (λ (b : LeaseBelief). Believes (history n) (record (parts_of n) { held = None }) b c.believe-in-Granted.result (history m) (parts_of m))
     (c.believed-belief.ensures ∙ ap (λ (k : LeaseNews). believes c.args.now k n.standing.belief) c.in-Granted.is) c.believe-in-Granted.ensures.does)
 
 pub returns-in-Granted-clause-standing : goal.returns-in-Granted-clause-standing
 returns-in-Granted-clause-standing g c = c.believe-in-Granted.ensures.standing ∙ ap (λ (b : LeaseBelief). record c.args.self.now.standing { belief = b }) c.believed-belief.ensures
+
+pub returns-in-Granted-clause-safe : goal.returns-in-Granted-clause-safe
+returns-in-Granted-clause-safe g c = c.believe-in-Granted.ensures.safe
 
 pub returns-in-Lost-clause-does : goal.returns-in-Lost-clause-does
 returns-in-Lost-clause-does g c =

@@ -1,4 +1,4 @@
-use Rattle.std.proofs.Common.{◌≡◌, ◌∙◌, ap, subst, sym}
+use Rattle.std.proofs.Common.{None, ◌≡◌, ◌∙◌, ap, subst, sym}
 use Rattle.file_view.specs.Overlay.{FitsImage, IsOverImage}
 use Rattle.file_view.specs.Served.{Served, waits}
 use Rattle.byte_locks.specs.LockList.{IsLockList}
@@ -25,7 +25,7 @@ invariant_of-result g c =
     }
 
 pub returns-in-Ok-clause-parts : goal.returns-in-Ok-clause-parts
-returns-in-Ok-clause-parts g c = λ i. record { files = c.in-Ok.ensures i; store = fields_of c.args.store; config = c.args.config; standing = c.first_standing-standing.ensures i }
+returns-in-Ok-clause-parts g c = λ i. record { files = c.in-Ok.ensures i; store = fields_of c.args.store; config = c.args.config; standing = c.first_standing-standing.ensures i; held = None }
 
 pub returns-in-Ok-clause-seen : goal.returns-in-Ok-clause-seen
 returns-in-Ok-clause-seen g c honest =
