@@ -6,7 +6,6 @@ At most: 300 seconds.
 Seen to fail: a node whose standard error goes nowhere: all but closed_errors; a stand-in that ends where it can't write a line:
 closed_errors."""
 import contextlib
-import itertools
 import json
 import os
 import socketserver
@@ -15,8 +14,8 @@ import subprocess
 import time
 from re import escape, fullmatch, search
 
-from support import (ROOT, Cluster, Link, Node, Wrong, configuration, connect, fill, holds, in_mode, insert, read, run, same, small_disk,
-                     until)
+from support import (ROOT, Cluster, Link, Node, Wrong, configuration, connect, fill, holds, in_mode, insert, level_pair, read, run, same,
+                     small_disk, until)
 from support.cluster import standing_still
 from support.listening import Listening
 from support.wire import ROOT_NODE, UNLINK
@@ -175,10 +174,7 @@ def drop():
 def waits():
     """A frame that a reader at a replica holds back: once, and by the lock that it holds."""
     for mode, lock in ('delete', 'SHARED'), ('wal', 'READ[0-4]'):
-        with Node() as primary, Node(following=primary) as replica:
-            writer = in_mode(primary.socket, mode)
-            fill(writer, range(3))
-            primary.level(replica)
+        with level_pair(mode, 3) as (primary, replica, writer):
             reader = connect(replica.socket)
             reader.execute('begin')
             reader.execute('select count(*) from t').fetchall()
@@ -197,22 +193,13 @@ def waiting(node):
 
 def followers():
     """A primary's follower that comes, comes again from another position, and is gone."""
-    with Node() as primary, Node(following=primary) as replica:
-        writer = in_mode(primary.socket, 'wal')
-        fill(writer, range(3))
-        primary.level(replica)
+    with level_pair('wal', 3) as (primary, replica, _):
         at = position(primary)
         until(lambda: said(primary, f'follower {PEER} at {NOWHERE}'), 'it comes')
         replica.restart()
         until(lambda: said(primary, f'follower {PEER} at {at}'), 'it comes again, from there')
         replica.kill()
-        keys = itertools.count(3)
-
-        def gone():
-            """A link is found cut off by what is sent on it."""
-            fill(writer, [next(keys)])
-            return said(primary, f'follower {PEER} at .* is gone')
-        until(gone, 'it is gone')
+        until(lambda: said(primary, f'follower {PEER} at {at} is gone'), 'it is gone, with no commit since')
 
 
 def still():

@@ -10,10 +10,11 @@ from .mounted import small_disk
 from .node import KEEP_ALL, Node, applied, configuration, read
 from .outcomes import Skipped, Wrong
 from .places import ROOT, TESTS, program, vfs
+from .reading import Readers, Watch, rows
 from .relay import Relay
 from .running import free_port, outcome
 from .service import Service
 from .sqlite import MODES, connect, in_mode, seen_by
 from .waiting import Late, until
 from .wire import Link, Refused
-from .workload import commits, count, fill, in_each_mode, insert
+from .workload import commits, count, fill, in_each_mode, insert, level_pair

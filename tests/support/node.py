@@ -1,5 +1,6 @@
 """A running node: a folder of its own with a `litefs.toml`, and the program `litefs mount` in it."""
 import collections
+import contextlib
 import glob
 import os
 import subprocess
@@ -93,9 +94,16 @@ class Node(Running):
 
     def position(self):
         """What its position file says."""
+        with self.watched() as position:
+            return position()
+
+    @contextlib.contextmanager
+    def watched(self):
+        """A call that answers its position, each time by the same link."""
         with Link(self.socket) as link:
-            txid, total = link.text(f'{self.database}-pos').strip().split('/')
-        return Position(int(txid, 16), total)
+            file = link.lookup(f'{self.database}-pos')
+            handle = link.open(file)
+            yield lambda: position_in(link.read(file, handle).decode())
 
     def image(self):
         """The bytes of the database in the data directory."""
@@ -125,6 +133,11 @@ class Node(Running):
             same(seen == image, True, 'the database file is what SQLite saw')
         self.start()
         same(self.position(), before, 'the position after a restart')
+
+
+def position_in(text):
+    txid, total = text.strip().split('/')
+    return Position(int(txid, 16), total)
 
 
 def read(path):

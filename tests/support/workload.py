@@ -1,8 +1,10 @@
 """Pieces that workloads share."""
+import contextlib
 import os
 
 from .cases import same
-from .sqlite import MODES
+from .node import Node
+from .sqlite import MODES, in_mode
 
 
 def commits(node, connection, wanted, *statements):
@@ -31,3 +33,14 @@ def count(connection):
 def in_each_mode(modes=MODES, **workloads):
     """The cases of these workloads, `name-mode`, each called with its mode."""
     return {f'{name}-{mode}': lambda call=call, mode=mode: call(mode) for name, call in workloads.items() for mode in modes}
+
+
+@contextlib.contextmanager
+def level_pair(mode, count=10):
+    """A primary with a table t(a, b, c) of so many rows, each of a transaction of its own; a replica that is level; and who writes at
+    the primary."""
+    with Node() as primary, Node(following=primary) as replica:
+        writer = in_mode(primary.socket, mode)
+        fill(writer, range(count))
+        primary.level(replica)
+        yield primary, replica, writer
