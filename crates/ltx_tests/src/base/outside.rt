@@ -116,11 +116,12 @@ fn both_ends<R: Handles + Abort>(rt: &R, alloc: Global, patience: u64) -> (TcpLi
     (link, other)
 }
 
-/// A write of no bytes fails once the other end is gone, and not before, whether it has sent bytes or not.
+/// A write of no bytes fails once the other end is gone, and not before, whether it has sent bytes or not. Who accepted it knows its peer.
 #[test]
 fn a_peer_that_is_gone_is_seen(rt: HostRuntime) {
     let _named: Option<(TcpListener, TcpStream)> = None;
     let (mut link, mut other) = both_ends(&rt, rt.alloc(), 0);
+    assert!(rt; other.peer().is_some());
     same(rt, link.write(b""), Ok(0));
     same(rt, other.write(b"x"), Ok(1));
     same(rt, link.write(b""), Ok(0));
@@ -153,6 +154,64 @@ fn unix_socket(rt: HostRuntime) {
 
     let stream = UnixStream::connect(&rt, path).expect(&rt, "a stream");
     ask_and_echo(rt, rt.alloc(), &mut acceptor, StreamLink::new(stream));
+    let _ = fs::remove_file(&rt, path);
+}
+
+/// Waits for a link, and counts where no more come.
+#[derive(Drop)]
+struct Waits<A> {
+    acceptor: A,
+    ended: Arc<AtomicU64>,
+}
+
+impl<R: Handles + Copy, A: Acceptor + Drop> Job<R> for Waits<A> {
+    fn go(self, rt: R) {
+        let mut acceptor = self.acceptor;
+        if let Ok(None) = acceptor.accept(&rt) {
+            self.ended.fetch_add(1, Ordering::SeqCst);
+        }
+    }
+}
+
+/// An acceptor that waits comes back once its doors are closed, and has no link.
+fn comes_back<R, A>(rt: R, alloc: Global, closing: &Closing, acceptor: A)
+where
+    R: Handles + Abort + Copy + Send + 'static,
+    A: Acceptor + Send + Drop + 'static,
+{
+    let mut spawner = ThreadSpawner::new(alloc).expect(&rt, "memory");
+    let ended = no_jobs(&rt, alloc);
+    let waits = Waits {
+        acceptor,
+        ended: held_again(&rt, &ended),
+    };
+    same(rt, start(rt, &mut spawner, waits), Ok(()));
+    SleepPause::new(rt, 50).nap();
+    closing.close_doors(&rt);
+    spawner.finish(&rt);
+    same(rt, ended.load(Ordering::SeqCst), 1);
+}
+
+#[test]
+fn closed_doors_wake_who_waits(rt: HostRuntime) {
+    let _named: Option<(TcpListener, TcpStream)> = None;
+    let closing = Closing::new(rt.alloc()).expect(&rt, "memory");
+    let listener = TcpListener::bind(&rt, "127.0.0.1:0").expect(&rt, "a listener");
+    let word = closing.another().expect(&rt, "memory");
+    let acceptor = TcpAccept::new(&rt, listener, word).expect(&rt, "an acceptor");
+    comes_back(rt, rt.alloc(), &closing, acceptor);
+}
+
+#[test]
+fn a_closed_door_of_a_unix_socket_wakes_who_waits(rt: HostRuntime) {
+    let path = "lf_base_test_door";
+    let _ = fs::remove_file(&rt, path);
+    let closing = Closing::new(rt.alloc()).expect(&rt, "memory");
+    let listener = UnixListener::bind(&rt, path).expect(&rt, "a listener");
+    let word = closing.another().expect(&rt, "memory");
+    let door = Text::of(rt.alloc(), path).expect(&rt, "memory");
+    let acceptor = UnixAccept::new(&rt, listener, door, word).expect(&rt, "an acceptor");
+    comes_back(rt, rt.alloc(), &closing, acceptor);
     let _ = fs::remove_file(&rt, path);
 }
 
