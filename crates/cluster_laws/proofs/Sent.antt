@@ -13,6 +13,8 @@ use Rattle.node_core.specs.declared.ask.Ask.{Ask}
 use Rattle.node_core.specs.declared.ask.Ask.TheVariants as ask
 use Rattle.node_core.specs.declared.refusal.Refusal.{Refusal}
 use Rattle.node_core.specs.declared.refusal.Refusal.TheVariants as refusal
+use Rattle.snapshot.specs.declared.fault.ImportFault.{ImportFault}
+use Rattle.snapshot.specs.declared.fault.ImportFault.TheVariants as import
 use Rattle.txn_log.specs.declared.fault.StoreFault.{StoreFault}
 use Rattle.txn_log.specs.declared.fault.StoreFault.TheVariants as store
 use Rattle.stream_wire.specs.declared.frame.Frame.{Frame}
@@ -22,7 +24,7 @@ use Rattle.stream_wire.specs.Writing.{reply_head}
 use Rattle.stream_primary.specs.declared.standing.Sent.{Sent}
 use Rattle.stream_primary.specs.declared.standing.Sent.TheVariants as sent
 use Rattle.stream_primary.specs.declared.standing.Standing.{Standing}
-use Rattle.stream_primary.specs.Refusing.{name_of, status_of, store_name, store_status}
+use Rattle.stream_primary.specs.Refusing.{import_name, import_status, name_of, status_of, store_name, store_status}
 use Rattle.stream_primary.specs.Streaming.{NodeEntry, sent_by}
 use Rattle.stream_primary.specs.Telling.{begun, file_of, next, standing_at, words}
 use Rattle.cluster_laws.specs.StreamLaw.{AreShort, asks_of, sent_asks}
@@ -192,8 +194,13 @@ store_odd : (why : StoreFault) → IsOdd (store_status why) (store_name why ++ 1
 store_odd store.Disk = (λ same. omega (arith, same), (omega arith, omega arith), omega arith)
 store_odd why = (λ same. omega (arith, same), (omega arith, omega arith), omega arith)
 
+import_odd : (why : ImportFault) → IsOdd (import_status why) (import_name why ++ 10 ∷ [])
+import_odd import.NotDatabase = (λ same. omega (arith, same), (omega arith, omega arith), omega arith)
+import_odd why = (λ same. omega (arith, same), (omega arith, omega arith), omega arith)
+
 refusal_odd : (why : Refusal) → IsOdd (status_of why) (name_of why ++ 10 ∷ [])
 refusal_odd (refusal.Store why) = store_odd why
+refusal_odd (refusal.Import why) = import_odd why
 refusal_odd why = (λ same. omega (arith, same), (omega arith, omega arith), omega arith)
 
 first_words : (name : List ℕ) (from : Whereabouts) (given : Answer) → IsFirst name from given

@@ -37,6 +37,8 @@ now-of ask.Where = (0, λ m. sym (max-zero m))
 now-of (ask.Hello now from last) = (now, λ m. refl)
 now-of (ask.Frame now bytes) = (now, λ m. refl)
 now-of (ask.Drop now) = (now, λ m. refl)
+now-of ask.Export = (0, λ m. sym (max-zero m))
+now-of (ask.Import now bytes) = (now, λ m. refl)
 now-of (ask.Prune keep) = (0, λ m. sym (max-zero m))
 now-of (ask.Info now) = (now, λ m. refl)
 now-of (ask.Lease now news) = (now, λ m. refl)
@@ -58,6 +60,8 @@ module _ (v last : Tenancy) (n : ℕ) (t : Tenant) (others : (j : ℕ) → j ≢
   then-news (ask.Hello now from last) here reply is = rests-so (max t.moment now) here is
   then-news (ask.Frame now bytes) here reply is = rests-so (max t.moment now) here is
   then-news (ask.Drop now) here reply is = rests-so (max t.moment now) here is
+  then-news ask.Export here reply is = rests-so t.moment here is
+  then-news (ask.Import now bytes) here reply is = rests-so (max t.moment now) here is
   then-news (ask.Prune keep) here reply is = rests-so t.moment here is
   then-news (ask.Info now) here reply is = rests-so (max t.moment now) here is
   then-news (ask.Lease now (news.Primary host)) here reply is = rests-so (max t.moment now) here is

@@ -70,8 +70,10 @@ fn reply_of(answer: Answer) -> Reply
         | Answer::Item { .. }
         | Answer::Gone
         | Answer::Applied(_)
+        | Answer::Same(_)
         | Answer::Held(_)
         | Answer::Pruned(_)
+        | Answer::Bytes(_)
         | Answer::Info(_)
         | Answer::Refused(_) => Reply::Error(NO_ANSWER),
     }

@@ -11,6 +11,7 @@ pub mod OneAsk
 pub mod AtMoment
 pub mod Noted
 mod HoldingRows
+mod ImportRows
 pub mod Opened
 pub mod Dropped
 pub mod Steady
@@ -29,3 +30,4 @@ pub mod Following
 pub mod Looked
 pub mod Encodings
 pub mod Lookups
+pub mod Imported

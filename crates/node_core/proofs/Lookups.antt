@@ -92,8 +92,10 @@ module _ (start mid : History) (old : NodeParts) (looked : IsLookedAt start old.
   tells-since (answers.Refuse number) new tells = tells
   tells-since (answers.At here) new tells = tells
   tells-since (answers.Applied here) new tells = tells
+  tells-since (answers.Same here) new tells = tells
   tells-since (answers.Held lock) new tells = tells
   tells-since (answers.Pruned count) new tells = tells
+  tells-since (answers.Bytes bytes) new tells = tells
   tells-since (answers.Info info) new tells = tells
 
 -- what a follower is told since

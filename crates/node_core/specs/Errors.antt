@@ -1,4 +1,4 @@
--- The error number of each fault (errno(3)), and the refusal of a fault of the store or of an encoding.
+-- The error number of each fault (errno(3)), and the refusal of a fault of the store, of an encoding or of an import.
 use Rattle.std.specs.Prelude.{Option, if◌then◌else◌}
 use Rattle.lf_base.specs.declared.errno.Errno.{Errno}
 use Rattle.lf_disk.specs.SystemError.{is_want_of_room}
@@ -9,6 +9,8 @@ use Rattle.ltx_codec.specs.declared.fault.LtxFault.{LtxFault}
 use Rattle.ltx_codec.specs.declared.fault.LtxFault.TheVariants as encoding
 use Rattle.txn_log.specs.declared.fault.StoreFault.{StoreFault}
 use Rattle.txn_log.specs.declared.fault.StoreFault.TheVariants as store
+use Rattle.snapshot.specs.declared.fault.ImportFault.{ImportFault}
+use Rattle.snapshot.specs.declared.fault.ImportFault.TheVariants as import
 use Rattle.node_core.specs.declared.refusal.Refusal.{Refusal}
 use Rattle.node_core.specs.declared.refusal.Refusal.TheVariants as refusals
 
@@ -25,6 +27,11 @@ refusal_of why = refusals.Store why
 abbrev pub refusal_of_encoding : LtxFault → Refusal
 refusal_of_encoding encoding.NoMemory = refusals.NoMemory
 refusal_of_encoding why = refusals.Ltx why
+
+-- the refusal of bytes that are not imported, by their fault
+abbrev pub refusal_of_import : ImportFault → Refusal
+refusal_of_import import.NoMemory = refusals.NoMemory
+refusal_of_import why = refusals.Import why
 
 -- of a fault of the store, by what the system said at the disk's call that failed last: where there is no room, no space is left;
 -- where the database grows past its limit, the file is too large; the last three don't come

@@ -14,6 +14,8 @@ pub mod Hello
 pub mod Pruning
 pub mod Dropping
 pub mod Framing
+pub mod Exporting
+pub mod Importing
 pub mod Opening
 pub mod Leasing
 pub mod Telling

@@ -32,6 +32,8 @@ IsAskOf asks.Where law = law ≡ laws.Where
 IsAskOf (asks.Hello now position last) law = law ≡ laws.Hello position last
 IsAskOf (asks.Frame now bytes) law = IsFrameOf bytes law
 IsAskOf (asks.Drop now) law = law ≡ laws.Drop
+IsAskOf asks.Export law = law ≡ laws.Export
+IsAskOf (asks.Import now bytes) law = law ≡ laws.Import
 IsAskOf (asks.Prune keep) law = law ≡ laws.Prune (kept_of keep)
 IsAskOf (asks.Info now) law = law ≡ laws.Where
 IsAskOf (asks.Lease now news) law = law ≡ laws.Lease
@@ -54,6 +56,7 @@ law_refusal refusals.NotPrimary = laws.NotPrimary
 law_refusal refusals.NotReplica = laws.NotReplica
 law_refusal (refusals.Ltx why) = laws.BadFile
 law_refusal (refusals.Store why) = law_store_fault why
+law_refusal (refusals.Import why) = laws.Other
 law_refusal refusals.Absent = laws.Other
 law_refusal refusals.NoMemory = laws.NoMemory
 
@@ -66,8 +69,10 @@ law_answer (answers.Level position) = laws.Level position
 law_answer (answers.Item ltx after) = laws.Item (file_in ltx)
 law_answer answers.Gone = laws.Gone
 law_answer (answers.Applied position) = laws.Applied position
+law_answer (answers.Same position) = laws.Done
 law_answer (answers.Held lock) = laws.Held lock
 law_answer (answers.Pruned count) = laws.Done
+law_answer (answers.Bytes bytes) = laws.Done
 law_answer (answers.Info info) = laws.Done
 law_answer (answers.Refused why) = laws.Refused (law_refusal why)
 

@@ -12,9 +12,11 @@ use Rattle.node_core.specs.declared.answer.Answer.TheVariants as answers
 use Rattle.node_core.specs.declared.ask.Ask.{Ask}
 use Rattle.node_core.specs.declared.ask.Ask.TheVariants as asks
 use Rattle.node_core.specs.Dropping.{AnswersDrop, IsUntouched}
+use Rattle.node_core.specs.Exporting.{AnswersExport}
 use Rattle.node_core.specs.Framing.{AnswersFrame}
 use Rattle.node_core.specs.Hello.{AnswersHello}
 use Rattle.node_core.specs.HoldingBack.{is_kept_out, noted}
+use Rattle.node_core.specs.Importing.{AnswersImport}
 use Rattle.node_core.specs.Leasing.{AnswersLease, believes}
 use Rattle.node_core.specs.Nodes.{NodeParts, at_moment, role_in, seen}
 use Rattle.node_core.specs.Pruning.{AnswersPrune}
@@ -57,6 +59,8 @@ Does start old caller asks.Where answer end new said = TellsPosition start old a
 Does start old caller (asks.Hello now from last) answer end new said = AnswersHello start (at_moment old now) from last answer end new
 Does start old caller (asks.Frame now bytes) answer end new said = AnswersNoted (AnswersFrame start (at_moment old now) bytes answer end) answer new
 Does start old caller (asks.Drop now) answer end new said = AnswersNoted (AnswersDrop start (at_moment old now) answer end) answer new
+Does start old caller asks.Export answer end new said = AnswersExport start old answer end new
+Does start old caller (asks.Import now bytes) answer end new said = AnswersImport start (at_moment old now) bytes answer end new
 Does start old caller (asks.Prune keep) answer end new said = AnswersPrune start old keep answer end new
 Does start old caller (asks.Info now) answer end new said = AnswersInfo start (at_moment old now) answer end new
 Does start old caller (asks.Lease now news) answer end new said = AnswersLease start (at_moment old now) now news answer end new
@@ -67,6 +71,7 @@ at_ask old (asks.File now request) = at_moment old now
 at_ask old (asks.Hello now from last) = at_moment old now
 at_ask old (asks.Frame now bytes) = at_moment old now
 at_ask old (asks.Drop now) = at_moment old now
+at_ask old (asks.Import now bytes) = at_moment old now
 at_ask old (asks.Info now) = at_moment old now
 at_ask old (asks.Lease now news) = at_moment old now
 at_ask old ask = old
@@ -77,6 +82,7 @@ moment_by (asks.File now request) moment = max moment now
 moment_by (asks.Hello now from last) moment = max moment now
 moment_by (asks.Frame now bytes) moment = max moment now
 moment_by (asks.Drop now) moment = max moment now
+moment_by (asks.Import now bytes) moment = max moment now
 moment_by (asks.Info now) moment = max moment now
 moment_by (asks.Lease now news) moment = max moment now
 moment_by ask moment = moment

@@ -24,10 +24,14 @@ pub enum Answer {
     Gone,
     /// It is applied, and the node stands here.
     Applied(Pos),
+    /// The database is this one already, and nothing is changed. The node stands here.
+    Same(Pos),
     /// A lock that somebody holds holds it back, and nothing is changed.
     Held(LockId),
     /// So many files are gone from the log.
     Pruned(u64),
+    /// The database's bytes: its pages one after another.
+    Bytes(Bytes),
     /// What the node is, and where it stands.
     Info(NodeInfo),
     /// It is refused.

@@ -33,6 +33,13 @@ pub enum Ask {
     Drop {
         now: u64,
     },
+    /// What are the database's bytes?
+    Export,
+    /// This database is to take the place of the primary's, as one transaction.
+    Import {
+        now: u64,
+        bytes: Bytes,
+    },
     /// The log is to keep this many files, its newest. 0 stands for 1.
     Prune {
         keep: u64,
@@ -58,9 +65,10 @@ impl Ask {
             Ask::Hello { now, .. } => *now = moment,
             Ask::Frame { now, .. } => *now = moment,
             Ask::Drop { now } => *now = moment,
+            Ask::Import { now, .. } => *now = moment,
             Ask::Info { now } => *now = moment,
             Ask::Lease { now, .. } => *now = moment,
-            Ask::EndSession | Ask::Where | Ask::Prune { .. } => {}
+            Ask::EndSession | Ask::Where | Ask::Export | Ask::Prune { .. } => {}
         }
     }
 }

@@ -1,7 +1,8 @@
 ghost use Rattle.std.specs.Prelude.{◌≡◌};
-ghost use Rattle.node_core.specs.Errors.{refusal_of, refusal_of_encoding};
+ghost use Rattle.node_core.specs.Errors.{refusal_of, refusal_of_encoding, refusal_of_import};
 
 use ltx_codec::LtxFault;
+use snapshot::ImportFault;
 use txn_log::StoreFault;
 
 /// Why a node does not do what it is asked. Only after `Store(Disk)` may something be changed.
@@ -15,6 +16,8 @@ pub enum Refusal {
     Ltx(LtxFault),
     /// The store does not do it.
     Store(StoreFault),
+    /// These bytes are not taken in the place of the database.
+    Import(ImportFault),
     /// The database was never written.
     Absent,
     NoMemory,
@@ -37,5 +40,15 @@ pub(crate) fn refusal_of_encoding(fault: LtxFault) -> Refusal
     match fault {
         LtxFault::NoMemory => Refusal::NoMemory,
         other => Refusal::Ltx(other),
+    }
+}
+
+/// The refusal of bytes that are not imported.
+pub(crate) fn refusal_of_import(fault: ImportFault) -> Refusal
+    ensures { result ≡ refusal_of_import fault }
+{
+    match fault {
+        ImportFault::NoMemory => Refusal::NoMemory,
+        other => Refusal::Import(other),
     }
 }

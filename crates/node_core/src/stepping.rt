@@ -47,6 +47,8 @@ impl<D: Disk> Machine for Node<D> {
             Ask::Hello { now, pos, last } => self.answer_hello(*now, *pos, *last),
             Ask::Frame { now, bytes } => self.answer_frame(*now, bytes),
             Ask::Drop { now } => self.answer_drop(*now),
+            Ask::Export => self.export(),
+            Ask::Import { now, bytes } => self.answer_import(*now, bytes),
             Ask::Prune { keep } => self.prune(*keep),
             Ask::Info { now } => self.answer_info(*now),
             Ask::Lease { now, news } => self.answer_lease(*now, news),

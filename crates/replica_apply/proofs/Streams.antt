@@ -57,8 +57,10 @@ frame_answered who name text asked (answer.At pos) old new turns is a = (answer.
 frame_answered who name text asked (answer.Level pos) old new turns is a = (answer.Level pos, record { asked = asked; is = is; until = a }, refl)
 frame_answered who name text asked (answer.Item ltx after) old new turns is a = (answer.Item ltx after, record { asked = asked; is = is; until = a }, refl)
 frame_answered who name text asked answer.Gone old new turns is a = (answer.Gone, record { asked = asked; is = is; until = a }, refl)
+frame_answered who name text asked (answer.Same pos) old new turns is a = (answer.Same pos, record { asked = asked; is = is; until = a }, refl)
 frame_answered who name text asked (answer.Held lock) old new turns is a = (answer.Held lock, record { asked = asked; is = is; until = a }, refl)
 frame_answered who name text asked (answer.Pruned n) old new turns is a = (answer.Pruned n, record { asked = asked; is = is; until = a }, refl)
+frame_answered who name text asked (answer.Bytes bytes) old new turns is a = (answer.Bytes bytes, record { asked = asked; is = is; until = a }, refl)
 frame_answered who name text asked (answer.Info i) old new turns is a = (answer.Info i, record { asked = asked; is = is; until = a }, refl)
 
 -- it was asked where the node stands
@@ -72,8 +74,10 @@ where_said caller (answer.Level pos) old new turns e = (answer.Level pos, e, ref
 where_said caller (answer.Item ltx after) old new turns e = (answer.Item ltx after, e, refl)
 where_said caller answer.Gone old new turns e = (answer.Gone, e, refl)
 where_said caller (answer.Applied pos) old new turns e = (answer.Applied pos, e, refl)
+where_said caller (answer.Same pos) old new turns e = (answer.Same pos, e, refl)
 where_said caller (answer.Held lock) old new turns e = (answer.Held lock, e, refl)
 where_said caller (answer.Pruned n) old new turns e = (answer.Pruned n, e, refl)
+where_said caller (answer.Bytes bytes) old new turns e = (answer.Bytes bytes, e, refl)
 where_said caller (answer.Info i) old new turns e = (answer.Info i, e, refl)
 
 -- behind a message that was taken out

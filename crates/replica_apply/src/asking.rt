@@ -42,8 +42,10 @@ fn place_in(answer: Answer) -> Result<Whereabouts, FollowEnd>
         | Answer::Item { .. }
         | Answer::Gone
         | Answer::Applied(_)
+        | Answer::Same(_)
         | Answer::Held(_)
         | Answer::Pruned(_)
+        | Answer::Bytes(_)
         | Answer::Info(_) => Err(FollowEnd::OddAnswer),
     }
 }

@@ -102,8 +102,10 @@ fn said_by(answer: Answer) -> Result<(), FollowEnd>
         | Answer::Level(_)
         | Answer::Item { .. }
         | Answer::Gone
+        | Answer::Same(_)
         | Answer::Held(_)
         | Answer::Pruned(_)
+        | Answer::Bytes(_)
         | Answer::Info(_) => Err(FollowEnd::OddAnswer),
     }
 }

@@ -46,8 +46,10 @@ pub fn told_by(alloc: Global, answer: &Answer) -> Told {
         Answer::Item { ltx, after } => file_of(alloc, ltx, *after),
         Answer::Gone => Told::Word("dropped"),
         Answer::Applied(at) => Told::At("applied, at", *at),
+        Answer::Same(at) => Told::At("the same, at", *at),
         Answer::Held(lock) => Told::Held(*lock),
         Answer::Pruned(count) => Told::Pruned(*count),
+        Answer::Bytes(_) => Told::Word("bytes"),
         Answer::Info(info) => Told::At("at", info.pos),
         Answer::Refused(Refusal::Store(StoreFault::NotNext { have, want })) => Told::NotNext {
             have: *have,

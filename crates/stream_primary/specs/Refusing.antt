@@ -9,6 +9,8 @@ use Rattle.node_core.specs.declared.answer.Answer.{Answer}
 use Rattle.node_core.specs.declared.answer.Answer.TheVariants as answer
 use Rattle.node_core.specs.declared.refusal.Refusal.{Refusal}
 use Rattle.node_core.specs.declared.refusal.Refusal.TheVariants as refusal
+use Rattle.snapshot.specs.declared.fault.ImportFault.{ImportFault}
+use Rattle.snapshot.specs.declared.fault.ImportFault.TheVariants as import
 use Rattle.txn_log.specs.declared.fault.StoreFault.{StoreFault}
 use Rattle.txn_log.specs.declared.fault.StoreFault.TheVariants as store
 
@@ -30,21 +32,35 @@ store_name store.Limit = codes "Limit"
 store_name store.NoMemory = codes "NoMemory"
 store_name (store.PageSize have want) = codes "PageSize"
 
+abbrev pub import_status : ImportFault → ℕ
+import_status import.NotDatabase = 400
+import_status import.Limit = 413
+import_status (import.Store failed) = 500
+import_status import.NoMemory = 507
+
+abbrev pub import_name : ImportFault → List ℕ
+import_name import.NotDatabase = codes "NotDatabase"
+import_name import.Limit = codes "Limit"
+import_name (import.Store failed) = codes "Failed"
+import_name import.NoMemory = codes "NoMemory"
+
 -- the status of a refusal
 abbrev pub status_of : Refusal → ℕ
 status_of refusal.NotPrimary = 503
 status_of refusal.NotReplica = 503
 status_of (refusal.Ltx fault) = 400
 status_of (refusal.Store fault) = store_status fault
+status_of (refusal.Import fault) = import_status fault
 status_of refusal.Absent = 404
 status_of refusal.NoMemory = 507
 
--- its name, which of a store's fault is the fault's
+-- its name, which of a store's fault or an import's is the fault's
 abbrev pub name_of : Refusal → List ℕ
 name_of refusal.NotPrimary = codes "NotPrimary"
 name_of refusal.NotReplica = codes "NotReplica"
 name_of (refusal.Ltx fault) = codes "Ltx"
 name_of (refusal.Store fault) = store_name fault
+name_of (refusal.Import fault) = import_name fault
 name_of refusal.Absent = codes "Absent"
 name_of refusal.NoMemory = codes "NoMemory"
 

@@ -1,9 +1,10 @@
 //! Status and name of a refusal.
 ghost use Rattle.std.specs.Prelude.{◌≡◌, ◌∷◌, ◌++◌, []};
 ghost use Rattle.http.specs.StatusCode.{IsStatusCode};
-ghost use Rattle.stream_primary.specs.Refusing.{line_of, status_of, store_name, store_status};
+ghost use Rattle.stream_primary.specs.Refusing.{import_name, import_status, line_of, status_of, store_name, store_status};
 
 use node_core::Refusal;
+use snapshot::ImportFault;
 use txn_log::StoreFault;
 
 /// The status of a refusal.
@@ -15,6 +16,7 @@ pub fn status_of(refusal: Refusal) -> u16
         Refusal::NotPrimary | Refusal::NotReplica => 503,
         Refusal::Ltx(_) => 400,
         Refusal::Store(fault) => store_status(fault),
+        Refusal::Import(fault) => import_status(fault),
         Refusal::Absent => 404,
         Refusal::NoMemory => 507,
     }
@@ -33,6 +35,18 @@ fn store_status(fault: StoreFault) -> u16
     }
 }
 
+fn import_status(fault: ImportFault) -> u16
+    ensures is { result ≡ import_status fault }
+    ensures fits { IsStatusCode result }
+{
+    match fault {
+        ImportFault::NotDatabase => 400,
+        ImportFault::Limit => 413,
+        ImportFault::Store(_) => 500,
+        ImportFault::NoMemory => 507,
+    }
+}
+
 /// The line that names a refusal.
 pub fn line_of(refusal: Refusal) -> &'static [u8]
     ensures { result.now ≡ line_of refusal }
@@ -42,6 +56,7 @@ pub fn line_of(refusal: Refusal) -> &'static [u8]
         Refusal::NotReplica => b"NotReplica\n",
         Refusal::Ltx(_) => b"Ltx\n",
         Refusal::Store(fault) => store_line(fault),
+        Refusal::Import(fault) => import_line(fault),
         Refusal::Absent => b"Absent\n",
         Refusal::NoMemory => b"NoMemory\n",
     }
@@ -58,5 +73,16 @@ fn store_line(fault: StoreFault) -> &'static [u8]
         StoreFault::Limit => b"Limit\n",
         StoreFault::NoMemory => b"NoMemory\n",
         StoreFault::PageSize { .. } => b"PageSize\n",
+    }
+}
+
+fn import_line(fault: ImportFault) -> &'static [u8]
+    ensures { result.now ≡ import_name fault ++ 10 ∷ [] }
+{
+    match fault {
+        ImportFault::NotDatabase => b"NotDatabase\n",
+        ImportFault::Limit => b"Limit\n",
+        ImportFault::Store(_) => b"Failed\n",
+        ImportFault::NoMemory => b"NoMemory\n",
     }
 }

@@ -55,8 +55,10 @@ pub fn refuse_answer<L: Link>(
         | Answer::Item { .. }
         | Answer::Gone
         | Answer::Applied(_)
+        | Answer::Same(_)
         | Answer::Held(_)
         | Answer::Pruned(_)
+        | Answer::Bytes(_)
         | Answer::Info(_) => say(alloc, link, 500, b"OddAnswer\n", turns),
     }
 }

@@ -71,6 +71,8 @@ impl Machine for Scripted {
             | Ask::Hello { .. }
             | Ask::Frame { .. }
             | Ask::Drop { .. }
+            | Ask::Export
+            | Ask::Import { .. }
             | Ask::Prune { .. }
             | Ask::Info { .. }
             | Ask::Lease { .. } => {

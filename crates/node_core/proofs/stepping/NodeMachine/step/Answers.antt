@@ -20,3 +20,9 @@ returns-in-Lease g c = rw c.in-Lease.is (c.answer_lease.ensures.step c.args.call
 
 pub returns-in-Info : goal.returns-in-Info
 returns-in-Info g c = rw c.in-Info.is (c.answer_info.ensures.step c.args.caller)
+
+pub returns-in-Export : goal.returns-in-Export
+returns-in-Export g c = rw c.in-Export.is (c.export.ensures.step c.args.caller)
+
+pub returns-in-Import : goal.returns-in-Import
+returns-in-Import g c = rw c.in-Import.is (c.answer_import.ensures.step c.args.caller)
