@@ -22,9 +22,8 @@ use turn_desk::{Machine, Rest};
 /// How many HTTP links are served at a time, each stream to a follower among them.
 const JOBS: u32 = 256;
 
-/// For how many milliseconds a stream that is level rests at most. A commit ends its rest; then it looks whether its
-/// follower is gone.
-const LEVEL_MS: u64 = 1000;
+/// For how many milliseconds a stream that is level rests at most. A commit ends its rest. Then its follower is looked for.
+const LEVEL_MS: u64 = 5000;
 
 // So many followers and clients that stall hold up no other.
 const _: () = prove!(JOBS >= 256);

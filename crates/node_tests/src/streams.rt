@@ -163,6 +163,27 @@ const ROWS: &[Row] = &[
         asked: &[9, 9, 9, 9, 9],
         ..WORKED
     },
+    // One that was level and is gone is found so before the next Hello, by the third call of its link.
+    Row {
+        script: &[],
+        input: STREAM_AT_9,
+        failing: 2,
+        end: SessionEnd::WriteFault,
+        written: &[
+            BEGUN,
+            b"\0\0\0\x02\0\0\0\x03\0\0\0\0\0\0\0\x10app\0\0\0\0\0\0\0\x09\x80\0\0\0\0\0\0\0",
+        ],
+        asked: &[9],
+        ..WORKED
+    },
+    // The calls of its link are a read, two writes for the file, one for the Ready, and then the look.
+    Row {
+        failing: 4,
+        end: SessionEnd::WriteFault,
+        written: &[BEGUN, FILE, READY],
+        asked: &[0, 1],
+        ..WORKED
+    },
     // Calls that are not served, and bodies that do not read.
     Row {
         input: GET,

@@ -87,7 +87,8 @@ stopped : (who : Asker) (name : List ℕ) (at : Standing) (place new : Place Nod
     → Stopped who name at place new
 stopped who name at place new before now turns ends.Closed (given, round, ended, same) =
     stopped_at who name at given place new (words name at.sent given) round.hello ([], append-nil (words name at.sent given)) round.written
-stopped who name at place new before now turns ends.WriteFault (given, half, rose) = stopped_half who name at given place new half
+stopped who name at place new before now turns ends.WriteFault (inl still, rose) = stopped_still who name at place new still
+stopped who name at place new before now turns ends.WriteFault (inr half, rose) = stopped_half who name at half.0 place new half.1
 stopped who name at place new before now turns ends.Turns (inl still, none, same) = stopped_still who name at place new still
 stopped who name at place new before now turns ends.Turns (inr half, none, same) = stopped_half who name at half.0 place new half.1
 stopped who name at place new before now turns ends.Worn (still, same) = stopped_still who name at place new still

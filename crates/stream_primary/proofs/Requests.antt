@@ -1,5 +1,5 @@
 -- Requests that were read, and what is served behind them.
-use Rattle.std.proofs.Common.{◌≡◌, ◌⊎◌, inl, inr, ℕ, true, ◌+◌, ◌<◌, ◌≤◌, List, [], ◌++◌, length, take, drop, Option, Some, None, Err, refl, sym, ap, ◌∙◌, subst, arith}
+use Rattle.std.proofs.Common.{◌≡◌, ◌⊎◌, inl, inr, ℕ, true, ◌+◌, ◌<◌, ◌≤◌, List, [], ◌++◌, length, drop, Option, Some, None, Err, refl, sym, ap, ◌∙◌, subst, arith}
 use Rattle.std.specs.Io.KnownBytes.{Appends, Keeps}
 use Rattle.std.proofs.KnownBytes.{Consumes-kept, Keeps-trans}
 use Rattle.std.proofs.lemmas.List.{length-drop, length-take-le}
@@ -10,7 +10,6 @@ use Rattle.lf_base.specs.declared.session_end.SessionEnd.{SessionEnd}
 use Rattle.lf_base.specs.declared.session_end.SessionEnd.TheVariants as ends
 use Rattle.link_session.specs.Reading.{EndsReading}
 use Rattle.link_session.specs.Stands.{Asker, IsStill, Stand}
-use Rattle.link_session.specs.Writing.{AppendsPart}
 use Rattle.stream_wire.specs.declared.call.Call.{Call}
 use Rattle.stream_wire.specs.declared.call.Call.TheVariants as call
 use Rattle.stream_wire.specs.Head.{NeverTakesRequest}
@@ -30,7 +29,7 @@ use Rattle.stream_primary.specs.Refusing.{AnswersUnasked, EndsReply}
 use Rattle.stream_primary.specs.Request.{CameOf, CameOfRequest, Request, WasHeard, WasRead}
 use Rattle.stream_primary.specs.StreamCall.{ServesStream, Wants, no_line, other_database, starving, streaming}
 use Rattle.stream_primary.specs.Streaming.{NodeEntry}
-use Rattle.stream_primary.proofs.Streams.{kept_appends, stream_from}
+use Rattle.stream_primary.proofs.Streams.{kept_appends, kept_part, stream_from}
 
 -- ---- what was read
 
@@ -110,9 +109,6 @@ pub wants_other : (name other : List ℕ) (request : Request) (pos : Pos) → (o
 wants_other name other request pos differs is e = (other, pos, is, differs, e)
 
 -- ---- what is served behind it
-
-kept_part : (old mid new : Option (List ℕ)) (text : List ℕ) → Keeps old mid → AppendsPart mid new text → AppendsPart old new text
-kept_part old mid new text k a = (a.0, a.1, kept_appends old mid new (take a.0 text) k a.2)
 
 -- the reply ends the session, where reading it kept what was written
 replied : (text : List ℕ) (old mid new : Option (List ℕ)) (before between now turns : ℕ) (end : SessionEnd) → Keeps old mid → between ≡ before

@@ -1,19 +1,20 @@
 -- Streams: what was sent so far, and how they end.
-use Rattle.std.proofs.Common.{◌≡◌, inl, inr, ℕ, Bool, true, false, IsTrue, List, [], ◌∷◌, ◌++◌, Option, Some, None, Result, Ok, Err, refl, sym, ap, ◌∙◌, subst, append_assoc, append-nil}
+use Rattle.std.proofs.Common.{◌≡◌, ◌⊎◌, inl, inr, ℕ, Bool, true, false, IsTrue, List, [], ◌∷◌, ◌++◌, take, Option, Some, None, Result, Ok, Err, refl, sym, ap, ◌∙◌, subst, append_assoc, append-nil}
 use Rattle.std.specs.Io.KnownBytes.{Appends, Keeps}
-use Rattle.std.proofs.KnownBytes.{Appends-kept, Appends-nil, Appends-trans, Keeps-refl}
+use Rattle.std.proofs.KnownBytes.{Appends-kept, Appends-nil, Appends-trans, Keeps-refl, Keeps-trans}
+use Rattle.lf_base.specs.Faults.{Rose}
 use Rattle.lf_base.specs.declared.pos.Pos.{Pos}
 use Rattle.lf_base.specs.declared.session_end.SessionEnd.{SessionEnd}
 use Rattle.lf_base.specs.declared.session_end.SessionEnd.TheVariants as ends
 use Rattle.link_session.specs.Asking.{EndsAsking}
 use Rattle.link_session.specs.Rounds.{Place}
-use Rattle.link_session.specs.Stands.{Asker, Stand}
+use Rattle.link_session.specs.Stands.{Asker, IsStill, Stand}
 use Rattle.link_session.specs.Writing.{AppendsPart}
 use Rattle.node_core.specs.declared.answer.Answer.{Answer}
 use Rattle.node_core.specs.declared.whereabouts.Whereabouts.{Whereabouts}
 use Rattle.stream_primary.specs.declared.standing.Standing.{Standing}
 use Rattle.stream_primary.specs.Telling.{goes_on, next, standing_at, words}
-use Rattle.stream_primary.specs.Streaming.{NodeEntry, AreHellos, AsksHello, EndsRound, EndsTelling, IsHello, OwesStill, Streamed, Streams, behind, sent_by}
+use Rattle.stream_primary.specs.Streaming.{NodeEntry, AreHellos, AsksHello, EndsRound, EndsTelling, IsHalfRound, IsHello, OwesStill, Streamed, Streams, behind, sent_by}
 
 -- ---- one Hello
 
@@ -23,7 +24,7 @@ pub sent_on : (who : Asker) (name : List ℕ) (at : Standing) (given : Answer) (
     → EndsRound who name at old new before now turns r
 sent_on who name at given old new before now turns (Ok then) h t = (given, record { hello = h; written = t.0 }, t.1, t.2, t.3)
 sent_on who name at given old new before now turns (Err ends.Closed) h t = (given, record { hello = h; written = t.0 }, t.1, t.2)
-sent_on who name at given old new before now turns (Err ends.WriteFault) h t = (given, record { hello = h; written = t.0 }, t.1)
+sent_on who name at given old new before now turns (Err ends.WriteFault) h t = (inr (given, record { hello = h; written = t.0 }), t.1)
 sent_on who name at given old new before now turns (Err ends.Turns) h t = (inr (given, record { hello = h; written = t.0 }), t.1, t.2)
 sent_on who name at given old new before now turns (Err ends.NoMemory) h t = ((given, record { hello = h; written = t.0 }), t.1)
 sent_on who name at given old new before now turns (Err ends.ReadFault) h t = absurd t
@@ -102,6 +103,61 @@ kept_appends None mid new bytes k a = tt
 kept_appends (Some x) None new bytes k a = absurd k
 kept_appends (Some x) (Some y) None bytes k a = absurd a
 kept_appends (Some x) (Some y) (Some z) bytes k a = a ∙ ap (λ xs. xs ++ bytes) k
+
+pub kept_part : (old mid new : Option (List ℕ)) (text : List ℕ) → Keeps old mid → AppendsPart mid new text → AppendsPart old new text
+kept_part old mid new text k a = (a.0, a.1, kept_appends old mid new (take a.0 text) k a.2)
+
+-- ---- behind a look, at which nothing was written or asked
+
+asked_behind : (who : Asker) (at : Standing) (given : Answer) (old mid new : Place NodeEntry) → IsStill old mid → AsksHello who at.here given mid.entries new.entries
+    → AsksHello who at.here given old.entries new.entries
+asked_behind who at given old mid new looked h = subst (λ (es : List NodeEntry). AsksHello who at.here given es new.entries) looked.asked h
+
+half_behind : (who : Asker) (name : List ℕ) (at : Standing) (old mid new : Place NodeEntry) → IsStill old mid
+    → IsStill mid new ⊎ ((given : Answer) × IsHalfRound who name at given mid new) → IsStill old new ⊎ ((given : Answer) × IsHalfRound who name at given old new)
+half_behind who name at old mid new looked (inl still) =
+    inl (record { written = Keeps-trans _ _ _ looked.written still.written; asked = still.asked ∙ looked.asked })
+half_behind who name at old mid new looked (inr (given, half)) = inr (
+  given,
+  record {
+    hello = asked_behind who at given old mid new looked half.hello;
+    written = kept_part old.taken mid.taken new.taken (words name at.sent given) looked.written half.written;
+  },
+)
+
+-- a round is one from before it
+pub round_behind : (who : Asker) (name : List ℕ) (at : Standing) (old mid new : Place NodeEntry) (before between now turns : ℕ) (r : Result Standing SessionEnd) → IsStill old mid
+    → between ≡ before → EndsRound who name at mid new between now turns r → EndsRound who name at old new before now turns r
+round_behind who name at old mid new before between now turns (Ok then) looked same (given, round, goes, is, count) = (
+  given,
+  record {
+    hello = asked_behind who at given old mid new looked round.hello;
+    written = kept_appends old.taken mid.taken new.taken (words name at.sent given) looked.written round.written;
+  },
+  goes,
+  is,
+  count ∙ same,
+)
+round_behind who name at old mid new before between now turns (Err ends.Closed) looked same (given, round, goes, count) = (
+  given,
+  record {
+    hello = asked_behind who at given old mid new looked round.hello;
+    written = kept_appends old.taken mid.taken new.taken (words name at.sent given) looked.written round.written;
+  },
+  goes,
+  count ∙ same,
+)
+round_behind who name at old mid new before between now turns (Err ends.WriteFault) looked same (half, rose) =
+    (half_behind who name at old mid new looked half, subst (λ (count : ℕ). Rose count now) same rose)
+round_behind who name at old mid new before between now turns (Err ends.Turns) looked same (half, none, count) = (half_behind who name at old mid new looked half, none, count ∙ same)
+round_behind who name at old mid new before between now turns (Err ends.Worn) looked same (still, count) =
+    (record { written = Keeps-trans _ _ _ looked.written still.written; asked = still.asked ∙ looked.asked }, count ∙ same)
+round_behind who name at old mid new before between now turns (Err ends.NoMemory) looked same ((given, unsent), count) = (
+  (given, record { hello = asked_behind who at given old mid new looked unsent.hello; written = Keeps-trans _ _ _ looked.written unsent.written }),
+  count ∙ same,
+)
+round_behind who name at old mid new before between now turns (Err ends.ReadFault) looked same e = absurd e
+round_behind who name at old mid new before between now turns (Err ends.BadMessage) looked same e = absurd e
 
 -- the stream begins where the request was read
 pub stream_from : (who : Asker) (name : List ℕ) (from : Whereabouts) (old mid new : Stand NodeEntry) (turns : ℕ) (end : SessionEnd) → Keeps old.place.taken mid.place.taken

@@ -72,14 +72,14 @@ pub record IsUnsent (who : Asker) (at : Standing) (given : Answer) (old new : Pl
   pub written : Keeps old.taken new.taken
 
 -- what became of one Hello, and of the count of faults. The stream goes on, standing so; or it is at its end, since the Hello was
--- refused; or its answer was not sent whole; or it was not asked
+-- refused; or its answer was not sent whole; or it was not asked, or its follower was found gone before it was asked
 abbrev pub EndsRound : Asker → List ℕ → Standing → Place NodeEntry → Place NodeEntry → ℕ → ℕ → ℕ → Result Standing SessionEnd → Type 0
 EndsRound who name at old new before now turns (Ok then) =
     (given : Answer) × IsRound who name at given old new × (goes_on given ≡ true) × (then ≡ next at given) × (now ≡ before)
 EndsRound who name at old new before now turns (Err ends.Closed) =
     (given : Answer) × IsRound who name at given old new × (goes_on given ≡ false) × (now ≡ before)
 EndsRound who name at old new before now turns (Err ends.WriteFault) =
-    (given : Answer) × IsHalfRound who name at given old new × Rose before now
+    (IsStill old new ⊎ ((given : Answer) × IsHalfRound who name at given old new)) × Rose before now
 EndsRound who name at old new before now turns (Err ends.Turns) =
     (IsStill old new ⊎ ((given : Answer) × IsHalfRound who name at given old new)) × (turns ≡ 0) × (now ≡ before)
 EndsRound who name at old new before now turns (Err ends.Worn) = IsStill old new × (now ≡ before)
