@@ -7,6 +7,8 @@ mod asking;
 #[cfg(test)]
 mod commands;
 #[cfg(test)]
+mod databases;
+#[cfg(test)]
 mod ended;
 #[cfg(test)]
 mod files;

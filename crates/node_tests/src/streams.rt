@@ -244,16 +244,6 @@ const ROWS: &[Row] = &[
         ..CLOSED
     },
     Row {
-        input: b"GET /export?name=app HTTP/1.1\r\n\r\n",
-        written: &[NOT_FOUND],
-        ..CLOSED
-    },
-    Row {
-        input: b"POST /import?name=app HTTP/1.1\r\nContent-Length: 3\r\n\r\nabc",
-        written: &[NOT_FOUND],
-        ..CLOSED
-    },
-    Row {
         input: b"POST /lease HTTP/1.1\r\nContent-Length: 2\r\n\r\n{}",
         written: &[NOT_FOUND],
         ..CLOSED

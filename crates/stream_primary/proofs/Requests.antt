@@ -1,5 +1,5 @@
 -- Requests that were read, and what is served behind them.
-use Rattle.std.proofs.Common.{◌≡◌, ◌⊎◌, inl, inr, ℕ, true, ◌+◌, ◌<◌, ◌≤◌, List, [], ◌++◌, length, drop, Option, Some, None, Err, refl, sym, ap, ◌∙◌, subst, arith}
+use Rattle.std.proofs.Common.{◌≡◌, ◌⊎◌, inl, inr, ℕ, true, ◌+◌, ◌<◌, ◌≤◌, List, [], ◌∷◌, ◌++◌, length, drop, Option, Some, None, Err, refl, sym, ap, ◌∙◌, subst, arith}
 use Rattle.std.specs.Io.KnownBytes.{Appends, Keeps}
 use Rattle.std.proofs.KnownBytes.{Consumes-kept, Keeps-trans}
 use Rattle.std.proofs.lemmas.List.{length-drop, length-take-le}
@@ -10,6 +10,9 @@ use Rattle.lf_base.specs.declared.session_end.SessionEnd.{SessionEnd}
 use Rattle.lf_base.specs.declared.session_end.SessionEnd.TheVariants as ends
 use Rattle.link_session.specs.Reading.{EndsReading}
 use Rattle.link_session.specs.Stands.{Asker, IsStill, Stand}
+use Rattle.turn_desk.specs.History.{entry}
+use Rattle.node_core.specs.declared.ask.Ask.{Ask}
+use Rattle.node_core.specs.declared.ask.Ask.TheVariants as ask
 use Rattle.stream_wire.specs.declared.call.Call.{Call}
 use Rattle.stream_wire.specs.declared.call.Call.TheVariants as call
 use Rattle.stream_wire.specs.Head.{NeverTakesRequest}
@@ -24,7 +27,9 @@ use Rattle.http_exchange.specs.declared.wants.Wants.{Ghosts as WantsGhosts}
 use Rattle.http_exchange.specs.Called.{HasBody, IsPart, LeavesUnread, PassesOver, WasCalled, body_in}
 use Rattle.http_exchange.specs.Writing.{reply}
 use Rattle.stream_primary.specs.declared.stream_call.Wish.TheVariants as wish
+use Rattle.stream_primary.specs.Asking.{ServesAsk, answer_reply, answered, never_asked}
 use Rattle.stream_primary.specs.Calls.{Serves, kept_of}
+use Rattle.stream_primary.specs.DatabaseCalls.{ServesExport, ServesImport, export_elsewhere, exporting, import_elsewhere, importing}
 use Rattle.stream_primary.specs.Refusing.{AnswersUnasked, EndsReply}
 use Rattle.stream_primary.specs.Request.{CameOf, CameOfRequest, Request, WasHeard, WasRead}
 use Rattle.stream_primary.specs.StreamCall.{ServesStream, Wants, no_line, other_database, starving, streaming}
@@ -95,14 +100,14 @@ pub long_body : (line : List ℕ) → 99 < length line → IsNoStreamLine line
 long_body line long = λ name pos is fits e. absurd omega (arith, line_length line name pos e, is.fits.1, long)
 
 -- a body that was passed over; none is left unread
-pub unkept_line : (name : List ℕ) (request : Request) (called : Called) → CameOfRequest (kept.Line 99) request called → (called.body ≡ body.Passed) ⊎ (called.body ≡ body.Unread)
+pub unkept_line : (name : List ℕ) (request : Request) (b : Body) → CameOf (kept.Line 99) request.body b → (b ≡ body.Passed) ⊎ (b ≡ body.Unread)
     → Wants name request wish.NoLine
-unkept_line name request called came (inl is) = long_body request.body (subst (λ (b : Body). CameOf (kept.Line 99) request.body b) is came.body)
-unkept_line name request called came (inr is) = absurd (subst (λ (b : Body). CameOf (kept.Line 99) request.body b) is came.body)
+unkept_line name request b came (inl is) = long_body request.body (subst (λ (b : Body). CameOf (kept.Line 99) request.body b) is came)
+unkept_line name request b came (inr is) = absurd (subst (λ (b : Body). CameOf (kept.Line 99) request.body b) is came)
 
 -- one that was kept
-pub whole_line : (line : List ℕ) (request : Request) (called : Called) → CameOfRequest (kept.Line 99) request called → called.body ≡ body.Whole line → line ≡ request.body
-whole_line line request called came is = subst (λ (b : Body). CameOf (kept.Line 99) request.body b) is came.body
+pub whole_line : (line : List ℕ) (request : Request) (b : Body) → CameOf (kept.Line 99) request.body b → b ≡ body.Whole line → line ≡ request.body
+whole_line line request b came is = subst (λ (b : Body). CameOf (kept.Line 99) request.body b) is came
 
 -- the line of another database
 pub wants_other : (name other : List ℕ) (request : Request) (pos : Pos) → (other ≡ name → ⊥) → IsName other → request.body ≡ stream_line other pos → Wants name request wish.OtherDatabase
@@ -141,14 +146,34 @@ stream_behind who name request old mid new turns end read (no_line wants a) = no
 stream_behind who name request old mid new turns end read (starving is still count) =
     starving is (record { written = Keeps-trans _ _ _ read.still.written still.written; asked = still.asked ∙ read.still.asked }) (count ∙ read.count)
 
+ask_behind : (caller : ℕ) (asked : Ask) (old mid new : Stand NodeEntry) (turns : ℕ) (end : SessionEnd) → OnlyRead old mid → ServesAsk caller asked mid new turns end
+    → ServesAsk caller asked old new turns end
+ask_behind caller asked old mid new turns end read (answered given entries sent) =
+    answered given (entries ∙ ap (λ (es : List NodeEntry). es ++ entry caller asked given ∷ []) read.still.asked)
+    (replied (answer_reply given) old.place.taken mid.place.taken new.place.taken old.faults mid.faults new.faults turns end read.still.written read.count sent)
+ask_behind caller asked old mid new turns end read (never_asked why still count) =
+    never_asked why (record { written = Keeps-trans _ _ _ read.still.written still.written; asked = still.asked ∙ read.still.asked }) (count ∙ read.count)
+
+export_behind : (caller : ℕ) (name other : List ℕ) (old mid new : Stand NodeEntry) (turns : ℕ) (end : SessionEnd) → OnlyRead old mid
+    → ServesExport caller name other mid new turns end → ServesExport caller name other old new turns end
+export_behind caller name other old mid new turns end read (exporting same s) = exporting same (ask_behind caller ask.Export old mid new turns end read s)
+export_behind caller name other old mid new turns end read (export_elsewhere differs a) = export_elsewhere differs (unasked_behind (reply 404 []) old mid new turns end read a)
+
+import_behind : (who : Asker) (name other bytes : List ℕ) (old mid new : Stand NodeEntry) (turns : ℕ) (end : SessionEnd) → OnlyRead old mid
+    → ServesImport who name other bytes mid new turns end → ServesImport who name other bytes old new turns end
+import_behind who name other bytes old mid new turns end read (importing now same may s) =
+    importing now same may (ask_behind who.caller (ask.Import now bytes) old mid new turns end read s)
+import_behind who name other bytes old mid new turns end read (import_elsewhere differs a) =
+    import_elsewhere differs (unasked_behind (reply 404 []) old mid new turns end read a)
+
 pub serves_behind : (called : Call) (who : Asker) (name : List ℕ) (request : Request) (old mid new : Stand NodeEntry) (turns : ℕ) (end : SessionEnd) → OnlyRead old mid
     → Serves called who name request mid new turns end → Serves called who name request old new turns end
 serves_behind call.Stream who name request old mid new turns end read s = stream_behind who name request old mid new turns end read s
 serves_behind call.Halt who name request old mid new turns end read s = unasked_behind (reply 404 []) old mid new turns end read s
 serves_behind call.HaltBack who name request old mid new turns end read s = unasked_behind (reply 404 []) old mid new turns end read s
 serves_behind call.Tx who name request old mid new turns end read s = unasked_behind (reply 404 []) old mid new turns end read s
-serves_behind (call.Export other) who name request old mid new turns end read s = unasked_behind (reply 404 []) old mid new turns end read s
-serves_behind (call.Import other) who name request old mid new turns end read s = unasked_behind (reply 404 []) old mid new turns end read s
+serves_behind (call.Export other) who name request old mid new turns end read s = export_behind who.caller name other old mid new turns end read s
+serves_behind (call.Import other) who name request old mid new turns end read s = import_behind who name other request.body old mid new turns end read s
 serves_behind call.Lease who name request old mid new turns end read s = unasked_behind (reply 404 []) old mid new turns end read s
 serves_behind call.Other who name request old mid new turns end read s = unasked_behind (reply 404 []) old mid new turns end read s
 

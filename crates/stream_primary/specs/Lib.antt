@@ -3,6 +3,8 @@ pub mod Refusing
 pub mod Telling
 pub mod Streaming
 pub mod StreamCall
+pub mod Asking
+pub mod DatabaseCalls
 pub mod Calls
 pub mod Session
 pub mod OneRun

@@ -7,6 +7,7 @@ ghost use Rattle.link_session.specs.Stands.{asker, stand, AsksOn, Spends};
 ghost use Rattle.stream_primary.specs.Calls.{Serves, kept_of};
 ghost use Rattle.stream_primary.specs.Request.{CameOfRequest, Request};
 
+use crate::database_calls::{IMPORT_MAX, serve_export, serve_import};
 use crate::replies::refuse;
 use crate::stream_call::{LINE_MAX, serve_stream};
 use http_exchange::{Called, Kept, Wants};
@@ -33,7 +34,7 @@ impl Wants for Bodies {
             Call::HaltBack => Kept::Nothing,
             Call::Tx => Kept::Nothing,
             Call::Export { .. } => Kept::Nothing,
-            Call::Import { .. } => Kept::Nothing,
+            Call::Import { .. } => Kept::All(IMPORT_MAX),
             Call::Lease => Kept::Nothing,
             Call::Other => Kept::Nothing,
         }
@@ -48,22 +49,27 @@ pub fn serve_call<S: Steps<Ask = Ask, Answer = Answer>, L: Link, C: Clock, P: Pa
     link: &mut L,
     clock: &mut C,
     pause: &mut P,
-    called: &Called,
+    called: Called,
     turns: &mut Turns,
 ) -> SessionEnd
-    ensures serves { (request : Request) → CameOfRequest (kept_of request.call) request called.now → Serves request.call (asker S.Steps C.Clock steps.old clock.old) name.now request (stand L.Link link.old (S.entries steps.old)) (stand L.Link link.new (S.entries steps.new)) turns.new result }
+    ensures serves { (request : Request) → CameOfRequest (kept_of request.call) request called → Serves request.call (asker S.Steps C.Clock steps.old clock.old) name.now request (stand L.Link link.old (S.entries steps.old)) (stand L.Link link.new (S.entries steps.new)) turns.new result }
     ensures left { Keeps (L.left link.old) (L.left link.new) }
     ensures same { AsksOn S.Steps C.Clock steps.old steps.new clock.old clock.new }
     ensures spent { Spends {T = Unit {0}} turns.old (stand L.Link link.old (S.entries steps.old)) turns.new (stand L.Link link.new (S.entries steps.new)) (Err result) }
     ensures worn { result ≡ ends.Worn → S.is_worn steps.new }
 {
-    match &called.call {
-        Call::Stream => serve_stream(alloc, steps, name, link, clock, pause, called, turns),
+    let Called { head, call, body } = called;
+    match call {
+        Call::Stream => {
+            serve_stream(alloc, steps, name, link, clock, pause, &head, &body, turns)
+        }
         Call::Halt => refuse(alloc, link, NOT_FOUND, turns),
         Call::HaltBack => refuse(alloc, link, NOT_FOUND, turns),
         Call::Tx => refuse(alloc, link, NOT_FOUND, turns),
-        Call::Export { .. } => refuse(alloc, link, NOT_FOUND, turns),
-        Call::Import { .. } => refuse(alloc, link, NOT_FOUND, turns),
+        Call::Export { name: other } => serve_export(alloc, steps, name, link, &other, turns),
+        Call::Import { name: other } => {
+            serve_import(alloc, steps, name, link, clock, &other, body, turns)
+        }
         Call::Lease => refuse(alloc, link, NOT_FOUND, turns),
         Call::Other => refuse(alloc, link, NOT_FOUND, turns),
     }

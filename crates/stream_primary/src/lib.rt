@@ -1,14 +1,17 @@
 //! HTTP requests to the node, one a link.
 //!
 //! A request is read to the end of its body and served by its call: a call is one row of the tables in
-//! `calls`, a file that serves it, and a clause of `specs/Calls.antt`. The stream of the database is
-//! served; every other call is answered with status 404.
+//! `calls`, a file that serves it, and a clause of `specs/Calls.antt`. The stream of the database, its
+//! export and its import are served; every other call is answered with status 404.
 #![tactic(auto)]
 
+mod asking;
 mod calls;
+mod database_calls;
 mod ending;
 mod hello;
 mod laws;
+mod names;
 mod refusals;
 mod replies;
 mod seat;

@@ -1,14 +1,15 @@
 //! Replies that are no stream.
-ghost use Rattle.std.specs.Prelude.{◌≡◌, [], codes, Err};
+ghost use Rattle.std.specs.Prelude.{◌≡◌, [], codes, Err, IfOk};
 ghost use Rattle.std.specs.Io.KnownBytes.{Keeps};
 ghost use Rattle.http.specs.StatusCode.{IsStatusCode};
 ghost use Rattle.link_session.specs.Spending.{MovesFor};
 ghost use Rattle.http_exchange.specs.Writing.{reply};
+ghost use Rattle.stream_primary.specs.Asking.{answer_reply, position_line};
 ghost use Rattle.stream_primary.specs.Refusing.{refused_reply, too_long_reply, EndsReply};
 
 use crate::refusals::{line_of, status_of};
 use http_exchange::write_reply;
-use lf_base::{Link, SessionEnd};
+use lf_base::{Link, NoMemory, Pos, SessionEnd, pos_text};
 use link_session::Turns;
 use node_core::Answer;
 use std::alloc::Global;
@@ -61,6 +62,46 @@ pub fn refuse_answer<L: Link>(
         | Answer::Bytes(_)
         | Answer::Info(_) => say(alloc, link, 500, b"OddAnswer\n", turns),
     }
+}
+
+/// Answers a request for which the node was asked once.
+pub fn reply_to<L: Link>(
+    alloc: Global,
+    link: &mut L,
+    answer: &Answer,
+    turns: &mut Turns,
+) -> SessionEnd
+    ensures end { EndsReply (answer_reply answer.now) (L.taken link.old) (L.taken link.new) (L.faults link.old) (L.faults link.new) turns.new result }
+    ensures left { Keeps (L.left link.old) (L.left link.new) }
+    ensures spent { MovesFor {T = Unit {0}} (Err result) turns.old (L.moves link.old) turns.new (L.moves link.new) }
+{
+    match answer {
+        Answer::Bytes(bytes) => say(alloc, link, 200, bytes.as_slice(), turns),
+        Answer::Applied(pos) | Answer::Same(pos) => say_position(alloc, link, *pos, turns),
+        Answer::Held(_) => say(alloc, link, 409, b"Held\n", turns),
+        _ => refuse_answer(alloc, link, answer, turns),
+    }
+}
+
+/// Answers with the position at which the database stands now.
+fn say_position<L: Link>(alloc: Global, link: &mut L, pos: Pos, turns: &mut Turns) -> SessionEnd
+    ensures end { EndsReply (reply 200 (position_line pos)) (L.taken link.old) (L.taken link.new) (L.faults link.old) (L.faults link.new) turns.new result }
+    ensures left { Keeps (L.left link.old) (L.left link.new) }
+    ensures spent { MovesFor {T = Unit {0}} (Err result) turns.old (L.moves link.old) turns.new (L.moves link.new) }
+{
+    match position_line(alloc, pos) {
+        Ok(line) => say(alloc, link, 200, line.as_slice(), turns),
+        Err(_) => SessionEnd::NoMemory,
+    }
+}
+
+/// A position as a line.
+fn position_line(alloc: Global, pos: Pos) -> Result<Vec<u8>, NoMemory>
+    ensures { IfOk result (λ line. line.items ≡ position_line pos) }
+{
+    let mut line = Vec::from_slice(alloc, &pos_text(pos))?;
+    line.push(b'\n')?;
+    Ok(line)
 }
 
 /// Writes a reply, which ends the session.

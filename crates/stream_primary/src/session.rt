@@ -53,7 +53,7 @@ fn converse<S: Steps<Ask = Ask, Answer = Answer>, L: Link, C: Clock, P: Pause>(
     if is_unread(&called.body) {
         return refuse_too_long(alloc, link, turns);
     }
-    serve_call(alloc, steps, name, link, clock, pause, &called, turns)
+    serve_call(alloc, steps, name, link, clock, pause, called, turns)
 }
 
 /// Whether the body is longer than its call keeps.

@@ -1,18 +1,19 @@
 //! `POST /stream`: the stream of the database, to a follower.
-ghost use Rattle.std.specs.Prelude.{◌≡◌, Err, IfOk, MatchBool};
+ghost use Rattle.std.specs.Prelude.{◌≡◌, Err, IfOk};
 ghost use Rattle.std.specs.Io.KnownBytes.{Keeps};
 ghost use Rattle.lf_base.specs.Name.{IsName};
 ghost use Rattle.lf_base.specs.declared.session_end.SessionEnd.TheVariants as ends;
 ghost use Rattle.link_session.specs.Stands.{asker, stand, AsksOn, Spends};
 ghost use Rattle.stream_wire.specs.StreamLine.{stream_line};
 ghost use Rattle.http_exchange.specs.declared.wants.Kept.TheVariants as kept;
-ghost use Rattle.stream_primary.specs.Request.{CameOfRequest, Request};
+ghost use Rattle.stream_primary.specs.Request.{CameOf, Request};
 ghost use Rattle.stream_primary.specs.StreamCall.{heard, Says, ServesStream, Wants, line_max};
 
+use crate::names::is_same;
 use crate::replies::refuse;
 use crate::streaming::stream;
-use http_exchange::{Body, Called};
-use lf_base::{Clock, Link, Name, NoMemory, Pause, Pos, SessionEnd};
+use http_exchange::Body;
+use lf_base::{Bytes, Clock, Link, Name, NoMemory, Pause, Pos, SessionEnd};
 use link_session::{Steps, Turns};
 use node_core::{Answer, Ask, Whereabouts};
 use std::alloc::Global;
@@ -47,18 +48,19 @@ pub fn serve_stream<S: Steps<Ask = Ask, Answer = Answer>, L: Link, C: Clock, P: 
     link: &mut L,
     clock: &mut C,
     pause: &mut P,
-    called: &Called,
+    head: &Bytes,
+    body: &Body,
     turns: &mut Turns,
 ) -> SessionEnd
-    ensures serves { (request : Request) → CameOfRequest (kept.Line line_max) request called.now → ServesStream (asker S.Steps C.Clock steps.old clock.old) name.now request (stand L.Link link.old (S.entries steps.old)) (stand L.Link link.new (S.entries steps.new)) turns.new result }
+    ensures serves { (request : Request) → head.now ≡ request.head → CameOf (kept.Line line_max) request.body body.now → ServesStream (asker S.Steps C.Clock steps.old clock.old) name.now request (stand L.Link link.old (S.entries steps.old)) (stand L.Link link.new (S.entries steps.new)) turns.new result }
     ensures left { Keeps (L.left link.old) (L.left link.new) }
     ensures same { AsksOn S.Steps C.Clock steps.old steps.new clock.old clock.new }
     ensures spent { Spends {T = Unit {0}} turns.old (stand L.Link link.old (S.entries steps.old)) turns.new (stand L.Link link.new (S.entries steps.new)) (Err result) }
     ensures worn { result ≡ ends.Worn → S.is_worn steps.new }
 {
-    match wish_of(alloc, name, called) {
+    match wish_of(alloc, name, body) {
         Ok(Wish::Stream(pos)) => {
-            let last = last_in(called.head.as_slice());
+            let last = last_in(head.as_slice());
             let from = Whereabouts { pos, last };
             stream(alloc, steps, name, link, clock, pause, from, turns)
         }
@@ -86,11 +88,11 @@ fn heard(said: Option<Said>) -> Option<LastFile>
     }
 }
 
-/// What a request for a stream asks, by its head and its body.
-fn wish_of(alloc: Global, name: &Name, called: &Called) -> Result<Wish, NoMemory>
-    ensures { (request : Request) → CameOfRequest (kept.Line line_max) request called.now → IfOk result (Wants name.now request) }
+/// What a request for a stream asks, by its body.
+fn wish_of(alloc: Global, name: &Name, body: &Body) -> Result<Wish, NoMemory>
+    ensures { (request : Request) → CameOf (kept.Line line_max) request.body body.now → IfOk result (Wants name.now request) }
 {
-    match &called.body {
+    match body {
         Body::Whole(line) => wish_in(alloc, name, line.as_slice()),
         Body::Passed | Body::Unread => Ok(Wish::NoLine),
     }
@@ -111,15 +113,9 @@ fn wish_in(alloc: Global, name: &Name, body: &[u8]) -> Result<Wish, NoMemory>
 fn wish_by(name: &Name, other: &Name, pos: Pos) -> Wish
     ensures { (request : Request) → IsName other.now → request.body ≡ stream_line other.now pos → Wants name.now request result }
 {
-    if is_same(other.bytes(), name.bytes()) {
+    if is_same(other, name) {
         Wish::Stream(pos)
     } else {
         Wish::OtherDatabase
     }
-}
-
-fn is_same(bytes: &[u8], others: &[u8]) -> bool
-    ensures { MatchBool result (bytes.now ≡ others.now) (bytes.now ≡ others.now → ⊥) }
-{
-    bytes == others
 }

@@ -5,5 +5,15 @@ use Rattle.stream_primary.proofs.calls.serve_call.Goals as goal
 
 pub returns-in-Stream-clause-serves : goal.returns-in-Stream-clause-serves
 returns-in-Stream-clause-serves g c = λ request came.
-    by_row call.Stream c.args.called.now (asker g.S.Steps g.C.Clock c.args.steps.now c.args.clock.now) c.args.name.now request (stand g.L.Link c.args.link.now (g.S.Steps.entries c.args.steps.now))
-    (stand g.L.Link c.serve_stream.new.link (g.S.Steps.entries c.serve_stream.new.steps)) c.serve_stream.new.turns c.serve_stream.result c.in-Stream.is came (c.serve_stream.ensures.serves request)
+    by_row call.Stream c.args.called (asker g.S.Steps g.C.Clock c.args.steps.now c.args.clock.now) c.args.name.now request (stand g.L.Link c.args.link.now (g.S.Steps.entries c.args.steps.now))
+    (stand g.L.Link c.serve_stream.new.link (g.S.Steps.entries c.serve_stream.new.steps)) c.serve_stream.new.turns c.serve_stream.result c.in-Stream.is came (λ came. c.serve_stream.ensures.serves request came.head came.body)
+
+pub returns-in-Export-clause-serves : goal.returns-in-Export-clause-serves
+returns-in-Export-clause-serves g c = λ request came.
+    by_row (call.Export c.in-Export.other) c.args.called (asker g.S.Steps g.C.Clock c.args.steps.now c.args.clock.now) c.args.name.now request (stand g.L.Link c.args.link.now (g.S.Steps.entries c.args.steps.now))
+    (stand g.L.Link c.serve_export.new.link (g.S.Steps.entries c.serve_export.new.steps)) c.serve_export.new.turns c.serve_export.result c.in-Export.is came (λ came. c.serve_export.ensures.serves)
+
+pub returns-in-Import-clause-serves : goal.returns-in-Import-clause-serves
+returns-in-Import-clause-serves g c = λ request came.
+    by_row (call.Import c.in-Import.other) c.args.called (asker g.S.Steps g.C.Clock c.args.steps.now c.args.clock.now) c.args.name.now request (stand g.L.Link c.args.link.now (g.S.Steps.entries c.args.steps.now))
+    (stand g.L.Link c.serve_import.new.link (g.S.Steps.entries c.serve_import.new.steps)) c.serve_import.new.turns c.serve_import.result c.in-Import.is came (λ came. c.serve_import.ensures.serves request.body came.body)

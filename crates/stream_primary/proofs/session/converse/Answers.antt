@@ -15,3 +15,13 @@ returns-clause-ends g c =
     (stand g.L.Link c.serve_call.new.link (g.S.Steps.entries c.serve_call.new.steps)) c.serve_call.new.turns c.serve_call.result
     (record { still = record { written = c.in-Ok.ensures.taken; asked = refl }; count = c.in-Ok.ensures.cause })
     (c.serve_call.ensures.serves request came))
+
+pub returns-then-is_unread-clause-ends : goal.returns-then-is_unread-clause-ends
+returns-then-is_unread-clause-ends g c =
+    too_long c.in-Ok.called.call c.in-Ok.ensures.read.len
+    (was_heard _ _ (g.L.Link.left c.args.link.now) (g.L.Link.left c.read_call.new.link) (g.L.Link.left c.refuse_too_long.new.link) c.in-Ok.called c.in-Ok.ensures.read c.refuse_too_long.ensures.left)
+    (is_unread _ _ (g.L.Link.left c.args.link.now) (g.L.Link.left c.read_call.new.link) c.in-Ok.called refl c.in-Ok.ensures.read c.if-is_unread.ensures)
+    (unasked_behind too_long_reply (stand g.L.Link c.args.link.now (g.S.Steps.entries c.args.steps.now)) (stand g.L.Link c.read_call.new.link (g.S.Steps.entries c.args.steps.now))
+    (stand g.L.Link c.refuse_too_long.new.link (g.S.Steps.entries c.args.steps.now)) c.refuse_too_long.new.turns c.refuse_too_long.result
+    (record { still = record { written = c.in-Ok.ensures.taken; asked = refl }; count = c.in-Ok.ensures.cause })
+    (record { written = c.refuse_too_long.ensures.end; unasked = refl }))
