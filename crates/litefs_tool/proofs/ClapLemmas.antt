@@ -16,10 +16,10 @@ use Rattle.clap.specs.Simple.{built_leaf, inherited, names_of, new_shape}
 use Rattle.clap.specs.Walk.{Held, Names, Outcome, Step, Walk, after_flag, bundle_met, bundle_step, idle, long_or_other, nothing_held, plain, short_or_plain, subcommand_met}
 use Rattle.clap.specs.Walk.{value, walk, walk_from, walked}
 use Rattle.clap.proofs.OnLiterals.{clap_on_literals}
-use Rattle.litefs_tool.specs.Command.{arguments_of, command_name}
-use Rattle.litefs_tool.specs.steps.CommandLine.{bare, program}
-use Rattle.litefs_tool.specs.declared.command.Command.{Command}
-use Rattle.litefs_tool.specs.declared.command.Command.TheVariants.{Apply, Compact, Mount, Lease}
+use Rattle.litefs_tool.specs.Words.{name_text}
+use Rattle.litefs_tool.specs.steps.CommandLine.{arguments_of, bare, program}
+use Rattle.litefs_tool.specs.declared.naming.CommandName.{CommandName}
+use Rattle.litefs_tool.specs.declared.naming.CommandName.TheVariants.{Apply, Compact, Mount, Lease, Export, Import}
 
 -- ---- words that are written out
 
@@ -30,19 +30,23 @@ pub is_simple_program : is_simple_and_free program ≡ true
 unfolding clap_on_literals
 is_simple_program = refl
 
-pub takes_command : (command : Command) → takes program (arguments_of command) ≡ true
+pub takes_command : (command : CommandName) → takes program (arguments_of command) ≡ true
 unfolding clap_on_literals
 takes_command Apply = refl
 takes_command Compact = refl
 takes_command Mount = refl
 takes_command Lease = refl
+takes_command Export = refl
+takes_command Import = refl
 
-pub names_command : (command : Command) → name_in (subcommand_of program (arguments_of command)) ≡ Some (command_name command)
+pub names_command : (command : CommandName) → name_in (subcommand_of program (arguments_of command)) ≡ Some (name_text command)
 unfolding clap_on_literals
 names_command Apply = refl
 names_command Compact = refl
 names_command Mount = refl
 names_command Lease = refl
+names_command Export = refl
+names_command Import = refl
 
 pub names_none : name_in (subcommand_of program []) ≡ None
 unfolding clap_on_literals
@@ -131,13 +135,15 @@ names = names_of (built program)
 abbrev leaf : Text → Shape
 leaf name = built_leaf (inherited (bare (new_shape (codes "litefs"))) (new_shape name))
 
-entered_faults : (command : Command) (word : Text) (rest : List Text) → bytes_eq word dashes ≡ false
-    → IsFault (entered_fault (built program) (Some (command_name command, word ∷ rest)))
+entered_faults : (command : CommandName) (word : Text) (rest : List Text) → bytes_eq word dashes ≡ false
+    → IsFault (entered_fault (built program) (Some (name_text command, word ∷ rest)))
 unfolding clap_on_literals
 entered_faults Apply word rest other = first_faults _ _ (walk_faults (leaf (codes "apply")) [] word rest refl other)
 entered_faults Compact word rest other = first_faults _ _ (walk_faults (leaf (codes "compact")) [] word rest refl other)
 entered_faults Mount word rest other = first_faults _ _ (walk_faults (leaf (codes "mount")) [] word rest refl other)
 entered_faults Lease word rest other = first_faults _ _ (walk_faults (leaf (codes "lease")) [] word rest refl other)
+entered_faults Export word rest other = first_faults _ _ (walk_faults (leaf (codes "export")) [] word rest refl other)
+entered_faults Import word rest other = first_faults _ _ (walk_faults (leaf (codes "import")) [] word rest refl other)
 
 -- a walk that stopped at a subcommand hands it the words that are left
 hands_down : (rules : List Rule) (known : Names) (stood : Walk) (name : Text) (handed rest : List Text)
@@ -147,15 +153,17 @@ hands_down rules known stood name handed [] = ap (λ words. Some (name, words)) 
 hands_down rules known stood name handed (word ∷ rest) =
     hands_down rules known stood name (handed ++ word ∷ []) rest ∙ ap (λ words. Some (name, words)) (append_assoc handed (word ∷ []) rest)
 
-stops : (command : Command) (word : Text) (rest : List Text)
-    → (walk top.rules names nothing_held (command_name command ∷ word ∷ rest)).stopped ≡ Some (command_name command, word ∷ rest)
+stops : (command : CommandName) (word : Text) (rest : List Text)
+    → (walk top.rules names nothing_held (name_text command ∷ word ∷ rest)).stopped ≡ Some (name_text command, word ∷ rest)
 unfolding clap_on_literals
 stops Apply word rest = hands_down [] names (walk_from nothing_held) (codes "apply") (word ∷ []) rest
 stops Compact word rest = hands_down [] names (walk_from nothing_held) (codes "compact") (word ∷ []) rest
 stops Mount word rest = hands_down [] names (walk_from nothing_held) (codes "mount") (word ∷ []) rest
 stops Lease word rest = hands_down [] names (walk_from nothing_held) (codes "lease") (word ∷ []) rest
+stops Export word rest = hands_down [] names (walk_from nothing_held) (codes "export") (word ∷ []) rest
+stops Import word rest = hands_down [] names (walk_from nothing_held) (codes "import") (word ∷ []) rest
 
-more_faults : (command : Command) (word : Text) (rest : List Text) → bytes_eq word dashes ≡ false → IsFault (fault_of program (command_name command ∷ word ∷ rest))
+more_faults : (command : CommandName) (word : Text) (rest : List Text) → bytes_eq word dashes ≡ false → IsFault (fault_of program (name_text command ∷ word ∷ rest))
 more_faults command word rest other =
     let entered = subst (λ stop. IsFault (entered_fault (built program) stop)) (sym (stops command word rest)) (entered_faults command word rest other) in
     next_faults _ _ (first_faults _ _ entered)
@@ -169,7 +177,7 @@ same_or_other name word = go (bytes_eq name word) (bytes_eq-Decides name word)
     go true decides = inl (decides.0 refl)
     go false decides = inr refl
 
-named_or_unmet : (word : Text) → ((command : Command) × (word ≡ command_name command)) ⊎ (subcommand_met names idle word ≡ None)
+named_or_unmet : (word : Text) → ((command : CommandName) × (word ≡ name_text command)) ⊎ (subcommand_met names idle word ≡ None)
 named_or_unmet word = elim (same_or_other (codes "apply") word) [
   | inl is ↦ inl (Apply, sym is)
   | inr not_apply ↦ elim (same_or_other (codes "compact") word) [
@@ -178,7 +186,13 @@ named_or_unmet word = elim (same_or_other (codes "apply") word) [
       | inl is ↦ inl (Mount, sym is)
       | inr not_mount ↦ elim (same_or_other (codes "lease") word) [
         | inl is ↦ inl (Lease, sym is)
-        | inr not_lease ↦ inr (rw (not_apply, not_compact, not_mount, not_lease) refl)
+        | inr not_lease ↦ elim (same_or_other (codes "export") word) [
+          | inl is ↦ inl (Export, sym is)
+          | inr not_export ↦ elim (same_or_other (codes "import") word) [
+            | inl is ↦ inl (Import, sym is)
+            | inr not_import ↦ inr (rw (not_apply, not_compact, not_mount, not_lease, not_export, not_import) refl)
+          ]
+        ]
       ]
     ]
   ]
@@ -187,25 +201,27 @@ named_or_unmet word = elim (same_or_other (codes "apply") word) [
 abbrev pub has_dashes : List Text → Bool
 has_dashes words = list_any (λ word. bytes_eq word dashes) words
 
-pub undashed_command : (command : Command) → has_dashes (arguments_of command) ≡ false
+pub undashed_command : (command : CommandName) → has_dashes (arguments_of command) ≡ false
 undashed_command Apply = refl
 undashed_command Compact = refl
 undashed_command Mount = refl
 undashed_command Lease = refl
+undashed_command Export = refl
+undashed_command Import = refl
 
 neither : (a b : Bool) → (a || b) ≡ false → (a ≡ false) × (b ≡ false)
 neither true b h = absurd (true≢false h)
 neither false b h = (refl, h)
 
 -- words without `--` at which clap finds no fault are none, or a command's
-pub faultless : (words : List Text) → has_dashes words ≡ false → fault_of program words ≡ [] → (words ≡ []) ⊎ (command : Command) × (words ≡ arguments_of command)
+pub faultless : (words : List Text) → has_dashes words ≡ false → fault_of program words ≡ [] → (words ≡ []) ⊎ (command : CommandName) × (words ≡ arguments_of command)
 faultless [] undashed none = inl refl
 faultless (word ∷ rest) undashed none = elim (named_or_unmet word) [
   | inl is ↦ inr (is.0, alone is.0 is.1 rest (neither _ _ undashed).1 none)
   | inr unmet ↦ absurd (no_fault _ none (first_faults _ _ (walk_faults top names word rest unmet (neither _ _ undashed).0)))
 ]
   where
-    alone : (command : Command) → word ≡ command_name command → (rest : List Text) → has_dashes rest ≡ false → fault_of program (word ∷ rest) ≡ []
+    alone : (command : CommandName) → word ≡ name_text command → (rest : List Text) → has_dashes rest ≡ false → fault_of program (word ∷ rest) ≡ []
         → word ∷ rest ≡ arguments_of command
     alone command is [] undashed none = ap (λ name. name ∷ []) is
     alone command is (next ∷ rest) undashed none =

@@ -1,4 +1,5 @@
 pub mod AnswerLemmas
+pub mod AskLemmas
 pub mod ApplyingLemmas
 pub mod ClapLemmas
 pub mod CommandLineLemmas
@@ -11,3 +12,4 @@ pub mod OutputLemmas
 pub mod PerformLemmas
 pub mod RunLemmas
 pub mod ConsumerLemmas
+pub mod OptionLemmas

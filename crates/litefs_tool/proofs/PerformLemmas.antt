@@ -11,7 +11,8 @@ use Rattle.ltx_codec.specs.declared.file.Ltx.{Ltx}
 use Rattle.litefs_tool.specs.Compaction.{MayRefuse, Become}
 use Rattle.litefs_tool.specs.Files.{MakesOf}
 use Rattle.litefs_tool.specs.Output.{AppendsPrefix}
-use Rattle.litefs_tool.specs.Run.{Stream, Gives, Holds, Fails, CommandOutcome, input_limit}
+use Rattle.litefs_tool.specs.Run.{CommandOutcome}
+use Rattle.litefs_tool.specs.Streams.{Stream, Gives, Holds, Fails, input_limit}
 use Rattle.litefs_tool.specs.steps.Failure.{status_of_failure, name_of_failure}
 use Rattle.litefs_tool.specs.steps.Input.{ReadsWhole, LosesBytes, CountsCause}
 use Rattle.litefs_tool.specs.steps.Performing.{Performs}

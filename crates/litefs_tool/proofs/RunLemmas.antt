@@ -1,17 +1,26 @@
 -- Whole runs.
-use Rattle.std.proofs.Common.{◌≡◌, ℕ, List, [], Result, Ok, Err, OnOk, OnErr, inl, inr, refl}
-use Rattle.std.proofs.KnownBytes.{Appends-nil}
+use Rattle.std.proofs.Common.{◌≡◌, ◌∙◌, ◌⊎◌, ℕ, List, Option, Some, Result, Ok, Err, OnOk, OnErr, inl, inr, refl, sym, ap, subst, get_or, arith}
 use Rattle.lf_base.specs.Faults.{CountsFaults}
-use Rattle.litefs_tool.specs.Command.{arguments_of, IsOverStreams}
+use Rattle.litefs_tool.specs.Command.{IsOverStreams, IsServing}
 use Rattle.litefs_tool.specs.Output.{AppendsPrefix}
-use Rattle.litefs_tool.specs.Run.{over_streams, Backs, CommandOutcome, Outside, Says, Stream, Takes}
+use Rattle.litefs_tool.specs.Run.{over_streams, Backs, CommandOutcome, LeavesApart, Outside, Says, UsesMaker}
+use Rattle.litefs_tool.specs.Streams.{Stream, Takes}
+use Rattle.litefs_tool.specs.Words.{IsReadAs, Spells, Words, name_of, name_text}
 use Rattle.litefs_tool.specs.steps.Performing.{Goes, Performs}
 use Rattle.litefs_tool.specs.declared.command.Command.{Command}
+use Rattle.litefs_tool.specs.declared.command.Command.TheVariants.{Apply, Compact, Mount, Lease, Export, Import}
 use Rattle.litefs_tool.specs.declared.failure.Failure.{Failure}
+use Rattle.litefs_tool.specs.declared.remote.Remote.{Remote}
+use Rattle.litefs_tool.proofs.OptionLemmas.{first_of}
+
+-- the arguments that were read are this command's
+pub spelled_by : (arguments : Words) (read : Option Command) (met command : Command) → read ≡ Some met → met ≡ command → IsReadAs arguments read
+    → Spells arguments command
+spelled_by arguments read met command is met_is reads = subst (Spells arguments) met_is (subst (IsReadAs arguments) is reads)
 
 -- a command over streams is a run
 pub goes : (backs : Backs) (arguments : List (List ℕ)) (outside : Outside) (command : Command) (result : Result (Unit {0}) Failure)
-    → arguments ≡ arguments_of command → IsOverStreams command → Performs (CommandOutcome command) outside.input outside.output result
+    → Spells arguments command → IsOverStreams command → Performs (CommandOutcome command) outside.input outside.output result
     → Goes backs arguments outside result
 goes backs arguments outside command result is over p = over_streams p.0 p.1 p.2 (inr (command, is, over, p.3))
 
@@ -20,3 +29,66 @@ pub said : {T E : Type 0} (r : Result T E) (errors : Stream) (bytes : List ℕ) 
     → CountsFaults errors.faults errors.faults_after r → Says errors bytes
 said (Ok x) errors bytes whole part counts = inl (counts, whole)
 said (Err e) errors bytes whole part counts = inr (counts, part)
+
+-- ---- what a run leaves
+
+-- arguments of two commands begin with both names
+same_name : (arguments : Words) (command other : Command) → Spells arguments command → Spells arguments other
+    → name_text (name_of command) ≡ name_text (name_of other)
+same_name arguments command other spelled too = ap first_of (sym spelled.1 ∙ too.1)
+
+-- a command that serves begins by `m` or `l`
+serving_letter : (other : Command) → IsServing other → (get_or (name_text (name_of other)) 0 0 ≡ 109) ⊎ (get_or (name_text (name_of other)) 0 0 ≡ 108)
+serving_letter Mount serves = inl refl
+serving_letter Lease serves = inr refl
+serving_letter Apply serves = absurd serves
+serving_letter Compact serves = absurd serves
+serving_letter (Export remote) serves = absurd serves
+serving_letter (Import remote) serves = absurd serves
+
+exports_or_serves : (arguments : Words) (remote : Remote) (other : Command) → Spells arguments (Export remote) → Spells arguments other → IsServing other → ⊥
+exports_or_serves arguments remote other spelled too serves =
+    let letter : 101 ≡ get_or (name_text (name_of other)) 0 0 = ap (λ n. get_or n 0 0) (same_name arguments (Export remote) other spelled too) in
+    elim (serving_letter other serves) [ inl m ↦ absurd (omega (arith, letter, m)) | inr l ↦ absurd (omega (arith, letter, l)) ]
+
+imports_or_serves : (arguments : Words) (remote : Remote) (other : Command) → Spells arguments (Import remote) → Spells arguments other → IsServing other → ⊥
+imports_or_serves arguments remote other spelled too serves =
+    let letter : 105 ≡ get_or (name_text (name_of other)) 0 0 = ap (λ n. get_or n 0 0) (same_name arguments (Import remote) other spelled too) in
+    elim (serving_letter other serves) [ inl m ↦ absurd (omega (arith, letter, m)) | inr l ↦ absurd (omega (arith, letter, l)) ]
+
+imports_or_exports : (arguments : Words) (remote other : Remote) → Spells arguments (Import remote) → Spells arguments (Export other) → ⊥
+imports_or_exports arguments remote other spelled too =
+    let letters : 105 ≡ 101 = ap (λ n. get_or n 0 0) (same_name arguments (Import remote) (Export other) spelled too) in
+    absurd (omega (arith, letters))
+
+module _ {I O G M : Type 0} (arguments : Words) where
+  -- a command that serves
+  pub leaves_serving : (command : Command) → Spells arguments command → IsServing command → UsesMaker command
+      → (input : I) (output : O) (config config_after : G) (make make_after : M)
+      → LeavesApart arguments input input output output config config_after make make_after
+  leaves_serving command spelled serves uses input output config config_after make make_after = record {
+    unconfigured = λ none. absurd (none command spelled serves);
+    alone = λ none. absurd (none command spelled uses);
+    serving = λ other too also. (refl, refl);
+    exporting = λ remote too. refl;
+  }
+
+  pub leaves_exporting : (remote : Remote) → Spells arguments (Export remote)
+      → (input : I) (output output_after : O) (config : G) (make make_after : M)
+      → LeavesApart arguments input input output output_after config config make make_after
+  leaves_exporting remote spelled input output output_after config make make_after = record {
+    unconfigured = λ none. refl;
+    alone = λ none. absurd (none (Export remote) spelled (λ over. over));
+    serving = λ other too also. absurd (exports_or_serves arguments remote other spelled too also);
+    exporting = λ other too. refl;
+  }
+
+  pub leaves_importing : (remote : Remote) → Spells arguments (Import remote)
+      → (input input_after : I) (output output_after : O) (config : G) (make make_after : M)
+      → LeavesApart arguments input input_after output output_after config config make make_after
+  leaves_importing remote spelled input input_after output output_after config make make_after = record {
+    unconfigured = λ none. refl;
+    alone = λ none. absurd (none (Import remote) spelled (λ over. over));
+    serving = λ other too also. absurd (imports_or_serves arguments remote other spelled too also);
+    exporting = λ other too. absurd (imports_or_exports arguments remote other spelled too);
+  }

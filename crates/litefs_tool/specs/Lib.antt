@@ -1,3 +1,4 @@
+pub mod Asking
 pub mod Command
 pub mod CompactRefusal
 pub mod Compaction
@@ -6,4 +7,6 @@ pub mod Mount
 pub mod Output
 pub mod Refusal
 pub mod Run
+pub mod Streams
+pub mod Words
 pub mod steps

@@ -1,7 +1,6 @@
 -- How a run of the program goes: what it reads, writes and says, and how it ends.
-use Rattle.std.specs.Prelude.{◌≡◌, ◌≢◌, ℕ, ◌<◌, ◌≤◌, List, [], ◌∷◌, ◌++◌, length, codes, Option, Result, ◌⊎◌}
-use Rattle.std.specs.Io.KnownBytes.{Consumes, Appends, IsAtEnd}
-use Rattle.lf_base.specs.Faults.{Rose}
+use Rattle.std.specs.Prelude.{◌≡◌, ℕ, ◌<◌, List, [], ◌∷◌, ◌++◌, length, codes, Result, ◌⊎◌}
+use Rattle.std.specs.Io.KnownBytes.{IsAtEnd}
 use Rattle.lf_base.specs.Status.{text_of}
 use Rattle.lf_base.specs.declared.status.Status.{Status}
 use Rattle.lf_base.specs.declared.status.Status.TheVariants as status
@@ -10,23 +9,15 @@ use Rattle.node_mount.specs.LeaseService.{ReadsService}
 use Rattle.node_mount.specs.Mounting.{IsMountCause}
 use Rattle.node_mount.specs.declared.counts.Counts.{Counts}
 use Rattle.node_mount.specs.declared.mount_fault.MountFault.{MountFault}
-use Rattle.litefs_tool.specs.Command.{arguments_of, IsOverStreams, WritesFor, RefusesBy}
+use Rattle.litefs_tool.specs.Asking.{AskBacks, AskOutcome}
+use Rattle.litefs_tool.specs.Command.{IsOverStreams, IsServing, WritesFor, RefusesBy}
 use Rattle.litefs_tool.specs.Mount.{status_of_end, name_of_end}
 use Rattle.litefs_tool.specs.Output.{IsPrefix, AppendsPrefix}
+use Rattle.litefs_tool.specs.Streams.{Fails, Gives, HasCause, Holds, IsStill, IsWithin, Stream, Takes, input_limit}
+use Rattle.litefs_tool.specs.Words.{Spells}
 use Rattle.litefs_tool.specs.declared.command.Command.{Command}
-use Rattle.litefs_tool.specs.declared.command.Command.TheVariants.{Mount, Lease}
-
--- a stream over a run: the bytes left to read, or those taken, where it tells them, and its count of faults
-pub record Stream : Type 0 where
-  pub bytes : Option (List ℕ)
-  pub bytes_after : Option (List ℕ)
-  pub faults : ℕ
-  pub faults_after : ℕ
-
--- a source or a sink before a run and after it, by what it tells
-abbrev pub stream : {S : Type 0} → (S → Option (List ℕ)) → (S → ℕ) → S → S → Stream
-stream bytes faults before after =
-    record { bytes = bytes before; bytes_after = bytes after; faults = faults before; faults_after = faults after }
+use Rattle.litefs_tool.specs.declared.command.Command.TheVariants.{Mount, Lease, Export}
+use Rattle.litefs_tool.specs.declared.remote.Remote.{Remote}
 
 -- what a run goes over: its streams, the configuration, and the maker's counts of faults, before it and after it
 pub record Outside : Type 0 where
@@ -41,30 +32,6 @@ pub record Run : Type 0 where
   pub arguments : List (List ℕ)
   pub outside : Outside
   pub errors : Stream
-
--- the run read these bytes
-abbrev pub Gives : Stream → List ℕ → Type 0
-Gives stream bytes = Consumes stream.bytes stream.bytes_after bytes
-
--- the run wrote these bytes
-abbrev pub Takes : Stream → List ℕ → Type 0
-Takes stream bytes = Appends stream.bytes stream.bytes_after bytes
-
--- the stream's count of faults rose
-abbrev pub Fails : Stream → Type 0
-Fails stream = Rose stream.faults stream.faults_after
-
--- the stream's count of faults stayed
-abbrev pub Holds : Stream → Type 0
-Holds stream = stream.faults_after ≡ stream.faults
-
--- the longest input that is read
-abbrev pub input_limit : ℕ
-input_limit = 2147483648
-
--- the input is no longer than that
-abbrev pub IsWithin : List ℕ → Type 0
-IsWithin input = length input ≤ input_limit
 
 -- What a command comes to: the bytes that it read, its status, the bytes that it wrote, and the name of the fault for
 -- standard error. Each status has its own case; a fault of a stream or want of memory alone may come in place of another.
@@ -85,7 +52,7 @@ CommandOutcome command input status.LockRefused written name = ⊥
 
 -- no command has these arguments, and the run reads and writes nothing
 pub record RefusesArguments (arguments : List (List ℕ)) (input : List ℕ) (ended : Status) (written : List ℕ) : Type 0 where
-  pub no_command : (command : Command) → arguments ≢ arguments_of command
+  pub no_command : (command : Command) → Spells arguments command → ⊥
   pub refused : ended ≡ status.WordsRefused
   pub unread : input ≡ []
   pub unwritten : written ≡ []
@@ -94,7 +61,7 @@ pub record RefusesArguments (arguments : List (List ℕ)) (input : List ℕ) (en
 abbrev pub ArgumentsOutcome : List (List ℕ) → List ℕ → Status → List ℕ → List ℕ → Type 0
 ArgumentsOutcome arguments input status written name =
     RefusesArguments arguments input status written
-    ⊎ (command : Command) × (arguments ≡ arguments_of command) × IsOverStreams command × CommandOutcome command input status written name
+    ⊎ (command : Command) × Spells arguments command × IsOverStreams command × CommandOutcome command input status written name
 
 -- with these statuses the input was read to its end
 abbrev pub LeavesNothing : Stream → Status → Type 0
@@ -102,12 +69,6 @@ LeavesNothing input status.Ok = IsAtEnd input.bytes_after
 LeavesNothing input status.InputRefused = IsAtEnd input.bytes_after
 LeavesNothing input status.WriteFault = IsAtEnd input.bytes_after
 LeavesNothing input other = Unit {0}
-
--- the count of the input rose with ReadFault alone, and that of the output with WriteFault alone
-abbrev pub HasCause : Stream → Stream → Status → Type 0
-HasCause input output status.ReadFault = Fails input × Holds output
-HasCause input output status.WriteFault = Holds input × Fails output
-HasCause input output other = Holds input × Holds output
 
 -- what a run that ends with this status read and wrote
 pub record Moves (input output : Stream) (status : Status) (read written : List ℕ) : Type 0 where
@@ -135,10 +96,6 @@ pub record LeaseOutcome (Back : Result (Unit {0}) MountFault → Type 0) (outsid
   pub status_is : status ≡ status_of_end end
   pub name_is : name ≡ name_of_end end
 
--- the stream is as it was
-abbrev pub IsStill : Stream → Type 0
-IsStill stream = (stream.bytes_after ≡ stream.bytes) × Holds stream
-
 -- memory ran out before it was known which command the arguments name, and all is as it was
 pub record EndsUnread (outside : Outside) (ended : Status) : Type 0 where
   pub wanted : ended ≡ status.NoMemory
@@ -147,18 +104,21 @@ pub record EndsUnread (outside : Outside) (ended : Status) : Type 0 where
   pub config : IsStill outside.config
   pub counts : outside.counts_after ≡ outside.counts
 
--- what came back to the maker, by how a node ended, and by how a lease service did
+-- what came back to the maker, by how a node ended, by how a lease service did, and by how a node was asked
 pub record Backs : Type 1 where
   pub node : Result (Unit {0}) MountFault → Type 0
   pub service : Result (Unit {0}) MountFault → Type 0
+  pub asks : AskBacks
 
--- what a run did: it read its input and wrote its output, or refused its arguments; or it was a node, or a lease service; or had no
--- memory to read its arguments
+-- what a run did: it read its input and wrote its output, or refused its arguments; or it was a node, or a lease service; or it asked a
+-- node; or had no memory to read its arguments
 pub data RunCourse (backs : Backs) (arguments : List (List ℕ)) (outside : Outside) (status : Status) (name : List ℕ) : Type 0 where
   over_streams : (read written : List ℕ) → Moves outside.input outside.output status read written → ArgumentsOutcome arguments read status written name
       → RunCourse backs arguments outside status name
-  mounted : arguments ≡ arguments_of Mount → MountOutcome backs.node outside status name → RunCourse backs arguments outside status name
-  leased : arguments ≡ arguments_of Lease → LeaseOutcome backs.service outside status name → RunCourse backs arguments outside status name
+  mounted : Spells arguments Mount → MountOutcome backs.node outside status name → RunCourse backs arguments outside status name
+  leased : Spells arguments Lease → LeaseOutcome backs.service outside status name → RunCourse backs arguments outside status name
+  asked : (command : Command) → Spells arguments command
+      → AskOutcome backs.asks command outside.input outside.output outside.counts outside.counts_after status name → RunCourse backs arguments outside status name
   unread : EndsUnread outside status → RunCourse backs arguments outside status name
 
 -- a line of standard error
@@ -183,8 +143,14 @@ pub record RunOutcome (backs : Backs) (run : Run) (status : Status) : Type 0 whe
   pub went : RunCourse backs run.arguments run.outside status name
   pub says : Says run.errors (line_of status name)
 
--- what a run leaves: without `mount` and `lease` the configuration and the maker, with them the input and the output
+-- a command that serves, or asks a node
+abbrev pub UsesMaker : Command → Type 0
+UsesMaker command = IsOverStreams command → ⊥
+
+-- what a run leaves: the configuration, but of a command that serves; the maker, but of one that serves or asks a node; of one that serves the
+-- input and the output, and of `export` the input
 pub record LeavesApart {I O G M : Type 0} (arguments : List (List ℕ)) (input input_after : I) (output output_after : O) (config config_after : G) (make make_after : M) : Type 0 where
-  pub unserved : arguments ≢ arguments_of Mount → arguments ≢ arguments_of Lease → (config_after ≡ config) × (make_after ≡ make)
-  pub mounted : arguments ≡ arguments_of Mount → (input_after ≡ input) × (output_after ≡ output)
-  pub leased : arguments ≡ arguments_of Lease → (input_after ≡ input) × (output_after ≡ output)
+  pub unconfigured : ((command : Command) → Spells arguments command → IsServing command → ⊥) → config_after ≡ config
+  pub alone : ((command : Command) → Spells arguments command → UsesMaker command → ⊥) → make_after ≡ make
+  pub serving : (command : Command) → Spells arguments command → IsServing command → (input_after ≡ input) × (output_after ≡ output)
+  pub exporting : (remote : Remote) → Spells arguments (Export remote) → input_after ≡ input

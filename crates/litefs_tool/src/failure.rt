@@ -6,6 +6,7 @@ use crate::compact_refusal::CompactRefusal;
 use crate::input::InputFault;
 use crate::mounting::{name_of_fault, status_of_fault};
 use crate::refusal::Refusal;
+use http_exchange::Untold;
 use lf_base::{Failed, NoMemory, Status};
 use node_mount::MountFault;
 
@@ -22,6 +23,12 @@ pub enum Failure {
     Compaction(CompactRefusal),
     /// The node, or the lease service, did not start, or stopped serving.
     Mount(MountFault),
+    /// A node that was asked gave no whole reply.
+    Untold(Untold),
+    /// Its reply has another status than 200.
+    Reply,
+    /// The body of its reply is none that the command takes.
+    BadReply,
     /// The output failed.
     Output,
     /// Memory ran out before anything was written.
@@ -68,6 +75,14 @@ impl From<MountFault> for Failure {
     }
 }
 
+impl From<Untold> for Failure {
+    ghost from_gives = { λ why f. f ≡ failure.Untold why };
+
+    fn from(why: Untold) -> Failure {
+        Failure::Untold(why)
+    }
+}
+
 impl From<Failed> for Failure {
     ghost from_gives = { λ _ f. f ≡ failure.Output };
 
@@ -91,6 +106,11 @@ impl Failure {
             Failure::Compaction(CompactRefusal::NoMemory) => Status::NoMemory,
             Failure::Compaction(_) => Status::InputRefused,
             Failure::Mount(fault) => status_of_fault(fault),
+            Failure::Untold(Untold::Fault) => Status::NetworkFault,
+            Failure::Untold(Untold::Unfit) => Status::InputRefused,
+            Failure::Untold(Untold::TooLong | Untold::Turns) => Status::Limit,
+            Failure::Untold(Untold::NoMemory) => Status::NoMemory,
+            Failure::Reply | Failure::BadReply => Status::InputRefused,
             Failure::Output => Status::WriteFault,
             Failure::NoMemory => Status::NoMemory,
         }
@@ -106,6 +126,8 @@ impl Failure {
             Failure::Compaction(CompactRefusal::NoMemory) => "",
             Failure::Compaction(refusal) => refusal.name(),
             Failure::Mount(fault) => name_of_fault(fault),
+            Failure::Reply => "Reply",
+            Failure::BadReply | Failure::Untold(Untold::Unfit) => "BadReply",
             _ => "",
         }
     }

@@ -6,6 +6,9 @@ ghost use Rattle.litefs_tool.specs.declared.input.InputFault.TheVariants as faul
 use lf_base::{Failed, NoMemory, Source};
 use std::alloc::{AllocError, Global};
 
+/// The longest input that is read, in bytes.
+pub const INPUT_LIMIT: usize = 2_147_483_648;
+
 /// What consumes an input as its bytes come.
 pub trait Consumer: Drop {
     /// These are all the bytes that it consumed.

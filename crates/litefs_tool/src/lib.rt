@@ -5,6 +5,8 @@
 #![tactic(auto)]
 
 mod applying;
+mod asking;
+mod collected;
 mod command;
 mod compact_refusal;
 mod compaction;
@@ -15,8 +17,10 @@ mod gathering;
 mod input;
 mod laws;
 mod mounting;
+mod naming;
 mod output;
 mod refusal;
+mod remote;
 mod report;
 mod top_call;
 
@@ -26,4 +30,5 @@ pub use compact_refusal::CompactRefusal;
 pub use compaction::compact_files;
 pub use laws::{one_answer, one_compaction};
 pub use refusal::Refusal;
+pub use remote::Remote;
 pub use top_call::{Host, run};

@@ -1,27 +1,29 @@
 //! The top call.
+ghost use Rattle.std.specs.Prelude.{◌≡◌};
+ghost use Rattle.http_exchange.specs.Exchange.{LinksTell};
+ghost use Rattle.litefs_tool.specs.Asking.{AskBacks, DialerBack};
 ghost use Rattle.litefs_tool.specs.Mount.{GoesBack};
-ghost use Rattle.litefs_tool.specs.Run.{Backs, CommandOutcome, LeavesApart, Outside, Run, RunOutcome, stream};
+ghost use Rattle.litefs_tool.specs.Run.{Backs, CommandOutcome, LeavesApart, Outside, Run, RunOutcome};
+ghost use Rattle.litefs_tool.specs.Streams.{stream};
 ghost use Rattle.litefs_tool.specs.steps.Performing.{Goes, Leases, Mounts, Performs};
 ghost use Rattle.node_mount.specs.LeaseService.{LeasesBack, ServesTold};
 
 use crate::applying::Applying;
+use crate::asking::{export, import};
 use crate::command::{Command, read_arguments};
 use crate::compaction::one_file;
 use crate::failure::Failure;
 use crate::file_output::write_file;
 use crate::gathering::Gathering;
-use crate::input::read_to_end;
+use crate::input::{INPUT_LIMIT, read_to_end};
 use crate::output::{new_buffer, write_image};
 use crate::report::report;
 use lf_base::{Handles, Sink, Source, Status, Text};
 use node_mount::{Maker, mount, serve_leases};
 use std::alloc::Global;
 
-/// The longest input that is read, in bytes.
-const INPUT_LIMIT: usize = 2_147_483_648;
-
 /// What a run of the program reads from, writes to, and says its failure on; and for a node or a lease
-/// service its configuration, and what makes the objects that it runs on.
+/// service its configuration, and what makes the objects that it runs on, or asks a node by.
 #[derive(Drop)]
 pub struct Host<I, O, E, G, M> {
     pub input: I,
@@ -52,6 +54,10 @@ pub fn run<R: Handles + Copy + Send + 'static, I: Source, O: Sink, E: Sink, G: S
         let backs : Backs = record {
           node = GoesBack M.FileAccept.ended M.FileAccept.given M.Disk.honest M.Disk.history (M.may_give host.old.make) (M.back host.old.make) (M.back host.new.make);
           service = LeasesBack M.HttpAccept.ended M.HttpAccept.given (ServesTold M.HttpAccept.L.Link (G.left host.old.config) (G.left host.new.config)) (M.back host.old.make) (M.back host.new.make);
+          asks = record {
+            asked = DialerBack M.Dial.dials (LinksTell M.Line.given M.Line.taken) (M.back host.old.make) (M.back host.new.make);
+            nothing = M.back host.new.make ≡ M.back host.old.make;
+          };
         } in RunOutcome backs run result }
     ensures apart { LeavesApart arguments.now host.old.input host.new.input host.old.output host.new.output host.old.config host.new.config host.old.make host.new.make }
 {
@@ -92,6 +98,10 @@ fn perform<R: Handles + Copy + Send + 'static, I: Source, O: Sink, G: Source, M:
         let backs : Backs = record {
           node = GoesBack M.FileAccept.ended M.FileAccept.given M.Disk.honest M.Disk.history (M.may_give make.old) (M.back make.old) (M.back make.new);
           service = LeasesBack M.HttpAccept.ended M.HttpAccept.given (ServesTold M.HttpAccept.L.Link (G.left config.old) (G.left config.new)) (M.back make.old) (M.back make.new);
+          asks = record {
+            asked = DialerBack M.Dial.dials (LinksTell M.Line.given M.Line.taken) (M.back make.old) (M.back make.new);
+            nothing = M.back make.new ≡ M.back make.old;
+          };
         } in Goes backs arguments.now outside result }
     ensures apart { LeavesApart arguments.now input.old input.new output.old output.new config.old config.new make.old make.new }
 {
@@ -100,6 +110,8 @@ fn perform<R: Handles + Copy + Send + 'static, I: Source, O: Sink, G: Source, M:
         Some(Command::Compact) => compact(alloc, input, output),
         Some(Command::Mount) => mount_node(rt, alloc, config, make),
         Some(Command::Lease) => lease(&rt, alloc, config, make),
+        Some(Command::Export(remote)) => export(&rt, alloc, remote, output, make),
+        Some(Command::Import(remote)) => import(&rt, alloc, remote, input, output, make),
         None => Err(Failure::Arguments),
     }
 }

@@ -1,6 +1,8 @@
 //! Whole runs of the program over memory: how each ends, what it says, and what it writes.
 #![tactic(auto)]
 
+mod asking;
+mod asks;
 mod commands;
 mod fault;
 mod leases;
@@ -17,5 +19,6 @@ fn main(rt: HostRuntime) -> Result<(), Fault> {
     let _named: Option<(TcpListener, TcpStream)> = None;
     playing::play_commands(rt)?;
     playing::play_nodes(rt)?;
-    playing::play_leases(rt)
+    playing::play_leases(rt)?;
+    asking::play_asks(rt)
 }

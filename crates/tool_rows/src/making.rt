@@ -1,11 +1,13 @@
-//! What a node is made of, and a lease service.
+//! What a node is made of, and a lease service, and what a node is asked by.
 ghost use Rattle.std.specs.Prelude.{◌≡◌, ◌∷◌, [], All, IfOk};
-ghost use Rattle.node_mount.specs.MemMaker.{IsNewDisk, IsNewDoor, IsNewSpawner};
+ghost use Rattle.node_mount.specs.MemMaker.{IsNewDisk, IsNewDoor, IsNewPhone, IsNewSpawner};
+ghost use Rattle.lf_base.specs.Doors.{IsUnused};
 
+use crate::asks::AskRow;
 use crate::fault::Fault;
 use crate::leases::LeaseRow;
 use crate::nodes::{NEVER, NodeRow, ROOM};
-use lf_base::{CallSpawner, FixedClock, ListAcceptor, MemLink, NoMemory, Watch};
+use lf_base::{CallSpawner, FixedClock, ListAcceptor, MemDialer, MemLink, NoMemory, Watch};
 use lf_disk::{Disk, FileName, MemDisk};
 use node_mount::{MemMaker, MemSpawn};
 use std::alloc::Global;
@@ -64,7 +66,9 @@ fn acceptor(alloc: Global, links: Vec<MemLink>, failing: u64) -> Result<Vec<List
 }
 
 /// A link that gives these bytes, and what shows what is written on it.
-fn link_of(alloc: Global, input: &[u8], room: usize) -> Result<(MemLink, Watch), Fault> {
+fn link_of(alloc: Global, input: &[u8], room: usize) -> Result<(MemLink, Watch), Fault>
+    ensures { IfOk result (λ made. IsUnused made.0) }
+{
     let input = Vec::from_slice(alloc, input)?;
     let link = MemLink::new(alloc, input, room, Vec::new(alloc))?;
     let watch = link.watch();
@@ -171,4 +175,43 @@ pub fn empty_maker(alloc: Global) -> Result<MemMaker, Fault> {
         8,
         Vec::new(alloc),
     )?)
+}
+
+/// The link that a row dials, if it dials one, and what shows what it took.
+fn dialed(alloc: Global, row: &AskRow) -> Result<(Vec<MemLink>, Vec<Watch>), Fault>
+    ensures { IfOk result (λ made. All IsUnused made.0.items) }
+{
+    let Some(reply) = row.reply else {
+        return Ok((Vec::new(alloc), Vec::new(alloc)));
+    };
+    let (link, watch) = link_of(alloc, reply, row.room)?;
+    Ok((one(alloc, link)?, one(alloc, watch)?))
+}
+
+/// A list of one dialer of these links.
+fn dialers(alloc: Global, links: Vec<MemLink>) -> Result<Vec<MemDialer>, Fault>
+    requires { All IsUnused links.items }
+    ensures { IfOk result (λ made. All IsNewPhone made.items) }
+{
+    let dialer = MemDialer::new(alloc, links, 4, Vec::new(alloc))?;
+    Ok(one(alloc, dialer)?)
+}
+
+/// What a row's command asks a node by, and what shows what its link took.
+pub fn asker_of(alloc: Global, row: &AskRow) -> Result<(MemMaker, Vec<Watch>), Fault> {
+    let (links, watches) = dialed(alloc, row)?;
+    let dialers = dialers(alloc, links)?;
+    let make = MemMaker::new(
+        alloc,
+        Vec::new(alloc),
+        Vec::new(alloc),
+        Vec::new(alloc),
+        dialers,
+        Vec::new(alloc),
+        FixedClock::new(0),
+        1,
+        8,
+        Vec::new(alloc),
+    )?;
+    Ok((make, watches))
 }

@@ -26,7 +26,7 @@ fn input_of<R: Files + AllocGlobal>(rt: &R, row: &CommandRow) -> Result<Vec<u8>,
 }
 
 /// Runs a command line, and prints how it ends.
-fn ends<R: Handles + Print + Copy + Send + 'static, M: Maker>(
+pub fn ends<R: Handles + Print + Copy + Send + 'static, M: Maker>(
     rt: R,
     alloc: Global,
     line: &str,
@@ -156,7 +156,7 @@ fn play_served<R: Handles + Print + Copy + Send + 'static, M: Maker + Drop>(
 }
 
 /// Prints what each link took.
-fn print_watched(rt: &impl Print, alloc: Global, watches: &[Watch]) -> Result<(), Fault> {
+pub fn print_watched(rt: &impl Print, alloc: Global, watches: &[Watch]) -> Result<(), Fault> {
     for watch in watches {
         print_taken(rt, alloc, "link", &watch.bytes()?)?;
     }

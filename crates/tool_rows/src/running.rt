@@ -54,3 +54,19 @@ pub fn host_over<'a, M: Drop>(
         make,
     })
 }
+
+/// A host over this input, this output and this maker, without a configuration.
+pub fn host_with<'a, M: Drop>(
+    alloc: Global,
+    input: SliceSource<'a>,
+    output: VecSink,
+    make: M,
+) -> Result<MemHost<'a, M>, Fault> {
+    Ok(Host {
+        input,
+        output,
+        errors: VecSink::new(alloc, 256, Vec::new(alloc))?,
+        config: SliceSource::new(b"", Vec::new(alloc)).unwrap(),
+        make,
+    })
+}

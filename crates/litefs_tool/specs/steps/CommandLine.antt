@@ -1,8 +1,8 @@
--- The command line as clap is told it.
-use Rattle.std.specs.Prelude.{◌≡◌, ◌≢◌, ℕ, List, codes, true, MatchOption, Option, Some}
+-- A command's name as clap is told it.
+use Rattle.std.specs.Prelude.{◌≡◌, ◌≢◌, ℕ, List, [], ◌∷◌, codes, true, MatchOption, Option, Some}
 use Rattle.clap.specs.Simple.{App, Shape, new_app, new_shape, on_top, with_subcommand}
-use Rattle.litefs_tool.specs.Command.{command_name}
-use Rattle.litefs_tool.specs.declared.command.Command.{Command}
+use Rattle.litefs_tool.specs.Words.{name_text}
+use Rattle.litefs_tool.specs.declared.naming.CommandName.{CommandName}
 
 -- all words are arguments, and none asks for help
 abbrev pub bare : Shape → Shape
@@ -15,10 +15,22 @@ with_name app name = with_subcommand app (new_shape name)
 abbrev pub files_program : App
 files_program = with_name (with_name (on_top bare (new_app (codes "litefs"))) (codes "apply")) (codes "compact")
 
+-- and with those that serve
+abbrev pub serving_program : App
+serving_program = with_name (with_name files_program (codes "mount")) (codes "lease")
+
 -- the program, with a subcommand for each command
 abbrev pub program : App
-program = with_name (with_name files_program (codes "mount")) (codes "lease")
+program = with_name (with_name serving_program (codes "export")) (codes "import")
+
+-- the name alone
+abbrev pub arguments_of : CommandName → List (List ℕ)
+arguments_of name = name_text name ∷ []
+
+-- words are a command's name alone, or no command's
+abbrev pub IsNameAlone : List (List ℕ) → Option CommandName → Type 0
+IsNameAlone words read = MatchOption read ((name : CommandName) → words ≢ arguments_of name) (λ name. words ≡ arguments_of name)
 
 -- the name is this command's, or no command's
-abbrev pub IsNamed : Option (List ℕ) → Option Command → Type 0
-IsNamed name read = MatchOption read ((command : Command) → name ≢ Some (command_name command)) (λ command. name ≡ Some (command_name command))
+abbrev pub IsNamed : Option (List ℕ) → Option CommandName → Type 0
+IsNamed name read = MatchOption read ((command : CommandName) → name ≢ Some (name_text command)) (λ command. name ≡ Some (name_text command))

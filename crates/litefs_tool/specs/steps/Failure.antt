@@ -1,5 +1,6 @@
 -- The status of a run that fails, and the name of the fault for standard error.
-use Rattle.std.specs.Prelude.{ℕ, List, [], Result, Ok, Err}
+use Rattle.std.specs.Prelude.{ℕ, List, [], codes, Result, Ok, Err}
+use Rattle.http_exchange.specs.declared.told.Untold.TheVariants as untold
 use Rattle.lf_base.specs.declared.status.Status.{Status}
 use Rattle.lf_base.specs.declared.status.Status.TheVariants as status
 use Rattle.litefs_tool.specs.Mount.{status_of_fault, name_of_fault}
@@ -22,6 +23,13 @@ status_of_failure (failure.Files why) = status.InputRefused
 status_of_failure (failure.Compaction compaction.NoMemory) = status.NoMemory
 status_of_failure (failure.Compaction why) = status.InputRefused
 status_of_failure (failure.Mount why) = status_of_fault why
+status_of_failure (failure.Untold untold.Fault) = status.NetworkFault
+status_of_failure (failure.Untold untold.Unfit) = status.InputRefused
+status_of_failure (failure.Untold untold.TooLong) = status.Limit
+status_of_failure (failure.Untold untold.Turns) = status.Limit
+status_of_failure (failure.Untold untold.NoMemory) = status.NoMemory
+status_of_failure failure.Reply = status.InputRefused
+status_of_failure failure.BadReply = status.InputRefused
 status_of_failure failure.Output = status.WriteFault
 status_of_failure failure.NoMemory = status.NoMemory
 
@@ -32,6 +40,9 @@ name_of_failure (failure.Files why) = refusal_name why
 name_of_failure (failure.Compaction compaction.NoMemory) = []
 name_of_failure (failure.Compaction why) = compact_refusal_name why
 name_of_failure (failure.Mount why) = name_of_fault why
+name_of_failure (failure.Untold untold.Unfit) = codes "BadReply"
+name_of_failure failure.Reply = codes "Reply"
+name_of_failure failure.BadReply = codes "BadReply"
 name_of_failure other = []
 
 -- the status of a run with this result

@@ -1,14 +1,22 @@
 -- A run of a command up to what it says, by its result.
-use Rattle.std.specs.Prelude.{◌≡◌, ℕ, List, Result}
+use Rattle.std.specs.Prelude.{◌≡◌, ℕ, List, Result, Err}
+use Rattle.http_exchange.specs.Exchange.{Asked}
+use Rattle.http_exchange.specs.declared.told.Told.{Told}
+use Rattle.http_exchange.specs.declared.told.Untold.{Untold}
+use Rattle.http_exchange.specs.declared.told.Untold.TheVariants as untold
 use Rattle.lf_base.specs.declared.status.Status.{Status}
 use Rattle.litefs_tool.specs.steps.Failure.{status_of, name_of}
 use Rattle.node_mount.specs.declared.counts.Counts.{Counts}
 use Rattle.node_mount.specs.declared.mount_fault.MountFault.{MountFault}
 use Rattle.node_mount.specs.Configuring.{ReadsConfiguration}
 use Rattle.node_mount.specs.LeaseService.{ReadsService}
+use Rattle.node_mount.specs.Making.{NetworkRose}
 use Rattle.node_mount.specs.Mounting.{IsMountCause}
 use Rattle.litefs_tool.specs.Mount.{status_of_end, name_of_end}
-use Rattle.litefs_tool.specs.Run.{Backs, Stream, Moves, Outside, RunCourse}
+use Rattle.litefs_tool.specs.Asking.{AskBacks, AskOutcome, Asks}
+use Rattle.litefs_tool.specs.Run.{Backs, Moves, Outside, RunCourse}
+use Rattle.litefs_tool.specs.Streams.{Gives, Holds, Stream}
+use Rattle.litefs_tool.specs.declared.command.Command.{Command}
 use Rattle.litefs_tool.specs.declared.failure.Failure.{Failure}
 
 -- the streams moved as the result's status says, and this is what it comes to
@@ -38,3 +46,22 @@ pub record Leases (Back : Result (Unit {0}) MountFault → Type 0) (config : Str
   pub back : Back end
   pub status_is : status_of result ≡ status_of_end end
   pub name_is : name_of result ≡ name_of_end end
+
+-- the maker's count of the network rose with Fault alone, and the others stayed
+abbrev pub CountsDial : Counts → Counts → Result Told Untold → Type 0
+CountsDial old new (Err untold.Fault) = NetworkRose old new
+CountsDial old new end = new ≡ old
+
+-- a node was asked, and that ended so
+pub record HasAsked (backs : AskBacks) (command : Command) (input : Stream) (counts counts_after : Counts) (end : Result Told Untold) : Type 0 where
+  pub read : List ℕ
+  pub asks : Asked
+  pub reads : Gives input read
+  pub holds : Holds input
+  pub asked : Asks command input read asks
+  pub back : backs.asked asks end
+  pub cause : CountsDial counts counts_after end
+
+-- a command that asks went as the result's status and name say
+abbrev pub GoesAsking : AskBacks → Command → Stream → Stream → Counts → Counts → Result (Unit {0}) Failure → Type 0
+GoesAsking backs command input output counts counts_after result = AskOutcome backs command input output counts counts_after (status_of result) (name_of result)

@@ -1,15 +1,36 @@
-//! The words of the command line: a command's name alone, to the letter.
+//! The words of the command line: a command's name, and of two the options behind it, to the letter.
 use crate::same::same;
 use lf_base::Text;
-use litefs_tool::{Command, read_arguments};
-use std::alloc::Global;
+use litefs_tool::{Command, Remote, read_arguments};
+use std::alloc::{AllocError, Global};
 use std::process::Abort;
 
-const NAMED: &[(&str, Command)] = &[
-    ("apply", Command::Apply),
-    ("compact", Command::Compact),
-    ("mount", Command::Mount),
-    ("lease", Command::Lease),
+/// Words, and the command that they are: its name, and of two of them the database and the address.
+const NAMED: &[(&[&str], &str)] = &[
+    (&["apply"], "apply"),
+    (&["compact"], "compact"),
+    (&["mount"], "mount"),
+    (&["lease"], "lease"),
+    (&["export", "--name", "app"], "export app localhost:20202"),
+    (&["export", "--name=app"], "export app localhost:20202"),
+    (
+        &["export", "--name=app", "--addr=db1:20203"],
+        "export app db1:20203",
+    ),
+    (&["export", "--addr=a", "--name", "app"], "export app a"),
+    (&["export", "--name", "app", "--addr", "a"], "export app a"),
+    (
+        &["import", "--addr", "http://db1:20202", "--name=app"],
+        "import app db1:20202",
+    ),
+    (
+        &["import", "--name", "a", "--addr", "b=--name"],
+        "import a b=--name",
+    ),
+    (
+        &["import", "--name", "a", "--addr", "http://http://b"],
+        "import a http://b",
+    ),
 ];
 
 const REFUSED: &[&[&str]] = &[
@@ -42,27 +63,79 @@ const REFUSED: &[&[&str]] = &[
     &["leases"],
     &["mount", "lease"],
     &["compact", "-x", "mount"],
+    &["export"],
+    &["export", "app"],
+    &["export", "--name"],
+    &["export", "--name", ""],
+    &["export", "--name="],
+    &["export", "--name", "-x"],
+    &["export", "--name=-x"],
+    &["export", "--name", ".a"],
+    &["export", "--name", "app-wal"],
+    &["export", "--name", "app", "--name", "app"],
+    &["export", "--name=app", "--addr"],
+    &["export", "--addr=a"],
+    &["export", "--addr=a", "--addr=b"],
+    &["export", "--addr=a", "--addr=b", "--name=app"],
+    &["export", "--addr=", "--name=app"],
+    &["export", "--addr", "-a", "--name=app"],
+    &["export", "--name=app", "x"],
+    &["export", "x", "--name=app"],
+    &["export", "--name=app", "--"],
+    &["export", "--", "--name=app"],
+    &["--name=app", "export"],
+    &["export", "--names=app"],
+    &["export", "--nam=app"],
+    &["export", "-name=app"],
+    &["export", "--Name=app"],
+    &["import", "--name=app", "--help"],
+    &["import", "--name", "a=b"],
+    &["import", "--name", "--addr", "--addr", "a"],
+    &["exports", "--name=app"],
 ];
 
-fn read(rt: impl Copy + Abort, alloc: Global, words: &[&str]) -> Option<Command> {
+/// What a command is: nothing where there is none.
+fn shown(alloc: Global, command: &Option<Command>) -> Result<String, AllocError> {
+    match command {
+        None => String::from_str(alloc, ""),
+        Some(Command::Apply) => String::from_str(alloc, "apply"),
+        Some(Command::Compact) => String::from_str(alloc, "compact"),
+        Some(Command::Mount) => String::from_str(alloc, "mount"),
+        Some(Command::Lease) => String::from_str(alloc, "lease"),
+        Some(Command::Export(remote)) => place(alloc, "export", remote),
+        Some(Command::Import(remote)) => place(alloc, "import", remote),
+    }
+}
+
+fn place(alloc: Global, command: &str, remote: &Remote) -> Result<String, AllocError> {
+    let name = str::from_utf8(remote.name.bytes()).unwrap_or("no text");
+    format!(in alloc; "{command} {name} {}", remote.address.as_str())
+}
+
+fn read(rt: impl Copy + Abort, alloc: Global, words: &[&str]) -> String {
     let mut arguments = Vec::new(alloc);
     for word in words {
         let word = Text::of(alloc, word).expect(&rt, "memory");
         arguments.push(word).expect(&rt, "memory");
     }
-    read_arguments(alloc, arguments.as_slice()).expect(&rt, "memory")
+    let command = read_arguments(alloc, arguments.as_slice()).expect(&rt, "memory");
+    shown(alloc, &command).expect(&rt, "memory")
 }
 
 #[test]
 fn names_a_command(rt: HostRuntime) {
-    for (name, command) in NAMED {
-        same(rt, read(rt, rt.alloc(), &[name]), Some(*command));
+    for (words, command) in NAMED {
+        same(rt, read(rt, rt.alloc(), words).as_str(), *command);
     }
 }
 
 #[test]
 fn refuses_other_words(rt: HostRuntime) {
     for words in REFUSED {
-        same(rt, (*words, read(rt, rt.alloc(), words)), (*words, None));
+        same(
+            rt,
+            (*words, read(rt, rt.alloc(), words).as_str()),
+            (*words, ""),
+        );
     }
 }

@@ -1,4 +1,5 @@
 use Rattle.std.proofs.Common.{◌≡◌, ◌++◌, refl, ap, ◌∙◌}
+use Rattle.http_exchange.specs.declared.told.Untold.TheVariants as untold
 use Rattle.lf_base.specs.Status.{text_of}
 use Rattle.litefs_tool.specs.steps.Failure.{status_of_failure, name_of_failure}
 use Rattle.litefs_tool.specs.Run.{line, line_of}
@@ -28,6 +29,13 @@ line-of_failure (failure.Mount mount.Network) = refl
 line-of_failure (failure.Mount mount.NoThread) = refl
 line-of_failure (failure.Mount mount.Limit) = refl
 line-of_failure (failure.Mount mount.NoMemory) = refl
+line-of_failure (failure.Untold untold.Fault) = refl
+line-of_failure (failure.Untold untold.Unfit) = refl
+line-of_failure (failure.Untold untold.TooLong) = refl
+line-of_failure (failure.Untold untold.Turns) = refl
+line-of_failure (failure.Untold untold.NoMemory) = refl
+line-of_failure failure.Reply = refl
+line-of_failure failure.BadReply = refl
 line-of_failure failure.Output = refl
 line-of_failure failure.NoMemory = refl
 

@@ -1,32 +1,41 @@
-use Rattle.std.proofs.Common.{[], inl, refl, ap, subst, ◌∙◌}
+use Rattle.std.proofs.Common.{[], inl, refl, subst}
 use Rattle.std.proofs.KnownBytes.{Appends-nil, Consumes-nil}
-use Rattle.litefs_tool.specs.Command.{IsReadAs, arguments_of}
-use Rattle.litefs_tool.specs.Run.{leased, mounted, over_streams}
-use Rattle.litefs_tool.specs.declared.command.Command.TheVariants.{Apply, Compact}
-use Rattle.litefs_tool.proofs.RunLemmas.{goes}
+use Rattle.litefs_tool.specs.Run.{asked, leased, mounted, over_streams}
+use Rattle.litefs_tool.specs.Streams.{stream}
+use Rattle.litefs_tool.specs.Words.{IsReadAs}
+use Rattle.litefs_tool.specs.declared.command.Command.TheVariants.{Apply, Compact, Mount, Lease, Export, Import}
+use Rattle.litefs_tool.proofs.RunLemmas.{goes, leaves_exporting, leaves_importing, leaves_serving, spelled_by}
 use Rattle.litefs_tool.proofs.top_call.perform.Goals as goal
 
 pub returns-in-Some-Apply-clause-went : goal.returns-in-Some-Apply-clause-went
 returns-in-Some-Apply-clause-went g c =
-    goes _ _ _ Apply c.apply.result
-    (subst (IsReadAs c.args.arguments.now) c.in-Some-Apply.is c.in_ok-read_arguments.ensures ∙ ap arguments_of c.in-Some-Apply.field-0-is) tt c.apply.ensures
+    goes _ _ _ Apply c.apply.result (spelled_by _ _ _ _ c.in-Some-Apply.is c.in-Some-Apply.field-0-is c.in_ok-read_arguments.ensures) tt c.apply.ensures
 
 pub returns-in-Some-Compact-clause-went : goal.returns-in-Some-Compact-clause-went
 returns-in-Some-Compact-clause-went g c =
-    goes _ _ _ Compact c.compact.result
-    (subst (IsReadAs c.args.arguments.now) c.in-Some-Compact.is c.in_ok-read_arguments.ensures ∙ ap arguments_of c.in-Some-Compact.field-0-is) tt c.compact.ensures
+    goes _ _ _ Compact c.compact.result (spelled_by _ _ _ _ c.in-Some-Compact.is c.in-Some-Compact.field-0-is c.in_ok-read_arguments.ensures) tt c.compact.ensures
 
 pub returns-in-Some-Mount-clause-went : goal.returns-in-Some-Mount-clause-went
 returns-in-Some-Mount-clause-went g c =
     let went = c.mount_node.ensures in
-    mounted (subst (IsReadAs c.args.arguments.now) c.in-Some-Mount.is c.in_ok-read_arguments.ensures ∙ ap arguments_of c.in-Some-Mount.field-0-is)
+    mounted (spelled_by _ _ _ _ c.in-Some-Mount.is c.in-Some-Mount.field-0-is c.in_ok-read_arguments.ensures)
     (record { end = went.end; config = went.reads; cause = went.cause; back = went.back; status_is = went.status_is; name_is = went.name_is })
 
 pub returns-in-Some-Lease-clause-went : goal.returns-in-Some-Lease-clause-went
 returns-in-Some-Lease-clause-went g c =
     let went = c.lease.ensures in
-    leased (subst (IsReadAs c.args.arguments.now) c.in-Some-Lease.is c.in_ok-read_arguments.ensures ∙ ap arguments_of c.in-Some-Lease.field-0-is)
+    leased (spelled_by _ _ _ _ c.in-Some-Lease.is c.in-Some-Lease.field-0-is c.in_ok-read_arguments.ensures)
     (record { end = went.end; config = went.reads; cause = went.cause; back = went.back; status_is = went.status_is; name_is = went.name_is })
+
+pub returns-in-Some-Export-clause-went : goal.returns-in-Some-Export-clause-went
+returns-in-Some-Export-clause-went g c =
+    let spelled = spelled_by _ _ _ _ c.in-Some-Export.is c.in-Some-Export.field-0-is c.in_ok-read_arguments.ensures in
+    asked (Export c.in-Some-Export.remote) spelled (c.export.ensures (stream g.I.Source.left g.I.Source.faults c.args.input.now c.args.input.now) (refl, refl))
+
+pub returns-in-Some-Import-clause-went : goal.returns-in-Some-Import-clause-went
+returns-in-Some-Import-clause-went g c =
+    let spelled = spelled_by _ _ _ _ c.in-Some-Import.is c.in-Some-Import.field-0-is c.in_ok-read_arguments.ensures in
+    asked (Import c.in-Some-Import.remote) spelled c.import.ensures
 
 pub returns-in-None-clause-went : goal.returns-in-None-clause-went
 returns-in-None-clause-went g c =
@@ -37,3 +46,19 @@ returns-in-None-clause-went g c =
       unread = refl;
       unwritten = refl;
     }))
+
+pub returns-in-Some-Mount-clause-apart : goal.returns-in-Some-Mount-clause-apart
+returns-in-Some-Mount-clause-apart g c =
+    leaves_serving _ Mount (spelled_by _ _ _ _ c.in-Some-Mount.is c.in-Some-Mount.field-0-is c.in_ok-read_arguments.ensures) tt (λ over. over) _ _ _ _ _ _
+
+pub returns-in-Some-Lease-clause-apart : goal.returns-in-Some-Lease-clause-apart
+returns-in-Some-Lease-clause-apart g c =
+    leaves_serving _ Lease (spelled_by _ _ _ _ c.in-Some-Lease.is c.in-Some-Lease.field-0-is c.in_ok-read_arguments.ensures) tt (λ over. over) _ _ _ _ _ _
+
+pub returns-in-Some-Export-clause-apart : goal.returns-in-Some-Export-clause-apart
+returns-in-Some-Export-clause-apart g c =
+    leaves_exporting _ c.in-Some-Export.remote (spelled_by _ _ _ _ c.in-Some-Export.is c.in-Some-Export.field-0-is c.in_ok-read_arguments.ensures) _ _ _ _ _ _
+
+pub returns-in-Some-Import-clause-apart : goal.returns-in-Some-Import-clause-apart
+returns-in-Some-Import-clause-apart g c =
+    leaves_importing _ c.in-Some-Import.remote (spelled_by _ _ _ _ c.in-Some-Import.is c.in-Some-Import.field-0-is c.in_ok-read_arguments.ensures) _ _ _ _ _ _ _

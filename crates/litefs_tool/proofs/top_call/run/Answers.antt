@@ -1,6 +1,7 @@
 use Rattle.std.proofs.Common.{[], inl, refl}
 use Rattle.std.proofs.KnownBytes.{Appends-nil}
-use Rattle.litefs_tool.specs.Run.{line_of, stream}
+use Rattle.litefs_tool.specs.Run.{line_of}
+use Rattle.litefs_tool.specs.Streams.{stream}
 use Rattle.litefs_tool.specs.steps.Failure.{status_of_failure, name_of_failure}
 use Rattle.litefs_tool.proofs.RunLemmas.{said}
 use Rattle.litefs_tool.proofs.top_call.run.Goals as goal
