@@ -13,3 +13,4 @@ pub mod PerformLemmas
 pub mod RunLemmas
 pub mod ConsumerLemmas
 pub mod OptionLemmas
+pub mod WordLemmas

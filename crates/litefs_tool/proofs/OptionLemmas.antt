@@ -1,5 +1,6 @@
 -- Options among words.
-use Rattle.std.proofs.Common.{◌≡◌, ◌≢◌, ℕ, ◌+◌, List, [], ◌∷◌, ◌++◌, length, Bor, Option, Some, None, MatchOption, IfSome, IfNone, refl, sym, ap, subst, ◌∙◌, arith, length-append}
+use Rattle.std.proofs.Common.{◌≡◌, ◌≢◌, ℕ, ◌+◌, List, [], ◌∷◌, ◌++◌, length}
+use Rattle.std.proofs.Common.{Bor, Option, Some, None, MatchOption, IfSome, IfNone, refl, sym, ap, subst, ◌∙◌, arith, length-append}
 use Rattle.std.proofs.lemmas.List.{append_cancel_left}
 use Rattle.litefs_tool.specs.Words.{IsOption, IsValue, Words, apart, joined}
 
@@ -41,7 +42,7 @@ found_joined flag value words rest (Some found) is taken = (
 abbrev NoneFound : List ℕ → Words → Type 0
 NoneFound flag words = (value : List ℕ) (option rest : Words) → IsOption flag value option → words ≡ option ++ rest → ⊥
 
-cancel : (flag one other : List ℕ) → flag ++ 61 ∷ one ≡ flag ++ 61 ∷ other → one ≡ other
+pub cancel : (flag one other : List ℕ) → flag ++ 61 ∷ one ≡ flag ++ 61 ∷ other → one ≡ other
 cancel flag one other e = ap tail (append_cancel_left flag (61 ∷ one) (61 ∷ other) e)
   where
     tail : List ℕ → List ℕ
@@ -49,7 +50,7 @@ cancel flag one other e = ap tail (append_cancel_left flag (61 ∷ one) (61 ∷ 
     tail (b ∷ bs) = bs
 
 -- a flag with a value is longer than the flag
-longer : (flag value : List ℕ) → flag ++ 61 ∷ value ≢ flag
+pub longer : (flag value : List ℕ) → flag ++ 61 ∷ value ≢ flag
 longer flag value e =
     let lengths : length flag ≡ length flag + length (61 ∷ value) = sym (ap length e) ∙ length-append flag (61 ∷ value) in
     let more : length (61 ∷ value) ≡ length value + 1 = omega arith in

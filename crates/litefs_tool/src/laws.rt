@@ -4,6 +4,8 @@ ghost use Rattle.lf_sqlite_pages.specs.Image.{DatabaseImage};
 ghost use Rattle.ltx_codec.specs.Fields.{AreBytes};
 ghost use Rattle.litefs_tool.specs.Compaction.{CompactsTo};
 ghost use Rattle.litefs_tool.specs.Files.{Applies};
+ghost use Rattle.litefs_tool.specs.Words.{Spells, Words};
+ghost use Rattle.litefs_tool.specs.declared.command.Command.{Command};
 ghost use Rattle.litefs_tool.specs.declared.compact_refusal.CompactRefusal.{CompactRefusal};
 ghost use Rattle.litefs_tool.specs.declared.database.Database.{Database};
 ghost use Rattle.litefs_tool.specs.declared.refusal.Refusal.{Refusal};
@@ -29,3 +31,8 @@ pub fn one_compaction()
     encoding_breaks_no_rule();
     one_earliest_fault();
 }
+
+/// Arguments are one command's.
+pub fn one_command()
+    ensures { (arguments : Words) (command other : Command) → Spells arguments command → Spells arguments other → command ≡ other }
+{}

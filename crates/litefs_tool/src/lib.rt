@@ -28,7 +28,7 @@ pub use applying::apply_files;
 pub use command::{Command, read_arguments};
 pub use compact_refusal::CompactRefusal;
 pub use compaction::compact_files;
-pub use laws::{one_answer, one_compaction};
+pub use laws::{one_answer, one_command, one_compaction};
 pub use refusal::Refusal;
 pub use remote::Remote;
 pub use top_call::{Host, run};
