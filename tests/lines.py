@@ -4,7 +4,7 @@ its followers, and of a store that broke, in front of the line of its status. A 
 
 At most: 300 seconds.
 Seen to fail: a node whose standard error goes nowhere: all but closed_errors; a stand-in that ends where it can't write a line:
-closed_errors."""
+closed_errors; a node whose store broke and that ends while its lease is being given back: gives_lease_back."""
 import contextlib
 import json
 import os
@@ -217,11 +217,12 @@ def gives_lease_back():
     with small_disk('size=1m') as disk, Granting() as service, Node(folder=disk.folder, service=service) as node:
         until(lambda: told_last(node, 'primary'), 'it is primary')
         made = until(lambda: taking(node), 'it takes writes')
+        service.waits = 1
         with contextlib.suppress(sqlite3.Error):
             for key in range(5000):
                 made.execute(*insert(key, 5000))
         same(node.ended(), 5, 'its status')
-        same(service.asked[-1], 'release', 'what the service was asked last')
+        until(lambda: service.asked[-1] == 'release', 'what the service was asked last, by a node that waited for its reply')
         same([it.split(':')[0] for it in node.lines()[-2:]], ['store broken', 'disk failed'], 'the last lines')
 
 
@@ -233,8 +234,9 @@ def taking(node):
 
 
 class Granting(Listening):
-    """A lease service that grants what it is asked for, for ten minutes. `asked`: what it was asked for."""
-    ttl = 600000
+    """A lease service that grants what it is asked for, for ten minutes. `asked`: what it was asked for by those that took the reply, which
+    comes after so many seconds (`waits`)."""
+    ttl, waits = 600000, 0
 
     def __init__(self):
         self.asked = []
@@ -246,10 +248,13 @@ class Grants(socketserver.StreamRequestHandler):
         head = list(iter(lambda: self.rfile.readline().strip().lower(), b''))
         length = next((int(it.split(b':')[1]) for it in head if it.startswith(b'content-length:')), 0)
         asked = json.loads(self.rfile.read(length))
-        self.server.asked.append(asked['op'])
+        time.sleep(self.server.waits)
         granted = {'host': 'db1', 'term': 1, 'ttl': self.server.ttl, 'url': asked.get('url', '')}
         text = json.dumps({'acquire': granted, 'renew': {'ttl': self.server.ttl}}.get(asked['op'], {}), separators=(',', ':')).encode()
-        self.wfile.write(b'HTTP/1.1 200 OK\r\nContent-Length: %d\r\nConnection: close\r\n\r\n%s' % (len(text), text))
+        with contextlib.suppress(ConnectionError):
+            self.wfile.write(b'HTTP/1.1 200 OK\r\nContent-Length: %d\r\nConnection: close\r\n\r\n%s' % (len(text), text))
+            self.connection.recv(1)
+            self.server.asked.append(asked['op'])
 
 
 def closed_errors():
