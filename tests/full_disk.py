@@ -4,7 +4,7 @@ which call of the disk failed and ends, and once it is started again each transa
 full is what the application is told, but where SQLite removes the journal at the end of a transaction.
 
 At most: 1200 seconds.
-Seen to fail: a node that takes a write without room for done: it doesn't end."""
+Seen to fail: a node that takes a write without room for done: it doesn't end; one that takes links once its store broke: neither."""
 import sqlite3
 from re import fullmatch
 
