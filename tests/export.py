@@ -9,32 +9,22 @@ Seen to fail: a node that answers 404 to both calls; one that never looks for it
 import contextlib
 import os
 import random
-import shutil
 import socket
 import sqlite3
 import subprocess
-import tempfile
 import threading
 
-from support import MODES, Node, connect, count, fill, in_mode, insert, length, run, same, seen_by, until
+from support import MODES, Node, connect, count, fill, in_mode, insert, length, run, same, until
+from support.preloaded import scratch
 
 SIZES = (512, 1024, 4096, 65536)
 LONGEST = 2147483648
 KILLS, STREAMS = length(6, 30), 300
 
 
-@contextlib.contextmanager
-def room():
-    folder = tempfile.mkdtemp(prefix='litefs-test-')
-    try:
-        yield folder
-    finally:
-        shutil.rmtree(folder, ignore_errors=True)
-
-
 def curl(*words):
     """The status and the body of the reply to what curl sends."""
-    with room() as folder:
+    with scratch() as folder:
         to = os.path.join(folder, 'body')
         ran = subprocess.run(['curl', '-sS', '-o', to, '-w', '%{http_code}', *words], stdout=subprocess.PIPE, stderr=subprocess.PIPE, timeout=300)
         same((ran.returncode, ran.stderr), (0, b''), f'curl {" ".join(words)[:100]}')
@@ -54,7 +44,7 @@ def exported(node, name='app'):
 
 
 def imported(node, data, name='app'):
-    with room() as folder:
+    with scratch() as folder:
         path = os.path.join(folder, 'database')
         with open(path, 'wb') as file:
             file.write(data)
@@ -69,7 +59,7 @@ def line(node):
 
 def made(page_size, mode, rows, removed=0):
     """The bytes of a database that SQLite makes in a file: so many rows, and so many of them removed again."""
-    with room() as folder:
+    with scratch() as folder:
         path = os.path.join(folder, 'database')
         with contextlib.closing(sqlite3.connect(path, isolation_level=None)) as at:
             at.execute(f'pragma page_size={page_size}')
@@ -84,15 +74,22 @@ def made(page_size, mode, rows, removed=0):
         return contents(path)
 
 
-def sound(data, rows):
-    """SQLite finds the bytes sound, with so many rows."""
-    with room() as folder:
+@contextlib.contextmanager
+def opened(data):
+    """A connection of SQLite to these bytes, which it finds sound."""
+    with scratch() as folder:
         path = os.path.join(folder, 'database')
         with open(path, 'wb') as file:
             file.write(data)
         with contextlib.closing(sqlite3.connect(path)) as at:
             same(at.execute('pragma integrity_check').fetchall(), [('ok',)], 'integrity')
-            same(count(at), rows, 'rows')
+            yield at
+
+
+def sound(data, rows):
+    """SQLite finds the bytes sound, with so many rows."""
+    with opened(data) as at:
+        same(count(at), rows, 'rows')
 
 
 def sizes(page_size, mode):
@@ -186,12 +183,8 @@ def busy(mode):
                 ends.add(status)
                 status, data = exported(node)
                 same(status, 200, 'the export')
-                with room() as folder:
-                    path = os.path.join(folder, 'database')
-                    with open(path, 'wb') as file:
-                        file.write(data)
-                    with contextlib.closing(sqlite3.connect(path)) as at:
-                        same(at.execute('pragma integrity_check').fetchall(), [('ok',)], 'integrity of an export')
+                with opened(data):
+                    pass
         finally:
             going.set()
             writing.join()
