@@ -10,7 +10,6 @@ import time
 from support import Readers, Watch, connect, fill, holds, in_each_mode, in_mode, insert, level_pair, rows, run, same, until
 
 COMMITS, EVERY = 100, 0.05
-PATIENT = 30
 
 
 def level(mode):
@@ -31,12 +30,12 @@ def level(mode):
 
 
 def long_reader(mode):
-    """One that is inside for three seconds holds the replica still. Others wait meanwhile, or in WAL mode come in by turns."""
+    """One that is inside for three seconds holds the replica still. Others come in by turns meanwhile."""
     with level_pair(mode) as (primary, replica, writer):
         inside = connect(replica.socket)
         inside.execute('begin')
         seen, at = rows(inside), replica.position()
-        with Readers(replica, busy=PATIENT) as readers:
+        with Readers(replica) as readers:
             fill(writer, range(10, 20))
             time.sleep(3)
             same((rows(inside), replica.position()), (seen, at), 'what it sees, and where the replica stands')

@@ -63,6 +63,12 @@ impl<D: Disk> Node<D> {
         self.held = held_by(answer, self.standing.moment, self.held);
     }
 
+    /// Whether something counts as held back.
+    pub(crate) fn is_held_back(&self) -> bool {
+        self.held
+            .is_some_and(|held| held.is_fresh(self.standing.moment))
+    }
+
     /// Whether an owner who isn't inside asks to come in.
     fn comes_in(&self, owner: Owner, locks: LockSet, wish: LockWish) -> bool
         ensures { result ≡ comes_in (parts_of self.now) owner locks wish }
@@ -110,7 +116,7 @@ impl<D: Disk> Node<D> {
     pub(crate) fn is_kept_out(&self, caller: u64, request: &Request) -> bool
         ensures { result ≡ is_kept_out (parts_of self.now) caller request.now }
     {
-        keeps_out(self.held, self.store.wal, self.standing.moment)
+        keeps_out(self.held, self.standing.moment)
             && self.is_replica()
             && self.asks_in(caller, request.node, &request.op)
     }

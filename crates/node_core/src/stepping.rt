@@ -55,10 +55,10 @@ impl<D: Disk> Machine for Node<D> {
         }
     }
 
-    /// Changes with the last transaction, with whether the node leads, and, where frames are held
-    /// back, once no lock does that any more: then who rests beside the desk looks again.
+    /// Changes with the last transaction, with whether the node leads, and, while something counts as
+    /// held back, once no lock holds it back any more: then who rests beside the desk looks again.
     fn news(&self) -> u64 {
-        let free = self.held.is_some() && self.view.apply_clear(self.store.wal).is_ok();
+        let free = self.is_held_back() && self.view.apply_clear(self.store.wal).is_ok();
         let bits = (u64::from(free) << 1) | u64::from(self.leads());
         self.store.pos().txid.wrapping_mul(4) | bits
     }
