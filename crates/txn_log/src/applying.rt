@@ -2,7 +2,7 @@
 ghost use Rattle.std.specs.Prelude.{◌≡◌, IsTrue, IfOk, OnOk, OnErr};
 ghost use Rattle.ltx_codec.specs.Format.{IsFile};
 ghost use Rattle.ltx_codec.specs.Positions.{after};
-ghost use Rattle.world_laws.specs.Store.{Apply};
+ghost use Rattle.world_laws.specs.Store.{Apply, Commit};
 ghost use Rattle.txn_log.specs.Apply.{whole_file, Judges, Completes};
 ghost use Rattle.txn_log.specs.Fields.{AppliesBy, CallBreaks, CallWent, HasSameFiles, HasShape};
 ghost use Rattle.txn_log.specs.Store.{end_of_entries};
@@ -87,6 +87,28 @@ impl<D: Disk> Store<D> {
     {
         match self.complete_file(file) {
             Ok(whole) => publish(self, &whole, Attempt::Apply),
+            Err(fault) => Err(fault),
+        }
+    }
+
+    /// Accepts a transaction that another made over this database as the next one of the log, and
+    /// publishes it made complete, as `apply` does. No store had it before.
+    pub fn accept(&mut self, file: &Ltx) -> Result<Pos, StoreFault>
+        requires valid { IsFile file.now }
+        requires single { file.now.header.max ≡ file.now.header.min }
+        ensures applies { AppliesBy self.old file.now result }
+        ensures cause { CallBreaks self.old result self.new }
+        ensures shape { OnOk result (HasShape self.new file.now.header.page_size file.now.header.commit) }
+        ensures position { OnOk result (end_of_entries self.new.entries.items ≡ after file.now) }
+        ensures same { OnErr result (HasSameFiles self.old self.new) }
+
+        // What a crash leaves at each moment.
+        ensures went { IsTrue (D.honest self.old.disk) → CallWent
+            self.old (Commit (whole_file self.old.commit file.now)) result self.new }
+        ensures honest { D.honest self.new.disk ≡ D.honest self.old.disk }
+    {
+        match self.complete_file(file) {
+            Ok(whole) => publish(self, &whole, Attempt::Commit),
             Err(fault) => Err(fault),
         }
     }
