@@ -1,6 +1,6 @@
 -- What a READ of the database file gives.
 use Rattle.std.proofs.Common.{◌≡◌, ℕ, Bool, true, false, IsTrue, List, Option, None, Some, inl, inr, refl, subst, ◌∙◌}
-use Rattle.std.specs.Prelude.{IsSomeAnd, ◌==◌, ◌&&◌}
+use Rattle.std.specs.Prelude.{IsSomeAnd, ◌==◌, ◌&&◌, ◌||◌, max}
 use Rattle.byte_locks.specs.declared.lock_bytes.FileKind.{FileKind}
 use Rattle.byte_locks.specs.declared.lock_bytes.FileKind.TheVariants as file
 use Rattle.database_file.specs.DatabaseFile.{as_read, bytes_from}
@@ -26,7 +26,9 @@ use Rattle.node_core.specs.declared.ask.Ask.TheVariants as asks
 use Rattle.cluster_laws.specs.Bytes.{GivesBytes, ReadGives}
 use Rattle.node_core.specs.Files.{IsPlanned, scene, told}
 use Rattle.node_core.specs.HoldingBack.{is_kept_out}
-use Rattle.node_core.specs.Nodes.{NodeParts, at_moment, file_over, role_in, seen}
+use Rattle.node_core.specs.Locking.{is_barred}
+use Rattle.node_core.specs.Nodes.{NodeParts, at_moment, file_over, seen}
+use Rattle.node_core.specs.Roles.{role_of}
 use Rattle.node_core.specs.Serving.{ServesFiles}
 use Rattle.node_core.specs.Stores.{state}
 use Rattle.node_core.specs.Steps.{AnswersFile, AnswersServed, Does}
@@ -43,7 +45,7 @@ no-commit given change bytes same = cc
 done-refused : (r : Reply) (number : Errno) → answers.Done r ≡ answers.Refuse number → ⊥
 done-refused r number same = cc
 
--- one that is done wasn't kept out
+-- one that is done wasn't put off
 was-let-in : (start : History) (old : NodeParts) (caller : ℕ) (request : Request) (r : Reply) (end : History) (new : NodeParts) (said : Option Errno) (kept : Bool) →
     AnswersServed kept start old caller request (answers.Done r) end new said → ServesFiles start old caller request (answers.Done r) end new said
 was-let-in start old caller request r end new said true refused = absurd (done-refused r EAGAIN refused.0)
@@ -52,9 +54,9 @@ was-let-in start old caller request r end new said false serves = serves
 -- a request that unlinks nothing is one of the files
 is-served : (start : History) (old : NodeParts) (caller : ℕ) (request : Request) (r : Reply) (end : History) (new : NodeParts) (said : Option Errno) (here unlinked : Bool) → unlinked ≡ false →
     AnswersFile (here && unlinked) start old caller request (answers.Done r) end new said → ServesFiles start old caller request (answers.Done r) end new said
-is-served start old caller request r end new said true false none serves = was-let-in start old caller request r end new said (is_kept_out old caller request) serves
+is-served start old caller request r end new said true false none serves = was-let-in start old caller request r end new said (is_kept_out old caller request || is_barred old request) serves
 is-served start old caller request r end new said true true none serves = absurd (let no : true ≡ false = none in cc)
-is-served start old caller request r end new said false unlinked none serves = was-let-in start old caller request r end new said (is_kept_out old caller request) serves
+is-served start old caller request r end new said false unlinked none serves = was-let-in start old caller request r end new said (is_kept_out old caller request || is_barred old request) serves
 
 module _ (start end : History) (old new : NodeParts) (said : Option Errno) (caller : ℕ) (request : Request) (honest : IsTrue old.store.honest) where
   -- the bytes of the database file, as the cluster sees it
@@ -91,6 +93,6 @@ module _ (start end : History) (old new : NodeParts) (said : Option Errno) (call
 pub step-gives : (start end : History) (old new : NodeParts) (said : Option Errno) (caller : ℕ) (ask : Ask) (answer : Answer) → IsTrue old.store.honest → old.files.writer ≡ None → Does start old caller ask answer end new said →
     GivesBytes (image_bytes (seen start old).served.file) ask answer
 step-gives start end old new said caller (asks.File now request) (answers.Done r) honest none does =
-    subst (λ (s : Served). ReadGives (image_bytes (file_over s.database (state start old.store).image)) (file_at request.node) request.op r) (files-still old.files none (role_in (at_moment old now)))
+    subst (λ (s : Served). ReadGives (image_bytes (file_over s.database (state start old.store).image)) (file_at request.node) request.op r) (files-still old.files none (role_of (record old.standing { moment = max old.standing.moment now })))
     (gives-file start end (at_moment old now) new said caller request honest (file_at request.node) refl request.op refl r does)
 step-gives start end old new said caller ask answer honest none does = tt

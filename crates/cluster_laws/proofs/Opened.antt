@@ -1,5 +1,5 @@
 -- What a start gives, and what it leaves when it is stopped.
-use Rattle.std.proofs.Common.{◌≡◌, Bool, false, IsTrue, sym, ap, subst, ◌∙◌}
+use Rattle.std.proofs.Common.{◌≡◌, Bool, false, IsTrue, None, sym, ap, subst, ◌∙◌}
 use Rattle.lf_disk.specs.declared.disk.Disk.{Ghosts}
 use Rattle.lf_disk.specs.Folder.{Folder}
 use Rattle.lf_disk.specs.History.{EachMoment, History, Since, now}
@@ -8,12 +8,13 @@ use Rattle.txn_log.specs.Durable.{Durable}
 use Rattle.world_laws.specs.Store.{StoreState}
 use Rattle.node_core.specs.declared.config.NodeConfig.{NodeConfig}
 use Rattle.node_core.specs.declared.node.Node.{Node}
+use Rattle.node_core.specs.declared.standing.Standing.{Standing}
 use Rattle.node_core.specs.Nodes.{NodeParts, history, parts_of, seen, store_of}
-use Rattle.node_core.specs.Opening.{first_belief, opened, seen_opened}
+use Rattle.node_core.specs.Opening.{first_belief, no_permits, opened, seen_opened}
 use Rattle.node_core.specs.Stores.{StoreFields, fields_of, history_of, state}
 use Rattle.cluster_laws.specs.Cluster.{StandsOn, StartsOn}
 use Rattle.cluster_laws.specs.Cluster as cluster
-use Rattle.cluster_laws.specs.Leased.{unheard}
+use Rattle.cluster_laws.specs.Leased.{IsUnheard}
 use Rattle.cluster_laws.proofs.ClusterNodes.{nodes, opens}
 
 -- at each moment of a recovery a crash leaves a folder that stands for all that the first stood for
@@ -21,9 +22,11 @@ pub stands-on : (old new : History) → ((stood : StoreState) → Durable (now o
 stands-on old new each t c early late leaves stood stands = (each stood stands).each t c early late leaves
 
 -- a node that was opened so stands as before any news where its configuration is no candidate
-pub stands-unheard : (node : NodeParts) (store : StoreFields) (config : NodeConfig) → node ≡ opened store config → config.candidate ≡ false → node.standing ≡ unheard
+pub stands-unheard : (node : NodeParts) (store : StoreFields) (config : NodeConfig) → node ≡ opened store config → config.candidate ≡ false → IsUnheard node.standing
 stands-unheard node store config parts plain =
-    ap (λ (n : NodeParts). n.standing) parts ∙ ap (λ (candidate : Bool). record { belief = first_belief candidate; moment = 0 }) plain
+    (config.halt_ttl, ap (λ (n : NodeParts). n.standing) parts ∙ ap (λ (candidate : Bool). stands candidate) plain) where
+      stands : Bool → Standing
+      stands candidate = record { belief = first_belief candidate; moment = 0; pass = None; permits = no_permits config.halt_ttl }
 
 module _ {D : Type 0} {G : Ghosts D} where
   -- a node over a store that was recovered from a folder starts on that

@@ -12,7 +12,7 @@ use Rattle.node_core.specs.declared.standing.Standing.{Standing}
 use Rattle.cluster_laws.specs.Cluster.{Cluster, Move, Moves, Program, world}
 use Rattle.cluster_laws.specs.Cluster as cluster
 use Rattle.cluster_laws.specs.ClusterLaws.{ClusterIsKept, RestartsAreMoves, StepsAreMoves, StopsAreMoves}
-use Rattle.cluster_laws.specs.Leased.{IsLeasedStart, Leased, LeasedMove, LeasedMoves, Leasing, tenant_if, unheard}
+use Rattle.cluster_laws.specs.Leased.{IsLeasedStart, Leased, LeasedMove, LeasedMoves, Leasing, tenant_if, IsUnheard}
 use Rattle.cluster_laws.specs.Leased as leased
 use Rattle.cluster_laws.specs.LeasedLaws.{LeasedBegunIsStart, LeasedIsKept, RestartsAreLeasedMoves, ServiceIsServed, StepsAreLeasedMoves, StopsAreLeasedMoves}
 use Rattle.cluster_laws.specs.LeasedRunning.{LeasedRunningHolds}
@@ -67,10 +67,10 @@ module _ {M : Type 0} (p : Program M) where
 
 module _ {M : Type 0} {p : Program M} (h : Leasing p) where
   -- a lease before any news is idle, whatever is granted to its number
-  idle-if : (owner : ℕ → ℕ) (clocks : Clocks) (b : Bool) (node : M) (reply : Option ℕ) → (h.parts node).standing ≡ unheard → IsIdle (tenant_if h owner clocks b node reply)
+  idle-if : (owner : ℕ → ℕ) (clocks : Clocks) (b : Bool) (node : M) (reply : Option ℕ) → IsUnheard (h.parts node).standing → IsIdle (tenant_if h owner clocks b node reply)
   idle-if owner clocks false node reply stands = record { end = 0; end_is = refl; over = omega arith; waits = inr refl }
   idle-if owner clocks true node reply stands =
-      subst (λ (s : Standing). IsIdle record { belief = s.belief; moment = s.moment; granted = reply }) (sym stands)
+      subst (λ (s : Standing). IsIdle record { belief = s.belief; moment = s.moment; granted = reply }) (sym stands.1)
       record { end = 0; end_is = refl; over = omega arith; waits = inr refl }
 
   pub leased-begun-is-start : LeasedBegunIsStart h

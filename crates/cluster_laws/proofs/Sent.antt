@@ -5,6 +5,8 @@ use Rattle.std.specs.List.{flat_map, AllByRecursion}
 use Rattle.std.proofs.lemmas.List.Concat.{flat_map-append}
 use Rattle.http.specs.StatusCode.{IsStatusCode}
 use Rattle.lf_base.specs.declared.pos.Pos.{Pos}
+use Rattle.halt_forward.specs.declared.halt_fault.HaltFault.{HaltFault}
+use Rattle.halt_forward.specs.declared.halt_fault.HaltFault.TheVariants as halt
 use Rattle.turn_desk.specs.History.{StartsWith}
 use Rattle.node_core.specs.declared.whereabouts.Whereabouts.{Whereabouts}
 use Rattle.node_core.specs.declared.answer.Answer.{Answer}
@@ -24,7 +26,7 @@ use Rattle.stream_wire.specs.Writing.{reply_head}
 use Rattle.stream_primary.specs.declared.standing.Sent.{Sent}
 use Rattle.stream_primary.specs.declared.standing.Sent.TheVariants as sent
 use Rattle.stream_primary.specs.declared.standing.Standing.{Standing}
-use Rattle.stream_primary.specs.Refusing.{import_name, import_status, name_of, status_of, store_name, store_status}
+use Rattle.stream_primary.specs.Refusing.{halt_name, halt_status, import_name, import_status, name_of, status_of, store_name, store_status}
 use Rattle.stream_primary.specs.Streaming.{NodeEntry, sent_by}
 use Rattle.stream_primary.specs.Telling.{begun, file_of, next, standing_at, words}
 use Rattle.cluster_laws.specs.StreamLaw.{AreShort, asks_of, sent_asks}
@@ -198,9 +200,14 @@ import_odd : (why : ImportFault) → IsOdd (import_status why) (import_name why 
 import_odd import.NotDatabase = (λ same. omega (arith, same), (omega arith, omega arith), omega arith)
 import_odd why = (λ same. omega (arith, same), (omega arith, omega arith), omega arith)
 
+halt_odd : (why : HaltFault) → IsOdd (halt_status why) (halt_name why ++ 10 ∷ [])
+halt_odd halt.Limit = (λ same. omega (arith, same), (omega arith, omega arith), omega arith)
+halt_odd why = (λ same. omega (arith, same), (omega arith, omega arith), omega arith)
+
 refusal_odd : (why : Refusal) → IsOdd (status_of why) (name_of why ++ 10 ∷ [])
 refusal_odd (refusal.Store why) = store_odd why
 refusal_odd (refusal.Import why) = import_odd why
+refusal_odd (refusal.Halt why) = halt_odd why
 refusal_odd why = (λ same. omega (arith, same), (omega arith, omega arith), omega arith)
 
 first_words : (name : List ℕ) (from : Whereabouts) (given : Answer) → IsFirst name from given

@@ -42,6 +42,10 @@ now-of (ask.Import now bytes) = (now, λ m. refl)
 now-of (ask.Prune keep) = (0, λ m. sym (max-zero m))
 now-of (ask.Info now) = (now, λ m. refl)
 now-of (ask.Lease now news) = (now, λ m. refl)
+now-of (ask.HaltAsk now node) = (now, λ m. refl)
+now-of (ask.HaltBack now number) = (now, λ m. refl)
+now-of (ask.HaltGot now pass) = (now, λ m. refl)
+now-of (ask.HaltLost number) = (0, λ m. sym (max-zero m))
 
 -- a lease after an ask, where the moment passed first
 module _ (v last : Tenancy) (n : ℕ) (t : Tenant) (others : (j : ℕ) → j ≢ n → last.nodes j ≡ v.nodes j) (table : last.service ≡ v.service) {clocks : Clocks} where
@@ -64,6 +68,10 @@ module _ (v last : Tenancy) (n : ℕ) (t : Tenant) (others : (j : ℕ) → j ≢
   then-news (ask.Import now bytes) here reply is = rests-so (max t.moment now) here is
   then-news (ask.Prune keep) here reply is = rests-so t.moment here is
   then-news (ask.Info now) here reply is = rests-so (max t.moment now) here is
+  then-news (ask.HaltAsk now node) here reply is = rests-so (max t.moment now) here is
+  then-news (ask.HaltBack now number) here reply is = rests-so (max t.moment now) here is
+  then-news (ask.HaltGot now pass) here reply is = rests-so (max t.moment now) here is
+  then-news (ask.HaltLost number) here reply is = rests-so t.moment here is
   then-news (ask.Lease now (news.Primary host)) here reply is = rests-so (max t.moment now) here is
   then-news (ask.Lease now news.Asked) here reply is =
       let again : max t.moment now ≡ max (max t.moment now) now = omega arith in
@@ -171,7 +179,7 @@ module _ {M : Type 0} {p : Program M} (h : Leasing p) (owner : ℕ → ℕ) (clo
   fresh-if : (b : Bool) (l m : L) (k : ℕ) (reply : Option ℕ) → IsOpenedAnew h owner clocks l k m → lease_if b (m.cluster.nodes k) reply ≡ without reply
   fresh-if false l m k reply x = refl
   fresh-if true l m k reply x =
-      ap (λ (s : Standing). record { belief = s.belief; moment = s.moment; granted = reply }) x.standing
+      ap (λ (s : Standing). record { belief = s.belief; moment = s.moment; granted = reply }) x.standing.1
 
   fresh : (l m : L) (k n : ℕ) → IsOpenedAnew h owner clocks l k m → owner n ≡ k → lease_at m n ≡ without (m.replies n)
   fresh l m k n x of = ap (λ (i : ℕ). lease_if (eqb (m.numbers i) n) (m.cluster.nodes i) (m.replies n)) of ∙ fresh-if (eqb (m.numbers k) n) l m k (m.replies n) x

@@ -20,7 +20,7 @@ use Rattle.node_core.specs.declared.ask.Ask.TheVariants as asks
 use Rattle.node_core.specs.declared.news.LeaseNews.TheVariants as news
 use Rattle.node_core.specs.declared.standing.Standing.{Standing}
 use Rattle.node_core.specs.Nodes.{NodeParts, role_in}
-use Rattle.node_core.specs.Opening.{first_belief}
+use Rattle.node_core.specs.Opening.{first_belief, no_permits}
 use Rattle.node_core.specs.Roles.{law_role}
 use Rattle.node_core.specs.Safely.{IsAskOf}
 use Rattle.node_core.specs.Steps.{at_ask, belief_by, moment_by}
@@ -47,9 +47,12 @@ pub record Leased {M : Type 0} (p : Program M) (owner : ℕ → ℕ) : Type 0 wh
   pub owned : (k : ℕ) → owner (numbers k) ≡ k
   pub replies : ℕ → Option ℕ
 
--- what a node stands as before any news that is no candidate by its configuration
-abbrev pub unheard : Standing
-unheard = record { belief = first_belief false; moment = 0 }
+-- what a node stands as before any news that is no candidate by its configuration, where its permits last so long
+abbrev pub unheard : ℕ → Standing
+unheard ttl = record { belief = first_belief false; moment = 0; pass = None; permits = no_permits ttl }
+
+abbrev pub IsUnheard : Standing → Type 0
+IsUnheard standing = (ttl : ℕ) × (standing ≡ unheard ttl)
 
 -- the reply that is still to come: a node that asks again takes none to what it asked before
 abbrev pub reply_by : Ask → Option ℕ → Option ℕ
@@ -121,13 +124,13 @@ module _ {M : Type 0} {p : Program M} (h : Leasing p) (owner : ℕ → ℕ) (clo
   -- node k starts on a folder, under a number of its own, and stands as before any news
   pub record Starts (k : ℕ) (folder : Folder) (new : M) (number : ℕ) : Type 0 where
     pub on : StartsOn p folder new
-    pub standing : standing_of new ≡ unheard
+    pub standing : IsUnheard (standing_of new)
     pub own : owner number ≡ k
 
   -- node k was opened anew: it stands as before any news, and no reply to its last number is to come. Its number is the one that it
   -- drew now
   pub record IsOpenedAnew (l : Leased p owner) (k : ℕ) (m : Leased p owner) : Type 0 where
-    pub standing : standing_of (m.cluster.nodes k) ≡ unheard
+    pub standing : IsUnheard (standing_of (m.cluster.nodes k))
     pub reply : m.replies (l.numbers k) ≡ None
     pub rest : IsOfOne l k m
 
@@ -172,7 +175,7 @@ module _ {M : Type 0} {p : Program M} (h : Leasing p) (owner : ℕ → ℕ) (clo
   -- nodes that came up on folders without files and stand as before any news, a ledger of nothing, and a service that has granted nothing
   pub record IsLeasedBegun (l : Leased p owner) : Type 0 where
     pub cluster : IsBegun l.cluster
-    pub nodes : (k : ℕ) → standing_of (l.cluster.nodes k) ≡ unheard
+    pub nodes : (k : ℕ) → IsUnheard (standing_of (l.cluster.nodes k))
     pub service : l.service.grants ≡ []
 
   -- a node whose belief has not ended, and whose moment is current

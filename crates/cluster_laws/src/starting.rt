@@ -5,7 +5,7 @@ ghost use Rattle.txn_log.specs.Putting.{IsSettled};
 ghost use Rattle.node_core.specs.Nodes.{history, parts_of};
 ghost use Rattle.cluster_laws.specs.Cluster.{StandsOn, StartsOn};
 ghost use Rattle.cluster_laws.specs.ClusterLaws.{program};
-ghost use Rattle.cluster_laws.specs.Leased.{unheard};
+ghost use Rattle.cluster_laws.specs.Leased.{IsUnheard};
 
 use lf_disk::Disk;
 use node_core::{Node, NodeConfig};
@@ -21,7 +21,7 @@ use txn_log::Store;
 pub fn start_node<D: Disk + Drop>(alloc: Global, disk: D, config: NodeConfig) -> Result<Node<D>, D>
     requires settled { IsTrue (D.honest disk) → IsSettled (D.history disk) }
     ensures starts { IsTrue (D.honest disk) → IfOk result (StartsOn (program ⟦<Node<D> as Machine>⟧.steps (λ old new caller ask answer step. step.safe)) (now (D.history disk))) }
-    ensures standing { config.candidate ≡ false → IfOk result (λ node. (parts_of node).standing ≡ unheard) }
+    ensures standing { config.candidate ≡ false → IfOk result (λ node. IsUnheard (parts_of node).standing) }
 
     // What a stop of the start leaves.
     ensures stopped { IsTrue (D.honest disk) → IfOk result (λ node. Since (D.history disk).moment (history node) (StandsOn (now (D.history disk)))) }

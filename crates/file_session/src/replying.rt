@@ -73,6 +73,7 @@ fn reply_of(answer: Answer) -> Reply
         | Answer::Same(_)
         | Answer::Held(_)
         | Answer::Pruned(_)
+        | Answer::Pass(_)
         | Answer::Bytes(_)
         | Answer::Info(_)
         | Answer::Refused(_) => Reply::Error(NO_ANSWER),

@@ -13,15 +13,16 @@ use Rattle.lf_sqlite_pages.specs.PageSize.{IsPageSize}
 use Rattle.lf_sqlite_pages.specs.Change.{PageChange}
 use Rattle.file_view.specs.declared.plan.Plan.{Plan}
 use Rattle.file_view.specs.declared.plan.Plan.TheVariants as plan
+use Rattle.file_view.specs.declared.role.Role.{Role}
 use Rattle.file_view.specs.declared.role.Role.TheVariants as role
 use Rattle.file_view.specs.declared.scene.Scene.{Scene}
 use Rattle.file_view.specs.Done.{IsDone}
+use Rattle.file_view.specs.Errno.{EROFS}
 use Rattle.file_view.specs.Overlay.{FitsImage, IsOverImage, StandsOver}
 use Rattle.file_view.specs.Refusal.{IsAllowed}
 use Rattle.file_view.specs.Requests.{rows_of}
 use Rattle.file_view.specs.Served.{Served, has_committed_frames, log_contents, waits}
 use Rattle.file_view.specs.Steady.{CommitsNothing, IsQuiet, SameDatabase}
-use Rattle.lease_core.specs.Belief.{may_commit}
 use Rattle.txn_log.specs.Calls.{RestsAs}
 use Rattle.wal_watch.specs.Frames.{committed_count}
 use Rattle.world_laws.specs.Answers.{Answers, LeavesUndone}
@@ -29,8 +30,9 @@ use Rattle.world_laws.specs.Node as laws
 use Rattle.world_laws.specs.Served.{ShareForReading}
 use Rattle.world_laws.specs.Store.{MayBeFound, StoreState}
 use Rattle.node_core.specs.Files.{IsPlanned, scene, told}
+use Rattle.node_core.specs.Locking.{commit_refusal, commit_refusal_by}
 use Rattle.node_core.specs.Nodes.{frames_of, role_in, seen, NodeParts}
-use Rattle.node_core.specs.Roles.{role_by}
+use Rattle.node_core.specs.Roles.{permit_out}
 use Rattle.node_core.specs.Safely.{StepsSafely}
 use Rattle.node_core.specs.Stores.{IsRead, StoreFields, failed, position, state}
 use Rattle.node_core.proofs.Facts.{says-none}
@@ -77,6 +79,14 @@ reads-safely start mid old store files answer honest read rests over shares repl
     (λ plain still. let both = same (is-replica (role_in old) plain.role) in steady-files start mid old store files (read.state honest) both.0 both.1)
     (sound mid new over shares replica))
 
+-- only a primary has leave to commit
+pub primary : (n : NodeParts) → commit_refusal n.standing ≡ None → role_in n ≡ role.Primary
+primary n leave = go (role_in n) refl where
+  go : (r : Role) → role_in n ≡ r → role_in n ≡ role.Primary
+  go role.Primary is = is
+  go role.Replica is = absurd (let no : Some EROFS ≡ None = sym (ap (λ (r : Role). commit_refusal_by r (permit_out n.standing)) is) ∙ leave in cc)
+  go role.Halted is = absurd (let no : Some EROFS ≡ None = sym (ap (λ (r : Role). commit_refusal_by r (permit_out n.standing)) is) ∙ leave in cc)
+
 -- the law of the files at a replica
 abbrev pub LeavesReplica : Type 0
 LeavesReplica = (told : Option DatabaseImage) (old new : Served) (scene : Scene) (request : Request) (p : Plan) → scene.role ≡ role.Replica → IsQuiet old → IsAllowed (rows_of old scene request)
@@ -114,13 +124,6 @@ module _ (law : LeavesReplica) (start mid : History) (old : NodeParts) (store : 
 
   pub position-read : files.position ≡ position store
   position-read = left.position ∙ prepared.told_position ∙ sym (ap position prepared.read.same)
-
-  -- only a primary commits
-  pub primary : (r : Reply) (change : PageChange) → p ≡ plan.Commit r change → role_in old ≡ role.Primary
-  primary r change is = go (may_commit old.standing.belief old.standing.moment) refl where
-    go : (b : Bool) → may_commit old.standing.belief old.standing.moment ≡ b → role_in old ≡ role.Primary
-    go true leads = ap role_by leads
-    go false leads = absurd (subst CommitsNothing is (quiet (ap role_by leads)).2)
 
   -- a step that commits nothing
   pub plan-safely : (answer : laws.Answer) → IsTrue old.store.honest → RestsAs (MayBeFound (state mid store) (failed mid store)) mid → ShareForReading files.locks

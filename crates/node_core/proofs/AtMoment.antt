@@ -1,11 +1,11 @@
 -- A step over a node at its moment is a step of the node.
-use Rattle.std.proofs.Common.{◌≡◌, ◌∙◌, ℕ, IsTrue, List, Option, None, refl, sym, ap, subst}
+use Rattle.std.proofs.Common.{◌≡◌, ◌∙◌, ℕ, true, IsTrue, List, Option, None, refl, sym, ap, subst}
 use Rattle.std.specs.Prelude.{max, ◌++◌}
 use Rattle.lf_base.specs.declared.errno.Errno.{Errno}
 use Rattle.lf_disk.specs.History.{History, Since}
 use Rattle.file_view.specs.declared.role.Role.TheVariants as role
 use Rattle.file_view.specs.Overlay.{IsOverImage}
-use Rattle.lease_core.specs.Belief.{LeaseBelief}
+use Rattle.lease_core.specs.Belief.{LeaseBelief, may_commit}
 use Rattle.txn_log.specs.Calls.{MayFind, StandsForOne}
 use Rattle.world_laws.specs.MomentLaw.{MomentIsOfStep}
 use Rattle.world_laws.specs.Node as laws
@@ -31,11 +31,12 @@ module _ (law : MomentIsOfStep) (h : History) (n : NodeParts) (now : ℕ) where
 
   -- in the role that it has then
   whole-step : IsOverImage n.files (state h n.store).image → ShareForReading n.files.locks → (role_in n ≡ role.Replica → n.files.writer ≡ None) →
+      (may_commit n.standing.belief n.standing.moment ≡ true → n.standing.pass ≡ None) →
       (new : NodeState) (ask : laws.Ask) (answer : laws.Answer) (end : History) → StepsAs (seen h at_now) ask answer new h end →
       (whole : StepsSafely (seen h n) ask answer new h end) × (whole.facts.role ≡ law_role (role_in at_now))
-  whole-step over locks replica new ask answer end step =
+  whole-step over locks replica alone new ask answer end step =
       let facts = step.0.facts in
-      let w = law (seen h n) new (law_role (role_in at_now)) (served_over at_now.files (state h n.store).image) ask answer (moment-ends h n over locks now replica) facts step.1 in
+      let w = law (seen h n) new (law_role (role_in at_now)) (served_over at_now.files (state h n.store).image) ask answer (moment-ends h n over locks now replica alone) facts step.1 in
       let calls : w.0.did ++ begun_by w.0.failed ≡ facts.did ++ begun_by facts.failed = λ i. w.1 i ++ begun_by (w.2 i) in (
         record {
           facts = w.0;
@@ -57,7 +58,8 @@ module _ (law : MomentIsOfStep) (h : History) (n : NodeParts) (now : ℕ) where
     pub moment : moment_by ask n.standing.moment ≡ max n.standing.moment now
 
   module _ (between : History) (mid : NodeParts) (same : between ≡ h) (is : mid ≡ at_now) (ask : Ask) (answer : Answer) (end : History) (new : NodeParts) (said : Option Errno) (comes : ComesAt ask)
-      (over : IsTrue n.store.honest → IsOverImage n.files (state h n.store).image) (locks : ShareForReading n.files.locks) (replica : role_in n ≡ role.Replica → n.files.writer ≡ None) where
+      (over : IsTrue n.store.honest → IsOverImage n.files (state h n.store).image) (locks : ShareForReading n.files.locks) (replica : role_in n ≡ role.Replica → n.files.writer ≡ None)
+      (alone : may_commit n.standing.belief n.standing.moment ≡ true → n.standing.pass ≡ None) where
     -- what is told of the node at that moment, as each ask of the laws that the ask is
     abbrev TellsEach : (NodeState → laws.Ask → laws.Answer → NodeState → History → History → Type 0) → Type 0
     TellsEach Safely = IsTrue mid.store.honest → (one : laws.Ask) → IsAskOf ask one → Safely (seen between mid) one (law_answer answer) (seen end new) between end
@@ -70,7 +72,7 @@ module _ (law : MomentIsOfStep) (h : History) (n : NodeParts) (now : ℕ) where
         subst (λ (b : History). IsTrue n.store.honest → (one : laws.Ask) → IsAskOf ask one → StepsAs (seen b at_now) one (law_answer answer) (seen end new) b end) same
         (subst (λ (m : NodeParts). IsTrue m.store.honest → (one : laws.Ask) → IsAskOf ask one → StepsAs (seen between m) one (law_answer answer) (seen end new) between end) is safe) in
         let whole : (disk : IsTrue n.store.honest) (one : laws.Ask) → IsAskOf ask one → (w : StepsSafely (seen h n) one (law_answer answer) (seen end new) h end) × (w.facts.role ≡ law_role (role_in at_now)) =
-        λ disk one of. whole-step (over disk) locks replica (seen end new) one (law_answer answer) end (there disk one of) in
+        λ disk one of. whole-step (over disk) locks replica alone (seen end new) one (law_answer answer) end (there disk one of) in
         record {
           does = does;
           safe = λ disk one of. (whole disk one of).0;
@@ -96,5 +98,5 @@ module _ (law : MomentIsOfStep) (h : History) (n : NodeParts) (now : ℕ) where
     pub step-told : (told : laws.Ask) → ((one : laws.Ask) → IsAskOf ask one → one ≡ told) → (caller : ℕ) → Does h n caller ask answer end new said →
         (IsTrue mid.store.honest → StepsSafely (seen between mid) told (law_answer answer) (seen end new) between end) → new.standing ≡ mid.standing → Leaves told →
         belief_by ask n.standing.belief ≡ n.standing.belief → new.store.honest ≡ mid.store.honest → IsStep h n caller ask answer end new said
-    step-told told alone caller does safe stays keeps believed honest =
-        step-still caller does (λ disk one of. told-as (alone one of) (safe disk)) stays (λ one of. subst Leaves (sym (alone one of)) keeps) believed honest
+    step-told told only caller does safe stays keeps believed honest =
+        step-still caller does (λ disk one of. told-as (only one of) (safe disk)) stays (λ one of. subst Leaves (sym (only one of)) keeps) believed honest

@@ -1,18 +1,18 @@
 -- The database file is unlinked.
-use Rattle.std.proofs.Common.{◌≡◌, ℕ, Bool, true, false, List, [], ◌∷◌, Some, None, Result, Err, refl, subst, arith, ◌<◌}
+use Rattle.std.proofs.Common.{◌≡◌, ℕ, Bool, List, [], ◌∷◌, Some, None, Result, Err, refl, subst, arith, ◌<◌}
 use Rattle.std.specs.Prelude.{is_some}
 use Rattle.lf_base.specs.declared.pos.Pos.{Pos}
 use Rattle.lf_base.specs.Faults.{Rose}
 use Rattle.lf_disk.specs.History.{History}
 use Rattle.lf_sqlite_pages.specs.Image.{DatabaseImage}
+use Rattle.file_view.specs.declared.role.Role.{Role}
 use Rattle.file_view.specs.declared.role.Role.TheVariants as role
 use Rattle.file_view.specs.Endings.{applied, first_blocking}
-use Rattle.file_view.specs.Errno.{EAGAIN, EROFS}
+use Rattle.file_view.specs.Errno.{EAGAIN, EPERM, EROFS}
 use Rattle.file_view.specs.Overlay.{FitsImage, IsOverImage}
 use Rattle.file_view.specs.Refusal.{IsAllowed, Row, first_refusal}
 use Rattle.file_view.specs.Roles.{is_replica}
 use Rattle.file_view.specs.Served.{Served}
-use Rattle.lease_core.specs.Belief.{may_commit}
 use Rattle.txn_log.specs.declared.fault.StoreFault.{StoreFault}
 use Rattle.txn_log.specs.declared.fault.StoreFault.TheVariants as fault
 use Rattle.txn_log.specs.Calls.{Went}
@@ -21,7 +21,7 @@ use Rattle.txn_log.specs.Dropping.{DropsAll}
 use Rattle.world_laws.specs.Store.{DropAll}
 use Rattle.node_core.specs.Calls.{Changes}
 use Rattle.node_core.specs.Nodes.{NodeParts, role_in}
-use Rattle.node_core.specs.Roles.{role_by}
+use Rattle.node_core.specs.Roles.{is_halted, permit_out}
 use Rattle.node_core.specs.Stores.{StoreFields, failed, state}
 use Rattle.node_core.specs.Unlinking.{unlink_rows}
 use Rattle.node_core.proofs.Calls.{changes, drop-whole, no_failure}
@@ -42,15 +42,13 @@ dropped-over s at image =
     record { differs = over.differs; agrees = over.agrees }
 
 -- only a primary is allowed to
-leads-by : (leads : Bool) (rows : List Row) → first_refusal ((is_replica (role_by leads), EROFS) ∷ rows) ≡ None → role_by leads ≡ role.Primary
-leads-by true rows allowed = refl
-leads-by false rows allowed = absurd (some_none allowed)
-  where
-    some_none : Some EROFS ≡ None → ⊥
-    some_none same = cc
+leads-by : (r : Role) (rows : List Row) → first_refusal ((is_replica r, EROFS) ∷ (is_halted r, EPERM) ∷ rows) ≡ None → r ≡ role.Primary
+leads-by role.Primary rows allowed = refl
+leads-by role.Replica rows allowed = absurd (let no : Some EROFS ≡ None = allowed in cc)
+leads-by role.Halted rows allowed = absurd (let no : Some EPERM ≡ None = allowed in cc)
 
 pub leads-allowed : (n : NodeParts) → IsAllowed (unlink_rows n) → role_in n ≡ role.Primary
-leads-allowed n allowed = leads-by (may_commit n.standing.belief n.standing.moment) ((is_some (first_blocking n.files n.store.wal), EAGAIN) ∷ []) allowed
+leads-allowed n allowed = leads-by (role_in n) ((is_some (permit_out n.standing), EAGAIN) ∷ (is_some (first_blocking n.files n.store.wal), EAGAIN) ∷ []) allowed
 
 -- what the drop made of the store
 pub drop-changes : (start end : History) (old new : StoreFields) {T : Type 0} (result : Result T StoreFault) → DropsAll old.broken result

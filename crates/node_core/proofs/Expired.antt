@@ -1,5 +1,5 @@
 -- What becomes of a node where its standing is another, and of its files where it is a replica then.
-use Rattle.std.proofs.Common.{◌≡◌, ◌∙◌, ℕ, ◌<◌, ◌≤◌, Bool, true, false, IsTrue, inl, inr, Option, None, Some, refl, sym, ap, subst, arith}
+use Rattle.std.proofs.Common.{◌≡◌, ◌∙◌, ◌⊎◌, ℕ, ◌<◌, ◌≤◌, Bool, true, false, IsTrue, inl, inr, Option, None, Some, refl, sym, ap, subst, arith}
 use Rattle.std.specs.Prelude.{is_some, max, nat_lt, if◌then◌else◌}
 use Rattle.std.specs.Option.{option_map}
 use Rattle.std.proofs.lemmas.Bool.Decides.{nat_tests}
@@ -14,16 +14,19 @@ use Rattle.file_view.specs.declared.role.Role.TheVariants as role
 use Rattle.file_view.specs.Endings.{dropped}
 use Rattle.file_view.specs.Overlay.{FitsImage, IsOverImage}
 use Rattle.file_view.specs.Served.{Served, log_contents}
+use Rattle.halt_forward.specs.declared.halt_pass.HaltPass.{HaltPass}
+use Rattle.halt_forward.specs.Permits.{unless_ended}
 use Rattle.lease_core.specs.Belief.{LeaseBelief, is_before, may_commit}
 use Rattle.world_laws.specs.MomentLaw.{Ends}
 use Rattle.world_laws.specs.Node as laws
 use Rattle.world_laws.specs.Node.{IsSoundNode}
 use Rattle.world_laws.specs.Served.{ShareForReading}
+use Rattle.node_core.specs.declared.standing.Standing.{Standing}
 use Rattle.node_core.specs.Nodes.{NodeParts, at_moment, role_in, seen, served_over, writer_in}
-use Rattle.node_core.specs.Roles.{files_at, law_role, role_by}
+use Rattle.node_core.specs.Roles.{files_at, in_force, law_role, pass_by, role_by, role_of}
 use Rattle.node_core.specs.Stores.{state}
 use Rattle.node_core.proofs.Endings.{nothing}
-use Rattle.node_core.proofs.Sound.{meets}
+use Rattle.node_core.proofs.Sound.{is-replica, meets}
 
 -- without a writer nothing is dropped
 pub dropped-none : (s : Served) → s.writer ≡ None → dropped s ≡ s
@@ -98,31 +101,84 @@ before-end belief moment now later = go belief.end later where
 true_false : false ≡ true → ⊥
 true_false same = cc
 
+-- a permit that has not ended is not looked at again
+again : (moment : ℕ) (pass : Option HaltPass) → unless_ended moment (unless_ended moment pass) ≡ unless_ended moment pass
+again moment None = refl
+again moment (Some pass) = go (nat_lt moment pass.until) refl where
+  go : (b : Bool) → nat_lt moment pass.until ≡ b → unless_ended moment (if b then Some pass else None) ≡ (if b then Some pass else None)
+  go true is = ap (λ (b : Bool). if b then Some pass else None) is
+  go false is = refl
+
+-- nor had it before
+unless-later : (moment now : ℕ) (pass : Option HaltPass) (out : HaltPass) → unless_ended (max moment now) pass ≡ Some out → unless_ended moment pass ≡ Some out
+unless-later moment now None out some = absurd (let no : None ≡ Some out = some in cc)
+unless-later moment now (Some pass) out some = go (nat_lt (max moment now) pass.until) refl where
+  go : (b : Bool) → nat_lt (max moment now) pass.until ≡ b → unless_ended moment (Some pass) ≡ Some out
+  go true is =
+      let before : nat_lt moment pass.until ≡ true = grind (arith, nat_tests, is) in
+      ap (λ (b : Bool). if b then Some pass else None) (before ∙ sym is) ∙ some
+  go false is = absurd (let no : None ≡ Some out = sym (ap (λ (b : Bool). if b then Some pass else None) is) ∙ some in cc)
+
+-- what goes of a standing that ended leaves the role
+pub role-in-force : (s : Standing) → role_of (in_force s) ≡ role_of s
+role-in-force s = go (may_commit s.belief s.moment) where
+  go : (b : Bool) → role_by b (unless_ended s.moment (pass_by b (unless_ended s.moment s.pass))) ≡ role_by b (unless_ended s.moment s.pass)
+  go true = refl
+  go false = ap (λ (pass : Option HaltPass). role_by false pass) (again s.moment s.pass)
+
+-- and a lease is alone
+pub alone-in-force : (s : Standing) → may_commit s.belief s.moment ≡ true → (in_force s).pass ≡ None
+alone-in-force s leads = ap (λ (b : Bool). pass_by b (unless_ended s.moment s.pass)) leads
+
+-- a later moment leaves a role, or makes a replica of it
+roles : (before after : Bool) (had has : Option HaltPass) → (after ≡ true → before ≡ true) → (before ≡ true → has ≡ None) → ((pass : HaltPass) → has ≡ Some pass → had ≡ Some pass) →
+    (role_by after has ≡ role_by before had) ⊎ (role_by after has ≡ role.Replica)
+roles true true had has back alone same = inl refl
+roles false true had has back alone same = absurd (true_false (back refl))
+roles before false had None back alone same = inr refl
+roles true false had (Some pass) back alone same = absurd (let no : Some pass ≡ None = alone refl in cc)
+roles false false had (Some pass) back alone same = inl (ap (λ (p : Option HaltPass). role_by false p) (sym (same pass refl)))
+
+role-later : (s : Standing) (now : ℕ) → (may_commit s.belief s.moment ≡ true → s.pass ≡ None) →
+    (role_of (record s { moment = max s.moment now }) ≡ role_of s) ⊎ (role_of (record s { moment = max s.moment now }) ≡ role.Replica)
+role-later s now alone =
+    roles (may_commit s.belief s.moment) (may_commit s.belief (max s.moment now)) (unless_ended s.moment s.pass) (unless_ended (max s.moment now) s.pass)
+    (before-end s.belief s.moment now) (λ leads. ap (λ (p : Option HaltPass). unless_ended (max s.moment now) p) (alone leads)) (unless-later s.moment now s.pass)
+
 module _ (h : History) (n : NodeParts) (over : IsOverImage n.files (state h n.store).image) (locks : ShareForReading n.files.locks) where
   abbrev image : DatabaseImage
   image = (state h n.store).image
 
-  -- a primary stays one or becomes a replica, and a replica stays one
-  ends-by : (before after : Bool) → (after ≡ true → before ≡ true) → (role_by before ≡ role.Replica → n.files.writer ≡ None)
-      → Ends (record (seen h n) { role = law_role (role_by before) }) (law_role (role_by after)) (served_over (files_at (role_by after) n.files) image)
-  ends-by true true back replica = record { locks = refl; ends = inl (refl, refl); replica = λ is. absurd cc; sound = λ was. was }
-  ends-by false true back replica = absurd (true_false (back refl))
-  ends-by before false back replica = record {
+  abbrev EndsAs : Role → Role → Type 0
+  EndsAs before after = Ends (record (seen h n) { role = law_role before }) (law_role after) (served_over (files_at after n.files) image)
+
+  -- a node that is a replica then
+  to-replica : (before : Role) → (before ≡ role.Replica → n.files.writer ≡ None) → EndsAs before role.Replica
+  to-replica before replica = record {
     locks = files-field n.files (λ (s : Served). s.locks) (λ owner. refl) role.Replica;
     ends = inr refl;
-    replica = λ is. (refl, ap (λ (s : Served). served_over s image) (files-still n.files (replica (was-replica before is)) role.Replica));
+    replica = λ is. (refl, ap (λ (s : Served). served_over s image) (files-still n.files (replica (is-replica before is)) role.Replica));
     sound = λ was. record {
       overlay = meets (dropped n.files) image (files-over n.files image over role.Replica);
       shares = subst ShareForReading (sym (files-field n.files (λ (s : Served). s.locks) (λ owner. refl) role.Replica)) locks;
       replica = λ is. ap (λ w. option_map (writer_in (dropped n.files).database image) w) (dropped-writer n.files);
     };
   }
-    where
-      was-replica : (b : Bool) → law_role (role_by b) ≡ laws.Replica → role_by b ≡ role.Replica
-      was-replica true is = absurd cc
-      was-replica false is = refl
+
+  -- and one that is what it was
+  to-itself : (r : Role) → (r ≡ role.Replica → n.files.writer ≡ None) → EndsAs r r
+  to-itself role.Primary replica = record { locks = refl; ends = inl (refl, refl); replica = λ is. absurd cc; sound = λ was. was }
+  to-itself role.Halted replica = record { locks = refl; ends = inl (refl, refl); replica = λ is. absurd cc; sound = λ was. was }
+  to-itself role.Replica replica = to-replica role.Replica replica
+
+  ends-by : (before after : Role) → (after ≡ before) ⊎ (after ≡ role.Replica) → (before ≡ role.Replica → n.files.writer ≡ None) → EndsAs before after
+  ends-by before after (inl same) replica = subst (EndsAs before) (sym same) (to-itself before replica)
+  ends-by before after (inr is) replica = subst (EndsAs before) (sym is) (to-replica before replica)
 
   -- what a moment leaves of a node
-  pub moment-ends : (now : ℕ) → (role_in n ≡ role.Replica → n.files.writer ≡ None) → Ends (seen h n) (law_role (role_in (at_moment n now))) (served_over (at_moment n now).files image)
-  moment-ends now replica =
-      ends-by (may_commit n.standing.belief n.standing.moment) (may_commit n.standing.belief (max n.standing.moment now)) (before-end n.standing.belief n.standing.moment now) replica
+  pub moment-ends : (now : ℕ) → (role_in n ≡ role.Replica → n.files.writer ≡ None) → (may_commit n.standing.belief n.standing.moment ≡ true → n.standing.pass ≡ None) →
+      Ends (seen h n) (law_role (role_in (at_moment n now))) (served_over (at_moment n now).files image)
+  moment-ends now replica alone =
+      let later : Standing = record n.standing { moment = max n.standing.moment now } in
+      subst (λ (r : Role). Ends (seen h n) (law_role r) (served_over (files_at (role_of later) n.files) image)) (sym (role-in-force later))
+      (ends-by (role_in n) (role_of later) (role-later n.standing now alone) replica)

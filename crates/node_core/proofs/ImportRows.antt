@@ -1,12 +1,14 @@
 -- Worked rows of EXPORT and IMPORT. A database is one page of 512 zero bytes, at transaction 1. Two such pages are imported over it, of
 -- which the first says in its bytes 16 and 17 that a page has 512 bytes.
-use Rattle.std.proofs.Common.{◌≡◌, ◌≢◌, ◌∙◌, ◌≤◌, ℕ, false, IsTrue, List, [], ◌∷◌, ◌++◌, None, Some, inl, inr, refl, sym, ap, arith}
+use Rattle.std.proofs.Common.{◌≡◌, ◌≢◌, ◌∙◌, ◌≤◌, ℕ, false, IsTrue, List, [], ◌∷◌, ◌++◌, Option, None, Some, inl, inr, refl, sym, ap, subst, arith}
 use Rattle.std.specs.Prelude.{replicate, take}
 use Rattle.byte_locks.specs.declared.lock_entry.LockEntry.{LockEntry}
 use Rattle.byte_locks.specs.declared.lock_id.LockId.{LockId}
 use Rattle.byte_locks.specs.declared.lock_id.LockId.TheVariants as lock
 use Rattle.byte_locks.specs.declared.lock_kind.LockKind.TheVariants as kind
 use Rattle.byte_locks.specs.ModeLocks.{blocking_locks}
+use Rattle.halt_forward.specs.declared.halt_fault.HaltFault.TheVariants.{HaltHeld}
+use Rattle.halt_forward.specs.declared.halt_pass.HaltPass.{HaltPass}
 use Rattle.lf_base.specs.declared.pos.Pos.{Pos}
 use Rattle.lf_base.specs.Endian.{be16_at}
 use Rattle.lf_disk.specs.History.{History}
@@ -31,8 +33,9 @@ use Rattle.node_core.specs.declared.refusal.Refusal.{Refusal}
 use Rattle.node_core.specs.declared.refusal.Refusal.TheVariants as refusals
 use Rattle.node_core.specs.Dropping.{IsFree}
 use Rattle.node_core.specs.Exporting.{RefusesExport, TellsBytes}
-use Rattle.node_core.specs.Importing.{AnswersImport, IsImported, RefusesImport, TakesImport}
+use Rattle.node_core.specs.Importing.{AnswersImport, IsImported, RefusesImport, TakesImport, TakesUnless}
 use Rattle.node_core.specs.Nodes.{NodeParts, role_in}
+use Rattle.node_core.specs.Roles.{permit_out}
 use Rattle.node_core.specs.Stores.{StoreFields, position, state}
 
 abbrev zeros : List ℕ
@@ -92,6 +95,7 @@ refused old refusals.NotPrimary new zero is = absurd is
 refused old refusals.NotReplica new zero is = absurd is
 refused old (refusals.Ltx why) new zero is = absurd is
 refused old (refusals.Import why) new zero is = absurd is
+refused old (refusals.Halt why) new zero is = absurd is
 
 absent : (start : History) (old : StoreFields) (answer : Answer) (new : StoreFields) → (position old).txid ≡ 0 → TellsBytes start old answer new → answer ≡ answers.Refused refusals.Absent
 absent start old (answers.Bytes bytes) new zero is = absurd (none old zero is.0)
@@ -108,6 +112,7 @@ absent start old (answers.Same here) new zero is = absurd is
 absent start old (answers.Held lock) new zero is = absurd is
 absent start old (answers.Pruned count) new zero is = absurd is
 absent start old (answers.Info info) new zero is = absurd is
+absent start old (answers.Pass pass) new zero is = absurd is
 
 -- a reader in rollback mode holds an import back by SHARED
 abbrev reader : LockEntry
@@ -142,6 +147,7 @@ module _ (start : History) (old : NodeParts) (bytes : List ℕ) (end : History) 
   no_refusal refusals.NotReplica is = is
   no_refusal (refusals.Ltx why) is = is
   no_refusal refusals.Absent is = is
+  no_refusal (refusals.Halt why) is = is
 
   waits : (answer : Answer) → TakesImport start old bytes answer end new → answer ≡ answers.Held lock.Shared
   waits (answers.Held which) is = ap (λ (l : LockId). answers.Held l) (let same : Some which ≡ Some lock.Shared = sym is.0 ∙ held in cc)
@@ -158,12 +164,20 @@ module _ (start : History) (old : NodeParts) (bytes : List ℕ) (end : History) 
   waits (answers.Pruned count) is = absurd is
   waits (answers.Bytes pages) is = absurd is
   waits (answers.Info info) is = absurd is
+  waits (answers.Pass pass) is = absurd is
 
-under_a_reader : (start end : History) (old new : NodeParts) (bytes : List ℕ) (answer : Answer) → role_in old ≡ role.Primary → old.store.wal ≡ false → old.files.locks ≡ reader ∷ []
-    → AnswersImport start old bytes answer end new → answer ≡ answers.Held lock.Shared
-under_a_reader start end old new bytes answer primary rollback one (inl elsewhere) = absurd (elsewhere.0 primary)
-under_a_reader start end old new bytes answer primary rollback one (inr here) =
-    waits start old bytes end new (ap (λ wal. first_blocking old.files wal) rollback ∙ reads old.files one) answer here.1
+under_a_reader : (start end : History) (old new : NodeParts) (bytes : List ℕ) (answer : Answer) → role_in old ≡ role.Primary → permit_out old.standing ≡ None → old.store.wal ≡ false
+    → old.files.locks ≡ reader ∷ [] → AnswersImport start old bytes answer end new → answer ≡ answers.Held lock.Shared
+under_a_reader start end old new bytes answer primary alone rollback one (inl elsewhere) = absurd (elsewhere.0 primary)
+under_a_reader start end old new bytes answer primary alone rollback one (inr here) =
+    waits start old bytes end new (ap (λ wal. first_blocking old.files wal) rollback ∙ reads old.files one) answer
+    (subst (λ (p : Option HaltPass). TakesUnless p start old bytes answer end new) alone here.1)
+
+-- while permit 3 is out, whatever locks are held
+under_a_permit : (start end : History) (old new : NodeParts) (bytes : List ℕ) (answer : Answer) → role_in old ≡ role.Primary → permit_out old.standing ≡ Some (record { number = 3; until = 900 })
+    → AnswersImport start old bytes answer end new → answer ≡ answers.Refused (refusals.Halt (HaltHeld 3 900))
+under_a_permit start end old new bytes answer primary out (inl elsewhere) = absurd (elsewhere.0 primary)
+under_a_permit start end old new bytes answer primary out (inr here) = (subst (λ (p : Option HaltPass). TakesUnless p start old bytes answer end new) out here.1).0
 
 -- at a replica
 at_a_replica : (start end : History) (old new : NodeParts) (bytes : List ℕ) (answer : Answer) → role_in old ≢ role.Primary → AnswersImport start old bytes answer end new

@@ -173,8 +173,10 @@ module _ (start : History) (old : NodeParts) (bytes : List ℕ) (change : PageCh
   takes-change (answers.Refused (refusals.Ltx why)) never = absurd never
   takes-change (answers.Refused (refusals.Import why)) never = absurd never
   takes-change (answers.Refused refusals.Absent) never = absurd never
+  takes-change (answers.Refused (refusals.Halt why)) never = absurd never
   takes-change (answers.Done reply) never = absurd never
   takes-change answers.Quiet never = absurd never
+  takes-change (answers.Pass pass) never = absurd never
   takes-change (answers.Refuse number) never = absurd never
   takes-change (answers.At here) never = absurd never
   takes-change (answers.Level here) never = absurd never
@@ -217,8 +219,10 @@ module _ (start mid : History) (old : NodeParts) (same : IsTrue old.store.honest
   change-since (answers.Refused (refusals.Ltx why)) new never = absurd never
   change-since (answers.Refused (refusals.Import why)) new never = absurd never
   change-since (answers.Refused refusals.Absent) new never = absurd never
+  change-since (answers.Refused (refusals.Halt why)) new never = absurd never
   change-since (answers.Done reply) new never = absurd never
   change-since answers.Quiet new never = absurd never
+  change-since (answers.Pass pass) new never = absurd never
   change-since (answers.Refuse number) new never = absurd never
   change-since (answers.At here) new never = absurd never
   change-since (answers.Level here) new never = absurd never

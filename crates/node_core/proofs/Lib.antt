@@ -11,6 +11,7 @@ pub mod OneAsk
 pub mod AtMoment
 pub mod Noted
 mod HoldingRows
+mod PermitRows
 mod ImportRows
 pub mod Opened
 pub mod Dropped
@@ -31,3 +32,4 @@ pub mod Looked
 pub mod Encodings
 pub mod Lookups
 pub mod Imported
+pub mod Alone

@@ -89,6 +89,7 @@ module _ (start mid : History) (old : NodeParts) (looked : IsLookedAt start old.
   tells-since (answers.Refused why) new tells = tells
   tells-since (answers.Done reply) new tells = tells
   tells-since answers.Quiet new tells = tells
+  tells-since (answers.Pass pass) new tells = tells
   tells-since (answers.Refuse number) new tells = tells
   tells-since (answers.At here) new tells = tells
   tells-since (answers.Applied here) new tells = tells

@@ -17,3 +17,7 @@ last_stands first last (ask.Import before bytes) = refl
 last_stands first last (ask.Prune keep) = refl
 last_stands first last (ask.Info before) = refl
 last_stands first last (ask.Lease before news) = refl
+last_stands first last (ask.HaltAsk before node) = refl
+last_stands first last (ask.HaltBack before number) = refl
+last_stands first last (ask.HaltGot before pass) = refl
+last_stands first last (ask.HaltLost number) = refl

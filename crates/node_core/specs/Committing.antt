@@ -1,6 +1,7 @@
 -- A commit of the primary: one transaction with the complete change, the node's moment as its stamp and the node's own number;
--- then the log is pruned to the retention. What becomes of the prune does not change the answer.
-use Rattle.std.specs.Prelude.{◌≡◌, ◌⊎◌, ℕ, ◌≤◌, true, IsTrue, max, Option, Result, Ok, Err}
+-- then the log is pruned to the retention. What becomes of the prune does not change the answer. While a permit is out it has no
+-- leave to commit.
+use Rattle.std.specs.Prelude.{◌≡◌, ◌⊎◌, ℕ, ◌≤◌, true, IsTrue, max, Option, Some, None, Result, Ok, Err}
 use Rattle.lf_base.specs.Faults.{Rose}
 use Rattle.lf_base.specs.declared.errno.Errno.{Errno}
 use Rattle.lf_base.specs.declared.pos.Pos.{Pos}
@@ -20,8 +21,9 @@ use Rattle.node_core.specs.declared.config.NodeConfig.{NodeConfig}
 use Rattle.node_core.specs.Calls.{ChangesAndPrunes}
 use Rattle.node_core.specs.Errors.{errno_of_store}
 use Rattle.node_core.specs.Files.{IsPlanned}
+use Rattle.node_core.specs.Locking.{commit_refusal}
 use Rattle.node_core.specs.Nodes.{NodeParts}
-use Rattle.node_core.specs.Stores.{StoreFields, failed, position, state}
+use Rattle.node_core.specs.Stores.{IsRead, StoreFields, failed, position, state}
 
 -- how many files of the log are kept; a retention of 0 stands for 1
 abbrev pub kept_files : NodeConfig → ℕ
@@ -59,6 +61,7 @@ pub record IsCommitted (start : History) (old : NodeParts) (caller : ℕ) (reque
   pub change : PageChange
   pub waiting : Served
   pub told : Pos
+  pub leave : commit_refusal old.standing ≡ None
   pub planned : IsPlanned start old caller request (plan.Commit reply change) waiting
   pub store : CommitsStore start old change (Ok told) end new.store
   pub shape : (new.store.page_size ≡ change.page_size) × (new.store.commit ≡ change.commit) × (position new.store ≡ told)
@@ -70,9 +73,20 @@ pub record IsNotCommitted (start : History) (old : NodeParts) (caller : ℕ) (re
   pub change : PageChange
   pub waiting : Served
   pub why : StoreFault
+  pub leave : commit_refusal old.standing ≡ None
   pub planned : IsPlanned start old caller request (plan.Commit reply change) waiting
   pub store : CommitsStore start old change (Err why) end new.store
   pub comes : Comes why
   pub number_is : number ≡ errno_of_store said why
   pub shape : (new.store.page_size ≡ old.store.page_size) × (new.store.commit ≡ old.store.commit) × (position new.store ≡ position old.store)
+  pub same : new ≡ record old { store = new.store }
+
+-- the node has no leave to commit: the request has changed nothing in the files, and the store was not asked
+pub record IsNotLeft (start : History) (old : NodeParts) (caller : ℕ) (request : Request) (number : Errno) (end : History) (new : NodeParts) : Type 0 where
+  pub reply : Reply
+  pub change : PageChange
+  pub waiting : Served
+  pub planned : IsPlanned start old caller request (plan.Commit reply change) waiting
+  pub refused : commit_refusal old.standing ≡ Some number
+  pub read : IsRead start old.store end new.store
   pub same : new ≡ record old { store = new.store }

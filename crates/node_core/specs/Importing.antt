@@ -1,7 +1,9 @@
--- IMPORT: a database in the place of the primary's, as one transaction. The log is not pruned.
-use Rattle.std.specs.Prelude.{◌≡◌, ◌≢◌, ◌⊎◌, ◌≤◌, ℕ, false, IsTrue, List, Some, None, Result, Ok, Err}
+-- IMPORT: a database in the place of the primary's, as one transaction, unless a permit is out. The log is not pruned.
+use Rattle.std.specs.Prelude.{◌≡◌, ◌≢◌, ◌⊎◌, ◌≤◌, ℕ, false, IsTrue, List, Option, Some, None, Result, Ok, Err}
 use Rattle.lf_base.specs.declared.pos.Pos.{Pos}
 use Rattle.lf_disk.specs.History.{History}
+use Rattle.halt_forward.specs.declared.halt_fault.HaltFault.TheVariants.{HaltHeld}
+use Rattle.halt_forward.specs.declared.halt_pass.HaltPass.{HaltPass}
 use Rattle.lf_sqlite_pages.specs.Change.{FitsOver, PageChange}
 use Rattle.database_file.specs.Commit.{LeadsTo}
 use Rattle.file_view.specs.declared.role.Role.TheVariants as role
@@ -23,6 +25,7 @@ use Rattle.node_core.specs.Committing.{file_of}
 use Rattle.node_core.specs.Dropping.{IsFree, IsUntouched}
 use Rattle.node_core.specs.Hello.{IsLookedInto}
 use Rattle.node_core.specs.Nodes.{NodeParts, role_in}
+use Rattle.node_core.specs.Roles.{permit_out}
 use Rattle.node_core.specs.Stores.{OnlyRead, StoreFields, failed, position, state}
 
 -- the store was compared with the bytes, with this result, and nothing else was done: they are no database, or past the limit; the
@@ -108,7 +111,7 @@ RefusesImport start old bytes refusals.NoMemory end new =
     IsCompared {T = Unit {0}} start old bytes (Err import.NoMemory) end new ⊎ IsNotImported start old bytes fault.NoMemory end new
 RefusesImport start old bytes why end new = ⊥
 
--- what a primary answers
+-- what a primary answers that has no permit out
 abbrev pub TakesImport : History → NodeParts → List ℕ → Answer → History → NodeParts → Type 0
 TakesImport start old bytes (answers.Applied told) end new = IsImported start old bytes told end new
 TakesImport start old bytes (answers.Same here) end new = (here ≡ position old.store) × IsThere start old bytes end new
@@ -116,8 +119,14 @@ TakesImport start old bytes (answers.Held lock) end new = (first_blocking old.fi
 TakesImport start old bytes (answers.Refused why) end new = RefusesImport start old bytes why end new
 TakesImport start old bytes answer end new = ⊥
 
+-- while a permit is out nothing is taken, and the answer names it
+abbrev pub TakesUnless : Option HaltPass → History → NodeParts → List ℕ → Answer → History → NodeParts → Type 0
+TakesUnless (Some pass) start old bytes answer end new =
+    (answer ≡ answers.Refused (refusals.Halt (HaltHeld pass.number pass.until))) × IsUntouched start old end new
+TakesUnless None start old bytes answer end new = TakesImport start old bytes answer end new
+
 -- only the primary takes one
 abbrev pub AnswersImport : History → NodeParts → List ℕ → Answer → History → NodeParts → Type 0
 AnswersImport start old bytes answer end new =
     ((role_in old ≢ role.Primary) × (answer ≡ answers.Refused refusals.NotPrimary) × IsUntouched start old end new)
-    ⊎ ((role_in old ≡ role.Primary) × TakesImport start old bytes answer end new)
+    ⊎ ((role_in old ≡ role.Primary) × TakesUnless (permit_out old.standing) start old bytes answer end new)

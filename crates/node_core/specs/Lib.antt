@@ -7,6 +7,7 @@ pub mod Calls
 pub mod Safely
 pub mod Files
 pub mod HoldingBack
+pub mod Locking
 pub mod Unlinking
 pub mod Committing
 pub mod Serving
@@ -20,5 +21,7 @@ pub mod Opening
 pub mod Leasing
 pub mod Telling
 pub mod Where
+pub mod Permitting
 pub mod Steps
 pub mod Runs
+pub mod PermitLaw

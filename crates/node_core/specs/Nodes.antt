@@ -21,7 +21,7 @@ use Rattle.node_core.specs.declared.config.NodeConfig.{NodeConfig}
 use Rattle.node_core.specs.declared.held_back.HeldBack.{HeldBack}
 use Rattle.node_core.specs.declared.node.Node.{Node}
 use Rattle.node_core.specs.declared.standing.Standing.{Standing}
-use Rattle.node_core.specs.Roles.{files_at, law_role, role_of}
+use Rattle.node_core.specs.Roles.{files_at, in_force, law_role, role_of}
 use Rattle.node_core.specs.Stores.{StoreFields, failed, fields_of, history_of, said_of, state}
 
 -- a node at one moment: the served files, with the position and the primary's host as they were given; its store; what it was
@@ -37,9 +37,10 @@ pub record NodeParts : Type 0 where
 abbrev pub role_in : NodeParts → Role
 role_in n = role_of n.standing
 
--- the node once it stands so. Where it is a replica then, its uncommitted pages go
+-- the node once it stands so, with the permit that it got only while that is in force. Where it is a replica then, its uncommitted
+-- pages go
 abbrev pub stands : Standing → NodeParts → NodeParts
-stands standing n = record n { files = files_at (role_of standing) n.files; standing = standing }
+stands standing n = record n { files = files_at (role_of standing) n.files; standing = in_force standing }
 
 -- the node at the moment of an ask: the greatest that it was given. What has expired then has ended
 abbrev pub at_moment : NodeParts → ℕ → NodeParts

@@ -2,6 +2,7 @@
 use Rattle.std.specs.Prelude.{Bool, true, false, ℕ, ◌==◌, Option, Some, None, List, length, if◌then◌else◌}
 use Rattle.lf_disk.specs.History.{History}
 use Rattle.file_view.specs.Views.{new_view}
+use Rattle.halt_forward.specs.Permits.{Permits}
 use Rattle.world_laws.specs.Node.{NodeState}
 use Rattle.world_laws.specs.Served.{untouched}
 use Rattle.lease_core.specs.Belief.{LeaseBelief, lasting, no_belief}
@@ -20,8 +21,12 @@ abbrev pub first_belief : (candidate : Bool) → LeaseBelief
 first_belief true = lasting
 first_belief false = no_belief
 
+-- no permit was given out yet
+abbrev pub no_permits : ℕ → Permits
+no_permits ttl = record { ttl = ttl; moment = 0; given = 0; last = None }
+
 abbrev pub first_standing : NodeConfig → Standing
-first_standing config = record { belief = first_belief config.candidate; moment = 0 }
+first_standing config = record { belief = first_belief config.candidate; moment = 0; pass = None; permits = no_permits config.halt_ttl }
 
 -- nobody was at the files, which tell where the store stands and who the primary is; no frame was held back
 abbrev pub opened : StoreFields → NodeConfig → NodeParts

@@ -37,6 +37,10 @@ IsAskOf (asks.Import now bytes) law = law ≡ laws.Import
 IsAskOf (asks.Prune keep) law = law ≡ laws.Prune (kept_of keep)
 IsAskOf (asks.Info now) law = law ≡ laws.Where
 IsAskOf (asks.Lease now news) law = law ≡ laws.Lease
+IsAskOf (asks.HaltAsk now node) law = law ≡ laws.Permit
+IsAskOf (asks.HaltBack now number) law = law ≡ laws.Permit
+IsAskOf (asks.HaltGot now pass) law = law ≡ laws.Permit
+IsAskOf (asks.HaltLost number) law = law ≡ laws.Permit
 
 -- each is one
 abbrev pub EachIsAnAsk : Type 0
@@ -58,6 +62,7 @@ law_refusal (refusals.Ltx why) = laws.BadFile
 law_refusal (refusals.Store why) = law_store_fault why
 law_refusal (refusals.Import why) = laws.Other
 law_refusal refusals.Absent = laws.Other
+law_refusal (refusals.Halt why) = laws.Other
 law_refusal refusals.NoMemory = laws.NoMemory
 
 abbrev pub law_answer : Answer → laws.Answer
@@ -72,6 +77,7 @@ law_answer (answers.Applied position) = laws.Applied position
 law_answer (answers.Same position) = laws.Done
 law_answer (answers.Held lock) = laws.Held lock
 law_answer (answers.Pruned count) = laws.Done
+law_answer (answers.Pass pass) = laws.Done
 law_answer (answers.Bytes bytes) = laws.Done
 law_answer (answers.Info info) = laws.Done
 law_answer (answers.Refused why) = laws.Refused (law_refusal why)

@@ -11,7 +11,7 @@ use Rattle.file_view.specs.Needs.{needs_of}
 use Rattle.file_view.specs.Requests.{rows_of}
 use Rattle.node_core.specs.declared.answer.Answer.{Answer}
 use Rattle.node_core.specs.declared.answer.Answer.TheVariants as answers
-use Rattle.node_core.specs.Committing.{IsCommitted, IsNotCommitted}
+use Rattle.node_core.specs.Committing.{IsCommitted, IsNotCommitted, IsNotLeft}
 use Rattle.node_core.specs.Errors.{errno_of_view}
 use Rattle.node_core.specs.Files.{IsPlanned, RefusesBy, scene}
 use Rattle.node_core.specs.Nodes.{NodeParts}
@@ -38,4 +38,5 @@ ServesFiles start old caller request (answers.Done reply) end new said =
 ServesFiles start old caller request answers.Quiet end new said = IsServed start old caller request plan.Silent end new
 ServesFiles start old caller request (answers.Refuse number) end new said =
     IsRefused start old caller request number end new ⊎ IsNotCommitted start old caller request number end new said
+    ⊎ IsNotLeft start old caller request number end new
 ServesFiles start old caller request answer end new said = ⊥

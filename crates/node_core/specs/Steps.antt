@@ -1,5 +1,5 @@
 -- THE STEPS OF A NODE, one row for each ask.
-use Rattle.std.specs.Prelude.{◌≡◌, ℕ, Bool, true, false, IsTrue, Option, max}
+use Rattle.std.specs.Prelude.{◌≡◌, ℕ, Bool, true, false, ◌||◌, IsTrue, Option, max}
 use Rattle.lf_base.specs.declared.errno.Errno.{Errno}
 use Rattle.lf_disk.specs.History.{History}
 use Rattle.fuse_msgs.specs.declared.request.Request.{Request}
@@ -18,7 +18,9 @@ use Rattle.node_core.specs.Hello.{AnswersHello}
 use Rattle.node_core.specs.HoldingBack.{is_kept_out, noted}
 use Rattle.node_core.specs.Importing.{AnswersImport}
 use Rattle.node_core.specs.Leasing.{AnswersLease, believes}
+use Rattle.node_core.specs.Locking.{is_barred}
 use Rattle.node_core.specs.Nodes.{NodeParts, at_moment, role_in, seen}
+use Rattle.node_core.specs.Permitting.{AnswersHaltAsk, AnswersHaltBack, GetsPermit, LosesPermit}
 use Rattle.node_core.specs.Pruning.{AnswersPrune}
 use Rattle.node_core.specs.Roles.{law_role}
 use Rattle.node_core.specs.Safely.{IsAskOf, StepsSafely, law_answer}
@@ -28,7 +30,8 @@ use Rattle.node_core.specs.Telling.{AnswersInfo}
 use Rattle.node_core.specs.Unlinking.{UnlinksDatabase, unlinks_database}
 use Rattle.node_core.specs.Where.{TellsPosition}
 
--- a request of the files: who is kept out is refused, before the files' own rules
+-- a request of the files: who is kept out at a replica, and who asks for a writer's lock while a permit is out, is refused, before the
+-- files' own rules
 abbrev pub AnswersServed : Bool → History → NodeParts → ℕ → Request → Answer → History → NodeParts → Option Errno → Type 0
 AnswersServed true start old caller request answer end new said = (answer ≡ answers.Refuse EAGAIN) × IsUntouched start old end new
 AnswersServed false start old caller request answer end new said = ServesFiles start old caller request answer end new said
@@ -36,7 +39,7 @@ AnswersServed false start old caller request answer end new said = ServesFiles s
 -- a request: UNLINK of the database file is answered by the node itself
 abbrev pub AnswersFile : Bool → History → NodeParts → ℕ → Request → Answer → History → NodeParts → Option Errno → Type 0
 AnswersFile true start old caller request answer end new said = UnlinksDatabase start old answer end new said
-AnswersFile false start old caller request answer end new said = AnswersServed (is_kept_out old caller request) start old caller request answer end new said
+AnswersFile false start old caller request answer end new said = AnswersServed (is_kept_out old caller request || is_barred old request) start old caller request answer end new said
 
 -- a frame or a drop: it is answered so, and then what the answer says of frames that are held back is noted. Nothing that the cluster
 -- sees looks at that (`seen`), so the step tells what the answer tells
@@ -64,6 +67,10 @@ Does start old caller (asks.Import now bytes) answer end new said = AnswersImpor
 Does start old caller (asks.Prune keep) answer end new said = AnswersPrune start old keep answer end new
 Does start old caller (asks.Info now) answer end new said = AnswersInfo start (at_moment old now) answer end new
 Does start old caller (asks.Lease now news) answer end new said = AnswersLease start (at_moment old now) now news answer end new
+Does start old caller (asks.HaltAsk now node) answer end new said = AnswersHaltAsk start (at_moment old now) answer end new
+Does start old caller (asks.HaltBack now number) answer end new said = AnswersHaltBack start (at_moment old now) number answer end new
+Does start old caller (asks.HaltGot now pass) answer end new said = GetsPermit start (at_moment old now) pass answer end new
+Does start old caller (asks.HaltLost number) answer end new said = LosesPermit start old number answer end new
 
 -- the node at the moment of an ask, where one comes with it
 abbrev pub at_ask : NodeParts → Ask → NodeParts
@@ -74,6 +81,9 @@ at_ask old (asks.Drop now) = at_moment old now
 at_ask old (asks.Import now bytes) = at_moment old now
 at_ask old (asks.Info now) = at_moment old now
 at_ask old (asks.Lease now news) = at_moment old now
+at_ask old (asks.HaltAsk now node) = at_moment old now
+at_ask old (asks.HaltBack now number) = at_moment old now
+at_ask old (asks.HaltGot now pass) = at_moment old now
 at_ask old ask = old
 
 -- the greatest moment that a node was given, once it was asked
@@ -85,6 +95,9 @@ moment_by (asks.Drop now) moment = max moment now
 moment_by (asks.Import now bytes) moment = max moment now
 moment_by (asks.Info now) moment = max moment now
 moment_by (asks.Lease now news) moment = max moment now
+moment_by (asks.HaltAsk now node) moment = max moment now
+moment_by (asks.HaltBack now number) moment = max moment now
+moment_by (asks.HaltGot now pass) moment = max moment now
 moment_by ask moment = moment
 
 -- what it believes of its lease then: only news change it

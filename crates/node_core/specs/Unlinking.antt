@@ -10,7 +10,7 @@ use Rattle.fuse_msgs.specs.declared.request.Request.{Request}
 use Rattle.ltx_codec.specs.Positions.{nowhere}
 use Rattle.file_handles.specs.Nodes.{root}
 use Rattle.file_view.specs.Endings.{applied, first_blocking}
-use Rattle.file_view.specs.Errno.{EAGAIN, EROFS}
+use Rattle.file_view.specs.Errno.{EAGAIN, EPERM, EROFS}
 use Rattle.file_view.specs.Refusal.{IsAllowed, Row, first_refusal}
 use Rattle.file_view.specs.Roles.{is_replica}
 use Rattle.txn_log.specs.declared.fault.StoreFault.{StoreFault}
@@ -23,6 +23,7 @@ use Rattle.node_core.specs.declared.config.NodeConfig.{NodeConfig}
 use Rattle.node_core.specs.Calls.{Changes}
 use Rattle.node_core.specs.Errors.{errno_of_store}
 use Rattle.node_core.specs.Nodes.{NodeParts, role_in}
+use Rattle.node_core.specs.Roles.{is_halted, permit_out}
 use Rattle.node_core.specs.Stores.{OnlyRead, StoreFields, failed, position, state}
 
 -- whether an operation unlinks this name
@@ -34,9 +35,15 @@ unlinks name _ = false
 abbrev pub unlinks_database : NodeConfig → Request → Bool
 unlinks_database config request = (request.node == root) && unlinks config.name request.op
 
--- its rows, in order: at a replica the files are read alone; and a lock is held that holds a frame back
+-- its rows, in order: at a replica the files are read alone; a permit gives no leave for it; a permit is out; and a lock is held that
+-- holds a frame back
 abbrev pub unlink_rows : NodeParts → List Row
-unlink_rows n = (is_replica (role_in n), EROFS) ∷ (is_some (first_blocking n.files n.store.wal), EAGAIN) ∷ []
+unlink_rows n =
+    (is_replica (role_in n), EROFS)
+    ∷ (is_halted (role_in n), EPERM)
+    ∷ (is_some (permit_out n.standing), EAGAIN)
+    ∷ (is_some (first_blocking n.files n.store.wal), EAGAIN)
+    ∷ []
 
 -- the store was asked to drop all, and answered this
 pub record DropsStore {T : Type 0} (start : History) (old : StoreFields) (result : Result T StoreFault) (end : History) (new : StoreFields) : Type 0 where

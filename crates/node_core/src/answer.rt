@@ -3,6 +3,7 @@ use crate::refusal::Refusal;
 use crate::whereabouts::Whereabouts;
 use byte_locks::LockId;
 use fuse_msgs::Reply;
+use halt_forward::HaltPass;
 use lf_base::{Bytes, Errno, Pos};
 
 /// What a node answers.
@@ -34,6 +35,8 @@ pub enum Answer {
     Bytes(Bytes),
     /// What the node is, and where it stands.
     Info(NodeInfo),
+    /// This write permit is given out.
+    Pass(HaltPass),
     /// It is refused.
     Refused(Refusal),
 }

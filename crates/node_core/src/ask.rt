@@ -3,6 +3,7 @@ ghost use Rattle.node_core.specs.Moments.{ask_at};
 
 use crate::news::LeaseNews;
 use fuse_msgs::Request;
+use halt_forward::HaltPass;
 use lf_base::{Bytes, Pos};
 use txn_log::LastFile;
 
@@ -53,6 +54,25 @@ pub enum Ask {
         now: u64,
         news: LeaseNews,
     },
+    /// The node of this number wants a write permit of the primary.
+    HaltAsk {
+        now: u64,
+        node: u64,
+    },
+    /// The write permit of this number is given back to the primary.
+    HaltBack {
+        now: u64,
+        number: u64,
+    },
+    /// This write permit came from the primary.
+    HaltGot {
+        now: u64,
+        pass: HaltPass,
+    },
+    /// The write permit of this number is gone.
+    HaltLost {
+        number: u64,
+    },
 }
 
 impl Ask {
@@ -68,7 +88,11 @@ impl Ask {
             Ask::Import { now, .. } => *now = moment,
             Ask::Info { now } => *now = moment,
             Ask::Lease { now, .. } => *now = moment,
-            Ask::EndSession | Ask::Where | Ask::Export | Ask::Prune { .. } => {}
+            Ask::HaltAsk { now, .. } => *now = moment,
+            Ask::HaltBack { now, .. } => *now = moment,
+            Ask::HaltGot { now, .. } => *now = moment,
+            Ask::EndSession | Ask::Where | Ask::Export | Ask::Prune { .. } | Ask::HaltLost { .. } =>
+                {}
         }
     }
 }

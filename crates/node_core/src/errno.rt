@@ -7,6 +7,8 @@ use lf_base::Errno;
 use lf_disk::Disk;
 use txn_log::StoreFault;
 
+pub const EPERM: Errno = Errno(1);
+
 const EIO: Errno = Errno(5);
 
 pub const EAGAIN: Errno = Errno(11);

@@ -12,6 +12,7 @@ use crate::answer::Answer;
 use crate::ask::Ask;
 use crate::node::Node;
 use crate::refusal::{Refusal, refusal_of, refusal_of_import};
+use halt_forward::HaltFault;
 use lf_base::Bytes;
 use lf_disk::Disk;
 use lf_sqlite_pages::Change;
@@ -69,6 +70,12 @@ impl<D: Disk> Node<D> {
     {
         if !self.leads() {
             return Answer::Refused(Refusal::NotPrimary);
+        }
+        if let Some(pass) = self.standing.permit_out() {
+            return Answer::Refused(Refusal::Halt(HaltFault::HaltHeld {
+                number: pass.number,
+                until: pass.until,
+            }));
         }
         match self.view.apply_clear(self.store.wal) {
             Ok(()) => self.take_import(bytes),

@@ -1,7 +1,9 @@
 //! Laws of a node's steps, each the contract of a function that does nothing else.
 ghost use Rattle.node_core.specs.Nodes.{history, parts_of, seen};
+ghost use Rattle.node_core.specs.PermitLaw.{PermitIsAlone};
 ghost use Rattle.node_core.specs.Runs.{CrashesAreOpened, RunsAreSteps};
 ghost use Rattle.node_core.specs.Safely.{EachIsAnAsk};
+ghost use Rattle.world_laws.specs.Step.{calls_of};
 
 use crate::node::Node;
 use lf_disk::Disk;
@@ -25,3 +27,9 @@ pub fn crashes_are_opened<D: Disk>()
 {
     stops_are_failures();
 }
+
+/// While a permit is out, no step of the node that gave it out makes a call but a prune.
+pub fn permit_is_alone<D: Disk>()
+    ensures { PermitIsAlone ⟦<Node<D> as Machine>⟧.steps (λ n. parts_of n)
+        (λ old new caller ask answer step disk law is. calls_of (step.safe disk law is).facts) }
+{}

@@ -11,7 +11,7 @@ use lf_disk::Disk;
 
 impl<D: Disk> Node<D> {
     /// What it is at its moment.
-    fn role(&self) -> Role
+    pub(crate) fn role(&self) -> Role
         ensures { result ≡ role_in (parts_of self.now) }
     {
         self.standing.role()
@@ -32,13 +32,14 @@ impl<D: Disk> Node<D> {
         matches!(self.role(), Role::Replica)
     }
 
-    /// From now on it stands so. Where it is a replica then its uncommitted pages go.
+    /// From now on it stands so, with the permit that it got while that is in force. Where it is a
+    /// replica then its uncommitted pages go.
     pub(crate) fn stand(&mut self, standing: Standing)
         ensures parts { parts_of self.new ≡ stands standing (parts_of self.old) }
         ensures store { self.new.store ≡ self.old.store }
     {
         standing.settle(&mut self.view);
-        self.standing = standing;
+        self.standing = standing.in_force();
     }
 
     /// Gives it a moment. What has expired then ends.
@@ -48,8 +49,8 @@ impl<D: Disk> Node<D> {
     {
         let moment = self.standing.moment.max(now);
         let standing = Standing {
-            belief: self.standing.belief,
             moment,
+            ..self.standing
         };
         self.stand(standing);
     }

@@ -42,12 +42,13 @@ impl<D: Disk> Node<D> {
         ensures does { Believes (history self.old) (parts_of self.old) belief result (history self.new) (parts_of self.new) }
         ensures safe { IsTrue (D.honest self.old.store.disk) → StepsAs (seen (history self.old) (parts_of self.old)) laws.Lease
             (law_answer result) (seen (history self.new) (parts_of self.new)) (history self.old) (history self.new) }
-        ensures standing { self.new.standing ≡ record self.old.standing { belief = belief } }
+        ensures belief { self.new.standing.belief ≡ belief }
+        ensures moment { self.new.standing.moment ≡ self.old.standing.moment }
         ensures honest { D.honest self.new.store.disk ≡ D.honest self.old.store.disk }
     {
         let standing = Standing {
             belief,
-            moment: self.standing.moment,
+            ..self.standing
         };
         self.stand(standing);
         Answer::Quiet
@@ -75,7 +76,8 @@ impl<D: Disk> Node<D> {
         ensures does { AnswersLease (history self.old) (parts_of self.old) now news.now result (history self.new) (parts_of self.new) }
         ensures safe { IsTrue (D.honest self.old.store.disk) → StepsAs (seen (history self.old) (parts_of self.old)) laws.Lease
             (law_answer result) (seen (history self.new) (parts_of self.new)) (history self.old) (history self.new) }
-        ensures standing { self.new.standing ≡ record self.old.standing { belief = believes now news.now self.old.standing.belief } }
+        ensures belief { self.new.standing.belief ≡ believes now news.now self.old.standing.belief }
+        ensures moment { self.new.standing.moment ≡ self.old.standing.moment }
         ensures honest { D.honest self.new.store.disk ≡ D.honest self.old.store.disk }
     {
         let belief = believed(&self.standing.belief, now, news);

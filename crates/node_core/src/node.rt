@@ -1,9 +1,10 @@
-ghost use Rattle.std.specs.Prelude.{◌≡◌, false, None, IsTrue};
+ghost use Rattle.std.specs.Prelude.{◌≡◌, true, false, None, IsTrue};
 ghost use Rattle.std.proofs.Props.{props};
 ghost use Rattle.file_view.specs.declared.role.Role.TheVariants as role;
 ghost use Rattle.file_view.specs.Overlay.{FitsImage, IsOverImage};
 ghost use Rattle.file_view.specs.Served.{waits};
 ghost use Rattle.byte_locks.specs.LockList.{IsLockList};
+ghost use Rattle.lease_core.specs.Belief.{may_commit};
 ghost use Rattle.node_core.specs.Roles.{role_of};
 ghost use Rattle.node_core.specs.Stores.{fields_of, history_of, position, state};
 
@@ -18,8 +19,8 @@ use txn_log::Store;
 /// A node: the served files of a database over its store.
 ///
 /// The files are of the database that the node was given. They stand over the committed image, and
-/// tell the store's position. At a replica nobody has uncommitted pages. No request waits between two
-/// steps. Different owners share a lock only for reading.
+/// tell the store's position. At a replica nobody has uncommitted pages. A primary has no permit of
+/// another. No request waits between two steps. Different owners share a lock only for reading.
 #[derive(Drop)]
 pub struct Node<D: Disk> {
     pub(crate) alloc: Global,
@@ -33,6 +34,7 @@ pub struct Node<D: Disk> {
     ghost named: { view.name ≡ config.name } by { Prim.hlevel props },
     ghost told: { view.position ≡ position (fields_of store) },
     ghost replica: { role_of standing ≡ role.Replica → view.writer ≡ None } by { Prim.hlevel props },
+    ghost alone: { may_commit standing.belief standing.moment ≡ true → standing.pass ≡ None } by { Prim.hlevel props },
     ghost idle: { waits view ≡ false },
     ghost locked: { IsLockList view.locks } by { Prim.hlevel props },
 }

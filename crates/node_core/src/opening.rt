@@ -8,6 +8,7 @@ use crate::config::NodeConfig;
 use crate::node::Node;
 use crate::standing::Standing;
 use file_view::View;
+use halt_forward::HaltTable;
 use lease_core::Belief;
 use lf_base::{NoMemory, Text};
 use lf_disk::Disk;
@@ -34,7 +35,12 @@ fn first_standing(config: &NodeConfig) -> Standing
     } else {
         Belief::none()
     };
-    Standing { belief, moment: 0 }
+    Standing {
+        belief,
+        moment: 0,
+        pass: None,
+        permits: HaltTable::new(config.halt_ttl),
+    }
 }
 
 /// The served files of a node that is opened.

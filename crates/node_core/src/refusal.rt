@@ -1,6 +1,7 @@
 ghost use Rattle.std.specs.Prelude.{◌≡◌};
 ghost use Rattle.node_core.specs.Errors.{refusal_of, refusal_of_encoding, refusal_of_import};
 
+use halt_forward::HaltFault;
 use ltx_codec::LtxFault;
 use snapshot::ImportFault;
 use txn_log::StoreFault;
@@ -20,6 +21,8 @@ pub enum Refusal {
     Import(ImportFault),
     /// The database was never written.
     Absent,
+    /// The table of write permits does not do it.
+    Halt(HaltFault),
     NoMemory,
 }
 

@@ -1,5 +1,7 @@
 //! A request on the served files.
-ghost use Rattle.std.specs.Prelude.{◌≡◌, IsTrue};
+ghost use Rattle.std.specs.Prelude.{◌≡◌, ◌||◌, IsTrue};
+ghost use Rattle.node_core.specs.HoldingBack.{is_kept_out};
+ghost use Rattle.node_core.specs.Locking.{is_barred};
 ghost use Rattle.node_core.specs.Nodes.{history, parts_of, said_to, seen};
 ghost use Rattle.node_core.specs.Safely.{StepsSafely, law_answer};
 ghost use Rattle.node_core.specs.Serving.{ServesFiles};
@@ -38,6 +40,10 @@ impl<D: Disk> Node<D> {
             Ok(Plan::Reply(reply)) => Answer::Done(reply),
             Ok(Plan::Silent) => Answer::Quiet,
             Ok(Plan::Commit { reply, change }) => {
+                if let Some(number) = self.standing.commit_refusal() {
+                    self.view.abandon();
+                    return Answer::Refuse(number);
+                }
                 let kept = self.config.retention.max(1);
                 match self
                     .store
@@ -58,8 +64,16 @@ impl<D: Disk> Node<D> {
         }
     }
 
-    /// Answers a request: UNLINK of the database file is the node's own, and new readers are kept out
-    /// while a frame is held back.
+    /// Whether a request is to be asked again: of a new reader while a frame is held back, or of a
+    /// writer while a permit is out.
+    fn is_put_off(&self, caller: u64, request: &Request) -> bool
+        ensures { result ≡ (is_kept_out (parts_of self.now) caller request.now || is_barred (parts_of self.now) request.now) }
+    {
+        self.is_kept_out(caller, request) || self.is_barred(request)
+    }
+
+    /// Answers a request: UNLINK of the database file is the node's own, new readers are kept out while
+    /// a frame is held back, and writers while a permit is out.
     fn answer_request(&mut self, caller: u64, request: &Request) -> Answer
         ensures does { AnswersFile (unlinks_database self.old.config request.now) (history self.old) (parts_of self.old) caller request.now
             result (history self.new) (parts_of self.new) (said_to self.new) }
@@ -70,7 +84,7 @@ impl<D: Disk> Node<D> {
     {
         if self.unlinks_database(request) {
             self.unlink_database()
-        } else if self.is_kept_out(caller, request) {
+        } else if self.is_put_off(caller, request) {
             Answer::Refuse(EAGAIN)
         } else {
             self.serve(caller, request)

@@ -1,15 +1,22 @@
 //! What a node is in its cluster.
 ghost use Rattle.std.specs.Prelude.{◌≡◌};
-ghost use Rattle.node_core.specs.Roles.{files_at, role_of};
+ghost use Rattle.node_core.specs.Roles.{files_at, in_force, permit_out, permits_of, role_of};
+ghost use Rattle.halt_forward.specs.Permits.{pass_out, unless_ended};
 
 use file_view::{Role, View};
+use halt_forward::{HaltPass, HaltTable};
 use lease_core::Belief;
 
-/// What a node believes of its own lease, and the greatest moment that it was given.
-#[derive(Drop)]
+/// What a node believes of its own lease, the write permits that it got and gave out, and the greatest
+/// moment that it was given.
+#[derive(Clone, Copy)]
 pub struct Standing {
     pub belief: Belief,
     pub moment: u64,
+    /// The permit that it got.
+    pub pass: Option<HaltPass>,
+    /// Those that it gave out.
+    pub permits: HaltTable,
 }
 
 impl Standing {
@@ -18,9 +25,48 @@ impl Standing {
         ensures { result ≡ role_of self.now }
     {
         if self.belief.may_commit(self.moment) {
-            Role::Primary
+            return Role::Primary;
+        }
+        match self.pass_in_force() {
+            Some(_) => Role::Halted,
+            None => Role::Replica,
+        }
+    }
+
+    /// The permit that it got, unless it has ended.
+    fn pass_in_force(&self) -> Option<HaltPass>
+        ensures { result ≡ unless_ended self.now.moment self.now.pass }
+    {
+        self.pass.filter(|pass| self.moment < pass.until)
+    }
+
+    /// The same, where a permit that it got goes once it has ended or a lease is believed in.
+    pub(crate) fn in_force(self) -> Standing
+        ensures { result ≡ in_force self }
+    {
+        let pass = if self.belief.may_commit(self.moment) {
+            None
         } else {
-            Role::Replica
+            self.pass_in_force()
+        };
+        Standing { pass, ..self }
+    }
+
+    /// The permit that is out at its moment.
+    pub(crate) fn given_out(&self) -> Option<HaltPass>
+        ensures { result ≡ pass_out (permits_of self.now) }
+    {
+        let mut permits = self.permits;
+        permits.out(self.moment)
+    }
+
+    /// The permit that it has out: only a primary has one.
+    pub(crate) fn permit_out(&self) -> Option<HaltPass>
+        ensures { result ≡ permit_out self.now }
+    {
+        match self.role() {
+            Role::Primary => self.given_out(),
+            Role::Replica | Role::Halted => None,
         }
     }
 

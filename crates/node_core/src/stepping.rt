@@ -52,6 +52,10 @@ impl<D: Disk> Machine for Node<D> {
             Ask::Prune { keep } => self.prune(*keep),
             Ask::Info { now } => self.answer_info(*now),
             Ask::Lease { now, news } => self.answer_lease(*now, news),
+            Ask::HaltAsk { now, node } => self.answer_halt_ask(*now, *node),
+            Ask::HaltBack { now, number } => self.answer_halt_back(*now, *number),
+            Ask::HaltGot { now, pass } => self.answer_halt_got(*now, *pass),
+            Ask::HaltLost { number } => self.lose_permit(*number),
         }
     }
 

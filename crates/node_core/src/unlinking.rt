@@ -7,8 +7,9 @@ ghost use Rattle.node_core.specs.Unlinking.{UnlinksDatabase, unlink_rows, unlink
 ghost use Rattle.world_laws.specs.Node as laws;
 
 use crate::answer::Answer;
-use crate::errno::{EAGAIN, EROFS, errno_of_store};
+use crate::errno::{EAGAIN, EPERM, EROFS, errno_of_store};
 use crate::node::Node;
+use file_view::Role;
 use fuse_msgs::{Op, Reply, Request};
 use lf_base::{Errno, Name};
 use lf_disk::Disk;
@@ -38,8 +39,13 @@ impl<D: Disk> Node<D> {
     fn unlink_refusal(&self) -> Option<Errno>
         ensures { result ≡ first_refusal (unlink_rows (parts_of self.now)) }
     {
-        if self.is_replica() {
-            return Some(EROFS);
+        match self.role() {
+            Role::Replica => return Some(EROFS),
+            Role::Halted => return Some(EPERM),
+            Role::Primary => {}
+        }
+        if self.standing.permit_out().is_some() {
+            return Some(EAGAIN);
         }
         match self.view.apply_clear(self.store.wal) {
             Ok(()) => None,

@@ -1,8 +1,8 @@
 //! A table of news of leases and of requests at one node: what it is asked, at which moment, and what it
 //! answers. The requests are of one client, in rollback mode on pages of 512 bytes, or in WAL mode on
 //! pages of 4,096.
-mod client;
-mod node;
+pub mod client;
+pub mod node;
 mod session;
 
 use crate::same::same;
@@ -177,7 +177,7 @@ const ROWS: &[(bool, &[&[Turn]])] = &[
 ];
 
 /// Each answer is the one of the table.
-fn play<R: Copy + Abort, M: Machine<Ask = node_core::Ask, Answer = node_core::Answer>>(
+pub fn play<R: Copy + Abort, M: Machine<Ask = node_core::Ask, Answer = node_core::Answer>>(
     rt: R,
     alloc: Global,
     node: &mut M,

@@ -26,6 +26,8 @@ mod memory;
 #[cfg(test)]
 mod mounted;
 #[cfg(test)]
+mod permits;
+#[cfg(test)]
 mod same;
 #[cfg(test)]
 mod streams;

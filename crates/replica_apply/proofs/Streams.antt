@@ -60,6 +60,7 @@ frame_answered who name text asked answer.Gone old new turns is a = (answer.Gone
 frame_answered who name text asked (answer.Same pos) old new turns is a = (answer.Same pos, record { asked = asked; is = is; until = a }, refl)
 frame_answered who name text asked (answer.Held lock) old new turns is a = (answer.Held lock, record { asked = asked; is = is; until = a }, refl)
 frame_answered who name text asked (answer.Pruned n) old new turns is a = (answer.Pruned n, record { asked = asked; is = is; until = a }, refl)
+frame_answered who name text asked (answer.Pass pass) old new turns is a = (answer.Pass pass, record { asked = asked; is = is; until = a }, refl)
 frame_answered who name text asked (answer.Bytes bytes) old new turns is a = (answer.Bytes bytes, record { asked = asked; is = is; until = a }, refl)
 frame_answered who name text asked (answer.Info i) old new turns is a = (answer.Info i, record { asked = asked; is = is; until = a }, refl)
 
@@ -77,6 +78,7 @@ where_said caller (answer.Applied pos) old new turns e = (answer.Applied pos, e,
 where_said caller (answer.Same pos) old new turns e = (answer.Same pos, e, refl)
 where_said caller (answer.Held lock) old new turns e = (answer.Held lock, e, refl)
 where_said caller (answer.Pruned n) old new turns e = (answer.Pruned n, e, refl)
+where_said caller (answer.Pass pass) old new turns e = (answer.Pass pass, e, refl)
 where_said caller (answer.Bytes bytes) old new turns e = (answer.Bytes bytes, e, refl)
 where_said caller (answer.Info i) old new turns e = (answer.Info i, e, refl)
 

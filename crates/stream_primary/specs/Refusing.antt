@@ -3,6 +3,8 @@ use Rattle.std.specs.Prelude.{◌≡◌, ℕ, List, [], ◌∷◌, ◌++◌, cod
 use Rattle.std.specs.Io.KnownBytes.{Appends}
 use Rattle.lf_base.specs.declared.session_end.SessionEnd.{SessionEnd}
 use Rattle.lf_base.specs.declared.session_end.SessionEnd.TheVariants as ends
+use Rattle.halt_forward.specs.declared.halt_fault.HaltFault.{HaltFault}
+use Rattle.halt_forward.specs.declared.halt_fault.HaltFault.TheVariants as halt
 use Rattle.link_session.specs.Stands.{Stand}
 use Rattle.http_exchange.specs.Writing.{reply, EndsSending}
 use Rattle.node_core.specs.declared.answer.Answer.{Answer}
@@ -44,6 +46,18 @@ import_name import.Limit = codes "Limit"
 import_name (import.Store failed) = codes "Failed"
 import_name import.NoMemory = codes "NoMemory"
 
+abbrev pub halt_status : HaltFault → ℕ
+halt_status (halt.HaltHeld number until) = 409
+halt_status (halt.HaltGone number) = 409
+halt_status (halt.Behind have want) = 409
+halt_status halt.Limit = 413
+
+abbrev pub halt_name : HaltFault → List ℕ
+halt_name (halt.HaltHeld number until) = codes "HaltHeld"
+halt_name (halt.HaltGone number) = codes "HaltGone"
+halt_name (halt.Behind have want) = codes "Behind"
+halt_name halt.Limit = codes "Limit"
+
 -- the status of a refusal
 abbrev pub status_of : Refusal → ℕ
 status_of refusal.NotPrimary = 503
@@ -52,9 +66,10 @@ status_of (refusal.Ltx fault) = 400
 status_of (refusal.Store fault) = store_status fault
 status_of (refusal.Import fault) = import_status fault
 status_of refusal.Absent = 404
+status_of (refusal.Halt fault) = halt_status fault
 status_of refusal.NoMemory = 507
 
--- its name, which of a store's fault or an import's is the fault's
+-- its name, which of a fault of the store, of an import or of the table of permits is the fault's
 abbrev pub name_of : Refusal → List ℕ
 name_of refusal.NotPrimary = codes "NotPrimary"
 name_of refusal.NotReplica = codes "NotReplica"
@@ -62,6 +77,7 @@ name_of (refusal.Ltx fault) = codes "Ltx"
 name_of (refusal.Store fault) = store_name fault
 name_of (refusal.Import fault) = import_name fault
 name_of refusal.Absent = codes "Absent"
+name_of (refusal.Halt fault) = halt_name fault
 name_of refusal.NoMemory = codes "NoMemory"
 
 -- the line that names it

@@ -1,8 +1,9 @@
 //! Status and name of a refusal.
 ghost use Rattle.std.specs.Prelude.{◌≡◌, ◌∷◌, ◌++◌, []};
 ghost use Rattle.http.specs.StatusCode.{IsStatusCode};
-ghost use Rattle.stream_primary.specs.Refusing.{import_name, import_status, line_of, status_of, store_name, store_status};
+ghost use Rattle.stream_primary.specs.Refusing.{halt_name, halt_status, import_name, import_status, line_of, status_of, store_name, store_status};
 
+use halt_forward::HaltFault;
 use node_core::Refusal;
 use snapshot::ImportFault;
 use txn_log::StoreFault;
@@ -18,6 +19,7 @@ pub fn status_of(refusal: Refusal) -> u16
         Refusal::Store(fault) => store_status(fault),
         Refusal::Import(fault) => import_status(fault),
         Refusal::Absent => 404,
+        Refusal::Halt(fault) => halt_status(fault),
         Refusal::NoMemory => 507,
     }
 }
@@ -47,6 +49,16 @@ fn import_status(fault: ImportFault) -> u16
     }
 }
 
+fn halt_status(fault: HaltFault) -> u16
+    ensures is { result ≡ halt_status fault }
+    ensures fits { IsStatusCode result }
+{
+    match fault {
+        HaltFault::HaltHeld { .. } | HaltFault::HaltGone { .. } | HaltFault::Behind { .. } => 409,
+        HaltFault::Limit => 413,
+    }
+}
+
 /// The line that names a refusal.
 pub fn line_of(refusal: Refusal) -> &'static [u8]
     ensures { result.now ≡ line_of refusal }
@@ -58,6 +70,7 @@ pub fn line_of(refusal: Refusal) -> &'static [u8]
         Refusal::Store(fault) => store_line(fault),
         Refusal::Import(fault) => import_line(fault),
         Refusal::Absent => b"Absent\n",
+        Refusal::Halt(fault) => halt_line(fault),
         Refusal::NoMemory => b"NoMemory\n",
     }
 }
@@ -84,5 +97,16 @@ fn import_line(fault: ImportFault) -> &'static [u8]
         ImportFault::Limit => b"Limit\n",
         ImportFault::Store(_) => b"Failed\n",
         ImportFault::NoMemory => b"NoMemory\n",
+    }
+}
+
+fn halt_line(fault: HaltFault) -> &'static [u8]
+    ensures { result.now ≡ halt_name fault ++ 10 ∷ [] }
+{
+    match fault {
+        HaltFault::HaltHeld { .. } => b"HaltHeld\n",
+        HaltFault::HaltGone { .. } => b"HaltGone\n",
+        HaltFault::Behind { .. } => b"Behind\n",
+        HaltFault::Limit => b"Limit\n",
     }
 }

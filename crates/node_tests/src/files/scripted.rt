@@ -75,7 +75,11 @@ impl Machine for Scripted {
             | Ask::Import { .. }
             | Ask::Prune { .. }
             | Ask::Info { .. }
-            | Ask::Lease { .. } => {
+            | Ask::Lease { .. }
+            | Ask::HaltAsk { .. }
+            | Ask::HaltBack { .. }
+            | Ask::HaltGot { .. }
+            | Ask::HaltLost { .. } => {
                 self.note(0);
                 Answer::Quiet
             }

@@ -1,12 +1,14 @@
 //! What a node is asked, and what is told of its answers.
 
+use byte_locks::LockId;
 use fuse_msgs::{LockWish, Op, Request};
+use halt_forward::{HaltFault, HaltPass};
 use lf_base::{Bytes, Pos, Text};
 use node_core::{Answer, Ask, LeaseNews, Refusal};
 use std::alloc::Global;
 use std::process::Abort;
 
-/// What the client or the lease job does.
+/// What the client, the lease job or another node does.
 #[derive(Clone, Copy)]
 pub enum Deed {
     Asked,
@@ -39,6 +41,23 @@ pub enum Deed {
     Frames,
     /// The primary's name is looked up.
     LookUp,
+    /// RESERVED is locked for writing, or for reading, or waited for, or unlocked.
+    Reserved,
+    ReservedToRead,
+    ReservedInTime,
+    Unreserved,
+    /// WRITE is unlocked.
+    WriteUnlock,
+    /// The database file is unlinked.
+    UnlinkDatabase,
+    /// The node of this number wants a write permit.
+    HaltAsk(u64),
+    /// The permit of this number is given back.
+    HaltBack(u64),
+    /// A permit of this number came, with its end.
+    HaltGot(u64, u64),
+    /// The permit of this number is gone.
+    HaltLost(u64),
 }
 
 /// What is told of an answer.
@@ -52,6 +71,12 @@ pub enum Told {
     Item,
     NotPrimary,
     NotReplica,
+    /// A permit of this number, with its end.
+    Pass(u64, u64),
+    Held(LockId),
+    HaltHeld(u64, u64),
+    HaltGone(u64),
+    HaltLimit,
     Refused,
     Other,
 }
@@ -71,6 +96,9 @@ const SHM: u64 = 5;
 const SHARED: (u64, u64) = (0x4000_0002, 0x4000_01ff);
 
 const WRITE: (u64, u64) = (120, 120);
+
+/// The byte of RESERVED.
+const RESERVED: (u64, u64) = (0x4000_0001, 0x4000_0001);
 
 /// The header of a journal over pages of 512 bytes.
 const HEADER: [u8; 28] = [
@@ -152,6 +180,38 @@ fn news<R: Copy + Abort>(rt: R, alloc: Global, deed: Deed) -> Option<LeaseNews> 
     }
 }
 
+/// What is asked of write permits.
+fn of_permits(now: u64, deed: Deed) -> Option<Ask> {
+    match deed {
+        Deed::HaltAsk(node) => Some(Ask::HaltAsk { now, node }),
+        Deed::HaltBack(number) => Some(Ask::HaltBack { now, number }),
+        Deed::HaltGot(number, until) => Some(Ask::HaltGot {
+            now,
+            pass: HaltPass { number, until },
+        }),
+        Deed::HaltLost(number) => Some(Ask::HaltLost { number }),
+        _ => None,
+    }
+}
+
+fn unlink<R: Copy + Abort>(rt: R, alloc: Global, now: u64, name: &[u8]) -> Ask {
+    let name = bytes(rt, alloc, name);
+    file(now, FOLDER, Op::Unlink { name })
+}
+
+/// RESERVED is waited for.
+fn reserved_in_time(now: u64) -> Ask {
+    let (start, end) = RESERVED;
+    let op = Op::Setlkw {
+        fh: 1,
+        owner: 1,
+        start,
+        end,
+        kind: LockWish::Write,
+    };
+    file(now, DATABASE, op)
+}
+
 /// What the client does to its files, or what other nodes ask.
 fn request<R: Copy + Abort>(rt: R, alloc: Global, now: u64, deed: Deed) -> Ask {
     match deed {
@@ -170,13 +230,13 @@ fn request<R: Copy + Abort>(rt: R, alloc: Global, now: u64, deed: Deed) -> Ask {
         Deed::CreateJournal => create(rt, alloc, now, b"app-journal"),
         Deed::Header => write(now, JOURNAL, 2, bytes(rt, alloc, &HEADER)),
         Deed::Page(byte) => write(now, DATABASE, 1, page(rt, alloc, byte)),
-        Deed::Unlink => file(
-            now,
-            FOLDER,
-            Op::Unlink {
-                name: bytes(rt, alloc, b"app-journal"),
-            },
-        ),
+        Deed::Unlink => unlink(rt, alloc, now, b"app-journal"),
+        Deed::UnlinkDatabase => unlink(rt, alloc, now, b"app"),
+        Deed::Reserved => lock(now, DATABASE, RESERVED, LockWish::Write),
+        Deed::ReservedToRead => lock(now, DATABASE, RESERVED, LockWish::Read),
+        Deed::ReservedInTime => reserved_in_time(now),
+        Deed::Unreserved => lock(now, DATABASE, RESERVED, LockWish::Unlock),
+        Deed::WriteUnlock => lock(now, SHM, WRITE, LockWish::Unlock),
         Deed::CreateShm => create(rt, alloc, now, b"app-shm"),
         Deed::WriteLock => lock(now, SHM, WRITE, LockWish::Write),
         Deed::CreateWal => create(rt, alloc, now, b"app-wal"),
@@ -196,7 +256,20 @@ fn request<R: Copy + Abort>(rt: R, alloc: Global, now: u64, deed: Deed) -> Ask {
 pub fn ask_of<R: Copy + Abort>(rt: R, alloc: Global, now: u64, deed: Deed) -> Ask {
     match news(rt, alloc, deed) {
         Some(news) => Ask::Lease { now, news },
-        None => request(rt, alloc, now, deed),
+        None => match of_permits(now, deed) {
+            Some(ask) => ask,
+            None => request(rt, alloc, now, deed),
+        },
+    }
+}
+
+/// Why a permit is not given out or not taken back.
+fn told_of_permit(fault: HaltFault) -> Told {
+    match fault {
+        HaltFault::HaltHeld { number, until } => Told::HaltHeld(number, until),
+        HaltFault::HaltGone { number } => Told::HaltGone(number),
+        HaltFault::Limit => Told::HaltLimit,
+        HaltFault::Behind { .. } => Told::Other,
     }
 }
 
@@ -211,6 +284,9 @@ pub fn told_of(answer: &Answer) -> Told {
         Answer::Item { .. } => Told::Item,
         Answer::Refused(Refusal::NotPrimary) => Told::NotPrimary,
         Answer::Refused(Refusal::NotReplica) => Told::NotReplica,
+        Answer::Pass(pass) => Told::Pass(pass.number, pass.until),
+        Answer::Held(lock) => Told::Held(*lock),
+        Answer::Refused(Refusal::Halt(fault)) => told_of_permit(*fault),
         Answer::Refused(_) => Told::Refused,
         _ => Told::Other,
     }

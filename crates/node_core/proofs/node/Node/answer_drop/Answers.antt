@@ -27,7 +27,7 @@ returns g c =
     record {
       step = λ caller.
           step-told c.moment_is_of_step.ensures h old c.args.now (history mid) (parts_of mid) same given.parts (asks.Drop c.args.now) answer (history e) (parts_of e) (said_to e)
-          record { node = refl; moment = refl } n.image n.locked.together n.replica laws.Drop (λ law of. of) caller
+          record { node = refl; moment = refl } n.image n.locked.together n.replica n.alone laws.Drop (λ law of. of) caller
           record {
             between = parts_of m;
             answers = subst (λ (b : History). AnswersDrop h (at_moment old c.args.now) answer b (parts_of m)) (sym alike)

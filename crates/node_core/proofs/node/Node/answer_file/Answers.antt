@@ -21,7 +21,7 @@ returns g c =
     record {
       step =
           step-told c.moment_is_of_step.ensures h old c.args.now (history mid) (parts_of mid) same given.parts (asks.File c.args.now c.args.request.now) c.answer_request.result (history m) (parts_of m) (said_to m)
-          record { node = refl; moment = refl } n.image n.locked.together n.replica laws.File (λ law of. of) c.args.caller
+          record { node = refl; moment = refl } n.image n.locked.together n.replica n.alone laws.File (λ law of. of) c.args.caller
           (carried c.moment_is_of_step.ensures h old c.args.now (history mid) (parts_of mid) same given.parts
           (λ (b : History) (p : NodeParts). AnswersFile (unlinks_database p.config c.args.request.now) b p c.args.caller c.args.request.now c.answer_request.result (history m) (parts_of m) (said_to m)) c.answer_request.ensures.does)
           c.answer_request.ensures.safe c.answer_request.ensures.standing (λ r keeps. keeps) refl c.answer_request.ensures.honest;

@@ -28,7 +28,7 @@ returns g c =
     record {
       step = λ caller.
           step-still c.moment_is_of_step.ensures h old c.args.now (history mid) (parts_of mid) same given.parts (asks.Frame c.args.now bytes) answer (history e) (parts_of e) (said_to e)
-          record { node = refl; moment = refl } n.image n.locked.together n.replica caller
+          record { node = refl; moment = refl } n.image n.locked.together n.replica n.alone caller
           record {
             between = parts_of m;
             answers = subst (λ (b : History). AnswersFrame h (at_moment old c.args.now) bytes answer b (parts_of m)) (sym alike)

@@ -20,7 +20,7 @@ returns g c =
     record {
       step = λ caller.
           step-told c.moment_is_of_step.ensures h old c.args.now (history mid) (parts_of mid) same given.parts (asks.Hello c.args.now c.args.from c.args.last) c.hello.result (history m) (parts_of m) (said_to m)
-          record { node = refl; moment = refl } n.image n.locked.together n.replica (laws.Hello c.args.from c.args.last) (λ law of. of) caller
+          record { node = refl; moment = refl } n.image n.locked.together n.replica n.alone (laws.Hello c.args.from c.args.last) (λ law of. of) caller
           (carried c.moment_is_of_step.ensures h old c.args.now (history mid) (parts_of mid) same given.parts
           (λ (b : History) (p : NodeParts). AnswersHello b p c.args.from c.args.last c.hello.result (history m) (parts_of m)) c.hello.ensures.does)
           c.hello.ensures.safe c.hello.ensures.standing (λ r keeps. keeps) refl c.hello.ensures.honest;

@@ -21,7 +21,7 @@ returns g c =
     record {
       step = λ caller.
           step-told c.moment_is_of_step.ensures h old c.args.now (history mid) (parts_of mid) same given.parts (asks.Import c.args.now bytes) c.import.result (history m) (parts_of m) (said_to m)
-          record { node = refl; moment = refl } n.image n.locked.together n.replica laws.Import (λ law of. of) caller
+          record { node = refl; moment = refl } n.image n.locked.together n.replica n.alone laws.Import (λ law of. of) caller
           (carried c.moment_is_of_step.ensures h old c.args.now (history mid) (parts_of mid) same given.parts
           (λ (b : History) (p : NodeParts). AnswersImport b p bytes c.import.result (history m) (parts_of m)) c.import.ensures.does)
           c.import.ensures.safe c.import.ensures.standing (λ r keeps. keeps) refl c.import.ensures.honest;

@@ -20,7 +20,7 @@ returns g c =
     record {
       step = λ caller.
           step-told c.moment_is_of_step.ensures h old c.args.now (history mid) (parts_of mid) same given.parts (asks.Info c.args.now) c.tell_info.result (history mid) (parts_of mid) (said_to mid)
-          record { node = refl; moment = refl } n.image n.locked.together n.replica laws.Where (λ law of. of) caller
+          record { node = refl; moment = refl } n.image n.locked.together n.replica n.alone laws.Where (λ law of. of) caller
           (carried c.moment_is_of_step.ensures h old c.args.now (history mid) (parts_of mid) same given.parts
           (λ (b : History) (p : NodeParts). AnswersInfo b p c.tell_info.result (history mid) (parts_of mid))
           record { tells = c.tell_info.ensures.tells; same = refl; rests = ∣ rests_stay (history mid) ∣₁ })

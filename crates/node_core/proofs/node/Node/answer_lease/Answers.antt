@@ -3,7 +3,6 @@ use Rattle.lf_disk.specs.History.{History}
 use Rattle.lease_core.specs.Belief.{LeaseBelief}
 use Rattle.world_laws.specs.Node as laws
 use Rattle.node_core.specs.declared.ask.Ask.TheVariants as asks
-use Rattle.node_core.specs.declared.standing.Standing.{Standing}
 use Rattle.node_core.specs.Leasing.{AnswersLease, StepsAs, believes}
 use Rattle.node_core.specs.Nodes.{NodeParts, history, parts_of, said_to, seen}
 use Rattle.node_core.specs.Safely.{law_answer}
@@ -25,10 +24,9 @@ returns g c =
     record {
       step = λ caller.
           step-of c.moment_is_of_step.ensures h old now (history mid) (parts_of mid) same given.parts (asks.Lease now news) c.news.result (history m) (parts_of m) (said_to m)
-          record { node = refl; moment = refl } n.image n.locked.together n.replica caller
+          record { node = refl; moment = refl } n.image n.locked.together n.replica n.alone caller
           (carried c.moment_is_of_step.ensures h old now (history mid) (parts_of mid) same given.parts
           (λ (b : History) (p : NodeParts). AnswersLease b p now news c.news.result (history m) (parts_of m)) c.news.ensures.does)
           (λ disk law of. subst (λ (a : laws.Ask). StepsAs (seen (history mid) (parts_of mid)) a (law_answer c.news.result) (seen (history m) (parts_of m)) (history mid) (history m)) (sym of) (c.news.ensures.safe disk))
-          (ap (λ (t : Standing). t.belief) c.news.ensures.standing ∙ ap (λ (p : NodeParts). believes now news p.standing.belief) given.parts)
-          (ap (λ (t : Standing). t.moment) c.news.ensures.standing) c.news.ensures.honest;
+          (c.news.ensures.belief ∙ ap (λ (p : NodeParts). believes now news p.standing.belief) given.parts) c.news.ensures.moment c.news.ensures.honest;
     }

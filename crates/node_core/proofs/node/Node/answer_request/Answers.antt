@@ -8,8 +8,8 @@ use Rattle.node_core.proofs.Sound.{sound}
 use Rattle.node_core.proofs.Steady.{steady-files, steps-still}
 use Rattle.node_core.proofs.node.Node.answer_request.Goals as goal
 
-pub returns-then-is_kept_out-clause-safe : goal.returns-then-is_kept_out-clause-safe
-returns-then-is_kept_out-clause-safe g c honest =
+pub returns-then-is_put_off-clause-safe : goal.returns-then-is_put_off-clause-safe
+returns-then-is_put_off-clause-safe g c honest =
     let n = c.args.self.now in
     let h = history_of n.store in
     let old = parts_of n in

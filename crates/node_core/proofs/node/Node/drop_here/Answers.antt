@@ -13,6 +13,7 @@ use Rattle.world_laws.specs.Step.{drops}
 use Rattle.world_laws.specs.Store.{DropAll, StoreState, at}
 use Rattle.node_core.specs.declared.answer.Answer.TheVariants as answers
 use Rattle.node_core.specs.declared.refusal.Refusal.{Refusal}
+use Rattle.node_core.specs.Dropping.{AnswersDrop}
 use Rattle.node_core.specs.Nodes.{NodeParts, parts_of, role_in, seen}
 use Rattle.node_core.specs.Safely.{StepsSafely, law_answer, law_store_fault}
 use Rattle.node_core.specs.Stores.{failed, fields_of, history_of, position, state}
@@ -24,7 +25,7 @@ use Rattle.node_core.proofs.Facts.{ok_err, says-none}
 use Rattle.node_core.proofs.Following.{free, holds-back, not-primary}
 use Rattle.node_core.proofs.Owing.{at-position}
 use Rattle.node_core.proofs.Reading.{rests_stay}
-use Rattle.node_core.proofs.Refusing.{drop-refused, law-refusal-of, ran-undone}
+use Rattle.node_core.proofs.Refusing.{drop-refused, law-refusal-of, ran-undone, refuses-drop}
 use Rattle.node_core.proofs.Sound.{leads, sound}
 use Rattle.node_core.proofs.Steady.{steady-files, steps-still}
 use Rattle.node_core.proofs.node.Node.drop_here.Goals as goal
@@ -74,6 +75,7 @@ invariant_of-self-in-Ok g c =
       named = ap (λ (s : Served). s.name) is ∙ n.named;
       told = ap (λ (s : Served). s.position) is ∙ c.pos-in-Ok.ensures.value;
       replica = λ not. ap (λ (s : Served). s.writer) is;
+      alone = n.alone;
       idle = ap waits is ∙ applied-idle n.view 0 0 n.idle;
       locked = subst (λ (s : Served). IsLockList s.locks) (sym is) n.locked;
     }
@@ -125,6 +127,29 @@ returns-in-Ok-clause-safe g c honest =
     (λ not. ap (λ (s : Served). s.writer) is))
     (λ plain still lock held. absurd (free n.view n.store.wal (state h old.store).image (n.store.mode honest) lock c.in_default.ensures.clear held))
     {T = Unit {0}} (Ok tt) (c.in-Ok.ensures.went honest) (λ same. absurd (ok_err tt fault.Disk same)) (λ did failure ran. ((inl (some, ran.0), ran.1, refl), tt))
+
+pub returns-in-Err-drop_all-clause-does : goal.returns-in-Err-drop_all-clause-does
+returns-in-Err-drop_all-clause-does g c =
+    let n = c.args.self.now in
+    let old = parts_of n in
+    let h = history_of n.store in
+    let t = c.drop_all.new.self in
+    let end = history_of t in
+    let why = c.in-Err-drop_all.fault in
+    let new : NodeParts = record old { store = fields_of t } in
+    let given = c.in-Err-drop_all.ensures in
+    let first : 1 ≤ (position old.store).txid = omega (arith, ap (λ (p : Pos). p.txid) c.pos.ensures.value, c.if-pos-eq0.false) in
+    subst (λ (r : Refusal). AnswersDrop h old (answers.Refused r) end new) (sym c.refusal_of.ensures)
+    (refuses-drop h old why end new (c.leads.ensures.no c.if-leads.false) c.in_default.ensures.clear first given.drops record {
+      drops = record {
+        answers = given.drops;
+        cause = given.cause;
+        store = λ honest. drop-changes h end old.store (fields_of t) {T = Unit {0}} (Err why) given.drops (given.went honest);
+        honest = c.drop_all.ensures.honest;
+      };
+      shape = given.same;
+      same = refl;
+    })
 
 pub returns-in-Err-drop_all-clause-safe : goal.returns-in-Err-drop_all-clause-safe
 returns-in-Err-drop_all-clause-safe g c honest =

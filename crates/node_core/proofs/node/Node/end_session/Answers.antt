@@ -28,6 +28,7 @@ invariant_of-self g c =
       named = ap (λ (s : Served). s.name) is ∙ n.named;
       told = ap (λ (s : Served). s.position) is ∙ n.told;
       replica = λ not. ap (λ (s : Served). s.writer) is ∙ ended-writer n.view c.args.caller (n.replica not);
+      alone = n.alone;
       idle = ap waits is ∙ n.idle;
       locked = subst (λ (s : Served). IsLockList s.locks) (sym is) (ended-locked n.view c.args.caller n.locked);
     }

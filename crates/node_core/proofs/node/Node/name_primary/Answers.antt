@@ -6,7 +6,7 @@ use Rattle.world_laws.specs.Node as laws
 use Rattle.node_core.specs.Nodes.{NodeParts, history, parts_of, seen}
 use Rattle.node_core.specs.Opening.{host_in}
 use Rattle.node_core.specs.Stores.{fields_of, history_of, state}
-use Rattle.node_core.proofs.Leased.{unseen-safely}
+use Rattle.node_core.proofs.Leased.{lease-news, unseen-safely}
 use Rattle.node_core.proofs.Reading.{rests_stay}
 use Rattle.node_core.proofs.node.Node.name_primary.Goals as goal
 
@@ -25,6 +25,7 @@ invariant_of-self g c =
       named = ap (λ (s : Served). s.name) is ∙ n.named;
       told = ap (λ (s : Served). s.position) is ∙ n.told;
       replica = λ not. ap (λ (s : Served). s.writer) is ∙ n.replica not;
+      alone = n.alone;
       idle = ap waits is ∙ n.idle;
       locked = subst (λ (s : Served). IsLockList s.locks) (sym is) n.locked;
     }
@@ -42,11 +43,11 @@ returns-in-Ok-clause-safe g c honest =
     let old = parts_of n in
     let is : c.told.new.self ≡ record n.view { host = host_in c.args.host.now } = c.told.ensures ∙ (λ i. record n.view { position = (c.pos.ensures.value ∙ sym n.told) i; host = c.in-Ok.ensures i }) in
     let new : NodeParts = record old { files = c.told.new.self } in
-    unseen-safely h old (n.store.left honest) (n.image honest) n.locked.together n.replica new laws.Done (ap (λ (s : Served). seen h (record old { files = s })) is) tt
+    unseen-safely laws.Lease lease-news h old (n.store.left honest) (n.image honest) n.locked.together n.replica new laws.Done (ap (λ (s : Served). seen h (record old { files = s })) is) tt
 
 pub returns-in-Err-clause-safe : goal.returns-in-Err-clause-safe
 returns-in-Err-clause-safe g c honest =
     let n = c.args.self.now in
     let h = history n in
     let old = parts_of n in
-    unseen-safely h old (n.store.left honest) (n.image honest) n.locked.together n.replica old (laws.Refused laws.NoMemory) refl refl
+    unseen-safely laws.Lease lease-news h old (n.store.left honest) (n.image honest) n.locked.together n.replica old (laws.Refused laws.NoMemory) refl refl

@@ -2,6 +2,7 @@ use Rattle.std.proofs.Common.{None, ◌≡◌, ◌∙◌, ap, subst, sym}
 use Rattle.file_view.specs.Overlay.{FitsImage, IsOverImage}
 use Rattle.file_view.specs.Served.{Served, waits}
 use Rattle.byte_locks.specs.LockList.{IsLockList}
+use Rattle.node_core.specs.declared.standing.Standing.{Standing}
 use Rattle.node_core.specs.Nodes.{seen}
 use Rattle.node_core.specs.Opening.{opened}
 use Rattle.node_core.specs.Stores.{fields_of, history_of, state}
@@ -20,6 +21,7 @@ invariant_of-result g c =
       named = ap (λ (s : Served). s.name) is;
       told = ap (λ (s : Served). s.position) is;
       replica = λ not. ap (λ (s : Served). s.writer) is;
+      alone = λ leads. ap (λ (s : Standing). s.pass) c.first_standing-standing.ensures;
       idle = ap waits is;
       locked = subst (λ (s : Served). IsLockList s.locks) (sym is) locked-none;
     }

@@ -1,4 +1,4 @@
-use Rattle.std.proofs.Common.{◌≡◌, ◌∙◌, ℕ, IsTrue, Result, Ok, Err, inr, refl, sym, ap, subst}
+use Rattle.std.proofs.Common.{◌≡◌, ◌∙◌, ℕ, IsTrue, Result, Ok, Err, inl, inr, refl, sym, ap, subst}
 use Rattle.lf_base.specs.declared.pos.Pos.{Pos}
 use Rattle.lf_sqlite_pages.specs.Apply.{apply}
 use Rattle.lf_sqlite_pages.specs.Image.{DatabaseImage}
@@ -55,6 +55,7 @@ invariant_of-self g c =
       named = c.prepare.ensures.name ∙ n.named;
       told = position-read law h hm old fm w c.args.caller request p prepared;
       replica = λ not. (quiet law h hm old fm w c.args.caller request p prepared not).1.alone;
+      alone = n.alone;
       idle = subst (λ (q : Plan). Rests n.store.page_size n.store.commit n.view q w) c.in-Ok-Reply.field-0-is (left law h hm old fm w c.args.caller request p prepared).rests;
       locked = (left law h hm old fm w c.args.caller request p prepared).locks n.locked;
     }
@@ -86,6 +87,7 @@ invariant_of-self-in-Ok-Silent g c =
       named = c.prepare.ensures.name ∙ n.named;
       told = position-read law h hm old fm w c.args.caller request p prepared;
       replica = λ not. (quiet law h hm old fm w c.args.caller request p prepared not).1.alone;
+      alone = n.alone;
       idle = subst (λ (q : Plan). Rests n.store.page_size n.store.commit n.view q w) c.in-Ok-Silent.field-0-is (left law h hm old fm w c.args.caller request p prepared).rests;
       locked = (left law h hm old fm w c.args.caller request p prepared).locks n.locked;
     }
@@ -186,7 +188,7 @@ invariant_of-self-in-Ok g c =
     subst (λ (s : Served). IsOverImage s (state ht ft).image) (sym is)
     (subst (λ (i : DatabaseImage). IsOverImage files i) (sym (image-after h old change c.in-Ok.position (state ht ft) (failed ht ft) (store-changes h hm ht old fm ft change result c.prepare.ensures.read c.in-Ok.ensures.commits went c.in-Ok.ensures.cause c.in-Ok.ensures.honest honest)))
     (committed-over w c.in-Ok.position (apply (state h old.store).image change) (told-after h old.store change (λ i. IsOverImage (committed w) i) honest awaits.image))) in
-    let primary_is : role_in old ≡ role.Primary = primary law h hm old fm w c.args.caller request p prepared c.in-Ok-Commit.reply change is_plan in
+    let primary_is : role_in old ≡ role.Primary = primary old (sym c.commit_refusal.ensures ∙ c.in_default.is) in
     let rests = subst (λ (q : Plan). Rests n.store.page_size n.store.commit n.view q w) is_plan (left law h hm old fm w c.args.caller request p prepared).rests in
     let shape = c.in-Ok.ensures.shape in
     record {
@@ -196,6 +198,7 @@ invariant_of-self-in-Ok g c =
       named = ap (λ (s : Served). s.name) is ∙ committed-name w ∙ c.prepare.ensures.name ∙ n.named;
       told = ap (λ (s : Served). s.position) is ∙ sym c.in-Ok.ensures.position;
       replica = λ not. absurd (apart (sym primary_is ∙ not));
+      alone = n.alone;
       idle = ap waits is ∙ rests.1;
       locked = subst (λ (s : Served). IsLockList s.locks) (sym is) (subst IsLockList (sym (committed-locks w)) ((left law h hm old fm w c.args.caller request p prepared).locks n.locked));
     }
@@ -236,6 +239,7 @@ returns-in-Ok-clause-does g c =
       change = change;
       waiting = w;
       told = c.in-Ok.position;
+      leave = sym c.commit_refusal.ensures ∙ c.in_default.is;
       planned = record {
         done = subst (λ (q : Plan). IsDone (told h old.store) n.view (scene old c.args.caller) request q w) is_plan c.in-Ok-Commit.ensures.done;
         allowed = c.in-Ok-Commit.ensures.allowed;
@@ -281,7 +285,7 @@ returns-in-Ok-clause-safe g c honest =
     subst (λ (s : Served). IsOverImage s (state ht ft).image) (sym is)
     (subst (λ (i : DatabaseImage). IsOverImage files i) (sym (image-after h old change c.in-Ok.position (state ht ft) (failed ht ft) (store-changes h hm ht old fm ft change result c.prepare.ensures.read c.in-Ok.ensures.commits went c.in-Ok.ensures.cause c.in-Ok.ensures.honest honest)))
     (committed-over w c.in-Ok.position (apply (state h old.store).image change) (told-after h old.store change (λ i. IsOverImage (committed w) i) honest awaits.image))) in
-    let primary_is : role_in old ≡ role.Primary = primary law h hm old fm w c.args.caller request p prepared c.in-Ok-Commit.reply change is_plan in
+    let primary_is : role_in old ≡ role.Primary = primary old (sym c.commit_refusal.ensures ∙ c.in_default.is) in
     let new : NodeParts = record old { store = ft; files = c.told_position.new.self } in
     commits-safely h hm ht old fm ft change result c.prepare.ensures.read c.in-Ok.ensures.commits went c.in-Ok.ensures.cause c.in-Ok.ensures.honest c.told_position.new.self honest (leads (role_in old) primary_is)
     (sound ht new (over honest)
@@ -318,7 +322,7 @@ invariant_of-self-in-Err-commit_and_prune g c =
     let went : IsTrue fm.honest → WentPruned (state hm fm) (failed hm fm) hm (Commit (drafted (position fm) fm.commit fm.sums change n.standing.moment n.config.node)) (kept_files n.config) result (state ht ft) (failed ht ft) ht =
     subst (λ (k : ℕ). IsTrue fm.honest → WentPruned (state hm fm) (failed hm fm) hm (Commit (drafted (position fm) fm.commit fm.sums change n.standing.moment n.config.node)) k result (state ht ft) (failed ht ft) ht) c.max-kept.ensures c.in-Err-commit_and_prune.ensures.went in
     let rests = subst (λ (q : Plan). Rests n.store.page_size n.store.commit n.view q w) is_plan (left law h hm old fm w c.args.caller request p prepared).rests in
-    let is : c.abandon.new.self ≡ n.view = c.abandon.ensures ∙ rests.0 in
+    let is : c.abandon-in-Err-commit_and_prune.new.self ≡ n.view = c.abandon-in-Err-commit_and_prune.ensures ∙ rests.0 in
     let same = c.in-Err-commit_and_prune.ensures.same in
     let read = c.prepare.ensures.read in
     let still : IsTrue old.store.honest → state ht ft ≡ state h old.store = λ honest.
@@ -333,6 +337,7 @@ invariant_of-self-in-Err-commit_and_prune g c =
       named = ap (λ (s : Served). s.name) is ∙ n.named;
       told = ap (λ (s : Served). s.position) is ∙ n.told ∙ sym (ap end_of_entries same.2 ∙ ap position read.same);
       replica = λ not. ap (λ (s : Served). s.writer) is ∙ n.replica not;
+      alone = n.alone;
       idle = ap waits is ∙ n.idle;
       locked = subst (λ (s : Served). IsLockList s.locks) (sym is) n.locked;
     }
@@ -367,14 +372,15 @@ returns-in-Err-commit_and_prune-clause-does g c =
     let went : IsTrue fm.honest → WentPruned (state hm fm) (failed hm fm) hm (Commit (drafted (position fm) fm.commit fm.sums change n.standing.moment n.config.node)) (kept_files n.config) result (state ht ft) (failed ht ft) ht =
     subst (λ (k : ℕ). IsTrue fm.honest → WentPruned (state hm fm) (failed hm fm) hm (Commit (drafted (position fm) fm.commit fm.sums change n.standing.moment n.config.node)) k result (state ht ft) (failed ht ft) ht) c.max-kept.ensures c.in-Err-commit_and_prune.ensures.went in
     let rests = subst (λ (q : Plan). Rests n.store.page_size n.store.commit n.view q w) is_plan (left law h hm old fm w c.args.caller request p prepared).rests in
-    let is : c.abandon.new.self ≡ n.view = c.abandon.ensures ∙ rests.0 in
+    let is : c.abandon-in-Err-commit_and_prune.new.self ≡ n.view = c.abandon-in-Err-commit_and_prune.ensures ∙ rests.0 in
     let same = c.in-Err-commit_and_prune.ensures.same in
     let read = c.prepare.ensures.read in
-    inr record {
+    inr (inl record {
       reply = c.in-Ok-Commit.reply;
       change = change;
       waiting = w;
       why = c.in-Err-commit_and_prune.fault;
+      leave = sym c.commit_refusal.ensures ∙ c.in_default.is;
       planned = record {
         done = subst (λ (q : Plan). IsDone (told h old.store) n.view (scene old c.args.caller) request q w) is_plan c.in-Ok-Commit.ensures.done;
         allowed = c.in-Ok-Commit.ensures.allowed;
@@ -385,7 +391,7 @@ returns-in-Err-commit_and_prune-clause-does g c =
       number_is = c.errno_of_store.ensures;
       shape = (same.0 ∙ ap (λ (s : StoreFields). s.page_size) read.same, same.1 ∙ ap (λ (s : StoreFields). s.commit) read.same, ap end_of_entries same.2 ∙ ap position read.same);
       same = ap (λ (s : Served). record old { store = ft; files = s }) is;
-    }
+    })
 
 pub returns-in-Err-commit_and_prune-clause-safe : goal.returns-in-Err-commit_and_prune-clause-safe
 returns-in-Err-commit_and_prune-clause-safe g c honest =
@@ -417,13 +423,117 @@ returns-in-Err-commit_and_prune-clause-safe g c honest =
     let went : IsTrue fm.honest → WentPruned (state hm fm) (failed hm fm) hm (Commit (drafted (position fm) fm.commit fm.sums change n.standing.moment n.config.node)) (kept_files n.config) result (state ht ft) (failed ht ft) ht =
     subst (λ (k : ℕ). IsTrue fm.honest → WentPruned (state hm fm) (failed hm fm) hm (Commit (drafted (position fm) fm.commit fm.sums change n.standing.moment n.config.node)) k result (state ht ft) (failed ht ft) ht) c.max-kept.ensures c.in-Err-commit_and_prune.ensures.went in
     let rests = subst (λ (q : Plan). Rests n.store.page_size n.store.commit n.view q w) is_plan (left law h hm old fm w c.args.caller request p prepared).rests in
-    let is : c.abandon.new.self ≡ n.view = c.abandon.ensures ∙ rests.0 in
+    let is : c.abandon-in-Err-commit_and_prune.new.self ≡ n.view = c.abandon-in-Err-commit_and_prune.ensures ∙ rests.0 in
     let same = c.in-Err-commit_and_prune.ensures.same in
     let read = c.prepare.ensures.read in
     let still : IsTrue old.store.honest → state ht ft ≡ state h old.store = λ honest.
     err-same Pos (state h old.store) (state ht ft) (failed h old.store) (failed ht ft) _ c.in-Err-commit_and_prune.fault (store-changes h hm ht old fm ft change result c.prepare.ensures.read c.in-Err-commit_and_prune.ensures.commits went c.in-Err-commit_and_prune.ensures.cause c.in-Err-commit_and_prune.ensures.honest honest) in
-    let primary_is : role_in old ≡ role.Primary = primary law h hm old fm w c.args.caller request p prepared c.in-Ok-Commit.reply change is_plan in
-    let new : NodeParts = record old { store = ft; files = c.abandon.new.self } in
-    commits-safely h hm ht old fm ft change result c.prepare.ensures.read c.in-Err-commit_and_prune.ensures.commits went c.in-Err-commit_and_prune.ensures.cause c.in-Err-commit_and_prune.ensures.honest c.abandon.new.self honest (leads (role_in old) primary_is)
+    let primary_is : role_in old ≡ role.Primary = primary old (sym c.commit_refusal.ensures ∙ c.in_default.is) in
+    let new : NodeParts = record old { store = ft; files = c.abandon-in-Err-commit_and_prune.new.self } in
+    commits-safely h hm ht old fm ft change result c.prepare.ensures.read c.in-Err-commit_and_prune.ensures.commits went c.in-Err-commit_and_prune.ensures.cause c.in-Err-commit_and_prune.ensures.honest c.abandon-in-Err-commit_and_prune.new.self honest (leads (role_in old) primary_is)
     (sound ht new (subst (λ (s : Served). IsOverImage s (state ht ft).image) (sym is) (subst (λ (s : StoreState). IsOverImage n.view s.image) (sym (still honest)) (n.image honest)))
     (subst (λ (s : Served). IsLockList s.locks) (sym is) n.locked).together (λ not. absurd (apart (sym primary_is ∙ not))))
+
+pub invariant_of-self-in-Some : goal.invariant_of-self-in-Some
+invariant_of-self-in-Some g c =
+    let n = c.args.self.now in
+    let old = parts_of n in
+    let h = history_of n.store in
+    let m = c.prepare.new.store in
+    let hm = history_of m in
+    let fm = fields_of m in
+    let w = c.prepare.new.view in
+    let request = c.args.request.now in
+    let law = c.replica_requests_leave_the_database.ensures.request in
+    let p : Plan = c.in-Ok-Commit.field-0 in
+    let prepared : Prepared h old c.args.caller request p w hm fm = record {
+      read = c.prepare.ensures.read;
+      planned = record { done = c.in-Ok-Commit.ensures.done; allowed = c.in-Ok-Commit.ensures.allowed };
+      stands = c.prepare.ensures.stands;
+      told_position = n.told;
+      replica = n.replica;
+      idle = n.idle;
+      sized = n.store.sized.pages;
+    } in
+    let is_plan : p ≡ plan.Commit c.in-Ok-Commit.reply c.in-Ok-Commit.change = c.in-Ok-Commit.field-0-is in
+    let rests = subst (λ (q : Plan). Rests n.store.page_size n.store.commit n.view q w) is_plan (left law h hm old fm w c.args.caller request p prepared).rests in
+    let is : c.abandon.new.self ≡ n.view = c.abandon.ensures ∙ rests.0 in
+    let read = c.prepare.ensures.read in
+    record {
+      shape = subst (λ (s : Served). FitsImage s m.page_size m.commit) (sym is) (subst (λ (s : StoreFields). FitsImage n.view s.page_size s.commit) (sym read.same) n.shape);
+      image = λ now.
+          let honest = sym (ap (λ (s : StoreFields). s.honest) read.same) ∙ now in
+          subst (λ (s : Served). IsOverImage s (state hm fm).image) (sym is) (subst (λ (s : StoreState). IsOverImage n.view s.image) (sym (read.state honest)) (n.image honest));
+      named = ap (λ (s : Served). s.name) is ∙ n.named;
+      told = ap (λ (s : Served). s.position) is ∙ n.told ∙ sym (ap position read.same);
+      replica = λ not. ap (λ (s : Served). s.writer) is ∙ n.replica not;
+      alone = n.alone;
+      idle = ap waits is ∙ n.idle;
+      locked = subst (λ (s : Served). IsLockList s.locks) (sym is) n.locked;
+    }
+
+pub returns-in-Some-clause-does : goal.returns-in-Some-clause-does
+returns-in-Some-clause-does g c =
+    let n = c.args.self.now in
+    let old = parts_of n in
+    let h = history_of n.store in
+    let m = c.prepare.new.store in
+    let hm = history_of m in
+    let fm = fields_of m in
+    let w = c.prepare.new.view in
+    let request = c.args.request.now in
+    let law = c.replica_requests_leave_the_database.ensures.request in
+    let p : Plan = c.in-Ok-Commit.field-0 in
+    let prepared : Prepared h old c.args.caller request p w hm fm = record {
+      read = c.prepare.ensures.read;
+      planned = record { done = c.in-Ok-Commit.ensures.done; allowed = c.in-Ok-Commit.ensures.allowed };
+      stands = c.prepare.ensures.stands;
+      told_position = n.told;
+      replica = n.replica;
+      idle = n.idle;
+      sized = n.store.sized.pages;
+    } in
+    let is_plan : p ≡ plan.Commit c.in-Ok-Commit.reply c.in-Ok-Commit.change = c.in-Ok-Commit.field-0-is in
+    let rests = subst (λ (q : Plan). Rests n.store.page_size n.store.commit n.view q w) is_plan (left law h hm old fm w c.args.caller request p prepared).rests in
+    let is : c.abandon.new.self ≡ n.view = c.abandon.ensures ∙ rests.0 in
+    inr (inr record {
+      reply = c.in-Ok-Commit.reply;
+      change = c.in-Ok-Commit.change;
+      waiting = w;
+      planned = record {
+        done = subst (λ (q : Plan). IsDone (told h old.store) n.view (scene old c.args.caller) request q w) is_plan c.in-Ok-Commit.ensures.done;
+        allowed = c.in-Ok-Commit.ensures.allowed;
+      };
+      refused = sym c.commit_refusal.ensures ∙ c.in-Some.is;
+      read = c.prepare.ensures.read;
+      same = ap (λ (s : Served). record old { store = fm; files = s }) is;
+    })
+
+pub returns-in-Some-clause-safe : goal.returns-in-Some-clause-safe
+returns-in-Some-clause-safe g c honest =
+    let n = c.args.self.now in
+    let old = parts_of n in
+    let h = history_of n.store in
+    let m = c.prepare.new.store in
+    let hm = history_of m in
+    let fm = fields_of m in
+    let w = c.prepare.new.view in
+    let request = c.args.request.now in
+    let law = c.replica_requests_leave_the_database.ensures.request in
+    let p : Plan = c.in-Ok-Commit.field-0 in
+    let prepared : Prepared h old c.args.caller request p w hm fm = record {
+      read = c.prepare.ensures.read;
+      planned = record { done = c.in-Ok-Commit.ensures.done; allowed = c.in-Ok-Commit.ensures.allowed };
+      stands = c.prepare.ensures.stands;
+      told_position = n.told;
+      replica = n.replica;
+      idle = n.idle;
+      sized = n.store.sized.pages;
+    } in
+    let is_plan : p ≡ plan.Commit c.in-Ok-Commit.reply c.in-Ok-Commit.change = c.in-Ok-Commit.field-0-is in
+    let rests = subst (λ (q : Plan). Rests n.store.page_size n.store.commit n.view q w) is_plan (left law h hm old fm w c.args.caller request p prepared).rests in
+    let is : c.abandon.new.self ≡ n.view = c.abandon.ensures ∙ rests.0 in
+    let read = c.prepare.ensures.read in
+    subst (λ (s : Served). StepsSafely (seen h old) laws.File (laws.Refused laws.Other) (seen hm (record old { store = fm; files = s })) h hm) (sym is)
+    (reads-safely h hm old fm n.view (laws.Refused laws.Other) honest read (m.left (ap (λ (s : StoreFields). s.honest) read.same ∙ honest))
+    (subst (λ (s : StoreState). IsOverImage n.view s.image) (sym (read.state honest)) (n.image honest)) n.locked.together n.replica (λ not. (refl, refl)) tt refl)

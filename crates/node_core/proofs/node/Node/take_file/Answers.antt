@@ -44,6 +44,7 @@ invariant_of-self g c =
       named = ap (λ (s : Served). s.name) is ∙ n.named;
       told = ap (λ (s : Served). s.position) is ∙ c.pos.ensures.value;
       replica = λ not. ap (λ (s : Served). s.writer) is;
+      alone = n.alone;
       idle = ap waits is ∙ applied-idle n.view t.page_size t.commit n.idle;
       locked = subst (λ (s : Served). IsLockList s.locks) (sym is) n.locked;
     }
@@ -63,6 +64,7 @@ invariant_of-self-in-Err-1 g c =
       named = n.named;
       told = n.told ∙ sym given.stands.2;
       replica = n.replica;
+      alone = n.alone;
       idle = n.idle;
       locked = n.locked;
     }

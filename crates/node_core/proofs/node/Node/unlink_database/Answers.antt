@@ -57,6 +57,7 @@ invariant_of-self-in-Ok g c =
       named = ap (λ (s : Served). s.name) is ∙ n.named;
       told = ap (λ (s : Served). s.position) is ∙ c.pos-in-Ok.ensures.value;
       replica = λ not. ap (λ (s : Served). s.writer) is;
+      alone = n.alone;
       idle = ap waits is ∙ applied-idle n.view 0 0 n.idle;
       locked = subst (λ (s : Served). IsLockList s.locks) (sym is) n.locked;
     }

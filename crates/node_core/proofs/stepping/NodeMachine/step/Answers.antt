@@ -26,3 +26,15 @@ returns-in-Export g c = rw c.in-Export.is (c.export.ensures.step c.args.caller)
 
 pub returns-in-Import : goal.returns-in-Import
 returns-in-Import g c = rw c.in-Import.is (c.answer_import.ensures.step c.args.caller)
+
+pub returns-in-HaltAsk : goal.returns-in-HaltAsk
+returns-in-HaltAsk g c = rw c.in-HaltAsk.is (c.answer_halt_ask.ensures.step c.args.caller)
+
+pub returns-in-HaltBack : goal.returns-in-HaltBack
+returns-in-HaltBack g c = rw c.in-HaltBack.is (c.answer_halt_back.ensures.step c.args.caller)
+
+pub returns-in-HaltGot : goal.returns-in-HaltGot
+returns-in-HaltGot g c = rw c.in-HaltGot.is (c.answer_halt_got.ensures.step c.args.caller)
+
+pub returns-in-HaltLost : goal.returns-in-HaltLost
+returns-in-HaltLost g c = rw c.in-HaltLost.is (c.lose_permit.ensures.step c.args.caller)
