@@ -11,32 +11,15 @@ import os
 import random
 import socket
 import sqlite3
-import subprocess
 import threading
 
-from support import MODES, Node, connect, count, fill, in_mode, insert, length, run, same, until
+from support import MODES, Node, connect, count, curl, fill, in_mode, insert, length, run, same, until
+from support.curl import contents
 from support.preloaded import scratch
 
 SIZES = (512, 1024, 4096, 65536)
 LONGEST = 2147483648
 KILLS, STREAMS = length(6, 30), 300
-
-
-def curl(*words):
-    """The status and the body of the reply to what curl sends."""
-    with scratch() as folder:
-        to = os.path.join(folder, 'body')
-        ran = subprocess.run(['curl', '-sS', '-o', to, '-w', '%{http_code}', *words], stdout=subprocess.PIPE, stderr=subprocess.PIPE, timeout=300)
-        same((ran.returncode, ran.stderr), (0, b''), f'curl {" ".join(words)[:100]}')
-        return int(ran.stdout), contents(to)
-
-
-def contents(path):
-    """Of a reply without bytes curl makes no file."""
-    if not os.path.exists(path):
-        return b''
-    with open(path, 'rb') as file:
-        return file.read()
 
 
 def exported(node, name='app'):

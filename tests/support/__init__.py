@@ -6,6 +6,7 @@ ran)."""
 from .cases import holds, length, refuses, run, same, skip_all
 from .client import Client
 from .cluster import Cluster
+from .curl import curl
 from .mounted import small_disk
 from .node import KEEP_ALL, Node, applied, configuration, read
 from .outcomes import Skipped, Wrong

@@ -18,7 +18,7 @@ use Rattle.node_core.specs.declared.ask.Ask.{Ask}
 use Rattle.cluster_laws.specs.Cluster.{Cluster, Program, begun_in, world}
 use Rattle.cluster_laws.specs.Cluster as cluster
 use Rattle.cluster_laws.specs.ClusterLaws.{RestartsAreMoves, StepsAreMoves, StopsAreMoves}
-use Rattle.cluster_laws.specs.Leased.{CommitsInTime, IsOpenedAnew, Leased, Leasing, Serves, Starts, reply_by, tenancy}
+use Rattle.cluster_laws.specs.Leased.{CommitsInTime, IsOpenedAnew, IsUnheard, Leased, Leasing, Serves, Starts, reply_by, tenancy}
 use Rattle.cluster_laws.specs.LeasedLaws.{RestartsAreLeasedMoves, ServiceIsServed, StepsAreLeasedMoves, StopsAreLeasedMoves}
 use Rattle.cluster_laws.proofs.ClusterMoves.{place, place-here, place-other}
 use Rattle.cluster_laws.proofs.LeasedMoves.{cut-among}
@@ -69,7 +69,7 @@ module _ {M : Type 0} {p : Program M} (h : Leasing p) where
   is-anew : (owner : ℕ → ℕ) (clocks : Clocks) (l : Leased p owner) (k : ℕ) (folder : Folder) (new : M) (number : ℕ) (starts : Starts h owner clocks k folder new number) (d : Cluster p) → d.nodes k ≡ new →
       IsOpenedAnew h owner clocks l k (anew owner l k number starts.own d)
   is-anew owner clocks l k folder new number starts d here = record {
-    standing = ap (λ (n : M). (h.parts n).standing) here ∙ starts.standing;
+    standing = subst (λ (n : M). IsUnheard (h.parts n).standing) (sym here) starts.standing;
     reply = place-here (l.numbers k) None l.replies;
     rest = record { service = refl; numbers = place-other k number l.numbers; replies = place-other (l.numbers k) None l.replies };
   }

@@ -73,6 +73,7 @@ primary-may n (asks.Info now) is = at-later n now is
 primary-may n (asks.Lease now news) is = at-later n now is
 primary-may n (asks.HaltAsk now node) is = at-later n now is
 primary-may n (asks.HaltBack now number) is = at-later n now is
+primary-may n (asks.Forward now number bytes) is = at-later n now is
 primary-may n (asks.HaltGot now pass) is = at-later n now is
 primary-may n (asks.HaltLost number) is = as-it-stands n.standing is
 

@@ -44,6 +44,7 @@ now-of (ask.Info now) = (now, λ m. refl)
 now-of (ask.Lease now news) = (now, λ m. refl)
 now-of (ask.HaltAsk now node) = (now, λ m. refl)
 now-of (ask.HaltBack now number) = (now, λ m. refl)
+now-of (ask.Forward now number bytes) = (now, λ m. refl)
 now-of (ask.HaltGot now pass) = (now, λ m. refl)
 now-of (ask.HaltLost number) = (0, λ m. sym (max-zero m))
 
@@ -70,6 +71,7 @@ module _ (v last : Tenancy) (n : ℕ) (t : Tenant) (others : (j : ℕ) → j ≢
   then-news (ask.Info now) here reply is = rests-so (max t.moment now) here is
   then-news (ask.HaltAsk now node) here reply is = rests-so (max t.moment now) here is
   then-news (ask.HaltBack now number) here reply is = rests-so (max t.moment now) here is
+  then-news (ask.Forward now number bytes) here reply is = rests-so (max t.moment now) here is
   then-news (ask.HaltGot now pass) here reply is = rests-so (max t.moment now) here is
   then-news (ask.HaltLost number) here reply is = rests-so t.moment here is
   then-news (ask.Lease now (news.Primary host)) here reply is = rests-so (max t.moment now) here is

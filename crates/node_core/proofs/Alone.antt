@@ -1,6 +1,7 @@
 -- While a permit is out, the node that gave it out commits nothing of its own.
-use Rattle.std.proofs.Common.{◌≡◌, ◌∙◌, ◌⊎◌, ℕ, ◌-◌, Bool, true, false, IsTrue, List, [], ◌∷◌, ◌++◌, length, Option, None, Some, IsSome, inl, inr, refl, sym, ap, subst, append-nil, arith}
-use Rattle.std.specs.Prelude.{All, ◌||◌, is_some, if◌then◌else◌}
+use Rattle.std.proofs.Common.{eqb, ◌≡◌, ◌∙◌, ◌⊎◌, ℕ, ◌-◌, Bool, true, false, IsTrue, List, [], ◌∷◌, ◌++◌, length, Option, None, Some, IsSome, inl, inr, refl, sym, ap, subst, append-nil, arith}
+use Rattle.std.specs.Prelude.{All, ◌||◌, ◌==◌, is_some, if◌then◌else◌}
+use Rattle.std.proofs.lemmas.Bool.Decides.{nat_tests}
 use Rattle.std.proofs.lemmas.List.Elements.{All-cons, All-nil}
 use Rattle.lf_base.specs.declared.errno.Errno.{Errno}
 use Rattle.lf_base.specs.declared.pos.Pos.{Pos}
@@ -8,7 +9,9 @@ use Rattle.fuse_msgs.specs.declared.request.Request.{Request}
 use Rattle.lf_disk.specs.History.{History}
 use Rattle.ltx_codec.specs.declared.file.Ltx.{Ltx}
 use Rattle.ltx_codec.specs.Positions.{after, before}
+use Rattle.halt_forward.specs.declared.halt_fault.HaltFault.TheVariants.{HaltGone}
 use Rattle.halt_forward.specs.declared.halt_pass.HaltPass.{HaltPass}
+use Rattle.halt_forward.specs.Permits.{gone_unless, pass_out}
 use Rattle.file_view.specs.declared.role.Role.{Role}
 use Rattle.file_view.specs.declared.role.Role.TheVariants as role
 use Rattle.file_view.specs.Errno.{EAGAIN, EPERM, EROFS}
@@ -29,9 +32,10 @@ use Rattle.node_core.specs.HoldingBack.{is_kept_out}
 use Rattle.node_core.specs.Importing.{AnswersImport, TakesUnless}
 use Rattle.node_core.specs.Locking.{commit_refusal, commit_refusal_by, is_barred}
 use Rattle.node_core.specs.Nodes.{NodeParts, at_moment, role_in, seen}
-use Rattle.node_core.specs.PermitLaw.{IsPrune}
+use Rattle.node_core.specs.Forwarding.{AnswersForward}
+use Rattle.node_core.specs.PermitLaw.{IsPrune, IsUnder}
 use Rattle.node_core.specs.Pruning.{kept_of}
-use Rattle.node_core.specs.Roles.{is_halted, law_role, out_by, permit_out, role_of}
+use Rattle.node_core.specs.Roles.{is_halted, law_role, out_by, permit_out, permits_of, role_of}
 use Rattle.node_core.specs.Safely.{IsAskOf, IsFrameOf, law_answer}
 use Rattle.node_core.specs.Serving.{ServesFiles}
 use Rattle.node_core.specs.Steps.{AnswersFile, AnswersServed, IsStep, at_ask}
@@ -202,6 +206,32 @@ module _ (start : History) (old : NodeParts) (end : History) (new : NodeParts) (
   imports-nothing bytes answer (inl other) = absurd (other.0 (out-leads (role_of old.standing) _ out))
   imports-nothing bytes answer (inr does) = takes-nothing bytes answer (permit_out old.standing) out does.1
 
+-- a permit that refuses no use of this number is the one of that number
+same-number : (b : Bool) (number : ℕ) → (if b then None else Some (HaltGone number)) ≡ None → b ≡ true
+same-number true number open_ = refl
+same-number false number open_ = absurd (let no : Some (HaltGone number) ≡ None = open_ in cc)
+
+comes-under : (out : Option HaltPass) (now number : ℕ) (bytes : List ℕ) → gone_unless out number ≡ None → IsUnder out (asks.Forward now number bytes)
+comes-under None now number bytes open_ = absurd (let no : Some (HaltGone number) ≡ None = open_ in cc)
+comes-under (Some pass) now number bytes open_ =
+    let test : eqb pass.number number ≡ true = same-number (pass.number == number) number open_ in
+    grind (arith, nat_tests)
+
+primary-out : (r : Role) (out : Option HaltPass) → r ≡ role.Primary → out_by r out ≡ out
+primary-out role.Primary out is = refl
+primary-out role.Replica out is = absurd (let no : role.Replica ≡ role.Primary = is in cc)
+primary-out role.Halted out is = absurd (let no : role.Halted ≡ role.Primary = is in cc)
+
+-- a transaction that doesn't come under the permit that is out is refused
+module _ (start : History) (old : NodeParts) (end : History) (new : NodeParts) (said : Option Errno) (out : IsSome (permit_out old.standing)) where
+  forwards-nothing : (now number : ℕ) (bytes : List ℕ) (answer : Answer) → (IsUnder (permit_out old.standing) (asks.Forward now number bytes) → ⊥) → AnswersForward start old number bytes answer end new
+      → (new.store.broken ≡ old.store.broken) × (law_answer answer ≡ laws.Refused laws.Other)
+  forwards-nothing now number bytes answer under (inl other) = absurd (other.0 (out-leads (role_of old.standing) _ out))
+  forwards-nothing now number bytes answer under (inr (leads, inl (why, gone, is, untouched))) = (ap (λ (n : NodeParts). n.store.broken) untouched.0, ap law_answer is)
+  forwards-nothing now number bytes answer under (inr (leads, inr (open_, taken))) =
+      absurd (under (subst (λ (o : Option HaltPass). IsUnder o (asks.Forward now number bytes)) (sym (primary-out (role_of old.standing) (pass_out (permits_of old.standing)) leads))
+      (comes-under (pass_out (permits_of old.standing)) now number bytes open_)))
+
 rests-frame : (bytes : List ℕ) (law : laws.Ask) → IsFrameOf bytes law → Rests law
 rests-frame bytes laws.File is = absurd is
 rests-frame bytes laws.EndSession is = tt
@@ -220,11 +250,11 @@ rests-frame bytes laws.Lease is = tt
 
 module _ (start : History) (old : NodeParts) (caller : ℕ) (answer : Answer) (end : History) (new : NodeParts) (said : Option Errno) where
   abbrev Alone : (ask : Ask) → IsStep start old caller ask answer end new said → Type 0
-  Alone ask step = (disk : IsTrue old.store.honest) (law : laws.Ask) (is : IsAskOf ask law) → IsSome (permit_out (at_ask old ask).standing) → All IsPrune (calls_of (step.safe disk law is).facts)
+  Alone ask step = (disk : IsTrue old.store.honest) (law : laws.Ask) (is : IsAskOf ask law) → IsSome (permit_out (at_ask old ask).standing) → (IsUnder (permit_out (at_ask old ask).standing) ask → ⊥) → All IsPrune (calls_of (step.safe disk law is).facts)
 
   -- an ask that makes no commit at a primary
   rested : (ask : Ask) (step : IsStep start old caller ask answer end new said) → ((law : laws.Ask) → IsAskOf ask law → Rests law) → Alone ask step
-  rested ask step rests disk law is out =
+  rested ask step rests disk law is out under =
       prunes-only (step.safe disk law is).facts.makes (step.role disk law is ∙ ap law_role (out-leads (role_of (at_ask old ask).standing) _ out)) (rests law is)
 
   -- an ask that is this one of the laws alone
@@ -232,7 +262,7 @@ module _ (start : History) (old : NodeParts) (caller : ℕ) (answer : Answer) (e
   rested-as ask step told only rests = rested ask step (λ law is. subst Rests (sym (only law is)) rests)
 
   pub alone : (ask : Ask) (step : IsStep start old caller ask answer end new said) → Alone ask step
-  alone (asks.File now request) step disk law is out =
+  alone (asks.File now request) step disk law is out under =
       let n : NodeParts = at_moment old now in
       let held = holds start n end new said out (unlinks_database n.config request) caller request answer step.does in
       let facts = (step.safe disk law is).facts in
@@ -241,22 +271,28 @@ module _ (start : History) (old : NodeParts) (caller : ℕ) (answer : Answer) (e
         | inl refused ↦ inl refused
         | inr same ↦ inr (is, same disk)
       ])
-  alone (asks.Import now bytes) step disk law is out =
+  alone (asks.Import now bytes) step disk law is out under =
       let n : NodeParts = at_moment old now in
       let held = imports-nothing start n end new said out bytes answer step.does in
       let facts = (step.safe disk law is).facts in
       let none : facts.failed ≡ None = no-failure new.store.broken old.store.broken held.0 _ _ facts.failed facts.broken (λ some. (facts.whole some).1) in
       no-calls (seen start old) (seen end new) law (law_answer answer) facts none (inl held.1)
-  alone asks.EndSession step disk law is out = rested-as asks.EndSession step laws.EndSession (λ law is. is) tt disk law is out
-  alone asks.Where step disk law is out = rested-as asks.Where step laws.Where (λ law is. is) tt disk law is out
-  alone (asks.Hello now from last) step disk law is out = rested-as (asks.Hello now from last) step (laws.Hello from last) (λ law is. is) tt disk law is out
-  alone (asks.Frame now bytes) step disk law is out = rested (asks.Frame now bytes) step (rests-frame bytes) disk law is out
-  alone (asks.Drop now) step disk law is out = rested-as (asks.Drop now) step laws.Drop (λ law is. is) tt disk law is out
-  alone asks.Export step disk law is out = rested-as asks.Export step laws.Export (λ law is. is) tt disk law is out
-  alone (asks.Prune keep) step disk law is out = rested-as (asks.Prune keep) step (laws.Prune (kept_of keep)) (λ law is. is) tt disk law is out
-  alone (asks.Info now) step disk law is out = rested-as (asks.Info now) step laws.Where (λ law is. is) tt disk law is out
-  alone (asks.Lease now news) step disk law is out = rested-as (asks.Lease now news) step laws.Lease (λ law is. is) tt disk law is out
-  alone (asks.HaltAsk now node) step disk law is out = rested-as (asks.HaltAsk now node) step laws.Permit (λ law is. is) tt disk law is out
-  alone (asks.HaltBack now number) step disk law is out = rested-as (asks.HaltBack now number) step laws.Permit (λ law is. is) tt disk law is out
-  alone (asks.HaltGot now pass) step disk law is out = rested-as (asks.HaltGot now pass) step laws.Permit (λ law is. is) tt disk law is out
-  alone (asks.HaltLost number) step disk law is out = rested-as (asks.HaltLost number) step laws.Permit (λ law is. is) tt disk law is out
+  alone (asks.Forward now number bytes) step disk law is out under =
+      let n : NodeParts = at_moment old now in
+      let held = forwards-nothing start n end new said out now number bytes answer under step.does in
+      let facts = (step.safe disk law is).facts in
+      let none : facts.failed ≡ None = no-failure new.store.broken old.store.broken held.0 _ _ facts.failed facts.broken (λ some. (facts.whole some).1) in
+      no-calls (seen start old) (seen end new) law (law_answer answer) facts none (inl held.1)
+  alone asks.EndSession step disk law is out under = rested-as asks.EndSession step laws.EndSession (λ law is. is) tt disk law is out under
+  alone asks.Where step disk law is out under = rested-as asks.Where step laws.Where (λ law is. is) tt disk law is out under
+  alone (asks.Hello now from last) step disk law is out under = rested-as (asks.Hello now from last) step (laws.Hello from last) (λ law is. is) tt disk law is out under
+  alone (asks.Frame now bytes) step disk law is out under = rested (asks.Frame now bytes) step (rests-frame bytes) disk law is out under
+  alone (asks.Drop now) step disk law is out under = rested-as (asks.Drop now) step laws.Drop (λ law is. is) tt disk law is out under
+  alone asks.Export step disk law is out under = rested-as asks.Export step laws.Export (λ law is. is) tt disk law is out under
+  alone (asks.Prune keep) step disk law is out under = rested-as (asks.Prune keep) step (laws.Prune (kept_of keep)) (λ law is. is) tt disk law is out under
+  alone (asks.Info now) step disk law is out under = rested-as (asks.Info now) step laws.Where (λ law is. is) tt disk law is out under
+  alone (asks.Lease now news) step disk law is out under = rested-as (asks.Lease now news) step laws.Lease (λ law is. is) tt disk law is out under
+  alone (asks.HaltAsk now node) step disk law is out under = rested-as (asks.HaltAsk now node) step laws.Permit (λ law is. is) tt disk law is out under
+  alone (asks.HaltBack now number) step disk law is out under = rested-as (asks.HaltBack now number) step laws.Permit (λ law is. is) tt disk law is out under
+  alone (asks.HaltGot now pass) step disk law is out under = rested-as (asks.HaltGot now pass) step laws.Permit (λ law is. is) tt disk law is out under
+  alone (asks.HaltLost number) step disk law is out under = rested-as (asks.HaltLost number) step laws.Permit (λ law is. is) tt disk law is out under

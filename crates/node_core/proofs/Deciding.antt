@@ -19,7 +19,7 @@ use Rattle.ltx_codec.proofs.LawLemmas.{header_length}
 use Rattle.world_laws.specs.Node as laws
 use Rattle.node_core.specs.declared.ask.Ask.TheVariants as asks
 use Rattle.node_core.specs.Pruning.{kept_of}
-use Rattle.node_core.specs.Safely.{EachIsAnAsk, IsFrameOf}
+use Rattle.node_core.specs.Safely.{EachIsAnAsk, IsForwardOf, IsFrameOf}
 
 -- something holds, or it does not
 abbrev pub Decided : Type 0 → Type 0
@@ -199,6 +199,13 @@ frame-of bytes = go (is_encoding bytes) where
   go (inl is) = (laws.Frame (file_in bytes), is)
   go (inr none) = (laws.NoFile, none)
 
+-- the same where they come under a permit
+pub forward-of : (bytes : List ℕ) → (law : laws.Ask) × IsForwardOf bytes law
+forward-of bytes = go (is_encoding bytes) where
+  go : Decided (IsLtx bytes (file_in bytes)) → (law : laws.Ask) × IsForwardOf bytes law
+  go (inl is) = (laws.Forward (file_in bytes), is)
+  go (inr none) = (laws.NoFile, none)
+
 -- and each ask is one of the laws
 pub each-is-an-ask : EachIsAnAsk
 each-is-an-ask (asks.File now request) = (laws.File, refl)
@@ -214,5 +221,6 @@ each-is-an-ask (asks.Info now) = (laws.Where, refl)
 each-is-an-ask (asks.Lease now news) = (laws.Lease, refl)
 each-is-an-ask (asks.HaltAsk now node) = (laws.Permit, refl)
 each-is-an-ask (asks.HaltBack now number) = (laws.Permit, refl)
+each-is-an-ask (asks.Forward now number bytes) = forward-of bytes
 each-is-an-ask (asks.HaltGot now pass) = (laws.Permit, refl)
 each-is-an-ask (asks.HaltLost number) = (laws.Permit, refl)

@@ -26,6 +26,7 @@ pub mod Owing
 pub mod Locks
 pub mod Asking
 pub mod Framed
+pub mod Forwarded
 pub mod Refusing
 pub mod Following
 pub mod Looked

@@ -19,5 +19,6 @@ last_stands first last (ask.Info before) = refl
 last_stands first last (ask.Lease before news) = refl
 last_stands first last (ask.HaltAsk before node) = refl
 last_stands first last (ask.HaltBack before number) = refl
+last_stands first last (ask.Forward before number bytes) = refl
 last_stands first last (ask.HaltGot before pass) = refl
 last_stands first last (ask.HaltLost number) = refl

@@ -15,6 +15,7 @@ pub mod Hello
 pub mod Pruning
 pub mod Dropping
 pub mod Framing
+pub mod Forwarding
 pub mod Exporting
 pub mod Importing
 pub mod Opening

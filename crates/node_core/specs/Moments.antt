@@ -18,5 +18,6 @@ ask_at now (ask.Info before) = ask.Info now
 ask_at now (ask.Lease before news) = ask.Lease now news
 ask_at now (ask.HaltAsk before node) = ask.HaltAsk now node
 ask_at now (ask.HaltBack before number) = ask.HaltBack now number
+ask_at now (ask.Forward before number bytes) = ask.Forward now number bytes
 ask_at now (ask.HaltGot before pass) = ask.HaltGot now pass
 ask_at now (ask.HaltLost number) = ask.HaltLost number

@@ -24,6 +24,12 @@ IsFrameOf bytes (laws.Frame file) = IsLtx bytes file
 IsFrameOf bytes laws.NoFile = IsLtx bytes (file_in bytes) → ⊥
 IsFrameOf bytes law = ⊥
 
+-- the same of a transaction that another node made
+abbrev pub IsForwardOf : List ℕ → laws.Ask → Type 0
+IsForwardOf bytes (laws.Forward file) = IsLtx bytes file
+IsForwardOf bytes laws.NoFile = IsLtx bytes (file_in bytes) → ⊥
+IsForwardOf bytes law = ⊥
+
 -- which ask of the laws an ask is
 abbrev pub IsAskOf : Ask → laws.Ask → Type 0
 IsAskOf (asks.File now request) law = law ≡ laws.File
@@ -39,6 +45,7 @@ IsAskOf (asks.Info now) law = law ≡ laws.Where
 IsAskOf (asks.Lease now news) law = law ≡ laws.Lease
 IsAskOf (asks.HaltAsk now node) law = law ≡ laws.Permit
 IsAskOf (asks.HaltBack now number) law = law ≡ laws.Permit
+IsAskOf (asks.Forward now number bytes) law = IsForwardOf bytes law
 IsAskOf (asks.HaltGot now pass) law = law ≡ laws.Permit
 IsAskOf (asks.HaltLost number) law = law ≡ laws.Permit
 

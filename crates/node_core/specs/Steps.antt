@@ -13,6 +13,7 @@ use Rattle.node_core.specs.declared.ask.Ask.{Ask}
 use Rattle.node_core.specs.declared.ask.Ask.TheVariants as asks
 use Rattle.node_core.specs.Dropping.{AnswersDrop, IsUntouched}
 use Rattle.node_core.specs.Exporting.{AnswersExport}
+use Rattle.node_core.specs.Forwarding.{AnswersForward}
 use Rattle.node_core.specs.Framing.{AnswersFrame}
 use Rattle.node_core.specs.Hello.{AnswersHello}
 use Rattle.node_core.specs.HoldingBack.{is_kept_out, noted}
@@ -69,6 +70,7 @@ Does start old caller (asks.Info now) answer end new said = AnswersInfo start (a
 Does start old caller (asks.Lease now news) answer end new said = AnswersLease start (at_moment old now) now news answer end new
 Does start old caller (asks.HaltAsk now node) answer end new said = AnswersHaltAsk start (at_moment old now) answer end new
 Does start old caller (asks.HaltBack now number) answer end new said = AnswersHaltBack start (at_moment old now) number answer end new
+Does start old caller (asks.Forward now number bytes) answer end new said = AnswersForward start (at_moment old now) number bytes answer end new
 Does start old caller (asks.HaltGot now pass) answer end new said = GetsPermit start (at_moment old now) pass answer end new
 Does start old caller (asks.HaltLost number) answer end new said = LosesPermit start old number answer end new
 
@@ -83,6 +85,7 @@ at_ask old (asks.Info now) = at_moment old now
 at_ask old (asks.Lease now news) = at_moment old now
 at_ask old (asks.HaltAsk now node) = at_moment old now
 at_ask old (asks.HaltBack now number) = at_moment old now
+at_ask old (asks.Forward now number bytes) = at_moment old now
 at_ask old (asks.HaltGot now pass) = at_moment old now
 at_ask old ask = old
 
@@ -97,6 +100,7 @@ moment_by (asks.Info now) moment = max moment now
 moment_by (asks.Lease now news) moment = max moment now
 moment_by (asks.HaltAsk now node) moment = max moment now
 moment_by (asks.HaltBack now number) moment = max moment now
+moment_by (asks.Forward now number bytes) moment = max moment now
 moment_by (asks.HaltGot now pass) moment = max moment now
 moment_by ask moment = moment
 

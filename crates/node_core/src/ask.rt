@@ -64,6 +64,12 @@ pub enum Ask {
         now: u64,
         number: u64,
     },
+    /// This LTX file is a transaction that a node made under the write permit of this number.
+    Forward {
+        now: u64,
+        number: u64,
+        bytes: Bytes,
+    },
     /// This write permit came from the primary.
     HaltGot {
         now: u64,
@@ -90,6 +96,7 @@ impl Ask {
             Ask::Lease { now, .. } => *now = moment,
             Ask::HaltAsk { now, .. } => *now = moment,
             Ask::HaltBack { now, .. } => *now = moment,
+            Ask::Forward { now, .. } => *now = moment,
             Ask::HaltGot { now, .. } => *now = moment,
             Ask::EndSession | Ask::Where | Ask::Export | Ask::Prune { .. } | Ask::HaltLost { .. } =>
                 {}

@@ -28,7 +28,8 @@ pub fn crashes_are_opened<D: Disk>()
     stops_are_failures();
 }
 
-/// While a permit is out, no step of the node that gave it out makes a call but a prune.
+/// While a permit is out, no step of the node that gave it out makes a call but a prune, unless a
+/// transaction comes under it.
 pub fn permit_is_alone<D: Disk>()
     ensures { PermitIsAlone ⟦<Node<D> as Machine>⟧.steps (λ n. parts_of n)
         (λ old new caller ask answer step disk law is. calls_of (step.safe disk law is).facts) }

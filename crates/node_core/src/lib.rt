@@ -10,6 +10,7 @@ mod config;
 mod dropping;
 mod errno;
 mod exporting;
+mod forwarding;
 mod framing;
 mod held_back;
 mod hello;

@@ -1,10 +1,10 @@
 //! What a node is in its cluster.
 ghost use Rattle.std.specs.Prelude.{◌≡◌};
 ghost use Rattle.node_core.specs.Roles.{files_at, in_force, permit_out, permits_of, role_of};
-ghost use Rattle.halt_forward.specs.Permits.{pass_out, unless_ended};
+ghost use Rattle.halt_forward.specs.Permits.{pass_out, unless_ended, use_refusal};
 
 use file_view::{Role, View};
-use halt_forward::{HaltPass, HaltTable};
+use halt_forward::{HaltFault, HaltPass, HaltTable};
 use lease_core::Belief;
 
 /// What a node believes of its own lease, the write permits that it got and gave out, and the greatest
@@ -58,6 +58,16 @@ impl Standing {
     {
         let mut permits = self.permits;
         permits.out(self.moment)
+    }
+
+    /// Why nothing is done under the permit of this number at its moment: it isn't out.
+    pub(crate) fn refuses_use(&self, number: u64) -> Option<HaltFault>
+        ensures { result ≡ use_refusal (permits_of self.now) number }
+    {
+        match self.given_out() {
+            Some(pass) if pass.number == number => None,
+            _ => Some(HaltFault::HaltGone { number }),
+        }
     }
 
     /// The permit that it has out: only a primary has one.

@@ -54,6 +54,7 @@ impl<D: Disk> Machine for Node<D> {
             Ask::Lease { now, news } => self.answer_lease(*now, news),
             Ask::HaltAsk { now, node } => self.answer_halt_ask(*now, *node),
             Ask::HaltBack { now, number } => self.answer_halt_back(*now, *number),
+            Ask::Forward { now, number, bytes } => self.answer_forward(*now, *number, bytes),
             Ask::HaltGot { now, pass } => self.answer_halt_got(*now, *pass),
             Ask::HaltLost { number } => self.lose_permit(*number),
         }

@@ -15,6 +15,7 @@ mod files;
 #[cfg(test)]
 mod following;
 #[cfg(test)]
+mod halts;
 #[cfg(test)]
 mod leased;
 #[cfg(test)]

@@ -228,16 +228,6 @@ const ROWS: &[Row] = &[
     },
     // Each call that has a name and is not served. Its body is passed over.
     Row {
-        input: b"POST /halt HTTP/1.1\r\nContent-Length: 21\r\n\r\napp 0000000000000001\n",
-        written: &[NOT_FOUND],
-        ..CLOSED
-    },
-    Row {
-        input: b"DELETE /halt HTTP/1.1\r\nContent-Length: 21\r\n\r\napp 0000000000000001\n",
-        written: &[NOT_FOUND],
-        ..CLOSED
-    },
-    Row {
         size: 3,
         input: b"POST /tx HTTP/1.1\r\nContent-Length: 21\r\n\r\napp 0000000000000001\n",
         written: &[NOT_FOUND],

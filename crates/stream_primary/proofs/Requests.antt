@@ -2,7 +2,7 @@
 use Rattle.std.proofs.Common.{◌≡◌, ◌⊎◌, inl, inr, ℕ, true, ◌+◌, ◌<◌, ◌≤◌, List, [], ◌∷◌, ◌++◌, length, drop, Option, Some, None, Err, refl, sym, ap, ◌∙◌, subst, arith}
 use Rattle.std.specs.Io.KnownBytes.{Appends, Keeps}
 use Rattle.std.proofs.KnownBytes.{Consumes-kept, Keeps-trans}
-use Rattle.std.proofs.lemmas.List.{length-drop, length-take-le}
+use Rattle.std.proofs.lemmas.List.{length-append, length-drop, length-take-le}
 use Rattle.lf_base.specs.Faults.{Rose}
 use Rattle.lf_base.specs.Name.{IsName}
 use Rattle.lf_base.specs.declared.pos.Pos.{Pos}
@@ -11,12 +11,15 @@ use Rattle.lf_base.specs.declared.session_end.SessionEnd.TheVariants as ends
 use Rattle.link_session.specs.Reading.{EndsReading}
 use Rattle.link_session.specs.Stands.{Asker, IsStill, Stand}
 use Rattle.turn_desk.specs.History.{entry}
+use Rattle.halt_forward.specs.declared.halt_pass.HaltPass.{HaltPass}
 use Rattle.node_core.specs.declared.ask.Ask.{Ask}
 use Rattle.node_core.specs.declared.ask.Ask.TheVariants as ask
 use Rattle.stream_wire.specs.declared.call.Call.{Call}
 use Rattle.stream_wire.specs.declared.call.Call.TheVariants as call
 use Rattle.stream_wire.specs.Head.{NeverTakesRequest}
+use Rattle.stream_wire.specs.NumberLines.{number_end, number_line}
 use Rattle.stream_wire.specs.StreamLine.{stream_line, IsNoStreamLine}
+use Rattle.stream_wire.proofs.NumberParts.{end_length}
 use Rattle.stream_wire.proofs.StreamLines.{line_length}
 use Rattle.http_exchange.specs.declared.called.Body.{Body}
 use Rattle.http_exchange.specs.declared.called.Body.TheVariants as body
@@ -30,6 +33,8 @@ use Rattle.stream_primary.specs.declared.stream_call.Wish.TheVariants as wish
 use Rattle.stream_primary.specs.Asking.{ServesAsk, answer_reply, answered, never_asked}
 use Rattle.stream_primary.specs.Calls.{Serves, kept_of}
 use Rattle.stream_primary.specs.DatabaseCalls.{ServesExport, ServesImport, export_elsewhere, exporting, import_elsewhere, importing}
+use Rattle.stream_primary.specs.HaltCalls.{AsksPermit, GivesBack, RefusesLine, SaysNumber, ServesHalt, ServesHaltBack, TellsPermit, elsewhere, giving_back, granted, halting, not_asked, not_given_back, not_taken, nowhere, permit_reply, permitted, taken_back, unasked, ungranted, unhalted, unplaced, unreadable, wanting, with_entry}
+use Rattle.stream_primary.specs.declared.halt_calls.Named.TheVariants as named
 use Rattle.stream_primary.specs.Refusing.{AnswersUnasked, EndsReply}
 use Rattle.stream_primary.specs.Request.{CameOf, CameOfRequest, Request, WasHeard, WasRead}
 use Rattle.stream_primary.specs.StreamCall.{ServesStream, Wants, no_line, other_database, starving, streaming}
@@ -113,6 +118,21 @@ whole_line line request b came is = subst (λ (b : Body). CameOf (kept.Line 99) 
 pub wants_other : (name other : List ℕ) (request : Request) (pos : Pos) → (other ≡ name → ⊥) → IsName other → request.body ≡ stream_line other pos → Wants name request wish.OtherDatabase
 wants_other name other request pos differs is e = (other, pos, is, differs, e)
 
+-- ---- what a body says of a number
+
+number_line_length : (name : List ℕ) (n : ℕ) (line : List ℕ) → line ≡ number_line name n → length line ≡ length name + 18
+number_line_length name n line e = ap length e ∙ length-append name (number_end n) ∙ ap (λ (k : ℕ). length name + k) (end_length n)
+
+-- one that was passed over; none is left unread
+pub unkept_number : (name content : List ℕ) (b : Body) → CameOf (kept.Line 82) content b → (b ≡ body.Passed) ⊎ (b ≡ body.Unread) → SaysNumber name content named.NoLine
+unkept_number name content b came (inl is) = λ other n is_name fits e.
+    absurd omega (arith, number_line_length other n content e, is_name.fits.1, subst (λ (b : Body). CameOf (kept.Line 82) content b) is came)
+unkept_number name content b came (inr is) = absurd (subst (λ (b : Body). CameOf (kept.Line 82) content b) is came)
+
+-- one that was kept
+pub whole_number : (content line : List ℕ) (b : Body) → CameOf (kept.Line 82) content b → b ≡ body.Whole line → line ≡ content
+whole_number content line b came is = subst (λ (b : Body). CameOf (kept.Line 82) content b) is came
+
 -- ---- what is served behind it
 
 -- the reply ends the session, where reading it kept what was written
@@ -166,11 +186,68 @@ import_behind who name other bytes old mid new turns end read (importing now sam
 import_behind who name other bytes old mid new turns end read (import_elsewhere differs a) =
     import_elsewhere differs (unasked_behind (reply 404 []) old mid new turns end read a)
 
+still_behind : (old mid new : Stand NodeEntry) → OnlyRead old mid → IsStill mid.place new.place → IsStill old.place new.place
+still_behind old mid new read still = record { written = Keeps-trans _ _ _ read.still.written still.written; asked = still.asked ∙ read.still.asked }
+
+refused_behind : (name body : List ℕ) (old mid new : Stand NodeEntry) (turns : ℕ) (end : SessionEnd) → OnlyRead old mid → RefusesLine name body mid new turns end → RefusesLine name body old new turns end
+refused_behind name body old mid new turns end read (elsewhere says a) = elsewhere says (unasked_behind (reply 404 []) old mid new turns end read a)
+refused_behind name body old mid new turns end read (unreadable says a) = unreadable says (unasked_behind (reply 400 []) old mid new turns end read a)
+refused_behind name body old mid new turns end read (wanting is still count) = wanting is (still_behind old mid new read still) (count ∙ read.count)
+
+-- the session made an entry more
+only_read_with : (made : NodeEntry) (old mid : Stand NodeEntry) → OnlyRead old mid → OnlyRead (with_entry made old) (with_entry made mid)
+only_read_with made old mid read = record {
+  still = record { written = read.still.written; asked = ap (λ (es : List NodeEntry). es ++ made ∷ []) read.still.asked };
+  count = read.count;
+}
+
+tells_behind : (caller : ℕ) (pass : HaltPass) (old mid new : Stand NodeEntry) (turns : ℕ) (end : SessionEnd) → OnlyRead old mid → TellsPermit caller pass mid new turns end
+    → TellsPermit caller pass old new turns end
+tells_behind caller pass old mid new turns end read (permitted given here is entries sent) =
+    permitted given here is (entries ∙ ap (λ (es : List NodeEntry). es ++ entry caller ask.Where given ∷ []) read.still.asked)
+    (replied (permit_reply pass here) old.place.taken mid.place.taken new.place.taken old.faults mid.faults new.faults turns end read.still.written read.count sent)
+tells_behind caller pass old mid new turns end read (nowhere given is entries sent) =
+    nowhere given is (entries ∙ ap (λ (es : List NodeEntry). es ++ entry caller ask.Where given ∷ []) read.still.asked)
+    (replied (answer_reply given) old.place.taken mid.place.taken new.place.taken old.faults mid.faults new.faults turns end read.still.written read.count sent)
+tells_behind caller pass old mid new turns end read (unplaced why still count) = unplaced why (still_behind old mid new read still) (count ∙ read.count)
+
+permit_behind : (caller : ℕ) (asked : Ask) (old mid new : Stand NodeEntry) (turns : ℕ) (end : SessionEnd) → OnlyRead old mid → AsksPermit caller asked mid new turns end
+    → AsksPermit caller asked old new turns end
+permit_behind caller asked old mid new turns end read (granted given pass is t) =
+    let made : NodeEntry = entry caller asked given in
+    granted given pass is (tells_behind caller pass (with_entry made old) (with_entry made mid) new turns end (only_read_with made old mid read) t)
+permit_behind caller asked old mid new turns end read (ungranted given is entries sent) =
+    ungranted given is (entries ∙ ap (λ (es : List NodeEntry). es ++ entry caller asked given ∷ []) read.still.asked)
+    (replied (answer_reply given) old.place.taken mid.place.taken new.place.taken old.faults mid.faults new.faults turns end read.still.written read.count sent)
+permit_behind caller asked old mid new turns end read (unasked why still count) = unasked why (still_behind old mid new read still) (count ∙ read.count)
+
+back_behind : (caller : ℕ) (asked : Ask) (old mid new : Stand NodeEntry) (turns : ℕ) (end : SessionEnd) → OnlyRead old mid → GivesBack caller asked mid new turns end
+    → GivesBack caller asked old new turns end
+back_behind caller asked old mid new turns end read (taken_back given is entries sent) =
+    taken_back given is (entries ∙ ap (λ (es : List NodeEntry). es ++ entry caller asked given ∷ []) read.still.asked)
+    (replied (reply 200 []) old.place.taken mid.place.taken new.place.taken old.faults mid.faults new.faults turns end read.still.written read.count sent)
+back_behind caller asked old mid new turns end read (not_taken given is entries sent) =
+    not_taken given is (entries ∙ ap (λ (es : List NodeEntry). es ++ entry caller asked given ∷ []) read.still.asked)
+    (replied (answer_reply given) old.place.taken mid.place.taken new.place.taken old.faults mid.faults new.faults turns end read.still.written read.count sent)
+back_behind caller asked old mid new turns end read (not_asked why still count) = not_asked why (still_behind old mid new read still) (count ∙ read.count)
+
+halt_behind : (who : Asker) (name body : List ℕ) (old mid new : Stand NodeEntry) (turns : ℕ) (end : SessionEnd) → OnlyRead old mid → ServesHalt who name body mid new turns end
+    → ServesHalt who name body old new turns end
+halt_behind who name body old mid new turns end read (halting now node says may s) =
+    halting now node says may (permit_behind who.caller (ask.HaltAsk now node) old mid new turns end read s)
+halt_behind who name body old mid new turns end read (unhalted r) = unhalted (refused_behind name body old mid new turns end read r)
+
+halt_back_behind : (who : Asker) (name body : List ℕ) (old mid new : Stand NodeEntry) (turns : ℕ) (end : SessionEnd) → OnlyRead old mid → ServesHaltBack who name body mid new turns end
+    → ServesHaltBack who name body old new turns end
+halt_back_behind who name body old mid new turns end read (giving_back now number says may s) =
+    giving_back now number says may (back_behind who.caller (ask.HaltBack now number) old mid new turns end read s)
+halt_back_behind who name body old mid new turns end read (not_given_back r) = not_given_back (refused_behind name body old mid new turns end read r)
+
 pub serves_behind : (called : Call) (who : Asker) (name : List ℕ) (request : Request) (old mid new : Stand NodeEntry) (turns : ℕ) (end : SessionEnd) → OnlyRead old mid
     → Serves called who name request mid new turns end → Serves called who name request old new turns end
 serves_behind call.Stream who name request old mid new turns end read s = stream_behind who name request old mid new turns end read s
-serves_behind call.Halt who name request old mid new turns end read s = unasked_behind (reply 404 []) old mid new turns end read s
-serves_behind call.HaltBack who name request old mid new turns end read s = unasked_behind (reply 404 []) old mid new turns end read s
+serves_behind call.Halt who name request old mid new turns end read s = halt_behind who name request.body old mid new turns end read s
+serves_behind call.HaltBack who name request old mid new turns end read s = halt_back_behind who name request.body old mid new turns end read s
 serves_behind call.Tx who name request old mid new turns end read s = unasked_behind (reply 404 []) old mid new turns end read s
 serves_behind (call.Export other) who name request old mid new turns end read s = export_behind who.caller name other old mid new turns end read s
 serves_behind (call.Import other) who name request old mid new turns end read s = import_behind who name other request.body old mid new turns end read s

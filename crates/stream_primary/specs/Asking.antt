@@ -17,8 +17,8 @@ use Rattle.stream_primary.specs.Streaming.{NodeEntry}
 abbrev pub position_line : Pos → List ℕ
 position_line pos = position_text pos ++ 10 ∷ []
 
--- THE REPLY to an answer: the bytes of the database, or the position at which it stands now; Held, where a lock holds an import back; or
--- the refusal's
+-- THE REPLY to an answer: the bytes of the database, or the position at which it stands now; Held, where a lock holds it back; or the
+-- refusal's
 abbrev pub answer_reply : Answer → List ℕ
 answer_reply (answer.Bytes bytes) = reply 200 bytes
 answer_reply (answer.Applied told) = reply 200 (position_line told)

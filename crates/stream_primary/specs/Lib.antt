@@ -5,6 +5,7 @@ pub mod Streaming
 pub mod StreamCall
 pub mod Asking
 pub mod DatabaseCalls
+pub mod HaltCalls
 pub mod Calls
 pub mod Session
 pub mod OneRun

@@ -35,7 +35,7 @@ pub fn ask_once<S: Steps<Ask = Ask, Answer = Answer>, L: Link>(
 }
 
 /// Asks, which is a turn.
-fn take_step<S: Steps<Ask = Ask, Answer = Answer>>(
+pub fn take_step<S: Steps<Ask = Ask, Answer = Answer>>(
     steps: &mut S,
     ask: &Ask,
     turns: &mut Turns,

@@ -8,6 +8,7 @@ ghost use Rattle.stream_primary.specs.Calls.{Serves, kept_of};
 ghost use Rattle.stream_primary.specs.Request.{CameOfRequest, Request};
 
 use crate::database_calls::{IMPORT_MAX, serve_export, serve_import};
+use crate::halt_calls::{NUMBER_LINE_MAX, number_in, serve_halt, serve_halt_back};
 use crate::replies::refuse;
 use crate::stream_call::{LINE_MAX, serve_stream};
 use http_exchange::{Called, Kept, Wants};
@@ -30,8 +31,7 @@ impl Wants for Bodies {
     fn keeps(&self, call: &Call) -> Kept {
         match call {
             Call::Stream => Kept::Line(LINE_MAX),
-            Call::Halt => Kept::Nothing,
-            Call::HaltBack => Kept::Nothing,
+            Call::Halt | Call::HaltBack => Kept::Line(NUMBER_LINE_MAX),
             Call::Tx => Kept::Nothing,
             Call::Export { .. } => Kept::Nothing,
             Call::Import { .. } => Kept::All(IMPORT_MAX),
@@ -63,8 +63,14 @@ pub fn serve_call<S: Steps<Ask = Ask, Answer = Answer>, L: Link, C: Clock, P: Pa
         Call::Stream => {
             serve_stream(alloc, steps, name, link, clock, pause, &head, &body, turns)
         }
-        Call::Halt => refuse(alloc, link, NOT_FOUND, turns),
-        Call::HaltBack => refuse(alloc, link, NOT_FOUND, turns),
+        Call::Halt => match number_in(alloc, name, &body) {
+            Ok(said) => serve_halt(alloc, steps, link, clock, said, turns),
+            Err(_) => SessionEnd::NoMemory,
+        },
+        Call::HaltBack => match number_in(alloc, name, &body) {
+            Ok(said) => serve_halt_back(alloc, steps, link, clock, said, turns),
+            Err(_) => SessionEnd::NoMemory,
+        },
         Call::Tx => refuse(alloc, link, NOT_FOUND, turns),
         Call::Export { name: other } => serve_export(alloc, steps, name, link, &other, turns),
         Call::Import { name: other } => {

@@ -2,13 +2,14 @@
 //!
 //! A request is read to the end of its body and served by its call: a call is one row of the tables in
 //! `calls`, a file that serves it, and a clause of `specs/Calls.antt`. The stream of the database, its
-//! export and its import are served; every other call is answered with status 404.
+//! export, its import and its write permits are served; every other call is answered with status 404.
 #![tactic(auto)]
 
 mod asking;
 mod calls;
 mod database_calls;
 mod ending;
+mod halt_calls;
 mod hello;
 mod laws;
 mod names;

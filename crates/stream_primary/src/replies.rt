@@ -106,7 +106,7 @@ fn position_line(alloc: Global, pos: Pos) -> Result<Vec<u8>, NoMemory>
 }
 
 /// Writes a reply, which ends the session.
-fn say<L: Link>(
+pub fn say<L: Link>(
     alloc: Global,
     link: &mut L,
     status: u16,

@@ -78,6 +78,7 @@ impl Machine for Scripted {
             | Ask::Lease { .. }
             | Ask::HaltAsk { .. }
             | Ask::HaltBack { .. }
+            | Ask::Forward { .. }
             | Ask::HaltGot { .. }
             | Ask::HaltLost { .. } => {
                 self.note(0);

@@ -17,3 +17,15 @@ pub returns-in-Import-clause-serves : goal.returns-in-Import-clause-serves
 returns-in-Import-clause-serves g c = λ request came.
     by_row (call.Import c.in-Import.other) c.args.called (asker g.S.Steps g.C.Clock c.args.steps.now c.args.clock.now) c.args.name.now request (stand g.L.Link c.args.link.now (g.S.Steps.entries c.args.steps.now))
     (stand g.L.Link c.serve_import.new.link (g.S.Steps.entries c.serve_import.new.steps)) c.serve_import.new.turns c.serve_import.result c.in-Import.is came (λ came. c.serve_import.ensures.serves request.body came.body)
+
+pub returns-in-Ok-clause-serves : goal.returns-in-Ok-clause-serves
+returns-in-Ok-clause-serves g c = λ request came.
+    by_row call.Halt c.args.called (asker g.S.Steps g.C.Clock c.args.steps.now c.args.clock.now) c.args.name.now request (stand g.L.Link c.args.link.now (g.S.Steps.entries c.args.steps.now))
+    (stand g.L.Link c.serve_halt.new.link (g.S.Steps.entries c.serve_halt.new.steps)) c.serve_halt.new.turns c.serve_halt.result c.in-Halt.is came
+    (λ came. c.serve_halt.ensures.serves c.args.name.now request.body (c.in-Ok.ensures request.body came.body))
+
+pub returns-in-Ok-number_in-clause-serves : goal.returns-in-Ok-number_in-clause-serves
+returns-in-Ok-number_in-clause-serves g c = λ request came.
+    by_row call.HaltBack c.args.called (asker g.S.Steps g.C.Clock c.args.steps.now c.args.clock.now) c.args.name.now request (stand g.L.Link c.args.link.now (g.S.Steps.entries c.args.steps.now))
+    (stand g.L.Link c.serve_halt_back.new.link (g.S.Steps.entries c.serve_halt_back.new.steps)) c.serve_halt_back.new.turns c.serve_halt_back.result c.in-HaltBack.is came
+    (λ came. c.serve_halt_back.ensures.serves c.args.name.now request.body (c.in-Ok-number_in.ensures request.body came.body))

@@ -33,6 +33,9 @@ returns-in-HaltAsk g c = rw c.in-HaltAsk.is (c.answer_halt_ask.ensures.step c.ar
 pub returns-in-HaltBack : goal.returns-in-HaltBack
 returns-in-HaltBack g c = rw c.in-HaltBack.is (c.answer_halt_back.ensures.step c.args.caller)
 
+pub returns-in-Forward : goal.returns-in-Forward
+returns-in-Forward g c = rw c.in-Forward.is (c.answer_forward.ensures.step c.args.caller)
+
 pub returns-in-HaltGot : goal.returns-in-HaltGot
 returns-in-HaltGot g c = rw c.in-HaltGot.is (c.answer_halt_got.ensures.step c.args.caller)
 

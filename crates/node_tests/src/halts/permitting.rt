@@ -1,0 +1,107 @@
+//! A machine that answers each ask for a permit, and each that is given back, by a word, and keeps what it was asked.
+use byte_locks::LockId;
+use halt_forward::{HaltFault, HaltPass};
+use lf_base::Pos;
+use node_core::{Answer, Ask, Refusal, Whereabouts};
+use std::alloc::Global;
+use turn_desk::Machine;
+
+/// Where it stands.
+const AT: Pos = Pos {
+    txid: 2,
+    sum: 0xb20a_ff5e_38e3_8e38,
+};
+
+/// The permit that it gives out.
+const PASS: HaltPass = HaltPass {
+    number: 1,
+    until: 1_005,
+};
+
+/// What it answers.
+#[derive(Clone, Copy, PartialEq, Eq)]
+pub enum Word {
+    Pass,
+    Quiet,
+    HaltHeld,
+    HaltGone,
+    Held,
+    Limit,
+    NotPrimary,
+}
+
+#[derive(Drop)]
+pub struct Permitting {
+    word: Word,
+    pub asked: Vec<u8>,
+}
+
+impl Permitting {
+    pub fn new(alloc: Global, word: Word) -> Permitting {
+        Permitting {
+            word,
+            asked: Vec::new(alloc),
+        }
+    }
+
+    fn answer(&self) -> Answer {
+        match self.word {
+            Word::Pass => Answer::Pass(PASS),
+            Word::Quiet => Answer::Quiet,
+            Word::HaltHeld => Answer::Refused(Refusal::Halt(HaltFault::HaltHeld {
+                number: 3,
+                until: 9,
+            })),
+            Word::HaltGone => Answer::Refused(Refusal::Halt(HaltFault::HaltGone { number: 1 })),
+            Word::Held => Answer::Held(LockId::Reserved),
+            Word::Limit => Answer::Refused(Refusal::Halt(HaltFault::Limit)),
+            Word::NotPrimary => Answer::Refused(Refusal::NotPrimary),
+        }
+    }
+
+    fn keep(&mut self, text: &[u8]) {
+        let _ = self.asked.extend_from_slice(text);
+    }
+
+    /// Keeps an ask of a number of one digit, at a moment of one digit.
+    fn keep_ask(&mut self, word: &[u8], number: u64, now: u64) {
+        self.keep(word);
+        self.keep(&[b'0' + (number % 10) as u8]);
+        self.keep(b" at ");
+        self.keep(&[b'0' + (now % 10) as u8]);
+        self.keep(b", ");
+    }
+}
+
+impl Machine for Permitting {
+    type Ask = Ask;
+
+    type Answer = Answer;
+
+    ghost steps = { λ before caller ask answer after. Unit {0} };
+
+    fn step(&mut self, _caller: u64, ask: &Ask) -> Answer {
+        match ask {
+            Ask::HaltAsk { now, node } => {
+                self.keep_ask(b"node ", *node, *now);
+                self.answer()
+            }
+            Ask::HaltBack { now, number } => {
+                self.keep_ask(b"back ", *number, *now);
+                self.answer()
+            }
+            Ask::Where => {
+                self.keep(b"where, ");
+                Answer::At(Whereabouts {
+                    pos: AT,
+                    last: None,
+                })
+            }
+            _ => Answer::Quiet,
+        }
+    }
+
+    fn news(&self) -> u64 {
+        0
+    }
+}
