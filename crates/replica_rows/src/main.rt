@@ -11,6 +11,7 @@ mod levels;
 mod likeness;
 mod lineage;
 mod nodes;
+mod permits;
 mod readers;
 mod road;
 mod scenes;

@@ -2,6 +2,7 @@
 
 use crate::fault::Fault;
 use crate::nodes::{MemNode, NOWHERE, Part};
+use crate::permits::Asked;
 use crate::turns::{Pair, Said, Turn, Who, play};
 use crate::waits::{ROLLBACK, WAL};
 use fuse_msgs::LockWish;
@@ -177,8 +178,32 @@ const FORK: &[Turn] = &[
     Turn::Take(Who::Replica),
 ];
 
+/// Another node at the primary's position makes a transaction, which comes under a write permit: before
+/// one is out, under another number, under its own, and once more; and when it was given back. A replica
+/// gets it like any other.
+const UNDER: &[Turn] = &[
+    Turn::Title("a transaction comes under a write permit"),
+    PRIMARY,
+    Turn::Begin(Who::Replica, Part::Primary),
+    Turn::Commit(Who::Primary, &[(1, 1)]),
+    Turn::Commit(Who::Replica, &[(1, 1)]),
+    Turn::Commit(Who::Replica, &[(2, 2)]),
+    Turn::Make,
+    Turn::Permits(Asked::Forward(1)),
+    Turn::Permits(Asked::Permit(7)),
+    Turn::Permits(Asked::Permit(8)),
+    Turn::Permits(Asked::Forward(2)),
+    Turn::Permits(Asked::Forward(1)),
+    Turn::Permits(Asked::Forward(1)),
+    Turn::Permits(Asked::GiveBack(1)),
+    Turn::Permits(Asked::Forward(1)),
+    Turn::Commit(Who::Primary, &[(1, 4)]),
+    REPLICA,
+    Turn::Follow,
+];
+
 const SCENES: &[&[Turn]] = &[
-    FOLLOWING, PRIMARIES, LOG, READER, WAITS, DROP, REFUSALS, FORK,
+    FOLLOWING, PRIMARIES, LOG, READER, WAITS, DROP, REFUSALS, UNDER, FORK,
 ];
 
 /// The scenes, one after another. Each begins its nodes anew.

@@ -1,6 +1,7 @@
 //! What a node answers, in words.
 
 use byte_locks::LockId;
+use halt_forward::HaltFault;
 use lf_base::{Bytes, Pos};
 use ltx_codec::decode;
 use node_core::{Answer, Refusal};
@@ -52,7 +53,10 @@ pub fn told_by(alloc: Global, answer: &Answer) -> Told {
         Answer::Pass(_) => Told::Word("a write permit"),
         Answer::Bytes(_) => Told::Word("bytes"),
         Answer::Info(info) => Told::At("at", info.pos),
-        Answer::Refused(Refusal::Store(StoreFault::NotNext { have, want })) => Told::NotNext {
+        Answer::Refused(
+            Refusal::Store(StoreFault::NotNext { have, want })
+            | Refusal::Halt(HaltFault::Behind { have, want }),
+        ) => Told::NotNext {
             have: *have,
             want: *want,
         },

@@ -4,6 +4,7 @@ use crate::clients::{FOLDER, Filled, bytes, commit, creates, does};
 use crate::fault::Fault;
 use crate::levels::asked_by;
 use crate::nodes::{MemNode, NOW, Part, ask, renew, restart, whereabouts};
+use crate::permits::{Asked, makes, permits};
 use crate::readers::{opens, reads_around, wishes};
 use crate::told::told_by;
 use crate::waits::{Moment, asks_by};
@@ -65,6 +66,10 @@ pub enum Turn {
     Wait(&'static [Moment]),
     /// From now on the replica says this of its last file.
     Say(Said),
+    /// What the other node made behind the primary's position is what comes under a permit.
+    Make,
+    /// This is asked of the primary.
+    Permits(Asked),
 }
 
 /// Two nodes, what the primary owed the replica last, and whether a node took it.
@@ -207,6 +212,8 @@ fn happens(rt: HostRuntime, pair: &mut Pair<'_>, turn: &Turn) -> Result<(), Faul
         Turn::ReadAround => reads_around(rt, pair),
         Turn::Wait(moments) => asks_by(rt, pair, moments),
         Turn::Say(said) => speaks(pair, said),
+        Turn::Make => makes(rt, pair),
+        Turn::Permits(asked) => permits(rt, pair, asked),
     }
 }
 
