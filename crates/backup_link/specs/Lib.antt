@@ -1,0 +1,11 @@
+pub mod Adding
+pub mod BackingUp
+pub mod Endings
+pub mod Fetching
+pub mod Following
+pub mod Frames
+pub mod Heads
+pub mod Keeping
+pub mod LevelNames
+pub mod Restoring
+pub mod Streaming
