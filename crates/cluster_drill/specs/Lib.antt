@@ -1,0 +1,4 @@
+pub mod Draws
+pub mod Nodes
+pub mod Line
+pub mod Drill
