@@ -19,7 +19,7 @@ use Rattle.clap.proofs.OnLiterals.{clap_on_literals}
 use Rattle.litefs_tool.specs.Words.{name_text}
 use Rattle.litefs_tool.specs.steps.CommandLine.{arguments_of, bare, program}
 use Rattle.litefs_tool.specs.declared.naming.CommandName.{CommandName}
-use Rattle.litefs_tool.specs.declared.naming.CommandName.TheVariants.{Apply, Compact, Mount, Lease, Export, Import}
+use Rattle.litefs_tool.specs.declared.naming.CommandName.TheVariants.{Apply, Compact, Mount, Lease, Export, Import, Drill, Backup, Restore}
 
 -- ---- words that are written out
 
@@ -38,6 +38,9 @@ takes_command Mount = refl
 takes_command Lease = refl
 takes_command Export = refl
 takes_command Import = refl
+takes_command Drill = refl
+takes_command Backup = refl
+takes_command Restore = refl
 
 pub names_command : (command : CommandName) → name_in (subcommand_of program (arguments_of command)) ≡ Some (name_text command)
 unfolding clap_on_literals
@@ -47,6 +50,9 @@ names_command Mount = refl
 names_command Lease = refl
 names_command Export = refl
 names_command Import = refl
+names_command Drill = refl
+names_command Backup = refl
+names_command Restore = refl
 
 pub names_none : name_in (subcommand_of program []) ≡ None
 unfolding clap_on_literals
@@ -144,6 +150,9 @@ entered_faults Mount word rest other = first_faults _ _ (walk_faults (leaf (code
 entered_faults Lease word rest other = first_faults _ _ (walk_faults (leaf (codes "lease")) [] word rest refl other)
 entered_faults Export word rest other = first_faults _ _ (walk_faults (leaf (codes "export")) [] word rest refl other)
 entered_faults Import word rest other = first_faults _ _ (walk_faults (leaf (codes "import")) [] word rest refl other)
+entered_faults Drill word rest other = first_faults _ _ (walk_faults (leaf (codes "drill")) [] word rest refl other)
+entered_faults Backup word rest other = first_faults _ _ (walk_faults (leaf (codes "backup")) [] word rest refl other)
+entered_faults Restore word rest other = first_faults _ _ (walk_faults (leaf (codes "restore")) [] word rest refl other)
 
 -- a walk that stopped at a subcommand hands it the words that are left
 hands_down : (rules : List Rule) (known : Names) (stood : Walk) (name : Text) (handed rest : List Text)
@@ -162,6 +171,9 @@ stops Mount word rest = hands_down [] names (walk_from nothing_held) (codes "mou
 stops Lease word rest = hands_down [] names (walk_from nothing_held) (codes "lease") (word ∷ []) rest
 stops Export word rest = hands_down [] names (walk_from nothing_held) (codes "export") (word ∷ []) rest
 stops Import word rest = hands_down [] names (walk_from nothing_held) (codes "import") (word ∷ []) rest
+stops Drill word rest = hands_down [] names (walk_from nothing_held) (codes "drill") (word ∷ []) rest
+stops Backup word rest = hands_down [] names (walk_from nothing_held) (codes "backup") (word ∷ []) rest
+stops Restore word rest = hands_down [] names (walk_from nothing_held) (codes "restore") (word ∷ []) rest
 
 more_faults : (command : CommandName) (word : Text) (rest : List Text) → bytes_eq word dashes ≡ false → IsFault (fault_of program (name_text command ∷ word ∷ rest))
 more_faults command word rest other =
@@ -190,7 +202,16 @@ named_or_unmet word = elim (same_or_other (codes "apply") word) [
           | inl is ↦ inl (Export, sym is)
           | inr not_export ↦ elim (same_or_other (codes "import") word) [
             | inl is ↦ inl (Import, sym is)
-            | inr not_import ↦ inr (rw (not_apply, not_compact, not_mount, not_lease, not_export, not_import) refl)
+            | inr not_import ↦ elim (same_or_other (codes "drill") word) [
+              | inl is ↦ inl (Drill, sym is)
+              | inr not_drill ↦ elim (same_or_other (codes "backup") word) [
+                | inl is ↦ inl (Backup, sym is)
+                | inr not_backup ↦ elim (same_or_other (codes "restore") word) [
+                  | inl is ↦ inl (Restore, sym is)
+                  | inr not_restore ↦ inr (rw (not_apply, not_compact, not_mount, not_lease, not_export, not_import, not_drill, not_backup, not_restore) refl)
+                ]
+              ]
+            ]
           ]
         ]
       ]
@@ -208,6 +229,9 @@ undashed_command Mount = refl
 undashed_command Lease = refl
 undashed_command Export = refl
 undashed_command Import = refl
+undashed_command Drill = refl
+undashed_command Backup = refl
+undashed_command Restore = refl
 
 neither : (a b : Bool) → (a || b) ≡ false → (a ≡ false) × (b ≡ false)
 neither true b h = absurd (true≢false h)

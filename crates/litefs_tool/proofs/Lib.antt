@@ -1,11 +1,14 @@
 pub mod AnswerLemmas
 pub mod AskLemmas
+pub mod BackingLemmas
 pub mod ApplyingLemmas
 pub mod ClapLemmas
 pub mod CommandLineLemmas
 pub mod CompactionLemmas
 pub mod CompactionOnce
+pub mod DrillLemmas
 pub mod FileLemmas
+pub mod FolderLemmas
 pub mod GatherLemmas
 pub mod InputLemmas
 pub mod OutputLemmas

@@ -6,7 +6,7 @@ use Rattle.litefs_tool.specs.CompactRefusal.{compact_refusal_name}
 use Rattle.litefs_tool.specs.Files.{Applies, never_written}
 use Rattle.litefs_tool.specs.Refusal.{refusal_name}
 use Rattle.litefs_tool.specs.declared.command.Command.{Command}
-use Rattle.litefs_tool.specs.declared.command.Command.TheVariants.{Apply, Compact, Mount, Lease, Export, Import}
+use Rattle.litefs_tool.specs.declared.command.Command.TheVariants.{Apply, Compact, Mount, Lease, Export, Import, Drill, Backup, Restore}
 use Rattle.litefs_tool.specs.declared.compact_refusal.CompactRefusal.{CompactRefusal}
 use Rattle.litefs_tool.specs.declared.refusal.Refusal.{Refusal}
 
@@ -15,6 +15,12 @@ abbrev pub IsOverStreams : Command → Type 0
 IsOverStreams Apply = Unit {0}
 IsOverStreams Compact = Unit {0}
 IsOverStreams command = ⊥
+
+-- a command on a backup
+abbrev pub IsOverDisks : Command → Type 0
+IsOverDisks (Backup remote) = Unit {0}
+IsOverDisks (Restore database txid) = Unit {0}
+IsOverDisks command = ⊥
 
 -- a command that serves links
 abbrev pub IsServing : Command → Type 0
@@ -30,6 +36,9 @@ WritesFor Mount input bytes = ⊥
 WritesFor Lease input bytes = ⊥
 WritesFor (Export remote) input bytes = ⊥
 WritesFor (Import remote) input bytes = ⊥
+WritesFor (Drill number) input bytes = ⊥
+WritesFor (Backup remote) input bytes = ⊥
+WritesFor (Restore database txid) input bytes = ⊥
 
 -- a command refuses an input, by the fault of this name
 abbrev pub RefusesBy : Command → List ℕ → List ℕ → Type 0
@@ -39,3 +48,6 @@ RefusesBy Mount input name = ⊥
 RefusesBy Lease input name = ⊥
 RefusesBy (Export remote) input name = ⊥
 RefusesBy (Import remote) input name = ⊥
+RefusesBy (Drill number) input name = ⊥
+RefusesBy (Backup remote) input name = ⊥
+RefusesBy (Restore database txid) input name = ⊥

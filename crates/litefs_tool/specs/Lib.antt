@@ -2,6 +2,8 @@ pub mod Asking
 pub mod Command
 pub mod CompactRefusal
 pub mod Compaction
+pub mod Disks
+pub mod Drilling
 pub mod Files
 pub mod Mount
 pub mod Output

@@ -10,14 +10,15 @@ use Rattle.node_mount.specs.Mounting.{IsMountCause}
 use Rattle.node_mount.specs.declared.counts.Counts.{Counts}
 use Rattle.node_mount.specs.declared.mount_fault.MountFault.{MountFault}
 use Rattle.litefs_tool.specs.Asking.{AskBacks, AskOutcome}
-use Rattle.litefs_tool.specs.Command.{IsOverStreams, IsServing, WritesFor, RefusesBy}
+use Rattle.litefs_tool.specs.Command.{IsOverDisks, IsOverStreams, IsServing, WritesFor, RefusesBy}
+use Rattle.litefs_tool.specs.Disks.{DiskBacks, DiskOutcome}
+use Rattle.litefs_tool.specs.Drilling.{DrillOutcome}
 use Rattle.litefs_tool.specs.Mount.{status_of_end, name_of_end}
 use Rattle.litefs_tool.specs.Output.{IsPrefix, AppendsPrefix}
 use Rattle.litefs_tool.specs.Streams.{Fails, Gives, HasCause, Holds, IsStill, IsWithin, Stream, Takes, input_limit}
 use Rattle.litefs_tool.specs.Words.{Spells}
 use Rattle.litefs_tool.specs.declared.command.Command.{Command}
-use Rattle.litefs_tool.specs.declared.command.Command.TheVariants.{Mount, Lease, Export}
-use Rattle.litefs_tool.specs.declared.remote.Remote.{Remote}
+use Rattle.litefs_tool.specs.declared.command.Command.TheVariants.{Mount, Lease, Export, Backup, Restore, Drill}
 
 -- what a run goes over: its streams, the configuration, and the maker's counts of faults, before it and after it
 pub record Outside : Type 0 where
@@ -104,14 +105,15 @@ pub record EndsUnread (outside : Outside) (ended : Status) : Type 0 where
   pub config : IsStill outside.config
   pub counts : outside.counts_after ≡ outside.counts
 
--- what came back to the maker, by how a node ended, by how a lease service did, and by how a node was asked
+-- what came back to the maker, by how a node ended, by how a lease service did, by how a node was asked, and by how a backup's command ended
 pub record Backs : Type 1 where
   pub node : Result (Unit {0}) MountFault → Type 0
   pub service : Result (Unit {0}) MountFault → Type 0
   pub asks : AskBacks
+  pub disks : DiskBacks
 
 -- what a run did: it read its input and wrote its output, or refused its arguments; or it was a node, or a lease service; or it asked a
--- node; or had no memory to read its arguments
+-- node; or it went over a backup's disks; or it played a drill; or had no memory to read its arguments
 pub data RunCourse (backs : Backs) (arguments : List (List ℕ)) (outside : Outside) (status : Status) (name : List ℕ) : Type 0 where
   over_streams : (read written : List ℕ) → Moves outside.input outside.output status read written → ArgumentsOutcome arguments read status written name
       → RunCourse backs arguments outside status name
@@ -119,6 +121,10 @@ pub data RunCourse (backs : Backs) (arguments : List (List ℕ)) (outside : Outs
   leased : Spells arguments Lease → LeaseOutcome backs.service outside status name → RunCourse backs arguments outside status name
   asked : (command : Command) → Spells arguments command
       → AskOutcome backs.asks command outside.input outside.output outside.counts outside.counts_after status name → RunCourse backs arguments outside status name
+  over_disks : (command : Command) → Spells arguments command
+      → DiskOutcome backs.disks command outside.output outside.counts outside.counts_after status name → RunCourse backs arguments outside status name
+  drilled : (number : ℕ) → Spells arguments (Drill number) → DrillOutcome number outside.input outside.output status
+      → RunCourse backs arguments outside status name
   unread : EndsUnread outside status → RunCourse backs arguments outside status name
 
 -- a line of standard error
@@ -143,14 +149,23 @@ pub record RunOutcome (backs : Backs) (run : Run) (status : Status) : Type 0 whe
   pub went : RunCourse backs run.arguments run.outside status name
   pub says : Says run.errors (line_of status name)
 
--- a command that serves, or asks a node
+-- a command that serves, asks a node, or goes over a backup's disks
 abbrev pub UsesMaker : Command → Type 0
+UsesMaker (Drill number) = ⊥
 UsesMaker command = IsOverStreams command → ⊥
 
--- what a run leaves: the configuration, but of a command that serves; the maker, but of one that serves or asks a node; of one that serves the
--- input and the output, and of `export` the input
+-- a command that leaves its input
+abbrev pub LeavesInput : Command → Type 0
+LeavesInput (Export remote) = Unit {0}
+LeavesInput (Backup remote) = Unit {0}
+LeavesInput (Restore database txid) = Unit {0}
+LeavesInput (Drill number) = Unit {0}
+LeavesInput command = ⊥
+
+-- what a run leaves: the configuration, but of a command that serves; the maker, but of one that uses it; of one that serves the
+-- input and the output, and of `export`, `drill` and a command on a backup the input
 pub record LeavesApart {I O G M : Type 0} (arguments : List (List ℕ)) (input input_after : I) (output output_after : O) (config config_after : G) (make make_after : M) : Type 0 where
   pub unconfigured : ((command : Command) → Spells arguments command → IsServing command → ⊥) → config_after ≡ config
   pub alone : ((command : Command) → Spells arguments command → UsesMaker command → ⊥) → make_after ≡ make
   pub serving : (command : Command) → Spells arguments command → IsServing command → (input_after ≡ input) × (output_after ≡ output)
-  pub exporting : (remote : Remote) → Spells arguments (Export remote) → input_after ≡ input
+  pub unfed : (command : Command) → Spells arguments command → LeavesInput command → input_after ≡ input

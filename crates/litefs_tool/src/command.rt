@@ -4,9 +4,11 @@
 ghost use Rattle.std.specs.Prelude.{◌≡◌, ◌∷◌, [], IfOk, MatchOption, Some};
 ghost use Rattle.litefs_tool.specs.Words.{IsReadAs, name_text};
 
+use crate::backup_words::{read_backup, read_restore};
 use crate::naming::{CommandName, read_name};
+use crate::number::read_number;
 use crate::remote::{Remote, read_remote};
-use lf_base::{NoMemory, Text};
+use lf_base::{Name, NoMemory, Text};
 use std::alloc::Global;
 
 /// A command of the program.
@@ -24,6 +26,12 @@ pub enum Command {
     Export(Remote),
     /// The input becomes a node's database.
     Import(Remote),
+    /// A cluster in memory, of this seed.
+    Drill(u64),
+    /// What is new in a node's database goes into a backup.
+    Backup(Remote),
+    /// A backup's database, as it was after a transaction, becomes the output.
+    Restore { name: Name, txid: u64 },
 }
 
 /// The command of these arguments. They are read to the letter: none more, and none less.
@@ -54,6 +62,18 @@ fn read_words(alloc: Global, name: CommandName, words: &[Text]) -> Result<Option
         },
         CommandName::Import => match read_remote(alloc, words)? {
             Some(remote) => Ok(Some(Command::Import(remote))),
+            None => Ok(None),
+        },
+        CommandName::Drill => match read_number(words) {
+            Some(number) => Ok(Some(Command::Drill(number))),
+            None => Ok(None),
+        },
+        CommandName::Backup => match read_backup(alloc, words)? {
+            Some(remote) => Ok(Some(Command::Backup(remote))),
+            None => Ok(None),
+        },
+        CommandName::Restore => match read_restore(alloc, words)? {
+            Some((name, txid)) => Ok(Some(Command::Restore { name, txid })),
             None => Ok(None),
         },
     }

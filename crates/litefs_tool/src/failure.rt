@@ -2,12 +2,17 @@ ghost use Rattle.std.specs.Prelude.{◌≡◌};
 ghost use Rattle.litefs_tool.specs.steps.Failure.{status_of_failure, name_of_failure};
 ghost use Rattle.litefs_tool.specs.declared.failure.Failure.TheVariants as failure;
 
+use crate::backup_failure::{
+    name_of_backup, name_of_unfetched, status_of_backup, status_of_unfetched,
+};
 use crate::compact_refusal::CompactRefusal;
 use crate::input::InputFault;
 use crate::mounting::{name_of_fault, status_of_fault};
 use crate::refusal::Refusal;
+use backup_link::Unfetched;
 use http_exchange::Untold;
 use lf_base::{Failed, NoMemory, Status};
+use ltx_backup::BackupFault;
 use node_mount::MountFault;
 
 /// Why a run ends before its output is whole.
@@ -29,6 +34,10 @@ pub enum Failure {
     Reply,
     /// The body of its reply is none that the command takes.
     BadReply,
+    /// A backup can't be restored to a transaction.
+    Backup(BackupFault),
+    /// A backup isn't level with its node.
+    Unfetched(Unfetched),
     /// The output failed.
     Output,
     /// Memory ran out before anything was written.
@@ -83,6 +92,22 @@ impl From<Untold> for Failure {
     }
 }
 
+impl From<BackupFault> for Failure {
+    ghost from_gives = { λ why f. f ≡ failure.Backup why };
+
+    fn from(why: BackupFault) -> Failure {
+        Failure::Backup(why)
+    }
+}
+
+impl From<Unfetched> for Failure {
+    ghost from_gives = { λ why f. f ≡ failure.Unfetched why };
+
+    fn from(why: Unfetched) -> Failure {
+        Failure::Unfetched(why)
+    }
+}
+
 impl From<Failed> for Failure {
     ghost from_gives = { λ _ f. f ≡ failure.Output };
 
@@ -111,6 +136,8 @@ impl Failure {
             Failure::Untold(Untold::TooLong | Untold::Turns) => Status::Limit,
             Failure::Untold(Untold::NoMemory) => Status::NoMemory,
             Failure::Reply | Failure::BadReply => Status::InputRefused,
+            Failure::Backup(fault) => status_of_backup(fault),
+            Failure::Unfetched(why) => status_of_unfetched(why),
             Failure::Output => Status::WriteFault,
             Failure::NoMemory => Status::NoMemory,
         }
@@ -126,6 +153,8 @@ impl Failure {
             Failure::Compaction(CompactRefusal::NoMemory) => "",
             Failure::Compaction(refusal) => refusal.name(),
             Failure::Mount(fault) => name_of_fault(fault),
+            Failure::Backup(fault) => name_of_backup(fault),
+            Failure::Unfetched(why) => name_of_unfetched(why),
             Failure::Reply => "Reply",
             Failure::BadReply | Failure::Untold(Untold::Unfit) => "BadReply",
             _ => "",

@@ -6,18 +6,25 @@
 
 mod applying;
 mod asking;
+mod backing;
+mod backup_failure;
+mod backup_words;
 mod collected;
 mod command;
 mod compact_refusal;
 mod compaction;
 mod database;
+mod drilling;
 mod failure;
 mod file_output;
+mod folders;
 mod gathering;
 mod input;
 mod laws;
 mod mounting;
 mod naming;
+mod number;
+mod options;
 mod output;
 mod refusal;
 mod remote;

@@ -22,6 +22,9 @@ pub enum CommandName {
     Lease,
     Export,
     Import,
+    Drill,
+    Backup,
+    Restore,
 }
 
 /// The command of this name, to the letter.
@@ -47,6 +50,17 @@ fn read_words(alloc: Global, words: &[&str]) -> Result<Option<CommandName>, NoMe
 /// The program: a subcommand for each command, and nothing beside them.
 fn program<'a>(alloc: Global) -> Result<clap::Command<'a>, NoMemory>
     ensures { IfOk result (λ program. app_of program ≡ spec.program) }
+{
+    let program = asking_program(alloc)?
+        .subcommand(clap::Command::new(alloc, "drill"))?
+        .subcommand(clap::Command::new(alloc, "backup"))?
+        .subcommand(clap::Command::new(alloc, "restore"))?;
+    Ok(program)
+}
+
+/// The same without the drill and the backup's commands.
+fn asking_program<'a>(alloc: Global) -> Result<clap::Command<'a>, NoMemory>
+    ensures { IfOk result (λ program. app_of program ≡ spec.asking_program) }
 {
     let program = serving_program(alloc)?
         .subcommand(clap::Command::new(alloc, "export"))?
@@ -88,6 +102,9 @@ fn name_matched(matches: &ArgMatches<'_>) -> Option<CommandName>
         Some("lease") => Some(CommandName::Lease),
         Some("export") => Some(CommandName::Export),
         Some("import") => Some(CommandName::Import),
+        Some("drill") => Some(CommandName::Drill),
+        Some("backup") => Some(CommandName::Backup),
+        Some("restore") => Some(CommandName::Restore),
         _ => None,
     }
 }

@@ -1,7 +1,8 @@
 //! Where a database of a node is found, read from the options of a command.
-ghost use Rattle.std.specs.Prelude.{◌≡◌, ◌≢◌, ◌∷◌, ◌++◌, ℕ, List, IfOk, IfSome, IfNone, IsTrue, ◌↔◌, MatchOption};
-ghost use Rattle.litefs_tool.specs.Words.{IsAddressIn, IsOption, IsRemoteRead, IsValue, SaysValues, Words};
+ghost use Rattle.std.specs.Prelude.{ℕ, List, IfOk, MatchOption};
+ghost use Rattle.litefs_tool.specs.Words.{IsAddressIn, IsNameRead, IsRemoteRead, SaysValues};
 
+use crate::options::{both_options, only_option};
 use lf_base::{Name, NameFault, NoMemory, Text};
 use std::alloc::Global;
 
@@ -22,13 +23,22 @@ pub(crate) fn read_remote(alloc: Global, words: &[Text]) -> Result<Option<Remote
     let Some((name, given)) = read_values(words) else {
         return Ok(None);
     };
-    let name = match Name::read(alloc, name.as_bytes()) {
-        Ok(name) => name,
-        Err(NameFault::NoMemory) => return Err(NoMemory),
-        Err(_) => return Ok(None),
+    let Some(name) = read_database(alloc, name)? else {
+        return Ok(None);
     };
     let address = Text::of(alloc, address_in(given))?;
     Ok(Some(Remote { name, address }))
+}
+
+/// The name of a database, if the word is one.
+pub(crate) fn read_database(alloc: Global, word: &str) -> Result<Option<Name>, NoMemory>
+    ensures { IfOk result (IsNameRead word.now) }
+{
+    match Name::read(alloc, word.as_bytes()) {
+        Ok(name) => Ok(Some(name)),
+        Err(NameFault::NoMemory) => Err(NoMemory),
+        Err(_) => Ok(None),
+    }
 }
 
 /// The address without the `http://` before it.
@@ -41,71 +51,12 @@ fn address_in(given: &str) -> &str
     }
 }
 
-/// The values of the two options, in any order.
+/// The values of the two options.
 fn read_values(words: &[Text]) -> Option<(&str, &str)>
     ensures { MatchOption result ((name address : List ℕ) → SaysValues name address words.now → ⊥) (λ values. SaysValues values.0.now values.1.now words.now) }
 {
-    if let Some(name) = only_option("--name", words) {
-        return Some((name, HERE));
-    }
-    match take_option("--name", words) {
-        Some((name, rest)) => {
-            let address = only_option("--addr", rest)?;
-            Some((name, address))
-        }
-        None => {
-            let (address, rest) = take_option("--addr", words)?;
-            let name = only_option("--name", rest)?;
-            Some((name, address))
-        }
-    }
-}
-
-/// The value of an option that is all of the words.
-fn only_option<'a>(flag: &str, words: &'a [Text]) -> Option<&'a str>
-    ensures { MatchOption result ((value : List ℕ) → IsOption flag.now value words.now → ⊥) (λ value. IsOption flag.now value.now words.now) }
-{
-    let (value, rest) = take_option(flag, words)?;
-    if rest.is_empty() { Some(value) } else { None }
-}
-
-/// The value of an option that stands first, and the words behind it.
-fn take_option<'a>(flag: &str, words: &'a [Text]) -> Option<(&'a str, &'a [Text])>
-    ensures found { IfSome result (λ found. (option : Words) × IsOption flag.now found.0.now option × (words.now ≡ option ++ found.1.now)) }
-    ensures none { IfNone result ((value : List ℕ) (option rest : Words) → IsOption flag.now value option → words.now ≡ option ++ rest → ⊥) }
-{
-    let (first, rest) = words.split_first()?;
-    if first.as_str() == flag {
-        let (value, rest) = rest.split_first()?;
-        return with_value(value.as_str(), rest);
-    }
-    let value = joined_value(flag, first.as_str())?;
-    with_value(value, rest)
-}
-
-/// What stands behind the flag and a `=`.
-fn joined_value<'a>(flag: &str, word: &'a str) -> Option<&'a str>
-    ensures { MatchOption result ((value : List ℕ) → word.now ≢ flag.now ++ 61 ∷ value) (λ value. word.now ≡ flag.now ++ 61 ∷ value.now) }
-{
-    word.strip_prefix(flag)?.strip_prefix("=")
-}
-
-/// The value, if it is one, and what follows it.
-fn with_value<'a>(value: &'a str, rest: &'a [Text]) -> Option<(&'a str, &'a [Text])>
-    ensures { MatchOption result (IsValue value.now → ⊥) (λ found. IsValue value.now × (found.0.now ≡ value.now) × (found.1.now ≡ rest.now)) }
-{
-    if is_value(value) {
-        Some((value, rest))
-    } else {
-        None
-    }
-}
-
-fn is_value(value: &str) -> bool
-    ensures { IsTrue result ↔ IsValue value.now }
-{
-    match value.as_bytes().split_first() {
-        Some((first, _)) => *first != b'-',
-        None => false,
+    match only_option("--name", words) {
+        Some(name) => Some((name, HERE)),
+        None => both_options("--name", "--addr", words),
     }
 }

@@ -2,6 +2,7 @@
 ghost use Rattle.std.specs.Prelude.{◌≡◌};
 ghost use Rattle.http_exchange.specs.Exchange.{LinksTell};
 ghost use Rattle.litefs_tool.specs.Asking.{AskBacks, DialerBack};
+ghost use Rattle.litefs_tool.specs.Disks.{folders_of, BackedUpBack, RestoredBack};
 ghost use Rattle.litefs_tool.specs.Mount.{GoesBack};
 ghost use Rattle.litefs_tool.specs.Run.{Backs, CommandOutcome, LeavesApart, Outside, Run, RunOutcome};
 ghost use Rattle.litefs_tool.specs.Streams.{stream};
@@ -10,8 +11,10 @@ ghost use Rattle.node_mount.specs.LeaseService.{LeasesBack, ServesTold};
 
 use crate::applying::Applying;
 use crate::asking::{export, import};
+use crate::backing::{back_up, restore};
 use crate::command::{Command, read_arguments};
 use crate::compaction::one_file;
+use crate::drilling::drill;
 use crate::failure::Failure;
 use crate::file_output::write_file;
 use crate::gathering::Gathering;
@@ -58,6 +61,11 @@ pub fn run<R: Handles + Copy + Send + 'static, I: Source, O: Sink, E: Sink, G: S
             asked = DialerBack M.Dial.dials (LinksTell M.Line.given M.Line.taken) (M.back host.old.make) (M.back host.new.make);
             nothing = M.back host.new.make ≡ M.back host.old.make;
           };
+          disks = record {
+            nothing = (M.back host.new.make ≡ M.back host.old.make) × (M.asked host.new.make ≡ M.asked host.old.make);
+            restored = λ database. RestoredBack M.asked M.may_give M.Disk.honest M.Disk.history M.back host.old.make host.new.make (folders_of database);
+            backed_up = λ remote. BackedUpBack M.asked M.may_give M.Disk.honest M.Disk.history M.Dial.dials (LinksTell M.Line.given M.Line.taken) M.back host.old.make host.new.make remote.address remote.name;
+          };
         } in RunOutcome backs run result }
     ensures apart { LeavesApart arguments.now host.old.input host.new.input host.old.output host.new.output host.old.config host.new.config host.old.make host.new.make }
 {
@@ -102,6 +110,11 @@ fn perform<R: Handles + Copy + Send + 'static, I: Source, O: Sink, G: Source, M:
             asked = DialerBack M.Dial.dials (LinksTell M.Line.given M.Line.taken) (M.back make.old) (M.back make.new);
             nothing = M.back make.new ≡ M.back make.old;
           };
+          disks = record {
+            nothing = (M.back make.new ≡ M.back make.old) × (M.asked make.new ≡ M.asked make.old);
+            restored = λ database. RestoredBack M.asked M.may_give M.Disk.honest M.Disk.history M.back make.old make.new (folders_of database);
+            backed_up = λ remote. BackedUpBack M.asked M.may_give M.Disk.honest M.Disk.history M.Dial.dials (LinksTell M.Line.given M.Line.taken) M.back make.old make.new remote.address remote.name;
+          };
         } in Goes backs arguments.now outside result }
     ensures apart { LeavesApart arguments.now input.old input.new output.old output.new config.old config.new make.old make.new }
 {
@@ -112,6 +125,9 @@ fn perform<R: Handles + Copy + Send + 'static, I: Source, O: Sink, G: Source, M:
         Some(Command::Lease) => lease(&rt, alloc, config, make),
         Some(Command::Export(remote)) => export(&rt, alloc, remote, output, make),
         Some(Command::Import(remote)) => import(&rt, alloc, remote, input, output, make),
+        Some(Command::Backup(remote)) => back_up(&rt, alloc, remote, output, make),
+        Some(Command::Restore { name, txid }) => restore(alloc, name, txid, output, make),
+        Some(Command::Drill(number)) => drill(alloc, number, output),
         None => Err(Failure::Arguments),
     }
 }

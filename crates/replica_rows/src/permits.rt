@@ -1,7 +1,7 @@
 //! A transaction of another node comes to the primary under a write permit.
 
 use crate::fault::Fault;
-use crate::nodes::{MemNode, NOW, ask, position};
+use crate::nodes::{NOW, ask, position};
 use crate::turns::{Pair, says};
 use node_core::{Answer, Ask};
 
@@ -16,28 +16,28 @@ pub enum Asked {
     GiveBack(u64),
 }
 
-/// The other node's transaction behind the primary's position, as it may be forwarded.
-fn made_behind(primary: &mut MemNode, other: &mut MemNode) -> Answer {
-    let hello = Ask::Hello {
-        now: NOW,
-        pos: position(primary),
-        last: None,
-    };
-    ask(other, 0, &hello)
-}
-
-/// The other node makes what is forwarded then.
-pub fn makes(rt: HostRuntime, pair: &mut Pair<'_>) -> Result<(), Fault> {
-    let answer = made_behind(pair.primary, pair.replica);
-    says(rt, "the other", &answer)?;
-    pair.owed = match answer {
+/// The ask by which a transaction that a node owes comes under a permit, if it owes one.
+fn forwarded_by(owed: Answer) -> Option<Ask> {
+    match owed {
         Answer::Item { ltx, .. } => Some(Ask::Forward {
             now: NOW,
             number: 0,
             bytes: ltx,
         }),
         _ => None,
+    }
+}
+
+/// The other node is asked what it made behind the primary's position.
+pub fn makes(rt: HostRuntime, pair: &mut Pair<'_>) -> Result<(), Fault> {
+    let hello = Ask::Hello {
+        now: NOW,
+        pos: position(pair.primary),
+        last: None,
     };
+    let answer = ask(pair.replica, 0, &hello);
+    says(rt, "the other", &answer)?;
+    pair.owed = forwarded_by(answer);
     Ok(())
 }
 

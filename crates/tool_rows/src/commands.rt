@@ -1,4 +1,4 @@
-//! Runs of `apply` and `compact`, and of words that are no command.
+//! Runs of `apply`, `compact` and `drill`, and of words that are no command.
 
 /// The front of a file: its name, and how many bytes at most.
 pub type Front = (&'static str, usize);
@@ -71,6 +71,10 @@ pub const COMMANDS: &[CommandRow] = &[
         input: &[],
     },
     CommandRow {
+        line: "litefs drill 007",
+        input: &[],
+    },
+    CommandRow {
         line: "litefs",
         input: &[SNAPSHOT],
     },
@@ -116,6 +120,34 @@ pub const COMMANDS: &[CommandRow] = &[
     },
     CommandRow {
         line: "litefs lease --help",
+        input: &[],
+    },
+    CommandRow {
+        line: "litefs drill",
+        input: &[],
+    },
+    CommandRow {
+        line: "litefs drill +1",
+        input: &[],
+    },
+    CommandRow {
+        line: "litefs drill -1",
+        input: &[],
+    },
+    CommandRow {
+        line: "litefs drill 1x",
+        input: &[],
+    },
+    CommandRow {
+        line: "litefs drill 18446744073709551616",
+        input: &[],
+    },
+    CommandRow {
+        line: "litefs drill 1 2",
+        input: &[],
+    },
+    CommandRow {
+        line: "litefs drill --help",
         input: &[],
     },
 ];

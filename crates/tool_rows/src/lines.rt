@@ -18,7 +18,8 @@ pub fn print_line(rt: &impl Print, row: &CommandRow) -> Result<(), Fault> {
     Ok(())
 }
 
-fn text_of(bytes: &[u8]) -> Result<&str, Fault> {
+/// The bytes as text.
+pub fn text_of(bytes: &[u8]) -> Result<&str, Fault> {
     match str::from_utf8(bytes) {
         Ok(text) => Ok(text),
         Err(_) => Err(Fault::Row),

@@ -3,7 +3,10 @@
 
 mod asking;
 mod asks;
+mod backing;
+mod backups;
 mod commands;
+mod drills;
 mod fault;
 mod leases;
 mod lines;
@@ -20,5 +23,7 @@ fn main(rt: HostRuntime) -> Result<(), Fault> {
     playing::play_commands(rt)?;
     playing::play_nodes(rt)?;
     playing::play_leases(rt)?;
-    asking::play_asks(rt)
+    asking::play_asks(rt)?;
+    backing::play_backups(rt)?;
+    drills::play_drills(&rt, rt.alloc())
 }

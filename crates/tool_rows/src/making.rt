@@ -66,7 +66,7 @@ fn acceptor(alloc: Global, links: Vec<MemLink>, failing: u64) -> Result<Vec<List
 }
 
 /// A link that gives these bytes, and what shows what is written on it.
-fn link_of(alloc: Global, input: &[u8], room: usize) -> Result<(MemLink, Watch), Fault>
+pub fn link_of(alloc: Global, input: &[u8], room: usize) -> Result<(MemLink, Watch), Fault>
     ensures { IfOk result (λ made. IsUnused made.0) }
 {
     let input = Vec::from_slice(alloc, input)?;
@@ -189,7 +189,7 @@ fn dialed(alloc: Global, row: &AskRow) -> Result<(Vec<MemLink>, Vec<Watch>), Fau
 }
 
 /// A list of one dialer of these links.
-fn dialers(alloc: Global, links: Vec<MemLink>) -> Result<Vec<MemDialer>, Fault>
+pub fn dialers(alloc: Global, links: Vec<MemLink>) -> Result<Vec<MemDialer>, Fault>
     requires { All IsUnused links.items }
     ensures { IfOk result (λ made. All IsNewPhone made.items) }
 {

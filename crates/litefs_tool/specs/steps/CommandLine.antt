@@ -19,9 +19,13 @@ files_program = with_name (with_name (on_top bare (new_app (codes "litefs"))) (c
 abbrev pub serving_program : App
 serving_program = with_name (with_name files_program (codes "mount")) (codes "lease")
 
+-- and with those that ask a node
+abbrev pub asking_program : App
+asking_program = with_name (with_name serving_program (codes "export")) (codes "import")
+
 -- the program, with a subcommand for each command
 abbrev pub program : App
-program = with_name (with_name serving_program (codes "export")) (codes "import")
+program = with_name (with_name (with_name asking_program (codes "drill")) (codes "backup")) (codes "restore")
 
 -- the name alone
 abbrev pub arguments_of : CommandName → List (List ℕ)

@@ -3,6 +3,7 @@ use Rattle.std.specs.Prelude.{ℕ, List, [], codes, Result, Ok, Err}
 use Rattle.http_exchange.specs.declared.told.Untold.TheVariants as untold
 use Rattle.lf_base.specs.declared.status.Status.{Status}
 use Rattle.lf_base.specs.declared.status.Status.TheVariants as status
+use Rattle.litefs_tool.specs.Disks.{name_of_backup, name_of_unfetched, status_of_backup, status_of_unfetched}
 use Rattle.litefs_tool.specs.Mount.{status_of_fault, name_of_fault}
 use Rattle.litefs_tool.specs.Refusal.{refusal_name}
 use Rattle.litefs_tool.specs.declared.input.InputFault.TheVariants as fault
@@ -30,6 +31,8 @@ status_of_failure (failure.Untold untold.Turns) = status.Limit
 status_of_failure (failure.Untold untold.NoMemory) = status.NoMemory
 status_of_failure failure.Reply = status.InputRefused
 status_of_failure failure.BadReply = status.InputRefused
+status_of_failure (failure.Backup why) = status_of_backup why
+status_of_failure (failure.Unfetched why) = status_of_unfetched why
 status_of_failure failure.Output = status.WriteFault
 status_of_failure failure.NoMemory = status.NoMemory
 
@@ -41,6 +44,8 @@ name_of_failure (failure.Compaction compaction.NoMemory) = []
 name_of_failure (failure.Compaction why) = compact_refusal_name why
 name_of_failure (failure.Mount why) = name_of_fault why
 name_of_failure (failure.Untold untold.Unfit) = codes "BadReply"
+name_of_failure (failure.Backup why) = name_of_backup why
+name_of_failure (failure.Unfetched why) = name_of_unfetched why
 name_of_failure failure.Reply = codes "Reply"
 name_of_failure failure.BadReply = codes "BadReply"
 name_of_failure other = []

@@ -14,6 +14,7 @@ use Rattle.node_mount.specs.Making.{NetworkRose}
 use Rattle.node_mount.specs.Mounting.{IsMountCause}
 use Rattle.litefs_tool.specs.Mount.{status_of_end, name_of_end}
 use Rattle.litefs_tool.specs.Asking.{AskBacks, AskOutcome, Asks}
+use Rattle.litefs_tool.specs.Drilling.{DrillOutcome}
 use Rattle.litefs_tool.specs.Run.{Backs, Moves, Outside, RunCourse}
 use Rattle.litefs_tool.specs.Streams.{Gives, Holds, Stream}
 use Rattle.litefs_tool.specs.declared.command.Command.{Command}
@@ -65,3 +66,7 @@ pub record HasAsked (backs : AskBacks) (command : Command) (input : Stream) (cou
 -- a command that asks went as the result's status and name say
 abbrev pub GoesAsking : AskBacks → Command → Stream → Stream → Counts → Counts → Result (Unit {0}) Failure → Type 0
 GoesAsking backs command input output counts counts_after result = AskOutcome backs command input output counts counts_after (status_of result) (name_of result)
+
+-- a drill went as the result's status says
+abbrev pub GoesDrilling : ℕ → Stream → Stream → Result (Unit {0}) Failure → Type 0
+GoesDrilling number input output result = DrillOutcome number input output (status_of result)

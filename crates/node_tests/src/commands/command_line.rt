@@ -5,7 +5,7 @@ use litefs_tool::{Command, Remote, read_arguments};
 use std::alloc::{AllocError, Global};
 use std::process::Abort;
 
-/// Words, and the command that they are: its name, and of two of them the database and the address.
+/// Words, and the command that they are: its name, and what its words say.
 const NAMED: &[(&[&str], &str)] = &[
     (&["apply"], "apply"),
     (&["compact"], "compact"),
@@ -30,6 +30,20 @@ const NAMED: &[(&[&str], &str)] = &[
     (
         &["import", "--name", "a", "--addr", "http://http://b"],
         "import a http://b",
+    ),
+    (&["drill", "7"], "drill 7"),
+    (&["backup", "--name", "app"], "backup app localhost:20202"),
+    (
+        &["backup", "--addr=db1:20203", "--name=app"],
+        "backup app db1:20203",
+    ),
+    (
+        &["restore", "--name", "app", "--txid", "000000000000001f"],
+        "restore app 31",
+    ),
+    (
+        &["restore", "--txid=0000000000000000", "--name=app"],
+        "restore app 0",
     ),
 ];
 
@@ -92,6 +106,17 @@ const REFUSED: &[&[&str]] = &[
     &["import", "--name", "a=b"],
     &["import", "--name", "--addr", "--addr", "a"],
     &["exports", "--name=app"],
+    &["drill"],
+    &["drill", "-7"],
+    &["drill", "7", "7"],
+    &["backup", "app"],
+    &["backup", "--name=app", "--txid=0000000000000001"],
+    &["restore", "--name=app"],
+    &["restore", "--txid=0000000000000001"],
+    &["restore", "--name=app", "--txid=1"],
+    &["restore", "--name=app", "--txid=000000000000001F"],
+    &["restore", "--name=app", "--txid=0000000000000001", "x"],
+    &["restore", "--name=app", "--addr=db1:20203"],
 ];
 
 /// What a command is: nothing where there is none.
@@ -104,6 +129,12 @@ fn shown(alloc: Global, command: &Option<Command>) -> Result<String, AllocError>
         Some(Command::Lease) => String::from_str(alloc, "lease"),
         Some(Command::Export(remote)) => place(alloc, "export", remote),
         Some(Command::Import(remote)) => place(alloc, "import", remote),
+        Some(Command::Drill(number)) => format!(in alloc; "drill {number}"),
+        Some(Command::Backup(remote)) => place(alloc, "backup", remote),
+        Some(Command::Restore { name, txid }) => {
+            let name = str::from_utf8(name.bytes()).unwrap_or("no text");
+            format!(in alloc; "restore {name} {txid}")
+        }
     }
 }
 

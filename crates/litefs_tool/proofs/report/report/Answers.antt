@@ -1,6 +1,10 @@
 use Rattle.std.proofs.Common.{◌≡◌, ◌++◌, refl, ap, ◌∙◌}
+use Rattle.backup_link.specs.declared.unfetched.Unfetched.TheVariants as unfetched
 use Rattle.http_exchange.specs.declared.told.Untold.TheVariants as untold
 use Rattle.lf_base.specs.Status.{text_of}
+use Rattle.ltx_backup.specs.declared.fault.BackupFault.{BackupFault}
+use Rattle.ltx_backup.specs.declared.fault.BackupFault.TheVariants as backup
+use Rattle.litefs_tool.specs.Disks.{name_of_backup, status_of_backup}
 use Rattle.litefs_tool.specs.steps.Failure.{status_of_failure, name_of_failure}
 use Rattle.litefs_tool.specs.Run.{line, line_of}
 use Rattle.litefs_tool.specs.declared.input.InputFault.TheVariants as fault
@@ -12,6 +16,15 @@ use Rattle.node_mount.specs.declared.mount_fault.MountFault.TheVariants as mount
 use Rattle.litefs_tool.proofs.report.report.Goals as goal
 
 -- the name is empty but where the line has it
+line-of_backup : (why : BackupFault) → line (text_of (status_of_backup why) ++ name_of_backup why) ≡ line_of (status_of_backup why) (name_of_backup why)
+line-of_backup backup.Disk = refl
+line-of_backup backup.Broken = refl
+line-of_backup (backup.NotNext have want) = refl
+line-of_backup (backup.NoSuchTxid txid last) = refl
+line-of_backup (backup.SumDiffers want got) = refl
+line-of_backup (backup.Damaged level min max) = refl
+line-of_backup backup.NoMemory = refl
+
 line-of_failure : (f : Failure) → line (text_of (status_of_failure f) ++ name_of_failure f) ≡ line_of (status_of_failure f) (name_of_failure f)
 line-of_failure failure.Arguments = refl
 line-of_failure (failure.Input fault.Failed) = refl
@@ -36,6 +49,15 @@ line-of_failure (failure.Untold untold.Turns) = refl
 line-of_failure (failure.Untold untold.NoMemory) = refl
 line-of_failure failure.Reply = refl
 line-of_failure failure.BadReply = refl
+line-of_failure (failure.Backup why) = line-of_backup why
+line-of_failure (failure.Unfetched (unfetched.Untold untold.Fault)) = refl
+line-of_failure (failure.Unfetched (unfetched.Untold untold.Unfit)) = refl
+line-of_failure (failure.Unfetched (unfetched.Untold untold.TooLong)) = refl
+line-of_failure (failure.Unfetched (unfetched.Untold untold.Turns)) = refl
+line-of_failure (failure.Unfetched (unfetched.Untold untold.NoMemory)) = refl
+line-of_failure (failure.Unfetched unfetched.Reply) = refl
+line-of_failure (failure.Unfetched unfetched.Dropped) = refl
+line-of_failure (failure.Unfetched (unfetched.Backup why)) = line-of_backup why
 line-of_failure failure.Output = refl
 line-of_failure failure.NoMemory = refl
 

@@ -1,10 +1,10 @@
 use Rattle.std.proofs.Common.{[], inl, refl, subst}
 use Rattle.std.proofs.KnownBytes.{Appends-nil, Consumes-nil}
-use Rattle.litefs_tool.specs.Run.{asked, leased, mounted, over_streams}
+use Rattle.litefs_tool.specs.Run.{asked, drilled, leased, mounted, over_disks, over_streams}
 use Rattle.litefs_tool.specs.Streams.{stream}
 use Rattle.litefs_tool.specs.Words.{IsReadAs}
-use Rattle.litefs_tool.specs.declared.command.Command.TheVariants.{Apply, Compact, Mount, Lease, Export, Import}
-use Rattle.litefs_tool.proofs.RunLemmas.{goes, leaves_exporting, leaves_importing, leaves_serving, spelled_by}
+use Rattle.litefs_tool.specs.declared.command.Command.TheVariants.{Apply, Compact, Mount, Lease, Export, Import, Backup, Restore}
+use Rattle.litefs_tool.proofs.RunLemmas.{goes, leaves_backing, leaves_drilling, leaves_exporting, leaves_importing, leaves_serving, spelled_by}
 use Rattle.litefs_tool.proofs.top_call.perform.Goals as goal
 
 pub returns-in-Some-Apply-clause-went : goal.returns-in-Some-Apply-clause-went
@@ -37,6 +37,11 @@ returns-in-Some-Import-clause-went g c =
     let spelled = spelled_by _ _ _ _ c.in-Some-Import.is c.in-Some-Import.field-0-is c.in_ok-read_arguments.ensures in
     asked (Import c.in-Some-Import.remote) spelled c.import.ensures
 
+pub returns-in-Some-Drill-clause-went : goal.returns-in-Some-Drill-clause-went
+returns-in-Some-Drill-clause-went g c =
+    let spelled = spelled_by _ _ _ _ c.in-Some-Drill.is c.in-Some-Drill.field-0-is c.in_ok-read_arguments.ensures in
+    drilled c.in-Some-Drill.number spelled (c.drill.ensures (stream g.I.Source.left g.I.Source.faults c.args.input.now c.args.input.now) (refl, refl))
+
 pub returns-in-None-clause-went : goal.returns-in-None-clause-went
 returns-in-None-clause-went g c =
     over_streams [] [] (record { reads = Consumes-nil _; writes = Appends-nil _; read_to_end = tt; cause = (refl, refl) })
@@ -62,3 +67,24 @@ returns-in-Some-Export-clause-apart g c =
 pub returns-in-Some-Import-clause-apart : goal.returns-in-Some-Import-clause-apart
 returns-in-Some-Import-clause-apart g c =
     leaves_importing _ c.in-Some-Import.remote (spelled_by _ _ _ _ c.in-Some-Import.is c.in-Some-Import.field-0-is c.in_ok-read_arguments.ensures) _ _ _ _ _ _ _
+
+pub returns-in-Some-Backup-clause-went : goal.returns-in-Some-Backup-clause-went
+returns-in-Some-Backup-clause-went g c =
+    over_disks (Backup c.in-Some-Backup.remote) (spelled_by _ _ _ _ c.in-Some-Backup.is c.in-Some-Backup.field-0-is c.in_ok-read_arguments.ensures) c.back_up.ensures
+
+pub returns-in-Some-Backup-clause-apart : goal.returns-in-Some-Backup-clause-apart
+returns-in-Some-Backup-clause-apart g c =
+    leaves_backing _ (Backup c.in-Some-Backup.remote) (spelled_by _ _ _ _ c.in-Some-Backup.is c.in-Some-Backup.field-0-is c.in_ok-read_arguments.ensures) tt _ _ _ _ _ _
+
+pub returns-in-Some-Restore-clause-went : goal.returns-in-Some-Restore-clause-went
+returns-in-Some-Restore-clause-went g c =
+    over_disks (Restore c.in-Some-Restore.name c.in-Some-Restore.txid) (spelled_by _ _ _ _ c.in-Some-Restore.is c.in-Some-Restore.field-0-is c.in_ok-read_arguments.ensures) c.restore.ensures
+
+pub returns-in-Some-Restore-clause-apart : goal.returns-in-Some-Restore-clause-apart
+returns-in-Some-Restore-clause-apart g c =
+    leaves_backing _ (Restore c.in-Some-Restore.name c.in-Some-Restore.txid)
+    (spelled_by _ _ _ _ c.in-Some-Restore.is c.in-Some-Restore.field-0-is c.in_ok-read_arguments.ensures) tt _ _ _ _ _ _
+
+pub returns-in-Some-Drill-clause-apart : goal.returns-in-Some-Drill-clause-apart
+returns-in-Some-Drill-clause-apart g c =
+    leaves_drilling _ c.in-Some-Drill.number (spelled_by _ _ _ _ c.in-Some-Drill.is c.in-Some-Drill.field-0-is c.in_ok-read_arguments.ensures) _ _ _ _ _

@@ -1,6 +1,6 @@
 use Rattle.std.proofs.Common.{rules}
 use Rattle.litefs_tool.proofs.OptionLemmas.{found_apart, found_joined, none_joined}
-use Rattle.litefs_tool.proofs.remote.take_option.Goals as goal
+use Rattle.litefs_tool.proofs.options.take_option.Goals as goal
 
 pub returns-then-eq-clause-found : goal.returns-then-eq-clause-found
 returns-then-eq-clause-found c =

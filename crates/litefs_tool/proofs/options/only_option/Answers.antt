@@ -1,5 +1,5 @@
 use Rattle.std.proofs.Common.{[], sym, append-nil}
-use Rattle.litefs_tool.proofs.remote.only_option.Goals as goal
+use Rattle.litefs_tool.proofs.options.only_option.Goals as goal
 
 pub returns-in_err-value : goal.returns-in_err-value
 returns-in_err-value c =
