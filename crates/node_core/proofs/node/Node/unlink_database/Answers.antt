@@ -13,15 +13,18 @@ use Rattle.world_laws.specs.Step.{unlinks}
 use Rattle.txn_log.specs.declared.fault.StoreFault.TheVariants as fault
 use Rattle.world_laws.specs.Store.{DropAll, StoreState}
 use Rattle.node_core.specs.Nodes.{NodeParts, parts_of, role_in, seen}
-use Rattle.node_core.specs.Stores.{failed, fields_of, history_of, state}
+use Rattle.node_core.specs.Stores.{failed, fields_of, history_of, state, told}
 use Rattle.node_core.specs.Unlinking.{unlink_rows}
 use Rattle.node_core.proofs.Dropped.{disk-rose, drop-changes, dropped-fits, dropped-over, leads-allowed}
-use Rattle.node_core.proofs.Endings.{applied-idle}
 use Rattle.node_core.proofs.Calls.{err-same}
 use Rattle.node_core.proofs.Facts.{calls, ok_err, says-none}
 use Rattle.node_core.proofs.Reading.{rests_stay}
 use Rattle.node_core.proofs.Sound.{leads, sound}
 use Rattle.node_core.proofs.Steady.{steady-files, steps-still}
+use Rattle.node_core.specs.declared.sent.Sent.{Sent}
+use Rattle.node_core.specs.Waiting.{Waits}
+use Rattle.node_core.proofs.Waiting.{applied-waits, overtaken-some, waits-kept, waits-overtaken}
+use Rattle.std.specs.Prelude.{Option, is_some}
 use Rattle.node_core.proofs.node.Node.unlink_database.Goals as goal
 
 pub returns-in-Some-clause-safe : goal.returns-in-Some-clause-safe
@@ -58,7 +61,13 @@ invariant_of-self-in-Ok g c =
       told = ap (λ (s : Served). s.position) is ∙ c.pos-in-Ok.ensures.value;
       replica = λ not. ap (λ (s : Served). s.writer) is;
       alone = n.alone;
-      idle = ap waits is ∙ applied-idle n.view 0 0 n.idle;
+      idle = ap waits is ∙ applied-waits n.view 0 0 ∙ n.idle ∙ sym (ap is_some c.overtake.ensures ∙ overtaken-some n.sent);
+      awaits =
+          let start = history_of n.store in
+          let end = history_of t in
+          let view = c.told_position.new.self in
+          subst (λ (o : Option Sent). Waits (told end (fields_of t)) (fields_of t) view o) (sym c.overtake.ensures)
+          (waits-overtaken (told start (fields_of n.store)) (told end (fields_of t)) (fields_of n.store) (fields_of t) n.view view n.sent n.awaits);
       locked = subst (λ (s : Served). IsLockList s.locks) (sym is) n.locked;
     }
 
@@ -87,7 +96,7 @@ returns-in-Ok-clause-does g c =
             honest = c.drop_all.ensures.honest;
           };
           empty = c.in-Ok.ensures.shape;
-          same = ap (λ (s : Served). record old { store = fields_of t; files = s }) is;
+          same = λ i. record old { store = fields_of t; files = is i; sent = c.overtake.ensures i };
         },
       ),
     )
@@ -102,7 +111,7 @@ returns-in-Ok-clause-safe g c honest =
     let at = c.pos-in-Ok.result in
     let files = record (applied n.view 0 0) { position = at } in
     let is : c.told_position.new.self ≡ files = c.told_position.ensures ∙ ap (λ (s : Served). record s { position = at }) c.applied.ensures.done in
-    let new : NodeParts = record old { store = fields_of t; files = c.told_position.new.self } in
+    let new : NodeParts = record old { store = fields_of t; files = c.told_position.new.self; sent = c.overtake.new.sent } in
     let image = (state end (fields_of t)).image in
     let allowed : IsAllowed (unlink_rows old) = sym c.unlink_refusal.ensures ∙ c.in_default.is in
     let primary = leads (role_in old) (leads-allowed old allowed) in
