@@ -32,7 +32,8 @@ pub(crate) fn add_frame<D: Disk>(
     backup: &mut Backup<D>,
 ) -> Result<bool, Unfetched>
     requires sound { backup.old.broken ≡ false }
-    ensures file { result ≡ Ok false → (file : Ltx) × IsFileFrame name.now (frame_text frame) file × KeepsAdded (AreHonest (D.honest backup.old.low) (D.honest backup.old.middle) (D.honest backup.old.high))
+    ensures file { result ≡ Ok false → (file : Ltx) × IsFileFrame name.now (frame_text frame) file
+        × KeepsAdded (AreHonest (D.honest backup.old.low) (D.honest backup.old.middle) (D.honest backup.old.high))
         (record { index = backup.old.index; low = D.history backup.old.low; middle = D.history backup.old.middle; high = D.history backup.old.high })
         (record { index = backup.new.index; low = D.history backup.new.low; middle = D.history backup.new.middle; high = D.history backup.new.high }) (file ∷ []) }
     ensures level { result ≡ Ok true → (pos : Pos) × (frame_text frame ≡ frame_text (frames.Ready name.now pos)) }

@@ -60,7 +60,8 @@ fn fetch_and_settle<R: Handles, T: Dialer, D: Disk>(
 ) -> (Disks<D>, Result<Pos, Unfetched>)
     requires sound { backup.broken ≡ false }
     ensures fetched { HasFetched origin.now.address.now origin.now.name.now backup.index (LinksTell T.L.given T.L.taken) (T.dials dialer.old) (T.dials dialer.new)
-        (AreHonest (D.honest backup.low) (D.honest backup.middle) (D.honest backup.high)) (D.history backup.low) (D.history backup.middle) (D.history backup.high) (D.history result.0.low) (D.history result.0.middle) (D.history result.0.high) result.1 }
+        (AreHonest (D.honest backup.low) (D.honest backup.middle) (D.honest backup.high)) (D.history backup.low) (D.history backup.middle) (D.history backup.high)
+        (D.history result.0.low) (D.history result.0.middle) (D.history result.0.high) result.1 }
     ensures fault { FaultsBy (T.faults dialer.old) (T.faults dialer.new) (of_network result.1) }
     ensures honest { (D.honest result.0.low ≡ D.honest backup.low) × (D.honest result.0.middle ≡ D.honest backup.middle) × (D.honest result.0.high ≡ D.honest backup.high) }
     ensures cause { HasCauses (record { low = D.faults backup.low; middle = D.faults backup.middle; high = D.faults backup.high })

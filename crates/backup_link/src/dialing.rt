@@ -33,7 +33,8 @@ pub fn fetch<R: Handles, T: Dialer, D: Disk>(
 ) -> Result<(), Unfetched>
     requires sound { backup.old.broken ≡ false }
     ensures fetches { Fetches (stream_request origin.now.address.now origin.now.name.now backup.old.index.end) origin.now.name.now
-        (LinksTell T.L.given T.L.taken) (T.dials dialer.old) (T.dials dialer.new) (λ files. ButForDisk (of_backup result) (KeepsAdded (AreHonest (D.honest backup.old.low) (D.honest backup.old.middle) (D.honest backup.old.high))
+        (LinksTell T.L.given T.L.taken) (T.dials dialer.old) (T.dials dialer.new)
+        (λ files. ButForDisk (of_backup result) (KeepsAdded (AreHonest (D.honest backup.old.low) (D.honest backup.old.middle) (D.honest backup.old.high))
         (record { index = backup.old.index; low = D.history backup.old.low; middle = D.history backup.old.middle; high = D.history backup.old.high })
         (record { index = backup.new.index; low = D.history backup.new.low; middle = D.history backup.new.middle; high = D.history backup.new.high }) files)) result }
     ensures fault { FaultsBy (T.faults dialer.old) (T.faults dialer.new) (of_network result) }

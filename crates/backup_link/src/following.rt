@@ -33,7 +33,8 @@ pub(crate) fn follow<L: Link, D: Disk>(
 ) -> Result<(), Unfetched>
     requires sound { backup.old.broken ≡ false }
     requires between { frames.old.feed ≡ holding frame_limit [] }
-    ensures follows { Follows L.Link name.now link.old link.new frames.old.piece (λ files. ButForDisk (of_backup result) (KeepsAdded (AreHonest (D.honest backup.old.low) (D.honest backup.old.middle) (D.honest backup.old.high))
+    ensures follows { Follows L.Link name.now link.old link.new frames.old.piece (λ files. ButForDisk (of_backup result)
+        (KeepsAdded (AreHonest (D.honest backup.old.low) (D.honest backup.old.middle) (D.honest backup.old.high))
         (record { index = backup.old.index; low = D.history backup.old.low; middle = D.history backup.old.middle; high = D.history backup.old.high })
         (record { index = backup.new.index; low = D.history backup.new.low; middle = D.history backup.new.middle; high = D.history backup.new.high }) files)) result }
     ensures fault { FaultsBy (L.faults link.old) (L.faults link.new) (of_network result) }
@@ -63,11 +64,14 @@ fn follow_next<L: Link, D: Disk>(
 ) -> Result<bool, Unfetched>
     requires sound { backup.old.broken ≡ false }
     requires between { frames.old.feed ≡ holding frame_limit [] }
-    ensures next { result ≡ Ok false → AddsNext L.Link name.now link.old link.new frames.old.piece frames.new.piece (KeepsAdded (AreHonest (D.honest backup.old.low) (D.honest backup.old.middle) (D.honest backup.old.high))
+    ensures next { result ≡ Ok false
+        → AddsNext L.Link name.now link.old link.new frames.old.piece frames.new.piece
+        (KeepsAdded (AreHonest (D.honest backup.old.low) (D.honest backup.old.middle) (D.honest backup.old.high))
         (record { index = backup.old.index; low = D.history backup.old.low; middle = D.history backup.old.middle; high = D.history backup.old.high })
         (record { index = backup.new.index; low = D.history backup.new.low; middle = D.history backup.new.middle; high = D.history backup.new.high })) }
     ensures between { OnOk result (frames.new.feed ≡ holding frame_limit []) }
-    ensures last { result ≢ Ok false → GaveLast L.Link name.now link.old link.new frames.old.piece (KeepsAdded (AreHonest (D.honest backup.old.low) (D.honest backup.old.middle) (D.honest backup.old.high))
+    ensures last { result ≢ Ok false
+        → GaveLast L.Link name.now link.old link.new frames.old.piece (KeepsAdded (AreHonest (D.honest backup.old.low) (D.honest backup.old.middle) (D.honest backup.old.high))
         (record { index = backup.old.index; low = D.history backup.old.low; middle = D.history backup.old.middle; high = D.history backup.old.high })
         (record { index = backup.new.index; low = D.history backup.new.low; middle = D.history backup.new.middle; high = D.history backup.new.high }) []) (ended_by result) }
     ensures less { OnOk result (turns.new < turns.old) }

@@ -11,7 +11,7 @@ use lf_sqlite_pages::Image;
 use ltx_backup::{Backup, BackupFault};
 use std::alloc::Global;
 
-/// Opens the backup on these disks, and restores it to a transaction. The disks come back.
+/// Opens the backup on these disks, and restores it to a transaction meanwhile. The disks come back.
 pub fn restore<D: Disk>(
     alloc: Global,
     disks: Disks<D>,
@@ -28,11 +28,8 @@ pub fn restore<D: Disk>(
         (record { low = D.faults result.0.low; middle = D.faults result.0.middle; high = D.faults result.0.high }) result.1 }
 {
     let Disks { low, middle, high } = disks;
-    match Backup::open(alloc, low, middle, high) {
-        Ok(mut backup) => {
-            let restored = backup.restore(alloc, txid);
-            (closed(backup), restored)
-        }
+    match Backup::open_at(alloc, low, middle, high, txid) {
+        Ok((backup, restored)) => (closed(backup), restored),
         Err((why, low, middle, high)) => (Disks { low, middle, high }, Err(why)),
     }
 }

@@ -63,7 +63,8 @@ fn read_reply<L: Link, D: Disk>(
     turns: &mut Turns,
 ) -> Result<(), Unfetched>
     requires sound { backup.old.broken ≡ false }
-    ensures replies { Replies L.Link name.now link.old link.new (λ files. ButForDisk (of_backup result) (KeepsAdded (AreHonest (D.honest backup.old.low) (D.honest backup.old.middle) (D.honest backup.old.high))
+    ensures replies { Replies L.Link name.now link.old link.new (λ files. ButForDisk (of_backup result)
+        (KeepsAdded (AreHonest (D.honest backup.old.low) (D.honest backup.old.middle) (D.honest backup.old.high))
         (record { index = backup.old.index; low = D.history backup.old.low; middle = D.history backup.old.middle; high = D.history backup.old.high })
         (record { index = backup.new.index; low = D.history backup.new.low; middle = D.history backup.new.middle; high = D.history backup.new.high }) files)) result }
     ensures fault { FaultsBy (L.faults link.old) (L.faults link.new) (of_network result) }

@@ -42,7 +42,7 @@ has_cases [] ys a b has = inr has
 has_cases (x ∷ xs) ys a b (inl is) = inl (inl is)
 has_cases (x ∷ xs) ys a b (inr has) = elim (has_cases xs ys a b has) [ inl left ↦ inl (inr left) | inr right ↦ inr right ]
 
-pub judging_begins : (f : Folder) (here : Pos) (entries : List Entry) → entries ≡ [] → Judging f here [] entries here
+unfoldable pub judging_begins : (f : Folder) (here : Pos) (entries : List Entry) → entries ≡ [] → Judging f here [] entries here
 judging_begins f here entries none = record {
   files = [];
   stand = tt;
@@ -55,7 +55,7 @@ judging_begins f here entries none = record {
 
 module _ (f : Folder) (here : Pos) (names entries : List Entry) (end : Pos) (name : Entry) (so_far : Judging f here names entries end) where
   -- a file that the levels above hold
-  pub judged_past : name.min ≤ here.txid → Judging f here (names ++ name ∷ []) entries end
+  unfoldable pub judged_past : name.min ≤ here.txid → Judging f here (names ++ name ∷ []) entries end
   judged_past low = record {
     files = so_far.files;
     stand = so_far.stand;
@@ -70,7 +70,7 @@ module _ (f : Folder) (here : Pos) (names entries : List Entry) (end : Pos) (nam
   }
 
   -- a file that goes on
-  pub judged_more : (entry : Entry) (end_now : Pos) → IsNext f end entry end_now → entry.min ≡ name.min → entry.max ≡ name.max
+  unfoldable pub judged_more : (entry : Entry) (end_now : Pos) → IsNext f end entry end_now → entry.min ≡ name.min → entry.max ≡ name.max
       → Judging f here (names ++ name ∷ []) (entries ++ entry ∷ []) end_now
   judged_more entry end_now next min max =
       let file_min : next.file.header.min ≡ name.min = sym (ap (λ (e : Entry). e.min) next.entry_is) ∙ min in
@@ -98,7 +98,7 @@ module _ (f : Folder) (here : Pos) (names entries : List Entry) (end : Pos) (nam
       }
 
 -- all names were looked at
-pub judged_all : (f : Folder) (here : Pos) (names entries : List Entry) (end : Pos) → AreListed names f → Judging f here names entries end → IsJudged f here entries end
+unfoldable pub judged_all : (f : Folder) (here : Pos) (names entries : List Entry) (end : Pos) → AreListed names f → Judging f here names entries end → IsJudged f here entries end
 judged_all f here names entries end listed judging = record {
   files = judging.files;
   has = record { stand = judging.stand; only = λ a b above some. judging.covers a b above (listed.whole a b some) };

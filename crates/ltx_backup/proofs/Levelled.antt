@@ -48,7 +48,7 @@ module _ (levels : Levels) (index : Index) (l m h : History) (kept : IsKept leve
   held_none a b c low middle high = record { count = 0; levels = levels; settles = settles_none levels; holds = held_same levels index l m h kept a b c low middle high }
 
   order : AllOrdered (chain levels)
-  order = chain_ordered levels index l m h kept 0
+  order = chain_ordered levels index l m h kept
 
   module _ (due : AreDue index.entries.lows.items) where
     module _ (file : Ltx) (eight : IsEightOf levels.lows file) where

@@ -1,6 +1,7 @@
 pub mod Adds
 pub mod Appends
 pub mod Blaming
+pub mod Comings
 pub mod Eights
 pub mod Finishes
 pub mod Folds
@@ -13,6 +14,7 @@ pub mod Lifts
 pub mod Listings
 pub mod Lists
 pub mod Loops
+pub mod Makings
 pub mod Merges
 pub mod Nths
 pub mod Once

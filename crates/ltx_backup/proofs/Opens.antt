@@ -244,7 +244,7 @@ err_follows (Ok v) P Q follows is = tt
 err_follows (Err e) P Q follows is = follows e is
 
 -- the levels that were judged, one behind the other
-pub found_all : (a b c : Folder) (e0 e1 e2 : List Entry) (end0 end1 end2 : Pos) (index : Index) (bounds : Bounds) → IsJudged c nowhere e2 end2 → IsJudged b end2 e1 end1 → IsJudged a end1 e0 end0
+unfoldable pub found_all : (a b c : Folder) (e0 e1 e2 : List Entry) (end0 end1 end2 : Pos) (index : Index) (bounds : Bounds) → IsJudged c nowhere e2 end2 → IsJudged b end2 e1 end1 → IsJudged a end1 e0 end0
     → index.entries.lows.items ≡ e0 → index.entries.middles.items ≡ e1 → index.entries.highs.items ≡ e2 → index.end ≡ end0
     → bounds.high ≡ 0 → bounds.middle ≡ end2.txid → bounds.low ≡ end1.txid → FindsFiles index bounds a b c
 found_all a b c e0 e1 e2 end0 end1 end2 index bounds highs middles lows lows_is middles_is highs_is end_is high_is middle_is low_is =

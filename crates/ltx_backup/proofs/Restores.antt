@@ -15,7 +15,7 @@ use Rattle.ltx_backup.specs.Judging.{HasNumbers}
 use Rattle.ltx_backup.specs.Levels.{Stands, Has}
 use Rattle.ltx_backup.specs.Restoring.{up_to, EndsWith, IsFirstMisfit}
 use Rattle.ltx_backup.specs.declared.entry.Entry.{Entry}
-use Rattle.ltx_backup.specs.declared.restoring.Restored.{Restored}
+use Rattle.ltx_backup.specs.declared.restored.Restored.{Restored}
 use Rattle.ltx_backup.proofs.Unique.{stands_once}
 
 pub applied_one : (image : DatabaseImage) (file : Ltx) → apply_all image (file ∷ []) ≡ apply image file.change

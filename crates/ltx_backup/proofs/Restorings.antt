@@ -10,6 +10,7 @@ use Rattle.ltx_compact.specs.Application.{apply_all, FitAll}
 use Rattle.ltx_backup.specs.Applying.{AppliesAll, IsMisfitAmong, IsOtherSum, last_post, Ends, EndsIn}
 use Rattle.ltx_backup.specs.Entries.{IsKept}
 use Rattle.ltx_backup.specs.Levels.{Levels, chain, LeadOn, AllStand, Has, on_level}
+use Rattle.ltx_backup.specs.Opening.{IsIndex}
 use Rattle.ltx_backup.specs.Ordered.{AllOrdered}
 use Rattle.ltx_backup.specs.Restoring.{up_to, restored, EndsWith, IsFirstMisfit, Restores}
 use Rattle.lf_disk.specs.History.{History, now}
@@ -17,7 +18,7 @@ use Rattle.ltx_backup.specs.declared.entry.Entry.{Entry}
 use Rattle.ltx_backup.specs.declared.entry.Index.{Index}
 use Rattle.ltx_backup.specs.declared.fault.BackupFault.{BackupFault}
 use Rattle.ltx_backup.specs.declared.fault.BackupFault.TheVariants as fault
-use Rattle.ltx_backup.specs.declared.restoring.Restored.{Restored}
+use Rattle.ltx_backup.specs.declared.restored.Restored.{Restored}
 use Rattle.ltx_backup.proofs.Restores.{levels_join, up_to_join, taken, left_out, among_left, among_right, misfit_has, ends_with, with_ends, ends_left, ends_right, ends_cases}
 
 pub ordered : (f : Folder) (files : List Ltx) → AllStand f files → AllOrdered files
@@ -135,26 +136,36 @@ module _ (levels : Levels) (txid : ℕ) (joined : LeadOn nowhere (chain levels))
         gives_sum fault.NoMemory other = absurd other
 
 -- the transactions that files end with are those of their entries
-module _ (levels : Levels) (index : Index) (l m h : History) (kept : IsKept levels index l m h) (txid : ℕ) where
+module _ (levels : Levels) (index : Index) (is : IsIndex levels index) (txid : ℕ) where
   pub any_ends : (sum : ℕ) → EndsWith (chain levels) txid sum → EndsIn index.entries txid
   any_ends sum ends = elim (ends_cases (levels.highs ++ levels.middles) levels.lows txid sum ends) [
     | inl upper ↦ elim (ends_cases levels.highs levels.middles txid sum upper) [
-      | inl high ↦ inr (inr (subst (λ (es : List Entry). Ends es txid) (sym kept.highs.entries_are) (with_ends levels.highs txid sum high)))
-      | inr middle ↦ inr (inl (subst (λ (es : List Entry). Ends es txid) (sym kept.middles.entries_are) (with_ends levels.middles txid sum middle)))
+      | inl high ↦ inr (inr (subst (λ (es : List Entry). Ends es txid) (sym is.highs) (with_ends levels.highs txid sum high)))
+      | inr middle ↦ inr (inl (subst (λ (es : List Entry). Ends es txid) (sym is.middles) (with_ends levels.middles txid sum middle)))
     ]
-    | inr low ↦ inl (subst (λ (es : List Entry). Ends es txid) (sym kept.lows.entries_are) (with_ends levels.lows txid sum low))
+    | inr low ↦ inl (subst (λ (es : List Entry). Ends es txid) (sym is.lows) (with_ends levels.lows txid sum low))
   ]
 
   pub kept_ends : EndsIn index.entries txid → (sum : ℕ) × EndsWith (chain levels) txid sum
   kept_ends (inl low) =
-      let it = ends_with levels.lows txid (subst (λ (es : List Entry). Ends es txid) kept.lows.entries_are low) in
+      let it = ends_with levels.lows txid (subst (λ (es : List Entry). Ends es txid) is.lows low) in
       (it.0, ends_right (levels.highs ++ levels.middles) levels.lows txid it.0 it.1)
   kept_ends (inr (inl middle)) =
-      let it = ends_with levels.middles txid (subst (λ (es : List Entry). Ends es txid) kept.middles.entries_are middle) in
+      let it = ends_with levels.middles txid (subst (λ (es : List Entry). Ends es txid) is.middles middle) in
       (it.0, ends_left (levels.highs ++ levels.middles) levels.lows txid it.0 (ends_right levels.highs levels.middles txid it.0 it.1))
   kept_ends (inr (inr high)) =
-      let it = ends_with levels.highs txid (subst (λ (es : List Entry). Ends es txid) kept.highs.entries_are high) in
+      let it = ends_with levels.highs txid (subst (λ (es : List Entry). Ends es txid) is.highs high) in
       (it.0, ends_left (levels.highs ++ levels.middles) levels.lows txid it.0 (ends_left levels.highs levels.middles txid it.0 it.1))
+
+module _ (levels : Levels) (index : Index) (l m h : History) (kept : IsKept levels index l m h) where
+  pub kept_index : IsIndex levels index
+  kept_index = record {
+    lows = kept.lows.entries_are;
+    middles = kept.middles.entries_are;
+    highs = kept.highs.entries_are;
+    joined = kept.joined;
+    end = kept.end;
+  }
 
   pub chain_ordered : AllOrdered (chain levels)
   chain_ordered =

@@ -12,7 +12,7 @@ use Rattle.ltx_backup.specs.Restoring.{up_to, IsFirstMisfit}
 use Rattle.ltx_backup.specs.declared.entry.Entry.{Entry}
 use Rattle.ltx_backup.specs.declared.fault.BackupFault.{BackupFault}
 use Rattle.ltx_backup.specs.declared.fault.BackupFault.TheVariants as fault
-use Rattle.ltx_backup.specs.declared.restoring.Restored.{Restored}
+use Rattle.ltx_backup.specs.declared.restored.Restored.{Restored}
 use Rattle.ltx_backup.proofs.Holding.{all_stand_same}
 use Rattle.ltx_backup.proofs.Lists.{no_entry}
 use Rattle.ltx_backup.proofs.Nths.{Nth, nth}

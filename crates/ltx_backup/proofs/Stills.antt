@@ -40,7 +40,7 @@ pub settled_rests : (h new : History) → IsSettledBut Staged h → Rests h new 
 settled_rests h new settled rests c may n differs =
     settled c (rests.past.no_more h.moment c (omega arith) (subst (λ (t : ℕ). new.leaves t c) rests.moment may)) n differs ∙ sym (rests_now h new rests n)
 
-pub judging_alike : (f g : Folder) (here : Pos) (names entries : List Entry) (end : Pos) → Alike f g → Judging f here names entries end → Judging g here names entries end
+unfoldable pub judging_alike : (f g : Folder) (here : Pos) (names entries : List Entry) (end : Pos) → Alike f g → Judging f here names entries end → Judging g here names entries end
 judging_alike f g here names entries end same judging = record {
   files = judging.files;
   stand = all_stand_same f g judging.files (λ a b. same (LtxName a b)) judging.stand;

@@ -12,11 +12,7 @@ use Rattle.ltx_backup.specs.declared.entry.Entries.{Entries}
 use Rattle.ltx_backup.specs.declared.entry.Entry.{Entry}
 use Rattle.ltx_backup.specs.declared.fault.BackupFault.{BackupFault}
 use Rattle.ltx_backup.specs.declared.fault.BackupFault.TheVariants as fault
-use Rattle.ltx_backup.specs.declared.restoring.Restored.{Restored}
-
--- the sum is that of the pages
-abbrev pub HasSum : Restored → Type 0
-HasSum state = state.sum ≡ image_sum state.image
+use Rattle.ltx_backup.specs.declared.restored.Restored.{Restored}
 
 -- the last file says another sum than the pages have
 abbrev pub IsOtherSum : Restored → BackupFault → Type 0

@@ -1,12 +1,14 @@
 pub mod Adding
 pub mod Applying
 pub mod Causes
+pub mod Coming
 pub mod Entries
 pub mod Finishing
 pub mod Folding
 pub mod Judging
 pub mod Levels
 pub mod Listing
+pub mod Making
 pub mod Merging
 pub mod Moving
 pub mod Opening

@@ -3,13 +3,15 @@ ghost use Rattle.std.specs.Prelude.{◌≡◌, ◌∷◌, [], None, IsTrue, IfOk
 ghost use Rattle.lf_disk.specs.declared.name.FileName.TheVariants as name;
 ghost use Rattle.lf_disk.specs.History.{now, Rests};
 ghost use Rattle.ltx_backup.specs.Causes.{HasCause, HasCauses, IsBlameless, AreHonest};
-ghost use Rattle.ltx_backup.specs.Opening.{AllListed, FindsFiles, FindsSnapshot, IsNoSnapshot, WhyClosed};
+ghost use Rattle.ltx_backup.specs.Making.{FindsInto, SnapshotInto};
+ghost use Rattle.ltx_backup.specs.Opening.{AllListed, IsNoSnapshot, WhyClosed};
 
 use crate::entry::{Entries, Entry, Index};
 use crate::fault::BackupFault;
-use crate::judging::{Judged, judge_level};
+use crate::judging::judge_level;
 use crate::listing::list_entries;
-use crate::reading::{decode_as, read_bytes};
+use crate::reading::read_named;
+use crate::target::Target;
 use crate::tidying::Bounds;
 use lf_base::Pos;
 use lf_disk::{Disk, FileName};
@@ -65,11 +67,26 @@ pub fn list_all<D: Disk>(
     }
 }
 
-/// Files that count, and up to where others are passed over.
+/// Files that count, up to where others are passed over, and what was made of those that count.
 #[derive(Drop)]
 pub struct Found {
     pub index: Index,
     pub bounds: Bounds,
+    pub target: Target,
+}
+
+/// A file that is the whole backup, and where it ends.
+#[derive(Clone, Copy)]
+pub struct Judged {
+    pub entry: Entry,
+    pub end: Pos,
+}
+
+/// The same, and what was made of it.
+#[derive(Drop)]
+pub struct Whole {
+    pub judged: Judged,
+    pub target: Target,
 }
 
 /// Reads and judges the files of three disks without a snapshot, from the highest level on.
@@ -79,10 +96,11 @@ pub fn judge_all<D: Disk>(
     middle: &mut D,
     high: &mut D,
     names: &Entries,
+    target: Target,
 ) -> Result<Found, BackupFault>
     ensures finds { AreHonest (D.honest low.old) (D.honest middle.old) (D.honest high.old)
         → AllListed names.now (now (D.history low.old)) (now (D.history middle.old)) (now (D.history high.old))
-        → IfOk result (λ found. FindsFiles found.index found.bounds (now (D.history low.old)) (now (D.history middle.old)) (now (D.history high.old))) }
+        → IfOk result (λ found. FindsInto found.index found.bounds (now (D.history low.old)) (now (D.history middle.old)) (now (D.history high.old)) target found.target) }
     ensures why { AreHonest (D.honest low.old) (D.honest middle.old) (D.honest high.old)
         → AllListed names.now (now (D.history low.old)) (now (D.history middle.old)) (now (D.history high.old))
         → now (D.history low.old) name.Snapshot ≡ None
@@ -92,15 +110,29 @@ pub fn judge_all<D: Disk>(
     ensures cause { HasCauses (record { low = D.faults low.old; middle = D.faults middle.old; high = D.faults high.old })
         (record { low = D.faults low.new; middle = D.faults middle.new; high = D.faults high.new }) result }
 {
-    let highs = match judge_level(alloc, high, 2, names.highs.as_slice(), NOWHERE) {
+    let highs = match judge_level(alloc, high, 2, names.highs.as_slice(), NOWHERE, target) {
         Ok(highs) => highs,
         Err(why) => return Err(why),
     };
-    let middles = match judge_level(alloc, middle, 1, names.middles.as_slice(), highs.end) {
+    let middles = match judge_level(
+        alloc,
+        middle,
+        1,
+        names.middles.as_slice(),
+        highs.end,
+        highs.target,
+    ) {
         Ok(middles) => middles,
         Err(why) => return Err(why),
     };
-    let lows = match judge_level(alloc, low, 0, names.lows.as_slice(), middles.end) {
+    let lows = match judge_level(
+        alloc,
+        low,
+        0,
+        names.lows.as_slice(),
+        middles.end,
+        middles.target,
+    ) {
         Ok(lows) => lows,
         Err(why) => return Err(why),
     };
@@ -120,22 +152,23 @@ pub fn judge_all<D: Disk>(
             end: lows.end,
         },
         bounds,
+        target: lows.target,
     })
 }
 
 /// Reads the snapshot that waits for its name, and judges it. Its first transaction is 1.
-pub fn judge_snapshot<D: Disk>(alloc: Global, low: &mut D) -> Result<Judged, BackupFault>
-    ensures finds { IsTrue (D.honest low.old) → IfOk result (λ judged. FindsSnapshot judged.entry judged.end (now (D.history low.old))) }
+pub fn judge_snapshot<D: Disk>(
+    alloc: Global,
+    low: &mut D,
+    target: Target,
+) -> Result<Whole, BackupFault>
+    ensures finds { IsTrue (D.honest low.old) → IfOk result (λ whole. SnapshotInto whole.judged.entry whole.judged.end (now (D.history low.old)) target whole.target) }
     ensures none { IsTrue (D.honest low.old) → IfErr result (IsNoSnapshot (now (D.history low.old))) }
     ensures rests { Rests (D.history low.old) (D.history low.new) }
     ensures honest { D.honest low.new ≡ D.honest low.old }
     ensures cause { HasCause (D.faults low.old) (D.faults low.new) result }
 {
-    let bytes = match read_bytes(alloc, low, FileName::Snapshot) {
-        Ok(bytes) => bytes,
-        Err(why) => return Err(why),
-    };
-    let file = match decode_as(alloc, bytes.as_slice(), 0, 0, 0) {
+    let file = match read_named(alloc, low, FileName::Snapshot, 0, 0, 0) {
         Ok(file) => file,
         Err(why) => return Err(why),
     };
@@ -146,10 +179,14 @@ pub fn judge_snapshot<D: Disk>(alloc: Global, low: &mut D) -> Result<Judged, Bac
             max: 0,
         });
     }
-    Ok(Judged {
+    let judged = Judged {
         entry: Entry::of(&file),
         end: file.after(),
-    })
+    };
+    match target.after(alloc, 0, file) {
+        Ok(target) => Ok(Whole { judged, target }),
+        Err(_) => Err(BackupFault::NoMemory),
+    }
 }
 
 /// The index of a file that is the whole backup.

@@ -6,6 +6,7 @@
 
 mod adding;
 mod backup;
+mod coming;
 mod encoding;
 mod entry;
 mod examining;
@@ -18,8 +19,10 @@ mod listing;
 mod merging;
 mod reading;
 mod reopening;
+mod restored;
 mod restoring;
 mod settling;
+mod target;
 mod tidying;
 mod trimming;
 

@@ -4,6 +4,7 @@ ghost use Rattle.lf_disk.specs.declared.name.FileName.TheVariants as name;
 ghost use Rattle.lf_disk.specs.History.{now, IsSettledBut};
 ghost use Rattle.ltx_backup.specs.Causes.{HasCauses, AreHonest, AreSettled};
 ghost use Rattle.ltx_backup.specs.Levels.{Levels, Holds};
+ghost use Rattle.ltx_backup.specs.Making.{MakesAll};
 ghost use Rattle.ltx_backup.specs.Opening.{AllListed, IsOpened, WhyClosed};
 ghost use Rattle.ltx_backup.specs.Stops.{Stops};
 
@@ -11,9 +12,17 @@ use crate::entry::{Entries, Index};
 use crate::examining::{index_of, is_there, judge_all, judge_snapshot, list_all};
 use crate::fault::BackupFault;
 use crate::finishing::finish_snapshot;
+use crate::target::Target;
 use crate::tidying::tidy_all;
 use lf_disk::{Disk, FileName};
 use std::alloc::Global;
+
+/// The files that are kept, and what was made of them.
+#[derive(Drop)]
+pub struct Opened {
+    pub index: Index,
+    pub target: Target,
+}
 
 /// Without a snapshot: judges the files, and removes those that are passed over.
 fn reopen_files<D: Disk>(
@@ -22,17 +31,20 @@ fn reopen_files<D: Disk>(
     middle: &mut D,
     high: &mut D,
     names: &Entries,
-) -> Result<Index, BackupFault>
+    target: Target,
+) -> Result<Opened, BackupFault>
     requires low_settled { IsTrue (D.honest low.old) → IsSettledBut name.Staged (D.history low.old) }
     requires middle_settled { IsTrue (D.honest middle.old) → IsSettledBut name.Staged (D.history middle.old) }
     requires high_settled { IsTrue (D.honest high.old) → IsSettledBut name.Staged (D.history high.old) }
     requires listed { AreHonest (D.honest low.old) (D.honest middle.old) (D.honest high.old)
         → AllListed names.now (now (D.history low.old)) (now (D.history middle.old)) (now (D.history high.old)) }
     requires no_snapshot { IsTrue (D.honest low.old) → now (D.history low.old) name.Snapshot ≡ None }
-    ensures opened { AreHonest (D.honest low.old) (D.honest middle.old) (D.honest high.old) → IfOk result (λ index. IsOpened index
+    ensures opened { AreHonest (D.honest low.old) (D.honest middle.old) (D.honest high.old) → IfOk result (λ opened. IsOpened opened.index
         (D.history low.old) (D.history middle.old) (D.history high.old) (D.history low.new) (D.history middle.new) (D.history high.new)) }
     ensures why { AreHonest (D.honest low.old) (D.honest middle.old) (D.honest high.old)
         → IfErr result (WhyClosed (now (D.history low.old)) (now (D.history middle.old)) (now (D.history high.old))) }
+    ensures makes { AreHonest (D.honest low.old) (D.honest middle.old) (D.honest high.old) → (levels : Levels)
+        → Holds levels (now (D.history low.old)) (now (D.history middle.old)) (now (D.history high.old)) → IfOk result (λ opened. MakesAll levels target opened.target) }
     ensures stops { AreHonest (D.honest low.old) (D.honest middle.old) (D.honest high.old) → (levels : Levels)
         → Holds levels (now (D.history low.old)) (now (D.history middle.old)) (now (D.history high.old))
         → Stops (D.history low.old) (D.history middle.old) (D.history high.old) (D.history low.new) (D.history middle.new) (D.history high.new) (Holds levels) }
@@ -41,12 +53,15 @@ fn reopen_files<D: Disk>(
     ensures cause { HasCauses (record { low = D.faults low.old; middle = D.faults middle.old; high = D.faults high.old })
         (record { low = D.faults low.new; middle = D.faults middle.new; high = D.faults high.new }) result }
 {
-    let found = match judge_all(alloc, low, middle, high, names) {
+    let found = match judge_all(alloc, low, middle, high, names, target) {
         Ok(found) => found,
         Err(why) => return Err(why),
     };
     match tidy_all(low, middle, high, names, found.bounds) {
-        Ok(()) => Ok(found.index),
+        Ok(()) => Ok(Opened {
+            index: found.index,
+            target: found.target,
+        }),
         Err(why) => Err(why),
     }
 }
@@ -58,17 +73,20 @@ fn reopen_snapshot<D: Disk>(
     middle: &mut D,
     high: &mut D,
     names: &Entries,
-) -> Result<Index, BackupFault>
+    target: Target,
+) -> Result<Opened, BackupFault>
     requires low_settled { IsTrue (D.honest low.old) → IsSettledBut name.Staged (D.history low.old) }
     requires middle_settled { IsTrue (D.honest middle.old) → IsSettledBut name.Staged (D.history middle.old) }
     requires high_settled { IsTrue (D.honest high.old) → IsSettledBut name.Staged (D.history high.old) }
     requires listed { AreHonest (D.honest low.old) (D.honest middle.old) (D.honest high.old)
         → AllListed names.now (now (D.history low.old)) (now (D.history middle.old)) (now (D.history high.old)) }
     requires snapshot { IsTrue (D.honest low.old) → IsSome (now (D.history low.old) name.Snapshot) }
-    ensures opened { AreHonest (D.honest low.old) (D.honest middle.old) (D.honest high.old) → IfOk result (λ index. IsOpened index
+    ensures opened { AreHonest (D.honest low.old) (D.honest middle.old) (D.honest high.old) → IfOk result (λ opened. IsOpened opened.index
         (D.history low.old) (D.history middle.old) (D.history high.old) (D.history low.new) (D.history middle.new) (D.history high.new)) }
     ensures why { AreHonest (D.honest low.old) (D.honest middle.old) (D.honest high.old)
         → IfErr result (WhyClosed (now (D.history low.old)) (now (D.history middle.old)) (now (D.history high.old))) }
+    ensures makes { AreHonest (D.honest low.old) (D.honest middle.old) (D.honest high.old) → (levels : Levels)
+        → Holds levels (now (D.history low.old)) (now (D.history middle.old)) (now (D.history high.old)) → IfOk result (λ opened. MakesAll levels target opened.target) }
     ensures stops { AreHonest (D.honest low.old) (D.honest middle.old) (D.honest high.old) → (levels : Levels)
         → Holds levels (now (D.history low.old)) (now (D.history middle.old)) (now (D.history high.old))
         → Stops (D.history low.old) (D.history middle.old) (D.history high.old) (D.history low.new) (D.history middle.new) (D.history high.new) (Holds levels) }
@@ -77,16 +95,19 @@ fn reopen_snapshot<D: Disk>(
     ensures cause { HasCauses (record { low = D.faults low.old; middle = D.faults middle.old; high = D.faults high.old })
         (record { low = D.faults low.new; middle = D.faults middle.new; high = D.faults high.new }) result }
 {
-    let judged = match judge_snapshot(alloc, low) {
-        Ok(judged) => judged,
+    let whole = match judge_snapshot(alloc, low, target) {
+        Ok(whole) => whole,
         Err(why) => return Err(why),
     };
-    let index = match index_of(alloc, &judged) {
+    let index = match index_of(alloc, &whole.judged) {
         Ok(index) => index,
         Err(why) => return Err(why),
     };
-    match finish_snapshot(low, middle, high, names, &judged.entry) {
-        Ok(()) => Ok(index),
+    match finish_snapshot(low, middle, high, names, &whole.judged.entry) {
+        Ok(()) => Ok(Opened {
+            index,
+            target: whole.target,
+        }),
         Err(why) => Err(why),
     }
 }
@@ -97,14 +118,17 @@ pub fn reopen<D: Disk>(
     low: &mut D,
     middle: &mut D,
     high: &mut D,
-) -> Result<Index, BackupFault>
+    target: Target,
+) -> Result<Opened, BackupFault>
     requires low_settled { IsTrue (D.honest low.old) → IsSettledBut name.Staged (D.history low.old) }
     requires middle_settled { IsTrue (D.honest middle.old) → IsSettledBut name.Staged (D.history middle.old) }
     requires high_settled { IsTrue (D.honest high.old) → IsSettledBut name.Staged (D.history high.old) }
-    ensures opened { AreHonest (D.honest low.old) (D.honest middle.old) (D.honest high.old) → IfOk result (λ index. IsOpened index
+    ensures opened { AreHonest (D.honest low.old) (D.honest middle.old) (D.honest high.old) → IfOk result (λ opened. IsOpened opened.index
         (D.history low.old) (D.history middle.old) (D.history high.old) (D.history low.new) (D.history middle.new) (D.history high.new)) }
     ensures why { AreHonest (D.honest low.old) (D.honest middle.old) (D.honest high.old)
         → IfErr result (WhyClosed (now (D.history low.old)) (now (D.history middle.old)) (now (D.history high.old))) }
+    ensures makes { AreHonest (D.honest low.old) (D.honest middle.old) (D.honest high.old) → (levels : Levels)
+        → Holds levels (now (D.history low.old)) (now (D.history middle.old)) (now (D.history high.old)) → IfOk result (λ opened. MakesAll levels target opened.target) }
     ensures stops { AreHonest (D.honest low.old) (D.honest middle.old) (D.honest high.old) → (levels : Levels)
         → Holds levels (now (D.history low.old)) (now (D.history middle.old)) (now (D.history high.old))
         → Stops (D.history low.old) (D.history middle.old) (D.history high.old) (D.history low.new) (D.history middle.new) (D.history high.new) (Holds levels) }
@@ -122,7 +146,7 @@ pub fn reopen<D: Disk>(
         Err(why) => return Err(why),
     };
     if there {
-        return reopen_snapshot(alloc, low, middle, high, &names);
+        return reopen_snapshot(alloc, low, middle, high, &names, target);
     }
-    reopen_files(alloc, low, middle, high, &names)
+    reopen_files(alloc, low, middle, high, &names, target)
 }

@@ -1,12 +1,8 @@
 //! The database at a transaction.
-ghost use Rattle.std.specs.Prelude.{◌≡◌, ◌<◌, ◌≤◌, ◌↔◌, List, Err, true, false, IsTrue, OnOk, IfOk, IfErr};
+ghost use Rattle.std.specs.Prelude.{◌≡◌, ◌<◌, ◌≤◌, ◌↔◌, List, Err, true, false, IsTrue, IfOk, IfErr};
 ghost use Rattle.lf_disk.specs.History.{now, Rests};
-ghost use Rattle.lf_sqlite_pages.specs.Apply.{Fits, apply};
-ghost use Rattle.lf_sqlite_pages.specs.Image.{empty_image};
-ghost use Rattle.ltx_codec.specs.Format.{IsFile};
-ghost use Rattle.ltx_codec.specs.Sums.{image_sum};
 ghost use Rattle.ltx_codec.specs.declared.file.Ltx.{Ltx as File};
-ghost use Rattle.ltx_backup.specs.Applying.{HasSum, IsOtherSum, AppliesOne, IsMisfit, IsMisfitUpTo, AppliesAll, IsMisfitAmong, Ends, EndsIn};
+ghost use Rattle.ltx_backup.specs.Applying.{AppliesOne, IsMisfit, IsMisfitUpTo, AppliesAll, IsMisfitAmong, Ends, EndsIn};
 ghost use Rattle.ltx_backup.specs.Causes.{HasCause, HasCauses, AreHonest};
 ghost use Rattle.ltx_backup.specs.Entries.{IsKept, entries_of};
 ghost use Rattle.ltx_backup.specs.Levels.{Levels, AllStand};
@@ -16,73 +12,10 @@ use crate::backup::Backup;
 use crate::entry::{Entries, Entry};
 use crate::fault::BackupFault;
 use crate::reading::read_file;
+use crate::restored::Restored;
 use lf_disk::Disk;
 use lf_sqlite_pages::Image;
-use ltx_codec::{Ltx, sum_after};
 use std::alloc::Global;
-
-/// Bit 63, which every sum carries.
-const FLAG: u64 = 1 << 63;
-
-/// A database while files are applied to it: its pages, their sum, and the sum that the last file says.
-#[derive(Drop)]
-pub struct Restored {
-    pub image: Image,
-    pub sum: u64,
-    pub post: u64,
-}
-
-impl Restored {
-    /// A database that was never written.
-    fn nothing(alloc: Global) -> Restored
-        ensures image { result.image ≡ empty_image }
-        ensures sum { HasSum result }
-    {
-        Restored {
-            image: Image::empty(alloc),
-            sum: FLAG,
-            post: FLAG,
-        }
-    }
-
-    /// The database after a file that fits it.
-    fn after(self, alloc: Global, file: Ltx) -> Result<Restored, BackupFault>
-        requires valid { IsFile file }
-        requires fits { Fits self.image file.change }
-        requires sum { HasSum self }
-        ensures image { IfOk result (λ next. next.image ≡ apply self.image file.change) }
-        ensures post { IfOk result (λ next. next.post ≡ file.post) }
-        ensures sum { IfOk result HasSum }
-        ensures full { IfErr result (λ why. why ≡ BackupFault.NoMemory) }
-    {
-        let post = file.post;
-        let sum = match sum_after(alloc, self.sum, &self.image, &file) {
-            Ok(sum) => sum,
-            Err(_) => return Err(BackupFault::NoMemory),
-        };
-        let Restored { image, .. } = self;
-        match image.after(file.change) {
-            Ok(image) => Ok(Restored { image, sum, post }),
-            Err(_) => Err(BackupFault::NoMemory),
-        }
-    }
-
-    /// The pages, where they have the sum that the last file says.
-    fn finish(self) -> Result<Image, BackupFault>
-        requires sum { HasSum self }
-        ensures image { IfOk result (λ image. image ≡ self.image) }
-        ensures sum { OnOk result (self.post ≡ image_sum self.image) }
-        ensures other { IfErr result (IsOtherSum self) }
-    {
-        let want = self.post;
-        let got = self.sum;
-        if want != got {
-            return Err(BackupFault::SumDiffers { want, got });
-        }
-        let Restored { image, .. } = self;
-        Ok(image)
-    }
-}
 
 /// Applies the file of an entry.
 fn restore_file<D: Disk>(
@@ -92,10 +25,8 @@ fn restore_file<D: Disk>(
     entry: &Entry,
     before: Restored,
 ) -> Result<Restored, BackupFault>
-    requires sum { HasSum before }
     ensures restores { IsTrue (D.honest disk.old) → IfOk result (λ next. AppliesOne (now (D.history disk.old)) entry.now before next) }
     ensures misfit { IsTrue (D.honest disk.old) → IfErr result (IsMisfit (now (D.history disk.old)) level entry.now before) }
-    ensures sum { IfOk result HasSum }
     ensures rests { Rests (D.history disk.old) (D.history disk.new) }
     ensures honest { D.honest disk.new ≡ D.honest disk.old }
     ensures cause { HasCause (D.faults disk.old) (D.faults disk.new) result }
@@ -126,11 +57,9 @@ fn restore_next<D: Disk>(
     txid: u64,
     before: Restored,
 ) -> Result<Restored, BackupFault>
-    requires sum { HasSum before }
     ensures restores { IsTrue (D.honest disk.old) → entry.now.max ≤ txid → IfOk result (λ next. AppliesOne (now (D.history disk.old)) entry.now before next) }
     ensures passes { txid < entry.now.max → IfOk result (λ next. next ≡ before) }
     ensures misfit { IsTrue (D.honest disk.old) → IfErr result (IsMisfitUpTo (now (D.history disk.old)) level entry.now txid before) }
-    ensures sum { IfOk result HasSum }
     ensures rests { Rests (D.history disk.old) (D.history disk.new) }
     ensures honest { D.honest disk.new ≡ D.honest disk.old }
     ensures cause { HasCause (D.faults disk.old) (D.faults disk.new) result }
@@ -153,12 +82,10 @@ fn restore_level<D: Disk>(
     txid: u64,
     before: Restored,
 ) -> Result<Restored, BackupFault>
-    requires sum { HasSum before }
     ensures restores { IsTrue (D.honest disk.old) → (files : List File) → entries.now ≡ entries_of files → AllStand (now (D.history disk.old)) files
         → IfOk result (λ next. AppliesAll (up_to txid files) before next) }
     ensures misfit { IsTrue (D.honest disk.old) → (files : List File) → entries.now ≡ entries_of files → AllStand (now (D.history disk.old)) files
         → IfErr result (IsMisfitAmong (up_to txid files) level before) }
-    ensures sum { IfOk result HasSum }
     ensures rests { Rests (D.history disk.old) (D.history disk.new) }
     ensures honest { D.honest disk.new ≡ D.honest disk.old }
     ensures cause { HasCause (D.faults disk.old) (D.faults disk.new) result }
@@ -186,7 +113,7 @@ fn ends(entries: &[Entry], txid: u64) -> bool
 }
 
 /// Whether a file of any level ends with a transaction.
-fn is_kept(entries: &Entries, txid: u64) -> bool
+pub fn is_kept(entries: &Entries, txid: u64) -> bool
     ensures yes { IsTrue result → EndsIn entries.now txid }
     ensures no { result ≡ false → EndsIn entries.now txid → ⊥ }
 {

@@ -94,7 +94,7 @@ returns-then-there-clause-opened g c honest =
     let l_now = g.D.Disk.history c.reopen_snapshot.new.low in
     let m_now = g.D.Disk.history c.reopen_snapshot.new.middle in
     let h_now = g.D.Disk.history c.reopen_snapshot.new.high in
-    ok_follows c.reopen_snapshot.result _ _ (λ index. opened_after l m h l_mid m_mid h_mid low c.list_all.ensures.rests.1 c.list_all.ensures.rests.2 index l_now m_now h_now)
+    ok_follows c.reopen_snapshot.result _ _ (λ opened. opened_after l m h l_mid m_mid h_mid low c.list_all.ensures.rests.1 c.list_all.ensures.rests.2 opened.index l_now m_now h_now)
     (c.reopen_snapshot.ensures.opened (c.is_there.ensures.honest ∙ c.list_all.ensures.honest.0 ∙ honest.0, c.list_all.ensures.honest.1 ∙ honest.1, c.list_all.ensures.honest.2 ∙ honest.2))
 
 pub returns-then-there-clause-why : goal.returns-then-there-clause-why
@@ -140,7 +140,7 @@ returns-clause-opened g c honest =
     let l_now = g.D.Disk.history c.reopen_files.new.low in
     let m_now = g.D.Disk.history c.reopen_files.new.middle in
     let h_now = g.D.Disk.history c.reopen_files.new.high in
-    ok_follows c.reopen_files.result _ _ (λ index. opened_after l m h l_mid m_mid h_mid low c.list_all.ensures.rests.1 c.list_all.ensures.rests.2 index l_now m_now h_now)
+    ok_follows c.reopen_files.result _ _ (λ opened. opened_after l m h l_mid m_mid h_mid low c.list_all.ensures.rests.1 c.list_all.ensures.rests.2 opened.index l_now m_now h_now)
     (c.reopen_files.ensures.opened (c.is_there.ensures.honest ∙ c.list_all.ensures.honest.0 ∙ honest.0, c.list_all.ensures.honest.1 ∙ honest.1, c.list_all.ensures.honest.2 ∙ honest.2))
 
 pub returns-clause-why : goal.returns-clause-why
@@ -173,3 +173,27 @@ returns-clause-stops g c honest levels held =
     and_then l m h l_mid m_mid h_mid l_now m_now h_now (Holds levels)
     (rested levels l m h l_mid m_mid h_mid (c.requires.low_settled honest.0) (c.requires.middle_settled honest.1) (c.requires.high_settled honest.2) low c.list_all.ensures.rests.1 c.list_all.ensures.rests.2 held)
     (c.reopen_files.ensures.stops (c.is_there.ensures.honest ∙ c.list_all.ensures.honest.0 ∙ honest.0, c.list_all.ensures.honest.1 ∙ honest.1, c.list_all.ensures.honest.2 ∙ honest.2) levels (forward l m h l_mid m_mid h_mid low c.list_all.ensures.rests.1 c.list_all.ensures.rests.2 levels held))
+
+pub returns-then-there-clause-makes : goal.returns-then-there-clause-makes
+returns-then-there-clause-makes g c honest levels held =
+    let l = g.D.Disk.history c.args.low.now in
+    let m = g.D.Disk.history c.args.middle.now in
+    let h = g.D.Disk.history c.args.high.now in
+    let l_mid = g.D.Disk.history c.is_there.new.disk in
+    let m_mid = g.D.Disk.history c.list_all.new.middle in
+    let h_mid = g.D.Disk.history c.list_all.new.high in
+    let low = rests_join l (g.D.Disk.history c.list_all.new.low) l_mid c.list_all.ensures.rests.0 c.is_there.ensures.rests in
+    c.reopen_snapshot.ensures.makes (c.is_there.ensures.honest ∙ c.list_all.ensures.honest.0 ∙ honest.0, c.list_all.ensures.honest.1 ∙ honest.1, c.list_all.ensures.honest.2 ∙ honest.2) levels
+    (forward l m h l_mid m_mid h_mid low c.list_all.ensures.rests.1 c.list_all.ensures.rests.2 levels held)
+
+pub returns-clause-makes : goal.returns-clause-makes
+returns-clause-makes g c honest levels held =
+    let l = g.D.Disk.history c.args.low.now in
+    let m = g.D.Disk.history c.args.middle.now in
+    let h = g.D.Disk.history c.args.high.now in
+    let l_mid = g.D.Disk.history c.is_there.new.disk in
+    let m_mid = g.D.Disk.history c.list_all.new.middle in
+    let h_mid = g.D.Disk.history c.list_all.new.high in
+    let low = rests_join l (g.D.Disk.history c.list_all.new.low) l_mid c.list_all.ensures.rests.0 c.is_there.ensures.rests in
+    c.reopen_files.ensures.makes (c.is_there.ensures.honest ∙ c.list_all.ensures.honest.0 ∙ honest.0, c.list_all.ensures.honest.1 ∙ honest.1, c.list_all.ensures.honest.2 ∙ honest.2) levels
+    (forward l m h l_mid m_mid h_mid low c.list_all.ensures.rests.1 c.list_all.ensures.rests.2 levels held)

@@ -15,7 +15,6 @@ loop-entry-init g c = record {
   honest = refl;
   faults = refl;
   rests = rests_stay (g.D.Disk.history c.args.disk.now);
-  sum = c.requires.sum;
   runs = λ honest files are stand. starts (up_to c.args.txid files) c.args.before;
 }
 
@@ -27,7 +26,6 @@ loop-entry-preserved g c =
       honest = c.restore_next.ensures.honest ∙ c.loop-entry.invariant.honest;
       faults = c.in-Ok.ensures.cause ∙ c.loop-entry.invariant.faults;
       rests = rests_join h mid (g.D.Disk.history c.restore_next.new.disk) c.loop-entry.invariant.rests c.restore_next.ensures.rests;
-      sum = c.in-Ok.ensures.sum;
       runs = λ honest files are stand.
           step (now h) (now mid) c.args.entries.now files c.loop-entry.entry-index c.args.txid c.args.before c.loop-entry.state c.in-Ok.next (rests_now h mid c.loop-entry.invariant.rests) are stand
           c.loop-entry-test.true (c.loop-entry.invariant.runs honest files are stand) (c.in-Ok.ensures.restores (c.loop-entry.invariant.honest ∙ honest)) c.in-Ok.ensures.passes;

@@ -1,7 +1,6 @@
 use Rattle.std.proofs.Common.{◌≡◌, IsTrue, List, drop}
 use Rattle.lf_disk.specs.History.{now, Rests}
 use Rattle.ltx_codec.specs.declared.file.Ltx.{Ltx}
-use Rattle.ltx_backup.specs.Applying.{HasSum}
 use Rattle.ltx_backup.specs.Entries.{entries_of}
 use Rattle.ltx_backup.specs.Levels.{AllStand}
 use Rattle.ltx_backup.specs.Restoring.{up_to}
@@ -13,7 +12,6 @@ invariant-loop-entry g l = record {
   honest : g.D.Disk.honest l.disk ≡ g.D.Disk.honest l.initial.disk;
   faults : g.D.Disk.faults l.disk ≡ g.D.Disk.faults l.initial.disk;
   rests : Rests (g.D.Disk.history l.initial.disk) (g.D.Disk.history l.disk);
-  sum : HasSum l.state;
   runs : IsTrue (g.D.Disk.honest l.initial.disk) → (files : List Ltx) → l.entries ≡ entries_of files → AllStand (now (g.D.Disk.history l.initial.disk)) files
       → GoesOn (up_to l.txid files) (up_to l.txid (drop l.entry-index files)) l.initial.state l.state;
 }
