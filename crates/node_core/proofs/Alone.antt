@@ -18,16 +18,17 @@ use Rattle.file_view.specs.Errno.{EAGAIN, EPERM, EROFS}
 use Rattle.file_view.specs.Endings.{first_blocking}
 use Rattle.file_view.specs.Refusal.{IsAllowed, Row, first_refusal}
 use Rattle.file_view.specs.Roles.{is_replica}
-use Rattle.world_laws.specs.Answers.{LeavesUndone}
+use Rattle.world_laws.specs.Answers.{LeavesUndone, completed_over}
 use Rattle.world_laws.specs.Node as laws
 use Rattle.world_laws.specs.Node.{NodeState}
 use Rattle.world_laws.specs.Step.{Makes, StepFacts, accepts, calls_of, commits, commits_and_prunes, drops, finishes, imports, nothing, prunes, takes, unlinks}
-use Rattle.world_laws.specs.Store.{CanDoAll, Commit, DropAll, Failure, PruneTo, StoreCall, StoreState, all_done, at, begun_by, broken_by, end_of, with_file}
+use Rattle.world_laws.specs.Store.{Apply, CanDoAll, Commit, DropAll, Failure, PruneTo, StoreCall, StoreState, all_done, at, begun_by, broken_by, end_of, with_file}
 use Rattle.world_laws.proofs.Stores.{end_of-none, end_of-pruned, end_of-push}
 use Rattle.node_core.specs.declared.answer.Answer.{Answer}
 use Rattle.node_core.specs.declared.answer.Answer.TheVariants as answers
 use Rattle.node_core.specs.declared.ask.Ask.{Ask}
 use Rattle.node_core.specs.declared.ask.Ask.TheVariants as asks
+use Rattle.node_core.specs.declared.sent.Sent.{Sent}
 use Rattle.node_core.specs.HoldingBack.{is_kept_out}
 use Rattle.node_core.specs.Importing.{AnswersImport, TakesUnless}
 use Rattle.node_core.specs.Locking.{commit_refusal, commit_refusal_by, is_barred}
@@ -35,6 +36,7 @@ use Rattle.node_core.specs.Nodes.{NodeParts, at_moment, role_in, seen}
 use Rattle.node_core.specs.Forwarding.{AnswersForward}
 use Rattle.node_core.specs.PermitLaw.{IsPrune, IsUnder}
 use Rattle.node_core.specs.Pruning.{kept_of}
+use Rattle.node_core.specs.Replying.{AnswersForwarded}
 use Rattle.node_core.specs.Roles.{is_halted, law_role, out_by, permit_out, permits_of, role_of}
 use Rattle.node_core.specs.Safely.{IsAskOf, IsFrameOf, law_answer}
 use Rattle.node_core.specs.Serving.{ServesFiles}
@@ -96,6 +98,26 @@ file-none (drops other) file can same = absurd (let no : laws.Drop ≡ laws.File
 file-none finishes file can same = absurd (let no : laws.Forwarded true ≡ laws.File = file in cc)
 file-none (prunes {keep = k}) file can same = absurd (let no : laws.Prune k ≡ laws.File = file in cc)
 
+-- and so did a reply that leaves it
+applied-on : (store : StoreState) (file : Ltx) → CanDoAll store (Apply file ∷ []) → after file ≡ at store → ⊥
+applied-on store file can same =
+    let follows : file.header.min - 1 ≡ (at store).txid = ap (λ (p : Pos). p.txid) can.0.1.next in
+    let stays : file.header.max ≡ (at store).txid = ap (λ (p : Pos). p.txid) same in
+    omega (arith, follows, stays, can.0.0.header.min, can.0.0.header.max)
+
+reply-none : {store : StoreState} {r : laws.Role} {waits : Option Ltx} {ask : laws.Ask} {calls : List StoreCall} → Makes store r waits ask calls → (ok : Bool) → ask ≡ laws.Forwarded ok → CanDoAll store calls →
+    all_done store calls ≡ store → calls ≡ []
+reply-none nothing ok is can same = refl
+reply-none commits ok is can same = absurd (let no : laws.File ≡ laws.Forwarded ok = is in cc)
+reply-none commits_and_prunes ok is can same = absurd (let no : laws.File ≡ laws.Forwarded ok = is in cc)
+reply-none unlinks ok is can same = absurd (let no : laws.File ≡ laws.Forwarded ok = is in cc)
+reply-none imports ok is can same = absurd (let no : laws.Import ≡ laws.Forwarded ok = is in cc)
+reply-none (accepts {file = f}) ok is can same = absurd (let no : laws.Forward f ≡ laws.Forwarded ok = is in cc)
+reply-none (takes {file = f} other) ok is can same = absurd (let no : laws.Frame f ≡ laws.Forwarded ok = is in cc)
+reply-none (drops other) ok is can same = absurd (let no : laws.Drop ≡ laws.Forwarded ok = is in cc)
+reply-none {store = s} (finishes {file = f}) ok is can same = absurd (applied-on s (completed_over s f) can (sym (end_of-push s.log (completed_over s f)) ∙ ap at same))
+reply-none (prunes {keep = k}) ok is can same = absurd (let no : laws.Prune k ≡ laws.Forwarded ok = is in cc)
+
 -- a store that is broken now where it was has no call that failed
 no-failure : (broken before : Bool) → broken ≡ before → (was now : Failure) (failed : Option Failure) → (if broken then Some now else None) ≡ broken_by (if before then Some was else None) failed →
     (IsSome (if before then Some was else None) → failed ≡ None) → failed ≡ None
@@ -104,9 +126,9 @@ no-failure false false same was now failed is whole = sym is
 no-failure true false same was now failed is whole = absurd (let no : true ≡ false = same in cc)
 no-failure false true same was now failed is whole = absurd (let no : false ≡ true = same in cc)
 
--- a step that is refused, or a request that leaves the store, in which no call failed
+-- a step that is refused, or a request or a reply that leaves the store, in which no call failed
 no-calls : (old new : NodeState) (law : laws.Ask) (answer : laws.Answer) (facts : StepFacts old law answer new) → facts.failed ≡ None →
-    (answer ≡ laws.Refused laws.Other) ⊎ ((law ≡ laws.File) × (new.store ≡ old.store)) → All IsPrune (calls_of facts)
+    (answer ≡ laws.Refused laws.Other) ⊎ (((law ≡ laws.File) ⊎ ((ok : Bool) × (law ≡ laws.Forwarded ok))) × (new.store ≡ old.store)) → All IsPrune (calls_of facts)
 no-calls old new law answer facts none outcome = subst (All IsPrune) (sym (go outcome)) (All-nil IsPrune) where
   are : calls_of facts ≡ facts.did
   are = ap (λ (f : Option Failure). facts.did ++ begun_by f) none ∙ append-nil facts.did
@@ -114,9 +136,13 @@ no-calls old new law answer facts none outcome = subst (All IsPrune) (sym (go ou
   undone : (a : laws.Answer) → a ≡ laws.Refused laws.Other → (did : List StoreCall) → LeavesUndone a did → did ≡ []
   undone a is did left = subst (λ (b : laws.Answer). LeavesUndone b did → did ≡ []) (sym is) (λ l. l) left
 
-  go : (answer ≡ laws.Refused laws.Other) ⊎ ((law ≡ laws.File) × (new.store ≡ old.store)) → calls_of facts ≡ []
+  stays : new.store ≡ old.store → all_done old.store (calls_of facts) ≡ old.store
+  stays same = ap (all_done old.store) are ∙ sym facts.store ∙ same
+
+  go : (answer ≡ laws.Refused laws.Other) ⊎ (((law ≡ laws.File) ⊎ ((ok : Bool) × (law ≡ laws.Forwarded ok))) × (new.store ≡ old.store)) → calls_of facts ≡ []
   go (inl refused) = are ∙ undone answer refused facts.did facts.refused
-  go (inr same) = file-none facts.makes same.0 facts.can (ap (all_done old.store) are ∙ sym facts.store ∙ same.1)
+  go (inr (inl file, same)) = file-none facts.makes file facts.can (stays same)
+  go (inr (inr reply, same)) = reply-none facts.makes reply.0 reply.1 facts.can (stays same)
 
 -- what is done while a permit is out
 abbrev pub Holds : History → NodeParts → Answer → History → NodeParts → Type 0
@@ -154,7 +180,9 @@ module _ (start : History) (old : NodeParts) (end : History) (new : NodeParts) (
   serves-nothing caller request answers.Quiet served = (ap (λ (s : StoreFields). s.broken) served.read.same, inr served.read.state)
   serves-nothing caller request (answers.Refuse number) (inl refused) = (ap (λ (s : StoreFields). s.broken) refused.read.same, inl refl)
   serves-nothing caller request (answers.Refuse number) (inr (inl asked)) = absurd (barred asked.leave)
-  serves-nothing caller request (answers.Refuse number) (inr (inr left)) = (ap (λ (s : StoreFields). s.broken) left.read.same, inl refl)
+  serves-nothing caller request (answers.Refuse number) (inr (inr (inl left))) = (ap (λ (s : StoreFields). s.broken) left.read.same, inl refl)
+  serves-nothing caller request (answers.Refuse number) (inr (inr (inr unsent))) = (ap (λ (s : StoreFields). s.broken) unsent.read.same, inl refl)
+  serves-nothing caller request (answers.Send number ltx) sent = (ap (λ (s : StoreFields). s.broken) sent.read.same, inr sent.read.state)
   serves-nothing caller request (answers.At here) served = absurd served
   serves-nothing caller request (answers.Level here) served = absurd served
   serves-nothing caller request (answers.Item ltx to) served = absurd served
@@ -182,6 +210,7 @@ module _ (start : History) (old : NodeParts) (end : History) (new : NodeParts) (
   unlinks-nothing (answers.Held lock) dropped = absurd dropped
   unlinks-nothing (answers.Pruned count) dropped = absurd dropped
   unlinks-nothing (answers.Pass pass) dropped = absurd dropped
+  unlinks-nothing (answers.Send number ltx) dropped = absurd dropped
   unlinks-nothing (answers.Bytes bytes) dropped = absurd dropped
   unlinks-nothing (answers.Info info) dropped = absurd dropped
   unlinks-nothing (answers.Refused why) dropped = absurd dropped
@@ -205,6 +234,19 @@ module _ (start : History) (old : NodeParts) (end : History) (new : NodeParts) (
   imports-nothing : (bytes : List ℕ) (answer : Answer) → AnswersImport start old bytes answer end new → Refuses answer
   imports-nothing bytes answer (inl other) = absurd (other.0 (out-leads (role_of old.standing) _ out))
   imports-nothing bytes answer (inr does) = takes-nothing bytes answer (permit_out old.standing) out does.1
+
+-- a reply brings nothing
+none-out : (out : Option HaltPass) → IsSome out → out ≡ None → ⊥
+none-out None some none = let no : false ≡ true = some in cc
+none-out (Some pass) some none = let no : Some pass ≡ None = none in cc
+
+module _ (start : History) (old : NodeParts) (end : History) (new : NodeParts) (said : Option Errno) (out : IsSome (permit_out old.standing)) where
+  replies-nothing : (sent : Option Sent) (ok : Bool) (answer : Answer) → AnswersForwarded sent ok start old answer end new said →
+      (new.store.broken ≡ old.store.broken) × ((law_answer answer ≡ laws.Refused laws.Other) ⊎ (IsTrue old.store.honest → state end new.store ≡ state start old.store))
+  replies-nothing None ok answer does = (ap (λ (n : NodeParts). n.store.broken) does.1.0, inl (ap law_answer does.0))
+  replies-nothing (Some sent) false answer does = (ap (λ (n : NodeParts). n.store.broken) does.1.0, inl (ap law_answer does.0))
+  replies-nothing (Some sent) true answer (inl due) = absurd (none-out (permit_out old.standing) out due.0.free)
+  replies-nothing (Some sent) true answer (inr other) = (ap (λ (n : NodeParts). n.store.broken) other.2.0, inr other.2.1.state)
 
 -- a permit that refuses no use of this number is the one of that number
 same-number : (b : Bool) (number : ℕ) → (if b then None else Some (HaltGone number)) ≡ None → b ≡ true
@@ -269,7 +311,7 @@ module _ (start : History) (old : NodeParts) (caller : ℕ) (answer : Answer) (e
       let none : facts.failed ≡ None = no-failure new.store.broken old.store.broken held.0 _ _ facts.failed facts.broken (λ some. (facts.whole some).1) in
       no-calls (seen start old) (seen end new) law (law_answer answer) facts none (elim held.1 [
         | inl refused ↦ inl refused
-        | inr same ↦ inr (is, same disk)
+        | inr same ↦ inr (inl is, same disk)
       ])
   alone (asks.Import now bytes) step disk law is out under =
       let n : NodeParts = at_moment old now in
@@ -283,6 +325,14 @@ module _ (start : History) (old : NodeParts) (caller : ℕ) (answer : Answer) (e
       let facts = (step.safe disk law is).facts in
       let none : facts.failed ≡ None = no-failure new.store.broken old.store.broken held.0 _ _ facts.failed facts.broken (λ some. (facts.whole some).1) in
       no-calls (seen start old) (seen end new) law (law_answer answer) facts none (inl held.1)
+  alone (asks.Forwarded ok) step disk law is out under =
+      let held = replies-nothing start old end new said out old.sent ok answer step.does in
+      let facts = (step.safe disk law is).facts in
+      let none : facts.failed ≡ None = no-failure new.store.broken old.store.broken held.0 _ _ facts.failed facts.broken (λ some. (facts.whole some).1) in
+      no-calls (seen start old) (seen end new) law (law_answer answer) facts none (elim held.1 [
+        | inl refused ↦ inl refused
+        | inr same ↦ inr (inr (ok, is), same disk)
+      ])
   alone asks.EndSession step disk law is out under = rested-as asks.EndSession step laws.EndSession (λ law is. is) tt disk law is out under
   alone asks.Where step disk law is out under = rested-as asks.Where step laws.Where (λ law is. is) tt disk law is out under
   alone (asks.Hello now from last) step disk law is out under = rested-as (asks.Hello now from last) step (laws.Hello from last) (λ law is. is) tt disk law is out under

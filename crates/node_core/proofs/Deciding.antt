@@ -224,3 +224,4 @@ each-is-an-ask (asks.HaltBack now number) = (laws.Permit, refl)
 each-is-an-ask (asks.Forward now number bytes) = forward-of bytes
 each-is-an-ask (asks.HaltGot now pass) = (laws.Permit, refl)
 each-is-an-ask (asks.HaltLost number) = (laws.Permit, refl)
+each-is-an-ask (asks.Forwarded ok) = (laws.Forwarded ok, refl)

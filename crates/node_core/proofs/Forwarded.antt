@@ -39,7 +39,7 @@ makes-accept h old file primary =
     subst (λ (r : laws.Role). Makes (seen h old).store r (seen h old).waits (laws.Forward file) (Commit (completed_over (state h old.store) file) ∷ [])) (sym (leads (role_in old) primary)) accepts
 
 -- it is committed only by a store that is whole
-accept-whole : (s : StoreFields) (file : Ltx) (result : Result Pos StoreFault) → Accepts s file result → Begins result → s.broken ≡ false
+pub accept-whole : (s : StoreFields) (file : Ltx) (result : Result Pos StoreFault) → Accepts s file result → Begins result → s.broken ≡ false
 accept-whole s file (Ok told) given begun = given.0
 accept-whole s file (Err fault.Disk) given begun = given.0
 accept-whole s file (Err fault.Broken) given begun = absurd begun

@@ -113,6 +113,7 @@ absent start old (answers.Held lock) new zero is = absurd is
 absent start old (answers.Pruned count) new zero is = absurd is
 absent start old (answers.Info info) new zero is = absurd is
 absent start old (answers.Pass pass) new zero is = absurd is
+absent start old (answers.Send number ltx) new zero is = absurd is
 
 -- a reader in rollback mode holds an import back by SHARED
 abbrev reader : LockEntry
@@ -165,6 +166,7 @@ module _ (start : History) (old : NodeParts) (bytes : List ℕ) (end : History) 
   waits (answers.Bytes pages) is = absurd is
   waits (answers.Info info) is = absurd is
   waits (answers.Pass pass) is = absurd is
+  waits (answers.Send number ltx) is = absurd is
 
 under_a_reader : (start end : History) (old new : NodeParts) (bytes : List ℕ) (answer : Answer) → role_in old ≡ role.Primary → permit_out old.standing ≡ None → old.store.wal ≡ false
     → old.files.locks ≡ reader ∷ [] → AnswersImport start old bytes answer end new → answer ≡ answers.Held lock.Shared

@@ -177,6 +177,7 @@ module _ (start : History) (old : NodeParts) (bytes : List ℕ) (change : PageCh
   takes-change (answers.Done reply) never = absurd never
   takes-change answers.Quiet never = absurd never
   takes-change (answers.Pass pass) never = absurd never
+  takes-change (answers.Send number ltx) never = absurd never
   takes-change (answers.Refuse number) never = absurd never
   takes-change (answers.At here) never = absurd never
   takes-change (answers.Level here) never = absurd never
@@ -223,6 +224,7 @@ module _ (start mid : History) (old : NodeParts) (same : IsTrue old.store.honest
   change-since (answers.Done reply) new never = absurd never
   change-since answers.Quiet new never = absurd never
   change-since (answers.Pass pass) new never = absurd never
+  change-since (answers.Send number ltx) new never = absurd never
   change-since (answers.Refuse number) new never = absurd never
   change-since (answers.At here) new never = absurd never
   change-since (answers.Level here) new never = absurd never

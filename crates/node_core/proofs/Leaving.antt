@@ -1,4 +1,4 @@
--- What every request leaves as it was: the position that was told, that nothing waits but for what is to be committed, and that
+-- What every request leaves as it was: the position that was told, whether anything waits but for what is to be committed, and that
 -- the locks are a lock list.
 use Rattle.std.proofs.Common.{◌≡◌, ◌∙◌, ℕ, ◌/◌, Bool, true, false, List, [], ◌∷◌, Option, Some, None, inl, inr, refl, sym, ap, subst, arith, ◌<◌, ◌&&◌}
 use Rattle.std.specs.Prelude.{◌==◌, is_some, nat_lt, not, IsSomeAnd}
@@ -43,21 +43,22 @@ use Rattle.file_view.specs.HandleRules.{is_open_at, is_served}
 use Rattle.file_view.specs.JournalRules.{JournalCommits, JournalDone, after_journal_call, ends_writing}
 use Rattle.file_view.specs.LockRules.{after_wish, grant_rows, locks_at, setlk_rows, wish_rows}
 use Rattle.file_view.specs.LogRules.{LogCommits, LogDone, breaks_header, commits_frames, log_after, log_write_rows}
-use Rattle.file_view.specs.NameRules.{with_file}
+use Rattle.file_view.specs.NameRules.{unlinking_rows, with_file}
 use Rattle.file_view.specs.Refusal.{Row, first_refusal}
-use Rattle.file_view.specs.Requests.{owner_of, rows_at, write_rows}
+use Rattle.file_view.specs.Requests.{owner_of, rows_at, size_rows, write_rows}
 use Rattle.file_view.specs.Roles.{is_replica}
 use Rattle.file_view.specs.Served.{Served, log_contents, waits}
 use Rattle.file_view.proofs.RowLemmas.{none-holds}
-use Rattle.file_view.proofs.RequestLemmas.{rest-allowed, write-allowed}
+use Rattle.file_view.proofs.FreeLemmas.{finish-free, log-write-free}
+use Rattle.file_view.proofs.RequestLemmas.{finish-allowed, removal-allowed, rest-allowed, size-allowed, unlink-allowed, write-allowed}
 use Rattle.node_core.proofs.Endings.{either, none-in}
 
--- whether anything waits afterwards: what is to be committed fits the image, may be given up without a trace, and once it is done
--- nothing waits
+-- whether anything waits afterwards: what is to be committed fits the image and waits, may be given up without a trace, and once it is
+-- done nothing waits
 abbrev pub Rests : ℕ → ℕ → Served → Plan → Served → Type 0
-Rests page_size commit old (plan.Reply r) new = waits new ≡ false
-Rests page_size commit old plan.Silent new = waits new ≡ false
-Rests page_size commit old (plan.Commit r change) new = (abandoned new ≡ old) × (waits (committed new) ≡ false) × FitsOver page_size commit change
+Rests page_size commit old (plan.Reply r) new = waits new ≡ waits old
+Rests page_size commit old plan.Silent new = waits new ≡ waits old
+Rests page_size commit old (plan.Commit r change) new = (abandoned new ≡ old) × (waits (committed new) ≡ false) × FitsOver page_size commit change × (waits new ≡ true)
 
 pub record Leaves (page_size commit : ℕ) (old : Served) (p : Plan) (new : Served) : Type 0 where
   pub position : new.position ≡ old.position
@@ -78,28 +79,28 @@ nothing-below first count below none = let less : first < count = grind (arith, 
 some_none : {X : Type 0} (x : X) → Some x ≡ None → ⊥
 some_none x same = cc
 
-module _ (told : Option DatabaseImage) (old : Served) (scene : Scene) (sized : 0 < scene.commit → IsPageSize scene.page_size) (idle : waits old ≡ false) where
-  held : old.held_write ≡ None
-  held = none-in old.held_write (either (is_some old.held_write) (is_some old.journal.waiting) idle).0
+module _ (told : Option DatabaseImage) (old : Served) (scene : Scene) (sized : 0 < scene.commit → IsPageSize scene.page_size) where
+  held : waits old ≡ false → old.held_write ≡ None
+  held idle = none-in old.held_write (either (is_some old.held_write) (is_some old.journal.waiting) idle).0
 
-  free : old.journal.waiting ≡ None
-  free = none-in old.journal.waiting (either (is_some old.held_write) (is_some old.journal.waiting) idle).1
+  free : waits old ≡ false → old.journal.waiting ≡ None
+  free idle = none-in old.journal.waiting (either (is_some old.held_write) (is_some old.journal.waiting) idle).1
 
   -- without anything that waits the files are as they were
-  given-up : record old { journal = record { file = old.journal.file; waiting = None }; held_write = None } ≡ old
-  given-up = λ i. record old { journal = record { file = old.journal.file; waiting = sym free i }; held_write = sym held i }
+  given-up : waits old ≡ false → record old { journal = record { file = old.journal.file; waiting = None }; held_write = None } ≡ old
+  given-up idle = λ i. record old { journal = record { file = old.journal.file; waiting = sym (free idle) i }; held_write = sym (held idle) i }
 
   replied : (p : Plan) (r : Reply) (files new : Served) → files.position ≡ old.position → waits files ≡ waits old → (IsLockList old.locks → IsLockList files.locks) → IsReplied p r files new → Leaves scene.page_size scene.commit old p new
   replied p r files new position waiting locks done = record {
     position = ap (λ (s : Served). s.position) done.files_are ∙ position;
-    rests = subst (λ (q : Plan). Rests scene.page_size scene.commit old q new) (sym done.reply) (ap waits done.files_are ∙ waiting ∙ idle);
+    rests = subst (λ (q : Plan). Rests scene.page_size scene.commit old q new) (sym done.reply) (ap waits done.files_are ∙ waiting);
     locks = λ list. subst (λ (s : Served). IsLockList s.locks) (sym done.files_are) (locks list);
   }
 
   stays : (p : Plan) (r : Reply) (new : Served) → p ≡ plan.Reply r → (new.position ≡ old.position) → waits new ≡ waits old → new.locks ≡ old.locks → Leaves scene.page_size scene.commit old p new
   stays p r new is position waiting locks = record {
     position = position;
-    rests = subst (λ (q : Plan). Rests scene.page_size scene.commit old q new) (sym is) (waiting ∙ idle);
+    rests = subst (λ (q : Plan). Rests scene.page_size scene.commit old q new) (sym is) waiting;
     locks = λ list. subst IsLockList (sym locks) list;
   }
 
@@ -110,8 +111,8 @@ module _ (told : Option DatabaseImage) (old : Served) (scene : Scene) (sized : 0
   called-locks : (c : JournalCall) → (after_journal_call old c).locks ≡ old.locks
   called-locks c = elim (cases_Bool (ends_writing old c)) [ inl ends ↦ rw ends refl | inr not ↦ rw not refl ]
 
-  called-waits : (c : JournalCall) → waits (after_journal_call old c) ≡ false
-  called-waits c = elim (cases_Bool (ends_writing old c)) [ inl ends ↦ rw (ends, held) refl | inr not ↦ rw (not, held) refl ]
+  called-waits : waits old ≡ false → (c : JournalCall) → waits (after_journal_call old c) ≡ false
+  called-waits idle c = elim (cases_Bool (ends_writing old c)) [ inl ends ↦ rw (ends, held idle) refl | inr not ↦ rw (not, held idle) refl ]
 
   -- the change of a journal's end is of the image's page size, where the image has pages
   called-fits : (c : JournalCall) (change : PageChange) → JournalCommits told old scene c (Some change) → FitsOver scene.page_size scene.commit change
@@ -152,16 +153,16 @@ module _ (told : Option DatabaseImage) (old : Served) (scene : Scene) (sized : 0
         ]
       ]
 
-  called : (c : JournalCall) (p : Plan) (r : Reply) (new : Served) → MayCommit p r (λ change. JournalDone told old scene c change new) → Leaves scene.page_size scene.commit old p new
-  called c (plan.Reply given) r new done = record {
+  called : waits old ≡ false → (c : JournalCall) (p : Plan) (r : Reply) (new : Served) → MayCommit p r (λ change. JournalDone told old scene c change new) → Leaves scene.page_size scene.commit old p new
+  called idle c (plan.Reply given) r new done = record {
     position = ap (λ (s : Served). s.position) done.1.1 ∙ called-position c;
-    rests = ap waits done.1.1 ∙ called-waits c;
+    rests = ap waits done.1.1 ∙ called-waits idle c ∙ sym idle;
     locks = λ list. subst IsLockList (sym (ap (λ (s : Served). s.locks) done.1.1 ∙ called-locks c)) list;
   }
-  called c plan.Silent r new done = absurd done
-  called c (plan.Commit given change) r new done = record {
+  called idle c plan.Silent r new done = absurd done
+  called idle c (plan.Commit given change) r new done = record {
     position = ap (λ (s : Served). s.position) done.1.1;
-    rests = (ap abandoned done.1.1 ∙ given-up, ap (λ (s : Served). waits (committed s)) done.1.1 ∙ rw held refl, called-fits c change done.1.0);
+    rests = (ap abandoned done.1.1 ∙ given-up idle, ap (λ (s : Served). waits (committed s)) done.1.1 ∙ rw (held idle) refl, called-fits c change done.1.0, ap waits done.1.1 ∙ rw (held idle) refl);
     locks = λ list. subst IsLockList (sym (ap (λ (s : Served). s.locks) done.1.1)) list;
   }
 
@@ -169,13 +170,13 @@ module _ (told : Option DatabaseImage) (old : Served) (scene : Scene) (sized : 0
   logged : (given : Option ℕ) (place : ℕ) (bytes : List ℕ) (p : Plan) (r : Reply) (new : Served) → first_refusal (log_write_rows old scene given place bytes) ≡ None → MayCommit p r (λ change. LogDone told old scene place bytes change new) → Leaves scene.page_size scene.commit old p new
   logged given place bytes (plan.Reply is) r new none done = record {
     position = ap (λ (s : Served). s.position) done.1.1.1;
-    rests = ap waits done.1.1.1 ∙ idle;
+    rests = ap waits done.1.1.1;
     locks = λ list. subst IsLockList (sym (ap (λ (s : Served). s.locks) done.1.1.1)) list;
   }
   logged given place bytes plan.Silent r new none done = absurd done
-  logged given place bytes (plan.Commit is change) r new none done = record {
+  logged given place bytes (plan.Commit is change) r new none done = let idle : waits old ≡ false = log-write-free old scene given place bytes none in record {
     position = ap (λ (s : Served). s.position) done.1.1.state;
-    rests = (ap abandoned done.1.1.state ∙ given-up, ap (λ (s : Served). waits (committed s)) done.1.1.state ∙ rw free refl, logged-fits given place bytes change none done.1.0);
+    rests = (ap abandoned done.1.1.state ∙ given-up idle, ap (λ (s : Served). waits (committed s)) done.1.1.state ∙ rw (free idle) refl, logged-fits given place bytes change none done.1.0, ap waits done.1.1.state);
     locks = λ list. subst IsLockList (sym (ap (λ (s : Served). s.locks) done.1.1.state)) list;
   }
 
@@ -208,33 +209,34 @@ module _ (told : Option DatabaseImage) (old : Served) (scene : Scene) (sized : 0
   written None given place bytes p new none done = absurd done
   written (Some file.Database) given place bytes p new none done =
       let is = database-written given place bytes new none done.1 in stays p _ new done.0 (ap (λ (s : Served). s.position) is) (ap waits is) (ap (λ (s : Served). s.locks) is)
-  written (Some file.Journal) given place bytes p new none done = called (call.Write place bytes) p _ new done
+  written (Some file.Journal) given place bytes p new none done =
+      called (finish-free old scene given (call.Write place bytes) (finish-allowed old scene given (call.Write place bytes) none)) (call.Write place bytes) p _ new done
   written (Some file.Wal) given place bytes p new none done = logged given place bytes p _ new none done
   written (Some file.Shm) given place bytes p new none done = replied p _ _ new refl refl (λ l. l) done
   written (Some file.PosFile) given place bytes p new none done = absurd done
   written (Some file.LockFile) given place bytes p new none done = absurd done
   written (Some file.Primary) given place bytes p new none done = absurd done
 
-  resized : (node : ℕ) (f : Option FileKind) (len : ℕ) (p : Plan) (new : Served) → IsSized told old scene node f len p new → Leaves scene.page_size scene.commit old p new
-  resized node None len p new done = absurd done
-  resized node (Some file.Database) len p new done =
+  resized : (node : ℕ) (f : Option FileKind) (given : Option ℕ) (len : ℕ) (p : Plan) (new : Served) → first_refusal (size_rows old scene f given len) ≡ None → IsSized told old scene node f len p new → Leaves scene.page_size scene.commit old p new
+  resized node None given len p new none done = absurd done
+  resized node (Some file.Database) given len p new none done =
       let same = database-sized len new (write_size old scene 0 []) refl done.1 in stays p _ new done.0 same.0 same.1 same.2
-  resized node (Some file.Journal) len p new done = called (call.Cut len) p _ new done
-  resized node (Some file.Wal) len p new done = replied p _ _ new refl refl (λ l. l) done
-  resized node (Some file.Shm) len p new done = replied p _ _ new refl refl (λ l. l) done
-  resized node (Some file.PosFile) len p new done = absurd done
-  resized node (Some file.LockFile) len p new done = absurd done
-  resized node (Some file.Primary) len p new done = absurd done
+  resized node (Some file.Journal) given len p new none done = called (finish-free old scene given (call.Cut len) (finish-allowed old scene given (call.Cut len) none)) (call.Cut len) p _ new done
+  resized node (Some file.Wal) given len p new none done = replied p _ _ new refl refl (λ l. l) done
+  resized node (Some file.Shm) given len p new none done = replied p _ _ new refl refl (λ l. l) done
+  resized node (Some file.PosFile) given len p new none done = absurd done
+  resized node (Some file.LockFile) given len p new none done = absurd done
+  resized node (Some file.Primary) given len p new none done = absurd done
 
-  unlinked : (f : Option FileKind) (p : Plan) (new : Served) → IsUnlinked told old scene f p new → Leaves scene.page_size scene.commit old p new
-  unlinked None p new done = absurd done
-  unlinked (Some file.Database) p new done = absurd done
-  unlinked (Some file.Journal) p new done = called call.Unlink p _ new done
-  unlinked (Some file.Wal) p new done = replied p _ _ new refl refl (λ l. l) done
-  unlinked (Some file.Shm) p new done = replied p _ _ new refl refl (λ l. l) done
-  unlinked (Some file.PosFile) p new done = absurd done
-  unlinked (Some file.LockFile) p new done = absurd done
-  unlinked (Some file.Primary) p new done = absurd done
+  unlinked : (f : Option FileKind) (p : Plan) (new : Served) → first_refusal (unlinking_rows old scene f) ≡ None → IsUnlinked told old scene f p new → Leaves scene.page_size scene.commit old p new
+  unlinked None p new none done = absurd done
+  unlinked (Some file.Database) p new none done = absurd done
+  unlinked (Some file.Journal) p new none done = called (finish-free old scene None call.Unlink (removal-allowed old scene none)) call.Unlink p _ new done
+  unlinked (Some file.Wal) p new none done = replied p _ _ new refl refl (λ l. l) done
+  unlinked (Some file.Shm) p new none done = replied p _ _ new refl refl (λ l. l) done
+  unlinked (Some file.PosFile) p new none done = absurd done
+  unlinked (Some file.LockFile) p new none done = absurd done
+  unlinked (Some file.Primary) p new none done = absurd done
 
   -- locks that nothing stands against are granted
   grants : (owner : Owner) (locks : Marks) (k : LockKind) → first_refusal (grant_rows old scene owner locks k) ≡ None → IsLockList old.locks → IsLockList (granted old.locks owner locks k)
@@ -273,13 +275,13 @@ module _ (told : Option DatabaseImage) (old : Served) (scene : Scene) (sized : 0
   leaves node (op.Lookup name) p new none done = on-file (file_named old.name name) _ p new (λ f d. replied p _ old new refl refl (λ l. l) d) done
   leaves node op.Forget p new none done = record {
     position = ap (λ (s : Served). s.position) done.1;
-    rests = subst (λ (q : Plan). Rests scene.page_size scene.commit old q new) (sym done.0) (ap waits done.1 ∙ idle);
+    rests = subst (λ (q : Plan). Rests scene.page_size scene.commit old q new) (sym done.0) (ap waits done.1);
     locks = λ list. subst (λ (s : Served). IsLockList s.locks) (sym done.1) list;
   }
   leaves node op.Getattr p new none done = replied p _ old new refl refl (λ l. l) done
   leaves node (op.Setattr None given) p new none done = replied p _ old new refl refl (λ l. l) done
-  leaves node (op.Setattr (Some len) given) p new none done = resized node (file_at node) len p new done
-  leaves node (op.Unlink name) p new none done = unlinked (file_named old.name name) p new done
+  leaves node (op.Setattr (Some len) given) p new none done = resized node (file_at node) given len p new (size-allowed old scene node given len none) done
+  leaves node (op.Unlink name) p new none done = unlinked (file_named old.name name) p new (unlink-allowed old scene node name none) done
   leaves node op.Open p new none done =
       on-file (file_at node) _ p new (λ f d. replied p _ _ new refl refl (λ l. l) (record { reply = d.1.reply; files_are = d.1.opened.state })) done
   leaves node (op.Read fh place size given) p new none done = on-file (file_at node) _ p new (λ f d. replied p _ old new refl refl (λ l. l) d.1.reply) done

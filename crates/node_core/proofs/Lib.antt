@@ -5,6 +5,7 @@ pub mod Facts
 pub mod Overlay
 pub mod Sound
 pub mod Endings
+pub mod Waiting
 pub mod Deciding
 pub mod Expired
 pub mod OneAsk
@@ -13,6 +14,7 @@ pub mod Noted
 mod HoldingRows
 mod PermitRows
 mod ImportRows
+mod SentRows
 pub mod Opened
 pub mod Dropped
 pub mod Steady
@@ -33,4 +35,6 @@ pub mod Looked
 pub mod Encodings
 pub mod Lookups
 pub mod Imported
+pub mod Halted
+pub mod Replied
 pub mod Alone

@@ -28,6 +28,7 @@ use Rattle.node_core.specs.Nodes.{NodeParts, role_in, seen, served_over}
 use Rattle.node_core.specs.Roles.{law_role}
 use Rattle.node_core.specs.Safely.{StepsSafely}
 use Rattle.node_core.specs.Stores.{StoreFields, failed, state}
+use Rattle.node_core.specs.Waiting.{file_sent}
 use Rattle.node_core.proofs.Sound.{sound}
 
 -- what the store's fields and its disk say of how it was looked into
@@ -90,6 +91,7 @@ module _ (start mid : History) (old : NodeParts) (looked : IsLookedAt start old.
   tells-since (answers.Done reply) new tells = tells
   tells-since answers.Quiet new tells = tells
   tells-since (answers.Pass pass) new tells = tells
+  tells-since (answers.Send number ltx) new tells = tells
   tells-since (answers.Refuse number) new tells = tells
   tells-since (answers.At here) new tells = tells
   tells-since (answers.Applied here) new tells = tells
@@ -123,7 +125,7 @@ seen-since start mid old between same broken is = λ i. record {
   failed = broken i;
   faults = (is i).store.faults;
   role = law_role (role_in (is i));
-  waits = None;
+  waits = file_sent (is i).sent;
   served = served_over (is i).files (same i).image;
 }
 

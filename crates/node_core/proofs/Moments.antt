@@ -22,3 +22,4 @@ last_stands first last (ask.HaltBack before number) = refl
 last_stands first last (ask.Forward before number bytes) = refl
 last_stands first last (ask.HaltGot before pass) = refl
 last_stands first last (ask.HaltLost number) = refl
+last_stands first last (ask.Forwarded ok) = refl

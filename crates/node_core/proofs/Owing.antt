@@ -7,8 +7,6 @@ use Rattle.std.proofs.lemmas.List.{get_or_default, get_or-map, length-map}
 use Rattle.lf_base.specs.declared.pos.Pos.{Pos}
 use Rattle.lf_disk.specs.Folder.{Folder}
 use Rattle.lf_disk.specs.History.{History}
-use Rattle.lf_sqlite_pages.specs.Change.{AscendsAbove}
-use Rattle.lf_sqlite_pages.specs.declared.page_write.PageWrite.{PageWrite}
 use Rattle.ltx_codec.specs.Fields.{AreBytes}
 use Rattle.ltx_codec.specs.FileIn.{file_in}
 use Rattle.ltx_codec.specs.Format.{IsFile, IsLtx, file_encoding, no_meaning}
@@ -33,14 +31,7 @@ use Rattle.world_laws.specs.Store.{at, end_of}
 use Rattle.world_laws.proofs.Stores.{end_of-none}
 use Rattle.node_core.specs.Hello.{IsOwed, WantsFile}
 use Rattle.node_core.specs.Stores.{StoreFields, position, state}
-
-AscendsAbove-prop : (number : ℕ) (pages : List PageWrite) → IsProp (AscendsAbove number pages)
-AscendsAbove-prop number [] = hlevel props
-AscendsAbove-prop number (w ∷ ws) = hlevel (props, AscendsAbove-prop w.number ws)
-
--- that a value is a file is a proposition
-IsFile-prop : (file : Ltx) → IsProp (IsFile file)
-IsFile-prop file = hlevel (props, AscendsAbove-prop)
+use Rattle.node_core.specs.Waiting.{IsFile-prop}
 
 -- a position is this one or another
 cases_nowhere : (p : Pos) → (p ≡ nowhere) ⊎ (p ≢ nowhere)

@@ -23,6 +23,7 @@ use Rattle.node_core.specs.Errors.{errno_of_store}
 use Rattle.node_core.specs.Files.{IsPlanned}
 use Rattle.node_core.specs.Locking.{commit_refusal}
 use Rattle.node_core.specs.Nodes.{NodeParts}
+use Rattle.node_core.specs.Roles.{write_permit}
 use Rattle.node_core.specs.Stores.{IsRead, StoreFields, failed, position, state}
 
 -- how many files of the log are kept; a retention of 0 stands for 1
@@ -81,12 +82,14 @@ pub record IsNotCommitted (start : History) (old : NodeParts) (caller : ℕ) (re
   pub shape : (new.store.page_size ≡ old.store.page_size) × (new.store.commit ≡ old.store.commit) × (position new.store ≡ position old.store)
   pub same : new ≡ record old { store = new.store }
 
--- the node has no leave to commit: the request has changed nothing in the files, and the store was not asked
+-- the node has no leave to commit, and no permit to send the commit under: the request has changed nothing in the files, and the store
+-- was not asked
 pub record IsNotLeft (start : History) (old : NodeParts) (caller : ℕ) (request : Request) (number : Errno) (end : History) (new : NodeParts) : Type 0 where
   pub reply : Reply
   pub change : PageChange
   pub waiting : Served
   pub planned : IsPlanned start old caller request (plan.Commit reply change) waiting
   pub refused : commit_refusal old.standing ≡ Some number
+  pub alone : write_permit old.standing ≡ None
   pub read : IsRead start old.store end new.store
   pub same : new ≡ record old { store = new.store }

@@ -14,11 +14,8 @@ use Rattle.file_view.specs.Refusal.{IsAllowed, Row, first_refusal}
 use Rattle.file_view.specs.Requests.{rows_of, scene_of}
 use Rattle.file_view.specs.Served.{Served}
 use Rattle.node_core.specs.Nodes.{NodeParts, role_in}
-use Rattle.node_core.specs.Stores.{StoreFields, state}
-
--- the committed image, where the disk tells it
-abbrev pub told : History → StoreFields → Option DatabaseImage
-told h s = if s.honest then Some (state h s).image else None
+use Rattle.node_core.specs.Stores.{StoreFields}
+pub use Rattle.node_core.specs.Stores.{told}
 
 -- who asks, what the node is, the shape of the committed image, and whether the store is broken
 abbrev pub scene : NodeParts → ℕ → Scene

@@ -27,8 +27,9 @@ use Rattle.node_core.specs.Framing.{RefusesBytes, Stands}
 use Rattle.node_core.specs.Nodes.{NodeParts, role_in}
 use Rattle.node_core.specs.Roles.{permits_of}
 use Rattle.node_core.specs.Stores.{StoreFields, failed, position, state}
+use Rattle.node_core.specs.Waiting.{overtaken}
 
--- what the store answers
+-- what the store answers that is asked to take a file which follows its position
 abbrev pub Accepts : StoreFields → Ltx → Result Pos StoreFault → Type 0
 Accepts old file result = Applies old.broken (position old) old.page_size old.commit old.sums file result
 
@@ -44,7 +45,7 @@ pub record AcceptsStore (start : History) (old : StoreFields) (file : Ltx) (resu
 pub record IsAccepted (start : History) (old : NodeParts) (file : Ltx) (end : History) (new : NodeParts) : Type 0 where
   pub free : IsFree old
   pub store : AcceptsStore start old.store file (Ok (after file)) end new.store
-  pub same : new ≡ record old { store = new.store; files = record (applied old.files file.header.page_size file.header.commit) { position = after file } }
+  pub same : new ≡ record old { store = new.store; files = record (applied old.files file.header.page_size file.header.commit) { position = after file }; sent = overtaken old.sent }
 
 -- the store refused or its disk failed: the files are as before
 pub record IsNotAccepted (start : History) (old : NodeParts) (file : Ltx) (why : StoreFault) (end : History) (new : NodeParts) : Type 0 where

@@ -22,6 +22,7 @@ use Rattle.node_core.specs.Calls.{Changes}
 use Rattle.node_core.specs.Dropping.{IsFree, IsUntouched}
 use Rattle.node_core.specs.Nodes.{NodeParts, role_in}
 use Rattle.node_core.specs.Stores.{StoreFields, failed, position, state}
+use Rattle.node_core.specs.Waiting.{overtaken}
 
 -- what the store answers: it installs a snapshot, and applies any other file
 abbrev pub Takes : StoreFields → Ltx → Result Pos StoreFault → Type 0
@@ -46,7 +47,7 @@ pub record TakesStore (start : History) (old : StoreFields) (file : Ltx) (result
 pub record IsTaken (start : History) (old : NodeParts) (file : Ltx) (end : History) (new : NodeParts) : Type 0 where
   pub free : IsFree old
   pub store : TakesStore start old.store file (Ok (after file)) end new.store
-  pub same : new ≡ record old { store = new.store; files = record (applied old.files file.header.page_size file.header.commit) { position = after file } }
+  pub same : new ≡ record old { store = new.store; files = record (applied old.files file.header.page_size file.header.commit) { position = after file }; sent = overtaken old.sent }
 
 -- the store refused or its disk failed: the files are as before
 pub record IsNotTaken (start : History) (old : NodeParts) (file : Ltx) (why : StoreFault) (end : History) (new : NodeParts) : Type 0 where

@@ -27,6 +27,7 @@ use Rattle.node_core.specs.Hello.{IsLookedInto}
 use Rattle.node_core.specs.Nodes.{NodeParts, role_in}
 use Rattle.node_core.specs.Roles.{permit_out}
 use Rattle.node_core.specs.Stores.{OnlyRead, StoreFields, failed, position, state}
+use Rattle.node_core.specs.Waiting.{overtaken}
 
 -- the store was compared with the bytes, with this result, and nothing else was done: they are no database, or past the limit; the
 -- store is broken, or its disk didn't give a page; or memory is wanting
@@ -62,7 +63,7 @@ pub record CommitsAlone (start : History) (old : NodeParts) (change : PageChange
 pub record IsReplaced (start : History) (old : NodeParts) (change : PageChange) (told : Pos) (end : History) (new : NodeParts) : Type 0 where
   pub store : CommitsAlone start old change (Ok told) end new.store
   pub shape : (new.store.page_size ≡ change.page_size) × (new.store.commit ≡ change.commit) × (position new.store ≡ told)
-  pub same : new ≡ record old { store = new.store; files = record (applied old.files change.page_size change.commit) { position = told } }
+  pub same : new ≡ record old { store = new.store; files = record (applied old.files change.page_size change.commit) { position = told }; sent = overtaken old.sent }
 
 -- the store refused or its disk failed: the files are as before
 pub record IsKept (start : History) (old : NodeParts) (change : PageChange) (why : StoreFault) (end : History) (new : NodeParts) : Type 0 where

@@ -1,6 +1,7 @@
 pub mod Roles
 pub mod Moments
 pub mod Stores
+pub mod Waiting
 pub mod Nodes
 pub mod Errors
 pub mod Calls
@@ -10,12 +11,14 @@ pub mod HoldingBack
 pub mod Locking
 pub mod Unlinking
 pub mod Committing
+pub mod Sending
 pub mod Serving
 pub mod Hello
 pub mod Pruning
 pub mod Dropping
 pub mod Framing
 pub mod Forwarding
+pub mod Replying
 pub mod Exporting
 pub mod Importing
 pub mod Opening

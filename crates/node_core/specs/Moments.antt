@@ -21,3 +21,4 @@ ask_at now (ask.HaltBack before number) = ask.HaltBack now number
 ask_at now (ask.Forward before number bytes) = ask.Forward now number bytes
 ask_at now (ask.HaltGot before pass) = ask.HaltGot now pass
 ask_at now (ask.HaltLost number) = ask.HaltLost number
+ask_at now (ask.Forwarded ok) = ask.Forwarded ok

@@ -20,18 +20,22 @@ use Rattle.world_laws.specs.Served as laws
 use Rattle.node_core.specs.declared.config.NodeConfig.{NodeConfig}
 use Rattle.node_core.specs.declared.held_back.HeldBack.{HeldBack}
 use Rattle.node_core.specs.declared.node.Node.{Node}
+use Rattle.node_core.specs.declared.sent.Sent.{Sent}
 use Rattle.node_core.specs.declared.standing.Standing.{Standing}
 use Rattle.node_core.specs.Roles.{files_at, in_force, law_role, role_of}
 use Rattle.node_core.specs.Stores.{StoreFields, failed, fields_of, history_of, said_of, state}
+use Rattle.node_core.specs.Waiting.{file_sent}
 
 -- a node at one moment: the served files, with the position and the primary's host as they were given; its store; what it was
--- given of itself; what it believes of its lease, with the greatest moment that it was given; and since when frames are held back
+-- given of itself; what it believes of its lease, with the greatest moment that it was given; since when frames are held back; and the
+-- commit that waits for the primary's reply
 pub record NodeParts : Type 0 where
   pub files : Served
   pub store : StoreFields
   pub config : NodeConfig
   pub standing : Standing
   pub held : Option HeldBack
+  pub sent : Option Sent
 
 -- what it is in its cluster at that moment
 abbrev pub role_in : NodeParts → Role
@@ -48,7 +52,7 @@ at_moment n now = stands (record n.standing { moment = max n.standing.moment now
 
 module _ {D : Type 0} {G : Ghosts D} where
   abbrev pub parts_of : Node D G → NodeParts
-  parts_of n = record { files = n.view; store = fields_of n.store; config = n.config; standing = n.standing; held = n.held }
+  parts_of n = record { files = n.view; store = fields_of n.store; config = n.config; standing = n.standing; held = n.held; sent = n.sent }
 
   abbrev pub store_of : Node D G → Store D G
   store_of n = n.store
@@ -95,6 +99,6 @@ seen h n = record {
   failed = failed h n.store;
   faults = n.store.faults;
   role = law_role (role_in n);
-  waits = None;
+  waits = file_sent n.sent;
   served = served_over n.files (state h n.store).image;
 }

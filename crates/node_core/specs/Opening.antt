@@ -28,7 +28,7 @@ no_permits ttl = record { ttl = ttl; moment = 0; given = 0; last = None }
 abbrev pub first_standing : NodeConfig → Standing
 first_standing config = record { belief = first_belief config.candidate; moment = 0; pass = None; permits = no_permits config.halt_ttl }
 
--- nobody was at the files, which tell where the store stands and who the primary is; no frame was held back
+-- nobody was at the files, which tell where the store stands and who the primary is; no frame was held back, and nothing was sent
 abbrev pub opened : StoreFields → NodeConfig → NodeParts
 opened store config = record {
   files = record (new_view config.name) { position = position store; host = host_in config.primary_host };
@@ -36,6 +36,7 @@ opened store config = record {
   config = config;
   standing = first_standing config;
   held = None;
+  sent = None;
 }
 
 -- the cluster sees it so: nothing waits, and nobody has used the files

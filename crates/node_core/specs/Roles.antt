@@ -44,6 +44,15 @@ out_by role.Halted out = None
 abbrev pub permit_out : Standing → Option HaltPass
 permit_out standing = out_by (role_of standing) (pass_out (permits_of standing))
 
+-- the permit that a halted node writes under
+abbrev pub held_by : Role → Option HaltPass → Option HaltPass
+held_by role.Primary pass = None
+held_by role.Replica pass = None
+held_by role.Halted pass = pass
+
+abbrev pub write_permit : Standing → Option HaltPass
+write_permit standing = held_by (role_of standing) (unless_ended standing.moment standing.pass)
+
 abbrev pub is_halted : Role → Bool
 is_halted role.Primary = false
 is_halted role.Replica = false

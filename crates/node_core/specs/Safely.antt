@@ -48,6 +48,7 @@ IsAskOf (asks.HaltBack now number) law = law ≡ laws.Permit
 IsAskOf (asks.Forward now number bytes) law = IsForwardOf bytes law
 IsAskOf (asks.HaltGot now pass) law = law ≡ laws.Permit
 IsAskOf (asks.HaltLost number) law = law ≡ laws.Permit
+IsAskOf (asks.Forwarded ok) law = law ≡ laws.Forwarded ok
 
 -- each is one
 abbrev pub EachIsAnAsk : Type 0
@@ -85,6 +86,7 @@ law_answer (answers.Same position) = laws.Done
 law_answer (answers.Held lock) = laws.Held lock
 law_answer (answers.Pruned count) = laws.Done
 law_answer (answers.Pass pass) = laws.Done
+law_answer (answers.Send number ltx) = laws.Send (file_in ltx)
 law_answer (answers.Bytes bytes) = laws.Done
 law_answer (answers.Info info) = laws.Done
 law_answer (answers.Refused why) = laws.Refused (law_refusal why)

@@ -1,5 +1,5 @@
 -- A request on the served files: the files' rules decide, by the caller, the node's role and whether its store is broken; what a
--- request commits is committed by the store.
+-- request commits is committed by the store; at a halted node it is sent to the primary.
 use Rattle.std.specs.Prelude.{◌≡◌, ◌⊎◌, ℕ, Option}
 use Rattle.lf_base.specs.declared.errno.Errno.{Errno}
 use Rattle.fuse_msgs.specs.declared.request.Request.{Request}
@@ -15,6 +15,7 @@ use Rattle.node_core.specs.Committing.{IsCommitted, IsNotCommitted, IsNotLeft}
 use Rattle.node_core.specs.Errors.{errno_of_view}
 use Rattle.node_core.specs.Files.{IsPlanned, RefusesBy, scene}
 use Rattle.node_core.specs.Nodes.{NodeParts}
+use Rattle.node_core.specs.Sending.{IsNotSent, IsSent}
 use Rattle.node_core.specs.Stores.{IsRead}
 
 -- the request is done, and commits nothing; of the store pages were read
@@ -38,5 +39,6 @@ ServesFiles start old caller request (answers.Done reply) end new said =
 ServesFiles start old caller request answers.Quiet end new said = IsServed start old caller request plan.Silent end new
 ServesFiles start old caller request (answers.Refuse number) end new said =
     IsRefused start old caller request number end new ⊎ IsNotCommitted start old caller request number end new said
-    ⊎ IsNotLeft start old caller request number end new
+    ⊎ IsNotLeft start old caller request number end new ⊎ IsNotSent start old caller request number end new said
+ServesFiles start old caller request (answers.Send number ltx) end new said = IsSent start old caller request number ltx end new
 ServesFiles start old caller request answer end new said = ⊥

@@ -23,6 +23,7 @@ use Rattle.node_core.specs.Locking.{is_barred}
 use Rattle.node_core.specs.Nodes.{NodeParts, at_moment, role_in, seen}
 use Rattle.node_core.specs.Permitting.{AnswersHaltAsk, AnswersHaltBack, GetsPermit, LosesPermit}
 use Rattle.node_core.specs.Pruning.{AnswersPrune}
+use Rattle.node_core.specs.Replying.{AnswersForwarded, without_session}
 use Rattle.node_core.specs.Roles.{law_role}
 use Rattle.node_core.specs.Safely.{IsAskOf, StepsSafely, law_answer}
 use Rattle.node_core.specs.Serving.{ServesFiles}
@@ -49,10 +50,14 @@ pub record AnswersNoted (Answers : NodeParts → Type 0) (answer : Answer) (new 
   pub answers : Answers between
   pub noted : new ≡ noted answer between
 
--- a session's end takes its handles and its locks, and what goes with these
+-- the served files of a node where a session ends
+abbrev pub ended_in : ℕ → NodeParts → NodeParts
+ended_in caller n = record n { files = ended n.files caller }
+
+-- a session's end takes its handles and its locks, and what goes with these. What was sent of it is given up first
 pub record EndsSession (start : History) (old : NodeParts) (caller : ℕ) (answer : Answer) (end : History) (new : NodeParts) : Type 0 where
   pub quiet : answer ≡ answers.Quiet
-  pub files : new ≡ record old { files = ended old.files caller }
+  pub files : new ≡ ended_in caller (without_session caller old)
   pub rests : OnlyRead start end
 
 -- what each ask does, over any disk, where the system said this at the disk's call that failed last
@@ -73,6 +78,7 @@ Does start old caller (asks.HaltBack now number) answer end new said = AnswersHa
 Does start old caller (asks.Forward now number bytes) answer end new said = AnswersForward start (at_moment old now) number bytes answer end new
 Does start old caller (asks.HaltGot now pass) answer end new said = GetsPermit start (at_moment old now) pass answer end new
 Does start old caller (asks.HaltLost number) answer end new said = LosesPermit start old number answer end new
+Does start old caller (asks.Forwarded ok) answer end new said = AnswersForwarded old.sent ok start old answer end new said
 
 -- the node at the moment of an ask, where one comes with it
 abbrev pub at_ask : NodeParts → Ask → NodeParts

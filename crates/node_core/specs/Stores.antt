@@ -1,8 +1,9 @@
 -- A store as a node's words see it: its fields, and the disk's history beside them.
-use Rattle.std.specs.Prelude.{◌≡◌, ◌≤◌, false, IsTrue, [], Option}
+use Rattle.std.specs.Prelude.{◌≡◌, ◌≤◌, false, IsTrue, [], Option, Some, None, if◌then◌else◌}
 use Rattle.lf_base.specs.declared.errno.Errno.{Errno}
 use Rattle.lf_disk.specs.declared.disk.Disk.{Ghosts}
 use Rattle.lf_disk.specs.History.{History, Rests}
+use Rattle.lf_sqlite_pages.specs.Image.{DatabaseImage}
 use Rattle.txn_log.specs.declared.store.Store.{Store}
 use Rattle.txn_log.specs.declared.attempt.Attempt.TheVariants.{Unpublished}
 pub use Rattle.txn_log.specs.Fields.{StoreFields, fields_of, history_of, state, failed, position}
@@ -11,6 +12,10 @@ module _ {D : Type 0} {G : Ghosts D} where
   -- what the system said at its disk's call that failed last
   abbrev pub said_of : Store D G → Option Errno
   said_of s = G.error s.disk
+
+-- the committed image, where the disk tells it
+abbrev pub told : History → StoreFields → Option DatabaseImage
+told h s = if s.honest then Some (state h s).image else None
 
 -- of no store
 abbrev pub no_fields : StoreFields

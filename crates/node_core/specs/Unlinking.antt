@@ -25,6 +25,7 @@ use Rattle.node_core.specs.Errors.{errno_of_store}
 use Rattle.node_core.specs.Nodes.{NodeParts, role_in}
 use Rattle.node_core.specs.Roles.{is_halted, permit_out}
 use Rattle.node_core.specs.Stores.{OnlyRead, StoreFields, failed, position, state}
+use Rattle.node_core.specs.Waiting.{overtaken}
 
 -- whether an operation unlinks this name
 abbrev pub unlinks : List ℕ → Op → Bool
@@ -56,7 +57,7 @@ pub record DropsStore {T : Type 0} (start : History) (old : StoreFields) (result
 pub record IsDropped {T : Type 0} (start : History) (old : NodeParts) (result : Result T StoreFault) (end : History) (new : NodeParts) : Type 0 where
   pub drops : DropsStore start old.store result end new.store
   pub empty : (new.store.page_size ≡ 0) × (new.store.commit ≡ 0) × (new.store.entries ≡ [])
-  pub same : new ≡ record old { store = new.store; files = record (applied old.files 0 0) { position = nowhere } }
+  pub same : new ≡ record old { store = new.store; files = record (applied old.files 0 0) { position = nowhere }; sent = overtaken old.sent }
 
 -- the store refused or its disk failed: the files are as before
 pub record IsNotDropped {T : Type 0} (start : History) (old : NodeParts) (result : Result T StoreFault) (end : History) (new : NodeParts) : Type 0 where

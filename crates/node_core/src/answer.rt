@@ -35,6 +35,9 @@ pub enum Answer {
     Bytes(Bytes),
     /// What the node is, and where it stands.
     Info(NodeInfo),
+    /// This LTX file is to be sent to the primary, under the write permit of this number. The request
+    /// waits for the reply.
+    Send { number: u64, ltx: Bytes },
     /// This write permit is given out.
     Pass(HaltPass),
     /// It is refused.

@@ -79,6 +79,10 @@ pub enum Ask {
     HaltLost {
         number: u64,
     },
+    /// The primary answered the commit that was sent: it is committed there, or not.
+    Forwarded {
+        ok: bool,
+    },
 }
 
 impl Ask {
@@ -98,8 +102,12 @@ impl Ask {
             Ask::HaltBack { now, .. } => *now = moment,
             Ask::Forward { now, .. } => *now = moment,
             Ask::HaltGot { now, .. } => *now = moment,
-            Ask::EndSession | Ask::Where | Ask::Export | Ask::Prune { .. } | Ask::HaltLost { .. } =>
-                {}
+            Ask::EndSession
+            | Ask::Where
+            | Ask::Export
+            | Ask::Prune { .. }
+            | Ask::HaltLost { .. }
+            | Ask::Forwarded { .. } => {}
         }
     }
 }

@@ -10,6 +10,7 @@ use crate::answer::Answer;
 use crate::ask::Ask;
 use crate::node::Node;
 use crate::refusal::{Refusal, refusal_of};
+use crate::sent::overtake;
 use lf_base::Pos;
 use lf_disk::Disk;
 use world_laws::moment_is_of_step;
@@ -39,6 +40,7 @@ impl<D: Disk> Node<D> {
             Ok(()) => {
                 self.view.applied(0, 0);
                 self.view.told_position(self.store.pos());
+                overtake(&mut self.sent);
                 Answer::Applied(NOWHERE)
             }
             Err(fault) => Answer::Refused(refusal_of(fault)),

@@ -9,7 +9,7 @@ use txn_log::StoreFault;
 
 pub const EPERM: Errno = Errno(1);
 
-const EIO: Errno = Errno(5);
+pub const EIO: Errno = Errno(5);
 
 pub const EAGAIN: Errno = Errno(11);
 

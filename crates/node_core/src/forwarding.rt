@@ -21,6 +21,7 @@ use crate::ask::Ask;
 use crate::node::Node;
 use crate::octets::are_bytes;
 use crate::refusal::{Refusal, refusal_of, refusal_of_encoding};
+use crate::sent::overtake;
 use halt_forward::HaltFault;
 use lf_base::{Bytes, Pos};
 use lf_disk::Disk;
@@ -29,7 +30,7 @@ use txn_log::{Store, StoreFault};
 use world_laws::moment_is_of_step;
 
 /// Whether a file follows a position.
-fn follows(file: &Ltx, have: Pos) -> bool
+pub(crate) fn follows(file: &Ltx, have: Pos) -> bool
     requires { IsFile file.now }
     ensures { MatchBool result (before file.now ≡ have) (before file.now ≢ have) }
 {
@@ -68,6 +69,7 @@ impl<D: Disk> Node<D> {
             Ok(position) => {
                 self.view.applied(self.store.page_size, self.store.commit);
                 self.view.told_position(self.store.pos());
+                overtake(&mut self.sent);
                 Answer::Applied(position)
             }
             Err(fault) => Answer::Refused(refusal_of(fault)),

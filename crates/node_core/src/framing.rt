@@ -18,6 +18,7 @@ use crate::ask::Ask;
 use crate::node::Node;
 use crate::octets::are_bytes;
 use crate::refusal::{Refusal, refusal_of, refusal_of_encoding};
+use crate::sent::overtake;
 use lf_base::{Bytes, Pos};
 use lf_disk::Disk;
 use ltx_codec::{Ltx, decode, encoding_breaks_no_rule, file_is_read};
@@ -59,6 +60,7 @@ impl<D: Disk> Node<D> {
             Ok(position) => {
                 self.view.applied(self.store.page_size, self.store.commit);
                 self.view.told_position(self.store.pos());
+                overtake(&mut self.sent);
                 Answer::Applied(position)
             }
             Err(fault) => Answer::Refused(refusal_of(fault)),

@@ -12,6 +12,7 @@ use crate::answer::Answer;
 use crate::ask::Ask;
 use crate::node::Node;
 use crate::refusal::{Refusal, refusal_of, refusal_of_import};
+use crate::sent::overtake;
 use halt_forward::HaltFault;
 use lf_base::Bytes;
 use lf_disk::Disk;
@@ -37,6 +38,7 @@ impl<D: Disk> Node<D> {
             Ok(position) => {
                 self.view.applied(self.store.page_size, self.store.commit);
                 self.view.told_position(position);
+                overtake(&mut self.sent);
                 Answer::Applied(position)
             }
             Err(fault) => Answer::Refused(refusal_of(fault)),

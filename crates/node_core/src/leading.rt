@@ -38,6 +38,7 @@ impl<D: Disk> Node<D> {
         ensures parts { parts_of self.new ≡ stands standing (parts_of self.old) }
         ensures store { self.new.store ≡ self.old.store }
     {
+        self.view.sound();
         standing.settle(&mut self.view);
         self.standing = standing.in_force();
     }

@@ -64,6 +64,7 @@ impl<D: Disk> Node<D> {
     {
         match host_in(host) {
             Ok(name) => {
+                self.view.sound();
                 self.view.told(self.store.pos(), name);
                 Answer::Quiet
             }

@@ -134,7 +134,8 @@ pub fn prepare<D: Disk>(
     ensures done { IfOk result (λ plan. IsDone (told (history_of store.old) (fields_of store.old)) view.old
         (scene_of caller (role_of standing.now) store.old.page_size store.old.commit store.old.broken) request.now plan view.new) }
     ensures allowed { OnOk result (IsAllowed (rows_of view.old (scene_of caller (role_of standing.now) store.old.page_size store.old.commit store.old.broken) request.now)) }
-    ensures cause { IfErr result (RefusesBy (needs_of view.old request.now) (rows_of view.old (scene_of caller (role_of standing.now) store.old.page_size store.old.commit store.old.broken) request.now)
+    ensures cause { IfErr result (RefusesBy (needs_of view.old request.now) (rows_of view.old
+        (scene_of caller (role_of standing.now) store.old.page_size store.old.commit store.old.broken) request.now)
         (fields_of store.old) (fields_of store.new)) }
     ensures err { OnErr result (view.new ≡ view.old) }
     ensures name { view.new.name ≡ view.old.name }

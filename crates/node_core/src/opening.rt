@@ -75,6 +75,7 @@ impl<D: Disk> Node<D> {
                     config,
                     standing,
                     held: None,
+                    sent: None,
                 })
             }
             Err(want) => Err((want, store)),

@@ -1,8 +1,9 @@
 //! A request on the served files.
-ghost use Rattle.std.specs.Prelude.{◌≡◌, ◌||◌, IsTrue};
+ghost use Rattle.std.specs.Prelude.{◌≡◌, ◌||◌, IsTrue, None};
 ghost use Rattle.node_core.specs.HoldingBack.{is_kept_out};
 ghost use Rattle.node_core.specs.Locking.{is_barred};
 ghost use Rattle.node_core.specs.Nodes.{history, parts_of, said_to, seen};
+ghost use Rattle.node_core.specs.Roles.{write_permit};
 ghost use Rattle.node_core.specs.Safely.{StepsSafely, law_answer};
 ghost use Rattle.node_core.specs.Serving.{ServesFiles};
 ghost use Rattle.node_core.specs.Steps.{AnswersFile, IsStep};
@@ -20,8 +21,9 @@ use lf_disk::Disk;
 use world_laws::moment_is_of_step;
 
 impl<D: Disk> Node<D> {
-    /// Answers a request by the files' rules.
+    /// Answers a request by the files' rules, at a node that has no permit to write under.
     fn serve(&mut self, caller: u64, request: &Request) -> Answer
+        requires { write_permit self.old.standing ≡ None }
         ensures does { ServesFiles (history self.old) (parts_of self.old) caller request.now result (history self.new) (parts_of self.new) (said_to self.new) }
         ensures safe { IsTrue (D.honest self.old.store.disk) → StepsSafely (seen (history self.old) (parts_of self.old)) laws.File
             (law_answer result) (seen (history self.new) (parts_of self.new)) (history self.old) (history self.new) }
@@ -29,6 +31,7 @@ impl<D: Disk> Node<D> {
         ensures honest { D.honest self.new.store.disk ≡ D.honest self.old.store.disk }
     {
         replica_requests_leave_the_database();
+        self.view.sound();
         match prepare(
             &mut self.store,
             &mut self.view,
@@ -64,6 +67,20 @@ impl<D: Disk> Node<D> {
         }
     }
 
+    /// Answers a request by the files' rules: what it commits is committed, or sent.
+    fn serve_files(&mut self, caller: u64, request: &Request) -> Answer
+        ensures does { ServesFiles (history self.old) (parts_of self.old) caller request.now result (history self.new) (parts_of self.new) (said_to self.new) }
+        ensures safe { IsTrue (D.honest self.old.store.disk) → StepsSafely (seen (history self.old) (parts_of self.old)) laws.File
+            (law_answer result) (seen (history self.new) (parts_of self.new)) (history self.old) (history self.new) }
+        ensures standing { self.new.standing ≡ self.old.standing }
+        ensures honest { D.honest self.new.store.disk ≡ D.honest self.old.store.disk }
+    {
+        match self.standing.write_permit() {
+            Some(pass) => self.serve_halted(caller, pass, request),
+            None => self.serve(caller, request),
+        }
+    }
+
     /// Whether a request is to be asked again: of a new reader while a frame is held back, or of a
     /// writer while a permit is out.
     fn is_put_off(&self, caller: u64, request: &Request) -> bool
@@ -87,7 +104,7 @@ impl<D: Disk> Node<D> {
         } else if self.is_put_off(caller, request) {
             Answer::Refuse(EAGAIN)
         } else {
-            self.serve(caller, request)
+            self.serve_files(caller, request)
         }
     }
 

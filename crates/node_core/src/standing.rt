@@ -1,6 +1,6 @@
 //! What a node is in its cluster.
 ghost use Rattle.std.specs.Prelude.{◌≡◌};
-ghost use Rattle.node_core.specs.Roles.{files_at, in_force, permit_out, permits_of, role_of};
+ghost use Rattle.node_core.specs.Roles.{files_at, in_force, permit_out, permits_of, role_of, write_permit};
 ghost use Rattle.halt_forward.specs.Permits.{pass_out, unless_ended, use_refusal};
 
 use file_view::{Role, View};
@@ -77,6 +77,16 @@ impl Standing {
         match self.role() {
             Role::Primary => self.given_out(),
             Role::Replica | Role::Halted => None,
+        }
+    }
+
+    /// The permit that it writes under: only a halted node has one.
+    pub(crate) fn write_permit(&self) -> Option<HaltPass>
+        ensures { result ≡ write_permit self.now }
+    {
+        match self.role() {
+            Role::Halted => self.pass_in_force(),
+            Role::Primary | Role::Replica => None,
         }
     }
 

@@ -16,6 +16,8 @@ impl<D: Disk> Node<D> {
     fn end_session(&mut self, caller: u64) -> Answer
         ensures step { IsStep (history self.old) (parts_of self.old) caller Ask.EndSession result (history self.new) (parts_of self.new) (said_to self.new) }
     {
+        self.give_up_of(caller);
+        self.view.sound();
         self.view.end_session(caller);
         Answer::Quiet
     }
@@ -57,6 +59,7 @@ impl<D: Disk> Machine for Node<D> {
             Ask::Forward { now, number, bytes } => self.answer_forward(*now, *number, bytes),
             Ask::HaltGot { now, pass } => self.answer_halt_got(*now, *pass),
             Ask::HaltLost { number } => self.lose_permit(*number),
+            Ask::Forwarded { ok } => self.answer_forwarded(*ok),
         }
     }
 

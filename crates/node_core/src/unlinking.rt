@@ -9,6 +9,7 @@ ghost use Rattle.world_laws.specs.Node as laws;
 use crate::answer::Answer;
 use crate::errno::{EAGAIN, EPERM, EROFS, errno_of_store};
 use crate::node::Node;
+use crate::sent::overtake;
 use file_view::Role;
 use fuse_msgs::{Op, Reply, Request};
 use lf_base::{Errno, Name};
@@ -71,6 +72,7 @@ impl<D: Disk> Node<D> {
             Ok(()) => {
                 self.view.applied(0, 0);
                 self.view.told_position(self.store.pos());
+                overtake(&mut self.sent);
                 Answer::Done(Reply::Empty)
             }
             Err(fault) => Answer::Refuse(errno_of_store(&self.store.disk, fault)),

@@ -7,9 +7,8 @@ use crate::folder::folder_differs;
 use crate::opening::open_node;
 use crate::scene::{Scene, Session};
 use crate::stage::Stage;
-use lf_base::{MemLink, pos_text};
+use lf_base::{Handles, MemLink, pos_text};
 use std::alloc::Global;
-use std::sync::Wait;
 
 /// For how many bytes more than the wanted replies a link has room.
 const ROOM: usize = 4_096;
@@ -21,7 +20,7 @@ fn link_of(alloc: Global, session: &Session) -> Result<MemLink, Fault> {
 }
 
 /// Plays one session, and says what differs.
-fn play_session<R: Wait + Copy>(
+fn play_session<R: Handles + Copy>(
     rt: R,
     alloc: Global,
     stage: &mut Stage,
@@ -35,7 +34,7 @@ fn play_session<R: Wait + Copy>(
 }
 
 /// Serves the client of a link, and says what became of its session.
-fn serve<R: Wait + Copy>(
+fn serve<R: Handles + Copy>(
     rt: R,
     alloc: Global,
     stage: &mut Stage,
@@ -53,7 +52,7 @@ fn serve<R: Wait + Copy>(
 }
 
 /// Plays the sessions of a scene, and says where they first differ.
-fn play_sessions<R: Wait + Copy>(
+fn play_sessions<R: Handles + Copy>(
     rt: R,
     alloc: Global,
     stage: &mut Stage,
@@ -69,7 +68,7 @@ fn play_sessions<R: Wait + Copy>(
 }
 
 /// Plays a scene, and says where it first differs.
-pub fn play<R: Wait + Copy>(
+pub fn play<R: Handles + Copy>(
     rt: R,
     alloc: Global,
     scene: &Scene,

@@ -3,7 +3,7 @@ ghost use Rattle.turn_desk.specs.Seats.{IsOf};
 
 use crate::fault::Fault;
 use file_session::serve_files;
-use lf_base::{FixedClock, MemDialer, MemLink, Name, NoPause, Pos, SessionEnd};
+use lf_base::{FixedClock, Handles, MemDialer, MemLink, Name, NoPause, Pos, SessionEnd};
 use lf_disk::MemDisk;
 use node_core::{Answer, Ask, Node};
 use std::alloc::Global;
@@ -27,7 +27,7 @@ impl Stage {
     }
 
     /// Serves the client of a link by a seat of its own.
-    pub fn serve<R: Wait + Copy>(
+    pub fn serve<R: Handles + Copy>(
         &mut self,
         rt: R,
         alloc: Global,
@@ -62,8 +62,17 @@ impl Stage {
     }
 }
 
+/// The name of the database, and a dialer that reaches nobody.
+pub fn alone(alloc: Global) -> Result<(Name, MemDialer), Fault> {
+    let Ok(name) = Name::read(alloc, b"app") else {
+        return Err(Fault::NoMemory);
+    };
+    let dialer = MemDialer::new(alloc, Vec::new(alloc), 0, Vec::new(alloc))?;
+    Ok((name, dialer))
+}
+
 /// Serves the client of a link by a seat at a desk.
-fn serve_seat<R: Wait + Copy>(
+fn serve_seat<R: Handles + Copy>(
     rt: R,
     alloc: Global,
     desk: &Desk<Node<MemDisk>>,
@@ -73,10 +82,7 @@ fn serve_seat<R: Wait + Copy>(
 ) -> Result<SessionEnd, Fault>
     requires { IsOf seat.old desk.now }
 {
-    let Ok(name) = Name::read(alloc, b"app") else {
-        return Err(Fault::NoMemory);
-    };
-    let mut dialer = MemDialer::new(alloc, Vec::new(alloc), 0, Vec::new(alloc))?;
+    let (name, mut dialer) = alone(alloc)?;
     let mut clock = FixedClock::new(NOW);
     let mut pause = NoPause::new();
     Ok(serve_files(

@@ -9,7 +9,7 @@ use crate::flag::Flag;
 use crate::held_link::HeldLink;
 use crate::opening::open_node;
 use crate::scene::{Scene, Session};
-use crate::stage::NOW;
+use crate::stage::{NOW, alone};
 use file_session::serve_seat;
 use lf_base::{FixedClock, Handles, Link, MemLink, Pause, SessionEnd, SleepPause, Watch};
 use node_core::{Answer, Ask};
@@ -65,11 +65,24 @@ fn serve_client<R: Handles + Copy, K: Machine<Ask = Ask, Answer = Answer>, P: Pa
     seat: &mut Seat<K>,
     link: &mut impl Link,
     pause: &mut P,
-) -> SessionEnd
+) -> Result<SessionEnd, Fault>
     requires { IsOf seat.old desk.now }
 {
+    let (name, mut dialer) = alone(alloc)?;
     let mut clock = FixedClock::new(NOW);
-    serve_seat(rt, alloc, desk, seat, link, &mut clock, pause, TURNS)
+    Ok(serve_seat(
+        rt,
+        alloc,
+        desk,
+        seat,
+        &name,
+        3,
+        link,
+        &mut dialer,
+        &mut clock,
+        pause,
+        TURNS,
+    ))
 }
 
 /// Plays the client that has the lock first.
@@ -150,13 +163,13 @@ fn play_at_desk<R: Handles + Copy + Send, K: Machine<Ask = Ask, Answer = Answer>
 /// How what was served differs in one of the sessions.
 fn session_differs(
     watch: &Watch,
-    ended: SessionEnd,
+    ended: Result<SessionEnd, Fault>,
     number: usize,
     session: &Session,
 ) -> Result<Option<Difference>, Fault> {
     let replies = watch.bytes()?;
     let differs = replies_differ(&replies, number, session);
-    Ok(differs.or(end_differs(ended, number, session)))
+    Ok(differs.or(end_differs(ended?, number, session)))
 }
 
 fn link_of(alloc: Global, requests: &[u8]) -> Result<MemLink, Fault> {

@@ -45,6 +45,7 @@ fn place_in(answer: Answer) -> Result<Whereabouts, FollowEnd>
         | Answer::Same(_)
         | Answer::Held(_)
         | Answer::Pruned(_)
+        | Answer::Send { .. }
         | Answer::Pass(_)
         | Answer::Bytes(_)
         | Answer::Info(_) => Err(FollowEnd::OddAnswer),

@@ -140,7 +140,8 @@ fn follow_frames<S: Steps<Ask = Ask, Answer = Answer>, L: Link, C: Clock, P: Pau
     turns: &mut Turns,
 ) -> FollowEnd
     requires { (frames.old.stage ≡ stages.Open) × (frames.old.limit ≡ frame_limit) }
-    ensures frames { EndsFrames (asker S.Steps C.Clock steps.old clock.old) name.now (stand_with L.Link frames.old link.old (S.entries steps.old)) (stand L.Link link.new (S.entries steps.new)) turns.new result }
+    ensures frames { EndsFrames (asker S.Steps C.Clock steps.old clock.old) name.now (stand_with L.Link frames.old link.old (S.entries steps.old))
+        (stand L.Link link.new (S.entries steps.new)) turns.new result }
     ensures same { AsksOn S.Steps C.Clock steps.old steps.new clock.old clock.new }
     ensures spent { Uses {T = Unit {0}} turns.old (stand_with L.Link frames.old link.old (S.entries steps.old)) turns.new (stand L.Link link.new (S.entries steps.new)) (Err result) }
     ensures worn { result ≡ ends.Worn → S.is_worn steps.new }
@@ -164,9 +165,11 @@ fn follow_next<S: Steps<Ask = Ask, Answer = Answer>, L: Link, C: Clock, P: Pause
     turns: &mut Turns,
 ) -> Result<(), FollowEnd>
     requires { (frames.old.stage ≡ stages.Open) × (frames.old.limit ≡ frame_limit) }
-    ensures next { OnOk result (IsNext (asker S.Steps C.Clock steps.old clock.old) name.now (stand_with L.Link frames.old link.old (S.entries steps.old)).place (stand_with L.Link frames.new link.new (S.entries steps.new)).place × (L.faults link.new ≡ L.faults link.old)) }
+    ensures next { OnOk result (IsNext (asker S.Steps C.Clock steps.old clock.old) name.now (stand_with L.Link frames.old link.old (S.entries steps.old)).place
+        (stand_with L.Link frames.new link.new (S.entries steps.new)).place × (L.faults link.new ≡ L.faults link.old)) }
     ensures between { OnOk result ((frames.new.stage ≡ stages.Open) × (frames.new.limit ≡ frame_limit)) }
-    ensures stops { IfErr result (StopsAt (asker S.Steps C.Clock steps.old clock.old) name.now (stand_with L.Link frames.old link.old (S.entries steps.old)).place (L.faults link.old) (stand L.Link link.new (S.entries steps.new)) turns.new) }
+    ensures stops { IfErr result (StopsAt (asker S.Steps C.Clock steps.old clock.old) name.now (stand_with L.Link frames.old link.old (S.entries steps.old)).place
+        (L.faults link.old) (stand L.Link link.new (S.entries steps.new)) turns.new) }
     ensures within { OnOk result (reach frames.new turns.new < reach frames.old turns.old) }
     ensures same { AsksOn S.Steps C.Clock steps.old steps.new clock.old clock.new }
     ensures spent { Uses turns.old (stand L.Link link.old (S.entries steps.old)) turns.new (stand L.Link link.new (S.entries steps.new)) result }

@@ -105,6 +105,7 @@ fn said_by(answer: Answer) -> Result<(), FollowEnd>
         | Answer::Same(_)
         | Answer::Held(_)
         | Answer::Pruned(_)
+        | Answer::Send { .. }
         | Answer::Pass(_)
         | Answer::Bytes(_)
         | Answer::Info(_) => Err(FollowEnd::OddAnswer),

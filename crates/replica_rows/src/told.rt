@@ -50,6 +50,7 @@ pub fn told_by(alloc: Global, answer: &Answer) -> Told {
         Answer::Same(at) => Told::At("the same, at", *at),
         Answer::Held(lock) => Told::Held(*lock),
         Answer::Pruned(count) => Told::Pruned(*count),
+        Answer::Send { .. } => Told::Word("a commit to be sent"),
         Answer::Pass(_) => Told::Word("a write permit"),
         Answer::Bytes(_) => Told::Word("bytes"),
         Answer::Info(info) => Told::At("at", info.pos),

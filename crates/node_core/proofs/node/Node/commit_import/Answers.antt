@@ -14,16 +14,19 @@ use Rattle.node_core.specs.Committing.{file_of}
 use Rattle.node_core.specs.Importing.{AnswersChange}
 use Rattle.node_core.specs.Nodes.{NodeParts, parts_of, role_in, seen}
 use Rattle.node_core.specs.Safely.{law_answer}
-use Rattle.node_core.specs.Stores.{failed, fields_of, history_of, state}
+use Rattle.node_core.specs.Stores.{failed, fields_of, history_of, state, told}
 use Rattle.node_core.proofs.Asking.{called}
 use Rattle.node_core.proofs.Calls.{err-same}
 use Rattle.node_core.proofs.Dropped.{disk-rose}
-use Rattle.node_core.proofs.Endings.{applied-idle}
 use Rattle.node_core.proofs.Facts.{leading, ok_err}
 use Rattle.node_core.proofs.Following.{took-fits, took-over}
 use Rattle.node_core.proofs.Imported.{commit-changes, makes-import, refuses-change, sized-most}
 use Rattle.node_core.proofs.Refusing.{ran-undone}
 use Rattle.node_core.proofs.Sound.{leads, sound}
+use Rattle.node_core.specs.declared.sent.Sent.{Sent}
+use Rattle.node_core.specs.Waiting.{Waits}
+use Rattle.node_core.proofs.Waiting.{applied-waits, overtaken-some, waits-kept, waits-overtaken}
+use Rattle.std.specs.Prelude.{Option, is_some}
 use Rattle.node_core.proofs.node.Node.commit_import.Goals as goal
 
 pub applied-requires : goal.applied-requires
@@ -45,7 +48,13 @@ invariant_of-self g c =
       told = ap (λ (s : Served). s.position) is ∙ sym c.in-Ok.ensures.position;
       replica = λ not. ap (λ (s : Served). s.writer) is;
       alone = n.alone;
-      idle = ap waits is ∙ applied-idle n.view t.page_size t.commit n.idle;
+      idle = ap waits is ∙ applied-waits n.view t.page_size t.commit ∙ n.idle ∙ sym (ap is_some c.overtake.ensures ∙ overtaken-some n.sent);
+      awaits =
+          let start = history_of n.store in
+          let end = history_of t in
+          let view = c.told_position.new.self in
+          subst (λ (o : Option Sent). Waits (told end (fields_of t)) (fields_of t) view o) (sym c.overtake.ensures)
+          (waits-overtaken (told start (fields_of n.store)) (told end (fields_of t)) (fields_of n.store) (fields_of t) n.view view n.sent n.awaits);
       locked = subst (λ (s : Served). IsLockList s.locks) (sym is) n.locked;
     }
 
@@ -69,7 +78,7 @@ returns-in-Ok-clause-does g c =
         honest = c.commit.ensures.honest;
       };
       shape = (given.shape.0, given.shape.1, given.position);
-      same = ap (λ (s : Served). record old { store = fields_of t; files = s }) is;
+      same = λ i. record old { store = fields_of t; files = is i; sent = c.overtake.ensures i };
     }
 
 pub returns-in-Ok-clause-safe : goal.returns-in-Ok-clause-safe
@@ -84,7 +93,7 @@ returns-in-Ok-clause-safe g c honest =
     let given = c.in-Ok.ensures in
     let files = record (applied n.view t.page_size t.commit) { position = at } in
     let is : c.told_position.new.self ≡ files = c.told_position.ensures ∙ ap (λ (s : Served). record s { position = at }) c.applied.ensures.done in
-    let new : NodeParts = record old { store = fields_of t; files = c.told_position.new.self } in
+    let new : NodeParts = record old { store = fields_of t; files = c.told_position.new.self; sent = c.overtake.new.sent } in
     let image = (state end (fields_of t)).image in
     called (seen h old) (seen end new) laws.Import (laws.Applied at) (Commit (file_of old change)) h end (makes-import h old change c.requires.primary)
     (sound end new (subst (λ (s : Served). IsOverImage s image) (sym is) (took-over n.view at t.page_size t.commit image)) (subst (λ (s : Served). IsLockList s.locks) (sym is) n.locked).together
@@ -113,6 +122,13 @@ invariant_of-self-in-Err-1 g c =
       replica = n.replica;
       alone = n.alone;
       idle = n.idle;
+      awaits =
+          let h = history_of n.store in
+          let end = history_of t in
+          waits-kept h end (fields_of n.store) (fields_of t) n.view n.sent c.commit.ensures.honest
+          (λ honest. ap (λ (st : StoreState). st.image)
+          (err-same Pos (state h old.store) (state end (fields_of t)) (failed h old.store) (failed end (fields_of t)) (Commit (file_of old c.args.change.now)) c.in-Err.fault
+          (commit-changes h end old (fields_of t) c.args.change.now (Err c.in-Err.fault) given.commits (given.went honest)))) (ap end_of_entries given.same.2) n.awaits;
       locked = n.locked;
     }
 

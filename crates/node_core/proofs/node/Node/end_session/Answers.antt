@@ -1,26 +1,25 @@
-use Rattle.std.proofs.Common.{◌≡◌, ◌∙◌, IsTrue, ap, refl, subst, sym}
+use Rattle.std.proofs.Common.{◌≡◌, ◌∙◌, ap, subst, sym}
+use Rattle.byte_locks.specs.LockList.{IsLockList}
+use Rattle.lf_disk.specs.History.{History}
 use Rattle.file_view.specs.Endings.{ended}
 use Rattle.file_view.specs.Overlay.{FitsImage, IsOverImage}
 use Rattle.file_view.specs.Served.{Served, waits}
-use Rattle.world_laws.specs.Node as laws
-use Rattle.byte_locks.specs.LockList.{IsLockList}
+use Rattle.file_view.proofs.WaitingLemmas.{goes-ended}
 use Rattle.node_core.specs.declared.answer.Answer.TheVariants as answers
 use Rattle.node_core.specs.declared.ask.Ask.TheVariants as asks
-use Rattle.node_core.specs.Nodes.{parts_of, role_in, said_to, seen}
-use Rattle.node_core.specs.Safely.{StepsSafely}
-use Rattle.node_core.specs.Steps.{IsStep}
-use Rattle.node_core.specs.Stores.{fields_of, history_of, state}
-use Rattle.node_core.proofs.Endings.{ended-file, ended-fits, ended-over, ended-locked, ended-writer}
-use Rattle.node_core.proofs.OneAsk.{role-as, told-as}
-use Rattle.node_core.proofs.Reading.{rests_stay}
-use Rattle.node_core.proofs.Sound.{is-replica, sound}
-use Rattle.node_core.proofs.Facts.{says-none}
-use Rattle.node_core.proofs.Steady.{steady-files, steps-still}
+use Rattle.node_core.specs.Nodes.{NodeParts, parts_of, said_to}
+use Rattle.node_core.specs.Replying.{without_session}
+use Rattle.node_core.specs.Steps.{IsStep, ended_in}
+use Rattle.node_core.specs.Stores.{fields_of, history_of, state, told}
+use Rattle.node_core.specs.Waiting.{Waits}
+use Rattle.node_core.proofs.Endings.{ended-fits, ended-locked, ended-over, ended-writer}
+use Rattle.node_core.proofs.Replied.{ends-session}
+use Rattle.node_core.proofs.Waiting.{waits-files}
 use Rattle.node_core.proofs.node.Node.end_session.Goals as goal
 
 pub invariant_of-self : goal.invariant_of-self
 invariant_of-self g c =
-    let n = c.args.self.now in
+    let n = c.give_up_of.new.self in
     let is : c.end_session.new.self ≡ ended n.view c.args.caller = c.end_session.ensures in
     record {
       shape = subst (λ (s : Served). FitsImage s n.store.page_size n.store.commit) (sym is) (ended-fits n.view c.args.caller n.store.page_size n.store.commit n.store.sized.pages n.shape);
@@ -30,30 +29,25 @@ invariant_of-self g c =
       replica = λ not. ap (λ (s : Served). s.writer) is ∙ ended-writer n.view c.args.caller (n.replica not);
       alone = n.alone;
       idle = ap waits is ∙ n.idle;
+      awaits =
+          let over = told (history_of n.store) (fields_of n.store) in
+          subst (λ (s : Served). Waits over (fields_of n.store) s n.sent) (sym is)
+          (waits-files over (fields_of n.store) n.view (ended n.view c.args.caller) n.sent c.sound.ensures (goes-ended n.view c.args.caller) n.awaits);
       locked = subst (λ (s : Served). IsLockList s.locks) (sym is) (ended-locked n.view c.args.caller n.locked);
     }
 
 pub returns : goal.returns
 returns g c =
     let n = c.args.self.now in
+    let m = c.give_up_of.new.self in
     let h = history_of n.store in
     let old = parts_of n in
-    let files = ended n.view c.args.caller in
-    let is : c.end_session.new.self ≡ files = c.end_session.ensures in
-    let safe : IsTrue old.store.honest → StepsSafely (seen h old) laws.EndSession laws.Done (seen h (record old { files = files })) h h =
-    λ honest.
-    let image = (state h old.store).image in
-    steps-still (seen h old) (seen h (record old { files = files })) laws.EndSession laws.Done h h ∣ rests_stay h ∣₁ refl refl (n.store.left honest)
-    (says-none (seen h old) (seen h (record old { files = files })) (seen h old).role laws.EndSession laws.Done tt tt
-    (λ plain still. steady-files h h old old.store files refl (ended-file n.view c.args.caller (n.replica (is-replica (role_in old) plain.role))) refl)
-    (sound h (record old { files = files }) (ended-over n.view c.args.caller image (n.image honest)) (ended-locked n.view c.args.caller n.locked).together
-    (λ not. ended-writer n.view c.args.caller (n.replica not)))) in
+    let caller = c.args.caller in
+    let new : NodeParts = record (parts_of m) { files = c.end_session.new.self } in
+    let same : history_of m.store ≡ h = λ i. history_of (c.give_up_of.ensures.store i) in
+    let is : new ≡ ended_in caller (without_session caller old) = ap (λ (s : Served). record (parts_of m) { files = s }) c.end_session.ensures ∙ ap (ended_in caller) c.give_up_of.ensures.parts in
     record {
-      step = subst (λ (s : Served). IsStep h old c.args.caller asks.EndSession answers.Quiet h (record old { files = s }) (said_to n)) (sym is) record {
-        does = record { quiet = refl; files = refl; rests = ∣ rests_stay h ∣₁ };
-        safe = λ honest law of. told-as of (safe honest);
-        role = λ honest law of. role-as of (safe honest) (λ r keeps. keeps);
-        lease = (refl, refl);
-        honest = refl;
-      };
+      step = subst (λ (end : History). IsStep h old caller asks.EndSession answers.Quiet end new (said_to m)) (sym same)
+          (subst (λ (k : NodeParts). IsStep h old caller asks.EndSession answers.Quiet h k (said_to m)) (sym is)
+          (ends-session h old n.store.left n.image n.locked n.replica caller (said_to m)));
     }

@@ -5,9 +5,11 @@ use Rattle.file_view.specs.Served.{Served, waits}
 use Rattle.world_laws.specs.Node as laws
 use Rattle.node_core.specs.Nodes.{NodeParts, history, parts_of, seen}
 use Rattle.node_core.specs.Opening.{host_in}
-use Rattle.node_core.specs.Stores.{fields_of, history_of, state}
+use Rattle.node_core.specs.Stores.{fields_of, history_of, state, told}
+use Rattle.node_core.specs.Waiting.{Waits}
 use Rattle.node_core.proofs.Leased.{lease-news, unseen-safely}
 use Rattle.node_core.proofs.Reading.{rests_stay}
+use Rattle.node_core.proofs.Waiting.{goes-same, waits-files}
 use Rattle.node_core.proofs.node.Node.name_primary.Goals as goal
 
 pub invariant_of-self : goal.invariant_of-self
@@ -27,6 +29,9 @@ invariant_of-self g c =
       replica = λ not. ap (λ (s : Served). s.writer) is ∙ n.replica not;
       alone = n.alone;
       idle = ap waits is ∙ n.idle;
+      awaits =
+          let over = told (history_of n.store) (fields_of n.store) in
+          subst (λ (s : Served). Waits over (fields_of n.store) s n.sent) (sym is) (waits-files over (fields_of n.store) n.view named n.sent c.sound.ensures (goes-same n.view named refl refl refl refl refl) n.awaits);
       locked = subst (λ (s : Served). IsLockList s.locks) (sym is) n.locked;
     }
 

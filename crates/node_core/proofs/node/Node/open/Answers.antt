@@ -23,11 +23,12 @@ invariant_of-result g c =
       replica = λ not. ap (λ (s : Served). s.writer) is;
       alone = λ leads. ap (λ (s : Standing). s.pass) c.first_standing-standing.ensures;
       idle = ap waits is;
+      awaits = tt;
       locked = subst (λ (s : Served). IsLockList s.locks) (sym is) locked-none;
     }
 
 pub returns-in-Ok-clause-parts : goal.returns-in-Ok-clause-parts
-returns-in-Ok-clause-parts g c = λ i. record { files = c.in-Ok.ensures i; store = fields_of c.args.store; config = c.args.config; standing = c.first_standing-standing.ensures i; held = None }
+returns-in-Ok-clause-parts g c = λ i. record { files = c.in-Ok.ensures i; store = fields_of c.args.store; config = c.args.config; standing = c.first_standing-standing.ensures i; held = None; sent = None }
 
 pub returns-in-Ok-clause-seen : goal.returns-in-Ok-clause-seen
 returns-in-Ok-clause-seen g c honest =

@@ -1,5 +1,7 @@
 use Rattle.std.proofs.Common.{◌≡◌, ◌∙◌, ◌≤◌, ℕ, IsTrue, Ok, Err, ap, refl, sym, subst, arith}
 use Rattle.lf_base.specs.declared.pos.Pos.{Pos}
+use Rattle.lf_sqlite_pages.specs.Image.{DatabaseImage}
+use Rattle.file_view.specs.Overlay.{FitsImage, IsOverImage}
 use Rattle.world_laws.specs.Node as laws
 use Rattle.world_laws.specs.Store.{PruneTo}
 use Rattle.node_core.specs.declared.answer.Answer.TheVariants as answers
@@ -12,12 +14,13 @@ use Rattle.node_core.specs.Safely.{StepsSafely, law_answer, law_store_fault}
 use Rattle.node_core.specs.Steps.{IsStep}
 use Rattle.node_core.specs.Stores.{fields_of, history_of, position, said_of}
 use Rattle.node_core.proofs.Facts.{says-none}
-use Rattle.node_core.proofs.Looked.{prune-changes, prunes-safely}
+use Rattle.node_core.proofs.Looked.{prune-changes, pruned-image, prunes-safely}
 use Rattle.node_core.proofs.OneAsk.{role-as, told-as}
 use Rattle.node_core.proofs.Reading.{rests_stay}
 use Rattle.node_core.proofs.Refusing.{law-refusal-of, ran-undone, refuses-prune}
 use Rattle.node_core.proofs.Sound.{sound}
 use Rattle.node_core.proofs.Steady.{steady-files, steps-still}
+use Rattle.node_core.proofs.Waiting.{waits-kept}
 use Rattle.node_core.proofs.node.Node.prune.Goals as goal
 
 pub returns-then-pos-eq0 : goal.returns-then-pos-eq0
@@ -40,6 +43,27 @@ returns-then-pos-eq0 g c =
         lease = (refl, refl);
         honest = refl;
       };
+    }
+
+pub invariant_of-self : goal.invariant_of-self
+invariant_of-self g c =
+    let n = c.args.self.now in
+    let t = c.prune.new.self in
+    let h = history_of n.store in
+    let end = history_of t in
+    let old = parts_of n in
+    let shape = c.prune.ensures.shape in
+    let alike = λ (honest : IsTrue old.store.honest). pruned-image h end old (fields_of t) c.max.result c.prune.result c.prune.ensures.prunes (c.prune.ensures.went honest) in
+    record {
+      shape = subst (λ p. FitsImage n.view p t.commit) (sym shape.0) (subst (λ k. FitsImage n.view n.store.page_size k) (sym shape.1) n.shape);
+      image = λ still. let honest = sym c.prune.ensures.honest ∙ still in subst (λ (i : DatabaseImage). IsOverImage n.view i) (sym (alike honest)) (n.image honest);
+      named = n.named;
+      told = n.told ∙ sym c.prune.ensures.position;
+      replica = n.replica;
+      alone = n.alone;
+      idle = n.idle;
+      awaits = waits-kept h end old.store (fields_of t) n.view n.sent c.prune.ensures.honest alike c.prune.ensures.position n.awaits;
+      locked = n.locked;
     }
 
 pub returns-in-Ok : goal.returns-in-Ok

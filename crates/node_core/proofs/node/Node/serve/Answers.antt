@@ -1,4 +1,6 @@
-use Rattle.std.proofs.Common.{◌≡◌, ◌∙◌, ℕ, IsTrue, Result, Ok, Err, inl, inr, refl, sym, ap, subst}
+use Rattle.std.proofs.Common.{◌≡◌, ◌∙◌, ℕ, IsTrue, Option, None, Result, Ok, Err, inl, inr, refl, sym, ap, subst}
+use Rattle.std.specs.Prelude.{is_some}
+use Rattle.file_view.specs.Steady.{CommitsNothing}
 use Rattle.lf_base.specs.declared.pos.Pos.{Pos}
 use Rattle.lf_sqlite_pages.specs.Apply.{apply}
 use Rattle.lf_sqlite_pages.specs.Image.{DatabaseImage}
@@ -21,7 +23,10 @@ use Rattle.node_core.specs.Files.{scene, told}
 use Rattle.node_core.specs.Nodes.{NodeParts, parts_of, role_in, seen}
 use Rattle.node_core.specs.Safely.{StepsSafely}
 use Rattle.node_core.specs.Stores.{StoreFields, failed, fields_of, history_of, position, state}
-use Rattle.node_core.proofs.Answering.{Prepared, image-read, left, plan-safely, position-read, primary, quiet, reads-safely, shape-read, told-after}
+use Rattle.node_core.specs.declared.sent.Sent.{Sent}
+use Rattle.node_core.specs.Waiting.{Waits}
+use Rattle.node_core.proofs.Answering.{Prepared, awaits-before, awaits-read, image-read, left, plan-safely, position-read, primary, reads-safely, replica-read, shape-read, told-after, unsent}
+use Rattle.node_core.proofs.Waiting.{waits-kept}
 use Rattle.node_core.proofs.Calls.{err-same}
 use Rattle.node_core.proofs.Committed.{comes, commits-safely, commits-store, committed-fits, committed-locks, committed-name, committed-over, image-after, store-changes}
 use Rattle.node_core.proofs.Leaving.{Rests}
@@ -47,6 +52,8 @@ invariant_of-self g c =
       told_position = n.told;
       replica = n.replica;
       idle = n.idle;
+      awaits = n.awaits;
+      sound = c.sound.ensures;
       sized = n.store.sized.pages;
     } in
     record {
@@ -54,9 +61,10 @@ invariant_of-self g c =
       image = image-read law h hm old fm w c.args.caller request p prepared;
       named = c.prepare.ensures.name ∙ n.named;
       told = position-read law h hm old fm w c.args.caller request p prepared;
-      replica = λ not. (quiet law h hm old fm w c.args.caller request p prepared not).1.alone;
+      replica = replica-read law h hm old fm w c.args.caller request p prepared;
       alone = n.alone;
-      idle = subst (λ (q : Plan). Rests n.store.page_size n.store.commit n.view q w) c.in-Ok-Reply.field-0-is (left law h hm old fm w c.args.caller request p prepared).rests;
+      idle = subst (λ (q : Plan). Rests n.store.page_size n.store.commit n.view q w) c.in-Ok-Reply.field-0-is (left law h hm old fm w c.args.caller request p prepared).rests ∙ n.idle;
+      awaits = awaits-read law h hm old fm w c.args.caller request p prepared;
       locked = (left law h hm old fm w c.args.caller request p prepared).locks n.locked;
     }
 
@@ -79,6 +87,8 @@ invariant_of-self-in-Ok-Silent g c =
       told_position = n.told;
       replica = n.replica;
       idle = n.idle;
+      awaits = n.awaits;
+      sound = c.sound.ensures;
       sized = n.store.sized.pages;
     } in
     record {
@@ -86,9 +96,10 @@ invariant_of-self-in-Ok-Silent g c =
       image = image-read law h hm old fm w c.args.caller request p prepared;
       named = c.prepare.ensures.name ∙ n.named;
       told = position-read law h hm old fm w c.args.caller request p prepared;
-      replica = λ not. (quiet law h hm old fm w c.args.caller request p prepared not).1.alone;
+      replica = replica-read law h hm old fm w c.args.caller request p prepared;
       alone = n.alone;
-      idle = subst (λ (q : Plan). Rests n.store.page_size n.store.commit n.view q w) c.in-Ok-Silent.field-0-is (left law h hm old fm w c.args.caller request p prepared).rests;
+      idle = subst (λ (q : Plan). Rests n.store.page_size n.store.commit n.view q w) c.in-Ok-Silent.field-0-is (left law h hm old fm w c.args.caller request p prepared).rests ∙ n.idle;
+      awaits = awaits-read law h hm old fm w c.args.caller request p prepared;
       locked = (left law h hm old fm w c.args.caller request p prepared).locks n.locked;
     }
 
@@ -111,6 +122,8 @@ returns-in-Ok-Reply-clause-safe g c honest =
       told_position = n.told;
       replica = n.replica;
       idle = n.idle;
+      awaits = n.awaits;
+      sound = c.sound.ensures;
       sized = n.store.sized.pages;
     } in
     plan-safely law h hm old fm w c.args.caller request p prepared laws.Done honest (m.left (ap (λ (s : StoreFields). s.honest) c.prepare.ensures.read.same ∙ honest)) ((left law h hm old fm w c.args.caller request p prepared).locks n.locked).together tt tt
@@ -134,6 +147,8 @@ returns-in-Ok-Silent-clause-safe g c honest =
       told_position = n.told;
       replica = n.replica;
       idle = n.idle;
+      awaits = n.awaits;
+      sound = c.sound.ensures;
       sized = n.store.sized.pages;
     } in
     plan-safely law h hm old fm w c.args.caller request p prepared laws.Done honest (m.left (ap (λ (s : StoreFields). s.honest) c.prepare.ensures.read.same ∙ honest)) ((left law h hm old fm w c.args.caller request p prepared).locks n.locked).together tt tt
@@ -150,7 +165,7 @@ returns-in-Err-clause-safe g c honest =
     let is : c.prepare.new.view ≡ n.view = c.in-Err.ensures.err in
     subst (λ (s : Served). StepsSafely (seen h old) laws.File (laws.Refused laws.Other) (seen hm (record old { store = fm; files = s })) h hm) (sym is)
     (reads-safely h hm old fm n.view (laws.Refused laws.Other) honest read (m.left (ap (λ (s : StoreFields). s.honest) read.same ∙ honest))
-    (subst (λ (s : StoreState). IsOverImage n.view s.image) (sym (read.state honest)) (n.image honest)) n.locked.together n.replica (λ not. (refl, refl)) tt refl)
+    (subst (λ (s : StoreState). IsOverImage n.view s.image) (sym (read.state honest)) (n.image honest)) n.locked.together n.replica (λ not none. (refl, refl)) tt refl)
 
 pub invariant_of-self-in-Ok : goal.invariant_of-self-in-Ok
 invariant_of-self-in-Ok g c =
@@ -171,6 +186,8 @@ invariant_of-self-in-Ok g c =
       told_position = n.told;
       replica = n.replica;
       idle = n.idle;
+      awaits = n.awaits;
+      sound = c.sound.ensures;
       sized = n.store.sized.pages;
     } in
     let t = c.commit_and_prune.new.self in
@@ -191,6 +208,7 @@ invariant_of-self-in-Ok g c =
     let primary_is : role_in old ≡ role.Primary = primary old (sym c.commit_refusal.ensures ∙ c.in_default.is) in
     let rests = subst (λ (q : Plan). Rests n.store.page_size n.store.commit n.view q w) is_plan (left law h hm old fm w c.args.caller request p prepared).rests in
     let shape = c.in-Ok.ensures.shape in
+    let none : n.sent ≡ None = unsent law h hm old fm w c.args.caller request p prepared (λ nothing. subst CommitsNothing is_plan nothing) in
     record {
       shape = subst (λ (s : Served). FitsImage s t.page_size t.commit) (sym is)
           (subst (λ (k : ℕ). FitsImage files k t.commit) (sym shape.0) (subst (λ (k : ℕ). FitsImage files change.page_size k) (sym shape.1) (committed-fits w c.in-Ok.position change.page_size change.commit awaits.shape)));
@@ -199,7 +217,8 @@ invariant_of-self-in-Ok g c =
       told = ap (λ (s : Served). s.position) is ∙ sym c.in-Ok.ensures.position;
       replica = λ not. absurd (apart (sym primary_is ∙ not));
       alone = n.alone;
-      idle = ap waits is ∙ rests.1;
+      idle = ap waits is ∙ rests.1 ∙ sym (ap is_some none);
+      awaits = subst (λ (o : Option Sent). Waits (told ht ft) ft c.told_position.new.self o) (sym none) tt;
       locked = subst (λ (s : Served). IsLockList s.locks) (sym is) (subst IsLockList (sym (committed-locks w)) ((left law h hm old fm w c.args.caller request p prepared).locks n.locked));
     }
 
@@ -222,6 +241,8 @@ returns-in-Ok-clause-does g c =
       told_position = n.told;
       replica = n.replica;
       idle = n.idle;
+      awaits = n.awaits;
+      sound = c.sound.ensures;
       sized = n.store.sized.pages;
     } in
     let t = c.commit_and_prune.new.self in
@@ -268,6 +289,8 @@ returns-in-Ok-clause-safe g c honest =
       told_position = n.told;
       replica = n.replica;
       idle = n.idle;
+      awaits = n.awaits;
+      sound = c.sound.ensures;
       sized = n.store.sized.pages;
     } in
     let t = c.commit_and_prune.new.self in
@@ -311,6 +334,8 @@ invariant_of-self-in-Err-commit_and_prune g c =
       told_position = n.told;
       replica = n.replica;
       idle = n.idle;
+      awaits = n.awaits;
+      sound = c.sound.ensures;
       sized = n.store.sized.pages;
     } in
     let t = c.commit_and_prune.new.self in
@@ -339,6 +364,10 @@ invariant_of-self-in-Err-commit_and_prune g c =
       replica = λ not. ap (λ (s : Served). s.writer) is ∙ n.replica not;
       alone = n.alone;
       idle = ap waits is ∙ n.idle;
+      awaits =
+          subst (λ (v : Served). Waits (told ht ft) ft v n.sent) (sym is)
+          (waits-kept h ht old.store ft n.view n.sent (c.in-Err-commit_and_prune.ensures.honest ∙ ap (λ (s : StoreFields). s.honest) read.same) (λ honest. ap (λ (s : StoreState). s.image) (still honest))
+          (ap end_of_entries same.2 ∙ ap position read.same) n.awaits);
       locked = subst (λ (s : Served). IsLockList s.locks) (sym is) n.locked;
     }
 
@@ -361,6 +390,8 @@ returns-in-Err-commit_and_prune-clause-does g c =
       told_position = n.told;
       replica = n.replica;
       idle = n.idle;
+      awaits = n.awaits;
+      sound = c.sound.ensures;
       sized = n.store.sized.pages;
     } in
     let t = c.commit_and_prune.new.self in
@@ -412,6 +443,8 @@ returns-in-Err-commit_and_prune-clause-safe g c honest =
       told_position = n.told;
       replica = n.replica;
       idle = n.idle;
+      awaits = n.awaits;
+      sound = c.sound.ensures;
       sized = n.store.sized.pages;
     } in
     let t = c.commit_and_prune.new.self in
@@ -453,6 +486,8 @@ invariant_of-self-in-Some g c =
       told_position = n.told;
       replica = n.replica;
       idle = n.idle;
+      awaits = n.awaits;
+      sound = c.sound.ensures;
       sized = n.store.sized.pages;
     } in
     let is_plan : p ≡ plan.Commit c.in-Ok-Commit.reply c.in-Ok-Commit.change = c.in-Ok-Commit.field-0-is in
@@ -469,6 +504,7 @@ invariant_of-self-in-Some g c =
       replica = λ not. ap (λ (s : Served). s.writer) is ∙ n.replica not;
       alone = n.alone;
       idle = ap waits is ∙ n.idle;
+      awaits = subst (λ (v : Served). Waits (told hm fm) fm v n.sent) (sym is) (awaits-before law h hm old fm w c.args.caller request p prepared);
       locked = subst (λ (s : Served). IsLockList s.locks) (sym is) n.locked;
     }
 
@@ -491,12 +527,14 @@ returns-in-Some-clause-does g c =
       told_position = n.told;
       replica = n.replica;
       idle = n.idle;
+      awaits = n.awaits;
+      sound = c.sound.ensures;
       sized = n.store.sized.pages;
     } in
     let is_plan : p ≡ plan.Commit c.in-Ok-Commit.reply c.in-Ok-Commit.change = c.in-Ok-Commit.field-0-is in
     let rests = subst (λ (q : Plan). Rests n.store.page_size n.store.commit n.view q w) is_plan (left law h hm old fm w c.args.caller request p prepared).rests in
     let is : c.abandon.new.self ≡ n.view = c.abandon.ensures ∙ rests.0 in
-    inr (inr record {
+    inr (inr (inl record {
       reply = c.in-Ok-Commit.reply;
       change = c.in-Ok-Commit.change;
       waiting = w;
@@ -505,9 +543,10 @@ returns-in-Some-clause-does g c =
         allowed = c.in-Ok-Commit.ensures.allowed;
       };
       refused = sym c.commit_refusal.ensures ∙ c.in-Some.is;
+      alone = c.requires;
       read = c.prepare.ensures.read;
       same = ap (λ (s : Served). record old { store = fm; files = s }) is;
-    })
+    }))
 
 pub returns-in-Some-clause-safe : goal.returns-in-Some-clause-safe
 returns-in-Some-clause-safe g c honest =
@@ -528,6 +567,8 @@ returns-in-Some-clause-safe g c honest =
       told_position = n.told;
       replica = n.replica;
       idle = n.idle;
+      awaits = n.awaits;
+      sound = c.sound.ensures;
       sized = n.store.sized.pages;
     } in
     let is_plan : p ≡ plan.Commit c.in-Ok-Commit.reply c.in-Ok-Commit.change = c.in-Ok-Commit.field-0-is in
@@ -536,4 +577,4 @@ returns-in-Some-clause-safe g c honest =
     let read = c.prepare.ensures.read in
     subst (λ (s : Served). StepsSafely (seen h old) laws.File (laws.Refused laws.Other) (seen hm (record old { store = fm; files = s })) h hm) (sym is)
     (reads-safely h hm old fm n.view (laws.Refused laws.Other) honest read (m.left (ap (λ (s : StoreFields). s.honest) read.same ∙ honest))
-    (subst (λ (s : StoreState). IsOverImage n.view s.image) (sym (read.state honest)) (n.image honest)) n.locked.together n.replica (λ not. (refl, refl)) tt refl)
+    (subst (λ (s : StoreState). IsOverImage n.view s.image) (sym (read.state honest)) (n.image honest)) n.locked.together n.replica (λ not none. (refl, refl)) tt refl)

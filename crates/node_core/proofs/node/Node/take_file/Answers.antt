@@ -15,10 +15,9 @@ use Rattle.node_core.specs.declared.refusal.Refusal.{Refusal}
 use Rattle.node_core.specs.Framing.{RefusesFile, TakesStore}
 use Rattle.node_core.specs.Nodes.{NodeParts, parts_of, role_in, seen}
 use Rattle.node_core.specs.Safely.{StepsSafely, law_answer, law_store_fault}
-use Rattle.node_core.specs.Stores.{fields_of, history_of, state}
+use Rattle.node_core.specs.Stores.{fields_of, history_of, state, told}
 use Rattle.node_core.proofs.Asking.{called}
 use Rattle.node_core.proofs.Dropped.{disk-rose}
-use Rattle.node_core.proofs.Endings.{applied-idle}
 use Rattle.node_core.proofs.Facts.{ok_err}
 use Rattle.node_core.proofs.Following.{free, not-primary, page_size-most, take-changes, take-same, take-told, took-fits, took-over}
 use Rattle.node_core.proofs.Framed.{refuses}
@@ -26,6 +25,10 @@ use Rattle.node_core.proofs.Owing.{at-position}
 use Rattle.node_core.proofs.Refusing.{law-refusal-of, ran-undone, refuses-file}
 use Rattle.node_core.proofs.Sound.{sound}
 use Rattle.node_core.proofs.Steady.{steady-files}
+use Rattle.node_core.specs.declared.sent.Sent.{Sent}
+use Rattle.node_core.specs.Waiting.{Waits}
+use Rattle.node_core.proofs.Waiting.{applied-waits, overtaken-some, waits-kept, waits-overtaken}
+use Rattle.std.specs.Prelude.{Option, is_some}
 use Rattle.node_core.proofs.node.Node.take_file.Goals as goal
 
 pub applied-requires : goal.applied-requires
@@ -45,7 +48,13 @@ invariant_of-self g c =
       told = ap (λ (s : Served). s.position) is ∙ c.pos.ensures.value;
       replica = λ not. ap (λ (s : Served). s.writer) is;
       alone = n.alone;
-      idle = ap waits is ∙ applied-idle n.view t.page_size t.commit n.idle;
+      idle = ap waits is ∙ applied-waits n.view t.page_size t.commit ∙ n.idle ∙ sym (ap is_some c.overtake.ensures ∙ overtaken-some n.sent);
+      awaits =
+          let start = history_of n.store in
+          let end = history_of t in
+          let view = c.told_position.new.self in
+          subst (λ (o : Option Sent). Waits (told end (fields_of t)) (fields_of t) view o) (sym c.overtake.ensures)
+          (waits-overtaken (told start (fields_of n.store)) (told end (fields_of t)) (fields_of n.store) (fields_of t) n.view view n.sent n.awaits);
       locked = subst (λ (s : Served). IsLockList s.locks) (sym is) n.locked;
     }
 
@@ -66,6 +75,11 @@ invariant_of-self-in-Err-1 g c =
       replica = n.replica;
       alone = n.alone;
       idle = n.idle;
+      awaits =
+          let start = history_of s in
+          let end = history_of t in
+          waits-kept start end (fields_of s) (fields_of t) n.view n.sent c.take.ensures.honest
+          (λ honest. ap (λ (st : StoreState). st.image) (take-same start end (fields_of s) (fields_of t) c.args.file.now c.in-Err.fault given.answers (given.went honest))) given.stands.2 n.awaits;
       locked = n.locked;
     }
 
@@ -93,7 +107,7 @@ returns-in-Ok-clause-does g c =
           store = λ honest. take-changes h end old.store (fields_of t) file (Ok c.in-Ok.position) given.answers (given.went honest);
           honest = c.take.ensures.honest;
         };
-        same = ap (λ (s : Served). record old { store = fields_of t; files = s }) is;
+        same = λ i. record old { store = fields_of t; files = is i; sent = c.overtake.ensures i };
       },
     )
 
@@ -109,7 +123,7 @@ returns-in-Ok-clause-safe g c honest =
     let here = c.pos.result in
     let files = record (applied n.view t.page_size t.commit) { position = here } in
     let is : c.told_position.new.self ≡ files = c.told_position.ensures ∙ ap (λ (s : Served). record s { position = here }) c.applied.ensures.done in
-    let new : NodeParts = record old { store = fields_of t; files = c.told_position.new.self } in
+    let new : NodeParts = record old { store = fields_of t; files = c.told_position.new.self; sent = c.overtake.new.sent } in
     let image = (state end (fields_of t)).image in
     let told : c.in-Ok.position ≡ at (state end (fields_of t)) =
     take-told old.store file c.in-Ok.position given.answers ∙ sym (at-position end (fields_of t) (t.kept (c.take.ensures.honest ∙ honest)) ∙ given.stands.2) in

@@ -41,3 +41,6 @@ returns-in-HaltGot g c = rw c.in-HaltGot.is (c.answer_halt_got.ensures.step c.ar
 
 pub returns-in-HaltLost : goal.returns-in-HaltLost
 returns-in-HaltLost g c = rw c.in-HaltLost.is (c.lose_permit.ensures.step c.args.caller)
+
+pub returns-in-Forwarded : goal.returns-in-Forwarded
+returns-in-Forwarded g c = rw c.in-Forwarded.is (c.answer_forwarded.ensures.step c.args.caller)
