@@ -1,5 +1,6 @@
 pub mod Asks
 pub mod Requests
+pub mod Forwards
 pub mod Streams
 pub mod Endings
 pub mod Made

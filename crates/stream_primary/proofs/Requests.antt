@@ -1,6 +1,6 @@
 -- Requests that were read, and what is served behind them.
-use Rattle.std.proofs.Common.{◌≡◌, ◌⊎◌, inl, inr, ℕ, true, ◌+◌, ◌<◌, ◌≤◌, List, [], ◌∷◌, ◌++◌, length, drop, Option, Some, None, Err, refl, sym, ap, ◌∙◌, subst, arith}
-use Rattle.std.specs.Io.KnownBytes.{Appends, Keeps}
+use Rattle.std.proofs.Common.{◌≡◌, ◌⊎◌, inl, inr, ℕ, ◌+◌, ◌<◌, ◌≤◌, List, [], ◌∷◌, ◌++◌, length, drop, Option, refl, sym, ap, ◌∙◌, subst, arith}
+use Rattle.std.specs.Io.KnownBytes.{Keeps}
 use Rattle.std.proofs.KnownBytes.{Consumes-kept, Keeps-trans}
 use Rattle.std.proofs.lemmas.List.{length-append, length-drop, length-take-le}
 use Rattle.lf_base.specs.Faults.{Rose}
@@ -8,7 +8,6 @@ use Rattle.lf_base.specs.Name.{IsName}
 use Rattle.lf_base.specs.declared.pos.Pos.{Pos}
 use Rattle.lf_base.specs.declared.session_end.SessionEnd.{SessionEnd}
 use Rattle.lf_base.specs.declared.session_end.SessionEnd.TheVariants as ends
-use Rattle.link_session.specs.Reading.{EndsReading}
 use Rattle.link_session.specs.Stands.{Asker, IsStill, Stand}
 use Rattle.turn_desk.specs.History.{entry}
 use Rattle.halt_forward.specs.declared.halt_pass.HaltPass.{HaltPass}
@@ -16,7 +15,6 @@ use Rattle.node_core.specs.declared.ask.Ask.{Ask}
 use Rattle.node_core.specs.declared.ask.Ask.TheVariants as ask
 use Rattle.stream_wire.specs.declared.call.Call.{Call}
 use Rattle.stream_wire.specs.declared.call.Call.TheVariants as call
-use Rattle.stream_wire.specs.Head.{NeverTakesRequest}
 use Rattle.stream_wire.specs.NumberLines.{number_end, number_line}
 use Rattle.stream_wire.specs.StreamLine.{stream_line, IsNoStreamLine}
 use Rattle.stream_wire.proofs.NumberParts.{end_length}
@@ -27,12 +25,13 @@ use Rattle.http_exchange.specs.declared.called.Called.{Called}
 use Rattle.http_exchange.specs.declared.wants.Kept.{Kept}
 use Rattle.http_exchange.specs.declared.wants.Kept.TheVariants as kept
 use Rattle.http_exchange.specs.declared.wants.Wants.{Ghosts as WantsGhosts}
-use Rattle.http_exchange.specs.Called.{HasBody, IsPart, LeavesUnread, PassesOver, WasCalled, body_in}
+use Rattle.http_exchange.specs.Called.{HasBody, LeavesUnread, PassesOver, WasCalled, body_in}
 use Rattle.http_exchange.specs.Writing.{reply}
 use Rattle.stream_primary.specs.declared.stream_call.Wish.TheVariants as wish
 use Rattle.stream_primary.specs.Asking.{ServesAsk, answer_reply, answered, never_asked}
 use Rattle.stream_primary.specs.Calls.{Serves, kept_of}
 use Rattle.stream_primary.specs.DatabaseCalls.{ServesExport, ServesImport, export_elsewhere, exporting, import_elsewhere, importing}
+use Rattle.stream_primary.specs.ForwardCall.{ServesForward, forward_elsewhere, forward_unreadable, forward_wanting, forwarding}
 use Rattle.stream_primary.specs.HaltCalls.{AsksPermit, GivesBack, RefusesLine, SaysNumber, ServesHalt, ServesHaltBack, TellsPermit, elsewhere, giving_back, granted, halting, not_asked, not_given_back, not_taken, nowhere, permit_reply, permitted, taken_back, unasked, ungranted, unhalted, unplaced, unreadable, wanting, with_entry}
 use Rattle.stream_primary.specs.declared.halt_calls.Named.TheVariants as named
 use Rattle.stream_primary.specs.Refusing.{AnswersUnasked, EndsReply}
@@ -243,12 +242,20 @@ halt_back_behind who name body old mid new turns end read (giving_back now numbe
     giving_back now number says may (back_behind who.caller (ask.HaltBack now number) old mid new turns end read s)
 halt_back_behind who name body old mid new turns end read (not_given_back r) = not_given_back (refused_behind name body old mid new turns end read r)
 
+forward_behind : (who : Asker) (name body : List ℕ) (old mid new : Stand NodeEntry) (turns : ℕ) (end : SessionEnd) → OnlyRead old mid → ServesForward who name body mid new turns end
+    → ServesForward who name body old new turns end
+forward_behind who name body old mid new turns end read (forwarding now number bytes says may s) =
+    forwarding now number bytes says may (ask_behind who.caller (ask.Forward now number bytes) old mid new turns end read s)
+forward_behind who name body old mid new turns end read (forward_elsewhere says a) = forward_elsewhere says (unasked_behind (reply 404 []) old mid new turns end read a)
+forward_behind who name body old mid new turns end read (forward_unreadable says a) = forward_unreadable says (unasked_behind (reply 400 []) old mid new turns end read a)
+forward_behind who name body old mid new turns end read (forward_wanting is still count) = forward_wanting is (still_behind old mid new read still) (count ∙ read.count)
+
 pub serves_behind : (called : Call) (who : Asker) (name : List ℕ) (request : Request) (old mid new : Stand NodeEntry) (turns : ℕ) (end : SessionEnd) → OnlyRead old mid
     → Serves called who name request mid new turns end → Serves called who name request old new turns end
 serves_behind call.Stream who name request old mid new turns end read s = stream_behind who name request old mid new turns end read s
 serves_behind call.Halt who name request old mid new turns end read s = halt_behind who name request.body old mid new turns end read s
 serves_behind call.HaltBack who name request old mid new turns end read s = halt_back_behind who name request.body old mid new turns end read s
-serves_behind call.Tx who name request old mid new turns end read s = unasked_behind (reply 404 []) old mid new turns end read s
+serves_behind call.Tx who name request old mid new turns end read s = forward_behind who name request.body old mid new turns end read s
 serves_behind (call.Export other) who name request old mid new turns end read s = export_behind who.caller name other old mid new turns end read s
 serves_behind (call.Import other) who name request old mid new turns end read s = import_behind who name other request.body old mid new turns end read s
 serves_behind call.Lease who name request old mid new turns end read s = unasked_behind (reply 404 []) old mid new turns end read s

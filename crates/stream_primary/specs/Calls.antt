@@ -8,18 +8,19 @@ use Rattle.http_exchange.specs.declared.wants.Kept.{Kept}
 use Rattle.http_exchange.specs.declared.wants.Kept.TheVariants as kept
 use Rattle.http_exchange.specs.Writing.{reply}
 use Rattle.stream_primary.specs.DatabaseCalls.{ServesExport, ServesImport, import_max}
+use Rattle.stream_primary.specs.ForwardCall.{ServesForward, forward_max}
 use Rattle.stream_primary.specs.HaltCalls.{ServesHalt, ServesHaltBack, number_line_max}
 use Rattle.stream_primary.specs.Refusing.{AnswersUnasked}
 use Rattle.stream_primary.specs.Request.{Request}
 use Rattle.stream_primary.specs.StreamCall.{ServesStream, line_max}
 use Rattle.stream_primary.specs.Streaming.{NodeEntry}
 
--- what is kept of the body: the line that asks for a stream, or names a permit; of an import all; of another call nothing
+-- what is kept of the body: the line that asks for a stream, or names a permit; of an import and a commit all; of another call nothing
 abbrev pub kept_of : Call → Kept
 kept_of call.Stream = kept.Line line_max
 kept_of call.Halt = kept.Line number_line_max
 kept_of call.HaltBack = kept.Line number_line_max
-kept_of call.Tx = kept.Nothing
+kept_of call.Tx = kept.All forward_max
 kept_of (call.Export other) = kept.Nothing
 kept_of (call.Import other) = kept.All import_max
 kept_of call.Lease = kept.Nothing
@@ -30,7 +31,7 @@ abbrev pub Serves : Call → Asker → List ℕ → Request → Stand NodeEntry 
 Serves call.Stream who name request old new turns end = ServesStream who name request old new turns end
 Serves call.Halt who name request old new turns end = ServesHalt who name request.body old new turns end
 Serves call.HaltBack who name request old new turns end = ServesHaltBack who name request.body old new turns end
-Serves call.Tx who name request old new turns end = AnswersUnasked (reply 404 []) old new turns end
+Serves call.Tx who name request old new turns end = ServesForward who name request.body old new turns end
 Serves (call.Export other) who name request old new turns end = ServesExport who.caller name other old new turns end
 Serves (call.Import other) who name request old new turns end = ServesImport who name other request.body old new turns end
 Serves call.Lease who name request old new turns end = AnswersUnasked (reply 404 []) old new turns end

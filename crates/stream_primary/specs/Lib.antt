@@ -6,6 +6,7 @@ pub mod StreamCall
 pub mod Asking
 pub mod DatabaseCalls
 pub mod HaltCalls
+pub mod ForwardCall
 pub mod Calls
 pub mod Session
 pub mod OneRun

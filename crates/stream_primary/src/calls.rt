@@ -8,6 +8,7 @@ ghost use Rattle.stream_primary.specs.Calls.{Serves, kept_of};
 ghost use Rattle.stream_primary.specs.Request.{CameOfRequest, Request};
 
 use crate::database_calls::{IMPORT_MAX, serve_export, serve_import};
+use crate::forward_call::{FORWARD_MAX, file_in, serve_forward};
 use crate::halt_calls::{NUMBER_LINE_MAX, number_in, serve_halt, serve_halt_back};
 use crate::replies::refuse;
 use crate::stream_call::{LINE_MAX, serve_stream};
@@ -32,7 +33,7 @@ impl Wants for Bodies {
         match call {
             Call::Stream => Kept::Line(LINE_MAX),
             Call::Halt | Call::HaltBack => Kept::Line(NUMBER_LINE_MAX),
-            Call::Tx => Kept::Nothing,
+            Call::Tx => Kept::All(FORWARD_MAX),
             Call::Export { .. } => Kept::Nothing,
             Call::Import { .. } => Kept::All(IMPORT_MAX),
             Call::Lease => Kept::Nothing,
@@ -52,7 +53,9 @@ pub fn serve_call<S: Steps<Ask = Ask, Answer = Answer>, L: Link, C: Clock, P: Pa
     called: Called,
     turns: &mut Turns,
 ) -> SessionEnd
-    ensures serves { (request : Request) → CameOfRequest (kept_of request.call) request called → Serves request.call (asker S.Steps C.Clock steps.old clock.old) name.now request (stand L.Link link.old (S.entries steps.old)) (stand L.Link link.new (S.entries steps.new)) turns.new result }
+    ensures serves { (request : Request) → CameOfRequest (kept_of request.call) request called
+        → Serves request.call (asker S.Steps C.Clock steps.old clock.old) name.now request (stand L.Link link.old (S.entries steps.old))
+        (stand L.Link link.new (S.entries steps.new)) turns.new result }
     ensures left { Keeps (L.left link.old) (L.left link.new) }
     ensures same { AsksOn S.Steps C.Clock steps.old steps.new clock.old clock.new }
     ensures spent { Spends {T = Unit {0}} turns.old (stand L.Link link.old (S.entries steps.old)) turns.new (stand L.Link link.new (S.entries steps.new)) (Err result) }
@@ -71,7 +74,10 @@ pub fn serve_call<S: Steps<Ask = Ask, Answer = Answer>, L: Link, C: Clock, P: Pa
             Ok(said) => serve_halt_back(alloc, steps, link, clock, said, turns),
             Err(_) => SessionEnd::NoMemory,
         },
-        Call::Tx => refuse(alloc, link, NOT_FOUND, turns),
+        Call::Tx => match file_in(alloc, name, body) {
+            Ok(said) => serve_forward(alloc, steps, link, clock, said, turns),
+            Err(_) => SessionEnd::NoMemory,
+        },
         Call::Export { name: other } => serve_export(alloc, steps, name, link, &other, turns),
         Call::Import { name: other } => {
             serve_import(alloc, steps, name, link, clock, &other, body, turns)

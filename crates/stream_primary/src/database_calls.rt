@@ -55,7 +55,9 @@ pub fn serve_import<S: Steps<Ask = Ask, Answer = Answer>, L: Link, C: Clock>(
     body: Body,
     turns: &mut Turns,
 ) -> SessionEnd
-    ensures serves { (bytes : List ℕ) → CameOf (kept.All import_max) bytes body → ServesImport (asker S.Steps C.Clock steps.old clock.old) name.now other.now bytes (stand L.Link link.old (S.entries steps.old)) (stand L.Link link.new (S.entries steps.new)) turns.new result }
+    ensures serves { (bytes : List ℕ) → CameOf (kept.All import_max) bytes body
+        → ServesImport (asker S.Steps C.Clock steps.old clock.old) name.now other.now bytes (stand L.Link link.old (S.entries steps.old))
+        (stand L.Link link.new (S.entries steps.new)) turns.new result }
     ensures left { Keeps (L.left link.old) (L.left link.new) }
     ensures same { AsksOn S.Steps C.Clock steps.old steps.new clock.old clock.new }
     ensures spent { Spends {T = Unit {0}} turns.old (stand L.Link link.old (S.entries steps.old)) turns.new (stand L.Link link.new (S.entries steps.new)) (Err result) }

@@ -52,7 +52,9 @@ pub fn serve_halt<S: Steps<Ask = Ask, Answer = Answer>, L: Link, C: Clock>(
     said: Named,
     turns: &mut Turns,
 ) -> SessionEnd
-    ensures serves { (name body : List ℕ) → SaysNumber name body said → ServesHalt (asker S.Steps C.Clock steps.old clock.old) name body (stand L.Link link.old (S.entries steps.old)) (stand L.Link link.new (S.entries steps.new)) turns.new result }
+    ensures serves { (name body : List ℕ) → SaysNumber name body said
+        → ServesHalt (asker S.Steps C.Clock steps.old clock.old) name body (stand L.Link link.old (S.entries steps.old))
+        (stand L.Link link.new (S.entries steps.new)) turns.new result }
     ensures left { Keeps (L.left link.old) (L.left link.new) }
     ensures same { AsksOn S.Steps C.Clock steps.old steps.new clock.old clock.new }
     ensures spent { Spends {T = Unit {0}} turns.old (stand L.Link link.old (S.entries steps.old)) turns.new (stand L.Link link.new (S.entries steps.new)) (Err result) }
@@ -81,7 +83,9 @@ pub fn serve_halt_back<S: Steps<Ask = Ask, Answer = Answer>, L: Link, C: Clock>(
     said: Named,
     turns: &mut Turns,
 ) -> SessionEnd
-    ensures serves { (name body : List ℕ) → SaysNumber name body said → ServesHaltBack (asker S.Steps C.Clock steps.old clock.old) name body (stand L.Link link.old (S.entries steps.old)) (stand L.Link link.new (S.entries steps.new)) turns.new result }
+    ensures serves { (name body : List ℕ) → SaysNumber name body said
+        → ServesHaltBack (asker S.Steps C.Clock steps.old clock.old) name body (stand L.Link link.old (S.entries steps.old))
+        (stand L.Link link.new (S.entries steps.new)) turns.new result }
     ensures left { Keeps (L.left link.old) (L.left link.new) }
     ensures same { AsksOn S.Steps C.Clock steps.old steps.new clock.old clock.new }
     ensures spent { Spends {T = Unit {0}} turns.old (stand L.Link link.old (S.entries steps.old)) turns.new (stand L.Link link.new (S.entries steps.new)) (Err result) }
@@ -234,7 +238,7 @@ pub fn number_in(alloc: Global, name: &Name, body: &Body) -> Result<Named, NoMem
 }
 
 /// What this body says.
-fn number_of(alloc: Global, name: &Name, body: &[u8]) -> Result<Named, NoMemory>
+pub fn number_of(alloc: Global, name: &Name, body: &[u8]) -> Result<Named, NoMemory>
     ensures { IfOk result (SaysNumber name.now body.now) }
 {
     match read_named_number(alloc, body) {

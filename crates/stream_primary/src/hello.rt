@@ -32,7 +32,8 @@ pub fn greet<S: Steps<Ask = Ask, Answer = Answer>, L: Link, C: Clock, P: Pause>(
     text: &mut Vec<u8>,
     turns: &mut Turns,
 ) -> Result<Standing, SessionEnd>
-    ensures round { EndsRound (asker S.Steps C.Clock steps.old clock.old) name.now at (stand L.Link link.old (S.entries steps.old)).place (stand L.Link link.new (S.entries steps.new)).place (L.faults link.old) (L.faults link.new) turns.new result }
+    ensures round { EndsRound (asker S.Steps C.Clock steps.old clock.old) name.now at (stand L.Link link.old (S.entries steps.old)).place
+        (stand L.Link link.new (S.entries steps.new)).place (L.faults link.old) (L.faults link.new) turns.new result }
     ensures left { Keeps (L.left link.old) (L.left link.new) }
     ensures same { AsksOn S.Steps C.Clock steps.old steps.new clock.old clock.new }
     ensures spent { Spends turns.old (stand L.Link link.old (S.entries steps.old)) turns.new (stand L.Link link.new (S.entries steps.new)) result }
@@ -75,7 +76,8 @@ fn ask_and_tell<S: Steps<Ask = Ask, Answer = Answer>, L: Link, C: Clock, P: Paus
     text: &mut Vec<u8>,
     turns: &mut Turns,
 ) -> Result<Standing, SessionEnd>
-    ensures round { EndsRound (asker S.Steps C.Clock steps.old clock.old) name.now at (stand L.Link link.old (S.entries steps.old)).place (stand L.Link link.new (S.entries steps.new)).place (L.faults link.old) (L.faults link.new) turns.new result }
+    ensures round { EndsRound (asker S.Steps C.Clock steps.old clock.old) name.now at (stand L.Link link.old (S.entries steps.old)).place
+        (stand L.Link link.new (S.entries steps.new)).place (L.faults link.old) (L.faults link.new) turns.new result }
     ensures left { Keeps (L.left link.old) (L.left link.new) }
     ensures same { AsksOn S.Steps C.Clock steps.old steps.new clock.old clock.new }
     ensures spent { Spends turns.old (stand L.Link link.old (S.entries steps.old)) turns.new (stand L.Link link.new (S.entries steps.new)) result }

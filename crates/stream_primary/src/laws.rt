@@ -13,7 +13,8 @@ use turn_desk::Machine;
 /// Where memory ran out nothing is lost to the follower: of the answer that it was owed no byte was written, and a stream
 /// from where it stands asks the same first.
 pub fn owed_again()
-    ensures { (who : Asker) (name : List ℕ) (from : Whereabouts) (old new : Stand NodeEntry) (turns : ℕ) → Streams who name from old new turns ends.NoMemory → OwesStill who name from old.place new.place }
+    ensures { (who : Asker) (name : List ℕ) (from : Whereabouts) (old new : Stand NodeEntry) (turns : ℕ) → Streams who name from old new turns ends.NoMemory
+        → OwesStill who name from old.place new.place }
 {}
 
 /// A stream of a node, over any disk, stands in one run of that node: its Hellos are steps of the run, in their order, each at

@@ -9,6 +9,7 @@ mod asking;
 mod calls;
 mod database_calls;
 mod ending;
+mod forward_call;
 mod halt_calls;
 mod hello;
 mod laws;

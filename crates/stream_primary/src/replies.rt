@@ -59,6 +59,7 @@ pub fn refuse_answer<L: Link>(
         | Answer::Same(_)
         | Answer::Held(_)
         | Answer::Pruned(_)
+        | Answer::Send { .. }
         | Answer::Pass(_)
         | Answer::Bytes(_)
         | Answer::Info(_) => say(alloc, link, 500, b"OddAnswer\n", turns),

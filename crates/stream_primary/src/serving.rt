@@ -31,7 +31,8 @@ pub fn serve_http<R: Wait + Copy, D: Disk, L: Link, C: Clock, P: Pause>(
     budget: u64,
 ) -> SessionEnd
     requires { IsOf seat.old desk.now }
-    ensures session { IsSession (record { caller = number_of seat.old; may = C.may_give clock.old }) name.now budget (stand L.Link link.old (view seat.old).mine) (stand L.Link link.new (view seat.new).mine) result }
+    ensures session { IsSession (record { caller = number_of seat.old; may = C.may_give clock.old }) name.now budget (stand L.Link link.old (view seat.old).mine)
+        (stand L.Link link.new (view seat.new).mine) result }
     ensures worn { result ≡ ends.Worn → FoundWorn seat.new }
     ensures history { HasGoneOn ⟦<Node<D> as Machine>⟧.steps (opened_on desk.now) (number_of seat.new) (view seat.old) (view seat.new) }
     ensures seat { IsOf seat.new desk.now × (number_of seat.new ≡ number_of seat.old) }

@@ -52,7 +52,9 @@ pub fn serve_stream<S: Steps<Ask = Ask, Answer = Answer>, L: Link, C: Clock, P: 
     body: &Body,
     turns: &mut Turns,
 ) -> SessionEnd
-    ensures serves { (request : Request) → head.now ≡ request.head → CameOf (kept.Line line_max) request.body body.now → ServesStream (asker S.Steps C.Clock steps.old clock.old) name.now request (stand L.Link link.old (S.entries steps.old)) (stand L.Link link.new (S.entries steps.new)) turns.new result }
+    ensures serves { (request : Request) → head.now ≡ request.head → CameOf (kept.Line line_max) request.body body.now
+        → ServesStream (asker S.Steps C.Clock steps.old clock.old) name.now request (stand L.Link link.old (S.entries steps.old))
+        (stand L.Link link.new (S.entries steps.new)) turns.new result }
     ensures left { Keeps (L.left link.old) (L.left link.new) }
     ensures same { AsksOn S.Steps C.Clock steps.old steps.new clock.old clock.new }
     ensures spent { Spends {T = Unit {0}} turns.old (stand L.Link link.old (S.entries steps.old)) turns.new (stand L.Link link.new (S.entries steps.new)) (Err result) }

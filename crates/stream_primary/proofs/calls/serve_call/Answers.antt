@@ -29,3 +29,9 @@ returns-in-Ok-number_in-clause-serves g c = λ request came.
     by_row call.HaltBack c.args.called (asker g.S.Steps g.C.Clock c.args.steps.now c.args.clock.now) c.args.name.now request (stand g.L.Link c.args.link.now (g.S.Steps.entries c.args.steps.now))
     (stand g.L.Link c.serve_halt_back.new.link (g.S.Steps.entries c.serve_halt_back.new.steps)) c.serve_halt_back.new.turns c.serve_halt_back.result c.in-HaltBack.is came
     (λ came. c.serve_halt_back.ensures.serves c.args.name.now request.body (c.in-Ok-number_in.ensures request.body came.body))
+
+pub returns-in-Ok-file_in-clause-serves : goal.returns-in-Ok-file_in-clause-serves
+returns-in-Ok-file_in-clause-serves g c = λ request came.
+    by_row call.Tx c.args.called (asker g.S.Steps g.C.Clock c.args.steps.now c.args.clock.now) c.args.name.now request (stand g.L.Link c.args.link.now (g.S.Steps.entries c.args.steps.now))
+    (stand g.L.Link c.serve_forward.new.link (g.S.Steps.entries c.serve_forward.new.steps)) c.serve_forward.new.turns c.serve_forward.result c.in-Tx.is came
+    (λ came. c.serve_forward.ensures.serves c.args.name.now request.body (c.in-Ok-file_in.ensures request.body came.body))
