@@ -3,4 +3,10 @@ pub mod Messages
 pub mod Sessions
 pub mod Writings
 pub mod OneEntry
+pub mod Sending
+pub mod Taking
+pub mod Permitting
+pub mod Hearing
+pub mod OneAsk
+pub mod Begun
 pub mod OneRun

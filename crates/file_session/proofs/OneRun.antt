@@ -1,5 +1,5 @@
 -- A session in the one run of its node.
-use Rattle.std.proofs.Common.{◌≡◌, inl, inr, ℕ, List, [], ◌∷◌, ◌++◌, take, Option, None, Some, Err, refl, sym, ap, ◌∙◌, subst, append_assoc, append-nil}
+use Rattle.std.proofs.Common.{◌≡◌, inl, inr, ℕ, Bool, true, false, List, [], ◌∷◌, ◌++◌, take, Option, None, Some, Err, refl, sym, ap, ◌∙◌, subst, append_assoc, append-nil}
 use Rattle.std.specs.Io.KnownBytes.{Appends, Consumes, Keeps, prepend_known}
 use Rattle.std.proofs.KnownBytes.{Appends-kept, Appends-nil, Appends-trans, Consumes-nil, Consumes-trans, Keeps-refl}
 use Rattle.lf_base.specs.declared.session_end.SessionEnd.{SessionEnd}
@@ -21,6 +21,10 @@ use Rattle.node_core.specs.Steps.{IsStep}
 use Rattle.file_session.specs.Asking.{FileEntry}
 use Rattle.file_session.specs.Message.{IsRound, IsUnanswered, IsUnwritten, EndsMessage}
 use Rattle.file_session.specs.Session.{AsksEnd, Ends, starting, reading, answering, IsSession}
+use Rattle.file_session.specs.Carried.{IsPermitted, with_entries}
+use Rattle.file_session.specs.Permits.{Carries, IsCarried, Standing, standing}
+use Rattle.file_session.specs.Primary.{Phone, Writer}
+use Rattle.file_session.proofs.Hearing.{cut_heard, part_heard}
 use Rattle.file_session.specs.OneRun.{BreaksOff, between, unsettled, unwritten, ComesTo, IsInOneRun, SessionsAreInOneRun, asked_in, messages_of, replies_of}
 
 -- a text that was read, but for what was read ahead
@@ -142,23 +146,64 @@ comes_to who budget old new result s =
       },
     )
 
-module _ {M : Type 0} (steps : M → ℕ → Ask → Answer → M → Type 0) where
+-- entries never go
+carries_grow : (tell : Type 0) (who : Writer) (heard : List FileEntry) (old new : Standing) → Carries tell who heard old new → (made : List FileEntry) × (new.entries ≡ old.entries ++ made)
+carries_grow tell who [] old new same = ([], ap (λ (s : Standing). s.entries) same ∙ sym (append-nil old.entries))
+carries_grow tell who (one ∷ more) old new c =
+    let first = part_heard tell who one.ask one.answer old c.0 c.1 in
+    let rest = carries_grow tell who more c.0 new c.3 in
+    (first.made ++ rest.0, rest.1 ∙ ap (λ (es : List FileEntry). es ++ rest.0) first.all ∙ append_assoc old.entries first.made rest.0)
+
+carried_grows : (tell : Type 0) (who : Writer) (worn : Type 0) (cut : Bool) (heard : List FileEntry) (old new : Standing) → IsCarried tell who worn cut heard old new
+    → (made : List FileEntry) × (new.entries ≡ old.entries ++ made)
+carried_grows tell who worn false heard old new c =
+    let all = carries_grow tell who heard old c.place c.carries in
+    (all.0, ap (λ (s : Standing). s.entries) c.rest ∙ all.1)
+carried_grows tell who worn true heard old new c =
+    let all = carries_grow tell who heard old c.place c.carries in
+    let last = cut_heard tell who c.place new c.rest.1 in
+    (all.0 ++ last.made, last.all ∙ ap (λ (es : List FileEntry). es ++ last.made) all.1 ∙ append_assoc old.entries all.0 last.made)
+
+module _ {M : Type 0} (steps : M → ℕ → Ask → Answer → M → Type 0) (tell worn : Type 0) where
   -- in one run of its node
-  pub in_one_run : SessionsAreInOneRun steps
-  in_one_run opened who budget old new result before after session gone had has =
-      let came = comes_to who budget old new result session in
-      let mine : after.mine ≡ before.mine ++ came.0 = sym has ∙ came.1 ∙ ap (λ (es : List FileEntry). es ++ came.0) had in
-      let seat = has_run steps opened who.caller before after came.0 gone mine in
+  pub in_one_run : SessionsAreInOneRun steps tell worn
+  in_one_run opened who may budget old new phone phone_now result before after p gone had has =
+      let came = comes_to (record { caller = who.caller; may = may }) budget (with_entries [] old) (with_entries p.heard new) result p.session in
+      let made = carried_grows tell who worn p.cut p.heard (standing old.place.entries phone None) (standing new.place.entries phone_now p.held) p.carried in
+      let mine : after.mine ≡ before.mine ++ made.0 = sym has ∙ made.1 ∙ ap (λ (es : List FileEntry). es ++ made.0) had in
+      let seat = has_run steps opened who.caller before after made.0 gone mine in
       record {
         these = seat.0;
         run = seat.2;
-        came_to = subst (λ (es : List FileEntry). ComesTo who old.place new.place es result) (sym seat.1) came.2;
-      }
+        heard = p.heard;
+        came_to = subst (λ (es : List FileEntry). ComesTo (record { caller = who.caller; may = may }) old.place new.place es result) (sym came.1) (came_in old new came.2);
+        cut = p.cut;
+        held = p.held;
+        carried = subst (λ (es : List FileEntry). IsCarried tell who worn p.cut p.heard (standing before.mine phone None) (standing (before.mine ++ es) phone_now p.held)) (sym seat.1)
+            (subst (λ (es : List FileEntry). IsCarried tell who worn p.cut p.heard (standing before.mine phone None) (standing es phone_now p.held)) (has ∙ mine)
+            (subst (λ (es : List FileEntry). IsCarried tell who worn p.cut p.heard (standing es phone None) (standing new.place.entries phone_now p.held)) had p.carried));
+      } where
+        came_in : {w : Asker} {es : List FileEntry} (old new : Stand FileEntry) → ComesTo w (with_entries [] old).place (with_entries p.heard new).place es result → ComesTo w old.place new.place es result
+        came_in old new c = record {
+          rounds = c.rounds;
+          each = c.each;
+          message = c.message;
+          asked = c.asked;
+          part = c.part;
+          breaks_off = c.breaks_off;
+          ending = c.ending;
+          end = c.end;
+          ends = c.ends;
+          left = c.left;
+          read = c.read;
+          written = c.written;
+          all = c.all;
+        }
 
 -- the same of the nodes of this program
-module _ {D : Type 0} {G : Ghosts D} where
+module _ {D : Type 0} {G : Ghosts D} (tell worn : Type 0) where
   abbrev node_steps : Node D G → ℕ → Ask → Answer → Node D G → Type 0
   node_steps old caller ask answer new = IsStep (history old) (parts_of old) caller ask answer (history new) (parts_of new) (said_to new)
 
-  pub in_node_run : SessionsAreInOneRun node_steps
-  in_node_run = in_one_run node_steps
+  pub in_node_run : SessionsAreInOneRun node_steps tell worn
+  in_node_run = in_one_run node_steps tell worn

@@ -4,3 +4,10 @@ pub mod Message
 pub mod Session
 pub mod Written
 pub mod OneRun
+pub mod Halts
+pub mod Primary
+pub mod Forwarding
+pub mod Halting
+pub mod Permits
+pub mod Heard
+pub mod Carried

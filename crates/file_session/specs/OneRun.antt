@@ -1,5 +1,5 @@
 -- A session in the one run of its node.
-use Rattle.std.specs.Prelude.{◌≡◌, ℕ, ◌<◌, List, [], ◌++◌, length, take, Option}
+use Rattle.std.specs.Prelude.{◌≡◌, ℕ, ◌<◌, List, [], ◌++◌, length, take, Bool, Option, None}
 use Rattle.std.specs.List.{flat_map, AllByRecursion}
 use Rattle.std.specs.Io.KnownBytes.{Appends, Consumes}
 use Rattle.lf_base.specs.declared.session_end.SessionEnd.{SessionEnd}
@@ -16,7 +16,11 @@ use Rattle.node_core.specs.declared.ask.Ask.TheVariants as ask
 use Rattle.node_core.specs.declared.answer.Answer.{Answer}
 use Rattle.file_session.specs.Asking.{FileEntry, manner}
 use Rattle.file_session.specs.Message.{IsRound}
-use Rattle.file_session.specs.Session.{AsksEnd, IsSession}
+use Rattle.file_session.specs.declared.permits.Held.{Held}
+use Rattle.file_session.specs.Carried.{IsPermitted}
+use Rattle.file_session.specs.Permits.{IsCarried, standing}
+use Rattle.file_session.specs.Primary.{Phone, Writer}
+use Rattle.file_session.specs.Session.{AsksEnd}
 
 -- the messages of rounds, what the node was asked for them, and their replies, in order
 abbrev pub messages_of : List (Round FileEntry) → List ℕ
@@ -54,16 +58,20 @@ pub record ComesTo (who : Asker) (old new : Place FileEntry) (entries : List Fil
   pub written : Appends old.taken new.taken (replies_of rounds ++ part)
   pub all : entries ≡ asked_in rounds ++ (asked ++ ending)
 
-module _ {M : Type 0} (steps : M → ℕ → Ask → Answer → M → Type 0) where
-  -- A SESSION IN ONE RUN of its node: these steps of the run are all that it asked, and the bytes that it wrote are the replies to
-  -- what the node answers in them
-  pub record IsInOneRun (opened : M) (who : Asker) (before after : SeatView M Ask Answer) (old new : Place FileEntry) (result : SessionEnd) : Type 0 where
+module _ {M : Type 0} (steps : M → ℕ → Ask → Answer → M → Type 0) (tell worn : Type 0) where
+  -- A SESSION IN ONE RUN of its node: what it asked is heard as these entries, and the bytes that it wrote are the replies to them; and
+  -- these steps of the run are all that its asks came to at the node
+  pub record IsInOneRun (opened : M) (who : Writer) (may : ℕ → Bool) (before after : SeatView M Ask Answer) (old new : Place FileEntry) (phone phone_now : Phone) (result : SessionEnd) : Type 0 where
     pub these : List (MadeStep M Ask Answer)
     pub run : IsInRun steps opened who.caller before after these
-    pub came_to : ComesTo who old new (entries_of these) result
+    pub heard : List FileEntry
+    pub came_to : ComesTo (record { caller = who.caller; may = may }) old new heard result
+    pub cut : Bool
+    pub held : Option Held
+    pub carried : IsCarried tell who worn cut heard (standing before.mine phone None) (standing (before.mine ++ entries_of these) phone_now held)
 
   -- each session of a seat that stands at a desk is
   abbrev pub SessionsAreInOneRun : Type 0
-  SessionsAreInOneRun = (opened : M) (who : Asker) (budget : ℕ) (old new : Stand FileEntry) (result : SessionEnd) (before after : SeatView M Ask Answer)
-      → IsSession who budget old new result → HasGoneOn steps opened who.caller before after → old.place.entries ≡ before.mine → new.place.entries ≡ after.mine
-      → IsInOneRun opened who before after old.place new.place result
+  SessionsAreInOneRun = (opened : M) (who : Writer) (may : ℕ → Bool) (budget : ℕ) (old new : Stand FileEntry) (phone phone_now : Phone) (result : SessionEnd) (before after : SeatView M Ask Answer)
+      → IsPermitted tell who may budget worn old new phone phone_now result → HasGoneOn steps opened who.caller before after → old.place.entries ≡ before.mine → new.place.entries ≡ after.mine
+      → IsInOneRun opened who may before after old.place new.place phone phone_now result

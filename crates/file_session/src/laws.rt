@@ -4,6 +4,8 @@ ghost use Rattle.lf_base.specs.declared.session_end.SessionEnd.{SessionEnd};
 ghost use Rattle.fuse_msgs.specs.declared.request.Request.{Request};
 ghost use Rattle.fuse_msgs.specs.Message.{IsMessage};
 ghost use Rattle.link_session.specs.Rounds.{Round};
+ghost use Rattle.link_session.specs.Seats.{FoundWorn};
+ghost use Rattle.http_exchange.specs.Exchange.{LinksTell};
 ghost use Rattle.link_session.specs.Stands.{Asker, Stand};
 ghost use Rattle.file_session.specs.declared.tries.Tries.TheVariants as tries;
 ghost use Rattle.file_session.specs.Asking.{FileEntry, tries_of};
@@ -12,9 +14,10 @@ ghost use Rattle.file_session.specs.OneRun.{SessionsAreInOneRun};
 ghost use Rattle.file_session.specs.Session.{IsSession};
 ghost use Rattle.file_session.specs.Written.{IsAskedOnce, WritesReplies};
 
+use lf_base::Dialer;
 use lf_disk::Disk;
 use node_core::Node;
-use turn_desk::Machine;
+use turn_desk::{Machine, Seat};
 
 /// However a session ends, what it has written is a front of the replies to its messages, in their order.
 pub fn replies_in_order()
@@ -23,11 +26,12 @@ pub fn replies_in_order()
 
 /// A message of any other request than SETLKW is asked once.
 pub fn asked_once()
-    ensures { (who : Asker) (round : Round FileEntry) (request : Request) → IsRound who round → IsMessage round.message request → tries_of request.op ≡ tries.Once → IsAskedOnce who request round.entries }
+    ensures { (who : Asker) (round : Round FileEntry) (request : Request) → IsRound who round → IsMessage round.message request → tries_of request.op ≡ tries.Once
+        → IsAskedOnce who request round.entries }
 {}
 
-/// A session on the files of a node, over any disk, stands in one run of that node: all that it asked are steps of the run,
-/// in their order, and what it wrote are the replies to what the node, taking one step after another, answers there.
-pub fn session_in_one_run<D: Disk>()
-    ensures { SessionsAreInOneRun ⟦<Node<D> as Machine>⟧.steps }
+/// A session on the files of a node, over any disk and by any dialer, stands in one run of that node: all that its asks came
+/// to are steps of the run, in their order, and what it wrote are the replies to what it heard of them.
+pub fn session_in_one_run<D: Disk, T: Dialer>(seat: &Seat<Node<D>>)
+    ensures { SessionsAreInOneRun ⟦<Node<D> as Machine>⟧.steps (LinksTell T.L.given T.L.taken) (FoundWorn seat.now) }
 {}

@@ -1,8 +1,16 @@
 //! Files served over a link.
 #![tactic(auto)]
 
+mod answering;
+mod carrying;
 mod files;
+mod forwarding;
+mod giving_back;
+mod halting;
 mod laws;
+mod naps;
+mod permits;
+mod primary;
 mod replying;
 mod seat;
 mod serving;

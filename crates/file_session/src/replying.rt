@@ -73,6 +73,7 @@ fn reply_of(answer: Answer) -> Reply
         | Answer::Same(_)
         | Answer::Held(_)
         | Answer::Pruned(_)
+        | Answer::Send { .. }
         | Answer::Pass(_)
         | Answer::Bytes(_)
         | Answer::Info(_)

@@ -76,7 +76,8 @@ fn answer_all<S: Steps<Ask = Ask, Answer = Answer>, L: Link, C: Clock, P: Pause>
     turns: &mut Turns,
 ) -> SessionEnd
     requires { inbox.old.stage ≡ stages.Open }
-    ensures conversation { Conversation (asker S.Steps C.Clock steps.old clock.old) turns.old (stand_with L.Link inbox.old link.old (S.entries steps.old)) (stand L.Link link.new (S.entries steps.new)) result }
+    ensures conversation { Conversation (asker S.Steps C.Clock steps.old clock.old) turns.old (stand_with L.Link inbox.old link.old (S.entries steps.old))
+        (stand L.Link link.new (S.entries steps.new)) result }
     ensures same { AsksOn S.Steps C.Clock steps.old steps.new clock.old clock.new }
     ensures worn { result ≡ ends.Worn → S.is_worn steps.new }
 {

@@ -1,0 +1,5 @@
+use Rattle.file_session.proofs.Sending.{unsent}
+use Rattle.file_session.proofs.forwarding.send.Goals as goal
+
+pub returns-in-Err : goal.returns-in-Err
+returns-in-Err g c = λ caller. unsent _ _ _

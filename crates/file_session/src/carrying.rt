@@ -1,0 +1,165 @@
+//! The asks of a session, carried out at a node that may write under a permit of its primary.
+ghost use Rattle.std.specs.Prelude.{◌≡◌, ◌≤◌, ◌⊎◌, [], true, false, length, List, None};
+ghost use Rattle.std.proofs.Props.{props};
+ghost use Rattle.lf_base.specs.declared.session_end.SessionEnd.TheVariants as ends;
+ghost use Rattle.link_session.specs.Stands.{stand, AsksOn};
+ghost use Rattle.http_exchange.specs.Exchange.{LinksTell};
+ghost use Rattle.file_session.specs.Carried.{IsPermitted};
+ghost use Rattle.file_session.specs.Asking.{FileEntry};
+ghost use Rattle.file_session.specs.Heard.{heard, hearing};
+ghost use Rattle.file_session.specs.Permits.{standing, IsCarried};
+ghost use Rattle.file_session.specs.Primary.{phone, writer, Phone};
+
+use crate::answering::{Stop, answer};
+use crate::permits::Held;
+use crate::primary::Means;
+use crate::session::serve_link;
+use lf_base::{Clock, Dialer, Handles, Link, Name, Pause, SessionEnd};
+use link_session::Steps;
+use node_core::{Answer, Ask};
+use std::marker::{Brand, PhantomData};
+use turn_desk::Worn;
+
+/// The entries at the node and the dials from before a session, and how its history began.
+pub trait Begun {
+    ghost seen: { List FileEntry };
+
+    ghost entries: { List FileEntry };
+
+    ghost phone: { Phone };
+}
+
+impl Begun for Brand {
+    ghost seen = { [] };
+
+    ghost entries = { [] };
+
+    ghost phone = { phone None 0 };
+}
+
+/// By what a session asks: of which outside, by which dialer, for which database and node. It exists in
+/// contracts alone.
+pub struct CarryPlace<O> {
+    pub inner: O,
+    pub steps: u64,
+    pub dialer: u64,
+    pub name: Name,
+    pub node: u64,
+}
+
+/// The steps of a session, each carried out by steps of the node and exchanges with its primary.
+#[derive(Drop)]
+pub(crate) struct Carrying<
+    'm,
+    's,
+    'd,
+    'p,
+    K: Begun,
+    S: Steps<Ask = Ask, Answer = Answer>,
+    R,
+    T,
+    P,
+> {
+    pub(crate) means: Means<'m, R>,
+    pub(crate) steps: &'s mut S,
+    pub(crate) dialer: &'d mut T,
+    pub(crate) pause: &'p mut P,
+    /// The permit that the session holds.
+    pub(crate) held: Option<Held>,
+    /// Whether the last ask is not answered: it broke off.
+    pub(crate) cut: bool,
+    pub(crate) of: PhantomData<K>,
+    ghost begun: { length K.entries ≤ length (S.entries steps.now) },
+    ghost even: { cut ≡ false → (hearing K.entries (S.entries steps.now)).next ≡ false } by { Prim.hlevel props },
+}
+
+impl<K: Begun, R: Handles, S: Steps<Ask = Ask, Answer = Answer>, T: Dialer, P: Pause> Steps
+    for Carrying<'_, '_, '_, '_, K, S, R, T, P> {
+    type Ask = Ask;
+
+    type Answer = Answer;
+
+    type Outside = CarryPlace<S::Outside>;
+
+    ghost entries = { λ s. heard s.cut (hearing K.entries (S.entries s.steps.now)) };
+
+    ghost number = { λ s. S.number s.steps.now };
+
+    ghost of = { λ s. record { inner = S.of s.steps.now; steps = s.steps.ghost_name; dialer = s.dialer.ghost_name; name = s.means.name.now; node = s.means.node } };
+
+    ghost goes_on = { λ s front. S.goes_on s.steps.now front
+        × IsCarried (LinksTell T.L.given T.L.taken) (writer s.means.name.now s.means.node (S.number s.steps.now)) (S.is_worn s.steps.now) s.cut
+        (heard s.cut (hearing K.entries (S.entries s.steps.now))) (standing K.entries K.phone None)
+        (standing (S.entries s.steps.now) (phone (T.dials s.dialer.now) (T.faults s.dialer.now)) s.held) };
+
+    ghost is_worn = { λ s. (s.cut ≡ true) ⊎ S.is_worn s.steps.now };
+
+    ghost gives = { λ _ _. Unit {0} };
+
+    fn ask(&mut self, ask: &Ask) -> Result<Answer, Worn> {
+        if self.cut {
+            return Err(Worn);
+        }
+        // Until it is answered.
+        self.cut = true;
+        match answer(
+            &self.means,
+            self.steps,
+            self.dialer,
+            self.pause,
+            &mut self.held,
+            ask,
+        ) {
+            Ok(answer) => {
+                self.cut = false;
+                Ok(answer)
+            }
+            Err(Stop::Unasked) => {
+                self.cut = false;
+                Err(Worn)
+            }
+            Err(Stop::Midway) => Err(Worn),
+        }
+    }
+}
+
+/// Serves the client of a link by these steps, with what their entries and the dials were before.
+pub(crate) fn serve_steps<
+    K: Begun,
+    S: Steps<Ask = Ask, Answer = Answer>,
+    R: Handles,
+    L: Link,
+    T: Dialer,
+    C: Clock,
+    N: Pause,
+>(
+    means: Means<'_, R>,
+    steps: &mut S,
+    link: &mut L,
+    dialer: &mut T,
+    clock: &mut C,
+    own: &mut N,
+    tries: &mut N,
+    budget: u64,
+) -> SessionEnd
+    requires entries { K.entries ≡ S.entries steps.old }
+    requires seen { S.goes_on steps.old K.seen }
+    requires phone { K.phone ≡ phone (T.dials dialer.old) (T.faults dialer.old) }
+    ensures session { IsPermitted (LinksTell T.L.given T.L.taken) (writer means.entry.name.now means.entry.node (S.number steps.old)) (C.may_give clock.old) budget (S.is_worn steps.new)
+        (stand L.Link link.old (S.entries steps.old)) (stand L.Link link.new (S.entries steps.new))
+        (phone (T.dials dialer.old) (T.faults dialer.old)) (phone (T.dials dialer.new) (T.faults dialer.new)) result }
+    ensures same { AsksOn S.Steps C.Clock steps.old steps.new clock.old clock.new }
+    ensures worn { result ≡ ends.Worn → S.is_worn steps.new }
+{
+    let alloc = means.alloc;
+    let mut carrying = Carrying {
+        means,
+        steps,
+        dialer,
+        pause: own,
+        held: None,
+        cut: false,
+        of: PhantomData::<K>,
+    };
+    serve_link(alloc, &mut carrying, link, clock, tries, budget)
+}

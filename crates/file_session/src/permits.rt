@@ -1,0 +1,181 @@
+//! Whose lock on HALT goes by a request, and who wants to take it.
+ghost use Rattle.std.specs.Prelude.{◌≡◌};
+ghost use Rattle.file_session.specs.Halts.{goes, has_halt, is_owner, kept, leaver, leaver_at, owed, taker, taker_at, wants_permit};
+
+use fuse_msgs::{LockWish, Op};
+use node_core::{Answer, Ask};
+
+/// The node of the file whose locks halt a primary.
+const LOCK_FILE: u64 = 7;
+
+/// The byte of the lock on HALT in it.
+const HALT_BYTE: u64 = 72;
+
+/// The error of a replica, which doesn't write, `EROFS`.
+const READ_ONLY: u32 = 30;
+
+/// A permit of the primary, and the owner whose lock on HALT it is for.
+#[derive(Clone, Copy, Debug, PartialEq, Eq)]
+pub struct Held {
+    pub number: u64,
+    pub owner: u64,
+}
+
+/// Whether a range on this node has the byte of HALT.
+fn has_halt(node: u64, start: u64, end: u64) -> bool
+    ensures { result ≡ has_halt node start end }
+{
+    node == LOCK_FILE && start <= HALT_BYTE && HALT_BYTE <= end
+}
+
+/// The owner for whom an operation on this node takes the lock for writing.
+fn taker_at(node: u64, op: &Op) -> Option<u64>
+    ensures { result ≡ taker_at node op.now }
+{
+    match op {
+        Op::Setlk {
+            owner,
+            start,
+            end,
+            kind: LockWish::Write,
+            ..
+        }
+        | Op::Setlkw {
+            owner,
+            start,
+            end,
+            kind: LockWish::Write,
+            ..
+        } => {
+            if has_halt(node, *start, *end) {
+                Some(*owner)
+            } else {
+                None
+            }
+        }
+        _ => None,
+    }
+}
+
+/// The owner who by it has the lock for writing no more.
+fn leaver_at(node: u64, op: &Op) -> Option<u64>
+    ensures { result ≡ leaver_at node op.now }
+{
+    match op {
+        Op::Setlk {
+            kind: LockWish::Write,
+            ..
+        }
+        | Op::Setlkw {
+            kind: LockWish::Write,
+            ..
+        } => None,
+        Op::Setlk {
+            owner,
+            start,
+            end,
+            ..
+        }
+        | Op::Setlkw {
+            owner,
+            start,
+            end,
+            ..
+        } => {
+            if has_halt(node, *start, *end) {
+                Some(*owner)
+            } else {
+                None
+            }
+        }
+        Op::Flush { owner, .. } => {
+            if node == LOCK_FILE {
+                Some(*owner)
+            } else {
+                None
+            }
+        }
+        _ => None,
+    }
+}
+
+/// The owner for whom an ask takes the lock for writing.
+pub(crate) fn taker(ask: &Ask) -> Option<u64>
+    ensures { result ≡ taker ask.now }
+{
+    match ask {
+        Ask::File { request, .. } => taker_at(request.node, &request.op),
+        _ => None,
+    }
+}
+
+/// The owner who by it has the lock for writing no more, if it is done.
+fn leaver(ask: &Ask) -> Option<u64>
+    ensures { result ≡ leaver ask.now }
+{
+    match ask {
+        Ask::File { request, .. } => leaver_at(request.node, &request.op),
+        _ => None,
+    }
+}
+
+/// Whether the owner's lock went by this ask and its answer.
+fn goes(owner: u64, ask: &Ask, answer: &Answer) -> bool
+    ensures { result ≡ goes owner ask.now answer.now }
+{
+    match answer {
+        Answer::Done(_) => is_owner(owner, leaver(ask)),
+        _ => false,
+    }
+}
+
+fn is_owner(owner: u64, other: Option<u64>) -> bool
+    ensures { result ≡ is_owner owner other }
+{
+    match other {
+        Some(other) => other == owner,
+        None => false,
+    }
+}
+
+/// Whether this answer to an ask means that a permit is wanted.
+pub(crate) fn wants_permit(ask: &Ask, answer: &Answer) -> bool
+    ensures { result ≡ wants_permit ask.now answer.now }
+{
+    match answer {
+        Answer::Refuse(errno) => taker(ask).is_some() && errno.0 == READ_ONLY,
+        _ => false,
+    }
+}
+
+/// The number of the permit that goes by this ask and its answer.
+pub(crate) fn owed(held: Option<Held>, ask: &Ask, answer: &Answer) -> Option<u64>
+    ensures { result ≡ owed held ask.now answer.now }
+{
+    match held {
+        Some(held) => {
+            if goes(held.owner, ask, answer) {
+                Some(held.number)
+            } else {
+                None
+            }
+        }
+        None => None,
+    }
+}
+
+/// The permit that is held behind it.
+pub(crate) fn kept(held: Option<Held>, ask: &Ask, answer: &Answer) -> Option<Held>
+    ensures { result ≡ kept held ask.now answer.now }
+{
+    match held {
+        Some(permit) => {
+            if goes(permit.owner, ask, answer) {
+                None
+            } else {
+                held
+            }
+        }
+        None => None,
+    }
+}
