@@ -5,6 +5,7 @@ use Rattle.lf_sqlite_pages.specs.Image.{image_bytes}
 use Rattle.txn_log.specs.Calls.{RestsAs}
 use Rattle.txn_log.specs.Store.{failed_of}
 use Rattle.world_laws.specs.CatchUpLaw.{AnswersByWhole, DropInstalls, SentFileApplies, SnapshotInstalls}
+use Rattle.world_laws.specs.ForwardLaw.{ForwardedStands, RefusalLeaves, SendLeaves}
 use Rattle.world_laws.specs.Node as laws
 use Rattle.world_laws.specs.Node.{IsSoundNode, NodeState}
 use Rattle.world_laws.specs.ReaderLaw.{ReaderSteady}
@@ -18,6 +19,7 @@ use Rattle.node_core.specs.declared.node.Node.{Node}
 use Rattle.cluster_laws.specs.Bytes.{GivesBytes}
 use Rattle.cluster_laws.specs.Cluster.{Program}
 use Rattle.cluster_laws.specs.ClusterLaws.{BegunIsStart, ClusterIsKept, ClusterIsLed, MovesAreEvents, DeliveredDropInstalls, DeliveredFileApplies, DeliveredSnapshotInstalls, InterruptedIsRestart, ReaderIsSteady, RecoveredIsOpened, RestartsAreMoves, StepAnswersByWhole, StepsAreMoves, StopsAreMoves, program}
+use Rattle.cluster_laws.specs.Forwarding.{FailingLeaves, ForwardedIsOnce, SendingLeaves}
 use Rattle.node_core.specs.Nodes.{history, parts_of, role_in, said_to}
 use Rattle.node_core.specs.Steps.{IsStep}
 use Rattle.node_core.specs.Stores.{fields_of, state}
@@ -25,6 +27,7 @@ use Rattle.cluster_laws.proofs.Bytes.{step-gives}
 use Rattle.cluster_laws.proofs.Clusters.{cluster-is-kept, cluster-is-led, moves-are-events}
 use Rattle.cluster_laws.proofs.ClusterMoves.{begun-is-start, interrupted-is-restart, restarts-are-moves, steps-are-moves, stops-are-moves}
 use Rattle.cluster_laws.proofs.Deliveries.{drop-installs, file-applies, reader-is-steady, snapshot-installs, step-answers-by-whole}
+use Rattle.cluster_laws.proofs.Forwards.{failing-leaves, forwarded-is-once, sending-leaves}
 use Rattle.node_core.proofs.Sound.{is-replica, sound}
 
 module _ {D : Type 0} {G : Ghosts D} where
@@ -99,3 +102,12 @@ module _ {D : Type 0} {G : Ghosts D} where
 
   pub file : SentFileApplies → DeliveredFileApplies nodes
   file law = file-applies nodes law
+
+  pub forwarded : ForwardedStands → ForwardedIsOnce nodes
+  forwarded law = forwarded-is-once nodes law
+
+  pub sent_forward : SendLeaves → SendingLeaves nodes
+  sent_forward law = sending-leaves nodes law
+
+  pub failed_forward : RefusalLeaves → FailingLeaves nodes
+  failed_forward law = failing-leaves nodes law

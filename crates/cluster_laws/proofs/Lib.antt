@@ -3,6 +3,7 @@ pub mod Ledgers
 pub mod Clusters
 pub mod ClusterMoves
 pub mod Deliveries
+pub mod Forwards
 pub mod ClusterNodes
 pub mod Leading
 pub mod Primaries

@@ -76,6 +76,7 @@ primary-may n (asks.HaltBack now number) is = at-later n now is
 primary-may n (asks.Forward now number bytes) is = at-later n now is
 primary-may n (asks.HaltGot now pass) is = at-later n now is
 primary-may n (asks.HaltLost number) is = as-it-stands n.standing is
+primary-may n (asks.Forwarded ok) is = as-it-stands n.standing is
 
 -- where each commit among the calls is the holder's
 pub as-holder-of : (w : World) (k : ℕ) (calls : List StoreCall) → ((file : Ltx) → Contains calls (Commit file) → w.holder ≡ Some k) → CommitsAsHolder w k calls

@@ -47,6 +47,7 @@ now-of (ask.HaltBack now number) = (now, λ m. refl)
 now-of (ask.Forward now number bytes) = (now, λ m. refl)
 now-of (ask.HaltGot now pass) = (now, λ m. refl)
 now-of (ask.HaltLost number) = (0, λ m. sym (max-zero m))
+now-of (ask.Forwarded ok) = (0, λ m. sym (max-zero m))
 
 -- a lease after an ask, where the moment passed first
 module _ (v last : Tenancy) (n : ℕ) (t : Tenant) (others : (j : ℕ) → j ≢ n → last.nodes j ≡ v.nodes j) (table : last.service ≡ v.service) {clocks : Clocks} where
@@ -74,6 +75,7 @@ module _ (v last : Tenancy) (n : ℕ) (t : Tenant) (others : (j : ℕ) → j ≢
   then-news (ask.Forward now number bytes) here reply is = rests-so (max t.moment now) here is
   then-news (ask.HaltGot now pass) here reply is = rests-so (max t.moment now) here is
   then-news (ask.HaltLost number) here reply is = rests-so t.moment here is
+  then-news (ask.Forwarded ok) here reply is = rests-so t.moment here is
   then-news (ask.Lease now (news.Primary host)) here reply is = rests-so (max t.moment now) here is
   then-news (ask.Lease now news.Asked) here reply is =
       let again : max t.moment now ≡ max (max t.moment now) now = omega arith in

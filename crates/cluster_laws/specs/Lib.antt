@@ -2,6 +2,7 @@ pub mod Answering
 pub mod Bytes
 pub mod Cluster
 pub mod ClusterLaws
+pub mod Forwarding
 pub mod Leased
 pub mod LeasedLaws
 pub mod LeasedRunning

@@ -1,6 +1,7 @@
 //! Laws of clusters of these nodes, each the contract of a function that calls other laws at most.
 ghost use Rattle.cluster_laws.specs.Answering.{AnswersAreMoves, MomentsAreMoves};
 ghost use Rattle.cluster_laws.specs.ClusterLaws.{BegunIsStart, ClusterIsKept, ClusterIsLed, DeliveredDropInstalls, DeliveredFileApplies, DeliveredSnapshotInstalls, InterruptedIsRestart, MovesAreEvents, ReaderIsSteady, RecoveredIsOpened, RestartsAreMoves, StepAnswersByWhole, StepsAreMoves, StopsAreMoves, program};
+ghost use Rattle.cluster_laws.specs.Forwarding.{FailingLeaves, ForwardedIsOnce, SendingLeaves};
 ghost use Rattle.cluster_laws.specs.LeasedLaws.{HolderMayCommit, LeasedBegunIsStart, LeasedIsKept, LeasedMovesAreLed, OneMayCommit, RestartsAreLeasedMoves, ServiceIsServed, StepsAreLeasedMoves, StopsAreLeasedMoves, leasing};
 ghost use Rattle.cluster_laws.specs.LeasedRunning.{LeasedRunningHolds};
 ghost use Rattle.cluster_laws.specs.Running.{RunningHolds};
@@ -10,7 +11,7 @@ use lease_core::holder_believes;
 use lf_disk::Disk;
 use node_core::Node;
 use turn_desk::Machine;
-use world_laws::{answer_installs, reader_steady, safe_kept, stops_are_failures};
+use world_laws::{answer_installs, forwarded_once, reader_steady, safe_kept, stops_are_failures};
 
 /// After every list of steps, deliveries, losses, lease changes, stops and restarts of nodes over any
 /// honest disks, each node's committed pages are those of the lineage that its position names, whoever
@@ -57,6 +58,17 @@ pub fn cluster_answers_install<D: Disk>()
     answer_installs();
 }
 
+/// A commit that a node sent under a write permit, and does once it is told that it was accepted, stands
+/// once in the lineage that the primary had right after accepting it, and the node then has that lineage's
+/// position and pages. A commit that is sent, and one that fails, leaves the node as it was.
+pub fn cluster_forwards_once<D: Disk>()
+    ensures stands { ForwardedIsOnce (program ⟦<Node<D> as Machine>⟧.steps (λ old new caller ask answer step. step.safe)) }
+    ensures sent { SendingLeaves (program ⟦<Node<D> as Machine>⟧.steps (λ old new caller ask answer step. step.safe)) }
+    ensures failed { FailingLeaves (program ⟦<Node<D> as Machine>⟧.steps (λ old new caller ask answer step. step.safe)) }
+{
+    forwarded_once();
+}
+
 /// Where the ledger's holder is the owner of the grant that has not ended, each change of the lease
 /// service's table is an event of the lease; and a node that may commit, and whose moment is current,
 /// commits as the holder.
@@ -76,15 +88,24 @@ pub fn service_leads()
 /// before it was asked for in that time, and that no node commits at a moment before the service's; and a
 /// term is given back only where its node believes in none.
 pub fn leased_cluster_is_safe<D: Disk>()
-    ensures moves { LeasedMovesAreLed (leasing ⟦<Node<D> as Machine>⟧.steps (λ old new caller ask answer step. step.safe) (λ old new caller ask answer step. step.role) (λ old new caller ask answer step. step.lease)) }
-    ensures kept { LeasedIsKept (leasing ⟦<Node<D> as Machine>⟧.steps (λ old new caller ask answer step. step.safe) (λ old new caller ask answer step. step.role) (λ old new caller ask answer step. step.lease)) }
-    ensures holder { HolderMayCommit (leasing ⟦<Node<D> as Machine>⟧.steps (λ old new caller ask answer step. step.safe) (λ old new caller ask answer step. step.role) (λ old new caller ask answer step. step.lease)) }
-    ensures one { OneMayCommit (leasing ⟦<Node<D> as Machine>⟧.steps (λ old new caller ask answer step. step.safe) (λ old new caller ask answer step. step.role) (λ old new caller ask answer step. step.lease)) }
-    ensures steps { StepsAreLeasedMoves (leasing ⟦<Node<D> as Machine>⟧.steps (λ old new caller ask answer step. step.safe) (λ old new caller ask answer step. step.role) (λ old new caller ask answer step. step.lease)) }
-    ensures stops { StopsAreLeasedMoves (leasing ⟦<Node<D> as Machine>⟧.steps (λ old new caller ask answer step. step.safe) (λ old new caller ask answer step. step.role) (λ old new caller ask answer step. step.lease)) }
-    ensures restarts { RestartsAreLeasedMoves (leasing ⟦<Node<D> as Machine>⟧.steps (λ old new caller ask answer step. step.safe) (λ old new caller ask answer step. step.role) (λ old new caller ask answer step. step.lease)) }
-    ensures serves { ServiceIsServed (leasing ⟦<Node<D> as Machine>⟧.steps (λ old new caller ask answer step. step.safe) (λ old new caller ask answer step. step.role) (λ old new caller ask answer step. step.lease)) }
-    ensures start { LeasedBegunIsStart (leasing ⟦<Node<D> as Machine>⟧.steps (λ old new caller ask answer step. step.safe) (λ old new caller ask answer step. step.role) (λ old new caller ask answer step. step.lease)) }
+    ensures moves { LeasedMovesAreLed (leasing ⟦<Node<D> as Machine>⟧.steps (λ old new caller ask answer step. step.safe) (λ old new caller ask answer step. step.role)
+        (λ old new caller ask answer step. step.lease)) }
+    ensures kept { LeasedIsKept (leasing ⟦<Node<D> as Machine>⟧.steps (λ old new caller ask answer step. step.safe) (λ old new caller ask answer step. step.role)
+        (λ old new caller ask answer step. step.lease)) }
+    ensures holder { HolderMayCommit (leasing ⟦<Node<D> as Machine>⟧.steps (λ old new caller ask answer step. step.safe) (λ old new caller ask answer step. step.role)
+        (λ old new caller ask answer step. step.lease)) }
+    ensures one { OneMayCommit (leasing ⟦<Node<D> as Machine>⟧.steps (λ old new caller ask answer step. step.safe) (λ old new caller ask answer step. step.role)
+        (λ old new caller ask answer step. step.lease)) }
+    ensures steps { StepsAreLeasedMoves (leasing ⟦<Node<D> as Machine>⟧.steps (λ old new caller ask answer step. step.safe) (λ old new caller ask answer step. step.role)
+        (λ old new caller ask answer step. step.lease)) }
+    ensures stops { StopsAreLeasedMoves (leasing ⟦<Node<D> as Machine>⟧.steps (λ old new caller ask answer step. step.safe) (λ old new caller ask answer step. step.role)
+        (λ old new caller ask answer step. step.lease)) }
+    ensures restarts { RestartsAreLeasedMoves (leasing ⟦<Node<D> as Machine>⟧.steps (λ old new caller ask answer step. step.safe)
+        (λ old new caller ask answer step. step.role) (λ old new caller ask answer step. step.lease)) }
+    ensures serves { ServiceIsServed (leasing ⟦<Node<D> as Machine>⟧.steps (λ old new caller ask answer step. step.safe) (λ old new caller ask answer step. step.role)
+        (λ old new caller ask answer step. step.lease)) }
+    ensures start { LeasedBegunIsStart (leasing ⟦<Node<D> as Machine>⟧.steps (λ old new caller ask answer step. step.safe) (λ old new caller ask answer step. step.role)
+        (λ old new caller ask answer step. step.lease)) }
 {
     holder_believes();
     safe_kept();
@@ -96,8 +117,10 @@ pub fn leased_cluster_is_safe<D: Disk>()
 /// wanted of a grant that it was asked for no later than it is given, and of a term that is given back that
 /// its node is idle.
 pub fn service_answers_are_moves<D: Disk>()
-    ensures answers { AnswersAreMoves (leasing ⟦<Node<D> as Machine>⟧.steps (λ old new caller ask answer step. step.safe) (λ old new caller ask answer step. step.role) (λ old new caller ask answer step. step.lease)) }
-    ensures moment { MomentsAreMoves (leasing ⟦<Node<D> as Machine>⟧.steps (λ old new caller ask answer step. step.safe) (λ old new caller ask answer step. step.role) (λ old new caller ask answer step. step.lease)) }
+    ensures answers { AnswersAreMoves (leasing ⟦<Node<D> as Machine>⟧.steps (λ old new caller ask answer step. step.safe) (λ old new caller ask answer step. step.role)
+        (λ old new caller ask answer step. step.lease)) }
+    ensures moment { MomentsAreMoves (leasing ⟦<Node<D> as Machine>⟧.steps (λ old new caller ask answer step. step.safe) (λ old new caller ask answer step. step.role)
+        (λ old new caller ask answer step. step.lease)) }
 {
     leased_cluster_is_safe::<D>();
 }
@@ -109,7 +132,8 @@ pub fn service_answers_are_moves<D: Disk>()
 /// is said of terms holds on too.
 pub fn running_cluster_holds<D: Disk>()
     ensures alone { RunningHolds (program ⟦<Node<D> as Machine>⟧.steps (λ old new caller ask answer step. step.safe)) }
-    ensures leased { LeasedRunningHolds (leasing ⟦<Node<D> as Machine>⟧.steps (λ old new caller ask answer step. step.safe) (λ old new caller ask answer step. step.role) (λ old new caller ask answer step. step.lease)) }
+    ensures leased { LeasedRunningHolds (leasing ⟦<Node<D> as Machine>⟧.steps (λ old new caller ask answer step. step.safe) (λ old new caller ask answer step. step.role)
+        (λ old new caller ask answer step. step.lease)) }
 {
     cluster_is_safe::<D>();
     leased_cluster_is_safe::<D>();

@@ -11,8 +11,9 @@ mod link_laws;
 mod starting;
 
 pub use laws::{
-    cluster_answers_install, cluster_is_safe, cluster_opens, cluster_reader_steady,
-    leased_cluster_is_safe, running_cluster_holds, service_answers_are_moves, service_leads,
+    cluster_answers_install, cluster_forwards_once, cluster_is_safe, cluster_opens,
+    cluster_reader_steady, leased_cluster_is_safe, running_cluster_holds,
+    service_answers_are_moves, service_leads,
 };
 pub use link_laws::followers_ask_what_was_sent;
 pub use starting::start_node;
