@@ -1,0 +1,11 @@
+pub mod Finding
+pub mod Starts
+pub mod FieldLines
+pub mod Pairs
+pub mod Marks
+pub mod Judged
+pub mod Passed
+pub mod Served
+pub mod OwnAsks
+pub mod HostLines
+pub mod Talking

@@ -1,0 +1,12 @@
+pub mod Lines
+pub mod Cookies
+pub mod Passing
+pub mod Wishes
+pub mod Requests
+pub mod Unread
+pub mod Dialing
+pub mod Replies
+pub mod Asking
+pub mod Leave
+pub mod Spending
+pub mod Session
