@@ -101,6 +101,47 @@ fn configurations_are_read(rt: HostRuntime) {
     }
 }
 
+/// The settings of what stands beside: the proxy, and how long a permit lasts.
+fn beside_line(rt: impl Copy + Abort, alloc: Global, settings: &Settings) -> String {
+    let (addr, target) = match &settings.proxy {
+        Some(proxy) => (proxy.addr.text().as_str(), proxy.target.text().as_str()),
+        None => ("none", "none"),
+    };
+    let permit = settings.lease.halt_ttl;
+    format!(in alloc; "{addr} {target} {permit}").expect(&rt, "memory")
+}
+
+const BESIDE: &[(&str, &str)] = &[
+    ("", "none none 10000"),
+    ("ttl = 7\n", "none none 7"),
+    ("halt-ttl = 1\n", "none none 1"),
+    ("halt-ttl = 86_400_000\nttl = 7\n", "none none 86400000"),
+    (
+        "[proxy]\naddr = \":8080\"\ntarget = \"localhost:3000\"\n",
+        ":8080 localhost:3000 10000",
+    ),
+    (
+        "[proxy]\ntarget = \"[::1]:65535\"\naddr = \"a:0\"\n",
+        "a:0 [::1]:65535 10000",
+    ),
+    ("[fuse]\n[proxy]\n", "none none 10000"),
+];
+
+/// The keys of what stands beside, and what they say.
+#[test]
+fn proxies_are_read(rt: HostRuntime) {
+    let alloc = rt.alloc();
+    for (more, said) in BESIDE {
+        let text = with_required(rt, alloc, more);
+        let settings = read_settings(alloc, text.as_bytes()).expect(&rt, "settings");
+        same(
+            rt,
+            (*more, beside_line(rt, alloc, &settings).as_str()),
+            (*more, *said),
+        );
+    }
+}
+
 const SERVICE: &str =
     "type = \"service\"\nservice-url = \"http://lease:20202\"\ncandidate = true\n";
 
@@ -139,6 +180,11 @@ const SERVICES: &[(&str, &str)] = &[
         "[lease]\ntype = \"service\"\ncandidate = true\n",
         ":20202 10000",
     ),
+    (
+        "proxy.addr = \":8081\"\nlease.halt-ttl = 1\n",
+        ":20202 10000",
+    ),
+    ("proxy.target = \"h:1\"\nlease.ttl = 7\n", ":20202 7"),
     (
         "database = \"app\"\n[fuse]\nlisten = \"s\"\n[data]\nretention-files = 3\n[lease]\nhostname = \"h\"\nadvertise-url = \"http://h:1\"\nservice-url = \"http://h:1\"\n",
         ":20202 10000",
@@ -179,7 +225,12 @@ const NO_SERVICES: &[&str] = &[
     "lease.ttl = 0\n",
     "lease.ttl = 86400001\n",
     "lease.promote = true\n",
-    "proxy.addr = \":8081\"\n",
+    "proxy.addr = \"8081\"\n",
+    "proxy.target = \":8081\"\n",
+    "proxy.db = \"app\"\n",
+    "fuse.dir = \"\"\n",
+    "fuse.program = \"\"\n",
+    "lease.halt-ttl = 0\n",
     "lease = 1\n",
     "log = \"Off\"\n",
     "log = false\n",
@@ -230,12 +281,20 @@ const FURTHER: &[&str] = &[
     "ttl = -1\n",
     "ttl = 1.0\n",
     "ttl = \"10\"\n",
+    "halt-ttl = 0\n",
+    "halt-ttl = 86400001\n",
+    "halt-ttl = \"10\"\n",
     "service-url = \"lease:20202\"\n",
     "service-url = \"https://lease:20202\"\n",
     "promote = true\n",
     "hostname = \"twice\"\n",
     "[fuse]\nlisten = 1\n",
-    "[fuse]\ndir = \"/litefs\"\n",
+    "[fuse]\ndir = \"\"\n",
+    "[fuse]\ndir = 1\n",
+    "[fuse]\nprogram = \"p\"\n",
+    "[fuse]\ndir = \"m\"\nprogram = \"\"\n",
+    "[fuse]\ndir = \"m\"\nprogram = 1\n",
+    "[fuse]\ndir = \"m\"\nallow-other = true\n",
     "[http]\naddr = \"20202\"\n",
     "[http]\naddr = \":65536\"\n",
     "[http]\naddr = \":+80\"\n",
@@ -252,6 +311,14 @@ const FURTHER: &[&str] = &[
     "[data]\nretention-files = \"10\"\n",
     "[data]\ndir = \"/var/lib/litefs\"\n",
     "[proxy]\naddr = \":8081\"\n",
+    "[proxy]\ntarget = \"h:1\"\n",
+    "[proxy]\naddr = \":8081\"\ntarget = \":1\"\n",
+    "[proxy]\naddr = \":8081\"\ntarget = \"h\"\n",
+    "[proxy]\naddr = \":8081\"\ntarget = \"http://h:1\"\n",
+    "[proxy]\naddr = \":8081\"\ntarget = 1\n",
+    "[proxy]\naddr = \"8081\"\ntarget = \"h:1\"\n",
+    "[proxy]\naddr = \":8081\"\ntarget = \"h:1\"\ndb = \"app\"\n",
+    "[[proxy]]\naddr = \":8081\"\ntarget = \"h:1\"\n",
     "[fuse]\n[fuse]\n",
 ];
 
@@ -350,9 +417,42 @@ const COMPLAINTS: &[(&str, &str)] = &[
     ("\r\n[data\r\n", "none 6 TOML in UTF-8"),
     ("promote = true\n", "lease.promote 5 no key of this name"),
     ("\"a b\" = true\n", "lease.? 5 no key of this name"),
+    ("\n\n[cache]\nsize = 1\n", "cache 7 no key of this name"),
     (
-        "\n\n[proxy]\naddr = \":8081\"\n",
-        "proxy 7 no key of this name",
+        "halt-ttl = 0\n",
+        "lease.halt-ttl 5 a number of milliseconds from 1 to 86400000",
+    ),
+    (
+        "[fuse]\nlisten = \"s\"\ndir = \"\"\n",
+        "fuse.dir 7 no key of this name",
+    ),
+    (
+        "[fuse]\nprogram = 1\n",
+        "fuse.program 6 no key of this name",
+    ),
+    (
+        "[fuse]\nprogram = 1\ndir = \"m\"\n",
+        "fuse.dir 7 no key of this name",
+    ),
+    (
+        "[proxy]\ntarget = 1\n",
+        "proxy.addr 0 an address, host:port, since proxy.target is there; the key is missing",
+    ),
+    (
+        "[proxy]\naddr = \":1\"\n",
+        "proxy.target 0 an address with a host, host:port, since proxy.addr is there; the key is missing",
+    ),
+    (
+        "[proxy]\ntarget = \":1\"\naddr = \"1\"\n",
+        "proxy.addr 7 an address, host:port",
+    ),
+    (
+        "[proxy]\ntarget = \":1\"\naddr = \":1\"\n",
+        "proxy.target 6 an address with a host, host:port",
+    ),
+    (
+        "[proxy]\npassthrough = 1\n",
+        "proxy.passthrough 6 no key of this name",
     ),
     ("[[fuse]]\nlisten = \"s\"\n", "fuse 5 a table"),
     ("[fuse]\nlisten = 1\n", "fuse.listen 6 a text"),
@@ -441,6 +541,10 @@ const SERVICE_COMPLAINTS: &[(&str, &str)] = &[
     (
         "[lease]\nttl = 0\nhostname = 1\n",
         "lease.hostname 3 a text",
+    ),
+    (
+        "proxy.target = \":1\"\nfuse.program = \"\"\n",
+        "fuse.program 2 no key of this name",
     ),
 ];
 

@@ -1,5 +1,5 @@
 -- From what one reader answers to what another does.
-use Rattle.std.proofs.Common.{◌≡◌, ◌↔◌, Bool, IsTrue, ℕ, List, Option, Some, None, IsSomeAnd, IsErrAnd, MatchOption, Result, Ok, Err, IfOk, [], codes, inl, refl, sym, subst, arith, rules}
+use Rattle.std.proofs.Common.{◌≡◌, ◌↔◌, Bool, IsTrue, Option, Some, None, IsSomeAnd, IsErrAnd, MatchOption, Result, Ok, Err, IfOk, [], codes, inl, refl, sym, subst, arith, rules}
 use Rattle.toml.specs.Data.{Data, Members}
 use Rattle.lf_base.specs.declared.memory.NoMemory.{NoMemory}
 use Rattle.node_settings.specs.declared.settings_fault.SettingsFault.{SettingsFault}

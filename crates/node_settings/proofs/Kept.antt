@@ -1,17 +1,19 @@
 -- A configuration's settings are there where all of its rules are kept, and only there.
-use Rattle.std.proofs.Common.{◌≡◌, ◌≢◌, ℕ, ◌^◌, ◌-◌, ◌∷◌, ◌++◌, [], ◌⊎◌, inl, inr, List, Option, Some, None, IsSome, IsSomeAnd, MatchOption, sym, ap, ◌∙◌, subst, refl, codes, true, false}
+use Rattle.std.proofs.Common.{◌≡◌, ℕ, ◌^◌, ◌-◌, ◌∷◌, ◌++◌, [], List, Option, Some, None, IsSome, IsSomeAnd, MatchOption, option_map, sym, ap, subst, refl, codes, true, false}
 use Rattle.toml.specs.Data.{Data, string, Members, get_member}
 use Rattle.node_settings.specs.declared.settings.Settings.{Settings}
 use Rattle.node_settings.specs.declared.settings.ServiceSettings.{ServiceSettings}
 use Rattle.node_settings.specs.declared.settings.LeaseSettings.{LeaseSettings}
+use Rattle.node_settings.specs.declared.settings.MountSettings.{MountSettings}
+use Rattle.node_settings.specs.declared.settings.ProxySettings.{ProxySettings}
 use Rattle.node_settings.specs.declared.settings.LeaseType.{LeaseType}
 use Rattle.node_settings.specs.declared.settings.LeaseType.TheVariants as lease
 use Rattle.node_settings.specs.declared.rule.Rule.{Rule}
 use Rattle.node_settings.specs.declared.rule.Rule.TheVariants as rule
-use Rattle.node_settings.specs.Configuration.{IsFuse, IsHttp, IsData, IsLease, IsRoot, IsStaticRoot, lease_keys}
+use Rattle.node_settings.specs.Configuration.{IsFuse, IsFuseTable, IsHttp, IsProxy, IsProxyTable, IsData, IsLease, IsRoot, IsStaticRoot, dir_of, fuse_keys, lease_keys, program_of, proxy_keys}
 use Rattle.node_settings.specs.Service.{IsServiceLease, IsServiceRoot}
 use Rattle.node_settings.specs.Rules.{AllKept, Keeps, Says, members_or_none, node_rules, service_rules, static_rules}
-use Rattle.node_settings.specs.Values.{HasOnly, HasService, section, IsText, IsNameText, IsAddressText, IsUrlText, IsSomeOf, IsFlag, IsOff, IsSwitch, IsNumber, IsLeaseType}
+use Rattle.node_settings.specs.Values.{HasOnly, HasService, section, IsText, IsPath, IsNameText, IsAddressText, IsTargetText, IsUrlText, IsSomeOf, IsFlag, IsOff, IsSwitch, IsNumber, IsLeaseType}
 
 -- ---- one key
 
@@ -86,6 +88,49 @@ asks_static None t is static service = absurd (cc)
 asks_static (Some d) lease.Static is static service = absurd (cc)
 asks_static (Some d) lease.Service is static service = absurd (cc)
 
+-- ---- where the one key is, the other is too
+
+-- what stands under two keys of which the second brings the first
+abbrev Brings : Option Data → Option Data → Type 0
+Brings one other = IsSome one → IsSome other
+
+mount_of : (d p : Option Data) (dir program : Option (List ℕ)) → MatchOption d (dir ≡ None) (λ x. IsSomeOf IsPath x dir) → MatchOption p (program ≡ None) (λ x. IsSomeOf IsPath x program)
+    → Brings p d → (mount : Option MountSettings) × (dir_of mount ≡ dir) × (program_of mount ≡ program)
+mount_of d p (Some dir) program is has brings = (Some (record { dir = dir; program = program }), refl, refl)
+mount_of d None None program is has brings = (None, refl, sym has)
+mount_of None (Some p) None program is has brings = absurd (cc (brings refl))
+mount_of (Some d) (Some p) None program is has brings = absurd is
+
+-- a program stands only beside a folder
+brings_dir : (d p : Option Data) (mount : Option MountSettings) → MatchOption d (dir_of mount ≡ None) (λ x. IsSomeOf IsPath x (dir_of mount))
+    → MatchOption p (program_of mount ≡ None) (λ x. IsSomeOf IsPath x (program_of mount)) → Brings p d
+brings_dir (Some d) p mount is has some = refl
+brings_dir None None mount is has some = some
+brings_dir None (Some p) None is has some = absurd has
+brings_dir None (Some p) (Some mount) is has some = absurd (cc)
+
+proxy_of : (a t : Option Data) (addr target : Option (List ℕ)) → MatchOption a (addr ≡ None) (λ x. IsSomeOf IsAddressText x addr)
+    → MatchOption t (target ≡ None) (λ x. IsSomeOf IsTargetText x target) → Brings t a → Brings a t
+    → (proxy : Option ProxySettings) × (option_map (λ p. p.addr) proxy ≡ addr) × (option_map (λ p. p.target) proxy ≡ target)
+proxy_of a t (Some addr) (Some target) is has back forth = (Some (record { addr = addr; target = target }), refl, refl)
+proxy_of a t None None is has back forth = (None, refl, refl)
+proxy_of None t (Some addr) None is has back forth = absurd (cc)
+proxy_of (Some a) None (Some addr) None is has back forth = absurd (cc (forth refl))
+proxy_of (Some a) (Some t) (Some addr) None is has back forth = absurd has
+proxy_of a None None (Some target) is has back forth = absurd (cc)
+proxy_of None (Some t) None (Some target) is has back forth = absurd (cc (back refl))
+proxy_of (Some a) (Some t) None (Some target) is has back forth = absurd is
+
+-- neither stands alone
+brings_both : (a t : Option Data) (proxy : Option ProxySettings) → MatchOption a (option_map (λ p. p.addr) proxy ≡ None) (λ x. IsSomeOf IsAddressText x (option_map (λ p. p.addr) proxy))
+    → MatchOption t (option_map (λ p. p.target) proxy ≡ None) (λ x. IsSomeOf IsTargetText x (option_map (λ p. p.target) proxy)) → Brings t a × Brings a t
+brings_both None None proxy is has = (λ some. some, λ some. some)
+brings_both (Some a) (Some t) proxy is has = (λ some. refl, λ some. refl)
+brings_both None (Some t) None is has = absurd has
+brings_both None (Some t) (Some proxy) is has = absurd (cc)
+brings_both (Some a) None None is has = absurd is
+brings_both (Some a) None (Some proxy) is has = absurd (cc)
+
 -- ---- all rules
 
 -- the members of the table of this name
@@ -96,15 +141,16 @@ kept_lease : (t : Members) → HasOnly lease_keys t → Allows IsLeaseType (get_
     → IsSome (get_member (codes "advertise-url") t) → Allows IsUrlText (get_member (codes "advertise-url") t)
     → IsSome (get_member (codes "hostname") t) → Allows IsText (get_member (codes "hostname") t)
     → Allows IsUrlText (get_member (codes "service-url") t) → (IsService (get_member (codes "type") t) → IsSome (get_member (codes "service-url") t))
-    → Allows (IsNumber 1 86400000) (get_member (codes "ttl") t) → (lease : LeaseSettings) × IsLease t lease
-kept_lease t keys kind candidate has_url url has_hostname hostname service_url service ttl =
+    → Allows (IsNumber 1 86400000) (get_member (codes "ttl") t) → Allows (IsNumber 1 86400000) (get_member (codes "halt-ttl") t) → (lease : LeaseSettings) × IsLease t lease
+kept_lease t keys kind candidate has_url url has_hostname hostname service_url service ttl halt_ttl =
     let k = held_or IsLeaseType lease.Static _ kind in
     let c = held_or IsFlag false _ candidate in
     let u = held IsUrlText _ has_url url in
     let n = held IsText _ has_hostname hostname in
     let s = held_some IsUrlText _ service_url in
-    let l = held_or (IsNumber 1 86400000) 10000 _ ttl in (
-      record { lease_type = k.0; candidate = c.0; advertise_url = u.0; hostname = n.0; service_url = s.0; ttl = l.0 },
+    let l = held_or (IsNumber 1 86400000) 10000 _ ttl in
+    let w = held_or (IsNumber 1 86400000) l.0 _ halt_ttl in (
+      record { lease_type = k.0; candidate = c.0; advertise_url = u.0; hostname = n.0; service_url = s.0; ttl = l.0; halt_ttl = w.0 },
       record {
         keys = keys;
         lease_type = k.1;
@@ -114,112 +160,62 @@ kept_lease t keys kind candidate has_url url has_hostname hostname service_url s
         service_url = s.1;
         has_service = has_service _ _ k.0 s.0 k.1 s.1 service;
         ttl = l.1;
+        halt_ttl = w.1;
       },
     )
+
+kept_fuse : (t : Members) → HasOnly fuse_keys t → Allows IsText (get_member (codes "listen") t) → Brings (get_member (codes "program") t) (get_member (codes "dir") t)
+    → Allows IsPath (get_member (codes "dir") t) → Allows IsPath (get_member (codes "program") t) → (socket : List ℕ) × (mount : Option MountSettings) × IsFuse t socket mount
+kept_fuse t keys listen brings dir program =
+    let s = held_or IsText (codes "litefs.sock") _ listen in
+    let d = held_some IsPath _ dir in
+    let p = held_some IsPath _ program in
+    let m = mount_of _ _ d.0 p.0 d.1 p.1 brings in
+    (s.0, m.0, subst (λ (x : Option (List ℕ)). IsFuseTable t s.0 x (program_of m.0)) (sym m.1) (subst (λ (y : Option (List ℕ)). IsFuseTable t s.0 d.0 y) (sym m.2) (record { keys = keys; listen = s.1; a_dir = d.1; a_program = p.1 })))
+
+kept_proxy : (t : Members) → HasOnly proxy_keys t → Brings (get_member (codes "target") t) (get_member (codes "addr") t) → Allows IsAddressText (get_member (codes "addr") t)
+    → Brings (get_member (codes "addr") t) (get_member (codes "target") t) → Allows IsTargetText (get_member (codes "target") t) → (proxy : Option ProxySettings) × IsProxy t proxy
+kept_proxy t keys back addr forth target =
+    let a = held_some IsAddressText _ addr in
+    let g = held_some IsTargetText _ target in
+    let p = proxy_of _ _ a.0 g.0 a.1 g.1 back forth in
+    (p.0, subst (λ (x : Option (List ℕ)). IsProxyTable t x (option_map (λ q. q.target) p.0)) (sym p.1) (subst (λ (y : Option (List ℕ)). IsProxyTable t a.0 y) (sym p.2) (record { keys = keys; an_addr = a.1; a_target = g.1 })))
 
 pub kept : (root : Members) → AllKept node_rules root → (s : Settings) × IsRoot root s
 kept root h =
     let database = held IsNameText _ (h.1.0) (h.1.1.0) in
     let log = held_or IsSwitch true _ (h.1.1.1.0) in
-    let socket = held_or IsText (codes "litefs.sock") _ (h.1.1.1.1.1.1.0) in
-    let http = held_or IsAddressText (codes ":20202") _ (h.1.1.1.1.1.1.1.1.1.0) in
-    let compress = held_or IsOff false _ (h.1.1.1.1.1.1.1.1.1.1.1.1.0) in
-    let files = held_or (IsNumber 1 (2 ^ 63 - 1)) 1000 _ (h.1.1.1.1.1.1.1.1.1.1.1.1.1.0) in
-    let leased = kept_lease (Inside (codes "lease") root) (h.1.1.1.1.1.1.1.1.1.1.1.1.1.1.1.0) (h.1.1.1.1.1.1.1.1.1.1.1.1.1.1.1.1.0) (h.1.1.1.1.1.1.1.1.1.1.1.1.1.1.1.1.1.0) (h.1.1.1.1.1.1.1.1.1.1.1.1.1.1.1.1.1.1.0) (h.1.1.1.1.1.1.1.1.1.1.1.1.1.1.1.1.1.1.1.0) (h.1.1.1.1.1.1.1.1.1.1.1.1.1.1.1.1.1.1.1.1.0) (h.1.1.1.1.1.1.1.1.1.1.1.1.1.1.1.1.1.1.1.1.1.0)
-    (h.1.1.1.1.1.1.1.1.1.1.1.1.1.1.1.1.1.1.1.1.1.1.0) (h.1.1.1.1.1.1.1.1.1.1.1.1.1.1.1.1.1.1.1.1.1.1.1.0) (h.1.1.1.1.1.1.1.1.1.1.1.1.1.1.1.1.1.1.1.1.1.1.1.1.0) in (
-      record { database = database.0; log = log.0; socket = socket.0; http = http.0; compress = compress.0; retention_files = files.0; lease = leased.0 },
+    let files = kept_fuse (Inside (codes "fuse") root) (h.1.1.1.1.1.0) (h.1.1.1.1.1.1.0) (h.1.1.1.1.1.1.1.0) (h.1.1.1.1.1.1.1.1.0) (h.1.1.1.1.1.1.1.1.1.0) in
+    let http = held_or IsAddressText (codes ":20202") _ (h.1.1.1.1.1.1.1.1.1.1.1.1.0) in
+    let passed = kept_proxy (Inside (codes "proxy") root) (h.1.1.1.1.1.1.1.1.1.1.1.1.1.1.0) (h.1.1.1.1.1.1.1.1.1.1.1.1.1.1.1.0) (h.1.1.1.1.1.1.1.1.1.1.1.1.1.1.1.1.0) (h.1.1.1.1.1.1.1.1.1.1.1.1.1.1.1.1.1.0) (h.1.1.1.1.1.1.1.1.1.1.1.1.1.1.1.1.1.1.0) in
+    let compress = held_or IsOff false _ (h.1.1.1.1.1.1.1.1.1.1.1.1.1.1.1.1.1.1.1.1.1.0) in
+    let most = held_or (IsNumber 1 (2 ^ 63 - 1)) 1000 _ (h.1.1.1.1.1.1.1.1.1.1.1.1.1.1.1.1.1.1.1.1.1.1.0) in
+    let leased = kept_lease (Inside (codes "lease") root) (h.1.1.1.1.1.1.1.1.1.1.1.1.1.1.1.1.1.1.1.1.1.1.1.1.0) (h.1.1.1.1.1.1.1.1.1.1.1.1.1.1.1.1.1.1.1.1.1.1.1.1.1.0) (h.1.1.1.1.1.1.1.1.1.1.1.1.1.1.1.1.1.1.1.1.1.1.1.1.1.1.0) (h.1.1.1.1.1.1.1.1.1.1.1.1.1.1.1.1.1.1.1.1.1.1.1.1.1.1.1.0) (h.1.1.1.1.1.1.1.1.1.1.1.1.1.1.1.1.1.1.1.1.1.1.1.1.1.1.1.1.0) (h.1.1.1.1.1.1.1.1.1.1.1.1.1.1.1.1.1.1.1.1.1.1.1.1.1.1.1.1.1.0) (h.1.1.1.1.1.1.1.1.1.1.1.1.1.1.1.1.1.1.1.1.1.1.1.1.1.1.1.1.1.1.0) (h.1.1.1.1.1.1.1.1.1.1.1.1.1.1.1.1.1.1.1.1.1.1.1.1.1.1.1.1.1.1.1.0) (h.1.1.1.1.1.1.1.1.1.1.1.1.1.1.1.1.1.1.1.1.1.1.1.1.1.1.1.1.1.1.1.1.0) (h.1.1.1.1.1.1.1.1.1.1.1.1.1.1.1.1.1.1.1.1.1.1.1.1.1.1.1.1.1.1.1.1.1.0) (h.1.1.1.1.1.1.1.1.1.1.1.1.1.1.1.1.1.1.1.1.1.1.1.1.1.1.1.1.1.1.1.1.1.1.0) in (
+      record { database = database.0; log = log.0; socket = files.0; mount = files.1; http = http.0; proxy = passed.0; compress = compress.0; retention_files = most.0; lease = leased.0 },
       record {
         keys = h.0;
         database = database.1;
         log = log.1;
-        fuse = in_table (section (codes "fuse") root) (λ t. IsFuse t socket.0) (h.1.1.1.1.0) (record { keys = h.1.1.1.1.1.0; listen = socket.1 });
-        http = in_table (section (codes "http") root) (λ t. IsHttp t http.0) (h.1.1.1.1.1.1.1.0) (record { keys = h.1.1.1.1.1.1.1.1.0; addr = http.1 });
-        data_kept = in_table (section (codes "data") root) (λ t. IsData t compress.0 files.0) (h.1.1.1.1.1.1.1.1.1.1.0) (record { keys = h.1.1.1.1.1.1.1.1.1.1.1.0; compress = compress.1; retention_files = files.1 });
-        lease = in_table (section (codes "lease") root) (λ t. IsLease t leased.0) (h.1.1.1.1.1.1.1.1.1.1.1.1.1.1.0) leased.1;
+        fuse = in_table (section (codes "fuse") root) (λ t. IsFuse t files.0 files.1) (h.1.1.1.1.0) files.2;
+        http = in_table (section (codes "http") root) (λ t. IsHttp t http.0) (h.1.1.1.1.1.1.1.1.1.1.0) (record { keys = h.1.1.1.1.1.1.1.1.1.1.1.0; addr = http.1 });
+        proxy = in_table (section (codes "proxy") root) (λ t. IsProxy t passed.0) (h.1.1.1.1.1.1.1.1.1.1.1.1.1.0) passed.1;
+        data_kept = in_table (section (codes "data") root) (λ t. IsData t compress.0 most.0) (h.1.1.1.1.1.1.1.1.1.1.1.1.1.1.1.1.1.1.1.0) (record { keys = h.1.1.1.1.1.1.1.1.1.1.1.1.1.1.1.1.1.1.1.1.0; compress = compress.1; retention_files = most.1 });
+        lease = in_table (section (codes "lease") root) (λ t. IsLease t leased.0) (h.1.1.1.1.1.1.1.1.1.1.1.1.1.1.1.1.1.1.1.1.1.1.1.0) leased.1;
       },
     )
 
 pub keeps : (root : Members) (s : Settings) → IsRoot root s → AllKept node_rules root
 keeps root s is =
     let database = there IsNameText _ s.database is.database in
-    let fuse = of_table (section (codes "fuse") root) (λ t. IsFuse t s.socket) is.fuse in
+    let fuse = of_table (section (codes "fuse") root) (λ t. IsFuse t s.socket s.mount) is.fuse in
     let http = of_table (section (codes "http") root) (λ t. IsHttp t s.http) is.http in
+    let passed = of_table (section (codes "proxy") root) (λ t. IsProxy t s.proxy) is.proxy in
+    let beside = brings_both _ _ s.proxy passed.1.an_addr passed.1.a_target in
     let stored = of_table (section (codes "data") root) (λ t. IsData t s.compress s.retention_files) is.data_kept in
     let leased = of_table (section (codes "lease") root) (λ t. IsLease t s.lease) is.lease in
     let url = there IsUrlText _ s.lease.advertise_url leased.1.advertise_url in
-    let hostname = there IsText _ s.lease.hostname leased.1.hostname in (
-      is.keys,
-      (
-        database.0,
-        (
-          database.1,
-          (
-            allowed_or IsSwitch true _ s.log is.log,
-            (
-              fuse.0,
-              (
-                fuse.1.keys,
-                (
-                  allowed_or IsText (codes "litefs.sock") _ s.socket fuse.1.listen,
-                  (
-                    http.0,
-                    (
-                      http.1.keys,
-                      (
-                        allowed_or IsAddressText (codes ":20202") _ s.http http.1.addr,
-                        (
-                          stored.0,
-                          (
-                            stored.1.keys,
-                            (
-                              allowed_or IsOff false _ s.compress stored.1.compress,
-                              (
-                                allowed_or (IsNumber 1 (2 ^ 63 - 1)) 1000 _ s.retention_files stored.1.retention_files,
-                                (
-                                  leased.0,
-                                  (
-                                    leased.1.keys,
-                                    (
-                                      allowed_or IsLeaseType lease.Static _ s.lease.lease_type leased.1.lease_type,
-                                      (
-                                        allowed_or IsFlag false _ s.lease.candidate leased.1.candidate,
-                                        (
-                                          url.0,
-                                          (
-                                            url.1,
-                                            (
-                                              hostname.0,
-                                              (
-                                                hostname.1,
-                                                (
-                                                  allowed_some IsUrlText _ s.lease.service_url leased.1.service_url,
-                                                  (
-                                                    asks_service _ _ s.lease.lease_type s.lease.service_url leased.1.lease_type leased.1.service_url leased.1.has_service,
-                                                    (allowed_or (IsNumber 1 86400000) 10000 _ s.lease.ttl leased.1.ttl, tt),
-                                                  ),
-                                                ),
-                                              ),
-                                            ),
-                                          ),
-                                        ),
-                                      ),
-                                    ),
-                                  ),
-                                ),
-                              ),
-                            ),
-                          ),
-                        ),
-                      ),
-                    ),
-                  ),
-                ),
-              ),
-            ),
-          ),
-        ),
-      ),
-    )
+    let hostname = there IsText _ s.lease.hostname leased.1.hostname in
+    (is.keys, (database.0, (database.1, (allowed_or IsSwitch true _ s.log is.log, (fuse.0, (fuse.1.keys, (allowed_or IsText (codes "litefs.sock") _ s.socket fuse.1.listen, (brings_dir _ _ s.mount fuse.1.a_dir fuse.1.a_program, (allowed_some IsPath _ (dir_of s.mount) fuse.1.a_dir, (allowed_some IsPath _ (program_of s.mount) fuse.1.a_program, (http.0, (http.1.keys, (allowed_or IsAddressText (codes ":20202") _ s.http http.1.addr, (passed.0, (passed.1.keys, (beside.0, (allowed_some IsAddressText _ (option_map (λ p. p.addr) s.proxy) passed.1.an_addr, (beside.1, (allowed_some IsTargetText _ (option_map (λ p. p.target) s.proxy) passed.1.a_target, (stored.0, (stored.1.keys, (allowed_or IsOff false _ s.compress stored.1.compress, (allowed_or (IsNumber 1 (2 ^ 63 - 1)) 1000 _ s.retention_files stored.1.retention_files, (leased.0, (leased.1.keys, (allowed_or IsLeaseType lease.Static _ s.lease.lease_type leased.1.lease_type, (allowed_or IsFlag false _ s.lease.candidate leased.1.candidate, (url.0, (url.1, (hostname.0, (hostname.1, (allowed_some IsUrlText _ s.lease.service_url leased.1.service_url, (asks_service _ _ s.lease.lease_type s.lease.service_url leased.1.lease_type leased.1.service_url leased.1.has_service, (allowed_or (IsNumber 1 86400000) 10000 _ s.lease.ttl leased.1.ttl, (allowed_or (IsNumber 1 86400000) s.lease.ttl _ s.lease.halt_ttl leased.1.halt_ttl, tt)))))))))))))))))))))))))))))))))))
 
 -- ---- of a node that needs no lease service
 
@@ -254,108 +250,62 @@ kept_service root h =
     let database = held_some IsNameText _ (h.1.0) in
     let log = held_or IsSwitch true _ (h.1.1.0) in
     let socket = held_or IsText (codes "litefs.sock") _ (h.1.1.1.1.1.0) in
-    let http = held_or IsAddressText (codes ":20202") _ (h.1.1.1.1.1.1.1.1.0) in
-    let compress = held_or IsOff false _ (h.1.1.1.1.1.1.1.1.1.1.1.0) in
-    let files = held_or (IsNumber 1 (2 ^ 63 - 1)) 1000 _ (h.1.1.1.1.1.1.1.1.1.1.1.1.0) in
-    let kind = held_or IsLeaseType lease.Static _ (h.1.1.1.1.1.1.1.1.1.1.1.1.1.1.1.0) in
-    let candidate = held_or IsFlag false _ (h.1.1.1.1.1.1.1.1.1.1.1.1.1.1.1.1.0) in
-    let url = held_some IsUrlText _ (h.1.1.1.1.1.1.1.1.1.1.1.1.1.1.1.1.1.0) in
-    let hostname = held_some IsText _ (h.1.1.1.1.1.1.1.1.1.1.1.1.1.1.1.1.1.1.0) in
-    let service_url = held_some IsUrlText _ (h.1.1.1.1.1.1.1.1.1.1.1.1.1.1.1.1.1.1.1.0) in
-    let ttl = held_or (IsNumber 1 86400000) 10000 _ (h.1.1.1.1.1.1.1.1.1.1.1.1.1.1.1.1.1.1.1.1.0) in (
+    let dir = held_some IsPath _ (h.1.1.1.1.1.1.0) in
+    let program = held_some IsPath _ (h.1.1.1.1.1.1.1.0) in
+    let http = held_or IsAddressText (codes ":20202") _ (h.1.1.1.1.1.1.1.1.1.1.0) in
+    let addr = held_some IsAddressText _ (h.1.1.1.1.1.1.1.1.1.1.1.1.1.0) in
+    let target = held_some IsTargetText _ (h.1.1.1.1.1.1.1.1.1.1.1.1.1.1.0) in
+    let compress = held_or IsOff false _ (h.1.1.1.1.1.1.1.1.1.1.1.1.1.1.1.1.1.0) in
+    let files = held_or (IsNumber 1 (2 ^ 63 - 1)) 1000 _ (h.1.1.1.1.1.1.1.1.1.1.1.1.1.1.1.1.1.1.0) in
+    let kind = held_or IsLeaseType lease.Static _ (h.1.1.1.1.1.1.1.1.1.1.1.1.1.1.1.1.1.1.1.1.1.0) in
+    let candidate = held_or IsFlag false _ (h.1.1.1.1.1.1.1.1.1.1.1.1.1.1.1.1.1.1.1.1.1.1.0) in
+    let url = held_some IsUrlText _ (h.1.1.1.1.1.1.1.1.1.1.1.1.1.1.1.1.1.1.1.1.1.1.1.0) in
+    let hostname = held_some IsText _ (h.1.1.1.1.1.1.1.1.1.1.1.1.1.1.1.1.1.1.1.1.1.1.1.1.0) in
+    let service_url = held_some IsUrlText _ (h.1.1.1.1.1.1.1.1.1.1.1.1.1.1.1.1.1.1.1.1.1.1.1.1.1.0) in
+    let ttl = held_or (IsNumber 1 86400000) 10000 _ (h.1.1.1.1.1.1.1.1.1.1.1.1.1.1.1.1.1.1.1.1.1.1.1.1.1.1.0) in
+    let halt_ttl = held_or (IsNumber 1 86400000) ttl.0 _ (h.1.1.1.1.1.1.1.1.1.1.1.1.1.1.1.1.1.1.1.1.1.1.1.1.1.1.1.0) in (
       record { log = log.0; http = http.0; ttl = ttl.0 },
       record {
         database = database.0;
         socket = socket.0;
+        dir = dir.0;
+        program = program.0;
+        addr = addr.0;
+        target = target.0;
         packed = compress.0;
         files = files.0;
         keys = h.0;
         named = database.1;
         log = log.1;
-        fuse = in_table (section (codes "fuse") root) (λ t. IsFuse t socket.0) (h.1.1.1.0) (record { keys = h.1.1.1.1.0; listen = socket.1 });
-        http = in_table (section (codes "http") root) (λ t. IsHttp t http.0) (h.1.1.1.1.1.1.0) (record { keys = h.1.1.1.1.1.1.1.0; addr = http.1 });
-        data_kept = in_table (section (codes "data") root) (λ t. IsData t compress.0 files.0) (h.1.1.1.1.1.1.1.1.1.0) (record { keys = h.1.1.1.1.1.1.1.1.1.1.0; compress = compress.1; retention_files = files.1 });
-        lease = in_table (section (codes "lease") root) (λ t. IsServiceLease t ttl.0) (h.1.1.1.1.1.1.1.1.1.1.1.1.1.0)
+        fuse = in_table (section (codes "fuse") root) (λ t. IsFuseTable t socket.0 dir.0 program.0) (h.1.1.1.0) (record { keys = h.1.1.1.1.0; listen = socket.1; a_dir = dir.1; a_program = program.1 });
+        http = in_table (section (codes "http") root) (λ t. IsHttp t http.0) (h.1.1.1.1.1.1.1.1.0) (record { keys = h.1.1.1.1.1.1.1.1.1.0; addr = http.1 });
+        proxy = in_table (section (codes "proxy") root) (λ t. IsProxyTable t addr.0 target.0) (h.1.1.1.1.1.1.1.1.1.1.1.0) (record { keys = h.1.1.1.1.1.1.1.1.1.1.1.1.0; an_addr = addr.1; a_target = target.1 });
+        data_kept = in_table (section (codes "data") root) (λ t. IsData t compress.0 files.0) (h.1.1.1.1.1.1.1.1.1.1.1.1.1.1.1.0) (record { keys = h.1.1.1.1.1.1.1.1.1.1.1.1.1.1.1.1.0; compress = compress.1; retention_files = files.1 });
+        lease = in_table (section (codes "lease") root) (λ t. IsServiceLease t ttl.0) (h.1.1.1.1.1.1.1.1.1.1.1.1.1.1.1.1.1.1.1.0)
             (record {
               kind = kind.0;
               candidate = candidate.0;
               advertise_url = url.0;
               hostname = hostname.0;
               service_url = service_url.0;
-              keys = h.1.1.1.1.1.1.1.1.1.1.1.1.1.1.0;
+              halt_ttl = halt_ttl.0;
+              keys = h.1.1.1.1.1.1.1.1.1.1.1.1.1.1.1.1.1.1.1.1.0;
               a_type = kind.1;
               a_flag = candidate.1;
               advertised = url.1;
               named = hostname.1;
               served = service_url.1;
               lasts = ttl.1;
+              permitted = halt_ttl.1;
             });
       },
     )
 
 pub keeps_service : (root : Members) (s : ServiceSettings) → IsServiceRoot root s → AllKept service_rules root
 keeps_service root s is =
-    let fuse = of_table (section (codes "fuse") root) (λ t. IsFuse t is.socket) is.fuse in
+    let fuse = of_table (section (codes "fuse") root) (λ t. IsFuseTable t is.socket is.dir is.program) is.fuse in
     let http = of_table (section (codes "http") root) (λ t. IsHttp t s.http) is.http in
+    let passed = of_table (section (codes "proxy") root) (λ t. IsProxyTable t is.addr is.target) is.proxy in
     let stored = of_table (section (codes "data") root) (λ t. IsData t is.packed is.files) is.data_kept in
-    let leased = of_table (section (codes "lease") root) (λ t. IsServiceLease t s.ttl) is.lease in (
-      is.keys,
-      (
-        allowed_some IsNameText _ is.database is.named,
-        (
-          allowed_or IsSwitch true _ s.log is.log,
-          (
-            fuse.0,
-            (
-              fuse.1.keys,
-              (
-                allowed_or IsText (codes "litefs.sock") _ is.socket fuse.1.listen,
-                (
-                  http.0,
-                  (
-                    http.1.keys,
-                    (
-                      allowed_or IsAddressText (codes ":20202") _ s.http http.1.addr,
-                      (
-                        stored.0,
-                        (
-                          stored.1.keys,
-                          (
-                            allowed_or IsOff false _ is.packed stored.1.compress,
-                            (
-                              allowed_or (IsNumber 1 (2 ^ 63 - 1)) 1000 _ is.files stored.1.retention_files,
-                              (
-                                leased.0,
-                                (
-                                  leased.1.keys,
-                                  (
-                                    allowed_or IsLeaseType lease.Static _ leased.1.kind leased.1.a_type,
-                                    (
-                                      allowed_or IsFlag false _ leased.1.candidate leased.1.a_flag,
-                                      (
-                                        allowed_some IsUrlText _ leased.1.advertise_url leased.1.advertised,
-                                        (
-                                          allowed_some IsText _ leased.1.hostname leased.1.named,
-                                          (
-                                            allowed_some IsUrlText _ leased.1.service_url leased.1.served,
-                                            (allowed_or (IsNumber 1 86400000) 10000 _ s.ttl leased.1.lasts, tt),
-                                          ),
-                                        ),
-                                      ),
-                                    ),
-                                  ),
-                                ),
-                              ),
-                            ),
-                          ),
-                        ),
-                      ),
-                    ),
-                  ),
-                ),
-              ),
-            ),
-          ),
-        ),
-      ),
-    )
+    let leased = of_table (section (codes "lease") root) (λ t. IsServiceLease t s.ttl) is.lease in
+    (is.keys, (allowed_some IsNameText _ is.database is.named, (allowed_or IsSwitch true _ s.log is.log, (fuse.0, (fuse.1.keys, (allowed_or IsText (codes "litefs.sock") _ is.socket fuse.1.listen, (allowed_some IsPath _ is.dir fuse.1.a_dir, (allowed_some IsPath _ is.program fuse.1.a_program, (http.0, (http.1.keys, (allowed_or IsAddressText (codes ":20202") _ s.http http.1.addr, (passed.0, (passed.1.keys, (allowed_some IsAddressText _ is.addr passed.1.an_addr, (allowed_some IsTargetText _ is.target passed.1.a_target, (stored.0, (stored.1.keys, (allowed_or IsOff false _ is.packed stored.1.compress, (allowed_or (IsNumber 1 (2 ^ 63 - 1)) 1000 _ is.files stored.1.retention_files, (leased.0, (leased.1.keys, (allowed_or IsLeaseType lease.Static _ leased.1.kind leased.1.a_type, (allowed_or IsFlag false _ leased.1.candidate leased.1.a_flag, (allowed_some IsUrlText _ leased.1.advertise_url leased.1.advertised, (allowed_some IsText _ leased.1.hostname leased.1.named, (allowed_some IsUrlText _ leased.1.service_url leased.1.served, (allowed_or (IsNumber 1 86400000) 10000 _ s.ttl leased.1.lasts, (allowed_or (IsNumber 1 86400000) s.ttl _ leased.1.halt_ttl leased.1.permitted, tt))))))))))))))))))))))))))))

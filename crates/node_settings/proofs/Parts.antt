@@ -48,9 +48,14 @@ no_first : (b : ℕ) (rest : List ℕ) → IsHost (b ∷ rest) → b ≢ 58
 no_first b rest (inl name) e = no_name_colon b (All-head (λ b. IsTrue (is_host_byte b)) b rest name) e
 no_first b rest (inr bracketed) e = let first : b ≡ 91 = cc (bracketed.1) in omega arith
 
-behind : (host port address : List ℕ) → address ≡ host ++ codes ":" ++ port → 0 < length host → IsHost host → get_or address 0 0 ≢ 58
+pub behind : (host port address : List ℕ) → address ≡ host ++ codes ":" ++ port → 0 < length host → IsHost host → get_or address 0 0 ≢ 58
 behind [] port address e some is first = absurd (omega arith)
 behind (b ∷ host) port address e some is first = let f : get_or address 0 0 ≡ b = ap (λ (l : List ℕ). get_or l 0 0) e in no_first b host is (sym f ∙ first)
+
+-- an address that doesn't begin with the colon has a host
+pub some_host : (text host port : List ℕ) → text ≡ host ++ codes ":" ++ port → get_or text 0 0 ≢ 58 → 0 < length host
+some_host text [] port e first = absurd (first (ap (λ (l : List ℕ). get_or l 0 0) e))
+some_host text (b ∷ host) port e first = omega arith
 
 -- an address behind `http://`, and it does not begin with the colon
 pub url_address : (url address : List ℕ) → url ≡ codes "http://" ++ address → IsUrl url → IsAddress address × (get_or address 0 0 ≢ 58)

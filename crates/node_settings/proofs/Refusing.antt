@@ -1,7 +1,6 @@
 -- A text whose root breaks a rule says no settings.
-use Rattle.std.proofs.Common.{◌≡◌, ℕ, ◌≤◌, ◌<◌, [], List, length, Some, Option, Result, Ok, Err, IsErrAnd, IsUtf8, sym, ◌∙◌, subst, arith, inl, inr}
+use Rattle.std.proofs.Common.{◌≡◌, ℕ, ◌≤◌, [], List, length, Some, Result, Ok, Err, IsErrAnd, sym, ◌∙◌, subst, arith}
 use Rattle.toml.specs.Data.{Members}
-use Rattle.toml.specs.Parse.{parse_document}
 use Rattle.node_settings.specs.declared.complaint.Complaint.TheVariants as complaint
 use Rattle.node_settings.specs.declared.rule.Rule.{Rule}
 use Rattle.node_settings.specs.declared.settings_fault.SettingsFault.{SettingsFault}
@@ -9,7 +8,7 @@ use Rattle.node_settings.specs.declared.settings_fault.SettingsFault.TheVariants
 use Rattle.node_settings.specs.declared.settings_refusal.SettingsRefusal.{SettingsRefusal}
 use Rattle.node_settings.specs.declared.settings_refusal.SettingsRefusal.TheVariants as refusal
 use Rattle.node_settings.specs.Answers.{Reads}
-use Rattle.node_settings.specs.Complaints.{Answers, Complains, Refuses}
+use Rattle.node_settings.specs.Complaints.{Answers, Refuses}
 use Rattle.node_settings.specs.Lines.{IsDocument}
 
 -- a text is one document

@@ -2,13 +2,13 @@
 use Rattle.std.proofs.Math.Nat.{eq-or-lt_of_le}
 use Rattle.std.proofs.Math.Seq.{take-length}
 use Rattle.std.proofs.lemmas.Str.{IsUtf8-nil}
-use Rattle.std.proofs.Common.{sym, ◌≡◌, ◌≢◌, ◌⊎◌, inl, inr, ℕ, ◌<◌, ◌≤◌, ◌+◌, ◌-◌, List, [], length, take, get_or, Option, Some, None, IsUtf8, Bor, refl, arith, below_more, subst}
+use Rattle.std.proofs.Common.{sym, ◌≡◌, ◌≢◌, ◌⊎◌, inl, inr, ℕ, ◌<◌, ◌+◌, ◌-◌, List, [], length, take, get_or, Option, Some, None, Bor, refl, arith, below_more, subst}
 use Rattle.toml.specs.Data.{Members, no_members}
 use Rattle.toml.specs.Parse.{parse_document}
 use Rattle.toml.proofs.OnLiterals.{toml_on_literals}
 use Rattle.node_settings.specs.declared.place.Place.{Place}
 use Rattle.node_settings.specs.declared.place.Place.TheVariants as place
-use Rattle.node_settings.specs.Lines.{AreLines, BringsAt, BreaksAt, IsDocument, LacksAt, NoneIsBetween}
+use Rattle.node_settings.specs.Lines.{AreLines, BreaksAt, IsDocument, LacksAt, NoneIsBetween}
 use Rattle.node_settings.specs.Rules.{Stands}
 use Rattle.node_settings.proofs.Refusing.{one_document}
 
@@ -21,6 +21,7 @@ empty_lacks p None h = h
 empty_lacks place.Root (Some name) h = absurd (cc)
 empty_lacks place.Fuse (Some name) h = absurd (cc)
 empty_lacks place.Http (Some name) h = absurd (cc)
+empty_lacks place.Proxy (Some name) h = absurd (cc)
 empty_lacks place.Data (Some name) h = absurd (cc)
 empty_lacks place.Lease (Some name) h = absurd (cc)
 

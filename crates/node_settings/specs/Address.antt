@@ -39,6 +39,10 @@ pub record IsAddress (text : List ℕ) : Type 0 where
   pub is_host : IsHost host
   pub is_port : IsPort port
 
+-- the same, and the host is not empty
+abbrev pub IsTarget : List ℕ → Type 0
+IsTarget text = (is : IsAddress text) × (0 < length is.host)
+
 -- `http://host:port`; the host is not empty
 pub record IsUrl (text : List ℕ) : Type 0 where
   pub host : List ℕ

@@ -1,5 +1,5 @@
 -- The rules of a configuration, in their order, and which one a text breaks first.
-use Rattle.std.specs.Prelude.{◌≡◌, ◌≢◌, ◌⊎◌, ℕ, ◌^◌, ◌-◌, List, [], ◌∷◌, ◌++◌, codes, Bool, if◌then◌else◌, Option, Some, None, IsSome, MatchOption}
+use Rattle.std.specs.Prelude.{◌≡◌, ◌⊎◌, ℕ, ◌^◌, ◌-◌, List, [], ◌∷◌, ◌++◌, codes, if◌then◌else◌, Option, Some, None, IsSome, MatchOption}
 use Rattle.std.specs.Borrow.{Bor}
 use Rattle.toml.specs.Data.{Data, string, Members, no_members, member, get_member}
 use Rattle.node_settings.specs.declared.key.Key.{Key}
@@ -8,8 +8,8 @@ use Rattle.node_settings.specs.declared.place.Place.{Place}
 use Rattle.node_settings.specs.declared.place.Place.TheVariants as place
 use Rattle.node_settings.specs.declared.rule.Rule.{Rule}
 use Rattle.node_settings.specs.declared.rule.Rule.TheVariants as rule
-use Rattle.node_settings.specs.Configuration.{lease_keys, root_keys}
-use Rattle.node_settings.specs.Values.{HasOnly, is_among, section, IsText, IsNameText, IsAddressText, IsUrlText, IsFlag, IsOff, IsSwitch, IsNumber, IsLeaseType}
+use Rattle.node_settings.specs.Configuration.{fuse_keys, lease_keys, proxy_keys, root_keys}
+use Rattle.node_settings.specs.Values.{HasOnly, is_among, section, IsText, IsPath, IsNameText, IsAddressText, IsTargetText, IsUrlText, IsFlag, IsOff, IsSwitch, IsNumber, IsLeaseType}
 
 -- ---- tables and keys
 
@@ -17,6 +17,7 @@ abbrev pub name_of_place : Place → List ℕ
 name_of_place place.Root = []
 name_of_place place.Fuse = codes "fuse"
 name_of_place place.Http = codes "http"
+name_of_place place.Proxy = codes "proxy"
 name_of_place place.Data = codes "data"
 name_of_place place.Lease = codes "lease"
 
@@ -25,13 +26,15 @@ abbrev pub prefix_of : Place → List ℕ
 prefix_of place.Root = []
 prefix_of place.Fuse = codes "fuse."
 prefix_of place.Http = codes "http."
+prefix_of place.Proxy = codes "proxy."
 prefix_of place.Data = codes "data."
 prefix_of place.Lease = codes "lease."
 
 abbrev pub keys_of : Place → List (List ℕ)
 keys_of place.Root = root_keys
-keys_of place.Fuse = codes "listen" ∷ []
+keys_of place.Fuse = fuse_keys
 keys_of place.Http = codes "addr" ∷ []
+keys_of place.Proxy = proxy_keys
 keys_of place.Data = codes "compress" ∷ codes "retention-files" ∷ []
 keys_of place.Lease = lease_keys
 
@@ -40,6 +43,7 @@ abbrev pub section_of : Place → Members → Option Members
 section_of place.Root root = Some root
 section_of place.Fuse root = section (codes "fuse") root
 section_of place.Http root = section (codes "http") root
+section_of place.Proxy root = section (codes "proxy") root
 section_of place.Data root = section (codes "data") root
 section_of place.Lease root = section (codes "lease") root
 
@@ -55,7 +59,11 @@ abbrev pub place_of : Key → Place
 place_of key.Database = place.Root
 place_of key.Log = place.Root
 place_of key.Listen = place.Fuse
+place_of key.Dir = place.Fuse
+place_of key.Program = place.Fuse
 place_of key.Addr = place.Http
+place_of key.ProxyAddr = place.Proxy
+place_of key.Target = place.Proxy
 place_of key.Compress = place.Data
 place_of key.RetentionFiles = place.Data
 place_of key.Type = place.Lease
@@ -64,12 +72,17 @@ place_of key.AdvertiseUrl = place.Lease
 place_of key.Hostname = place.Lease
 place_of key.ServiceUrl = place.Lease
 place_of key.Ttl = place.Lease
+place_of key.HaltTtl = place.Lease
 
 abbrev pub name_of : Key → List ℕ
 name_of key.Database = codes "database"
 name_of key.Log = codes "log"
 name_of key.Listen = codes "listen"
+name_of key.Dir = codes "dir"
+name_of key.Program = codes "program"
 name_of key.Addr = codes "addr"
+name_of key.ProxyAddr = codes "addr"
+name_of key.Target = codes "target"
 name_of key.Compress = codes "compress"
 name_of key.RetentionFiles = codes "retention-files"
 name_of key.Type = codes "type"
@@ -78,6 +91,7 @@ name_of key.AdvertiseUrl = codes "advertise-url"
 name_of key.Hostname = codes "hostname"
 name_of key.ServiceUrl = codes "service-url"
 name_of key.Ttl = codes "ttl"
+name_of key.HaltTtl = codes "halt-ttl"
 
 abbrev pub value_of : Key → Members → Option Data
 value_of k root = get_member (name_of k) (members_in (place_of k) root)
@@ -102,7 +116,11 @@ abbrev pub Fits : Key → Data → Type 0
 Fits key.Database d = Says IsNameText d
 Fits key.Log d = Says IsSwitch d
 Fits key.Listen d = Says IsText d
+Fits key.Dir d = Says IsPath d
+Fits key.Program d = Says IsPath d
 Fits key.Addr d = Says IsAddressText d
+Fits key.ProxyAddr d = Says IsAddressText d
+Fits key.Target d = Says IsTargetText d
 Fits key.Compress d = Says IsOff d
 Fits key.RetentionFiles d = Says (IsNumber 1 (2 ^ 63 - 1)) d
 Fits key.Type d = Says IsLeaseType d
@@ -111,10 +129,15 @@ Fits key.AdvertiseUrl d = Says IsUrlText d
 Fits key.Hostname d = Says IsText d
 Fits key.ServiceUrl d = Says IsUrlText d
 Fits key.Ttl d = Says (IsNumber 1 86400000) d
+Fits key.HaltTtl d = Says (IsNumber 1 86400000) d
 
 -- the lease is said to be a service's
 abbrev pub IsServices : Members → Type 0
 IsServices root = value_of key.Type root ≡ Some (string (codes "service"))
+
+-- where the one key is, the other is too
+abbrev pub Brings : Key → Key → Members → Type 0
+Brings one other root = IsSome (value_of one root) → IsSome (value_of other root)
 
 -- the rule is kept
 abbrev pub Keeps : Rule → Members → Type 0
@@ -122,6 +145,9 @@ Keeps (rule.Table p) root = IsSome (section_of p root)
 Keeps (rule.Keys p) root = HasOnly (keys_of p) (members_in p root)
 Keeps (rule.There k) root = IsSome (value_of k root)
 Keeps (rule.Value k) root = MatchOption (value_of k root) (Unit {0}) (λ d. Fits k d)
+Keeps rule.Dir root = Brings key.Program key.Dir root
+Keeps rule.Addr root = Brings key.Target key.ProxyAddr root
+Keeps rule.Target root = Brings key.ProxyAddr key.Target root
 Keeps rule.Service root = IsServices root → IsSome (value_of key.ServiceUrl root)
 Keeps rule.Static root = IsServices root → ⊥
 
@@ -147,6 +173,9 @@ place_of_rule (rule.Table p) = place.Root
 place_of_rule (rule.Keys p) = p
 place_of_rule (rule.There k) = place_of k
 place_of_rule (rule.Value k) = place_of k
+place_of_rule rule.Dir = place.Fuse
+place_of_rule rule.Addr = place.Proxy
+place_of_rule rule.Target = place.Proxy
 place_of_rule rule.Service = place.Lease
 place_of_rule rule.Static = place.Lease
 
@@ -155,6 +184,9 @@ name_of_rule (rule.Table p) root = name_of_place p
 name_of_rule (rule.Keys p) root = other_key (keys_of p) (members_in p root)
 name_of_rule (rule.There k) root = name_of k
 name_of_rule (rule.Value k) root = name_of k
+name_of_rule rule.Dir root = codes "dir"
+name_of_rule rule.Addr root = codes "addr"
+name_of_rule rule.Target root = codes "target"
 name_of_rule rule.Service root = codes "service-url"
 name_of_rule rule.Static root = codes "type"
 
@@ -165,12 +197,13 @@ abbrev pub node_rules : List Rule
 node_rules = rule.Keys place.Root
     ∷ rule.There key.Database ∷ rule.Value key.Database
     ∷ rule.Value key.Log
-    ∷ rule.Table place.Fuse ∷ rule.Keys place.Fuse ∷ rule.Value key.Listen
+    ∷ rule.Table place.Fuse ∷ rule.Keys place.Fuse ∷ rule.Value key.Listen ∷ rule.Dir ∷ rule.Value key.Dir ∷ rule.Value key.Program
     ∷ rule.Table place.Http ∷ rule.Keys place.Http ∷ rule.Value key.Addr
+    ∷ rule.Table place.Proxy ∷ rule.Keys place.Proxy ∷ rule.Addr ∷ rule.Value key.ProxyAddr ∷ rule.Target ∷ rule.Value key.Target
     ∷ rule.Table place.Data ∷ rule.Keys place.Data ∷ rule.Value key.Compress ∷ rule.Value key.RetentionFiles
     ∷ rule.Table place.Lease ∷ rule.Keys place.Lease ∷ rule.Value key.Type ∷ rule.Value key.Candidate
     ∷ rule.There key.AdvertiseUrl ∷ rule.Value key.AdvertiseUrl ∷ rule.There key.Hostname ∷ rule.Value key.Hostname
-    ∷ rule.Value key.ServiceUrl ∷ rule.Service ∷ rule.Value key.Ttl ∷ []
+    ∷ rule.Value key.ServiceUrl ∷ rule.Service ∷ rule.Value key.Ttl ∷ rule.Value key.HaltTtl ∷ []
 
 -- those of a node that needs no lease service
 abbrev pub static_rules : List Rule
@@ -181,8 +214,9 @@ abbrev pub service_rules : List Rule
 service_rules = rule.Keys place.Root
     ∷ rule.Value key.Database
     ∷ rule.Value key.Log
-    ∷ rule.Table place.Fuse ∷ rule.Keys place.Fuse ∷ rule.Value key.Listen
+    ∷ rule.Table place.Fuse ∷ rule.Keys place.Fuse ∷ rule.Value key.Listen ∷ rule.Value key.Dir ∷ rule.Value key.Program
     ∷ rule.Table place.Http ∷ rule.Keys place.Http ∷ rule.Value key.Addr
+    ∷ rule.Table place.Proxy ∷ rule.Keys place.Proxy ∷ rule.Value key.ProxyAddr ∷ rule.Value key.Target
     ∷ rule.Table place.Data ∷ rule.Keys place.Data ∷ rule.Value key.Compress ∷ rule.Value key.RetentionFiles
     ∷ rule.Table place.Lease ∷ rule.Keys place.Lease ∷ rule.Value key.Type ∷ rule.Value key.Candidate
-    ∷ rule.Value key.AdvertiseUrl ∷ rule.Value key.Hostname ∷ rule.Value key.ServiceUrl ∷ rule.Value key.Ttl ∷ []
+    ∷ rule.Value key.AdvertiseUrl ∷ rule.Value key.Hostname ∷ rule.Value key.ServiceUrl ∷ rule.Value key.Ttl ∷ rule.Value key.HaltTtl ∷ []

@@ -1,5 +1,5 @@
 -- What the keys of a TOML table (TOML 1.1) say: the rules of their values.
-use Rattle.std.specs.Prelude.{◌≡◌, ℕ, ◌≤◌, pos, List, Bool, true, false, ◌&&◌, IsTrue, Option, Some, None, MatchOption, IsSome, IsSomeAnd, String, codes}
+use Rattle.std.specs.Prelude.{◌≡◌, ℕ, ◌≤◌, ◌<◌, pos, List, length, Bool, true, false, ◌&&◌, IsTrue, Option, Some, None, MatchOption, IsSome, IsSomeAnd, String, codes}
 use Rattle.std.specs.List.{list_any}
 use Rattle.std.specs.Str.{bytes_eq}
 use Rattle.std.specs.Borrow.{Bor}
@@ -11,7 +11,7 @@ use Rattle.toml.specs.declared.value.Value.{Value}
 use Rattle.toml.specs.View.{table_view}
 use Rattle.node_settings.specs.declared.settings.LeaseType.{LeaseType}
 use Rattle.node_settings.specs.declared.settings.LeaseType.TheVariants as lease
-use Rattle.node_settings.specs.Address.{IsAddress, IsUrl}
+use Rattle.node_settings.specs.Address.{IsAddress, IsTarget, IsUrl}
 
 -- the key has a value, and by its rule it is this
 abbrev pub Holds : {A : Type 0} → List ℕ → (Data → A → Type 0) → Members → A → Type 0
@@ -26,11 +26,18 @@ HoldsOr key Rule default members a = MatchOption (get_member key members) (a ≡
 abbrev pub IsText : Data → List ℕ → Type 0
 IsText d text = d ≡ string text
 
+-- a text that is not empty
+abbrev pub IsPath : Data → List ℕ → Type 0
+IsPath d path = (d ≡ string path) × (0 < length path)
+
 abbrev pub IsNameText : Data → List ℕ → Type 0
 IsNameText d name = (d ≡ string name) × IsName name
 
 abbrev pub IsAddressText : Data → List ℕ → Type 0
 IsAddressText d address = (d ≡ string address) × IsAddress address
+
+abbrev pub IsTargetText : Data → List ℕ → Type 0
+IsTargetText d address = (d ≡ string address) × IsTarget address
 
 abbrev pub IsUrlText : Data → List ℕ → Type 0
 IsUrlText d url = (d ≡ string url) × IsUrl url

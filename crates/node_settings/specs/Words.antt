@@ -10,7 +10,11 @@ abbrev pub words_of_key : Key → List ℕ
 words_of_key key.Database = codes "the name of a database"
 words_of_key key.Log = codes "on or off, as a text"
 words_of_key key.Listen = codes "a text"
+words_of_key key.Dir = codes "a path that is not empty"
+words_of_key key.Program = codes "a path that is not empty"
 words_of_key key.Addr = codes "an address, host:port"
+words_of_key key.ProxyAddr = codes "an address, host:port"
+words_of_key key.Target = codes "an address with a host, host:port"
 words_of_key key.Compress = codes "false"
 words_of_key key.RetentionFiles = codes "a number from 1 to 9223372036854775807"
 words_of_key key.Type = codes "static or service, as a text"
@@ -19,6 +23,7 @@ words_of_key key.AdvertiseUrl = codes "a URL, http://host:port"
 words_of_key key.Hostname = codes "a text"
 words_of_key key.ServiceUrl = codes "a URL, http://host:port"
 words_of_key key.Ttl = codes "a number of milliseconds from 1 to 86400000"
+words_of_key key.HaltTtl = codes "a number of milliseconds from 1 to 86400000"
 
 -- of a key that is missing
 abbrev pub words_of_missing : Key → List ℕ
@@ -26,7 +31,11 @@ words_of_missing key.Database = codes "the name of a database; the key is missin
 words_of_missing key.AdvertiseUrl = codes "a URL, http://host:port; the key is missing"
 words_of_missing key.Log = codes "a text; the key is missing"
 words_of_missing key.Listen = codes "a text; the key is missing"
+words_of_missing key.Dir = codes "a text; the key is missing"
+words_of_missing key.Program = codes "a text; the key is missing"
 words_of_missing key.Addr = codes "a text; the key is missing"
+words_of_missing key.ProxyAddr = codes "a text; the key is missing"
+words_of_missing key.Target = codes "a text; the key is missing"
 words_of_missing key.Compress = codes "a text; the key is missing"
 words_of_missing key.RetentionFiles = codes "a text; the key is missing"
 words_of_missing key.Type = codes "a text; the key is missing"
@@ -34,11 +43,15 @@ words_of_missing key.Candidate = codes "a text; the key is missing"
 words_of_missing key.Hostname = codes "a text; the key is missing"
 words_of_missing key.ServiceUrl = codes "a text; the key is missing"
 words_of_missing key.Ttl = codes "a text; the key is missing"
+words_of_missing key.HaltTtl = codes "a text; the key is missing"
 
 abbrev pub words_of : Rule → List ℕ
 words_of (rule.Table p) = codes "a table"
 words_of (rule.Keys p) = codes "no key of this name"
 words_of (rule.There k) = words_of_missing k
 words_of (rule.Value k) = words_of_key k
+words_of rule.Dir = codes "a path, since fuse.program is there; the key is missing"
+words_of rule.Addr = codes "an address, host:port, since proxy.target is there; the key is missing"
+words_of rule.Target = codes "an address with a host, host:port, since proxy.addr is there; the key is missing"
 words_of rule.Service = codes "a URL, http://host:port, since lease.type is service; the key is missing"
 words_of rule.Static = codes "static"

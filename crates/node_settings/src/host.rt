@@ -1,7 +1,7 @@
 //! The parts of addresses.
 
 ghost use Rattle.std.specs.Prelude.{◌≡◌, ◌≢◌, ◌++◌, ◌∷◌, ◌↔◌, All, IsTrue, IfSome, IfNone, codes};
-ghost use Rattle.node_settings.specs.Address.{is_host_byte, is_ipv6_byte, IsIpv6End, IsBracketed, IsHost, IsPort, IsAddress, IsUrl};
+ghost use Rattle.node_settings.specs.Address.{is_host_byte, is_ipv6_byte, IsIpv6End, IsBracketed, IsHost, IsPort, IsAddress, IsTarget, IsUrl};
 
 /// Whether the text is `host:port`.
 pub(crate) fn is_address(text: &str) -> bool
@@ -11,6 +11,13 @@ pub(crate) fn is_address(text: &str) -> bool
         Some((host, port)) => is_host(host) && is_port(port),
         None => false,
     }
+}
+
+/// Whether the text is `host:port`, and the host is not empty.
+pub(crate) fn is_target(text: &str) -> bool
+    ensures { IsTrue result ↔ IsTarget text.now }
+{
+    is_address(text) && !text.starts_with(':')
 }
 
 /// What stands behind `http://`, where a host that is not empty and a port follow it.

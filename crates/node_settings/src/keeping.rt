@@ -3,12 +3,14 @@ ghost use Rattle.std.specs.Prelude.{◌≡◌, ◌↔◌, IfOk, IsTrue, MatchOpt
 ghost use Rattle.node_settings.specs.declared.rule.Rule.TheVariants as rule;
 ghost use Rattle.toml.specs.View.{view, table_view};
 ghost use Rattle.node_settings.specs.Answers.{Judges};
-ghost use Rattle.node_settings.specs.Rules.{AllKept, Fits, IsFirstBroken, IsServices, Keeps, value_of as value_at_key};
+ghost use Rattle.node_settings.specs.Rules.{AllKept, Brings, Fits, IsFirstBroken, IsServices, Keeps, value_of as value_at_key};
 
 use crate::key::{name_of, place_of};
 use crate::place::{keys_of, section_of, table_at};
 use crate::table::{has_only, value_at};
-use crate::values::{address, flag, lease_type, name, number, off, switch, text, url};
+use crate::values::{
+    address, flag, lease_type, name, number, off, path, switch, target, text, url,
+};
 use crate::{Key, Rule, SettingsFault};
 use lf_base::NoMemory;
 use std::alloc::Global;
@@ -40,9 +42,19 @@ fn keeps(alloc: Global, rule: Rule, root: &Table) -> Result<bool, NoMemory>
         Rule::Keys(place) => Ok(has_only(table_at(place, root), keys_of(place))),
         Rule::There(key) => Ok(value_of(key, root).is_some()),
         Rule::Value(key) => value_fits(alloc, key, root),
+        Rule::Dir => Ok(brings(Key::Program, Key::Dir, root)),
+        Rule::Addr => Ok(brings(Key::Target, Key::ProxyAddr, root)),
+        Rule::Target => Ok(brings(Key::ProxyAddr, Key::Target, root)),
         Rule::Service => Ok(!is_services(root) || value_of(Key::ServiceUrl, root).is_some()),
         Rule::Static => Ok(!is_services(root)),
     }
+}
+
+/// Whether the other key is there where the one is.
+fn brings(one: Key, other: Key, root: &Table) -> bool
+    ensures { IsTrue result ↔ Brings one other (table_view root.now) }
+{
+    value_of(one, root).is_none() || value_of(other, root).is_some()
 }
 
 fn value_of(key: Key, root: &Table) -> Option<&Value>
@@ -78,7 +90,11 @@ fn fits(alloc: Global, key: Key, value: &Value) -> Result<bool, NoMemory>
         Key::Database => judged(name(alloc, value)),
         Key::Log => judged(switch(value)),
         Key::Listen => judged(text(alloc, value)),
+        Key::Dir => judged(path(alloc, value)),
+        Key::Program => judged(path(alloc, value)),
         Key::Addr => judged(address(alloc, value)),
+        Key::ProxyAddr => judged(address(alloc, value)),
+        Key::Target => judged(target(alloc, value)),
         Key::Compress => judged(off(value)),
         Key::RetentionFiles => judged(number(value, 1, (1 << 63) - 1)),
         Key::Type => judged(lease_type(value)),
@@ -87,6 +103,7 @@ fn fits(alloc: Global, key: Key, value: &Value) -> Result<bool, NoMemory>
         Key::Hostname => judged(text(alloc, value)),
         Key::ServiceUrl => judged(url(alloc, value)),
         Key::Ttl => judged(number(value, 1, 86_400_000)),
+        Key::HaltTtl => judged(number(value, 1, 86_400_000)),
     }
 }
 

@@ -9,7 +9,11 @@ pub enum Key {
     Database,
     Log,
     Listen,
+    Dir,
+    Program,
     Addr,
+    ProxyAddr,
+    Target,
     Compress,
     RetentionFiles,
     Type,
@@ -18,6 +22,7 @@ pub enum Key {
     Hostname,
     ServiceUrl,
     Ttl,
+    HaltTtl,
 }
 
 /// The table that it stands in.
@@ -26,15 +31,17 @@ pub(crate) fn place_of(key: Key) -> Place
 {
     match key {
         Key::Database | Key::Log => Place::Root,
-        Key::Listen => Place::Fuse,
+        Key::Listen | Key::Dir | Key::Program => Place::Fuse,
         Key::Addr => Place::Http,
+        Key::ProxyAddr | Key::Target => Place::Proxy,
         Key::Compress | Key::RetentionFiles => Place::Data,
         Key::Type
         | Key::Candidate
         | Key::AdvertiseUrl
         | Key::Hostname
         | Key::ServiceUrl
-        | Key::Ttl => Place::Lease,
+        | Key::Ttl
+        | Key::HaltTtl => Place::Lease,
     }
 }
 
@@ -46,7 +53,10 @@ pub(crate) fn name_of(key: Key) -> &'static str
         Key::Database => "database",
         Key::Log => "log",
         Key::Listen => "listen",
-        Key::Addr => "addr",
+        Key::Dir => "dir",
+        Key::Program => "program",
+        Key::Addr | Key::ProxyAddr => "addr",
+        Key::Target => "target",
         Key::Compress => "compress",
         Key::RetentionFiles => "retention-files",
         Key::Type => "type",
@@ -55,5 +65,6 @@ pub(crate) fn name_of(key: Key) -> &'static str
         Key::Hostname => "hostname",
         Key::ServiceUrl => "service-url",
         Key::Ttl => "ttl",
+        Key::HaltTtl => "halt-ttl",
     }
 }

@@ -34,6 +34,7 @@ fn lease_of(alloc: Global, table: Option<&Table>) -> Result<LeaseSettings, Setti
     let service_url = url_at(alloc, table, "service-url")?;
     check_service(lease_type, &service_url)?;
     let ttl = ttl(table)?;
+    let halt_ttl = halt_ttl(table, ttl)?;
     Ok(LeaseSettings {
         lease_type,
         candidate,
@@ -41,6 +42,7 @@ fn lease_of(alloc: Global, table: Option<&Table>) -> Result<LeaseSettings, Setti
         hostname,
         service_url,
         ttl,
+        halt_ttl,
     })
 }
 
@@ -118,5 +120,15 @@ pub(crate) fn ttl(table: Option<&Table>) -> Result<u64, SettingsFault>
     match value_at(table, "ttl") {
         Some(value) => number(value, 1, 86_400_000),
         None => Ok(10_000),
+    }
+}
+
+/// How long a write permit lasts: as a lease, where nothing else is said.
+pub(crate) fn halt_ttl(table: Option<&Table>, ttl: u64) -> Result<u64, SettingsFault>
+    ensures { Reads (HoldsOr (codes "halt-ttl") (IsNumber 1 86400000) ttl (members_at table.entry)) result }
+{
+    match value_at(table, "halt-ttl") {
+        Some(value) => number(value, 1, 86_400_000),
+        None => Ok(ttl),
     }
 }

@@ -4,6 +4,7 @@
 mod address;
 mod complaining;
 mod complaint;
+mod fuse_table;
 mod host;
 mod keeping;
 mod key;
@@ -11,6 +12,7 @@ mod laws;
 mod lease_table;
 mod lines;
 mod place;
+mod proxy_table;
 mod reading;
 mod rule;
 mod rules;
@@ -33,7 +35,9 @@ pub use place::Place;
 pub use reading::{read_settings, read_static_settings};
 pub use rule::{Rule, words_of};
 pub use service::read_service_settings;
-pub use settings::{LeaseSettings, LeaseType, ServiceSettings, Settings};
+pub use settings::{
+    LeaseSettings, LeaseType, MountSettings, ProxySettings, ServiceSettings, Settings,
+};
 pub use settings_fault::SettingsFault;
 pub use settings_refusal::SettingsRefusal;
 pub use url::Url;

@@ -14,6 +14,7 @@ pub enum Place {
     Root,
     Fuse,
     Http,
+    Proxy,
     Data,
     Lease,
 }
@@ -26,16 +27,19 @@ pub(crate) fn prefix_of(place: Place) -> &'static str
         Place::Root => "",
         Place::Fuse => "fuse.",
         Place::Http => "http.",
+        Place::Proxy => "proxy.",
         Place::Data => "data.",
         Place::Lease => "lease.",
     }
 }
 
-const ROOT_KEYS: &[&str] = &["database", "log", "fuse", "http", "data", "lease"];
+const ROOT_KEYS: &[&str] = &["database", "log", "fuse", "http", "proxy", "data", "lease"];
 
 const FUSE_KEYS: &[&str] = &["listen"];
 
 const HTTP_KEYS: &[&str] = &["addr"];
+
+const PROXY_KEYS: &[&str] = &["addr", "target"];
 
 const DATA_KEYS: &[&str] = &["compress", "retention-files"];
 
@@ -46,6 +50,7 @@ const LEASE_KEYS: &[&str] = &[
     "hostname",
     "service-url",
     "ttl",
+    "halt-ttl",
 ];
 
 /// The names of its keys.
@@ -56,6 +61,7 @@ pub(crate) fn keys_of(place: Place) -> &'static [&'static str]
         Place::Root => ROOT_KEYS,
         Place::Fuse => FUSE_KEYS,
         Place::Http => HTTP_KEYS,
+        Place::Proxy => PROXY_KEYS,
         Place::Data => DATA_KEYS,
         Place::Lease => LEASE_KEYS,
     }
@@ -70,6 +76,7 @@ pub(crate) fn section_of(place: Place, root: &Table) -> Result<Option<&Table>, S
         Place::Root => Ok(Some(root)),
         Place::Fuse => section(root, "fuse"),
         Place::Http => section(root, "http"),
+        Place::Proxy => section(root, "proxy"),
         Place::Data => section(root, "data"),
         Place::Lease => section(root, "lease"),
     }

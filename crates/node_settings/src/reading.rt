@@ -5,18 +5,20 @@ ghost use Rattle.toml.specs.View.{table_view};
 ghost use Rattle.node_settings.specs.declared.settings_fault.SettingsFault.TheVariants as fault;
 ghost use Rattle.node_settings.specs.Answers.{Reads};
 ghost use Rattle.node_settings.specs.Complaints.{Answers};
-ghost use Rattle.node_settings.specs.Configuration.{IsFuse, IsHttp, IsData, IsRoot, IsStaticRoot, IsConfiguration, IsStaticConfiguration, root_keys};
+ghost use Rattle.node_settings.specs.Configuration.{IsHttp, IsData, IsRoot, IsStaticRoot, IsConfiguration, IsStaticConfiguration, root_keys};
 ghost use Rattle.node_settings.specs.Values.{Holds, HoldsOr, HasOnly, section as section_at, members_at, IsNameText, IsAddressText, IsOff, IsSwitch, IsNumber};
 ghost use Rattle.node_settings.specs.Rules.{node_rules, static_rules};
 
 use crate::complaining::{document, refused};
+use crate::fuse_table::{FuseSettings, fuse};
 use crate::lease_table::lease;
 use crate::place::keys_of;
+use crate::proxy_table::proxy;
 use crate::rules::{node_rules, static_rules};
 use crate::table::{check_keys, section, value_at};
-use crate::values::{address, name, number, off, switch, text};
+use crate::values::{address, name, number, off, switch};
 use crate::{Address, LeaseType, Place, Settings, SettingsFault, SettingsRefusal};
-use lf_base::{Name, Text};
+use lf_base::Name;
 use std::alloc::Global;
 use toml::Table;
 
@@ -60,15 +62,18 @@ fn settings(alloc: Global, root: &Table) -> Result<Settings, SettingsFault>
     check_root_keys(root)?;
     let database = database(alloc, root)?;
     let log = log(root)?;
-    let socket = socket(alloc, root)?;
+    let FuseSettings { socket, mount } = fuse(alloc, root)?;
     let http = http(alloc, root)?;
+    let proxy = proxy(alloc, root)?;
     let (compress, retention_files) = kept(root)?;
     let lease = lease(alloc, root)?;
     Ok(Settings {
         database,
         log,
         socket,
+        mount,
         http,
+        proxy,
         compress,
         retention_files,
         lease,
@@ -97,18 +102,6 @@ pub(crate) fn log(root: &Table) -> Result<bool, SettingsFault>
     match value_at(Some(root), "log") {
         Some(value) => switch(value),
         None => Ok(true),
-    }
-}
-
-/// The table `fuse`.
-pub(crate) fn socket(alloc: Global, root: &Table) -> Result<Text, SettingsFault>
-    ensures { Reads (λ socket. IsSomeAnd (section_at (codes "fuse") (table_view root.now)) (λ t. IsFuse t socket)) result }
-{
-    let table = section(root, "fuse")?;
-    check_keys(table, &["listen"])?;
-    match value_at(table, "listen") {
-        Some(value) => text(alloc, value),
-        None => Ok(Text::of(alloc, "litefs.sock")?),
     }
 }
 

@@ -21,6 +21,12 @@ pub enum Rule {
     There(Key),
     /// Where the key is, its value is one of those that it may have.
     Value(Key),
+    /// With `fuse.program` the key `fuse.dir` is there.
+    Dir,
+    /// With `proxy.target` the key `proxy.addr` is there.
+    Addr,
+    /// With `proxy.addr` the key `proxy.target` is there.
+    Target,
     /// With `lease.type = "service"` the key `lease.service-url` is there.
     Service,
     /// The lease's type is not `"service"`.
@@ -36,6 +42,11 @@ pub fn words_of(rule: Rule) -> &'static str
         Rule::Keys(_) => "no key of this name",
         Rule::There(key) => words_of_missing(key),
         Rule::Value(key) => words_of_key(key),
+        Rule::Dir => "a path, since fuse.program is there; the key is missing",
+        Rule::Addr => "an address, host:port, since proxy.target is there; the key is missing",
+        Rule::Target => {
+            "an address with a host, host:port, since proxy.addr is there; the key is missing"
+        }
         Rule::Service => "a URL, http://host:port, since lease.type is service; the key is missing",
         Rule::Static => "static",
     }
@@ -48,13 +59,15 @@ fn words_of_key(key: Key) -> &'static str
         Key::Database => "the name of a database",
         Key::Log => "on or off, as a text",
         Key::Listen | Key::Hostname => "a text",
-        Key::Addr => "an address, host:port",
+        Key::Dir | Key::Program => "a path that is not empty",
+        Key::Addr | Key::ProxyAddr => "an address, host:port",
+        Key::Target => "an address with a host, host:port",
         Key::Compress => "false",
         Key::RetentionFiles => "a number from 1 to 9223372036854775807",
         Key::Type => "static or service, as a text",
         Key::Candidate => "true or false",
         Key::AdvertiseUrl | Key::ServiceUrl => "a URL, http://host:port",
-        Key::Ttl => "a number of milliseconds from 1 to 86400000",
+        Key::Ttl | Key::HaltTtl => "a number of milliseconds from 1 to 86400000",
     }
 }
 
@@ -67,14 +80,19 @@ fn words_of_missing(key: Key) -> &'static str
         Key::AdvertiseUrl => "a URL, http://host:port; the key is missing",
         Key::Log
         | Key::Listen
+        | Key::Dir
+        | Key::Program
         | Key::Addr
+        | Key::ProxyAddr
+        | Key::Target
         | Key::Compress
         | Key::RetentionFiles
         | Key::Type
         | Key::Candidate
         | Key::Hostname
         | Key::ServiceUrl
-        | Key::Ttl => "a text; the key is missing",
+        | Key::Ttl
+        | Key::HaltTtl => "a text; the key is missing",
     }
 }
 
@@ -86,6 +104,8 @@ pub(crate) fn place_of_rule(rule: Rule) -> Place
         Rule::Table(_) => Place::Root,
         Rule::Keys(place) => place,
         Rule::There(key) | Rule::Value(key) => place_of(key),
+        Rule::Dir => Place::Fuse,
+        Rule::Addr | Rule::Target => Place::Proxy,
         Rule::Service | Rule::Static => Place::Lease,
     }
 }
@@ -98,6 +118,9 @@ pub(crate) fn name_of_rule(rule: Rule, root: &Table) -> &str
         Rule::Table(place) => name_of_place(place),
         Rule::Keys(place) => other_key(table_at(place, root), keys_of(place)),
         Rule::There(key) | Rule::Value(key) => name_of(key),
+        Rule::Dir => "dir",
+        Rule::Addr => "addr",
+        Rule::Target => "target",
         Rule::Service => "service-url",
         Rule::Static => "type",
     }
@@ -110,6 +133,7 @@ fn name_of_place(place: Place) -> &'static str
         Place::Root => "",
         Place::Fuse => "fuse",
         Place::Http => "http",
+        Place::Proxy => "proxy",
         Place::Data => "data",
         Place::Lease => "lease",
     }

@@ -5,7 +5,7 @@ ghost use Rattle.node_settings.specs.Rules.{node_rules, service_rules, static_ru
 use crate::{Key, Place, Rule};
 
 /// Those of a node that needs no lease service. All but the last are those of a node.
-const RULES: [Rule; 26] = [
+const RULES: [Rule; 36] = [
     Rule::Keys(Place::Root),
     Rule::There(Key::Database),
     Rule::Value(Key::Database),
@@ -13,9 +13,18 @@ const RULES: [Rule; 26] = [
     Rule::Table(Place::Fuse),
     Rule::Keys(Place::Fuse),
     Rule::Value(Key::Listen),
+    Rule::Dir,
+    Rule::Value(Key::Dir),
+    Rule::Value(Key::Program),
     Rule::Table(Place::Http),
     Rule::Keys(Place::Http),
     Rule::Value(Key::Addr),
+    Rule::Table(Place::Proxy),
+    Rule::Keys(Place::Proxy),
+    Rule::Addr,
+    Rule::Value(Key::ProxyAddr),
+    Rule::Target,
+    Rule::Value(Key::Target),
     Rule::Table(Place::Data),
     Rule::Keys(Place::Data),
     Rule::Value(Key::Compress),
@@ -31,20 +40,27 @@ const RULES: [Rule; 26] = [
     Rule::Value(Key::ServiceUrl),
     Rule::Service,
     Rule::Value(Key::Ttl),
+    Rule::Value(Key::HaltTtl),
     Rule::Static,
 ];
 
 /// Those of a lease service.
-const SERVICE_RULES: [Rule; 21] = [
+const SERVICE_RULES: [Rule; 28] = [
     Rule::Keys(Place::Root),
     Rule::Value(Key::Database),
     Rule::Value(Key::Log),
     Rule::Table(Place::Fuse),
     Rule::Keys(Place::Fuse),
     Rule::Value(Key::Listen),
+    Rule::Value(Key::Dir),
+    Rule::Value(Key::Program),
     Rule::Table(Place::Http),
     Rule::Keys(Place::Http),
     Rule::Value(Key::Addr),
+    Rule::Table(Place::Proxy),
+    Rule::Keys(Place::Proxy),
+    Rule::Value(Key::ProxyAddr),
+    Rule::Value(Key::Target),
     Rule::Table(Place::Data),
     Rule::Keys(Place::Data),
     Rule::Value(Key::Compress),
@@ -57,12 +73,13 @@ const SERVICE_RULES: [Rule; 21] = [
     Rule::Value(Key::Hostname),
     Rule::Value(Key::ServiceUrl),
     Rule::Value(Key::Ttl),
+    Rule::Value(Key::HaltTtl),
 ];
 
 pub(crate) fn node_rules() -> &'static [Rule]
     ensures { result.now ≡ node_rules }
 {
-    &RULES[..25]
+    &RULES[..35]
 }
 
 pub(crate) fn static_rules() -> &'static [Rule]

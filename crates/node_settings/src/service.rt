@@ -10,8 +10,10 @@ ghost use Rattle.node_settings.specs.Service.{IsServiceConfiguration, IsServiceL
 ghost use Rattle.node_settings.specs.Values.{HoldsOr, IsNameText, IsSomeOf, IsText, members_at, section as section_at};
 
 use crate::complaining::{document, refused};
-use crate::lease_table::{candidate, check_lease_keys, kind, ttl, url_at};
-use crate::reading::{check_root_keys, http, kept, log, socket};
+use crate::fuse_table::fuse_table;
+use crate::lease_table::{candidate, check_lease_keys, halt_ttl, kind, ttl, url_at};
+use crate::proxy_table::proxy_table;
+use crate::reading::{check_root_keys, http, kept, log};
 use crate::rules::service_rules;
 use crate::table::{section, value_at};
 use crate::values::{name, text};
@@ -41,8 +43,9 @@ fn service_settings(alloc: Global, root: &Table) -> Result<ServiceSettings, Sett
     check_root_keys(root)?;
     let _database = some_database(alloc, root)?;
     let log = log(root)?;
-    let _socket = socket(alloc, root)?;
+    let _fuse = fuse_table(alloc, root)?;
     let http = http(alloc, root)?;
+    let _proxy = proxy_table(alloc, root)?;
     let _kept = kept(root)?;
     let ttl = lease_time(alloc, root)?;
     Ok(ServiceSettings { log, http, ttl })
@@ -74,7 +77,9 @@ fn time_of(alloc: Global, table: Option<&Table>) -> Result<u64, SettingsFault>
     let _advertised = url_at(alloc, table, "advertise-url")?;
     let _hostname = some_hostname(alloc, table)?;
     let _service = url_at(alloc, table, "service-url")?;
-    ttl(table)
+    let ttl = ttl(table)?;
+    let _permit = halt_ttl(table, ttl)?;
+    Ok(ttl)
 }
 
 fn some_hostname(alloc: Global, table: Option<&Table>) -> Result<Option<Text>, SettingsFault>

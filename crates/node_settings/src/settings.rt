@@ -10,13 +10,35 @@ pub struct Settings {
     pub log: bool,
     /// The path of the Unix socket on which files are served.
     pub socket: Text,
+    /// The folder at which the kernel mounts the database, where there is one.
+    pub mount: Option<MountSettings>,
     /// Where HTTP is served.
     pub http: Address,
+    /// The proxy of an application, where there is one.
+    pub proxy: Option<ProxySettings>,
     /// Whether LTX files are compressed, which is never so.
     pub compress: bool,
     /// How many LTX files are kept.
     pub retention_files: u64,
     pub lease: LeaseSettings,
+}
+
+/// Where the database is mounted.
+#[derive(Debug, Drop)]
+pub struct MountSettings {
+    /// The path of the folder.
+    pub dir: Text,
+    /// The path of the program that mounts it, where it is not the one beside the node's own.
+    pub program: Option<Text>,
+}
+
+/// An application whose requests are passed on.
+#[derive(Debug, Drop)]
+pub struct ProxySettings {
+    /// Where its clients are served.
+    pub addr: Address,
+    /// Where it is.
+    pub target: Address,
 }
 
 /// Who may be primary, and where it is found.
@@ -33,6 +55,8 @@ pub struct LeaseSettings {
     pub service_url: Option<Url>,
     /// How long a lease lasts, in milliseconds.
     pub ttl: u64,
+    /// How long a write permit lasts, in milliseconds.
+    pub halt_ttl: u64,
 }
 
 /// How a primary is found.

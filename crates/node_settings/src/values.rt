@@ -5,8 +5,9 @@ ghost use Rattle.toml.specs.Data.{string};
 ghost use Rattle.toml.specs.View.{view};
 ghost use Rattle.node_settings.specs.declared.settings_fault.SettingsFault.TheVariants as fault;
 ghost use Rattle.node_settings.specs.Answers.{Reads};
-ghost use Rattle.node_settings.specs.Values.{IsText, IsNameText, IsAddressText, IsUrlText, IsFlag, IsOff, IsSwitch, IsNumber, IsLeaseType};
+ghost use Rattle.node_settings.specs.Values.{IsText, IsPath, IsNameText, IsAddressText, IsTargetText, IsUrlText, IsFlag, IsOff, IsSwitch, IsNumber, IsLeaseType};
 
+use crate::host::is_target;
 use crate::{Address, LeaseType, SettingsFault, Url};
 use lf_base::{Name, NameFault, Text};
 use std::alloc::Global;
@@ -26,6 +27,17 @@ pub(crate) fn text(alloc: Global, value: &Value) -> Result<Text, SettingsFault>
     Ok(Text::of(alloc, text)?)
 }
 
+/// A text that is not empty.
+pub(crate) fn path(alloc: Global, value: &Value) -> Result<Text, SettingsFault>
+    ensures { Reads (IsPath (view value.now)) result }
+{
+    let path = as_text(value)?;
+    if path.is_empty() {
+        return Err(SettingsFault::Config);
+    }
+    Ok(Text::of(alloc, path)?)
+}
+
 pub(crate) fn name(alloc: Global, value: &Value) -> Result<Name, SettingsFault>
     ensures { Reads (IsNameText (view value.now)) result }
 {
@@ -41,6 +53,17 @@ pub(crate) fn address(alloc: Global, value: &Value) -> Result<Address, SettingsF
     ensures { Reads (IsAddressText (view value.now)) result }
 {
     Address::read(alloc, as_text(value)?)
+}
+
+/// An address with a host.
+pub(crate) fn target(alloc: Global, value: &Value) -> Result<Address, SettingsFault>
+    ensures { Reads (IsTargetText (view value.now)) result }
+{
+    let text = as_text(value)?;
+    if !is_target(text) {
+        return Err(SettingsFault::Config);
+    }
+    Address::read(alloc, text)
 }
 
 pub(crate) fn url(alloc: Global, value: &Value) -> Result<Url, SettingsFault>

@@ -1,5 +1,5 @@
 use Rattle.std.proofs.Common.{◌^◌, ◌-◌}
-use Rattle.node_settings.specs.Values.{IsNameText, IsSwitch, IsText, IsAddressText, IsOff, IsNumber, IsLeaseType, IsFlag, IsUrlText}
+use Rattle.node_settings.specs.Values.{IsNameText, IsSwitch, IsText, IsPath, IsAddressText, IsTargetText, IsOff, IsNumber, IsLeaseType, IsFlag, IsUrlText}
 use Rattle.node_settings.proofs.Answering.{fits_from}
 use Rattle.node_settings.proofs.keeping.fits.Goals as goal
 
@@ -11,6 +11,21 @@ returns-in-Log c = rw c.in-Log.is (fits_from IsSwitch _ c.switch.result c.judged
 
 pub returns-in-Listen : goal.returns-in-Listen
 returns-in-Listen c = rw c.in-Listen.is (fits_from IsText _ c.text.result c.judged-in-Listen.result c.text.ensures c.judged-in-Listen.ensures)
+
+pub returns-in-Dir : goal.returns-in-Dir
+returns-in-Dir c = rw c.in-Dir.is (fits_from IsPath _ c.path.result c.judged-in-Dir.result c.path.ensures c.judged-in-Dir.ensures)
+
+pub returns-in-Program : goal.returns-in-Program
+returns-in-Program c = rw c.in-Program.is (fits_from IsPath _ c.path-in-Program.result c.judged-in-Program.result c.path-in-Program.ensures c.judged-in-Program.ensures)
+
+pub returns-in-ProxyAddr : goal.returns-in-ProxyAddr
+returns-in-ProxyAddr c = rw c.in-ProxyAddr.is (fits_from IsAddressText _ c.address-in-ProxyAddr.result c.judged-in-ProxyAddr.result c.address-in-ProxyAddr.ensures c.judged-in-ProxyAddr.ensures)
+
+pub returns-in-Target : goal.returns-in-Target
+returns-in-Target c = rw c.in-Target.is (fits_from IsTargetText _ c.target.result c.judged-in-Target.result c.target.ensures c.judged-in-Target.ensures)
+
+pub returns-in-HaltTtl : goal.returns-in-HaltTtl
+returns-in-HaltTtl c = rw c.in-HaltTtl.is (fits_from (IsNumber 1 86400000) _ c.number-in-HaltTtl.result c.judged-in-HaltTtl.result c.number-in-HaltTtl.ensures c.judged-in-HaltTtl.ensures)
 
 pub returns-in-Addr : goal.returns-in-Addr
 returns-in-Addr c = rw c.in-Addr.is (fits_from IsAddressText _ c.address.result c.judged-in-Addr.result c.address.ensures c.judged-in-Addr.ensures)

@@ -1,4 +1,4 @@
-use Rattle.std.proofs.Common.{◌≡◌, ap, sym, ◌∙◌}
+use Rattle.std.proofs.Common.{◌≡◌, ap, ◌∙◌}
 use Rattle.toml.specs.View.{table_view}
 use Rattle.node_settings.specs.declared.settings.Settings.{Settings}
 use Rattle.node_settings.specs.declared.settings.LeaseType.TheVariants as lease

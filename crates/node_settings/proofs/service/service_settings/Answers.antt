@@ -1,17 +1,25 @@
 use Rattle.std.proofs.Common.{List, ℕ, IsSomeAnd, codes, Bool}
 use Rattle.toml.specs.View.{table_view}
 use Rattle.node_settings.specs.declared.settings.ServiceSettings.{ServiceSettings}
-use Rattle.node_settings.specs.Configuration.{IsFuse, IsHttp, IsData}
+use Rattle.node_settings.specs.declared.fuse_table.FuseTable.{FuseTable}
+use Rattle.node_settings.specs.declared.proxy_table.ProxyTable.{ProxyTable}
+use Rattle.node_settings.specs.Configuration.{IsFuseTable, IsHttp, IsProxyTable, IsData}
 use Rattle.node_settings.specs.Service.{IsServiceRoot, IsServiceLease}
 use Rattle.node_settings.specs.Values.{section}
 use Rattle.node_settings.proofs.Answering.{passed}
 use Rattle.node_settings.proofs.service.service_settings.Goals as goal
 
-pub returns-in_err-_socket : goal.returns-in_err-_socket
-returns-in_err-_socket c =
+pub returns-in_err-_fuse : goal.returns-in_err-_fuse
+returns-in_err-_fuse c =
     let root = table_view c.args.root.now in
-    passed (λ (x : List ℕ). IsSomeAnd (section (codes "fuse") root) (λ t. IsFuse t x)) (IsServiceRoot root) _ c.from_residual-in_err-_socket.result
-    (λ (s : ServiceSettings) is. (is.socket, is.fuse)) c.from_residual-in_err-_socket.ensures.1 c.in_err-_socket.ensures
+    passed (λ (x : FuseTable). IsSomeAnd (section (codes "fuse") root) (λ t. IsFuseTable t x.socket x.dir x.program)) (IsServiceRoot root) _ c.from_residual-in_err-_fuse.result
+    (λ (s : ServiceSettings) is. (record { socket = is.socket; dir = is.dir; program = is.program }, is.fuse)) c.from_residual-in_err-_fuse.ensures.1 c.in_err-_fuse.ensures
+
+pub returns-in_err-_proxy : goal.returns-in_err-_proxy
+returns-in_err-_proxy c =
+    let root = table_view c.args.root.now in
+    passed (λ (x : ProxyTable). IsSomeAnd (section (codes "proxy") root) (λ t. IsProxyTable t x.addr x.target)) (IsServiceRoot root) _ c.from_residual-in_err-_proxy.result
+    (λ (s : ServiceSettings) is. (record { addr = is.addr; target = is.target }, is.proxy)) c.from_residual-in_err-_proxy.ensures.1 c.in_err-_proxy.ensures
 
 pub returns-in_err-http : goal.returns-in_err-http
 returns-in_err-http c =
@@ -34,12 +42,17 @@ returns-in_err-ttl c =
 pub returns : goal.returns
 returns c = record {
   database = c.in_ok-_database._database;
-  socket = c.in_ok-_socket._socket;
+  socket = c.in_ok-_fuse._fuse.socket;
+  dir = c.in_ok-_fuse._fuse.dir;
+  program = c.in_ok-_fuse._fuse.program;
+  addr = c.in_ok-_proxy._proxy.addr;
+  target = c.in_ok-_proxy._proxy.target;
   packed = c.in_ok-_kept._kept.0;
   files = c.in_ok-_kept._kept.1;
   keys = c.in_ok-check_root_keys.ensures.ok;
   named = c.in_ok-_database.ensures;
-  fuse = c.in_ok-_socket.ensures;
+  fuse = c.in_ok-_fuse.ensures;
+  proxy = c.in_ok-_proxy.ensures;
   http = c.in_ok-http.ensures;
   log = c.in_ok-log.ensures;
   data_kept = c.in_ok-_kept.ensures;

@@ -1,7 +1,8 @@
-use Rattle.std.proofs.Common.{None, Option, List, ℕ, codes}
+use Rattle.std.proofs.Common.{None, Option, List, ℕ, codes, subst}
 use Rattle.node_settings.specs.Service.{IsServiceLease}
 use Rattle.node_settings.specs.Values.{HoldsOr, IsNumber, IsSomeOf, IsUrlText, members_at}
-use Rattle.node_settings.proofs.Answering.{both, passed}
+use Rattle.node_settings.proofs.Answering.{passed}
+use Rattle.node_settings.proofs.OneConfiguration.{holds_or, one_number}
 use Rattle.node_settings.proofs.service.time_of.Goals as goal
 
 pub returns-in_err-_advertised : goal.returns-in_err-_advertised
@@ -11,22 +12,30 @@ returns-in_err-_advertised c =
     c.from_residual-in_err-_advertised.result (λ (ttl : ℕ) is. (is.advertise_url, is.advertised)) c.from_residual-in_err-_advertised.ensures.1
     c.in_err-_advertised.ensures
 
-pub returns : goal.returns
-returns c =
+pub returns-in_err-_permit : goal.returns-in_err-_permit
+returns-in_err-_permit c =
     let members = members_at c.args.table in
-    both (λ (x : ℕ). HoldsOr (codes "ttl") (IsNumber 1 86400000) 10000 members x) (IsServiceLease members) c.ttl.result
-    (λ ttl lasts. record {
-      kind = c.in_ok-_type._type;
-      candidate = c.in_ok-_candidate._candidate;
-      advertise_url = c.in_ok-_advertised._advertised;
-      hostname = c.in_ok-_hostname._hostname;
-      service_url = c.in_ok-_service._service;
-      keys = c.in_ok-check_lease_keys.ensures.ok;
-      a_type = c.in_ok-_type.ensures;
-      a_flag = c.in_ok-_candidate.ensures;
-      advertised = c.in_ok-_advertised.ensures;
-      named = c.in_ok-_hostname.ensures;
-      served = c.in_ok-_service.ensures;
-      lasts = lasts;
-    })
-    (λ ttl is. is.lasts) c.ttl.ensures
+    passed (λ (x : ℕ). HoldsOr (codes "halt-ttl") (IsNumber 1 86400000) c.in_ok-ttl.ttl members x) (IsServiceLease members) _
+    c.from_residual-in_err-_permit.result
+    (λ (ttl : ℕ) is.
+    let same = holds_or (IsNumber 1 86400000) (one_number 1 86400000) 10000 _ ttl c.in_ok-ttl.ttl is.lasts c.in_ok-ttl.ensures in
+    (is.halt_ttl, subst (λ (d : ℕ). HoldsOr (codes "halt-ttl") (IsNumber 1 86400000) d members is.halt_ttl) same is.permitted))
+    c.from_residual-in_err-_permit.ensures.1 c.in_err-_permit.ensures
+
+pub returns : goal.returns
+returns c = record {
+  kind = c.in_ok-_type._type;
+  candidate = c.in_ok-_candidate._candidate;
+  advertise_url = c.in_ok-_advertised._advertised;
+  hostname = c.in_ok-_hostname._hostname;
+  service_url = c.in_ok-_service._service;
+  halt_ttl = c.in_ok-_permit._permit;
+  keys = c.in_ok-check_lease_keys.ensures.ok;
+  a_type = c.in_ok-_type.ensures;
+  a_flag = c.in_ok-_candidate.ensures;
+  advertised = c.in_ok-_advertised.ensures;
+  named = c.in_ok-_hostname.ensures;
+  served = c.in_ok-_service.ensures;
+  lasts = c.in_ok-ttl.ensures;
+  permitted = c.in_ok-_permit.ensures;
+}
