@@ -64,7 +64,8 @@ pub fn run<R: Handles + Copy + Send + 'static, I: Source, O: Sink, E: Sink, G: S
           disks = record {
             nothing = (M.back host.new.make ≡ M.back host.old.make) × (M.asked host.new.make ≡ M.asked host.old.make);
             restored = λ database. RestoredBack M.asked M.may_give M.Disk.honest M.Disk.history M.back host.old.make host.new.make (folders_of database);
-            backed_up = λ remote. BackedUpBack M.asked M.may_give M.Disk.honest M.Disk.history M.Dial.dials (LinksTell M.Line.given M.Line.taken) M.back host.old.make host.new.make remote.address remote.name;
+            backed_up = λ remote. BackedUpBack M.asked M.may_give M.Disk.honest M.Disk.history M.Dial.dials
+            (LinksTell M.Line.given M.Line.taken) M.back host.old.make host.new.make remote.address remote.name;
           };
         } in RunOutcome backs run result }
     ensures apart { LeavesApart arguments.now host.old.input host.new.input host.old.output host.new.output host.old.config host.new.config host.old.make host.new.make }
@@ -139,7 +140,8 @@ fn mount_node<R: Handles + Copy + Send + 'static, G: Source, M: Maker>(
     config: &mut G,
     make: &mut M,
 ) -> Result<(), Failure>
-    ensures { Mounts (GoesBack M.FileAccept.ended M.FileAccept.given M.Disk.honest M.Disk.history (M.may_give make.old) (M.back make.old) (M.back make.new)) (stream G.left G.faults config.old config.new) (M.counts make.old) (M.counts make.new) result }
+    ensures { Mounts (GoesBack M.FileAccept.ended M.FileAccept.given M.Disk.honest M.Disk.history (M.may_give make.old) (M.back make.old) (M.back make.new))
+        (stream G.left G.faults config.old config.new) (M.counts make.old) (M.counts make.new) result }
 {
     match mount(rt, alloc, config, make) {
         Ok(()) => Ok(()),
@@ -154,7 +156,8 @@ fn lease<R: Handles, G: Source, M: Maker>(
     config: &mut G,
     make: &mut M,
 ) -> Result<(), Failure>
-    ensures { Leases (LeasesBack M.HttpAccept.ended M.HttpAccept.given (ServesTold M.HttpAccept.L.Link (G.left config.old) (G.left config.new)) (M.back make.old) (M.back make.new)) (stream G.left G.faults config.old config.new) (M.counts make.old) (M.counts make.new) result }
+    ensures { Leases (LeasesBack M.HttpAccept.ended M.HttpAccept.given (ServesTold M.HttpAccept.L.Link (G.left config.old) (G.left config.new)) (M.back make.old)
+        (M.back make.new)) (stream G.left G.faults config.old config.new) (M.counts make.old) (M.counts make.new) result }
 {
     match serve_leases(rt, alloc, config, make) {
         Ok(()) => Ok(()),

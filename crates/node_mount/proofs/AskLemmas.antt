@@ -1,9 +1,10 @@
 -- What the maker was asked for, call by call.
-use Rattle.std.proofs.Common.{◌≡◌, inl, inr, ℕ, List, [], ◌∷◌, ◌++◌, Option, Some, None, Result, Ok, Err, IfOk, ap, refl, sym, subst, ◌∙◌, append_assoc}
+use Rattle.std.proofs.Common.{◌≡◌, inl, inr, ℕ, List, [], ◌∷◌, ◌++◌, Option, Some, None, IsSomeAnd, Result, Ok, Err, IfOk, ap, refl, sym, subst, ◌∙◌, append_assoc}
+use Rattle.node_settings.specs.declared.settings.ProxySettings.{ProxySettings}
 use Rattle.node_settings.specs.declared.settings.Settings.{Settings}
 use Rattle.node_recovery.specs.declared.fault.RecoverFault.{RecoverFault}
 use Rattle.node_recovery.specs.declared.fault.RecoverFault.TheVariants as recovery
-use Rattle.node_mount.specs.Asking.{Asks, AsksAsRead, AsksLinks, AreAskedFor, disk_of, files_of, http_of}
+use Rattle.node_mount.specs.Asking.{Asks, AsksAsRead, AsksLinks, AreAskedFor, RefusesProxy, address_of, disk_of, files_of, gave_links, http_of}
 use Rattle.node_mount.specs.Configuring.{ReadsPast, ReadsSettings, SaysSettings}
 use Rattle.node_mount.specs.Making.{gave, refused, TakesBack}
 use Rattle.node_mount.specs.Mounting.{fault_of, IsOfReading, IsOpened}
@@ -27,13 +28,23 @@ then_these x xs (Some a) (Some b) (Some c) one more = more ∙ ap (λ l. l ++ xs
 pub two_asked : {B : Type 0} (x y : B) (a b c : Option (List B)) → TakesBack x a b → TakesBack y b c → GivesBack (x ∷ y ∷ []) a c
 two_asked x y a b c one two = then_these x (y ∷ []) a b c one (one_back y b c two)
 
--- a node that was opened asked for both
+-- these calls, and one before them
+pub refuses_after : (x : Asked) (before : List Asked) (s : Settings) (old mid new : Option (List Asked))
+    → TakesBack x old mid → RefusesProxy before s mid new → RefusesProxy (x ∷ before) s old new
+refuses_after x before s old mid new one refuses = after s.proxy one refuses
+  where
+    after : (p : Option ProxySettings) → TakesBack x old mid → IsSomeAnd p (λ proxy. AreAskedFor (before ++ refused (address_of proxy) ∷ []) mid new)
+        → IsSomeAnd p (λ proxy. AreAskedFor ((x ∷ before) ++ refused (address_of proxy) ∷ []) old new)
+    after None one refuses = absurd refuses
+    after (Some proxy) one refuses = then_these x (before ++ refused (address_of proxy) ∷ []) old mid new one refuses
+
+-- a node that was opened asked for all
 pub served_asked : {R : Type 0} (s : Settings) (old new : Option (List Asked)) (result : Result R MountFault)
-    → AreAskedFor (gave (files_of s) ∷ gave (http_of s) ∷ []) old new → IsOpened result → AsksLinks s old new result
+    → AreAskedFor (gave_links s) old new → IsOpened result → AsksLinks s old new result
 served_asked s old new (Ok done) both is = both
 served_asked s old new (Err fault.NoThread) both is = both
 served_asked s old new (Err fault.Limit) both is = both
-served_asked s old new (Err fault.Network) both is = inr (inr both)
+served_asked s old new (Err fault.Network) both is = inr (inr (inr both))
 served_asked s old new (Err fault.NoMemory) both is = inr both
 served_asked s old new (Err fault.Disk) both is = both
 served_asked s old new (Err fault.Read) both is = absurd is
@@ -48,7 +59,8 @@ disk_then s old mid new (Err fault.NoThread) disk links = then_these _ _ old mid
 disk_then s old mid new (Err fault.Limit) disk links = then_these _ _ old mid new disk links
 disk_then s old mid new (Err fault.Network) disk (inl links) = inl (then_these _ _ old mid new disk links)
 disk_then s old mid new (Err fault.Network) disk (inr (inl links)) = inr (inl (then_these _ _ old mid new disk links))
-disk_then s old mid new (Err fault.Network) disk (inr (inr links)) = inr (inr (then_these _ _ old mid new disk links))
+disk_then s old mid new (Err fault.Network) disk (inr (inr (inl links))) = inr (inr (inl (refuses_after (gave (disk_of s)) (gave (files_of s) ∷ gave (http_of s) ∷ []) s old mid new disk links)))
+disk_then s old mid new (Err fault.Network) disk (inr (inr (inr links))) = inr (inr (inr (then_these _ _ old mid new disk links)))
 disk_then s old mid new (Err fault.NoMemory) disk (inl same) =
     inr (inl (subst (λ told. AreAskedFor (gave (disk_of s) ∷ []) old told) (sym same) (one_back (gave (disk_of s)) old mid disk)))
 disk_then s old mid new (Err fault.NoMemory) disk (inr links) = inr (inr (then_these _ _ old mid new disk links))

@@ -30,11 +30,6 @@ and_one xs x None (Some b) (Some c) g t = absurd g
 and_one xs x (Some a) None (Some c) g t = absurd t
 and_one xs x (Some a) (Some b) (Some c) g t = t ∙ ap (λ l. l ++ x ∷ []) g ∙ append_assoc a xs (x ∷ [])
 
--- the file acceptor alone came back
-pub files_back : {D F H T S : Type 0} (R : Type 0) (ended : F → Bool) (given : F → ℕ) (files : F) (old new : Option (List (Returned D F H T S)))
-    → TakesBack (returned.Files files) old new → CameBack {D = D} {F = F} {H = H} {T = T} {S = S} {R = R} ended given old new (Err fault.Network)
-files_back R ended given files old new back = inr (inl (files, one_back (returned.Files files) old new back))
-
 -- three objects came back, one after another
 pub three_back : {D F H T S : Type 0} (files : F) (dialer : T) (spawner : S) (a b c d : Option (List (Returned D F H T S)))
     → TakesBack (returned.Files files) a b → TakesBack (returned.Dialer dialer) b c → TakesBack (returned.Spawner spawner) c d
@@ -51,7 +46,7 @@ pub served_back : {D F H T S R : Type 0} (ended : F → Bool) (given : F → ℕ
 served_back ended given files dialer spawner a b c d old new (Ok _) all end limit cause = (files, dialer, spawner, end, all)
 served_back ended given files dialer spawner a b c d old new (Err fault.Limit) all end limit cause = (files, dialer, spawner, limit, all)
 served_back ended given files dialer spawner a b c d old new (Err fault.NoThread) all end limit cause = (files, dialer, spawner, tt, all)
-served_back ended given files dialer spawner a b c d old new (Err fault.Network) all end limit cause = inr (inr (files, dialer, spawner, tt, all))
+served_back ended given files dialer spawner a b c d old new (Err fault.Network) all end limit cause = inr (inr (inr (files, dialer, spawner, tt, all)))
 served_back ended given files dialer spawner a b c d old new (Err fault.NoMemory) all end limit cause = tt
 served_back ended given files dialer spawner a b c d old new (Err fault.Read) all end limit cause = absurd cause
 served_back ended given files dialer spawner a b c d old new (Err fault.Config) all end limit cause = absurd cause

@@ -4,4 +4,5 @@ mod ServingLemmas
 mod BackLemmas
 mod ServiceLemmas
 mod AskLemmas
+mod DoorLemmas
 mod EndLemmas

@@ -18,6 +18,7 @@ pub mod Opening
 pub mod Places
 pub mod Returns
 pub mod Asking
+pub mod Doors
 pub mod Damage
 pub mod Mounting
 pub mod Ending

@@ -24,7 +24,7 @@ config_of settings node = record {
   node = node;
   candidate = stands_as_primary settings.lease.lease_type settings.lease.candidate;
   primary_host = primary_host settings;
-  halt_ttl = settings.lease.ttl;
+  halt_ttl = settings.lease.halt_ttl;
   retention = settings.retention_files;
 }
 

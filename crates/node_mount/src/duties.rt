@@ -61,6 +61,16 @@ pub fn duties_of<T: Dialer + Drop>(
     Ok(Some(Duties { primary, rounds }))
 }
 
+/// What dials the primary that a node with these duties follows; without any, nobody.
+pub fn to_primary<T: Dialer>(duties: &Option<Duties<T>>, dialer: &T) -> ToPrimary<T>
+    ensures { ⟦<ToPrimary<T> as Dialer>⟧.faults result ≡ 0 }
+{
+    match duties {
+        Some(duties) => duties.primary.dialer.another(),
+        None => ToPrimary::nowhere(dialer.another()),
+    }
+}
+
 /// The word that is closed once the rounds of these duties have ended; without any it is closed.
 pub fn rounds_word<T>(alloc: Global, duties: &Option<Duties<T>>) -> Result<Closing, NoMemory> {
     match duties {

@@ -6,8 +6,8 @@ ghost use Rattle.node_mount.specs.Serving.{CountsServing, GivesLimit};
 use crate::means::Means;
 use crate::mount_fault::MountFault;
 use crate::place::Place;
-use crate::sessions::{LINKS, open_session};
-use lf_base::{Acceptor, Clock, Handles, Pause, Spawner};
+use crate::sessions::{LINKS, Writer, open_session};
+use lf_base::{Acceptor, Clock, Dialer, Handles, Link, Pause, Spawner};
 use node_core::{Answer, Ask};
 use turn_desk::Machine;
 
@@ -16,6 +16,8 @@ pub fn serve_file_links<
     R: Handles + Copy + Send + 'static,
     K: Machine<Ask = Ask, Answer = Answer> + Send + Drop + 'static,
     A: Acceptor,
+    U: Link + Send + Drop + 'static,
+    T: Dialer<L = U> + Send + Drop + 'static,
     S: Spawner,
     C: Clock + Copy + Send + 'static,
     P: Pause + Copy + Send + 'static,
@@ -23,6 +25,7 @@ pub fn serve_file_links<
     means: Means<R, C, P>,
     place: &mut Place<K>,
     accept: &mut A,
+    writer: &Writer<T>,
     spawner: &mut S,
 ) -> Result<(), MountFault>
     requires unused { HasSeenNone place.old.seat }
@@ -37,7 +40,7 @@ pub fn serve_file_links<
             Ok(None) => return Ok(()),
             Err(_) => return Err(MountFault::Network),
         };
-        match open_session(means, place, link, spawner) {
+        match open_session(means, place, writer, link, spawner) {
             Ok(()) => {}
             Err(_) => return Err(MountFault::NoThread),
         }

@@ -88,7 +88,8 @@ pub fn follow_heard<
     hears: &mut H,
 ) -> FollowEnd
     requires { IsOf seat.old desk.now }
-    ensures follows { Follows (record { caller = number_of seat.old; may = C.may_give clock.old }) name.now unknown BUDGET (stand L.Link link.old (view seat.old).mine) (stand L.Link link.new (view seat.new).mine) result }
+    ensures follows { Follows (record { caller = number_of seat.old; may = C.may_give clock.old }) name.now unknown BUDGET (stand L.Link link.old (view seat.old).mine)
+        (stand L.Link link.new (view seat.new).mine) result }
     ensures worn { result ≡ follow_ends.Worn → FoundWorn seat.new }
     ensures history { HasGoneOn M.steps (opened_on desk.now) (number_of seat.new) (view seat.old) (view seat.new) }
     ensures seat { IsOf seat.new desk.now × (number_of seat.new ≡ number_of seat.old) }
@@ -124,7 +125,8 @@ pub fn serve_heard<
     hears: &mut H,
 ) -> SessionEnd
     requires { IsOf seat.old desk.now }
-    ensures session { IsSession (record { caller = number_of seat.old; may = C.may_give clock.old }) name.now BUDGET (stand L.Link link.old (view seat.old).mine) (stand L.Link link.new (view seat.new).mine) result }
+    ensures session { IsSession (record { caller = number_of seat.old; may = C.may_give clock.old }) name.now BUDGET (stand L.Link link.old (view seat.old).mine)
+        (stand L.Link link.new (view seat.new).mine) result }
     ensures worn { result ≡ session_ends.Worn → FoundWorn seat.new }
     ensures history { HasGoneOn M.steps (opened_on desk.now) (number_of seat.new) (view seat.old) (view seat.new) }
     ensures seat { IsOf seat.new desk.now × (number_of seat.new ≡ number_of seat.old) }

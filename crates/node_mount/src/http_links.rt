@@ -82,7 +82,7 @@ pub fn start_http<
 }
 
 /// The job that accepts HTTP links, and the links that it accepts.
-fn accepting_job<L: Drop, A: Drop, P: Copy>(
+pub(crate) fn accepting_job<L: Drop, A: Drop, P: Copy>(
     alloc: Global,
     accept: A,
     pause: P,
@@ -101,7 +101,7 @@ fn accepting_job<L: Drop, A: Drop, P: Copy>(
 
 /// A job that accepts links.
 #[derive(Drop)]
-struct Accepting<L, A, P> {
+pub(crate) struct Accepting<L, A, P> {
     accept: A,
     pause: P,
     links: Links<L>,

@@ -5,6 +5,7 @@ ghost use Rattle.node_core.specs.Nodes.{parts_of};
 ghost use Rattle.node_mount.specs.Asking.{Asks, AsksAsRead, AsksLinks};
 ghost use Rattle.node_mount.specs.Configuring.{ReadsConfiguration};
 ghost use Rattle.node_mount.specs.Damage.{DamageHasCause};
+ghost use Rattle.node_mount.specs.Doors.{PassesOn};
 ghost use Rattle.node_mount.specs.Duties.{AreDuties, HasDialer};
 ghost use Rattle.node_mount.specs.Ending.{BreaksWhere, CountsEnd, EndsAs, EndsBroken};
 ghost use Rattle.node_mount.specs.Making.{IsNew};
@@ -19,18 +20,20 @@ use crate::complaining::tell_complaint;
 use crate::configuration::Configuration;
 use crate::configuring::read_configuration;
 use crate::damage::tell_unrecovered;
-use crate::duties::duties_of;
+use crate::doors::{Doors, Unmade, make_doors};
+use crate::duties::{duties_of, to_primary};
 use crate::ending::End;
 use crate::failing::FailedCall;
 use crate::maker::Maker;
 use crate::means::Means;
 use crate::mount_fault::MountFault;
 use crate::notes::Notes;
-use crate::obstacle::{tell_obstacle, tell_unheard};
+use crate::obstacle::tell_obstacle;
 use crate::opening::{OpenFault, config_of, open_place, open_recovered};
-use crate::patience::{HTTP_PATIENCE, following_patience, lease_patience};
+use crate::patience::{following_patience, lease_patience};
 use crate::place::Place;
 use crate::serving::serve_links;
+use crate::sessions::Writer;
 use crate::tasks::Tasks;
 use crate::tell::Lines;
 use crate::watching::watching_of;
@@ -138,26 +141,10 @@ fn mount_node<R: Handles + Copy + Send + 'static, M: Maker>(
     let Ok(place) = open_place(alloc, node) else {
         return Err(MountFault::NoMemory);
     };
-    let files = match make.files(&read.settings.socket) {
-        Ok(files) => files,
-        Err(_) => {
-            tell_unheard(&rt, alloc, &read.settings.socket, read.settings.log, make);
-            return Err(MountFault::Network);
-        }
-    };
-    match make.http(read.settings.http.text(), HTTP_PATIENCE) {
-        Ok(http) => serve_place(rt, alloc, read, place, files, http, make),
-        Err(_) => {
-            tell_unheard(
-                &rt,
-                alloc,
-                read.settings.http.text(),
-                read.settings.log,
-                make,
-            );
-            make.back_files(files);
-            Err(MountFault::Network)
-        }
+    match make_doors(&rt, alloc, &read.settings, make) {
+        Ok(doors) => serve_place(rt, alloc, read, place, doors, make),
+        Err(Unmade::Network) => Err(MountFault::Network),
+        Err(Unmade::NoMemory) => Err(MountFault::NoMemory),
     }
 }
 
@@ -168,20 +155,20 @@ fn serve_place<R: Handles + Copy + Send + 'static, M: Maker>(
     alloc: Global,
     read: &Configuration,
     place: Place<Node<M::Disk>>,
-    files: M::FileAccept,
-    http: M::HttpAccept,
+    doors: Doors<M::FileAccept, M::HttpAccept, M::Dial>,
     make: &mut M,
 ) -> Result<(), MountFault>
     requires opened { IsOpenedBy (given read.now.settings (M.number make.old)) (parts_of (opened_on (arc_value place.desk))) }
     requires unused { IsUnused place.seat (arc_value place.desk) }
-    requires new { IsNew (M.FileAccept.given files) (M.FileAccept.faults files) (M.FileAccept.ended files) }
+    requires new { IsNew (M.FileAccept.given doors.files) (M.FileAccept.faults doors.files) (M.FileAccept.ended doors.files) }
+    requires passes { PassesOn read.now.settings.proxy doors.calls.proxy }
     ensures asked { M.asked make.new ≡ M.asked make.old }
     ensures back { CameBack M.FileAccept.ended M.FileAccept.given (M.back make.old) (M.back make.new) result }
     ensures cause { RaisesFor (M.counts make.old) (M.counts make.new) result }
     ensures kind { IsOpened result }
     ensures broken { EndsBroken ⟦<Node<M::Disk> as Machine>⟧.steps (opened_on (arc_value place.desk)) result }
 {
-    let served = serve_made(rt, alloc, read, place, files, http, make);
+    let served = serve_made(rt, alloc, read, place, doors, make);
     end_node(&rt, alloc, &read.settings, served, make)
 }
 
@@ -191,20 +178,20 @@ fn serve_made<R: Handles + Copy + Send + 'static, M: Maker>(
     alloc: Global,
     read: &Configuration,
     place: Place<Node<M::Disk>>,
-    files: M::FileAccept,
-    http: M::HttpAccept,
+    doors: Doors<M::FileAccept, M::HttpAccept, M::Dial>,
     make: &mut M,
 ) -> Result<End, MountFault>
     requires opened { IsOpenedBy (given read.now.settings (M.number make.old)) (parts_of (opened_on (arc_value place.desk))) }
     requires unused { IsUnused place.seat (arc_value place.desk) }
-    requires new { IsNew (M.FileAccept.given files) (M.FileAccept.faults files) (M.FileAccept.ended files) }
+    requires new { IsNew (M.FileAccept.given doors.files) (M.FileAccept.faults doors.files) (M.FileAccept.ended doors.files) }
+    requires passes { PassesOn read.now.settings.proxy doors.calls.proxy }
     ensures asked { M.asked make.new ≡ M.asked make.old }
     ensures back { CameBack M.FileAccept.ended M.FileAccept.given (M.back make.old) (M.back make.new) result }
     ensures cause { RaisesFor (M.counts make.old) (M.counts make.new) result }
     ensures kind { IsServing result }
     ensures broken { IfOk result (BreaksWhere ⟦<Node<M::Disk> as Machine>⟧.steps (opened_on (arc_value place.desk))) }
 {
-    let mut files = files;
+    let Doors { mut files, calls } = doors;
     let (clock, pause) = (make.clock(), make.pause());
     let means = Means {
         rt,
@@ -219,14 +206,14 @@ fn serve_made<R: Handles + Copy + Send + 'static, M: Maker>(
         return Err(MountFault::NoMemory);
     };
     let mut spawner = make.spawner();
-    let served = serve_links(means, place, &mut files, http, read, tasks, &mut spawner);
+    let served = serve_links(means, place, &mut files, calls, read, tasks, &mut spawner);
     make.back_files(files);
     make.back_dial(dialer);
     make.back_spawn(spawner);
     served
 }
 
-/// What a node does beside serving links, and what watches it.
+/// What a node does beside serving links, what watches it, and as whom its sessions ask for write permits.
 fn tasks_of<M: Maker>(
     alloc: Global,
     settings: &Settings,
@@ -235,6 +222,7 @@ fn tasks_of<M: Maker>(
     make: &mut M,
 ) -> Result<Tasks<M::Dial, M::Tell>, NoMemory>
     ensures duties { IfOk result (λ tasks. AreDuties settings.now (M.number make.old) asking tasks.duties) }
+    ensures writer { IfOk result (λ tasks. (tasks.writer.name ≡ settings.now.database) × (tasks.writer.node ≡ M.number make.old)) }
     ensures kept { (M.asked make.new ≡ M.asked make.old) × (M.number make.new ≡ M.number make.old) }
     ensures same { (M.counts make.new ≡ M.counts make.old) × (M.back make.new ≡ M.back make.old) }
 {
@@ -243,7 +231,16 @@ fn tasks_of<M: Maker>(
     let notes = Notes::new(alloc)?;
     let duties = duties_of(alloc, settings, make.node_id(), dialer, asking, &notes)?;
     let watching = watching_of(alloc, settings, lines, notes, ending)?;
-    Ok(Tasks { duties, watching })
+    let writer = Writer {
+        name: settings.database.copy()?,
+        node: make.node_id(),
+        dialer: to_primary(&duties, dialer),
+    };
+    Ok(Tasks {
+        duties,
+        watching,
+        writer,
+    })
 }
 
 /// How a node ends that served so. Of a store that broke the maker is told, and a line says which call of

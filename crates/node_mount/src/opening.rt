@@ -93,7 +93,7 @@ pub fn config_of(alloc: Global, settings: &Settings, node: u64) -> Result<NodeCo
         node,
         candidate: stands_as_primary(&settings.lease),
         primary_host,
-        halt_ttl: settings.lease.ttl,
+        halt_ttl: settings.lease.halt_ttl,
         retention: settings.retention_files,
     })
 }

@@ -1,6 +1,7 @@
 //! A node's links are served.
 ghost use Rattle.std.specs.Arc.{arc_value};
 ghost use Rattle.std.specs.Prelude.{◌≡◌, true, IfOk, OnOk};
+ghost use Rattle.node_mount.specs.Doors.{PassesOn};
 ghost use Rattle.node_mount.specs.Duties.{AreDutiesBy};
 ghost use Rattle.node_mount.specs.Ending.{BreaksWhere};
 ghost use Rattle.node_mount.specs.Places.{HasSeenNone, IsUnused};
@@ -8,6 +9,7 @@ ghost use Rattle.node_mount.specs.Serving.{CountsServing, CountsStarts, GivesLim
 ghost use Rattle.turn_desk.specs.Seats.{opened_on};
 
 use crate::configuration::Configuration;
+use crate::doors::Calls;
 use crate::duties::{Duties, rounds_word};
 use crate::ending::{End, end_serving};
 use crate::file_links::serve_file_links;
@@ -17,9 +19,10 @@ use crate::lease_rounds::start_rounds;
 use crate::means::Means;
 use crate::mount_fault::MountFault;
 use crate::place::Place;
+use crate::proxy_links::start_proxy;
 use crate::tasks::Tasks;
 use crate::tell::Tell;
-use crate::watching::start_watching;
+use crate::watching::{Watching, start_watching};
 use lf_base::{Acceptor, Clock, Closing, Dialer, Handles, Link, Pause, Spawner};
 use node_core::{Answer, Ask};
 use turn_desk::Machine;
@@ -42,13 +45,14 @@ pub fn serve_links<
     means: Means<R, C, P>,
     place: Place<K>,
     files: &mut A,
-    http: B,
+    calls: Calls<B, T>,
     read: &Configuration,
     tasks: Tasks<T, E>,
     spawner: &mut S,
 ) -> Result<End, MountFault>
     requires unused { IsUnused place.seat (arc_value place.desk) }
     requires duties { AreDutiesBy read.now.settings tasks.duties }
+    requires passes { PassesOn read.now.settings.proxy calls.proxy }
     requires new { A.given files.old ≡ 0 }
     ensures ended { OnOk result (A.ended files.new ≡ true) }
     ensures limit { GivesLimit (A.given files.new) result }
@@ -66,7 +70,7 @@ pub fn serve_links<
         return Err(MountFault::NoMemory);
     };
     let served = serve_all(
-        means, &mut place, files, http, read, tasks, &closing, spawner,
+        means, &mut place, files, calls, read, tasks, &closing, spawner,
     );
     closing.close();
     match served {
@@ -75,7 +79,7 @@ pub fn serve_links<
     }
 }
 
-/// Starts the jobs of these tasks and those of HTTP links, and serves file links.
+/// Starts the jobs of these tasks, those of HTTP links and those of a proxy's, and serves file links.
 fn serve_all<
     R: Handles + Copy + Send + 'static,
     K: Machine<Ask = Ask, Answer = Answer> + Send + Drop + 'static,
@@ -91,7 +95,7 @@ fn serve_all<
     means: Means<R, C, P>,
     place: &mut Place<K>,
     files: &mut A,
-    http: B,
+    calls: Calls<B, T>,
     read: &Configuration,
     tasks: Tasks<T, E>,
     closing: &Closing,
@@ -99,6 +103,7 @@ fn serve_all<
 ) -> Result<(), MountFault>
     requires unused { HasSeenNone place.old.seat }
     requires duties { AreDutiesBy read.now.settings tasks.duties }
+    requires passes { PassesOn read.now.settings.proxy calls.proxy }
     requires new { A.given files.old ≡ 0 }
     ensures ended { OnOk result (A.ended files.new ≡ true) }
     ensures limit { GivesLimit (A.given files.new) result }
@@ -107,16 +112,26 @@ fn serve_all<
     let Ok(calling) = Calling::of(&read.settings.database, &tasks.watching.notes) else {
         return Err(MountFault::NoMemory);
     };
-    match start_tasks(means, place, tasks, closing, spawner) {
+    let Tasks {
+        duties,
+        watching,
+        writer,
+    } = tasks;
+    match start_tasks(means, place, duties, watching, closing, spawner) {
         Ok(()) => {}
         Err(fault) => return Err(fault),
     }
+    let Calls { http, proxy } = calls;
     let door = Door {
         accept: http,
         calling,
     };
     match start_http(means, place, door, closing, spawner) {
-        Ok(()) => serve_file_links(means, place, files, spawner),
+        Ok(()) => {}
+        Err(fault) => return Err(fault),
+    }
+    match start_proxy(means, place, proxy, closing, spawner) {
+        Ok(()) => serve_file_links(means, place, files, &writer, spawner),
         Err(fault) => Err(fault),
     }
 }
@@ -134,7 +149,8 @@ fn start_tasks<
 >(
     means: Means<R, C, P>,
     place: &mut Place<K>,
-    tasks: Tasks<T, E>,
+    duties: Option<Duties<T>>,
+    watching: Watching<E>,
     closing: &Closing,
     spawner: &mut S,
 ) -> Result<(), MountFault>
@@ -142,7 +158,6 @@ fn start_tasks<
     ensures unused { HasSeenNone place.new.seat }
     ensures cause { CountsStarts (S.faults spawner.old) (S.faults spawner.new) result }
 {
-    let Tasks { duties, watching } = tasks;
     match start_watching(means, place, watching, closing, spawner) {
         Ok(()) => start_duties(means, place, duties, closing, spawner),
         Err(fault) => Err(fault),

@@ -1,12 +1,14 @@
 //! The sessions of links, each in a job of its own.
+ghost use Rattle.std.specs.Prelude.{◌≡◌, IfOk};
 ghost use Rattle.lf_base.specs.Faults.{CountsFaults};
 ghost use Rattle.node_mount.specs.Places.{HasSeenNone};
 
 use crate::means::Means;
 use crate::place::Place;
+use crate::to_primary::ToPrimary;
 use crate::work::{Work, start_work};
 use file_session::serve_seat;
-use lf_base::{Clock, Failed, Handles, Link, Pause, Spawner};
+use lf_base::{Clock, Dialer, Failed, Handles, Link, Name, NoMemory, Pause, Spawner};
 use node_core::{Answer, Ask};
 use turn_desk::{Machine, Rest};
 
@@ -22,32 +24,64 @@ const BUSY_MS: u64 = 50;
 /// How many links are accepted.
 pub const LINKS: u64 = 1 << 40;
 
+/// As whom a session asks the primary for a write permit: of which database and by which number, and
+/// what dials it.
+#[derive(Drop)]
+pub struct Writer<T> {
+    pub name: Name,
+    pub node: u64,
+    pub dialer: ToPrimary<T>,
+}
+
+impl<T: Dialer> Writer<T> {
+    /// The same for another session.
+    fn another(&self) -> Result<Writer<T>, NoMemory>
+        ensures name { IfOk result (λ other. other.name ≡ self.now.name) }
+        ensures node { IfOk result (λ other. other.node ≡ self.now.node) }
+    {
+        Ok(Writer {
+            name: self.name.copy()?,
+            node: self.node,
+            dialer: self.dialer.another(),
+        })
+    }
+}
+
 /// Starts the session of a link. Where there is no seat for it, or no memory, the link is let go.
 pub fn open_session<
     R: Handles + Copy + Send + 'static,
     K: Machine<Ask = Ask, Answer = Answer> + Send + Drop + 'static,
     L: Link + Send + Drop + 'static,
+    U: Link + Send + Drop + 'static,
+    T: Dialer<L = U> + Send + Drop + 'static,
     S: Spawner,
     C: Clock + Copy + Send + 'static,
     P: Pause + Copy + Send + 'static,
->(means: Means<R, C, P>, place: &mut Place<K>, link: L, spawner: &mut S) -> Result<(), Failed>
+>(
+    means: Means<R, C, P>,
+    place: &mut Place<K>,
+    writer: &Writer<T>,
+    link: L,
+    spawner: &mut S,
+) -> Result<(), Failed>
     requires unused { HasSeenNone place.old.seat }
     ensures unused { HasSeenNone place.new.seat }
     ensures cause { CountsFaults (S.faults spawner.old) (S.faults spawner.new) result }
 {
-    match place.another(means.rt) {
-        Some(place) => start_work(means, place, Client { link }, spawner),
-        None => Ok(()),
+    match (place.another(means.rt), writer.another()) {
+        (Some(place), Ok(writer)) => start_work(means, place, Client { link, writer }, spawner),
+        _ => Ok(()),
     }
 }
 
 /// The work of a job that serves the files on a link.
 #[derive(Drop)]
-struct Client<L> {
+struct Client<L, T> {
     link: L,
+    writer: Writer<T>,
 }
 
-impl<L: Link + Drop> Work for Client<L> {
+impl<L: Link + Drop, U: Link + Drop, T: Dialer<L = U> + Drop> Work for Client<L, T> {
     /// Serves them, to the end of the session.
     fn go<
         R: Handles + Copy,
@@ -55,14 +89,21 @@ impl<L: Link + Drop> Work for Client<L> {
         C: Clock + Copy,
         P: Pause + Copy,
     >(self, means: Means<R, C, P>, place: Place<K>) {
-        let (mut link, mut seat, mut clock) = (self.link, place.seat, means.clock);
+        let Client {
+            mut link,
+            mut writer,
+        } = self;
+        let (mut seat, mut clock) = (place.seat, means.clock);
         let mut rest = Rest::new(means.rt, &*place.desk, BUSY_MS);
         serve_seat(
             means.rt,
             means.alloc,
             &*place.desk,
             &mut seat,
+            &writer.name,
+            writer.node,
             &mut link,
+            &mut writer.dialer,
             &mut clock,
             &mut rest,
             BUDGET,

@@ -9,7 +9,7 @@ use lf_base::{Dialer, Failed, Handles, Text};
 #[derive(Drop)]
 pub struct ToPrimary<T> {
     dialer: T,
-    /// None where memory ran out when it was held once more.
+    /// None where there is none, or memory ran out when it was held once more.
     board: Option<Board>,
     faults: u64,
 }
@@ -38,10 +38,23 @@ impl<T> ToPrimary<T> {
 impl<T: Dialer> ToPrimary<T> {
     pub fn new(dialer: T, board: Board) -> ToPrimary<T>
         requires { T.faults dialer ≡ 0 }
+        ensures { ⟦<ToPrimary<T> as Dialer>⟧.faults result ≡ 0 }
     {
         ToPrimary {
             dialer,
             board: Some(board),
+            faults: 0,
+        }
+    }
+
+    /// One that knows no primary: it fails.
+    pub fn nowhere(dialer: T) -> ToPrimary<T>
+        requires { T.faults dialer ≡ 0 }
+        ensures { ⟦<ToPrimary<T> as Dialer>⟧.faults result ≡ 0 }
+    {
+        ToPrimary {
+            dialer,
+            board: None,
             faults: 0,
         }
     }
