@@ -1,14 +1,14 @@
 //! A table of sessions on the served files: what came, what was written, how it ended and what was asked.
 mod scripted;
 
-use crate::links::link_of;
+use crate::links::{link_of, name_of, nobody};
 use crate::same::same;
 use file_session::serve_seat;
-use lf_base::{FixedClock, MemLink, NoPause, SessionEnd};
+use lf_base::{FixedClock, Handles, MemLink, NoPause, SessionEnd};
 use scripted::Scripted;
 use std::alloc::Global;
+use std::net::{TcpListener, TcpStream};
 use std::process::Abort;
-use std::sync::Wait;
 use turn_desk::Desk;
 
 // READ of the position file, 7.
@@ -194,7 +194,7 @@ pub fn all_hex(rt: impl Copy + Abort, alloc: Global, texts: &[&[u8]]) -> Vec<u8>
 }
 
 /// The end of the row's session, and the machine afterwards.
-fn served<R: Wait + Copy + Abort>(
+fn served<R: Handles + Copy + Abort>(
     rt: R,
     alloc: Global,
     link: &mut MemLink,
@@ -203,22 +203,31 @@ fn served<R: Wait + Copy + Abort>(
     let (desk, mut seat) = Desk::open(alloc, Scripted::new(alloc))
         .ok()
         .expect(&rt, "a desk");
-    let mut clock = FixedClock::new(5);
-    let mut pause = NoPause::new();
     let end = serve_seat(
-        rt, alloc, &desk, &mut seat, link, &mut clock, &mut pause, budget,
+        rt,
+        alloc,
+        &desk,
+        &mut seat,
+        &name_of(rt, alloc),
+        3,
+        link,
+        &mut nobody(rt, alloc),
+        &mut FixedClock::new(5),
+        &mut NoPause::new(),
+        budget,
     );
     (end, desk.close(rt, seat))
 }
 
 #[test]
 fn sessions(rt: HostRuntime) {
+    let _named: Option<(TcpListener, TcpStream)> = None;
     for row in ROWS {
         has_session(rt, rt.alloc(), row);
     }
 }
 
-fn has_session<R: Wait + Copy + Abort>(rt: R, alloc: Global, row: &Row) {
+fn has_session<R: Handles + Copy + Abort>(rt: R, alloc: Global, row: &Row) {
     let input = all_hex(rt, alloc, row.input);
     let mut link = link_of(rt, alloc, input, row.size, row.failing);
     let watch = link.watch();

@@ -4,7 +4,8 @@ mod permitting;
 use crate::links::link_of;
 use crate::same::same;
 use lf_base::{FixedClock, MemLink, Name, NoPause, SessionEnd};
-use permitting::{Permitting, Word};
+use permitting::Permitting;
+pub use permitting::Word;
 use std::alloc::Global;
 use std::process::Abort;
 use std::sync::Wait;
@@ -23,42 +24,43 @@ const EMPTY: &[u8] = b"HTTP/1.1 200 OK\r\nContent-Length: 0\r\nConnection: close
 const HALT_HELD: &[u8] =
     b"HTTP/1.1 409 Conflict\r\nContent-Length: 9\r\nConnection: close\r\n\r\nHaltHeld\n";
 
-const HALT_GONE: &[u8] =
+pub const HALT_GONE: &[u8] =
     b"HTTP/1.1 409 Conflict\r\nContent-Length: 9\r\nConnection: close\r\n\r\nHaltGone\n";
 
-const HELD: &[u8] =
+pub const HELD: &[u8] =
     b"HTTP/1.1 409 Conflict\r\nContent-Length: 5\r\nConnection: close\r\n\r\nHeld\n";
 
-const LIMIT: &[u8] =
+pub const LIMIT: &[u8] =
     b"HTTP/1.1 413 Payload Too Large\r\nContent-Length: 6\r\nConnection: close\r\n\r\nLimit\n";
 
-const NOT_PRIMARY: &[u8] =
+pub const NOT_PRIMARY: &[u8] =
     b"HTTP/1.1 503 Service Unavailable\r\nContent-Length: 11\r\nConnection: close\r\n\r\nNotPrimary\n";
 
-const ODD: &[u8] =
+pub const ODD: &[u8] =
     b"HTTP/1.1 500 Internal Server Error\r\nContent-Length: 10\r\nConnection: close\r\n\r\nOddAnswer\n";
 
-const BAD: &[u8] = b"HTTP/1.1 400 Bad Request\r\nContent-Length: 0\r\nConnection: close\r\n\r\n";
+pub const BAD: &[u8] =
+    b"HTTP/1.1 400 Bad Request\r\nContent-Length: 0\r\nConnection: close\r\n\r\n";
 
-const NOT_FOUND: &[u8] =
+pub const NOT_FOUND: &[u8] =
     b"HTTP/1.1 404 Not Found\r\nContent-Length: 0\r\nConnection: close\r\n\r\n";
 
 const NEVER: u64 = 999;
 
 #[derive(Clone, Copy)]
-struct Row {
-    input: &'static [u8],
+pub struct Row {
+    pub input: &'static [u8],
     /// The call of the link that fails, and the budget.
-    failing: u64,
-    budget: u64,
-    answers: Word,
-    written: &'static [u8],
-    end: SessionEnd,
-    asked: &'static [u8],
+    pub failing: u64,
+    pub budget: u64,
+    pub answers: Word,
+    pub written: &'static [u8],
+    pub end: SessionEnd,
+    pub asked: &'static [u8],
 }
 
 /// A permit that is asked for, where a row says nothing else.
-const ASKED: Row = Row {
+pub const ASKED: Row = Row {
     input: ASK,
     failing: NEVER,
     budget: 99,
@@ -218,7 +220,7 @@ fn halts(rt: HostRuntime) {
     }
 }
 
-fn has_session<R: Wait + Copy + Abort>(rt: R, alloc: Global, row: &Row) {
+pub fn has_session<R: Wait + Copy + Abort>(rt: R, alloc: Global, row: &Row) {
     let input = Vec::from_slice(alloc, row.input).expect(&rt, "memory");
     let mut link = link_of(rt, alloc, input, 99, row.failing);
     let watch = link.watch();

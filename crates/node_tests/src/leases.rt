@@ -3,7 +3,7 @@
 //! pages of 4,096.
 pub mod client;
 pub mod node;
-mod session;
+pub mod session;
 
 use crate::same::same;
 use client::{Deed, Told, ask_of, told_of};

@@ -15,6 +15,10 @@ mod files;
 #[cfg(test)]
 mod following;
 #[cfg(test)]
+mod forwarding;
+#[cfg(test)]
+mod forwards;
+#[cfg(test)]
 mod halts;
 #[cfg(test)]
 mod leased;

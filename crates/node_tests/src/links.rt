@@ -1,5 +1,5 @@
 //! A link in memory, as a row of a table says it.
-use lf_base::MemLink;
+use lf_base::{MemDialer, MemLink, Name};
 use std::alloc::Global;
 use std::process::Abort;
 
@@ -15,4 +15,13 @@ pub fn link_of(
     let mut link = MemLink::new(alloc, input, 4096, failing).expect(&rt, "a link");
     link.cut_into(size.max(1));
     link
+}
+
+/// A dialer that reaches nobody.
+pub fn nobody(rt: impl Copy + Abort, alloc: Global) -> MemDialer {
+    MemDialer::new(alloc, Vec::new(alloc), 0, Vec::new(alloc)).expect(&rt, "a dialer")
+}
+
+pub fn name_of(rt: impl Copy + Abort, alloc: Global) -> Name {
+    Name::read(alloc, b"app").expect(&rt, "a name")
 }

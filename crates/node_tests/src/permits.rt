@@ -108,9 +108,46 @@ const HALTED: &[Turn] = &[
     (107, Deed::HaltAsk(2), Told::NotPrimary),
     (108, Deed::HaltBack(7), Told::NotPrimary),
     (109, Deed::UnlinkDatabase, Told::Refuse(1)),
-    (110, Deed::Unlink, Told::Refuse(30)),
-    (111, Deed::Where, Told::At(0)),
-    (112, Deed::Page(8), Told::Done),
+    (110, Deed::Page(8), Told::Done),
+];
+
+/// Its commit is sent, and the request waits: meanwhile nothing is committed, and nothing else is
+/// written.
+const SENT: &[Turn] = &[
+    (111, Deed::Unlink, Told::Send(7)),
+    (112, Deed::Where, Told::At(0)),
+    (113, Deed::Page(9), Told::Refuse(11)),
+    (114, Deed::Unlink, Told::Refuse(11)),
+];
+
+/// It is committed at the primary, and then here, once.
+const ACCEPTED: &[Turn] = &[
+    (115, Deed::Forwarded(true), Told::Done),
+    (116, Deed::Where, Told::At(1)),
+    (117, Deed::Forwarded(true), Told::Refuse(5)),
+    (118, Deed::Where, Told::At(1)),
+];
+
+/// So it is where the permit ended before the reply came.
+const ACCEPTED_LATE: &[Turn] = &[
+    (201, Deed::Page(9), Told::Refuse(30)),
+    (202, Deed::Forwarded(true), Told::Done),
+    (203, Deed::Where, Told::At(1)),
+];
+
+/// It is not committed: the request changed nothing, and what was written is there still.
+const GIVEN_UP: &[Turn] = &[
+    (115, Deed::Forwarded(false), Told::Refuse(5)),
+    (116, Deed::Where, Told::At(0)),
+    (117, Deed::Page(9), Told::Done),
+    (118, Deed::Unlink, Told::Send(7)),
+];
+
+/// Its session ends before the reply comes.
+const LEFT: &[Turn] = &[
+    (115, Deed::End, Told::Quiet),
+    (116, Deed::Forwarded(true), Told::Refuse(5)),
+    (117, Deed::Where, Told::At(0)),
 ];
 
 /// At the end of its permit the node is a replica, and the owner of uncommitted pages is refused with 5
@@ -170,6 +207,10 @@ const ROWS: &[(bool, &[&[Turn]])] = &[
     (true, &[WRITTEN, DROP]),
     (false, &[REPLICA]),
     (false, &[GOT, WRITTEN, HALTED]),
+    (false, &[GOT, WRITTEN, SENT, ACCEPTED]),
+    (false, &[GOT, WRITTEN, SENT, ACCEPTED_LATE]),
+    (false, &[GOT, WRITTEN, SENT, GIVEN_UP]),
+    (false, &[GOT, WRITTEN, SENT, LEFT]),
     (false, &[GOT, WRITTEN, ENDS]),
     (false, &[GOT, WRITTEN, GONE]),
     (false, &[LATE]),

@@ -226,14 +226,9 @@ const ROWS: &[Row] = &[
         written: &[BAD],
         ..CLOSED
     },
-    // Each call that has a name and is not served. Its body is passed over.
+    // The call that has a name and is not served. Its body is passed over.
     Row {
         size: 3,
-        input: b"POST /tx HTTP/1.1\r\nContent-Length: 21\r\n\r\napp 0000000000000001\n",
-        written: &[NOT_FOUND],
-        ..CLOSED
-    },
-    Row {
         input: b"POST /lease HTTP/1.1\r\nContent-Length: 2\r\n\r\n{}",
         written: &[NOT_FOUND],
         ..CLOSED

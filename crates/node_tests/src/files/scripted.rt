@@ -80,7 +80,8 @@ impl Machine for Scripted {
             | Ask::HaltBack { .. }
             | Ask::Forward { .. }
             | Ask::HaltGot { .. }
-            | Ask::HaltLost { .. } => {
+            | Ask::HaltLost { .. }
+            | Ask::Forwarded { .. } => {
                 self.note(0);
                 Answer::Quiet
             }

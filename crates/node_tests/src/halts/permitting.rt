@@ -1,16 +1,21 @@
-//! A machine that answers each ask for a permit, and each that is given back, by a word, and keeps what it was asked.
+//! A machine that answers each ask for a permit, each that is given back, and each commit under one by a word, and keeps what it was asked.
 use byte_locks::LockId;
 use halt_forward::{HaltFault, HaltPass};
 use lf_base::Pos;
+use ltx_codec::LtxFault;
 use node_core::{Answer, Ask, Refusal, Whereabouts};
 use std::alloc::Global;
 use turn_desk::Machine;
+use txn_log::StoreFault;
 
 /// Where it stands.
 const AT: Pos = Pos {
     txid: 2,
     sum: 0xb20a_ff5e_38e3_8e38,
 };
+
+/// Before the first transaction.
+const NOWHERE: Pos = Pos { txid: 0, sum: 0 };
 
 /// The permit that it gives out.
 const PASS: HaltPass = HaltPass {
@@ -28,6 +33,10 @@ pub enum Word {
     Held,
     Limit,
     NotPrimary,
+    Applied,
+    Behind,
+    Ltx,
+    SumDiffers,
 }
 
 #[derive(Drop)]
@@ -56,6 +65,16 @@ impl Permitting {
             Word::Held => Answer::Held(LockId::Reserved),
             Word::Limit => Answer::Refused(Refusal::Halt(HaltFault::Limit)),
             Word::NotPrimary => Answer::Refused(Refusal::NotPrimary),
+            Word::Applied => Answer::Applied(AT),
+            Word::Behind => Answer::Refused(Refusal::Halt(HaltFault::Behind {
+                have: AT,
+                want: NOWHERE,
+            })),
+            Word::Ltx => Answer::Refused(Refusal::Ltx(LtxFault::Txid)),
+            Word::SumDiffers => Answer::Refused(Refusal::Store(StoreFault::SumDiffers {
+                want: 1,
+                got: 2,
+            })),
         }
     }
 
@@ -88,6 +107,11 @@ impl Machine for Permitting {
             }
             Ask::HaltBack { now, number } => {
                 self.keep_ask(b"back ", *number, *now);
+                self.answer()
+            }
+            Ask::Forward { now, number, bytes } => {
+                self.keep_ask(b"file of ", *number, *now);
+                self.keep(bytes.as_slice());
                 self.answer()
             }
             Ask::Where => {

@@ -58,6 +58,10 @@ pub enum Deed {
     HaltGot(u64, u64),
     /// The permit of this number is gone.
     HaltLost(u64),
+    /// The primary answered the commit that was sent.
+    Forwarded(bool),
+    /// The client's session ends.
+    End,
 }
 
 /// What is told of an answer.
@@ -73,6 +77,8 @@ pub enum Told {
     NotReplica,
     /// A permit of this number, with its end.
     Pass(u64, u64),
+    /// A commit is to be sent, under the permit of this number.
+    Send(u64),
     Held(LockId),
     HaltHeld(u64, u64),
     HaltGone(u64),
@@ -190,6 +196,7 @@ fn of_permits(now: u64, deed: Deed) -> Option<Ask> {
             pass: HaltPass { number, until },
         }),
         Deed::HaltLost(number) => Some(Ask::HaltLost { number }),
+        Deed::Forwarded(ok) => Some(Ask::Forwarded { ok }),
         _ => None,
     }
 }
@@ -224,6 +231,7 @@ fn request<R: Copy + Abort>(rt: R, alloc: Global, now: u64, deed: Deed) -> Ask {
             now,
             bytes: bytes(rt, alloc, b"no file"),
         },
+        Deed::End => Ask::EndSession,
         Deed::Open => file(now, DATABASE, Op::Open),
         Deed::Exclusive => lock(now, DATABASE, SHARED, LockWish::Write),
         Deed::Unlock => lock(now, DATABASE, SHARED, LockWish::Unlock),
@@ -285,6 +293,7 @@ pub fn told_of(answer: &Answer) -> Told {
         Answer::Refused(Refusal::NotPrimary) => Told::NotPrimary,
         Answer::Refused(Refusal::NotReplica) => Told::NotReplica,
         Answer::Pass(pass) => Told::Pass(pass.number, pass.until),
+        Answer::Send { number, .. } => Told::Send(*number),
         Answer::Held(lock) => Told::Held(*lock),
         Answer::Refused(Refusal::Halt(fault)) => told_of_permit(*fault),
         Answer::Refused(_) => Told::Refused,

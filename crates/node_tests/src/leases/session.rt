@@ -5,17 +5,18 @@ use crate::files::all_hex;
 use crate::leases::client::ask_of;
 use crate::leases::node::{close, open};
 use crate::leases::{GRANTED, Turn};
-use crate::links::link_of;
+use crate::links::{link_of, name_of, nobody};
 use crate::same::same;
 use file_session::serve_seat;
-use lf_base::{Clock, MemLink, NoPause, SessionEnd};
+use lf_base::{Clock, Handles, MemLink, NoPause, SessionEnd};
 use node_core::{Ask, Node};
 use std::alloc::Global;
+use std::net::{TcpListener, TcpStream};
 use std::process::Abort;
 use std::sync::Wait;
 use turn_desk::{Desk, Seat};
 
-type MemNode = Node<lf_disk::MemDisk>;
+pub type MemNode = Node<lf_disk::MemDisk>;
 
 /// A clock that is a millisecond on with each reading.
 #[derive(Drop)]
@@ -91,7 +92,7 @@ fn begin<R: Wait + Copy + Abort>(
 }
 
 /// A desk over a node that was never written, and its first seat.
-fn opened<R: Copy + Abort>(rt: R, alloc: Global) -> (Desk<MemNode>, Seat<MemNode>)
+pub fn opened<R: Copy + Abort>(rt: R, alloc: Global) -> (Desk<MemNode>, Seat<MemNode>)
     ensures { IsOf result.1 result.0 }
 {
     match Desk::open(alloc, open(rt, alloc, false)) {
@@ -101,7 +102,7 @@ fn opened<R: Copy + Abort>(rt: R, alloc: Global) -> (Desk<MemNode>, Seat<MemNode
 }
 
 /// The session's end.
-fn served<R: Wait + Copy + Abort>(
+fn served<R: Handles + Copy + Abort>(
     rt: R,
     alloc: Global,
     link: &mut MemLink,
@@ -118,7 +119,10 @@ fn served<R: Wait + Copy + Abort>(
         alloc,
         &desk,
         &mut seat,
+        &name_of(rt, alloc),
+        3,
         link,
+        &mut nobody(rt, alloc),
         &mut clock,
         &mut NoPause::new(),
         100,
@@ -129,12 +133,13 @@ fn served<R: Wait + Copy + Abort>(
 
 #[test]
 fn a_lease_ends_between_two_messages(rt: HostRuntime) {
+    let _named: Option<(TcpListener, TcpStream)> = None;
     for (first, written) in ROWS {
         has_replies(rt, rt.alloc(), *first, written);
     }
 }
 
-fn has_replies<R: Wait + Copy + Abort>(rt: R, alloc: Global, first: u64, written: &[&[u8]]) {
+fn has_replies<R: Handles + Copy + Abort>(rt: R, alloc: Global, first: u64, written: &[&[u8]]) {
     let mut link = link_of(rt, alloc, input(rt, alloc), 99_999, 999);
     let watch = link.watch();
     same(rt, served(rt, alloc, &mut link, first), SessionEnd::Closed);
