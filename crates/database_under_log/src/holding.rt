@@ -117,7 +117,8 @@ pub(crate) fn hold_pages<S: PageStore>(
     requires sized { 0 < count_over file.old (S.commit base.old) → size_over file.old (S.page_size base.old) (S.commit base.old) ≡ change.now.page_size }
     requires complete { (n : ℕ) → S.commit base.old < n → n ≤ change.now.commit → IsDataPage change.now.page_size n → IsSome (written change.now.pages n) }
     ensures fits { OnOk result (FitsShape file.new (S.page_size base.old) (S.commit base.old)) }
-    ensures told { OnOk result (IfSome (S.image base.old) (λ i. KeepsDifferences file.old i → ReadsOn file.old file.new i × StaysTo file.old file.new held.new.same.items i change.now (count_over file.old (length i.pages)))) }
+    ensures told { OnOk result (IfSome (S.image base.old) (λ i. KeepsDifferences file.old i → ReadsOn file.old file.new i
+        × StaysTo file.old file.new held.new.same.items i change.now (count_over file.old (length i.pages)))) }
     ensures back { IsBack file.old.kept file.new.kept held.new.added.items }
     ensures shape { (file.new.page_size ≡ file.old.page_size) × (file.new.count ≡ file.old.count) }
     ensures faults { OnOk result (S.faults base.new ≡ S.faults base.old) }

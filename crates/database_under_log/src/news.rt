@@ -138,7 +138,8 @@ pub(crate) fn log_change(
     requires size { news.page_size ≡ page_size_in (contents_of log.now) }
     requires count { news.commit ≡ last_size (contents_of log.now) }
     requires whole { (n : ℕ) → (page : List ℕ) → pages.get file.now.kept n ≡ Some page → length page ≡ page_size_in (contents_of log.now) }
-    ensures { IfOk result (λ change. (first : ℕ) → news ≡ change_of (contents_of log.now) first (committed_count (contents_of log.now)) → change ≡ change_over file.now (log_news (contents_of log.now) first commit) commit) }
+    ensures { IfOk result (λ change. (first : ℕ) → news ≡ change_of (contents_of log.now) first (committed_count (contents_of log.now))
+        → change ≡ change_over file.now (log_news (contents_of log.now) first commit) commit) }
 {
     let newest = with_older(alloc, log, news, commit)?;
     file.change_over(alloc, newest, commit)

@@ -63,7 +63,8 @@ fn hold_commit<S: PageStore>(
     requires some { 0 < committed_count (contents_of log.now) }
     requires news { (first : ℕ) × (news ≡ change_of (contents_of log.now) first (committed_count (contents_of log.now))) }
     requires sized { 0 < count_over file.old (S.commit base.old) → size_over file.old (S.page_size base.old) (S.commit base.old) ≡ page_size_in (contents_of log.now) }
-    ensures change { IfOk result (λ c. (first : ℕ) → news ≡ change_of (contents_of log.now) first (committed_count (contents_of log.now)) → c.change ≡ change_over file.old (log_news (contents_of log.now) first (S.commit base.old)) (S.commit base.old)) }
+    ensures change { IfOk result (λ c. (first : ℕ) → news ≡ change_of (contents_of log.now) first (committed_count (contents_of log.now))
+        → c.change ≡ change_over file.old (log_news (contents_of log.now) first (S.commit base.old)) (S.commit base.old)) }
     ensures ready { IfOk result (IsHeld file.old file.new (S.page_size base.old) (S.commit base.old) at bytes.now) }
     ensures told { IfOk result (λ c. IfSome (S.image base.old) (λ i. KeepsDifferences file.old i → Stays file.old file.new i c)) }
     ensures err { OnErr result (file.new ≡ file.old) }
@@ -110,7 +111,8 @@ fn limited_commit<S: PageStore>(
     requires some { 0 < committed_count (contents_of log.now) }
     requires news { (first : ℕ) × (news ≡ change_of (contents_of log.now) first (committed_count (contents_of log.now))) }
     requires sized { 0 < count_over file.old (S.commit base.old) → size_over file.old (S.page_size base.old) (S.commit base.old) ≡ page_size_in (contents_of log.now) }
-    ensures change { IfOk result (λ c. (first : ℕ) → news ≡ change_of (contents_of log.now) first (committed_count (contents_of log.now)) → c.change ≡ change_over file.old (log_news (contents_of log.now) first (S.commit base.old)) (S.commit base.old)) }
+    ensures change { IfOk result (λ c. (first : ℕ) → news ≡ change_of (contents_of log.now) first (committed_count (contents_of log.now))
+        → c.change ≡ change_over file.old (log_news (contents_of log.now) first (S.commit base.old)) (S.commit base.old)) }
     ensures ready { IfOk result (IsHeld file.old file.new (S.page_size base.old) (S.commit base.old) at bytes.now) }
     ensures told { IfOk result (λ c. IfSome (S.image base.old) (λ i. KeepsDifferences file.old i → Stays file.old file.new i c)) }
     ensures limit { OnOk result (IsWithinLimit (page_size_in (contents_of log.now)) (last_size (contents_of log.now))) }
@@ -153,7 +155,8 @@ pub fn prepare_log_write<S: PageStore>(
     requires fits { FitsShape file.old (S.page_size base.old) (S.commit base.old) }
     requires follows { FollowsLog file.old (S.page_size base.old) (S.commit base.old) (contents_of log.old) }
     ensures ok { IfOk result (IsPrepared file.old file.new log.old log.new (S.page_size base.old) (S.commit base.old) at bytes.now) }
-    ensures told { IfOk result (λ w. IfSome (S.image base.old) (λ i. MayChangeHeader file.old (contents_of log.old) (written at bytes.now (contents_of log.old)) → KeepsDifferences file.old i → Agrees file.old i (contents_of log.old) → IsPreparedOver file.old file.new i (written at bytes.now (contents_of log.old)) w)) }
+    ensures told { IfOk result (λ w. IfSome (S.image base.old) (λ i. MayChangeHeader file.old (contents_of log.old) (written at bytes.now (contents_of log.old))
+        → KeepsDifferences file.old i → Agrees file.old i (contents_of log.old) → IsPreparedOver file.old file.new i (written at bytes.now (contents_of log.old)) w)) }
     ensures limit { IfOk result (IsLimited (written at bytes.now (contents_of log.old))) }
     ensures faults { OnOk result (S.faults base.new ≡ S.faults base.old) }
     ensures err_file { OnErr result (file.new ≡ file.old) }

@@ -117,7 +117,8 @@ impl View {
         requires fits { FitsImage self.old (S.page_size base.old) (S.commit base.old) }
         ensures done { IfOk result (λ plan. IsWritten (S.image base.old) self.old scene.now (file_number node) at bytes.now plan self.new) }
         ensures allowed { OnOk result (IsAllowed (handle_rows self.old scene.now node fh ++ write_rows self.old scene.now (file_number node) given at bytes.now)) }
-        ensures cause { IfErr result (HasReadCause (write_needs (file_number node)) (handle_rows self.old scene.now node fh ++ write_rows self.old scene.now (file_number node) given at bytes.now) (S.faults base.old) (S.faults base.new)) }
+        ensures cause { IfErr result (HasReadCause (write_needs (file_number node))
+            (handle_rows self.old scene.now node fh ++ write_rows self.old scene.now (file_number node) given at bytes.now) (S.faults base.old) (S.faults base.new)) }
         ensures err { OnErr result (self.new ≡ self.old) }
         ensures base { SameBase S.PageStore base.old base.new }
     {

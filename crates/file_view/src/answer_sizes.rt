@@ -94,7 +94,8 @@ impl View {
         requires fits { FitsShape self.old.database (S.page_size base.old) (S.commit base.old) }
         ensures done { IfOk result (λ plan. IsSized (S.image base.old) self.old scene.now node (file_number node) len plan self.new) }
         ensures allowed { OnOk result (IsAllowed (served_rows self.old scene.now node ++ size_rows self.old scene.now (file_number node) given len)) }
-        ensures cause { IfErr result (HasReadCause (size_needs (file_number node)) (served_rows self.old scene.now node ++ size_rows self.old scene.now (file_number node) given len) (S.faults base.old) (S.faults base.new)) }
+        ensures cause { IfErr result (HasReadCause (size_needs (file_number node))
+            (served_rows self.old scene.now node ++ size_rows self.old scene.now (file_number node) given len) (S.faults base.old) (S.faults base.new)) }
         ensures err { OnErr result (self.new ≡ self.old) }
         ensures base { SameBase S.PageStore base.old base.new }
     {

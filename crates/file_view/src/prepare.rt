@@ -53,7 +53,8 @@ impl View {
         requires { StandsOver (S.image base.old) (S.page_size base.old) (S.commit base.old) self.old }
         ensures done { IfOk result (λ plan. IsDone (S.image base.old) self.old (scene_of session role (S.page_size base.old) (S.commit base.old) (S.is_broken base.old)) request.now plan self.new) }
         ensures allowed { OnOk result (IsAllowed (rows_of self.old (scene_of session role (S.page_size base.old) (S.commit base.old) (S.is_broken base.old)) request.now)) }
-        ensures cause { IfErr result (HasReadCause (needs_of self.old request.now) (rows_of self.old (scene_of session role (S.page_size base.old) (S.commit base.old) (S.is_broken base.old)) request.now) (S.faults base.old) (S.faults base.new)) }
+        ensures cause { IfErr result (HasReadCause (needs_of self.old request.now)
+            (rows_of self.old (scene_of session role (S.page_size base.old) (S.commit base.old) (S.is_broken base.old)) request.now) (S.faults base.old) (S.faults base.new)) }
         ensures err { OnErr result (self.new ≡ self.old) }
         ensures name { self.new.name ≡ self.old.name }
         ensures stands { StandsOver (S.image base.old) (S.page_size base.old) (S.commit base.old) self.new }

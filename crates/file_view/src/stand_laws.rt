@@ -32,8 +32,10 @@ pub fn applied_view_stands()
 /// that are dropped, the end of a session, a request that is given up, and whatever leaves the database
 /// file, its writer and the log.
 pub fn endings_keep_the_image()
-    ensures dropped { (s : Served) (told : Option DatabaseImage) (page_size commit : ℕ) → (0 < commit → IsPageSize page_size) → StandsOver told page_size commit s → StandsOver told page_size commit (dropped s) }
-    ensures ended { (s : Served) (session : ℕ) (told : Option DatabaseImage) (page_size commit : ℕ) → (0 < commit → IsPageSize page_size) → StandsOver told page_size commit s → StandsOver told page_size commit (ended s session) }
+    ensures dropped { (s : Served) (told : Option DatabaseImage) (page_size commit : ℕ) → (0 < commit → IsPageSize page_size) → StandsOver told page_size commit s
+        → StandsOver told page_size commit (dropped s) }
+    ensures ended { (s : Served) (session : ℕ) (told : Option DatabaseImage) (page_size commit : ℕ) → (0 < commit → IsPageSize page_size)
+        → StandsOver told page_size commit s → StandsOver told page_size commit (ended s session) }
     ensures abandoned { (s : Served) (told : Option DatabaseImage) (page_size commit : ℕ) → StandsOver told page_size commit s → StandsOver told page_size commit (abandoned s) }
     ensures others { (old new : Served) (told : Option DatabaseImage) (page_size commit : ℕ) → new.database ≡ old.database → new.writer ≡ old.writer → log_contents new ≡ log_contents old
         → StandsOver told page_size commit old → StandsOver told page_size commit new }

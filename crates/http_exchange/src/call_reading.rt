@@ -68,7 +68,8 @@ fn read_call_body<L: Link>(
     turns: &mut Turns,
 ) -> Result<Body, SessionEnd>
     requires { piece.old ≡ [] }
-    ensures body { IfOk result (λ body. (bytes : List ℕ) (size : ℕ) (call : Call) → IsRequest bytes size call length → behind.now ≡ drop size bytes → ReadsBody kept bytes size length (L.left link.old) (L.left link.new) body) }
+    ensures body { IfOk result (λ body. (bytes : List ℕ) (size : ℕ) (call : Call) → IsRequest bytes size call length → behind.now ≡ drop size bytes
+        → ReadsBody kept bytes size length (L.left link.old) (L.left link.new) body) }
     ensures taken { Keeps (L.taken link.old) (L.taken link.new) }
     ensures spent { MovesFor result turns.old (L.moves link.old) turns.new (L.moves link.new) }
     ensures cause { EndsFewer L.Link link.old link.new behind.now length turns.new result }

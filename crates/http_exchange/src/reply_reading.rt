@@ -65,8 +65,10 @@ fn read_rest<L: Link>(
     turns: &mut Turns,
 ) -> Result<(), Untold>
     requires { piece.old ≡ [] }
-    ensures whole { OnOk result ((bytes : List ℕ) (size status : ℕ) → IsResponse bytes size status length → body.old.items ≡ drop size bytes → ReadsRest L.Link (record { sized = sized; limit = limit }) bytes link.old link.new status body.new.items) }
-    ensures untold { IfErr result (λ why. (bytes : List ℕ) (size status : ℕ) → IsResponse bytes size status length → body.old.items ≡ drop size bytes → ReadsNone L.Link (record { sized = sized; limit = limit }) bytes link.old link.new why) }
+    ensures whole { OnOk result ((bytes : List ℕ) (size status : ℕ) → IsResponse bytes size status length → body.old.items ≡ drop size bytes
+        → ReadsRest L.Link (record { sized = sized; limit = limit }) bytes link.old link.new status body.new.items) }
+    ensures untold { IfErr result (λ why. (bytes : List ℕ) (size status : ℕ) → IsResponse bytes size status length → body.old.items ≡ drop size bytes
+        → ReadsNone L.Link (record { sized = sized; limit = limit }) bytes link.old link.new why) }
     ensures fault { FaultsBy (L.faults link.old) (L.faults link.new) result }
     ensures turns { TurnsBy turns.old turns.new result }
 {

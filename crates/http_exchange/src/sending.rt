@@ -43,7 +43,8 @@ pub(crate) fn send<L: Link>(
     turns: &mut Turns,
 ) -> Result<(), SessionEnd>
     requires { IsNamed request.call.now }
-    ensures end { EndsSending (request_text request.entry.call.now request.entry.host.now request.entry.front.now request.entry.back.now) (L.taken link.old) (L.taken link.new) (L.faults link.old) (L.faults link.new) turns.new result }
+    ensures end { EndsSending (request_text request.entry.call.now request.entry.host.now request.entry.front.now request.entry.back.now) (L.taken link.old)
+        (L.taken link.new) (L.faults link.old) (L.faults link.new) turns.new result }
     ensures left { Keeps (L.left link.old) (L.left link.new) × Keeps (L.given link.old) (L.given link.new) }
     ensures turns { turns.new ≤ turns.old }
 {

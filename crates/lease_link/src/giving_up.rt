@@ -33,7 +33,8 @@ pub(crate) fn give_up<
     clock: &mut C,
     budget: u64,
 ) -> Result<(), NoMemory>
-    ensures given { GivesUp B.Bringing (asker S.Steps C.Clock steps.old clock.old) (LinksTell T.L.given T.L.taken) service.now own.now budget (S.is_worn steps.new) (keep_stand (S.entries steps.old) (T.dials dialer.old) (T.faults dialer.old)) (keep_stand (S.entries steps.new) (T.dials dialer.new) (T.faults dialer.new)) (IsErr result) }
+    ensures given { GivesUp B.Bringing (asker S.Steps C.Clock steps.old clock.old) (LinksTell T.L.given T.L.taken) service.now own.now budget (S.is_worn steps.new)
+        (keep_stand (S.entries steps.old) (T.dials dialer.old) (T.faults dialer.old)) (keep_stand (S.entries steps.new) (T.dials dialer.new) (T.faults dialer.new)) (IsErr result) }
     ensures same { AsksOn S.Steps C.Clock steps.old steps.new clock.old clock.new }
 {
     let mut turns = Turns::new(budget);

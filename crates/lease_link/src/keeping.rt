@@ -44,7 +44,9 @@ pub(crate) fn keep<
     pause: &mut P,
     budget: u64,
 ) -> KeepEnd
-    ensures round { IsRound B.Bringing (asker S.Steps C.Clock steps.old clock.old) (LinksTell T.L.given T.L.taken) service.now (round_ask own.now candidate) own.now budget (keep_stand (S.entries steps.old) (T.dials dialer.old) (T.faults dialer.old)) (keep_stand (S.entries steps.new) (T.dials dialer.new) (T.faults dialer.new)) result }
+    ensures round { IsRound B.Bringing (asker S.Steps C.Clock steps.old clock.old) (LinksTell T.L.given T.L.taken) service.now
+        (round_ask own.now candidate) own.now budget (keep_stand (S.entries steps.old) (T.dials dialer.old) (T.faults dialer.old))
+        (keep_stand (S.entries steps.new) (T.dials dialer.new) (T.faults dialer.new)) result }
     ensures same { AsksOn S.Steps C.Clock steps.old steps.new clock.old clock.new }
     ensures worn { result ≡ ends.Worn → S.is_worn steps.new }
 {

@@ -50,7 +50,9 @@ pub fn keep_lease<
     budget: u64,
 ) -> KeepEnd
     requires { IsOf seat.old desk.now }
-    ensures round { IsRound B.Bringing (record { caller = number_of seat.old; may = C.may_give clock.old }) (LinksTell T.L.given T.L.taken) service.now (round_ask own.now candidate) own.now budget (keep_stand (view seat.old).mine (T.dials dialer.old) (T.faults dialer.old)) (keep_stand (view seat.new).mine (T.dials dialer.new) (T.faults dialer.new)) result }
+    ensures round { IsRound B.Bringing (record { caller = number_of seat.old; may = C.may_give clock.old }) (LinksTell T.L.given T.L.taken) service.now
+        (round_ask own.now candidate) own.now budget (keep_stand (view seat.old).mine (T.dials dialer.old) (T.faults dialer.old))
+        (keep_stand (view seat.new).mine (T.dials dialer.new) (T.faults dialer.new)) result }
     ensures worn { result ≡ ends.Worn → FoundWorn seat.new }
     ensures history { HasGoneOn M.steps (opened_on desk.now) (number_of seat.new) (view seat.old) (view seat.new) }
     ensures seat { IsOf seat.new desk.now × (number_of seat.new ≡ number_of seat.old) }
@@ -93,7 +95,9 @@ pub fn give_up_lease<
     budget: u64,
 ) -> Result<(), NoMemory>
     requires { IsOf seat.old desk.now }
-    ensures given { GivesUp B.Bringing (record { caller = number_of seat.old; may = C.may_give clock.old }) (LinksTell T.L.given T.L.taken) service.now own.now budget (FoundWorn seat.new) (keep_stand (view seat.old).mine (T.dials dialer.old) (T.faults dialer.old)) (keep_stand (view seat.new).mine (T.dials dialer.new) (T.faults dialer.new)) (IsErr result) }
+    ensures given { GivesUp B.Bringing (record { caller = number_of seat.old; may = C.may_give clock.old }) (LinksTell T.L.given T.L.taken) service.now own.now budget
+        (FoundWorn seat.new) (keep_stand (view seat.old).mine (T.dials dialer.old) (T.faults dialer.old))
+        (keep_stand (view seat.new).mine (T.dials dialer.new) (T.faults dialer.new)) (IsErr result) }
     ensures history { HasGoneOn M.steps (opened_on desk.now) (number_of seat.new) (view seat.old) (view seat.new) }
     ensures seat { IsOf seat.new desk.now × (number_of seat.new ≡ number_of seat.old) }
     ensures clock { C.may_give clock.new ≡ C.may_give clock.old }

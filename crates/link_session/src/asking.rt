@@ -27,7 +27,9 @@ pub fn ask_until<
     patience: &T,
     turns: &mut Turns,
 ) -> Result<A, SessionEnd>
-    ensures answered { IfOk result (λ answer. AskedUntil (record { may = C.may_give clock.old; at_moment = T.at_moment; again = T.again patience.now; caller = S.number steps.old }) ask (S.entries steps.old) (S.entries steps.new) answer) }
+    ensures answered { IfOk result (λ answer. AskedUntil
+        (record { may = C.may_give clock.old; at_moment = T.at_moment; again = T.again patience.now; caller = S.number steps.old }) ask (S.entries steps.old)
+        (S.entries steps.new) answer) }
     ensures vain { OnErr result (AskedInVain (record { may = C.may_give clock.old; at_moment = T.at_moment; again = T.again patience.now; caller = S.number steps.old }) ask (S.entries steps.old) (S.entries steps.new)) }
     ensures gives { IfOk result (IsGiven (record { may = C.may_give clock.old; at_moment = T.at_moment; again = T.again patience.now; caller = S.number steps.old }) S.gives ask) }
     ensures same { (S.of steps.new ≡ S.of steps.old) × (S.number steps.new ≡ S.number steps.old) × GoesOn S.Steps steps.old steps.new × (C.may_give clock.new ≡ C.may_give clock.old) }

@@ -53,7 +53,8 @@ impl<F: Feed + Drop> Inbox<F> {
         ensures same { OnOk result (Keeps (coming self.old (L.left link.old)) (coming self.new (L.left link.new)) × (self.new.limit ≡ self.old.limit)) }
         ensures taken { Keeps (L.taken link.old) (L.taken link.new) }
         ensures spent { MovesFor result turns.old (L.moves link.old) turns.new (L.moves link.new) }
-        ensures cause { EndsReading F.takes_memory (F.partial self.old.limit) (F.broken self.old.limit) (coming self.old (L.left link.old)) (L.left link.new) (L.faults link.old) (L.faults link.new) turns.new result }
+        ensures cause { EndsReading F.takes_memory (F.partial self.old.limit) (F.broken self.old.limit) (coming self.old (L.left link.old)) (L.left link.new)
+            (L.faults link.old) (L.faults link.new) turns.new result }
     {
         match read_whole(&mut self.feed, &mut self.piece, link, turns) {
             Ok(()) => Ok(()),
@@ -69,7 +70,8 @@ impl<F: Feed + Drop> Inbox<F> {
         ensures within { OnOk result (reach self.new turns.new ≤ reach self.old turns.old) }
         ensures taken { Keeps (L.taken link.old) (L.taken link.new) }
         ensures spent { MovesFor (ended result) turns.old (L.moves link.old) turns.new (L.moves link.new) }
-        ensures cause { LeavesUnread F.takes_memory (F.partial self.old.limit) (F.broken self.old.limit) (coming self.old (L.left link.old)) (L.left link.new) (L.faults link.old) (L.faults link.new) turns.new result }
+        ensures cause { LeavesUnread F.takes_memory (F.partial self.old.limit) (F.broken self.old.limit) (coming self.old (L.left link.old)) (L.left link.new)
+            (L.faults link.old) (L.faults link.new) turns.new result }
     {
         read_whole(&mut self.feed, &mut self.piece, link, turns)
     }
@@ -114,7 +116,8 @@ fn read_whole<F: Feed, L: Link>(
     ensures within { OnOk result (reach_of (F.held feed.new) piece.new turns.new ≤ reach_of (F.held feed.old) piece.old turns.old) }
     ensures taken { Keeps (L.taken link.old) (L.taken link.new) }
     ensures spent { MovesFor (ended result) turns.old (L.moves link.old) turns.new (L.moves link.new) }
-    ensures cause { LeavesUnread F.takes_memory (F.partial (F.limit feed.old)) (F.broken (F.limit feed.old)) (text_of (F.held feed.old) piece.old (L.left link.old)) (L.left link.new) (L.faults link.old) (L.faults link.new) turns.new result }
+    ensures cause { LeavesUnread F.takes_memory (F.partial (F.limit feed.old)) (F.broken (F.limit feed.old)) (text_of (F.held feed.old) piece.old (L.left link.old))
+        (L.left link.new) (L.faults link.old) (L.faults link.new) turns.new result }
 {
     loop {
         match feed_some(feed, piece) {

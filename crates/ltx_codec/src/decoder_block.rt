@@ -46,7 +46,9 @@ impl Decoder {
         requires untold { self.old.told ≡ false }
         requires more { number ≢ 0 }
         requires within { first ≤ length piece.now }
-        ensures gives { (limit : ℕ) (encoding : List ℕ) (change : PageChange) → HasNumber self.old limit (encoding ++ take first piece.now) change number → IsRead encoding change (length change.pages) → length self.old.held.items ≤ 4 + self.old.header.page_size → length self.old.held.items < first + (4 + self.old.header.page_size) → FeedGives self.new limit encoding piece.now (Ok result) }
+        ensures gives { (limit : ℕ) (encoding : List ℕ) (change : PageChange) → HasNumber self.old limit (encoding ++ take first piece.now) change number
+            → IsRead encoding change (length change.pages) → length self.old.held.items ≤ 4 + self.old.header.page_size
+            → length self.old.held.items < first + (4 + self.old.header.page_size) → FeedGives self.new limit encoding piece.now (Ok result) }
         ensures shows { (self.new.header ≡ self.old.header) × (self.new.post ≡ self.old.post) }
         ensures same { (self.new.fault ≡ self.old.fault) × (self.new.limit ≡ self.old.limit) }
     {

@@ -69,7 +69,9 @@ impl Decoder {
     pub(crate) fn feed_trailer(&mut self, first: usize, piece: &[u8]) -> Result<Seen, LtxFault>
         requires untold { self.old.told ≡ false }
         requires within { first ≤ length piece.now }
-        ensures gives { (limit : ℕ) (encoding : List ℕ) (change : PageChange) → HasNumber self.old limit (encoding ++ take first piece.now) change 0 → IsRead encoding change (length change.pages) → length self.old.held.items ≤ 20 → length self.old.held.items < first + 20 → FeedGives self.new limit encoding piece.now result }
+        ensures gives { (limit : ℕ) (encoding : List ℕ) (change : PageChange) → HasNumber self.old limit (encoding ++ take first piece.now) change 0
+            → IsRead encoding change (length change.pages) → length self.old.held.items ≤ 20 → length self.old.held.items < first + 20
+            → FeedGives self.new limit encoding piece.now result }
         ensures shows { KeepsShown self.old self.new result }
         ensures same { (self.new.fault ≡ self.old.fault) × (self.new.limit ≡ self.old.limit) }
     {

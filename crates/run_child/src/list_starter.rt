@@ -148,7 +148,8 @@ impl Starter for ListStarter {
         link: &L,
         words: &[Text],
     ) -> Result<u8, Failed>
-        ensures told { MatchResult result (λ n. TellsOne (Some self.old.told) (Some self.new.told) (record { words = words.now; gave = n })) (λ _. TellsSame (Some self.old.told) (Some self.new.told)) }
+        ensures told { MatchResult result (λ n. TellsOne (Some self.old.told) (Some self.new.told) (record { words = words.now; gave = n }))
+            (λ _. TellsSame (Some self.old.told) (Some self.new.told)) }
         ensures cause { CountsFaults self.old.faults self.new.faults result }
 
         // A planned failure, and each start past the statuses, is one; where it goes well the next

@@ -39,7 +39,8 @@ fn hold<L: Link>(
     handle: Handle,
     room: &mut u64,
 ) -> Result<Closing, ChildEnd>
-    ensures held { IfOk result (λ closing. Asked (spec.take_lock handle.node handle.fh) reply.Empty (place L.Link link.old room.old) (place L.Link link.new room.new) × IsClosing handle.node handle.fh closing) }
+    ensures held { IfOk result (λ closing. Asked (spec.take_lock handle.node handle.fh) reply.Empty (place L.Link link.old room.old) (place L.Link link.new room.new)
+        × IsClosing handle.node handle.fh closing) }
     ensures stopped { IfErr result (Stopped (spec.take_lock handle.node handle.fh) (place L.Link link.old room.old) (place L.Link link.new room.new)) }
 {
     match Closing::of(alloc, handle) {
