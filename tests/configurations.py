@@ -46,7 +46,13 @@ WRONG = {
     'candidate_no_boolean': (RIGHT + 'candidate = "yes"\n', 'litefs.toml:5: lease.candidate: wanted true or false'),
     'two_keys_of_which_the_first_rule_counts': (RIGHT + 'ttl = 0\ncandidate = "yes"\n', 'litefs.toml:6: lease.candidate: wanted true or false'),
     'key_misspelled': (RIGHT + 'candidat = true\n', 'litefs.toml:5: lease.candidat: wanted no key of this name'),
-    'key_of_litefs_that_is_not_here': ('proxy.addr = ":8080"\n' + RIGHT, 'litefs.toml:1: proxy: wanted no key of this name'),
+    'key_of_litefs_that_is_not_here': ('fuse.allow-other = true\n' + RIGHT, 'litefs.toml:1: fuse.allow-other: wanted no key of this name'),
+    'proxy_without_a_target': ('proxy.addr = ":8080"\n' + RIGHT,
+                               'litefs.toml: proxy.target: wanted an address with a host, host:port, since proxy.addr is there; the key is missing'),
+    'proxy_of_nobody': ('proxy.addr = ":8080"\nproxy.target = ":80"\n' + RIGHT,
+                        'litefs.toml:2: proxy.target: wanted an address with a host, host:port'),
+    'key_of_a_mount': ('fuse.dir = "m"\n' + RIGHT, 'litefs.toml:1: fuse.dir: wanted no key of this name'),
+    'permit_of_no_time': (RIGHT + 'halt-ttl = 0\n', 'litefs.toml:5: lease.halt-ttl: wanted a number of milliseconds from 1 to 86400000'),
     'key_with_a_newline': (RIGHT + '"a\\nb" = true\n', 'litefs.toml:5: lease.?: wanted no key of this name'),
     'key_twice': (RIGHT + 'hostname = "h"\n', 'litefs.toml:5: wanted TOML in UTF-8'),
     'table_no_table': ('fuse = "s"\n' + RIGHT, 'litefs.toml:1: fuse: wanted a table'),
@@ -59,8 +65,8 @@ ACCEPTED = {
     'inline_tables': ('database = "app"\nhttp = { addr = "127.0.0.1:0" }\nfuse = { listen = "here" }\n'
                       'lease = { candidate = true, advertise-url = "http://h:1", hostname = "h" }\n', 'here'),
     'every_key': ('database = "app"\n[fuse]\nlisten = "s"\n[http]\naddr = "[::1]:0"\n[data]\ncompress = false\nretention-files = 0x10\n'
-                  '[lease]\ntype = "static"\ncandidate = true\nadvertise-url = "http://[::1]:1"\nhostname = "h"\n'
-                  'service-url = "http://h:2"\nttl = 1_000\n', 's'),
+                  '[proxy]\naddr = "127.0.0.1:0"\ntarget = "localhost:1"\n[lease]\ntype = "static"\ncandidate = true\nadvertise-url = "http://[::1]:1"\nhostname = "h"\n'
+                  'service-url = "http://h:2"\nttl = 1_000\nhalt-ttl = 2_000\n', 's'),
 }
 
 
