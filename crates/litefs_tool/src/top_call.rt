@@ -65,7 +65,7 @@ pub fn run<R: Handles + Copy + Send + 'static, I: Source, O: Sink, E: Sink, G: S
             nothing = (M.back host.new.make ≡ M.back host.old.make) × (M.asked host.new.make ≡ M.asked host.old.make);
             restored = λ database. RestoredBack M.asked M.may_give M.Disk.honest M.Disk.history M.back host.old.make host.new.make (folders_of database);
             backed_up = λ remote. BackedUpBack M.asked M.may_give M.Disk.honest M.Disk.history M.Dial.dials
-            (LinksTell M.Line.given M.Line.taken) M.back host.old.make host.new.make remote.address remote.name;
+                (LinksTell M.Line.given M.Line.taken) M.back host.old.make host.new.make remote.address remote.name;
           };
         } in RunOutcome backs run result }
     ensures apart { LeavesApart arguments.now host.old.input host.new.input host.old.output host.new.output host.old.config host.new.config host.old.make host.new.make }

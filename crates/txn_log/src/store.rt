@@ -42,7 +42,7 @@ pub struct Store<D: Disk> {
     ghost sized: { IsSized page_size commit },
     ghost kept: { IsTrue (D.honest disk) → IsStore (D.history disk) page_size commit entries.items dropped sums.sums broken whole tried } by { Prim.hlevel (props, Ascends-prop) },
     ghost left: { IsTrue (D.honest disk)
-    → RestsAs (MayBeFound (state_of (D.history disk) page_size commit entries.items dropped broken whole) (failed_of (D.history disk) broken attempt tried))
-    (D.history disk) } by { Prim.hlevel props },
+        → RestsAs (MayBeFound (state_of (D.history disk) page_size commit entries.items dropped broken whole) (failed_of (D.history disk) broken attempt tried))
+        (D.history disk) } by { Prim.hlevel props },
     ghost mode: { IsTrue (D.honest disk) → wal ≡ image_is_wal (state_of (D.history disk) page_size commit entries.items dropped broken whole).image } by { Prim.hlevel props },
 }
