@@ -30,4 +30,4 @@ pub use list_starter::{ListStarter, Told};
 pub use process_starter::ProcessStarter;
 pub use replies::{BadReply, decode_reply};
 pub use running::run_child;
-pub use starter::Starter;
+pub use starter::{ReadyStarter, Starter};

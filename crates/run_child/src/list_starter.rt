@@ -2,7 +2,7 @@ ghost use Rattle.std.specs.Prelude.{◌≡◌, ◌≢◌, ◌↔◌, ◌∷◌, 
 ghost use Rattle.lf_base.specs.Faults.{CountsFaults, Rose, one_more};
 ghost use Rattle.run_child.specs.Started.{TellsOne, TellsSame};
 
-use crate::starter::Starter;
+use crate::starter::{ReadyStarter, Starter};
 use lf_base::{Failed, Link, NoMemory, Text};
 use std::alloc::Global;
 use std::marker::Model;
@@ -167,4 +167,8 @@ impl Starter for ListStarter {
             Err(_) => Err(self.fail()),
         }
     }
+}
+
+impl ReadyStarter for ListStarter {
+    ghost ready = { λ _ _. tt };
 }

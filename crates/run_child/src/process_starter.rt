@@ -1,7 +1,7 @@
 ghost use Rattle.std.specs.Prelude.{◌≡◌, ℤ, pos, Option, None, MatchOption};
 ghost use Rattle.std.specs.Process.{exit_code};
 
-use crate::starter::Starter;
+use crate::starter::{ReadyStarter, Starter};
 use lf_base::{Failed, Link, Text};
 use std::alloc::Global;
 use std::io;
@@ -43,6 +43,10 @@ impl Starter for ProcessStarter {
             }
         }
     }
+}
+
+impl ReadyStarter for ProcessStarter {
+    ghost ready = { λ _ _. tt };
 }
 
 /// Runs the program of the first word to its end; nothing where there are no words.

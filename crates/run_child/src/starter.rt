@@ -28,3 +28,8 @@ pub trait Starter {
         ensures told { MatchResult result (λ n. TellsOne (starts self.old) (starts self.new) (record { words = words.now; gave = n })) (λ _. TellsSame (starts self.old) (starts self.new)) }
         ensures cause { CountsFaults (faults self.old) (faults self.new) result };
 }
+
+/// A starter that may always be asked. What runs a program by any such starter owes nothing for it.
+pub trait ReadyStarter: Starter {
+    ghost ready: { (starter : Self) (taken : Option (List ℕ)) → Self.may_start starter taken };
+}
