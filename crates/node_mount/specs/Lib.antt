@@ -6,6 +6,7 @@ pub mod Obstacles
 pub mod Hearing
 pub mod Breaking
 pub mod MemSpawn
+pub mod Dialing
 pub mod Keeping
 pub mod MemMaker
 pub mod Configuring

@@ -14,10 +14,12 @@ use crate::noting_disk::NotingDisk;
 use crate::obstacle::Obstacle;
 use crate::returned::Returned;
 use crate::system::System;
+use crate::system_dial::SystemDial;
+use crate::system_line::SystemLine;
 use crate::tell::{ErrorLines, ErrorPlace};
 use lf_base::{
-    Closing, Failed, Name, NoMemory, SleepPause, SystemClock, TcpAccept, TcpDial, TcpLink, Text,
-    ThreadSpawner, UnixAccept,
+    Closing, Failed, Name, NoMemory, SleepPause, SystemClock, TcpAccept, Text, ThreadSpawner,
+    UnixAccept,
 };
 use lf_disk::DirDisk;
 use std::fs::File;
@@ -27,7 +29,7 @@ pub type SystemReturned<R> = Returned<
     NotingDisk<R, DirDisk<R>>,
     UnixAccept,
     TcpAccept,
-    TcpDial,
+    SystemDial,
     MemSpawn,
 >;
 
@@ -146,9 +148,9 @@ impl<R: System + Send + 'static> Maker for SystemMaker<R> {
 
     type HttpAccept = TcpAccept;
 
-    type Line = TcpLink;
+    type Line = SystemLine;
 
-    type Dial = TcpDial;
+    type Dial = SystemDial;
 
     type Spawn = MemSpawn;
 
@@ -206,8 +208,8 @@ impl<R: System + Send + 'static> Maker for SystemMaker<R> {
         }
     }
 
-    fn dialer(&mut self, patience: u64) -> TcpDial {
-        TcpDial::new().patient(patience)
+    fn dialer(&mut self, patience: u64) -> SystemDial {
+        SystemDial::new(patience)
     }
 
     fn spawner(&mut self) -> MemSpawn {
@@ -261,7 +263,7 @@ impl<R: System + Send + 'static> Maker for SystemMaker<R> {
         self.back.put(Returned::Http(accept));
     }
 
-    fn back_dial(&mut self, dial: TcpDial) {
+    fn back_dial(&mut self, dial: SystemDial) {
         self.counts.take_network(dial.has_failed());
         self.back.put(Returned::Dialer(dial));
     }
