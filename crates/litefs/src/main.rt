@@ -1,5 +1,5 @@
 //! The program `litefs`: standard input, output and error, the arguments of the command line, and for
-//! a node its configuration and the system's objects, given to `litefs_tool`.
+//! a node its configuration and the system's objects, and what starts programs, given to `litefs_tool`.
 #![tactic(auto)]
 
 mod config_file;
@@ -8,6 +8,7 @@ use config_file::ConfigFile;
 use lf_base::{Closing, NoMemory, Status, StdSink, StdSource, Text};
 use litefs_tool::{Host, run};
 use node_mount::{System, SystemMaker};
+use run_child::ProcessStarter;
 use std::process::ExitCode;
 use std::{env, io};
 
@@ -23,6 +24,7 @@ fn main(rt: HostRuntime) -> ExitCode {
                 errors: StdSink::new(rt.stderr()),
                 config: ConfigFile::new(rt, CONFIG),
                 make,
+                child: ProcessStarter::new(rt.alloc()),
             };
             run(rt, rt.alloc(), arguments.as_slice(), &mut host)
         }

@@ -19,7 +19,7 @@ use Rattle.clap.proofs.OnLiterals.{clap_on_literals}
 use Rattle.litefs_tool.specs.Words.{name_text}
 use Rattle.litefs_tool.specs.steps.CommandLine.{arguments_of, bare, program}
 use Rattle.litefs_tool.specs.declared.naming.CommandName.{CommandName}
-use Rattle.litefs_tool.specs.declared.naming.CommandName.TheVariants.{Apply, Compact, Mount, Lease, Export, Import, Drill, Backup, Restore}
+use Rattle.litefs_tool.specs.declared.naming.CommandName.TheVariants.{Apply, Compact, Mount, Lease, Export, Import, Drill, Backup, Restore, Run}
 
 -- ---- words that are written out
 
@@ -41,6 +41,7 @@ takes_command Import = refl
 takes_command Drill = refl
 takes_command Backup = refl
 takes_command Restore = refl
+takes_command Run = refl
 
 pub names_command : (command : CommandName) → name_in (subcommand_of program (arguments_of command)) ≡ Some (name_text command)
 unfolding clap_on_literals
@@ -53,6 +54,7 @@ names_command Import = refl
 names_command Drill = refl
 names_command Backup = refl
 names_command Restore = refl
+names_command Run = refl
 
 pub names_none : name_in (subcommand_of program []) ≡ None
 unfolding clap_on_literals
@@ -153,6 +155,7 @@ entered_faults Import word rest other = first_faults _ _ (walk_faults (leaf (cod
 entered_faults Drill word rest other = first_faults _ _ (walk_faults (leaf (codes "drill")) [] word rest refl other)
 entered_faults Backup word rest other = first_faults _ _ (walk_faults (leaf (codes "backup")) [] word rest refl other)
 entered_faults Restore word rest other = first_faults _ _ (walk_faults (leaf (codes "restore")) [] word rest refl other)
+entered_faults Run word rest other = first_faults _ _ (walk_faults (leaf (codes "run")) [] word rest refl other)
 
 -- a walk that stopped at a subcommand hands it the words that are left
 hands_down : (rules : List Rule) (known : Names) (stood : Walk) (name : Text) (handed rest : List Text)
@@ -174,6 +177,7 @@ stops Import word rest = hands_down [] names (walk_from nothing_held) (codes "im
 stops Drill word rest = hands_down [] names (walk_from nothing_held) (codes "drill") (word ∷ []) rest
 stops Backup word rest = hands_down [] names (walk_from nothing_held) (codes "backup") (word ∷ []) rest
 stops Restore word rest = hands_down [] names (walk_from nothing_held) (codes "restore") (word ∷ []) rest
+stops Run word rest = hands_down [] names (walk_from nothing_held) (codes "run") (word ∷ []) rest
 
 more_faults : (command : CommandName) (word : Text) (rest : List Text) → bytes_eq word dashes ≡ false → IsFault (fault_of program (name_text command ∷ word ∷ rest))
 more_faults command word rest other =
@@ -208,7 +212,10 @@ named_or_unmet word = elim (same_or_other (codes "apply") word) [
                 | inl is ↦ inl (Backup, sym is)
                 | inr not_backup ↦ elim (same_or_other (codes "restore") word) [
                   | inl is ↦ inl (Restore, sym is)
-                  | inr not_restore ↦ inr (rw (not_apply, not_compact, not_mount, not_lease, not_export, not_import, not_drill, not_backup, not_restore) refl)
+                  | inr not_restore ↦ elim (same_or_other (codes "run") word) [
+                    | inl is ↦ inl (Run, sym is)
+                    | inr not_run ↦ inr (rw (not_apply, not_compact, not_mount, not_lease, not_export, not_import, not_drill, not_backup, not_restore, not_run) refl)
+                  ]
                 ]
               ]
             ]
@@ -232,6 +239,7 @@ undashed_command Import = refl
 undashed_command Drill = refl
 undashed_command Backup = refl
 undashed_command Restore = refl
+undashed_command Run = refl
 
 neither : (a b : Bool) → (a || b) ≡ false → (a ≡ false) × (b ≡ false)
 neither true b h = absurd (true≢false h)

@@ -14,6 +14,8 @@ pub mod InputLemmas
 pub mod OutputLemmas
 pub mod PerformLemmas
 pub mod RunLemmas
+pub mod RunningLemmas
 pub mod ConsumerLemmas
 pub mod OptionLemmas
+pub mod BothLemmas
 pub mod WordLemmas

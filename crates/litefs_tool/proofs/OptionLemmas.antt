@@ -39,7 +39,7 @@ found_joined flag value words rest (Some found) is taken = (
   is ∙ ap (λ (l : Words). (flag ++ 61 ∷ value) ∷ l) (sym taken.2),
 )
 
-abbrev NoneFound : List ℕ → Words → Type 0
+abbrev pub NoneFound : List ℕ → Words → Type 0
 NoneFound flag words = (value : List ℕ) (option rest : Words) → IsOption flag value option → words ≡ option ++ rest → ⊥
 
 pub cancel : (flag one other : List ℕ) → flag ++ 61 ∷ one ≡ flag ++ 61 ∷ other → one ≡ other

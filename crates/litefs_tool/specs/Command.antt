@@ -6,7 +6,7 @@ use Rattle.litefs_tool.specs.CompactRefusal.{compact_refusal_name}
 use Rattle.litefs_tool.specs.Files.{Applies, never_written}
 use Rattle.litefs_tool.specs.Refusal.{refusal_name}
 use Rattle.litefs_tool.specs.declared.command.Command.{Command}
-use Rattle.litefs_tool.specs.declared.command.Command.TheVariants.{Apply, Compact, Mount, Lease, Export, Import, Drill, Backup, Restore}
+use Rattle.litefs_tool.specs.declared.command.Command.TheVariants.{Apply, Compact, Mount, Lease, Export, Import, Drill, Backup, Restore, Run}
 use Rattle.litefs_tool.specs.declared.compact_refusal.CompactRefusal.{CompactRefusal}
 use Rattle.litefs_tool.specs.declared.refusal.Refusal.{Refusal}
 
@@ -39,6 +39,7 @@ WritesFor (Import remote) input bytes = ⊥
 WritesFor (Drill number) input bytes = ⊥
 WritesFor (Backup remote) input bytes = ⊥
 WritesFor (Restore database txid) input bytes = ⊥
+WritesFor (Run task) input bytes = ⊥
 
 -- a command refuses an input, by the fault of this name
 abbrev pub RefusesBy : Command → List ℕ → List ℕ → Type 0
@@ -51,3 +52,4 @@ RefusesBy (Import remote) input name = ⊥
 RefusesBy (Drill number) input name = ⊥
 RefusesBy (Backup remote) input name = ⊥
 RefusesBy (Restore database txid) input name = ⊥
+RefusesBy (Run task) input name = ⊥

@@ -8,6 +8,7 @@ pub mod Files
 pub mod Mount
 pub mod Output
 pub mod Refusal
+pub mod Running
 pub mod Run
 pub mod Streams
 pub mod Words

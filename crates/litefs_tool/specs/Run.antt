@@ -4,29 +4,36 @@ use Rattle.std.specs.Io.KnownBytes.{IsAtEnd}
 use Rattle.lf_base.specs.Status.{text_of}
 use Rattle.lf_base.specs.declared.status.Status.{Status}
 use Rattle.lf_base.specs.declared.status.Status.TheVariants as status
+use Rattle.lf_base.specs.declared.source.Failed.{Failed}
 use Rattle.node_mount.specs.Configuring.{ReadsConfiguration}
 use Rattle.node_mount.specs.LeaseService.{ReadsService}
 use Rattle.node_mount.specs.Mounting.{IsMountCause}
 use Rattle.node_mount.specs.declared.counts.Counts.{Counts}
 use Rattle.node_mount.specs.declared.mount_fault.MountFault.{MountFault}
+use Rattle.run_child.specs.Starts.{Book}
+use Rattle.run_child.specs.declared.child_end.ChildEnd.{ChildEnd}
 use Rattle.litefs_tool.specs.Asking.{AskBacks, AskOutcome}
 use Rattle.litefs_tool.specs.Command.{IsOverDisks, IsOverStreams, IsServing, WritesFor, RefusesBy}
 use Rattle.litefs_tool.specs.Disks.{DiskBacks, DiskOutcome}
 use Rattle.litefs_tool.specs.Drilling.{DrillOutcome}
 use Rattle.litefs_tool.specs.Mount.{status_of_end, name_of_end}
 use Rattle.litefs_tool.specs.Output.{IsPrefix, AppendsPrefix}
+use Rattle.litefs_tool.specs.Running.{ChildOutcome}
 use Rattle.litefs_tool.specs.Streams.{Fails, Gives, HasCause, Holds, IsStill, IsWithin, Stream, Takes, input_limit}
 use Rattle.litefs_tool.specs.Words.{Spells}
 use Rattle.litefs_tool.specs.declared.command.Command.{Command}
-use Rattle.litefs_tool.specs.declared.command.Command.TheVariants.{Mount, Lease, Export, Backup, Restore, Drill}
+use Rattle.litefs_tool.specs.declared.command.Command.TheVariants as commands
+use Rattle.litefs_tool.specs.declared.task.Task.{Task}
 
--- what a run goes over: its streams, the configuration, and the maker's counts of faults, before it and after it
+-- what a run goes over: its streams, the configuration, the maker's counts of faults, and the book of what starts programs, before it and after it
 pub record Outside : Type 0 where
   pub input : Stream
   pub output : Stream
   pub config : Stream
   pub counts : Counts
   pub counts_after : Counts
+  pub starts : Book
+  pub starts_after : Book
 
 -- a run: its arguments, what it goes over, and standard error
 pub record Run : Type 0 where
@@ -104,36 +111,42 @@ pub record EndsUnread (outside : Outside) (ended : Status) : Type 0 where
   pub output : IsStill outside.output
   pub config : IsStill outside.config
   pub counts : outside.counts_after ≡ outside.counts
+  pub starts : outside.starts_after ≡ outside.starts
 
--- what came back to the maker, by how a node ended, by how a lease service did, by how a node was asked, and by how a backup's command ended
+-- what came back to the maker, by how a node ended, by how a lease service did, by how a node was asked, by how a backup's command ended, and by
+-- how a program was run
 pub record Backs : Type 1 where
   pub node : Result (Unit {0}) MountFault → Type 0
   pub service : Result (Unit {0}) MountFault → Type 0
   pub asks : AskBacks
   pub disks : DiskBacks
+  pub child : Task → Result ChildEnd Failed → Type 0
 
 -- what a run did: it read its input and wrote its output, or refused its arguments; or it was a node, or a lease service; or it asked a
--- node; or it went over a backup's disks; or it played a drill; or had no memory to read its arguments
+-- node; or it went over a backup's disks; or it played a drill; or it ran a program under the lock of a database; or had no memory to read its
+-- arguments
 pub data RunCourse (backs : Backs) (arguments : List (List ℕ)) (outside : Outside) (status : Status) (name : List ℕ) : Type 0 where
   over_streams : (read written : List ℕ) → Moves outside.input outside.output status read written → ArgumentsOutcome arguments read status written name
       → RunCourse backs arguments outside status name
-  mounted : Spells arguments Mount → MountOutcome backs.node outside status name → RunCourse backs arguments outside status name
-  leased : Spells arguments Lease → LeaseOutcome backs.service outside status name → RunCourse backs arguments outside status name
+  mounted : Spells arguments commands.Mount → MountOutcome backs.node outside status name → RunCourse backs arguments outside status name
+  leased : Spells arguments commands.Lease → LeaseOutcome backs.service outside status name → RunCourse backs arguments outside status name
   asked : (command : Command) → Spells arguments command
       → AskOutcome backs.asks command outside.input outside.output outside.counts outside.counts_after status name → RunCourse backs arguments outside status name
   over_disks : (command : Command) → Spells arguments command
       → DiskOutcome backs.disks command outside.output outside.counts outside.counts_after status name → RunCourse backs arguments outside status name
-  drilled : (number : ℕ) → Spells arguments (Drill number) → DrillOutcome number outside.input outside.output status
+  drilled : (number : ℕ) → Spells arguments (commands.Drill number) → DrillOutcome number outside.input outside.output status
       → RunCourse backs arguments outside status name
+  under_lock : (task : Task) → Spells arguments (commands.Run task) → ChildOutcome (backs.child task) status name → RunCourse backs arguments outside status name
   unread : EndsUnread outside status → RunCourse backs arguments outside status name
 
 -- a line of standard error
 abbrev pub line : List ℕ → List ℕ
 line text = codes "litefs: " ++ text ++ 10 ∷ []
 
--- what standard error says of a status; the fault's name where the input is refused
+-- what standard error says of a status: nothing of a program that has ended, and the fault's name where the input is refused
 abbrev pub line_of : Status → List ℕ → List ℕ
 line_of status.Ok name = []
+line_of (status.Program number) name = []
 line_of status.InputRefused name = line (text_of status.InputRefused ++ name)
 line_of other name = line (text_of other)
 
@@ -149,23 +162,27 @@ pub record RunOutcome (backs : Backs) (run : Run) (status : Status) : Type 0 whe
   pub went : RunCourse backs run.arguments run.outside status name
   pub says : Says run.errors (line_of status name)
 
--- a command that serves, asks a node, or goes over a backup's disks
+-- a command that serves, asks a node, goes over a backup's disks, or runs a program
 abbrev pub UsesMaker : Command → Type 0
-UsesMaker (Drill number) = ⊥
+UsesMaker (commands.Drill number) = ⊥
 UsesMaker command = IsOverStreams command → ⊥
 
 -- a command that leaves its input
 abbrev pub LeavesInput : Command → Type 0
-LeavesInput (Export remote) = Unit {0}
-LeavesInput (Backup remote) = Unit {0}
-LeavesInput (Restore database txid) = Unit {0}
-LeavesInput (Drill number) = Unit {0}
+LeavesInput (commands.Export remote) = Unit {0}
+LeavesInput (commands.Backup remote) = Unit {0}
+LeavesInput (commands.Restore database txid) = Unit {0}
+LeavesInput (commands.Drill number) = Unit {0}
+LeavesInput (commands.Run task) = Unit {0}
 LeavesInput command = ⊥
 
--- what a run leaves: the configuration, but of a command that serves; the maker, but of one that uses it; of one that serves the
--- input and the output, and of `export`, `drill` and a command on a backup the input
-pub record LeavesApart {I O G M : Type 0} (arguments : List (List ℕ)) (input input_after : I) (output output_after : O) (config config_after : G) (make make_after : M) : Type 0 where
+-- what a run leaves: the configuration, but of a command that serves; the maker, but of one that uses it; what starts programs, but of `run`; of a
+-- command that serves the input and the output, and so of `run`; of `export`, `drill` and a command on a backup the input
+pub record LeavesApart {I O G M S : Type 0} (arguments : List (List ℕ)) (input input_after : I) (output output_after : O) (config config_after : G)
+    (make make_after : M) (child child_after : S) : Type 0 where
   pub unconfigured : ((command : Command) → Spells arguments command → IsServing command → ⊥) → config_after ≡ config
   pub alone : ((command : Command) → Spells arguments command → UsesMaker command → ⊥) → make_after ≡ make
   pub serving : (command : Command) → Spells arguments command → IsServing command → (input_after ≡ input) × (output_after ≡ output)
   pub unfed : (command : Command) → Spells arguments command → LeavesInput command → input_after ≡ input
+  pub childless : ((task : Task) → Spells arguments (commands.Run task) → ⊥) → child_after ≡ child
+  pub running : (task : Task) → Spells arguments (commands.Run task) → output_after ≡ output

@@ -1,14 +1,16 @@
--- The words of the command line: a command's name, and behind it nothing, a number, or the options that say where a database is found.
+-- The words of the command line: a command's name, and behind it nothing, a number, or the options that say where a database is found; and of a
+-- program that is to be run the words of its own.
 use Rattle.std.specs.Prelude.{◌≡◌, ◌≢◌, ◌⊎◌, ℕ, ◌<◌, ◌^◌, List, [], ◌∷◌, ◌++◌, codes, Option, MatchOption}
 use Rattle.std.specs.Str.Parse.{IsNumeral, digits_value}
 use Rattle.backup_link.specs.LevelNames.{HasRoom}
 use Rattle.lf_base.specs.Hex.{hex_digits}
 use Rattle.lf_base.specs.Name.{IsName}
 use Rattle.litefs_tool.specs.declared.command.Command.{Command}
-use Rattle.litefs_tool.specs.declared.command.Command.TheVariants.{Apply, Compact, Mount, Lease, Export, Import, Drill, Backup, Restore}
+use Rattle.litefs_tool.specs.declared.command.Command.TheVariants.{Apply, Compact, Mount, Lease, Export, Import, Drill, Backup, Restore, Run}
 use Rattle.litefs_tool.specs.declared.naming.CommandName.{CommandName}
 use Rattle.litefs_tool.specs.declared.naming.CommandName.TheVariants as name
 use Rattle.litefs_tool.specs.declared.remote.Remote.{Remote}
+use Rattle.litefs_tool.specs.declared.task.Task.{Task}
 
 abbrev pub Words : Type 0
 Words = List (List ℕ)
@@ -24,6 +26,7 @@ name_text name.Import = codes "import"
 name_text name.Drill = codes "drill"
 name_text name.Backup = codes "backup"
 name_text name.Restore = codes "restore"
+name_text name.Run = codes "run"
 
 -- a command's name
 abbrev pub name_of : Command → CommandName
@@ -36,6 +39,7 @@ name_of (Import remote) = name.Import
 name_of (Drill number) = name.Drill
 name_of (Backup remote) = name.Backup
 name_of (Restore database txid) = name.Restore
+name_of (Run task) = name.Run
 
 -- a value of an option: it begins with another byte than `-`
 abbrev pub IsValue : List ℕ → Type 0
@@ -51,6 +55,14 @@ pub data IsOption (flag value : List ℕ) (words : Words) : Type 0 where
 pub data SaysBoth (first second one other : List ℕ) (words : Words) : Type 0 where
   in_order : (front back : Words) → words ≡ front ++ back → IsOption first one front → IsOption second other back → SaysBoth first second one other words
   turned : (front back : Words) → words ≡ front ++ back → IsOption second other front → IsOption first one back → SaysBoth first second one other words
+
+-- words begin with the options of two flags, and the rest stands behind them
+abbrev pub BeginsWithBoth : (first second one other : List ℕ) → (words rest : Words) → Type 0
+BeginsWithBoth first second one other words rest = (options : Words) × SaysBoth first second one other options × (words ≡ options ++ rest)
+
+-- no word begins with both flags
+abbrev pub AreApart : List ℕ → List ℕ → Type 0
+AreApart first second = (front back : List ℕ) → first ++ front ≢ second ++ back
 
 -- the options `--name` and `--addr`; the address is that of this machine's node where none is given
 pub data SaysValues (name address : List ℕ) (words : Words) : Type 0 where
@@ -108,6 +120,19 @@ abbrev pub IsRestoreRead : Words → Option (List ℕ × ℕ) → Type 0
 IsRestoreRead words read =
     MatchOption read ((name : List ℕ) (txid : ℕ) → SaysRestore name txid words → ⊥) (λ point. SaysRestore point.0 point.1 words)
 
+-- WORDS THAT SAY WHAT IS RUN: the options `--socket` and `--name`, then `--`, then the words of the program, `--` among them too. The socket has no
+-- default
+pub record SaysTask (task : Task) (words : Words) : Type 0 where
+  pub socket : List ℕ
+  pub options : BeginsWithBoth (codes "--socket") (codes "--name") socket task.name words (codes "--" ∷ task.words)
+  pub is_name : IsName task.name
+  pub some : task.words ≢ []
+  pub address : task.address ≡ codes "unix:" ++ socket
+
+-- words that say what is run, or don't
+abbrev pub IsTaskRead : Words → Option Task → Type 0
+IsTaskRead words read = MatchOption read ((task : Task) → SaysTask task words → ⊥) (λ task. SaysTask task words)
+
 -- what stands behind a command's name
 abbrev pub Follows : Command → Words → Type 0
 Follows (Export remote) words = SaysRemote remote words
@@ -115,6 +140,7 @@ Follows (Import remote) words = SaysRemote remote words
 Follows (Drill number) words = SaysNumber number words
 Follows (Backup remote) words = SaysBackup remote words
 Follows (Restore name txid) words = SaysRestore name txid words
+Follows (Run task) words = SaysTask task words
 Follows command words = words ≡ []
 
 -- THE ARGUMENTS OF A COMMAND: its name, and what stands behind it

@@ -8,6 +8,7 @@ use crate::backup_words::{read_backup, read_restore};
 use crate::naming::{CommandName, read_name};
 use crate::number::read_number;
 use crate::remote::{Remote, read_remote};
+use crate::task::{Task, read_task};
 use lf_base::{Name, NoMemory, Text};
 use std::alloc::Global;
 
@@ -32,6 +33,8 @@ pub enum Command {
     Backup(Remote),
     /// A backup's database, as it was after a transaction, becomes the output.
     Restore { name: Name, txid: u64 },
+    /// A program runs under the lock of a database.
+    Run(Task),
 }
 
 /// The command of these arguments. They are read to the letter: none more, and none less.
@@ -74,6 +77,10 @@ fn read_words(alloc: Global, name: CommandName, words: &[Text]) -> Result<Option
         },
         CommandName::Restore => match read_restore(alloc, words)? {
             Some((name, txid)) => Ok(Some(Command::Restore { name, txid })),
+            None => Ok(None),
+        },
+        CommandName::Run => match read_task(alloc, words)? {
+            Some(task) => Ok(Some(Command::Run(task))),
             None => Ok(None),
         },
     }

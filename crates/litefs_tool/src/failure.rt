@@ -5,6 +5,7 @@ ghost use Rattle.litefs_tool.specs.declared.failure.Failure.TheVariants as failu
 use crate::backup_failure::{
     name_of_backup, name_of_unfetched, status_of_backup, status_of_unfetched,
 };
+use crate::child_failure::{name_of_child, status_of_child};
 use crate::compact_refusal::CompactRefusal;
 use crate::input::InputFault;
 use crate::mounting::{name_of_fault, status_of_fault};
@@ -14,6 +15,7 @@ use http_exchange::Untold;
 use lf_base::{Failed, NoMemory, Status};
 use ltx_backup::BackupFault;
 use node_mount::MountFault;
+use run_child::ChildEnd;
 
 /// Why a run ends before its output is whole.
 #[derive(Clone, Copy, Debug, PartialEq, Eq)]
@@ -38,6 +40,10 @@ pub enum Failure {
     Backup(BackupFault),
     /// A backup isn't level with its node.
     Unfetched(Unfetched),
+    /// A socket could not be dialed.
+    Undialed,
+    /// A run of a program ended so; a program that has ended is its own cause.
+    Child(ChildEnd),
     /// The output failed.
     Output,
     /// Memory ran out before anything was written.
@@ -138,6 +144,8 @@ impl Failure {
             Failure::Reply | Failure::BadReply => Status::InputRefused,
             Failure::Backup(fault) => status_of_backup(fault),
             Failure::Unfetched(why) => status_of_unfetched(why),
+            Failure::Undialed => Status::NetworkFault,
+            Failure::Child(end) => status_of_child(end),
             Failure::Output => Status::WriteFault,
             Failure::NoMemory => Status::NoMemory,
         }
@@ -155,6 +163,7 @@ impl Failure {
             Failure::Mount(fault) => name_of_fault(fault),
             Failure::Backup(fault) => name_of_backup(fault),
             Failure::Unfetched(why) => name_of_unfetched(why),
+            Failure::Child(end) => name_of_child(end),
             Failure::Reply => "Reply",
             Failure::BadReply | Failure::Untold(Untold::Unfit) => "BadReply",
             _ => "",

@@ -25,6 +25,7 @@ pub enum CommandName {
     Drill,
     Backup,
     Restore,
+    Run,
 }
 
 /// The command of this name, to the letter.
@@ -51,14 +52,23 @@ fn read_words(alloc: Global, words: &[&str]) -> Result<Option<CommandName>, NoMe
 fn program<'a>(alloc: Global) -> Result<clap::Command<'a>, NoMemory>
     ensures { IfOk result (λ program. app_of program ≡ spec.program) }
 {
-    let program = asking_program(alloc)?
-        .subcommand(clap::Command::new(alloc, "drill"))?
-        .subcommand(clap::Command::new(alloc, "backup"))?
-        .subcommand(clap::Command::new(alloc, "restore"))?;
+    let program = playing_program(alloc)?
+        .subcommand(clap::Command::new(alloc, "restore"))?
+        .subcommand(clap::Command::new(alloc, "run"))?;
     Ok(program)
 }
 
-/// The same without the drill and the backup's commands.
+/// The same without these two.
+fn playing_program<'a>(alloc: Global) -> Result<clap::Command<'a>, NoMemory>
+    ensures { IfOk result (λ program. app_of program ≡ spec.playing_program) }
+{
+    let program = asking_program(alloc)?
+        .subcommand(clap::Command::new(alloc, "drill"))?
+        .subcommand(clap::Command::new(alloc, "backup"))?;
+    Ok(program)
+}
+
+/// The same without the drill and the first on a backup.
 fn asking_program<'a>(alloc: Global) -> Result<clap::Command<'a>, NoMemory>
     ensures { IfOk result (λ program. app_of program ≡ spec.asking_program) }
 {
@@ -105,6 +115,7 @@ fn name_matched(matches: &ArgMatches<'_>) -> Option<CommandName>
         Some("drill") => Some(CommandName::Drill),
         Some("backup") => Some(CommandName::Backup),
         Some("restore") => Some(CommandName::Restore),
+        Some("run") => Some(CommandName::Run),
         _ => None,
     }
 }

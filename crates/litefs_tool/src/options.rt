@@ -1,6 +1,6 @@
 //! Options among words, each as two words or as one with `=` between.
-ghost use Rattle.std.specs.Prelude.{◌≡◌, ◌≢◌, ◌∷◌, ◌++◌, ℕ, List, length, IfSome, IfNone, IsTrue, ◌↔◌, MatchOption};
-ghost use Rattle.litefs_tool.specs.Words.{IsOption, IsValue, SaysBoth, Words};
+ghost use Rattle.std.specs.Prelude.{◌≡◌, ◌≢◌, ◌∷◌, ◌++◌, ℕ, List, IfSome, IfNone, IsTrue, ◌↔◌, MatchOption};
+ghost use Rattle.litefs_tool.specs.Words.{AreApart, BeginsWithBoth, IsOption, IsValue, SaysBoth, Words};
 
 use lf_base::Text;
 
@@ -10,19 +10,36 @@ pub(crate) fn both_options<'a>(
     second: &str,
     words: &'a [Text],
 ) -> Option<(&'a str, &'a str)>
-    requires alike { length first.now ≡ length second.now }
-    requires other { first.now ≢ second.now }
+    requires { AreApart first.now second.now }
     ensures { MatchOption result ((one other : List ℕ) → SaysBoth first.now second.now one other words.now → ⊥) (λ values. SaysBoth first.now second.now values.0.now values.1.now words.now) }
+{
+    let (one, other, rest) = take_both(first, second, words)?;
+    if rest.is_empty() {
+        Some((one, other))
+    } else {
+        None
+    }
+}
+
+/// The values of two options that stand first, in any order, and the words behind them.
+pub(crate) fn take_both<'a>(
+    first: &str,
+    second: &str,
+    words: &'a [Text],
+) -> Option<(&'a str, &'a str, &'a [Text])>
+    requires { AreApart first.now second.now }
+    ensures { MatchOption result ((one other : List ℕ) (rest : Words) → BeginsWithBoth first.now second.now one other words.now rest → ⊥)
+        (λ found. BeginsWithBoth first.now second.now found.0.now found.1.now words.now found.2.now) }
 {
     match take_option(first, words) {
         Some((one, rest)) => {
-            let other = only_option(second, rest)?;
-            Some((one, other))
+            let (other, rest) = take_option(second, rest)?;
+            Some((one, other, rest))
         }
         None => {
             let (other, rest) = take_option(second, words)?;
-            let one = only_option(first, rest)?;
-            Some((one, other))
+            let (one, rest) = take_option(first, rest)?;
+            Some((one, other, rest))
         }
     }
 }

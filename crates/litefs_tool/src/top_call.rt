@@ -7,7 +7,9 @@ ghost use Rattle.litefs_tool.specs.Mount.{GoesBack};
 ghost use Rattle.litefs_tool.specs.Run.{Backs, CommandOutcome, LeavesApart, Outside, Run, RunOutcome};
 ghost use Rattle.litefs_tool.specs.Streams.{stream};
 ghost use Rattle.litefs_tool.specs.steps.Performing.{Goes, Leases, Mounts, Performs};
+ghost use Rattle.litefs_tool.specs.Running.{ChildBack};
 ghost use Rattle.node_mount.specs.LeaseService.{LeasesBack, ServesTold};
+ghost use Rattle.run_child.specs.Starts.{book};
 
 use crate::applying::Applying;
 use crate::asking::{export, import};
@@ -21,28 +23,36 @@ use crate::gathering::Gathering;
 use crate::input::{INPUT_LIMIT, read_to_end};
 use crate::output::{new_buffer, write_image};
 use crate::report::report;
+use crate::running::run_task;
 use lf_base::{Handles, Sink, Source, Status, Text};
 use node_mount::{Maker, mount, serve_leases};
+use run_child::ReadyStarter;
 use std::alloc::Global;
+use std::process::Processes;
 
-/// What a run of the program reads from, writes to, and says its failure on; and for a node or a lease
-/// service its configuration, and what makes the objects that it runs on, or asks a node by.
+/// What a run of the program reads from, writes to, and says its failure on; for a node or a lease
+/// service its configuration, and what makes the objects that it runs on, or asks a node by; and what
+/// starts the program that it runs.
 #[derive(Drop)]
-pub struct Host<I, O, E, G, M> {
+pub struct Host<I, O, E, G, M, S> {
     pub input: I,
     pub output: O,
     pub errors: E,
     pub config: G,
     pub make: M,
+    pub child: S,
 }
 
 /// Runs the command of these arguments, and says on standard error why it failed, if it did.
-pub fn run<R: Handles + Copy + Send + 'static, I: Source, O: Sink, E: Sink, G: Source, M: Maker>(
-    rt: R,
-    alloc: Global,
-    arguments: &[Text],
-    host: &mut Host<I, O, E, G, M>,
-) -> Status
+pub fn run<
+    R: Handles + Processes + Copy + Send + 'static,
+    I: Source,
+    O: Sink,
+    E: Sink,
+    G: Source,
+    M: Maker,
+    S: ReadyStarter,
+>(rt: R, alloc: Global, arguments: &[Text], host: &mut Host<I, O, E, G, M, S>) -> Status
     ensures outcome { let run : Run = record {
       arguments = arguments.now;
       outside = record {
@@ -51,6 +61,8 @@ pub fn run<R: Handles + Copy + Send + 'static, I: Source, O: Sink, E: Sink, G: S
         config = stream G.left G.faults host.old.config host.new.config;
         counts = M.counts host.old.make;
         counts_after = M.counts host.new.make;
+        starts = book S.Starter host.old.child;
+        starts_after = book S.Starter host.new.child;
       };
       errors = stream E.taken E.faults host.old.errors host.new.errors;
     } in
@@ -67,18 +79,12 @@ pub fn run<R: Handles + Copy + Send + 'static, I: Source, O: Sink, E: Sink, G: S
             backed_up = λ remote. BackedUpBack M.asked M.may_give M.Disk.honest M.Disk.history M.Dial.dials
                 (LinksTell M.Line.given M.Line.taken) M.back host.old.make host.new.make remote.address remote.name;
           };
+          child = ChildBack M.Line.Link M.Dial.dials (M.back host.old.make) (M.back host.new.make) (M.counts host.old.make) (M.counts host.new.make)
+              (book S.Starter host.old.child) (book S.Starter host.new.child);
         } in RunOutcome backs run result }
-    ensures apart { LeavesApart arguments.now host.old.input host.new.input host.old.output host.new.output host.old.config host.new.config host.old.make host.new.make }
+    ensures apart { LeavesApart arguments.now host.old.input host.new.input host.old.output host.new.output host.old.config host.new.config host.old.make host.new.make host.old.child host.new.child }
 {
-    match perform(
-        rt,
-        alloc,
-        arguments,
-        &mut host.input,
-        &mut host.output,
-        &mut host.config,
-        &mut host.make,
-    ) {
+    match perform(rt, alloc, arguments, host) {
         Ok(()) => Status::Ok,
         Err(failure) => {
             // A fault of standard error changes nothing.
@@ -88,47 +94,85 @@ pub fn run<R: Handles + Copy + Send + 'static, I: Source, O: Sink, E: Sink, G: S
     }
 }
 
-fn perform<R: Handles + Copy + Send + 'static, I: Source, O: Sink, G: Source, M: Maker>(
+/// Performs the command of these arguments. Standard error stays as it was.
+fn perform<
+    R: Handles + Processes + Copy + Send + 'static,
+    I: Source,
+    O: Sink,
+    E: Sink,
+    G: Source,
+    M: Maker,
+    S: ReadyStarter,
+>(
     rt: R,
     alloc: Global,
     arguments: &[Text],
-    input: &mut I,
-    output: &mut O,
-    config: &mut G,
-    make: &mut M,
+    host: &mut Host<I, O, E, G, M, S>,
 ) -> Result<(), Failure>
     ensures went { let outside : Outside = record {
-      input = stream I.left I.faults input.old input.new;
-      output = stream O.taken O.faults output.old output.new;
-      config = stream G.left G.faults config.old config.new;
-      counts = M.counts make.old;
-      counts_after = M.counts make.new;
+      input = stream I.left I.faults host.old.input host.new.input;
+      output = stream O.taken O.faults host.old.output host.new.output;
+      config = stream G.left G.faults host.old.config host.new.config;
+      counts = M.counts host.old.make;
+      counts_after = M.counts host.new.make;
+      starts = book S.Starter host.old.child;
+      starts_after = book S.Starter host.new.child;
     } in
         let backs : Backs = record {
-          node = GoesBack M.FileAccept.ended M.FileAccept.given M.Disk.honest M.Disk.history (M.may_give make.old) (M.back make.old) (M.back make.new);
-          service = LeasesBack M.HttpAccept.ended M.HttpAccept.given (ServesTold M.HttpAccept.L.Link (G.left config.old) (G.left config.new)) (M.back make.old) (M.back make.new);
+          node = GoesBack M.FileAccept.ended M.FileAccept.given M.Disk.honest M.Disk.history (M.may_give host.old.make) (M.back host.old.make) (M.back host.new.make);
+          service = LeasesBack M.HttpAccept.ended M.HttpAccept.given (ServesTold M.HttpAccept.L.Link (G.left host.old.config) (G.left host.new.config)) (M.back host.old.make) (M.back host.new.make);
           asks = record {
-            asked = DialerBack M.Dial.dials (LinksTell M.Line.given M.Line.taken) (M.back make.old) (M.back make.new);
-            nothing = M.back make.new ≡ M.back make.old;
+            asked = DialerBack M.Dial.dials (LinksTell M.Line.given M.Line.taken) (M.back host.old.make) (M.back host.new.make);
+            nothing = M.back host.new.make ≡ M.back host.old.make;
           };
           disks = record {
-            nothing = (M.back make.new ≡ M.back make.old) × (M.asked make.new ≡ M.asked make.old);
-            restored = λ database. RestoredBack M.asked M.may_give M.Disk.honest M.Disk.history M.back make.old make.new (folders_of database);
-            backed_up = λ remote. BackedUpBack M.asked M.may_give M.Disk.honest M.Disk.history M.Dial.dials (LinksTell M.Line.given M.Line.taken) M.back make.old make.new remote.address remote.name;
+            nothing = (M.back host.new.make ≡ M.back host.old.make) × (M.asked host.new.make ≡ M.asked host.old.make);
+            restored = λ database. RestoredBack M.asked M.may_give M.Disk.honest M.Disk.history M.back host.old.make host.new.make (folders_of database);
+            backed_up = λ remote. BackedUpBack M.asked M.may_give M.Disk.honest M.Disk.history M.Dial.dials
+                (LinksTell M.Line.given M.Line.taken) M.back host.old.make host.new.make remote.address remote.name;
           };
+          child = ChildBack M.Line.Link M.Dial.dials (M.back host.old.make) (M.back host.new.make) (M.counts host.old.make) (M.counts host.new.make)
+              (book S.Starter host.old.child) (book S.Starter host.new.child);
         } in Goes backs arguments.now outside result }
-    ensures apart { LeavesApart arguments.now input.old input.new output.old output.new config.old config.new make.old make.new }
+    ensures apart { LeavesApart arguments.now host.old.input host.new.input host.old.output host.new.output host.old.config host.new.config host.old.make host.new.make host.old.child host.new.child }
+    ensures quiet { host.new.errors ≡ host.old.errors }
 {
     match read_arguments(alloc, arguments)? {
-        Some(Command::Apply) => apply(alloc, input, output),
-        Some(Command::Compact) => compact(alloc, input, output),
-        Some(Command::Mount) => mount_node(rt, alloc, config, make),
-        Some(Command::Lease) => lease(&rt, alloc, config, make),
-        Some(Command::Export(remote)) => export(&rt, alloc, remote, output, make),
-        Some(Command::Import(remote)) => import(&rt, alloc, remote, input, output, make),
-        Some(Command::Backup(remote)) => back_up(&rt, alloc, remote, output, make),
-        Some(Command::Restore { name, txid }) => restore(alloc, name, txid, output, make),
-        Some(Command::Drill(number)) => drill(alloc, number, output),
+        Some(Command::Apply) => apply(alloc, &mut host.input, &mut host.output),
+        Some(Command::Compact) => compact(alloc, &mut host.input, &mut host.output),
+        Some(Command::Mount) => mount_node(rt, alloc, &mut host.config, &mut host.make),
+        Some(Command::Lease) => lease(&rt, alloc, &mut host.config, &mut host.make),
+        Some(Command::Export(remote)) => export(
+            &rt,
+            alloc,
+            remote,
+            &mut host.output,
+            &mut host.make,
+        ),
+        Some(Command::Import(remote)) => import(
+            &rt,
+            alloc,
+            remote,
+            &mut host.input,
+            &mut host.output,
+            &mut host.make,
+        ),
+        Some(Command::Backup(remote)) => back_up(
+            &rt,
+            alloc,
+            remote,
+            &mut host.output,
+            &mut host.make,
+        ),
+        Some(Command::Restore { name, txid }) => restore(
+            alloc,
+            name,
+            txid,
+            &mut host.output,
+            &mut host.make,
+        ),
+        Some(Command::Drill(number)) => drill(alloc, number, &mut host.output),
+        Some(Command::Run(task)) => run_task(&rt, alloc, task, &mut host.make, &mut host.child),
         None => Err(Failure::Arguments),
     }
 }

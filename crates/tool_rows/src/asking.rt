@@ -10,9 +10,10 @@ use lf_base::{Handles, SliceSource, VecSink};
 use node_mount::Maker;
 use std::alloc::Global;
 use std::io::Print;
+use std::process::Processes;
 
 /// Runs a row, and prints how it ends and what it wrote.
-fn run_ask<R: Handles + Print + Copy + Send + 'static, M: Maker>(
+fn run_ask<R: Handles + Processes + Print + Copy + Send + 'static, M: Maker>(
     rt: R,
     alloc: Global,
     row: &AskRow,
@@ -24,7 +25,7 @@ fn run_ask<R: Handles + Print + Copy + Send + 'static, M: Maker>(
 }
 
 /// A row over its input and its output.
-fn play_over<R: Handles + Print + Copy + Send + 'static, M: Maker + Drop>(
+fn play_over<R: Handles + Processes + Print + Copy + Send + 'static, M: Maker + Drop>(
     rt: R,
     alloc: Global,
     row: &AskRow,
@@ -36,7 +37,7 @@ fn play_over<R: Handles + Print + Copy + Send + 'static, M: Maker + Drop>(
     run_ask(rt, alloc, row, &mut host)
 }
 
-fn play_ask<R: Handles + Print + Copy + Send + 'static>(
+fn play_ask<R: Handles + Processes + Print + Copy + Send + 'static>(
     rt: R,
     alloc: Global,
     row: &AskRow,
@@ -47,7 +48,7 @@ fn play_ask<R: Handles + Print + Copy + Send + 'static>(
 }
 
 /// The runs of `export` and `import`.
-pub fn play_asks<R: Handles + Print + AllocGlobal + Copy + Send + 'static>(
+pub fn play_asks<R: Handles + Processes + Print + AllocGlobal + Copy + Send + 'static>(
     rt: R,
 ) -> Result<(), Fault> {
     for row in ASKS {

@@ -14,6 +14,7 @@ use node_mount::{Maker, MemMaker};
 use std::alloc::Global;
 use std::fs;
 use std::io::Print;
+use std::process::Processes;
 use std::rt::Files;
 use stream_wire::{Frame, encode_frame};
 
@@ -170,7 +171,7 @@ fn maker_of<R: Files + AllocGlobal>(
 }
 
 /// Runs a row, and prints how it ends and what it wrote.
-fn run_backup<R: Handles + Print + Copy + Send + 'static, M: Maker>(
+fn run_backup<R: Handles + Processes + Print + Copy + Send + 'static, M: Maker>(
     rt: R,
     alloc: Global,
     row: &BackupRow,
@@ -182,7 +183,7 @@ fn run_backup<R: Handles + Print + Copy + Send + 'static, M: Maker>(
 }
 
 /// A row over its output.
-fn play_over<R: Handles + Print + Copy + Send + 'static, M: Maker + Drop>(
+fn play_over<R: Handles + Processes + Print + Copy + Send + 'static, M: Maker + Drop>(
     rt: R,
     alloc: Global,
     row: &BackupRow,
@@ -195,7 +196,7 @@ fn play_over<R: Handles + Print + Copy + Send + 'static, M: Maker + Drop>(
 }
 
 /// The runs of `backup` and `restore`.
-pub fn play_backups<R: Handles + Files + Print + AllocGlobal + Copy + Send + 'static>(
+pub fn play_backups<R: Handles + Processes + Files + Print + AllocGlobal + Copy + Send + 'static>(
     rt: R,
 ) -> Result<(), Fault> {
     for row in BACKUPS {

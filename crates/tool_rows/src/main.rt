@@ -13,7 +13,10 @@ mod lines;
 mod making;
 mod nodes;
 mod playing;
+mod replies;
 mod running;
+mod runs;
+mod starting;
 
 use fault::Fault;
 use std::net::{TcpListener, TcpStream};
@@ -25,5 +28,6 @@ fn main(rt: HostRuntime) -> Result<(), Fault> {
     playing::play_leases(rt)?;
     asking::play_asks(rt)?;
     backing::play_backups(rt)?;
+    starting::play_runs(rt)?;
     drills::play_drills(&rt, rt.alloc())
 }

@@ -200,8 +200,15 @@ pub fn dialers(alloc: Global, links: Vec<MemLink>) -> Result<Vec<MemDialer>, Fau
 /// What a row's command asks a node by, and what shows what its link took.
 pub fn asker_of(alloc: Global, row: &AskRow) -> Result<(MemMaker, Vec<Watch>), Fault> {
     let (links, watches) = dialed(alloc, row)?;
+    Ok((dialing_maker(alloc, links)?, watches))
+}
+
+/// A maker of a dialer of these links.
+pub fn dialing_maker(alloc: Global, links: Vec<MemLink>) -> Result<MemMaker, Fault>
+    requires { All IsUnused links.items }
+{
     let dialers = dialers(alloc, links)?;
-    let make = MemMaker::new(
+    Ok(MemMaker::new(
         alloc,
         Vec::new(alloc),
         Vec::new(alloc),
@@ -212,6 +219,5 @@ pub fn asker_of(alloc: Global, row: &AskRow) -> Result<(MemMaker, Vec<Watch>), F
         1,
         8,
         Vec::new(alloc),
-    )?;
-    Ok((make, watches))
+    )?)
 }

@@ -12,6 +12,7 @@ use node_mount::Maker;
 use std::alloc::Global;
 use std::fs;
 use std::io::Print;
+use std::process::Processes;
 use std::rt::Files;
 
 /// The input of a row.
@@ -26,7 +27,7 @@ fn input_of<R: Files + AllocGlobal>(rt: &R, row: &CommandRow) -> Result<Vec<u8>,
 }
 
 /// Runs a command line, and prints how it ends.
-pub fn ends<R: Handles + Print + Copy + Send + 'static, M: Maker>(
+pub fn ends<R: Handles + Processes + Print + Copy + Send + 'static, M: Maker>(
     rt: R,
     alloc: Global,
     line: &str,
@@ -37,7 +38,7 @@ pub fn ends<R: Handles + Print + Copy + Send + 'static, M: Maker>(
 }
 
 /// Runs a row, and prints how it ends and what it wrote.
-fn run_command<R: Handles + Print + Copy + Send + 'static, M: Maker>(
+fn run_command<R: Handles + Processes + Print + Copy + Send + 'static, M: Maker>(
     rt: R,
     alloc: Global,
     row: &CommandRow,
@@ -49,7 +50,7 @@ fn run_command<R: Handles + Print + Copy + Send + 'static, M: Maker>(
 }
 
 /// A row over its input.
-fn play_over<R: Handles + Print + Copy + Send + 'static, M: Maker + Drop>(
+fn play_over<R: Handles + Processes + Print + Copy + Send + 'static, M: Maker + Drop>(
     rt: R,
     alloc: Global,
     row: &CommandRow,
@@ -61,7 +62,7 @@ fn play_over<R: Handles + Print + Copy + Send + 'static, M: Maker + Drop>(
     run_command(rt, alloc, row, &mut host)
 }
 
-fn play_command<R: Handles + Files + Print + AllocGlobal + Copy + Send + 'static>(
+fn play_command<R: Handles + Processes + Files + Print + AllocGlobal + Copy + Send + 'static>(
     rt: R,
     row: &CommandRow,
 ) -> Result<(), Fault> {
@@ -71,7 +72,7 @@ fn play_command<R: Handles + Files + Print + AllocGlobal + Copy + Send + 'static
 }
 
 /// The runs of `apply` and `compact`, and of words that are no command.
-pub fn play_commands<R: Handles + Files + Print + AllocGlobal + Copy + Send + 'static>(
+pub fn play_commands<R: Handles + Processes + Files + Print + AllocGlobal + Copy + Send + 'static>(
     rt: R,
 ) -> Result<(), Fault> {
     for row in COMMANDS {
@@ -81,7 +82,7 @@ pub fn play_commands<R: Handles + Files + Print + AllocGlobal + Copy + Send + 's
 }
 
 /// Runs a row's node, and prints how it ends.
-fn run_node<R: Handles + Print + Copy + Send + 'static, M: Maker>(
+fn run_node<R: Handles + Processes + Print + Copy + Send + 'static, M: Maker>(
     rt: R,
     alloc: Global,
     row: &NodeRow,
@@ -92,7 +93,7 @@ fn run_node<R: Handles + Print + Copy + Send + 'static, M: Maker>(
 }
 
 /// A row's node of these objects.
-fn play_made<R: Handles + Print + Copy + Send + 'static, M: Maker + Drop>(
+fn play_made<R: Handles + Processes + Print + Copy + Send + 'static, M: Maker + Drop>(
     rt: R,
     alloc: Global,
     row: &NodeRow,
@@ -110,7 +111,7 @@ fn print_links(rt: &impl Print, alloc: Global, links: &Links) -> Result<(), Faul
 }
 
 /// A row's node, over a disk with this file.
-fn play_node<R: Handles + Print + Copy + Send + 'static>(
+fn play_node<R: Handles + Processes + Print + Copy + Send + 'static>(
     rt: R,
     alloc: Global,
     row: &NodeRow,
@@ -122,7 +123,7 @@ fn play_node<R: Handles + Print + Copy + Send + 'static>(
 }
 
 /// The runs of `mount`.
-pub fn play_nodes<R: Handles + Files + Print + AllocGlobal + Copy + Send + 'static>(
+pub fn play_nodes<R: Handles + Processes + Files + Print + AllocGlobal + Copy + Send + 'static>(
     rt: R,
 ) -> Result<(), Fault> {
     let file = fs::read(&rt, "snapshot.ltx")?;
@@ -133,7 +134,7 @@ pub fn play_nodes<R: Handles + Files + Print + AllocGlobal + Copy + Send + 'stat
 }
 
 /// Runs a row's lease service, and prints how it ends.
-fn run_service<R: Handles + Print + Copy + Send + 'static, M: Maker>(
+fn run_service<R: Handles + Processes + Print + Copy + Send + 'static, M: Maker>(
     rt: R,
     alloc: Global,
     row: &LeaseRow,
@@ -144,7 +145,7 @@ fn run_service<R: Handles + Print + Copy + Send + 'static, M: Maker>(
 }
 
 /// A row's lease service of these objects.
-fn play_served<R: Handles + Print + Copy + Send + 'static, M: Maker + Drop>(
+fn play_served<R: Handles + Processes + Print + Copy + Send + 'static, M: Maker + Drop>(
     rt: R,
     alloc: Global,
     row: &LeaseRow,
@@ -163,7 +164,7 @@ pub fn print_watched(rt: &impl Print, alloc: Global, watches: &[Watch]) -> Resul
     Ok(())
 }
 
-fn play_lease<R: Handles + Print + Copy + Send + 'static>(
+fn play_lease<R: Handles + Processes + Print + Copy + Send + 'static>(
     rt: R,
     alloc: Global,
     row: &LeaseRow,
@@ -174,7 +175,7 @@ fn play_lease<R: Handles + Print + Copy + Send + 'static>(
 }
 
 /// The runs of `lease`.
-pub fn play_leases<R: Handles + Print + AllocGlobal + Copy + Send + 'static>(
+pub fn play_leases<R: Handles + Processes + Print + AllocGlobal + Copy + Send + 'static>(
     rt: R,
 ) -> Result<(), Fault> {
     for row in LEASES {

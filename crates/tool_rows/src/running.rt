@@ -1,13 +1,16 @@
 //! A run over memory.
 
 use crate::fault::Fault;
+use crate::making::one;
 use lf_base::{Handles, Sink, SliceSource, Source, Status, Text, VecSink};
 use litefs_tool::{Host, run};
 use node_mount::Maker;
+use run_child::{ListStarter, ReadyStarter};
 use std::alloc::Global;
+use std::process::Processes;
 
 /// What a run reads from, writes to, and says its failure on.
-pub type MemHost<'a, M> = Host<SliceSource<'a>, VecSink, VecSink, SliceSource<'a>, M>;
+pub type MemHost<'a, M> = Host<SliceSource<'a>, VecSink, VecSink, SliceSource<'a>, M, ListStarter>;
 
 /// The words behind the name of the program.
 fn arguments_of(alloc: Global, line: &str) -> Result<Vec<Text>, Fault> {
@@ -20,13 +23,14 @@ fn arguments_of(alloc: Global, line: &str) -> Result<Vec<Text>, Fault> {
 
 /// Runs `litefs` by this command line.
 pub fn run_line<
-    R: Handles + Copy + Send + 'static,
+    R: Handles + Processes + Copy + Send + 'static,
     I: Source,
     O: Sink,
     E: Sink,
     G: Source,
     M: Maker,
->(rt: R, alloc: Global, line: &str, host: &mut Host<I, O, E, G, M>) -> Result<Status, Fault> {
+    S: ReadyStarter,
+>(rt: R, alloc: Global, line: &str, host: &mut Host<I, O, E, G, M, S>) -> Result<Status, Fault> {
     let arguments = arguments_of(alloc, line)?;
     Ok(run(rt, alloc, arguments.as_slice(), host))
 }
@@ -52,7 +56,14 @@ pub fn host_over<'a, M: Drop>(
         errors,
         config,
         make,
+        child: starter(alloc, b"", u64::MAX)?,
     })
+}
+
+/// What starts programs: they give these statuses, and the start of this number fails.
+pub fn starter(alloc: Global, gives: &[u8], failing: u64) -> Result<ListStarter, Fault> {
+    let gives = Vec::from_slice(alloc, gives)?;
+    Ok(ListStarter::new(alloc, gives, one(alloc, failing)?)?)
 }
 
 /// A host over this input, this output and this maker, without a configuration.
@@ -68,5 +79,23 @@ pub fn host_with<'a, M: Drop>(
         errors: VecSink::new(alloc, 256, Vec::new(alloc))?,
         config: SliceSource::new(b"", Vec::new(alloc)).unwrap(),
         make,
+        child: starter(alloc, b"", u64::MAX)?,
+    })
+}
+
+/// A host over this maker and this starter, whose streams nobody moves.
+pub fn host_starting<'a, M: Drop>(
+    alloc: Global,
+    make: M,
+    child: ListStarter,
+) -> Result<MemHost<'a, M>, Fault> {
+    let (output, errors) = sinks(alloc)?;
+    Ok(Host {
+        input: SliceSource::new(b"left alone", Vec::new(alloc)).unwrap(),
+        output,
+        errors,
+        config: SliceSource::new(b"", Vec::new(alloc)).unwrap(),
+        make,
+        child,
     })
 }

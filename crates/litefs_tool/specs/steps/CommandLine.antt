@@ -23,9 +23,13 @@ serving_program = with_name (with_name files_program (codes "mount")) (codes "le
 abbrev pub asking_program : App
 asking_program = with_name (with_name serving_program (codes "export")) (codes "import")
 
+-- and with the drill, and the first on a backup
+abbrev pub playing_program : App
+playing_program = with_name (with_name asking_program (codes "drill")) (codes "backup")
+
 -- the program, with a subcommand for each command
 abbrev pub program : App
-program = with_name (with_name (with_name asking_program (codes "drill")) (codes "backup")) (codes "restore")
+program = with_name (with_name playing_program (codes "restore")) (codes "run")
 
 -- the name alone
 abbrev pub arguments_of : CommandName → List (List ℕ)

@@ -6,6 +6,7 @@ use Rattle.lf_base.specs.declared.status.Status.TheVariants as status
 use Rattle.litefs_tool.specs.Disks.{name_of_backup, name_of_unfetched, status_of_backup, status_of_unfetched}
 use Rattle.litefs_tool.specs.Mount.{status_of_fault, name_of_fault}
 use Rattle.litefs_tool.specs.Refusal.{refusal_name}
+use Rattle.litefs_tool.specs.Running.{name_of_child, status_of_child}
 use Rattle.litefs_tool.specs.declared.input.InputFault.TheVariants as fault
 use Rattle.litefs_tool.specs.declared.refusal.Refusal.TheVariants as refusal
 use Rattle.litefs_tool.specs.CompactRefusal.{compact_refusal_name}
@@ -33,6 +34,8 @@ status_of_failure failure.Reply = status.InputRefused
 status_of_failure failure.BadReply = status.InputRefused
 status_of_failure (failure.Backup why) = status_of_backup why
 status_of_failure (failure.Unfetched why) = status_of_unfetched why
+status_of_failure failure.Undialed = status.NetworkFault
+status_of_failure (failure.Child end) = status_of_child end
 status_of_failure failure.Output = status.WriteFault
 status_of_failure failure.NoMemory = status.NoMemory
 
@@ -46,6 +49,7 @@ name_of_failure (failure.Mount why) = name_of_fault why
 name_of_failure (failure.Untold untold.Unfit) = codes "BadReply"
 name_of_failure (failure.Backup why) = name_of_backup why
 name_of_failure (failure.Unfetched why) = name_of_unfetched why
+name_of_failure (failure.Child end) = name_of_child end
 name_of_failure failure.Reply = codes "Reply"
 name_of_failure failure.BadReply = codes "BadReply"
 name_of_failure other = []

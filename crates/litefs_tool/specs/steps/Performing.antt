@@ -4,6 +4,7 @@ use Rattle.http_exchange.specs.Exchange.{Asked}
 use Rattle.http_exchange.specs.declared.told.Told.{Told}
 use Rattle.http_exchange.specs.declared.told.Untold.{Untold}
 use Rattle.http_exchange.specs.declared.told.Untold.TheVariants as untold
+use Rattle.lf_base.specs.declared.source.Failed.{Failed}
 use Rattle.lf_base.specs.declared.status.Status.{Status}
 use Rattle.litefs_tool.specs.steps.Failure.{status_of, name_of}
 use Rattle.node_mount.specs.declared.counts.Counts.{Counts}
@@ -15,6 +16,8 @@ use Rattle.node_mount.specs.Mounting.{IsMountCause}
 use Rattle.litefs_tool.specs.Mount.{status_of_end, name_of_end}
 use Rattle.litefs_tool.specs.Asking.{AskBacks, AskOutcome, Asks}
 use Rattle.litefs_tool.specs.Drilling.{DrillOutcome}
+use Rattle.run_child.specs.declared.child_end.ChildEnd.{ChildEnd}
+use Rattle.litefs_tool.specs.Running.{ChildOutcome}
 use Rattle.litefs_tool.specs.Run.{Backs, Moves, Outside, RunCourse}
 use Rattle.litefs_tool.specs.Streams.{Gives, Holds, Stream}
 use Rattle.litefs_tool.specs.declared.command.Command.{Command}
@@ -70,3 +73,7 @@ GoesAsking backs command input output counts counts_after result = AskOutcome ba
 -- a drill went as the result's status says
 abbrev pub GoesDrilling : ℕ → Stream → Stream → Result (Unit {0}) Failure → Type 0
 GoesDrilling number input output result = DrillOutcome number input output (status_of result)
+
+-- a program was run, or not, as the result's status and name say
+abbrev pub GoesRunning : (Result ChildEnd Failed → Type 0) → Result (Unit {0}) Failure → Type 0
+GoesRunning Back result = ChildOutcome Back (status_of result) (name_of result)

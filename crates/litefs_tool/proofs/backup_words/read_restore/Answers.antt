@@ -2,7 +2,11 @@ use Rattle.std.proofs.Common.{◌≡◌, ◌∙◌, sym, subst, codes, arith}
 use Rattle.lf_base.specs.Hex.{hex_digits}
 use Rattle.lf_base.specs.Name.{IsName}
 use Rattle.litefs_tool.specs.Words.{IsNameRead, SaysBoth}
+use Rattle.litefs_tool.proofs.BothLemmas.{name_or_txid}
 use Rattle.litefs_tool.proofs.backup_words.read_restore.Goals as goal
+
+pub both_options-requires : goal.both_options-requires
+both_options-requires c = name_or_txid
 
 pub returns-in_default : goal.returns-in_default
 returns-in_default c name txid says = c.in_default.ensures name (hex_digits 16 txid) says.values
