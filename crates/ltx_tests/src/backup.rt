@@ -1,5 +1,6 @@
 //! Backups on disks in memory. The sums and lengths that stand here are of another program.
 mod levels;
+mod opening;
 mod stops;
 
 ghost use Rattle.std.specs.Prelude.{◌≤◌};
