@@ -107,21 +107,40 @@ fn writes_page(alloc: Global, node: &mut MemNode, page: Filled) -> Result<(), Fa
     Ok(())
 }
 
-/// The writer unlinks the journal, which commits, and ends its session.
-fn ends(alloc: Global, node: &mut MemNode) -> Result<Answer, Fault> {
-    let name = bytes(alloc, b"app-journal")?;
-    let answer = does(node, WRITER, FOLDER, Op::Unlink { name });
-    ask(node, WRITER, &Ask::EndSession);
-    Ok(answer)
-}
-
-/// A client commits these pages. The answer is that to the call that commits.
-pub fn commit(alloc: Global, node: &mut MemNode, pages: &[Filled]) -> Result<Answer, Fault> {
+/// A client commits these pages, and its session goes on. The answer is that to the call that commits.
+pub fn commit_and_stay(
+    alloc: Global,
+    node: &mut MemNode,
+    pages: &[Filled],
+) -> Result<Answer, Fault> {
     begins(alloc, node)?;
     for page in pages {
         writes_page(alloc, node, *page)?;
     }
-    ends(alloc, node)
+    unlinks(alloc, node, b"app-journal")
+}
+
+/// A client unlinks a file.
+pub fn unlinks(alloc: Global, node: &mut MemNode, name: &[u8]) -> Result<Answer, Fault> {
+    let name = bytes(alloc, name)?;
+    Ok(does(node, WRITER, FOLDER, Op::Unlink { name }))
+}
+
+/// The writer gives up its lock.
+pub fn unlocks(node: &mut MemNode) -> Answer {
+    locks(node, WRITER, DATABASE, 1, SHARED, LockWish::Unlock)
+}
+
+/// The writer's session ends.
+pub fn leaves(node: &mut MemNode) -> Answer {
+    ask(node, WRITER, &Ask::EndSession)
+}
+
+/// A client commits these pages, and its session ends. The answer is that to the call that commits.
+pub fn commit(alloc: Global, node: &mut MemNode, pages: &[Filled]) -> Result<Answer, Fault> {
+    let answer = commit_and_stay(alloc, node, pages)?;
+    leaves(node);
+    Ok(answer)
 }
 
 /// What a caller reads of the database file by its first handle.

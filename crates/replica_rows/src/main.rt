@@ -2,11 +2,14 @@
 //! are sent. It prints what they answer, and the gate compares that.
 #![tactic(auto)]
 
+mod accepted;
 mod chance;
 mod clients;
 mod cluster;
 mod fault;
 mod files;
+mod halted;
+mod halted_scenes;
 mod levels;
 mod likeness;
 mod lineage;
@@ -17,6 +20,7 @@ mod road;
 mod scenes;
 mod seeds;
 mod stops;
+mod tally;
 mod told;
 mod turns;
 mod waits;
@@ -39,6 +43,8 @@ fn play_all(
         left: other,
         right: third,
     };
+    halted_scenes::print_halted(rt, &mut cluster)?;
+    accepted::print_accepted(rt, &mut cluster)?;
     seeds::print_seeds(rt, &mut cluster)
 }
 

@@ -1,7 +1,7 @@
-//! A transaction of another node comes to the primary under a write permit.
+//! A transaction of another node comes to the primary under a write permit, and replicas get permits.
 
 use crate::fault::Fault;
-use crate::nodes::{NOW, ask, position};
+use crate::nodes::{MemNode, NOW, ask, position};
 use crate::turns::{Pair, says};
 use node_core::{Answer, Ask};
 
@@ -61,4 +61,33 @@ pub fn permits(rt: HostRuntime, pair: &mut Pair<'_>, asked: Asked) -> Result<(),
         Asked::Forward(number) => return forwards(rt, pair, number),
     };
     says(rt, "primary", &ask(pair.primary, 0, &asked))
+}
+
+/// A replica gets a write permit of the primary.
+pub fn gets_permit(primary: &mut MemNode, replica: &mut MemNode, number: u64) -> Answer {
+    let asked = Ask::HaltAsk {
+        now: NOW,
+        node: number,
+    };
+    let answer = ask(primary, 0, &asked);
+    if let Answer::Pass(pass) = &answer {
+        let got = Ask::HaltGot {
+            now: NOW,
+            pass: *pass,
+        };
+        ask(replica, 0, &got);
+    }
+    answer
+}
+
+/// The ask by which a commit that is to be sent comes to the primary.
+pub fn forward_of(answer: Answer) -> Option<Ask> {
+    match answer {
+        Answer::Send { number, ltx } => Some(Ask::Forward {
+            now: NOW,
+            number,
+            bytes: ltx,
+        }),
+        _ => None,
+    }
 }

@@ -6,12 +6,10 @@ use crate::files::{Files, files_of};
 use crate::levels::gets_level;
 use crate::likeness::is_as;
 use crate::nodes::{Failing, MemNode, NEVER, Part, ask, renew_on, restart, take_disk};
+use crate::tally::{CHOICES, NONE, Tally, count_if};
 use node_core::{Answer, Refusal};
 use std::alloc::Global;
 use txn_log::StoreFault;
-
-/// What is left of each call that is pending: nothing, a part, a part and all in turns, all.
-const CHOICES: [u64; 4] = [0, u64::MAX / 3, 0x6666_6666_6666_6666, u64::MAX];
 
 /// Two primaries, at transaction 9 and at transaction 6, what they sent, and a replica.
 #[derive(Drop)]
@@ -20,31 +18,6 @@ struct Install<'a> {
     new: &'a mut MemNode,
     replica: &'a mut MemNode,
     files: &'a Files,
-}
-
-/// How often each outcome came.
-#[derive(Clone, Copy)]
-struct Tally {
-    runs: u64,
-    /// The snapshot was refused for the disk, and once more since the store is broken.
-    refused: u64,
-    /// After its restart the replica is as the old primary, or as the new one.
-    before: u64,
-    after: u64,
-    /// It is as the new one after all that it is owed then.
-    level: u64,
-}
-
-const NONE: Tally = Tally {
-    runs: 0,
-    refused: 0,
-    before: 0,
-    after: 0,
-    level: 0,
-};
-
-fn count_if(number: &mut u64, so: bool) {
-    *number = number.saturating_add(u64::from(so));
 }
 
 /// The replica becomes one at transaction 9, on a disk that fails at a call.
@@ -122,11 +95,7 @@ fn print_failing(
     failing: Failing,
 ) -> Result<(), Fault> {
     let tally = runs(rt.alloc(), install, failing)?;
-    println!(rt;
-        "{title}\n  runs: {}\n  refused, and broken until the restart: {}\n  at transaction 9 after it: {}\n  at transaction 6 after it: {}\n  level with the sender in the end: {}",
-        tally.runs, tally.refused, tally.before, tally.after, tally.level
-    )?;
-    Ok(())
+    tally.print(rt, title, 9, 6)
 }
 
 fn print_both(rt: HostRuntime, install: &mut Install<'_>) -> Result<(), Fault> {
