@@ -1,7 +1,11 @@
 //! A table of sessions on the files of a node that asks its primary for a write permit: what the client sent, what the
-//! primary replied, what the client was answered, and what the primary was asked. Everything happens at the moment 5.
+//! primary replied, what the client was answered, and what the primary was asked. Everything happens at the moment 5, where a
+//! row says nothing else.
 mod ends;
+mod expiring;
 mod late;
+mod log_messages;
+mod logs;
 mod messages;
 mod pieces;
 mod primary;
@@ -16,6 +20,9 @@ const NEVER: u64 = 999;
 
 #[derive(Clone, Copy)]
 struct Row {
+    /// The moment of the first message, and how much later each is than the one before.
+    first: u64,
+    later: u64,
     input: &'static [Said],
     /// What the primary replies to each dial, and the number of the dial that fails.
     replies: &'static [Replied],
@@ -30,6 +37,8 @@ struct Row {
 /// The lock is taken under a permit, and given back at the end, where a row says nothing else. The steps are OPEN, the lock
 /// that is refused, Where, HaltGot, the lock, HaltLost, and the end.
 const GRANTED: Row = Row {
+    first: 5,
+    later: 0,
     input: &[Said::Lock],
     replies: &[Replied::Permit, Replied::Empty],
     failing: NEVER,

@@ -33,6 +33,8 @@ mod mounted;
 #[cfg(test)]
 mod permits;
 #[cfg(test)]
+mod proxied;
+#[cfg(test)]
 mod same;
 #[cfg(test)]
 mod streams;

@@ -1,7 +1,7 @@
 //! The words of the command line: a command's name, and of two the options behind it, to the letter.
 use crate::same::same;
 use lf_base::Text;
-use litefs_tool::{Command, Remote, read_arguments};
+use litefs_tool::{Command, Remote, Task, read_arguments};
 use std::alloc::{AllocError, Global};
 use std::process::Abort;
 
@@ -44,6 +44,20 @@ const NAMED: &[(&[&str], &str)] = &[
     (
         &["restore", "--txid=0000000000000000", "--name=app"],
         "restore app 0",
+    ),
+    (
+        &[
+            "run", "--socket", "a.sock", "--name", "app", "--", "sh", "-c", "x",
+        ],
+        "run app unix:a.sock sh -c x",
+    ),
+    (
+        &["run", "--name=app", "--socket=/a/b", "--", "--", "--name=b"],
+        "run app unix:/a/b -- --name=b",
+    ),
+    (
+        &["run", "--socket=a=b", "--name", "app", "--", ""],
+        "run app unix:a=b ",
     ),
 ];
 
@@ -117,6 +131,20 @@ const REFUSED: &[&[&str]] = &[
     &["restore", "--name=app", "--txid=000000000000001F"],
     &["restore", "--name=app", "--txid=0000000000000001", "x"],
     &["restore", "--name=app", "--addr=db1:20203"],
+    &["run"],
+    &["run", "--", "x"],
+    &["run", "--socket=a", "--", "x"],
+    &["run", "--name=app", "--", "x"],
+    &["run", "--socket=a", "--name=app"],
+    &["run", "--socket=a", "--name=app", "--"],
+    &["run", "--socket=a", "--name=app", "x"],
+    &["run", "--socket=a", "--name=app", "x", "--", "x"],
+    &["run", "--socket=a", "--socket=b", "--name=app", "--", "x"],
+    &["run", "--socket", "--", "--name=app", "--", "x"],
+    &["run", "--socket=", "--name=app", "--", "x"],
+    &["run", "--socket=a", "--name=app-lock", "--", "x"],
+    &["run", "--socket=a", "--name=app", "-promote", "--", "x"],
+    &["runs", "--socket=a", "--name=app", "--", "x"],
 ];
 
 /// What a command is: nothing where there is none.
@@ -135,7 +163,18 @@ fn shown(alloc: Global, command: &Option<Command>) -> Result<String, AllocError>
             let name = str::from_utf8(name.bytes()).unwrap_or("no text");
             format!(in alloc; "restore {name} {txid}")
         }
+        Some(Command::Run(task)) => run_of(alloc, task),
     }
+}
+
+fn run_of(alloc: Global, task: &Task) -> Result<String, AllocError> {
+    let name = str::from_utf8(task.name.bytes()).unwrap_or("no text");
+    let mut shown = format!(in alloc; "run {name} {}", task.address.as_str())?;
+    for word in task.words.as_slice() {
+        shown.push_str(" ")?;
+        shown.push_str(word.as_str())?;
+    }
+    Ok(shown)
 }
 
 fn place(alloc: Global, command: &str, remote: &Remote) -> Result<String, AllocError> {

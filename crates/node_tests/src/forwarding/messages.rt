@@ -1,5 +1,6 @@
 //! What a client sends, and what it is answered. It opens the lock file by its handle 1, the database file by 2, and makes
 //! the journal by 3.
+use super::log_messages;
 use super::pieces::Piece::{self, Full, Hex};
 
 /// What the client sends.
@@ -16,6 +17,9 @@ pub enum Said {
     Unlock,
     ReadLock,
     Flush,
+    BeginLog,
+    Frames,
+    FramesAgain,
 }
 
 /// What it is answered.
@@ -33,6 +37,10 @@ pub enum Heard {
     Failed,
     Unlocked,
     HeldForAnother,
+    NotCommitted,
+    LogBegun,
+    FramesWritten,
+    FramesWrittenAgain,
 }
 
 /// OPEN of the lock file, and SETLK of byte 72 for writing by the owner 1: numbers 1 and 2.
@@ -171,6 +179,9 @@ const UNLINKED: &[Piece] = &[Hex(b"10000000 00000000 0800000000000000")];
 
 const FAILED: &[Piece] = &[Hex(b"10000000 fbffffff 0800000000000000")];
 
+/// The node doesn't write any more, `EROFS`.
+const NOT_COMMITTED: &[Piece] = &[Hex(b"10000000 e2ffffff 0800000000000000")];
+
 const UNLOCKED: &[Piece] = &[Hex(b"10000000 00000000 0900000000000000")];
 
 const HELD_FOR_ANOTHER: &[Piece] = &[Hex(b"10000000 f5ffffff 0900000000000000")];
@@ -189,6 +200,9 @@ pub fn said_in(said: Said) -> &'static [Piece] {
         Said::Unlock => UNLOCK,
         Said::ReadLock => READ_LOCK,
         Said::Flush => FLUSH,
+        Said::BeginLog => log_messages::BEGIN,
+        Said::Frames => log_messages::FRAMES,
+        Said::FramesAgain => log_messages::FRAMES_AGAIN,
     }
 }
 
@@ -207,5 +221,9 @@ pub fn heard_in(heard: Heard) -> &'static [Piece] {
         Heard::Failed => FAILED,
         Heard::Unlocked => UNLOCKED,
         Heard::HeldForAnother => HELD_FOR_ANOTHER,
+        Heard::NotCommitted => NOT_COMMITTED,
+        Heard::LogBegun => log_messages::BEGUN,
+        Heard::FramesWritten => log_messages::WRITTEN,
+        Heard::FramesWrittenAgain => log_messages::WRITTEN_AGAIN,
     }
 }

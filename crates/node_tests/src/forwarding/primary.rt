@@ -21,6 +21,7 @@ pub enum Replied {
     Behind,
     NotPrimary,
     Accepted,
+    AcceptedLog,
     Half,
 }
 
@@ -30,6 +31,8 @@ pub enum Asked {
     Asks,
     GivesBack,
     Sends,
+    SendsLast,
+    SendsLog,
 }
 
 /// The permit of the number 7 until 1,005, at no position.
@@ -70,6 +73,9 @@ const NOT_PRIMARY: &[u8] =
 const ACCEPTED: &[u8] = b"HTTP/1.1 200 OK\r\nContent-Length: 34\r\nConnection: close\r\n\r\n\
     0000000000000001/bf1b6cc764511888\n";
 
+const ACCEPTED_LOG: &[u8] = b"HTTP/1.1 200 OK\r\nContent-Length: 34\r\nConnection: close\r\n\r\n\
+    0000000000000001/d9328f592d9e733d\n";
+
 const HALF: &[u8] = b"HTTP/1.1 200 OK\r\nContent-Length: 34\r\nConnection: close\r\n\r\n\
     0000000000000001/";
 
@@ -97,6 +103,32 @@ const SENDS: &[Piece] = &[
     Hex(b"00000000 bf1b6cc764511888 810b2eff8af397bd"),
 ];
 
+/// The same at 1,004.
+const SENDS_LAST: &[Piece] = &[
+    Text(b"POST /tx HTTP/1.1\r\nHost: \r\nContent-Length: 657\r\n\r\napp 0000000000000007\n"),
+    Hex(b"4c545831 00000000 00000200 00000001 0000000000000001 0000000000000001"),
+    Hex(b"00000000000003ec 0000000000000000"),
+    Full(0, 24),
+    Hex(b"0000000000000003"),
+    Full(0, 20),
+    Hex(b"00000001"),
+    Full(7, 512),
+    Hex(b"00000000 bf1b6cc764511888 d7e8abfd459b7a35"),
+];
+
+/// The same at 5 of a page of 4,096 zeros.
+const SENDS_LOG: &[Piece] = &[
+    Text(b"POST /tx HTTP/1.1\r\nHost: \r\nContent-Length: 4241\r\n\r\napp 0000000000000007\n"),
+    Hex(b"4c545831 00000000 00001000 00000001 0000000000000001 0000000000000001"),
+    Hex(b"0000000000000005 0000000000000000"),
+    Full(0, 24),
+    Hex(b"0000000000000003"),
+    Full(0, 20),
+    Hex(b"00000001"),
+    Full(0, 4_096),
+    Hex(b"00000000 d9328f592d9e733d e98f1228be50589c"),
+];
+
 /// The reply.
 pub fn reply_of(replied: Replied) -> &'static [u8] {
     match replied {
@@ -111,6 +143,7 @@ pub fn reply_of(replied: Replied) -> &'static [u8] {
         Replied::Behind => BEHIND,
         Replied::NotPrimary => NOT_PRIMARY,
         Replied::Accepted => ACCEPTED,
+        Replied::AcceptedLog => ACCEPTED_LOG,
         Replied::Half => HALF,
     }
 }
@@ -121,6 +154,8 @@ pub fn asked_in(asked: Asked) -> &'static [Piece] {
         Asked::Asks => ASKS,
         Asked::GivesBack => GIVES_BACK,
         Asked::Sends => SENDS,
+        Asked::SendsLast => SENDS_LAST,
+        Asked::SendsLog => SENDS_LOG,
     }
 }
 
@@ -137,7 +172,7 @@ fn add<R: Copy + Abort>(rt: R, alloc: Global, lines: &mut Lines, reply: &[u8])
     ensures { All IsUnused lines.new.links.items }
 {
     let reply = Vec::from_slice(alloc, reply).expect(&rt, "memory");
-    let link = MemLink::new(alloc, reply, 1024, Vec::new(alloc)).expect(&rt, "a link");
+    let link = MemLink::new(alloc, reply, 8192, Vec::new(alloc)).expect(&rt, "a link");
     lines.watches.push(link.watch()).expect(&rt, "memory");
     assert!(rt; lines.links.push(link).is_ok());
 }

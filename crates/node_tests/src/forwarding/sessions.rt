@@ -7,11 +7,11 @@ use super::pieces::append_all;
 use super::primary::{all_taken, asked_in, dialer_of, reply_of};
 use crate::leases::client::{Deed, Told, ask_of, told_of};
 use crate::leases::node::close;
-use crate::leases::session::opened;
+use crate::leases::session::{Counting, opened};
 use crate::links::{link_of, name_of};
 use crate::same::same;
 use file_session::serve_seat;
-use lf_base::{FixedClock, Handles, MemDialer, MemLink, NoPause, SessionEnd};
+use lf_base::{Handles, MemDialer, MemLink, NoPause, SessionEnd};
 use node_core::{Answer, Ask};
 use std::alloc::Global;
 use std::process::Abort;
@@ -43,6 +43,7 @@ fn served<R: Handles + Copy + Abort>(
     alloc: Global,
     link: &mut MemLink,
     dialer: &mut MemDialer,
+    clock: &mut Counting,
 ) -> Left {
     let (desk, mut seat) = opened(rt, alloc);
     let end = serve_seat(
@@ -54,7 +55,7 @@ fn served<R: Handles + Copy + Abort>(
         3,
         link,
         dialer,
-        &mut FixedClock::new(5),
+        clock,
         &mut NoPause::new(),
         1_000,
     );
@@ -102,7 +103,8 @@ pub fn plays<R: Handles + Copy + Abort>(
     let mut link = link_of(rt, alloc, input(rt, alloc, row), 99_999, 999);
     let watch = link.watch();
     let (mut dialer, watches) = dialer_of(rt, alloc, replies, row.failing);
-    let left = served(rt, alloc, &mut link, &mut dialer);
+    let mut clock = Counting::new(row.first, row.later);
+    let left = served(rt, alloc, &mut link, &mut dialer, &mut clock);
     let written = watch.bytes().expect(&rt, "memory");
     same(rt, written.as_slice(), wanted(rt, alloc, row).as_slice());
     let is = (row.steps, Told::At(row.txid), Told::Refuse(30));

@@ -18,11 +18,23 @@ use turn_desk::{Desk, Seat};
 
 pub type MemNode = Node<lf_disk::MemDisk>;
 
-/// A clock that is a millisecond on with each reading.
+/// A clock that is so many milliseconds on with each reading.
 #[derive(Drop)]
-struct Counting {
+pub struct Counting {
     next: u64,
+    step: u64,
     last: u64,
+}
+
+impl Counting {
+    /// Its first reading is `first`.
+    pub fn new(first: u64, step: u64) -> Counting {
+        Counting {
+            next: first,
+            step,
+            last: 0,
+        }
+    }
 }
 
 impl Clock for Counting {
@@ -34,7 +46,7 @@ impl Clock for Counting {
 
     fn now_ms(&mut self) -> u64 {
         self.last = self.next;
-        self.next = self.next.saturating_add(1);
+        self.next = self.next.saturating_add(self.step);
         self.last
     }
 }
@@ -75,7 +87,7 @@ fn input<R: Copy + Abort>(rt: R, alloc: Global) -> Vec<u8> {
 }
 
 /// The client has opened the files and begun a transaction, at this seat.
-fn begin<R: Wait + Copy + Abort>(
+pub fn begin<R: Wait + Copy + Abort>(
     rt: R,
     alloc: Global,
     desk: &Desk<MemNode>,
@@ -110,10 +122,7 @@ fn served<R: Handles + Copy + Abort>(
 ) -> SessionEnd {
     let (desk, mut seat) = opened(rt, alloc);
     begin(rt, alloc, &desk, &mut seat, GRANTED);
-    let mut clock = Counting {
-        next: first,
-        last: 0,
-    };
+    let mut clock = Counting::new(first, 1);
     let end = serve_seat(
         rt,
         alloc,
