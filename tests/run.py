@@ -5,7 +5,7 @@ it; a permit that ends while the program runs. At a primary it keeps out other h
 streams, the folder and the environment; each status and line.
 
 At most: 600 seconds.
-Seen to fail: no wrong program was tried."""
+Seen to fail: a program that takes no lock, in migration, kept_out, two_at_one_node, at_a_primary, ended_permit and statuses."""
 import contextlib
 import os
 import signal
