@@ -101,35 +101,57 @@ fn configurations_are_read(rt: HostRuntime) {
     }
 }
 
-/// The settings of what stands beside: the proxy, and how long a permit lasts.
+/// The settings of what stands beside: the proxy, the mount, and how long a permit lasts.
 fn beside_line(rt: impl Copy + Abort, alloc: Global, settings: &Settings) -> String {
     let (addr, target) = match &settings.proxy {
         Some(proxy) => (proxy.addr.text().as_str(), proxy.target.text().as_str()),
         None => ("none", "none"),
     };
+    let (dir, program) = mount_words(settings);
     let permit = settings.lease.halt_ttl;
-    format!(in alloc; "{addr} {target} {permit}").expect(&rt, "memory")
+    format!(in alloc; "{addr} {target} {dir} {program} {permit}").expect(&rt, "memory")
+}
+
+fn mount_words(settings: &Settings) -> (&str, &str) {
+    match &settings.mount {
+        Some(mount) => match &mount.program {
+            Some(program) => (mount.dir.as_str(), program.as_str()),
+            None => (mount.dir.as_str(), "none"),
+        },
+        None => ("none", "none"),
+    }
 }
 
 const BESIDE: &[(&str, &str)] = &[
-    ("", "none none 10000"),
-    ("ttl = 7\n", "none none 7"),
-    ("halt-ttl = 1\n", "none none 1"),
-    ("halt-ttl = 86_400_000\nttl = 7\n", "none none 86400000"),
+    ("", "none none none none 10000"),
+    ("ttl = 7\n", "none none none none 7"),
+    ("halt-ttl = 1\n", "none none none none 1"),
+    (
+        "halt-ttl = 86_400_000\nttl = 7\n",
+        "none none none none 86400000",
+    ),
     (
         "[proxy]\naddr = \":8080\"\ntarget = \"localhost:3000\"\n",
-        ":8080 localhost:3000 10000",
+        ":8080 localhost:3000 none none 10000",
     ),
     (
         "[proxy]\ntarget = \"[::1]:65535\"\naddr = \"a:0\"\n",
-        "a:0 [::1]:65535 10000",
+        "a:0 [::1]:65535 none none 10000",
     ),
-    ("[fuse]\n[proxy]\n", "none none 10000"),
+    ("[fuse]\n[proxy]\n", "none none none none 10000"),
+    (
+        "[fuse]\ndir = \"/mnt/a b\"\n",
+        "none none /mnt/a b none 10000",
+    ),
+    (
+        "[fuse]\nprogram = \"./p\"\ndir = \"m\"\nlisten = \"s\"\n",
+        "none none m ./p 10000",
+    ),
 ];
 
 /// The keys of what stands beside, and what they say.
 #[test]
-fn proxies_are_read(rt: HostRuntime) {
+fn keys_beside_are_read(rt: HostRuntime) {
     let alloc = rt.alloc();
     for (more, said) in BESIDE {
         let text = with_required(rt, alloc, more);
@@ -185,6 +207,8 @@ const SERVICES: &[(&str, &str)] = &[
         ":20202 10000",
     ),
     ("proxy.target = \"h:1\"\nlease.ttl = 7\n", ":20202 7"),
+    ("fuse.program = \"p\"\n", ":20202 10000"),
+    ("fuse.dir = \"m\"\nlease.ttl = 7\n", ":20202 7"),
     (
         "database = \"app\"\n[fuse]\nlisten = \"s\"\n[data]\nretention-files = 3\n[lease]\nhostname = \"h\"\nadvertise-url = \"http://h:1\"\nservice-url = \"http://h:1\"\n",
         ":20202 10000",
@@ -424,15 +448,19 @@ const COMPLAINTS: &[(&str, &str)] = &[
     ),
     (
         "[fuse]\nlisten = \"s\"\ndir = \"\"\n",
-        "fuse.dir 7 no key of this name",
+        "fuse.dir 7 a path that is not empty",
     ),
     (
         "[fuse]\nprogram = 1\n",
-        "fuse.program 6 no key of this name",
+        "fuse.dir 0 a path, since fuse.program is there; the key is missing",
     ),
     (
         "[fuse]\nprogram = 1\ndir = \"m\"\n",
-        "fuse.dir 7 no key of this name",
+        "fuse.program 6 a path that is not empty",
+    ),
+    (
+        "[fuse]\ndir = \"m\"\nallow-other = true\n",
+        "fuse.allow-other 7 no key of this name",
     ),
     (
         "[proxy]\ntarget = 1\n",
@@ -544,7 +572,7 @@ const SERVICE_COMPLAINTS: &[(&str, &str)] = &[
     ),
     (
         "proxy.target = \":1\"\nfuse.program = \"\"\n",
-        "fuse.program 2 no key of this name",
+        "fuse.program 2 a path that is not empty",
     ),
 ];
 

@@ -10,7 +10,7 @@ use Rattle.node_settings.specs.declared.settings.LeaseType.TheVariants as lease_
 use Rattle.node_settings.specs.Values.{Holds, HoldsOr, HasOnly, section, IsText, IsPath, IsNameText, IsAddressText, IsTargetText, IsUrlText, IsSomeOf, IsFlag, IsOff, IsSwitch, IsNumber, IsLeaseType, HasService}
 
 abbrev pub fuse_keys : List (List ℕ)
-fuse_keys = codes "listen" ∷ []
+fuse_keys = codes "listen" ∷ codes "dir" ∷ codes "program" ∷ []
 
 -- the keys of [fuse]
 pub record IsFuseTable (members : Members) (socket : List ℕ) (dir program : Option (List ℕ)) : Type 0 where

@@ -35,7 +35,7 @@ pub(crate) fn prefix_of(place: Place) -> &'static str
 
 const ROOT_KEYS: &[&str] = &["database", "log", "fuse", "http", "proxy", "data", "lease"];
 
-const FUSE_KEYS: &[&str] = &["listen"];
+const FUSE_KEYS: &[&str] = &["listen", "dir", "program"];
 
 const HTTP_KEYS: &[&str] = &["addr"];
 
