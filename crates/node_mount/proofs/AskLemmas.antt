@@ -1,10 +1,11 @@
 -- What the maker was asked for, call by call.
-use Rattle.std.proofs.Common.{◌≡◌, inl, inr, ℕ, List, [], ◌∷◌, ◌++◌, Option, Some, None, IsSomeAnd, Result, Ok, Err, IfOk, ap, refl, sym, subst, ◌∙◌, append_assoc}
+use Rattle.std.proofs.Common.{◌≡◌, inl, inr, ℕ, List, [], ◌∷◌, ◌++◌, Option, Some, None, IsSomeAnd, Result, Ok, Err, IfOk, ap, refl, sym, subst, ◌∙◌, append_assoc, append-nil}
+use Rattle.node_settings.specs.declared.settings.MountSettings.{MountSettings}
 use Rattle.node_settings.specs.declared.settings.ProxySettings.{ProxySettings}
 use Rattle.node_settings.specs.declared.settings.Settings.{Settings}
 use Rattle.node_recovery.specs.declared.fault.RecoverFault.{RecoverFault}
 use Rattle.node_recovery.specs.declared.fault.RecoverFault.TheVariants as recovery
-use Rattle.node_mount.specs.Asking.{Asks, AsksAsRead, AsksLinks, AreAskedFor, RefusesProxy, address_of, disk_of, files_of, gave_links, http_of}
+use Rattle.node_mount.specs.Asking.{Asks, AsksAsRead, AsksLinks, AsksMount, AsksMounter, AreAskedFor, RefusesProxy, address_of, disk_of, files_of, gave_all, gave_links, gave_mounter, http_of, mounter_of}
 use Rattle.node_mount.specs.Configuring.{ReadsPast, ReadsSettings, SaysSettings}
 use Rattle.node_mount.specs.Making.{gave, refused, TakesBack}
 use Rattle.node_mount.specs.Mounting.{fault_of, IsOfReading, IsOpened}
@@ -13,7 +14,7 @@ use Rattle.node_mount.specs.declared.asked.Asked.{Asked}
 use Rattle.node_mount.specs.declared.configuration.Configuration.{Configuration}
 use Rattle.node_mount.specs.declared.mount_fault.MountFault.{MountFault}
 use Rattle.node_mount.specs.declared.mount_fault.MountFault.TheVariants as fault
-use Rattle.node_mount.proofs.BackLemmas.{one_back}
+use Rattle.node_mount.proofs.BackLemmas.{and_one, one_back}
 
 -- one call, and then these
 pub then_these : {B : Type 0} (x : B) (xs : List B) (a b c : Option (List B)) → TakesBack x a b → GivesBack xs b c → GivesBack (x ∷ xs) a c
@@ -38,14 +39,28 @@ refuses_after x before s old mid new one refuses = after s.proxy one refuses
     after None one refuses = absurd refuses
     after (Some proxy) one refuses = then_these x (before ++ refused (address_of proxy) ∷ []) old mid new one refuses
 
+-- what mounts the files was asked for in between, where it was at all
+pub between : (s : Settings) (a b c d : Option (List Asked)) → b ≡ a → AsksMount s b c → d ≡ c → AsksMount s a d
+between s a b c d before asks after = subst (λ told. AsksMount s a told) (sym after) (subst (λ told. AsksMount s told c) before asks)
+
+-- these calls, and behind them what mounts the files
+and_mounter : (s : Settings) (mount : Option MountSettings) (xs : List Asked) (a b c : Option (List Asked))
+    → GivesBack xs a b → AsksMounter s mount b c → GivesBack (xs ++ gave_mounter s mount) a c
+and_mounter s None xs a b c these same =
+    subst (λ (told : Option (List Asked)). GivesBack (xs ++ []) a told) (sym same) (subst (λ (l : List Asked). GivesBack l a b) (sym (append-nil xs)) these)
+and_mounter s (Some mount) xs a b c these one = and_one xs (gave (mounter_of s mount)) a b c these one
+
+pub links_and_mount : (s : Settings) (a b c : Option (List Asked)) → AreAskedFor (gave_links s) a b → AsksMount s b c → AreAskedFor (gave_all s) a c
+links_and_mount s a b c links mount = and_mounter s s.mount (gave_links s) a b c links mount
+
 -- a node that was opened asked for all
 pub served_asked : {R : Type 0} (s : Settings) (old new : Option (List Asked)) (result : Result R MountFault)
-    → AreAskedFor (gave_links s) old new → IsOpened result → AsksLinks s old new result
+    → AreAskedFor (gave_all s) old new → IsOpened result → AsksLinks s old new result
 served_asked s old new (Ok done) both is = both
 served_asked s old new (Err fault.NoThread) both is = both
 served_asked s old new (Err fault.Limit) both is = both
 served_asked s old new (Err fault.Network) both is = inr (inr (inr both))
-served_asked s old new (Err fault.NoMemory) both is = inr both
+served_asked s old new (Err fault.NoMemory) both is = inr (inr both)
 served_asked s old new (Err fault.Disk) both is = both
 served_asked s old new (Err fault.Read) both is = absurd is
 served_asked s old new (Err fault.Config) both is = absurd is
@@ -63,7 +78,8 @@ disk_then s old mid new (Err fault.Network) disk (inr (inr (inl links))) = inr (
 disk_then s old mid new (Err fault.Network) disk (inr (inr (inr links))) = inr (inr (inr (then_these _ _ old mid new disk links)))
 disk_then s old mid new (Err fault.NoMemory) disk (inl same) =
     inr (inl (subst (λ told. AreAskedFor (gave (disk_of s) ∷ []) old told) (sym same) (one_back (gave (disk_of s)) old mid disk)))
-disk_then s old mid new (Err fault.NoMemory) disk (inr links) = inr (inr (then_these _ _ old mid new disk links))
+disk_then s old mid new (Err fault.NoMemory) disk (inr (inl links)) = inr (inr (inl (then_these _ _ old mid new disk links)))
+disk_then s old mid new (Err fault.NoMemory) disk (inr (inr links)) = inr (inr (inr (then_these _ _ old mid new disk links)))
 disk_then s old mid new (Err fault.Disk) disk links = inr (inr (then_these _ _ old mid new disk links))
 disk_then s old mid new (Err fault.Read) disk links = absurd links
 disk_then s old mid new (Err fault.Config) disk links = absurd links

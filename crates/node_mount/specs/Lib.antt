@@ -18,6 +18,7 @@ pub mod Duties
 pub mod Opening
 pub mod Places
 pub mod Returns
+pub mod Mounters
 pub mod Asking
 pub mod Doors
 pub mod Damage

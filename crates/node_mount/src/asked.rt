@@ -1,7 +1,10 @@
 ghost use Rattle.std.specs.Prelude.{◌≡◌, IfOk};
+ghost use Rattle.node_mount.specs.Mounters.{mount_call};
 ghost use Rattle.node_mount.specs.declared.asked.Wanted.TheVariants as wants;
 
+use crate::mount_call::MountCall;
 use lf_base::{Name, NoMemory, Text};
+use node_settings::MountSettings;
 
 /// What a maker is asked for.
 #[derive(Drop)]
@@ -12,6 +15,8 @@ pub enum Wanted {
     Files(Text),
     /// HTTP links, at this address.
     Http(Text),
+    /// What mounts its files, by this call.
+    Mount(MountCall),
 }
 
 /// What a maker was asked for, and whether it gave it.
@@ -41,5 +46,12 @@ impl Wanted {
     {
         let address = address.copy()?;
         Ok(Wanted::Http(address))
+    }
+
+    pub fn mount(database: &Name, socket: &Text, mount: &MountSettings) -> Result<Wanted, NoMemory>
+        ensures { IfOk result (λ made. made ≡ wants.Mount (mount_call database.now socket.now mount.now)) }
+    {
+        let call = MountCall::of(database, socket, mount)?;
+        Ok(Wanted::Mount(call))
     }
 }

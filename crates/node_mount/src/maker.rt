@@ -1,15 +1,18 @@
 ghost use Rattle.std.specs.Prelude.{◌≡◌, ℕ, Option, List, IfOk};
 ghost use Rattle.node_mount.specs.declared.asked.Asked.{Asked};
 ghost use Rattle.node_mount.specs.declared.counts.Counts.{Counts};
-ghost use Rattle.node_mount.specs.Making.{DisksRose, NetworkRose, SpawnersRose, FailsBy, TellsBy, IsAtRest, IsAskedFor, IsNew, TakesBack};
+ghost use Rattle.node_mount.specs.Making.{DisksRose, NetworkRose, SpawnersRose, FailsBy, TellsBy, IsAtRest, IsAskedFor, IsNew, TakesBack, gave};
+ghost use Rattle.node_mount.specs.Mounters.{mount_call};
 
 use crate::failing::FailedCall;
+use crate::mounter::Mounter;
 use crate::obstacle::Obstacle;
 use crate::tell::Tell;
 use lf_base::{
     Acceptor, Clock, Closing, Dialer, Failed, Link, Name, NoMemory, Pause, Spawner, Text,
 };
 use lf_disk::Disk;
+use node_settings::MountSettings;
 
 /// Makes what a node runs on, and takes it back. Each object is made without a fault.
 pub trait Maker {
@@ -36,10 +39,12 @@ pub trait Maker {
 
     type Tell: Tell + Send + Drop + 'static;
 
+    type Mounter: Mounter + Send + Drop + 'static;
+
     /// How often making failed, and objects came back that had failed.
     ghost counts: { Self → Counts };
 
-    /// What it was asked for by `disk`, `files` and `http`, in order, where it tells that.
+    /// What it was asked for by `disk`, `files`, `http` and `mounter`, in order, where it tells that.
     ghost asked: { Self → Option (List Asked) };
 
     /// The number of its node, the same at each call.
@@ -77,6 +82,12 @@ pub trait Maker {
         ensures asked { IsAskedFor (wants.Http address.now) (asked self.old) (asked self.new) result }
         ensures number { number self.new ≡ number self.old }
         ensures cause { FailsBy NetworkRose (counts self.old) (counts self.new) result };
+
+    /// What mounts the files of this database, served on this socket, as these settings say.
+    fn mounter(&mut self, database: &Name, socket: &Text, mount: &MountSettings) -> Self::Mounter
+        ensures asked { TakesBack (gave (wants.Mount (mount_call database.now socket.now mount.now))) (asked self.old) (asked self.new) }
+        ensures number { number self.new ≡ number self.old }
+        ensures same { (counts self.new ≡ counts self.old) × (back self.new ≡ back self.old) };
 
     /// It fails, and so do its links, where they wait for longer than so many milliseconds; 0 is no limit.
     fn dialer(&mut self, patience: u64) -> Self::Dial

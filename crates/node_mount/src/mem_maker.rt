@@ -2,9 +2,10 @@
 ghost use Rattle.std.specs.Prelude.{◌≡◌, ◌==◌, ◌↔◌, ◌∷◌, [], true, false, None, Some, All, Contains, IfOk, IsErr, IsTrue, MatchOption, if◌then◌else◌};
 ghost use Rattle.lf_disk.specs.MemDisk.{history_of};
 ghost use Rattle.node_mount.specs.Keeping.{told_by, with};
-ghost use Rattle.node_mount.specs.Making.{no_faults, disk_failed, network_failed, spawner_failed, DisksRose, NetworkRose, SpawnersRose, FailsBy, TellsBy, IsAskedFor, IsAtRest, IsNew, TakesBack};
+ghost use Rattle.node_mount.specs.Making.{no_faults, disk_failed, network_failed, spawner_failed, DisksRose, NetworkRose, SpawnersRose, FailsBy, TellsBy, IsAskedFor, IsAtRest, IsNew, TakesBack, gave};
 ghost use Rattle.node_mount.specs.MemMaker.{IsNewDisk, IsNewDoor, IsNewPhone, IsNewSpawner, FailsNext, Gives, IsNext, called, no_links};
 ghost use Rattle.node_mount.specs.MemSpawn.{faults_of};
+ghost use Rattle.node_mount.specs.Mounters.{mount_call};
 ghost use Rattle.node_mount.specs.declared.asked.Asked.{Asked};
 ghost use Rattle.node_mount.specs.declared.asked.Wanted.{Wanted};
 ghost use Rattle.node_mount.specs.declared.asked.Wanted.TheVariants as wants;
@@ -15,6 +16,7 @@ use crate::counts::Counts;
 use crate::failing::FailedCall;
 use crate::keeping::Keeping;
 use crate::maker::Maker;
+use crate::mem_mounter::{MemMounter, MemProgram};
 use crate::mem_spawn::MemSpawn;
 use crate::obstacle::Obstacle;
 use crate::returned::Returned;
@@ -24,6 +26,7 @@ use lf_base::{
     Text,
 };
 use lf_disk::MemDisk;
+use node_settings::MountSettings;
 use std::alloc::Global;
 use std::marker::Model;
 
@@ -38,6 +41,8 @@ struct Aside {
     no_dialer: MemDialer,
     /// Where the lines of its node are kept.
     lines: KeptPlace,
+    /// What becomes of the program by which the node's files are mounted.
+    program: MemProgram,
     /// It is closed: its acceptors end by themselves.
     ending: Closing,
 }
@@ -50,6 +55,7 @@ impl Aside {
             alloc,
             no_dialer: MemDialer::new(alloc, Vec::new(alloc), 0, Vec::new(alloc))?,
             lines: KeptPlace::new(alloc)?,
+            program: MemProgram::Runs,
             ending,
         })
     }
@@ -153,6 +159,13 @@ impl MemMaker {
         self.aside.lines.another()
     }
 
+    /// From now on this becomes of the program by which the node's files are mounted. Without that it runs for good.
+    pub fn set_program(&mut self, program: MemProgram)
+        ensures { self.new ≡ self.old }
+    {
+        self.aside.program = program;
+    }
+
     /// The objects that came back, while there was a place for each.
     pub fn back(&self) -> Option<&[MemReturned]>
         ensures { MatchOption result (told_by self.now.back ≡ None) (λ objects. told_by self.now.back ≡ Some objects.now) }
@@ -200,6 +213,8 @@ impl Maker for MemMaker {
     type Pause = NoPause;
 
     type Tell = KeptLines;
+
+    type Mounter = MemMounter;
 
     ghost counts = { λ m. m.counts };
 
@@ -274,6 +289,14 @@ impl Maker for MemMaker {
         }
         self.note(wanted, true);
         Ok(self.http.remove(0))
+    }
+
+    fn mounter(&mut self, database: &Name, socket: &Text, mount: &MountSettings) -> MemMounter
+        ensures asked { TakesBack (gave (wants.Mount (mount_call database.now socket.now mount.now))) (told_by self.old.asked) (told_by self.new.asked) }
+        ensures rest { self.new ≡ record self.old { asked = self.new.asked } }
+    {
+        self.note(Wanted::mount(database, socket, mount), true);
+        MemMounter::new(self.aside.alloc, self.aside.program)
     }
 
     /// Where no dialer is left, one without links.

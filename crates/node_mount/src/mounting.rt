@@ -2,11 +2,10 @@
 ghost use Rattle.std.specs.Prelude.{◌≡◌, IfOk};
 ghost use Rattle.std.specs.Arc.{arc_value};
 ghost use Rattle.node_core.specs.Nodes.{parts_of};
-ghost use Rattle.node_mount.specs.Asking.{Asks, AsksAsRead, AsksLinks};
+ghost use Rattle.node_mount.specs.Asking.{Asks, AsksAsRead, AsksLinks, AsksMount};
 ghost use Rattle.node_mount.specs.Configuring.{ReadsConfiguration};
 ghost use Rattle.node_mount.specs.Damage.{DamageHasCause};
 ghost use Rattle.node_mount.specs.Doors.{PassesOn};
-ghost use Rattle.node_mount.specs.Duties.{AreDuties, HasDialer};
 ghost use Rattle.node_mount.specs.Ending.{BreaksWhere, CountsEnd, EndsAs, EndsBroken};
 ghost use Rattle.node_mount.specs.Making.{IsNew};
 ghost use Rattle.node_mount.specs.Mounting.{fault_of as named, IsMountCause, IsOpened, IsPastReading, IsServing, RaisesFor};
@@ -21,26 +20,22 @@ use crate::configuration::Configuration;
 use crate::configuring::read_configuration;
 use crate::damage::tell_unrecovered;
 use crate::doors::{Doors, Unmade, make_doors};
-use crate::duties::{duties_of, to_primary};
 use crate::ending::End;
 use crate::failing::FailedCall;
 use crate::maker::Maker;
 use crate::means::Means;
 use crate::mount_fault::MountFault;
-use crate::notes::Notes;
 use crate::obstacle::tell_obstacle;
 use crate::opening::{OpenFault, config_of, open_place, open_recovered};
-use crate::patience::{following_patience, lease_patience};
+use crate::patience::following_patience;
 use crate::place::Place;
 use crate::serving::serve_links;
-use crate::sessions::Writer;
-use crate::tasks::Tasks;
+use crate::tasks::{dialer_of_service, mount_of, tasks_of};
 use crate::tell::Lines;
-use crate::watching::watching_of;
-use lf_base::{Handles, NoMemory, Source};
+use lf_base::{Handles, Source};
 use node_core::Node;
 use node_recovery::RecoverFault;
-use node_settings::{LeaseType, Settings};
+use node_settings::Settings;
 use std::alloc::Global;
 use turn_desk::Machine;
 
@@ -162,7 +157,7 @@ fn serve_place<R: Handles + Copy + Send + 'static, M: Maker>(
     requires unused { IsUnused place.seat (arc_value place.desk) }
     requires new { IsNew (M.FileAccept.given doors.files) (M.FileAccept.faults doors.files) (M.FileAccept.ended doors.files) }
     requires passes { PassesOn read.now.settings.proxy doors.calls.proxy }
-    ensures asked { M.asked make.new ≡ M.asked make.old }
+    ensures asked { AsksMount read.now.settings (M.asked make.old) (M.asked make.new) }
     ensures back { CameBack M.FileAccept.ended M.FileAccept.given (M.back make.old) (M.back make.new) result }
     ensures cause { RaisesFor (M.counts make.old) (M.counts make.new) result }
     ensures kind { IsOpened result }
@@ -185,7 +180,7 @@ fn serve_made<R: Handles + Copy + Send + 'static, M: Maker>(
     requires unused { IsUnused place.seat (arc_value place.desk) }
     requires new { IsNew (M.FileAccept.given doors.files) (M.FileAccept.faults doors.files) (M.FileAccept.ended doors.files) }
     requires passes { PassesOn read.now.settings.proxy doors.calls.proxy }
-    ensures asked { M.asked make.new ≡ M.asked make.old }
+    ensures asked { AsksMount read.now.settings (M.asked make.old) (M.asked make.new) }
     ensures back { CameBack M.FileAccept.ended M.FileAccept.given (M.back make.old) (M.back make.new) result }
     ensures cause { RaisesFor (M.counts make.old) (M.counts make.new) result }
     ensures kind { IsServing result }
@@ -202,7 +197,10 @@ fn serve_made<R: Handles + Copy + Send + 'static, M: Maker>(
     let settings = &read.settings;
     let dialer = make.dialer(following_patience(&settings.lease));
     let asking = dialer_of_service(settings, make);
-    let Ok(tasks) = tasks_of(alloc, settings, &dialer, asking, make) else {
+    let Ok(mount) = mount_of(alloc, settings, make) else {
+        return Err(MountFault::NoMemory);
+    };
+    let Ok(tasks) = tasks_of(alloc, settings, &dialer, asking, mount, make) else {
         return Err(MountFault::NoMemory);
     };
     let mut spawner = make.spawner();
@@ -211,36 +209,6 @@ fn serve_made<R: Handles + Copy + Send + 'static, M: Maker>(
     make.back_dial(dialer);
     make.back_spawn(spawner);
     served
-}
-
-/// What a node does beside serving links, what watches it, and as whom its sessions ask for write permits.
-fn tasks_of<M: Maker>(
-    alloc: Global,
-    settings: &Settings,
-    dialer: &M::Dial,
-    asking: Option<M::Dial>,
-    make: &mut M,
-) -> Result<Tasks<M::Dial, M::Tell>, NoMemory>
-    ensures duties { IfOk result (λ tasks. AreDuties settings.now (M.number make.old) asking tasks.duties) }
-    ensures writer { IfOk result (λ tasks. (tasks.writer.name ≡ settings.now.database) × (tasks.writer.node ≡ M.number make.old)) }
-    ensures kept { (M.asked make.new ≡ M.asked make.old) × (M.number make.new ≡ M.number make.old) }
-    ensures same { (M.counts make.new ≡ M.counts make.old) × (M.back make.new ≡ M.back make.old) }
-{
-    let lines = Lines::new(make.tell(), settings.log);
-    let ending = make.ending()?;
-    let notes = Notes::new(alloc)?;
-    let duties = duties_of(alloc, settings, make.node_id(), dialer, asking, &notes)?;
-    let watching = watching_of(alloc, settings, lines, notes, ending)?;
-    let writer = Writer {
-        name: settings.database.copy()?,
-        node: make.node_id(),
-        dialer: to_primary(&duties, dialer),
-    };
-    Ok(Tasks {
-        duties,
-        watching,
-        writer,
-    })
 }
 
 /// How a node ends that served so. Of a store that broke the maker is told, and a line says which call of
@@ -276,17 +244,5 @@ fn failed_call<M: Maker>(served: &Result<End, MountFault>, make: &mut M) -> Opti
     match served {
         Ok(End::Broken) => make.broke(),
         _ => None,
-    }
-}
-
-/// What dials the lease service, where there is one.
-fn dialer_of_service<M: Maker>(settings: &Settings, make: &mut M) -> Option<M::Dial>
-    ensures kept { (M.asked make.new ≡ M.asked make.old) × (M.number make.new ≡ M.number make.old) }
-    ensures same { (M.counts make.new ≡ M.counts make.old) × (M.back make.new ≡ M.back make.old) }
-    ensures service { HasDialer settings.now.lease.lease_type result }
-{
-    match settings.lease.lease_type {
-        LeaseType::Static => None,
-        LeaseType::Service => Some(make.dialer(lease_patience(settings.lease.ttl))),
     }
 }

@@ -39,10 +39,14 @@ pub enum NoteKind {
     Comes,
     /// It is gone.
     Gone,
+    /// The program is started that mounts the node's files.
+    Mounts,
+    /// It ended, or can't be started.
+    Unmounts,
 }
 
 /// Every kind, in the order in which what came again is told.
-pub const KINDS: [NoteKind; 7] = [
+pub const KINDS: [NoteKind; 9] = [
     NoteKind::Ends,
     NoteKind::Begins,
     NoteKind::Snapshot,
@@ -50,6 +54,8 @@ pub const KINDS: [NoteKind; 7] = [
     NoteKind::Waits,
     NoteKind::Gone,
     NoteKind::Comes,
+    NoteKind::Unmounts,
+    NoteKind::Mounts,
 ];
 
 /// Notes that wait, in the order in which they came. Its copies share them.
@@ -178,6 +184,8 @@ pub struct Repeated {
     waits: Repeats,
     comes: Repeats,
     gone: Repeats,
+    mounts: Repeats,
+    unmounts: Repeats,
 }
 
 impl Repeated {
@@ -190,6 +198,8 @@ impl Repeated {
             waits: Repeats::new(alloc),
             comes: Repeats::new(alloc),
             gone: Repeats::new(alloc),
+            mounts: Repeats::new(alloc),
+            unmounts: Repeats::new(alloc),
         }
     }
 
@@ -203,6 +213,8 @@ impl Repeated {
             NoteKind::Waits => &mut self.waits,
             NoteKind::Comes => &mut self.comes,
             NoteKind::Gone => &mut self.gone,
+            NoteKind::Mounts => &mut self.mounts,
+            NoteKind::Unmounts => &mut self.unmounts,
         }
     }
 }

@@ -27,10 +27,15 @@ pub enum Obstacle {
 impl Obstacle {
     /// What the system said, where it gave a number.
     pub fn of(error: &io::Error) -> Option<Obstacle> {
-        match u32::try_from(error.raw_os_error()?) {
-            Ok(number) => Some(Obstacle::Error(Errno(number))),
-            Err(_) => None,
-        }
+        Some(Obstacle::Error(errno_of(error)?))
+    }
+}
+
+/// The number that the system gave, where it gave one.
+pub fn errno_of(error: &io::Error) -> Option<Errno> {
+    match u32::try_from(error.raw_os_error()?) {
+        Ok(number) => Some(Errno(number)),
+        Err(_) => None,
     }
 }
 

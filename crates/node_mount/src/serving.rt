@@ -4,6 +4,7 @@ ghost use Rattle.std.specs.Prelude.{◌≡◌, true, IfOk, OnOk};
 ghost use Rattle.node_mount.specs.Doors.{PassesOn};
 ghost use Rattle.node_mount.specs.Duties.{AreDutiesBy};
 ghost use Rattle.node_mount.specs.Ending.{BreaksWhere};
+ghost use Rattle.node_mount.specs.Mounters.{Mounts};
 ghost use Rattle.node_mount.specs.Places.{HasSeenNone, IsUnused};
 ghost use Rattle.node_mount.specs.Serving.{CountsServing, CountsStarts, GivesLimit};
 ghost use Rattle.turn_desk.specs.Seats.{opened_on};
@@ -18,6 +19,7 @@ use crate::http_links::{Calling, Door, start_http};
 use crate::lease_rounds::start_rounds;
 use crate::means::Means;
 use crate::mount_fault::MountFault;
+use crate::mounter::Mounter;
 use crate::place::Place;
 use crate::proxy_links::start_proxy;
 use crate::tasks::Tasks;
@@ -38,6 +40,7 @@ pub fn serve_links<
     L: Link + Send + Drop + 'static,
     T: Dialer<L = L> + Send + Drop + 'static,
     E: Tell + Send + Drop + 'static,
+    N: Mounter + Send + Drop + 'static,
     S: Spawner,
     C: Clock + Copy + Send + 'static,
     P: Pause + Copy + Send + 'static,
@@ -47,12 +50,13 @@ pub fn serve_links<
     files: &mut A,
     calls: Calls<B, T>,
     read: &Configuration,
-    tasks: Tasks<T, E>,
+    tasks: Tasks<T, E, N>,
     spawner: &mut S,
 ) -> Result<End, MountFault>
     requires unused { IsUnused place.seat (arc_value place.desk) }
     requires duties { AreDutiesBy read.now.settings tasks.duties }
     requires passes { PassesOn read.now.settings.proxy calls.proxy }
+    requires mounts { Mounts read.now.settings.mount tasks.watching.mount }
     requires new { A.given files.old ≡ 0 }
     ensures ended { OnOk result (A.ended files.new ≡ true) }
     ensures limit { GivesLimit (A.given files.new) result }
@@ -88,6 +92,7 @@ fn serve_all<
     L: Link + Send + Drop + 'static,
     T: Dialer<L = L> + Send + Drop + 'static,
     E: Tell + Send + Drop + 'static,
+    N: Mounter + Send + Drop + 'static,
     S: Spawner,
     C: Clock + Copy + Send + 'static,
     P: Pause + Copy + Send + 'static,
@@ -97,13 +102,14 @@ fn serve_all<
     files: &mut A,
     calls: Calls<B, T>,
     read: &Configuration,
-    tasks: Tasks<T, E>,
+    tasks: Tasks<T, E, N>,
     closing: &Closing,
     spawner: &mut S,
 ) -> Result<(), MountFault>
     requires unused { HasSeenNone place.old.seat }
     requires duties { AreDutiesBy read.now.settings tasks.duties }
     requires passes { PassesOn read.now.settings.proxy calls.proxy }
+    requires mounts { Mounts read.now.settings.mount tasks.watching.mount }
     requires new { A.given files.old ≡ 0 }
     ensures ended { OnOk result (A.ended files.new ≡ true) }
     ensures limit { GivesLimit (A.given files.new) result }
@@ -143,6 +149,7 @@ fn start_tasks<
     L: Link + Send + Drop + 'static,
     T: Dialer<L = L> + Send + Drop + 'static,
     E: Tell + Send + Drop + 'static,
+    N: Mounter + Send + Drop + 'static,
     S: Spawner,
     C: Clock + Copy + Send + 'static,
     P: Pause + Copy + Send + 'static,
@@ -150,7 +157,7 @@ fn start_tasks<
     means: Means<R, C, P>,
     place: &mut Place<K>,
     duties: Option<Duties<T>>,
-    watching: Watching<E>,
+    watching: Watching<E, N>,
     closing: &Closing,
     spawner: &mut S,
 ) -> Result<(), MountFault>

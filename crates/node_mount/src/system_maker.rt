@@ -10,18 +10,21 @@ use crate::keeping::Keeping;
 use crate::listening::{listen_at, listen_on};
 use crate::maker::Maker;
 use crate::mem_spawn::MemSpawn;
+use crate::mount_call::MountCall;
 use crate::noting_disk::NotingDisk;
 use crate::obstacle::Obstacle;
 use crate::returned::Returned;
 use crate::system::System;
 use crate::system_dial::SystemDial;
 use crate::system_line::SystemLine;
+use crate::system_mounter::SystemMounter;
 use crate::tell::{ErrorLines, ErrorPlace};
 use lf_base::{
     Closing, Failed, Name, NoMemory, SleepPause, SystemClock, TcpAccept, Text, ThreadSpawner,
     UnixAccept,
 };
 use lf_disk::DirDisk;
+use node_settings::MountSettings;
 use std::fs::File;
 
 /// An object that a maker of the system's took back.
@@ -160,6 +163,8 @@ impl<R: System + Send + 'static> Maker for SystemMaker<R> {
 
     type Tell = ErrorLines<R>;
 
+    type Mounter = SystemMounter<R>;
+
     ghost counts = { λ m. m.counts };
 
     /// What it was asked for is not told.
@@ -225,6 +230,15 @@ impl<R: System + Send + 'static> Maker for SystemMaker<R> {
 
     fn pause(&mut self) -> SleepPause<R> {
         SleepPause::new(self.rt, NAP_MS)
+    }
+
+    fn mounter(
+        &mut self,
+        database: &Name,
+        socket: &Text,
+        mount: &MountSettings,
+    ) -> SystemMounter<R> {
+        SystemMounter::new(self.rt, MountCall::of(database, socket, mount))
     }
 
     fn tell(&mut self) -> ErrorLines<R> {

@@ -1,6 +1,8 @@
-//! A node is watched: what it is is told, and what its jobs note; and where its store broke no more links come.
+//! A node is watched: what it is is told, and what its jobs note; the program is kept running that mounts its files; and where its
+//! store broke no more links come.
 ghost use Rattle.std.specs.Prelude.{◌≡◌, ◌++◌, max, IfOk};
 ghost use Rattle.node_mount.specs.RoleLines.{start_behind, start_front};
+ghost use Rattle.node_mount.specs.Mounters.{Mounts};
 ghost use Rattle.node_mount.specs.Places.{HasSeenNone};
 ghost use Rattle.node_mount.specs.Serving.{CountsStarts};
 
@@ -9,6 +11,8 @@ use crate::lease_rounds::nap;
 use crate::line::Line;
 use crate::means::Means;
 use crate::mount_fault::MountFault;
+use crate::mount_keeper::MountKeeper;
+use crate::mounter::Mounter;
 use crate::notes::{KINDS, MOST, Note, Notes, Repeated};
 use crate::place::Place;
 use crate::role_told::RoleTold;
@@ -27,13 +31,15 @@ const NAPS: u64 = 4;
 
 /// What watches a node.
 #[derive(Drop)]
-pub struct Watching<E> {
+pub struct Watching<E, N> {
     pub lines: Lines<E>,
     /// What stands in front of the role and behind it in the line of its start.
     pub front: Line,
     pub behind: Line,
     /// What the jobs note.
     pub notes: Notes,
+    /// What keeps the program running that mounts the node's files, where one does.
+    pub mount: Option<MountKeeper<N>>,
     /// How many milliseconds may lie between two looks: those of a lease, and a second at least.
     pub lease: u64,
     /// Once it is closed no more links come.
@@ -41,16 +47,19 @@ pub struct Watching<E> {
 }
 
 /// What watches a node of these settings.
-pub fn watching_of<E: Drop>(
+pub fn watching_of<E: Drop, N: Drop>(
     alloc: Global,
     settings: &Settings,
     lines: Lines<E>,
     notes: Notes,
+    mount: Option<MountKeeper<N>>,
     ending: Closing,
-) -> Result<Watching<E>, NoMemory>
+) -> Result<Watching<E, N>, NoMemory>
+    requires mounts { Mounts settings.now.mount mount }
     ensures front { IfOk result (λ watching. watching.front ≡ start_front settings.now) }
     ensures behind { IfOk result (λ watching. watching.behind ≡ start_behind settings.now) }
     ensures lease { IfOk result (λ watching. watching.lease ≡ max settings.now.lease.ttl 1000) }
+    ensures mounts { IfOk result (λ watching. Mounts settings.now.mount watching.mount) }
 {
     let front = front_of(alloc, settings)?;
     let behind = behind_of(alloc, settings)?;
@@ -59,6 +68,7 @@ pub fn watching_of<E: Drop>(
         front,
         behind,
         notes,
+        mount,
         lease: settings.lease.ttl.max(1000),
         ending,
     })
@@ -90,13 +100,14 @@ pub fn start_watching<
     R: Handles + Copy + Send + 'static,
     K: Machine<Ask = Ask, Answer = Answer> + Send + Drop + 'static,
     E: Tell + Send + Drop + 'static,
+    N: Mounter + Send + Drop + 'static,
     S: Spawner,
     C: Clock + Copy + Send + 'static,
     P: Pause + Copy + Send + 'static,
 >(
     means: Means<R, C, P>,
     place: &mut Place<K>,
-    watching: Watching<E>,
+    watching: Watching<E, N>,
     closing: &Closing,
     spawner: &mut S,
 ) -> Result<(), MountFault>
@@ -115,14 +126,14 @@ pub fn start_watching<
 
 /// The work of the job.
 #[derive(Drop)]
-struct Watcher<E> {
-    watching: Watching<E>,
+struct Watcher<E, N> {
+    watching: Watching<E, N>,
     closing: Closing,
 }
 
-impl<E: Tell + Drop> Work for Watcher<E> {
-    /// Looks at the node one time after another, until one of the words is closed, or its store broke: then it closes the
-    /// word by which no more links come.
+impl<E: Tell + Drop, N: Mounter + Drop> Work for Watcher<E, N> {
+    /// Looks at the node one time after another, and at the program that mounts its files, until one of the words is closed, or
+    /// its store broke: then it closes the word by which no more links come.
     fn go<
         R: Handles + Copy,
         K: Machine<Ask = Ask, Answer = Answer> + Drop,
@@ -140,6 +151,7 @@ impl<E: Tell + Drop> Work for Watcher<E> {
             if look(&mut means, &mut place, &mut watching, &mut told, looks == 0) {
                 watching.ending.close_doors(&means.rt);
             }
+            keep_mounted(&mut means, &mut watching);
             tell_notes(&mut means, &mut watching, &mut repeated);
             if watching.ending.is_closed() || closing.is_closed() {
                 break;
@@ -151,10 +163,10 @@ impl<E: Tell + Drop> Work for Watcher<E> {
 }
 
 /// Looks at the node, and tells its start, or a change of its role. Answers whether its store broke.
-fn look<R: Handles + Copy, K: Machine<Ask = Ask, Answer = Answer>, E: Tell, C: Clock, P: Pause>(
+fn look<R: Handles + Copy, K: Machine<Ask = Ask, Answer = Answer>, E: Tell, N, C: Clock, P: Pause>(
     means: &mut Means<R, C, P>,
     place: &mut Place<K>,
-    watching: &mut Watching<E>,
+    watching: &mut Watching<E, N>,
     told: &mut RoleTold,
     first: bool,
 ) -> bool {
@@ -172,10 +184,25 @@ fn look<R: Handles + Copy, K: Machine<Ask = Ask, Answer = Answer>, E: Tell, C: C
     info.broken
 }
 
-/// Tells what the jobs noted.
-fn tell_notes<R: Handles, E: Tell, C: Clock, P>(
+/// Keeps the program running that mounts the node's files, where one does, and notes what came of that.
+fn keep_mounted<R: Handles, E, N: Mounter, C: Clock, P>(
     means: &mut Means<R, C, P>,
-    watching: &mut Watching<E>,
+    watching: &mut Watching<E, N>,
+) {
+    let Some(keeper) = &mut watching.mount else {
+        return;
+    };
+    let now = means.clock.now_ms();
+    if let Some(news) = keeper.keep(now) {
+        let note = keeper.note(means.alloc, news);
+        watching.notes.put(&means.rt, note);
+    }
+}
+
+/// Tells what the jobs noted.
+fn tell_notes<R: Handles, E: Tell, N, C: Clock, P>(
+    means: &mut Means<R, C, P>,
+    watching: &mut Watching<E, N>,
     repeated: &mut Repeated,
 ) {
     for _ in 0..MOST {
@@ -194,9 +221,9 @@ fn tell_notes<R: Handles, E: Tell, C: Clock, P>(
 }
 
 /// Tells that the node stood still, where so much time has passed since the last look. Answers the moment of this one.
-fn tell_stillness<R: Handles, E: Tell, C: Clock, P>(
+fn tell_stillness<R: Handles, E: Tell, N, C: Clock, P>(
     means: &mut Means<R, C, P>,
-    watching: &mut Watching<E>,
+    watching: &mut Watching<E, N>,
     last: u64,
 ) -> u64 {
     let now = means.clock.now_ms();
@@ -216,7 +243,7 @@ fn say_some<R: Handles, E: Tell>(
 }
 
 /// The line of a start, in which this one of a role stands.
-fn start_line<E>(alloc: Global, watching: &Watching<E>, role: &Line) -> Result<Line, NoMemory>
+fn start_line<E, N>(alloc: Global, watching: &Watching<E, N>, role: &Line) -> Result<Line, NoMemory>
     ensures { IfOk result (λ line. line ≡ watching.now.front ++ role.now ++ watching.now.behind) }
 {
     let mut line = Line::new(alloc);

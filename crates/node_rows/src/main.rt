@@ -32,13 +32,14 @@ use node_mount::System;
 use scene::Scene;
 use std::fs::{self, File};
 use std::net::{TcpListener, TcpStream};
+use std::process::Child;
 use way::{WAYS, Way};
 
 /// Scenes, and short ones of which each was changed in one respect.
 const RECORDS: [&str; 2] = ["sessions.jsonl", "changed.jsonl"];
 
 fn main(rt: HostRuntime) -> Result<(), Fault> {
-    let _named: Option<(TcpListener, TcpStream, File)> = None;
+    let _named: Option<(TcpListener, TcpStream, File, Child)> = None;
     for record in RECORDS {
         play_record(rt, record)?;
     }

@@ -6,7 +6,10 @@ use lf_base::{
     Text, UnixAccept,
 };
 use lf_disk::MemDisk;
-use node_mount::{Counts, FailedCall, KeptLines, Maker, MemMaker, MemSpawn, Obstacle, System};
+use node_mount::{
+    Counts, FailedCall, KeptLines, Maker, MemMaker, MemMounter, MemSpawn, Obstacle, System,
+};
+use node_settings::MountSettings;
 use std::fs;
 use std::os::unix::net::UnixListener;
 
@@ -53,6 +56,8 @@ impl<R: System + Send + 'static> Maker for SocketMaker<R> {
 
     type Tell = KeptLines;
 
+    type Mounter = MemMounter;
+
     ghost counts = { λ m. m.counts };
 
     ghost asked = { λ _. None };
@@ -93,6 +98,10 @@ impl<R: System + Send + 'static> Maker for SocketMaker<R> {
             self.counts.fail_network();
         }
         made
+    }
+
+    fn mounter(&mut self, database: &Name, socket: &Text, mount: &MountSettings) -> MemMounter {
+        self.memory.mounter(database, socket, mount)
     }
 
     fn dialer(&mut self, patience: u64) -> MemDialer {

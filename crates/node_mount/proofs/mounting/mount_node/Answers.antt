@@ -1,6 +1,4 @@
-use Rattle.std.proofs.Common.{sym, subst}
-use Rattle.node_mount.specs.Asking.{AreAskedFor, gave_links}
-use Rattle.node_mount.proofs.AskLemmas.{served_asked}
+use Rattle.node_mount.proofs.AskLemmas.{links_and_mount, served_asked}
 use Rattle.node_mount.proofs.DoorLemmas.{unheard_asked, unheard_back}
 use Rattle.node_mount.proofs.mounting.mount_node.Goals as goal
 
@@ -9,7 +7,7 @@ returns-in-Ok-make_doors-clause-asked g c =
     let s = c.args.read.now.settings in
     let asked = g.M.Maker.asked in
     served_asked s (asked c.args.make.now) (asked c.serve_place.new.make) c.serve_place.result
-    (subst (λ told. AreAskedFor (gave_links s) (asked c.args.make.now) told) (sym c.serve_place.ensures.asked) c.in-Ok-make_doors.ensures.asked) c.serve_place.ensures.kind
+    (links_and_mount s (asked c.args.make.now) (asked c.make_doors.new.make) (asked c.serve_place.new.make) c.in-Ok-make_doors.ensures.asked c.serve_place.ensures.asked) c.serve_place.ensures.kind
 
 pub returns-in-Err-Network-clause-asked : goal.returns-in-Err-Network-clause-asked
 returns-in-Err-Network-clause-asked g c =
