@@ -33,6 +33,8 @@ mod mounted;
 #[cfg(test)]
 mod permits;
 #[cfg(test)]
+mod programs;
+#[cfg(test)]
 mod proxied;
 #[cfg(test)]
 mod same;

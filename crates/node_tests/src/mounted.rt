@@ -26,7 +26,7 @@ const NOT_FOUND: &[u8] =
     b"HTTP/1.1 404 Not Found\r\nContent-Length: 0\r\nConnection: close\r\n\r\n";
 
 /// What the primary tells.
-const STARTED: &[u8] = b"litefs: start 0.1.0: database app, role primary at \
+pub(crate) const STARTED: &[u8] = b"litefs: start 0.1.0: database app, role primary at \
     0000000000000000/0000000000000000, files on litefs.sock, http on :20202\n";
 
 /// How often a peer looks whether it is dialed, and how many milliseconds lie between.

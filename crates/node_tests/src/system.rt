@@ -4,7 +4,7 @@ use node_mount::{Maker, System, SystemMaker};
 use std::fs;
 use std::net::{TcpListener, TcpStream};
 use std::os::unix::net::UnixListener;
-use std::process::Abort;
+use std::process::{Abort, ChildStderr, ChildStdin, ChildStdout, SystemProcess};
 
 fn maker<R: System + Abort>(rt: R) -> SystemMaker<R> {
     let closing = Closing::new(rt.alloc()).expect(&rt, "memory");
@@ -15,6 +15,7 @@ fn maker<R: System + Abort>(rt: R) -> SystemMaker<R> {
 #[test]
 fn a_data_directory_has_one_maker(rt: HostRuntime) {
     let _named: Option<(TcpListener, TcpStream)> = None;
+    let _started: Option<(SystemProcess, ChildStdin, ChildStdout, ChildStderr)> = None;
     let mut one = maker(rt);
     let mut other = maker(rt);
     let name = Name::read(rt.alloc(), b"app").expect(&rt, "a name");
@@ -29,6 +30,7 @@ fn a_data_directory_has_one_maker(rt: HostRuntime) {
 #[test]
 fn a_socket_has_one_maker(rt: HostRuntime) {
     let _named: Option<(TcpListener, TcpStream)> = None;
+    let _started: Option<(SystemProcess, ChildStdin, ChildStdout, ChildStderr)> = None;
     let mut maker = maker(rt);
     let path = Text::of(rt.alloc(), "node_mount_test_socket").expect(&rt, "memory");
     fs::write(&rt, path.as_str(), "text").expect(&rt, "a file");
@@ -48,6 +50,7 @@ fn a_socket_has_one_maker(rt: HostRuntime) {
 #[test]
 fn http_listens_once_on_a_port(rt: HostRuntime) {
     let _named: Option<(TcpListener, TcpStream)> = None;
+    let _started: Option<(SystemProcess, ChildStdin, ChildStdout, ChildStderr)> = None;
     let mut maker = maker(rt);
     let any = Text::of(rt.alloc(), ":0").expect(&rt, "memory");
     same(rt, maker.http(&any, 0).is_ok(), true);
@@ -62,6 +65,7 @@ fn http_listens_once_on_a_port(rt: HostRuntime) {
 #[test]
 fn numbers_are_drawn(rt: HostRuntime) {
     let _named: Option<(TcpListener, TcpStream)> = None;
+    let _started: Option<(SystemProcess, ChildStdin, ChildStdout, ChildStderr)> = None;
     let (one, other) = (maker(rt).node_id(), maker(rt).node_id());
     same(rt, one == 0, false);
     same(rt, one == other, false);
@@ -70,6 +74,7 @@ fn numbers_are_drawn(rt: HostRuntime) {
 /// An address without a host is one of every address of the machine: of 127.0.0.2 too.
 #[test]
 fn http_listens_on_every_address(rt: HostRuntime) {
+    let _started: Option<(SystemProcess, ChildStdin, ChildStdout, ChildStderr)> = None;
     let free = TcpListener::bind(&rt, "127.0.0.1:0").expect(&rt, "a listener");
     let port = free.local_addr().expect(&rt, "its address").port();
     drop(free);
