@@ -9,6 +9,7 @@ mod lifetime;
 mod machine;
 mod memory;
 mod mounting;
+mod mounts;
 mod notifier;
 mod options;
 mod wire;

@@ -1,21 +1,27 @@
 //! The folder becomes a mount, and is none again.
 
 use crate::foreign::{keep_on_exec, mount_fuse, never_wait, receive_file, unmount, user};
+use crate::mounts::is_of_another;
 use crate::options::Options;
-use std::fs::{canonicalize, metadata, File, OpenOptions};
+use std::fs::{canonicalize, create_dir_all, metadata, File, OpenOptions};
 use std::io::{Error, Result};
 use std::os::fd::AsRawFd;
 use std::os::unix::net::UnixStream;
-use std::path::Path;
+use std::path::{Path, PathBuf};
 use std::process::{Child, Command, Stdio};
 use std::thread::sleep;
 use std::time::{Duration, Instant};
+
+const DEVICE: &str = "/dev/fuse";
 
 /// Transport endpoint is not connected: the program behind a mount is gone.
 const ENOTCONN: i32 = 107;
 
 /// How long an unmount of a folder in use is tried before it is done lazily.
 const PATIENCE: Duration = Duration::from_secs(2);
+
+/// How long a folder that another run of this program has mounted is waited for: that one may be about to unmount it.
+const OTHERS_PATIENCE: Duration = Duration::from_secs(5);
 
 /// The argument by which this program watches over another run of itself.
 pub const WATCH: &str = "--unmount-when-stdin-ends";
@@ -35,16 +41,42 @@ enum Watcher {
 
 /// Mounts the folder, after a dead mount on it was cleared.
 pub fn mount(options: &Options) -> Result<Mounted> {
-    clear_dead(&options.folder)?;
-    let folder = canonicalize(&options.folder)?;
+    let folder = folder_of(options).map_err(|error| of_path(&options.folder, error))?;
     outside(&options.socket, &folder)?;
     let folder = folder.to_string_lossy().into_owned();
+    wait_for_another(&folder)?;
     let mounted = match user() {
         (_, _, true) => by_system(folder, options)?,
         _ => by_helper(folder, options)?,
     };
     never_wait(&mounted.device)?;
     Ok(mounted)
+}
+
+/// The folder's path without links.
+fn folder_of(options: &Options) -> Result<PathBuf> {
+    clear_dead(&options.folder)?;
+    if options.make_folder {
+        create_dir_all(&options.folder)?;
+    }
+    canonicalize(&options.folder)
+}
+
+fn of_path(path: &str, error: Error) -> Error {
+    Error::new(error.kind(), format!("{path}: {error}"))
+}
+
+/// Waits until no other run of this program has mounted the folder, but not for ever.
+fn wait_for_another(folder: &str) -> Result<()> {
+    let begin = Instant::now();
+    while is_of_another(folder) {
+        if begin.elapsed() >= OTHERS_PATIENCE {
+            return Err(Error::other(format!("{folder}: another litefs-fuse has mounted it")));
+        }
+        sleep(Duration::from_millis(20));
+        clear_dead(folder)?;
+    }
+    Ok(())
 }
 
 /// A socket in the folder would be looked for in the mount, by the program that answers for it.
@@ -80,7 +112,7 @@ pub fn clear_dead(folder: &str) -> Result<()> {
 }
 
 fn by_system(folder: String, options: &Options) -> Result<Mounted> {
-    let device = OpenOptions::new().read(true).write(true).open("/dev/fuse")?;
+    let device = OpenOptions::new().read(true).write(true).open(DEVICE).map_err(|error| of_path(DEVICE, error))?;
     let (uid, gid, _) = user();
     let descriptor = device.as_raw_fd();
     let others = for_others(options);

@@ -18,6 +18,7 @@ pub struct Options {
     pub auto_unmount: bool,
     pub drop: bool,
     pub cache: bool,
+    pub make_folder: bool,
     pub uid: Option<u32>,
     pub gid: Option<u32>,
     pub name: Option<String>,
@@ -32,6 +33,7 @@ pub const USAGE: &str = "litefs-fuse SOCKET FOLDER [-o OPTION[,OPTION..]] [--unt
   auto_unmount   the folder is unmounted however this program ends
   drop           removing the database's name drops the database
   cache          the kernel caches the pages of the database and the log
+  mkdir          the folder is made where it is missing
   name=NAME      the database's name, for listings before its first use
   notify         the shared memory by notifications also where passthrough can be had";
 
@@ -62,6 +64,7 @@ impl Options {
             auto_unmount: false,
             drop: false,
             cache: false,
+            make_folder: false,
             uid: None,
             gid: None,
             name: None,
@@ -94,6 +97,7 @@ impl Options {
             "auto_unmount" => &mut self.auto_unmount,
             "drop" => &mut self.drop,
             "cache" => &mut self.cache,
+            "mkdir" => &mut self.make_folder,
             "notify" => {
                 self.sharing = Sharing::Notify;
                 return Ok(());
@@ -119,10 +123,10 @@ mod tests {
 
     #[test]
     fn options_stand_behind_the_socket_and_the_folder() {
-        let options = read("app.sock /mnt -o ro,uid=7,gid=8,drop --until-stdin-ends -o name=app").unwrap();
+        let options = read("app.sock /mnt -o ro,uid=7,gid=8,drop --until-stdin-ends -o mkdir,name=app").unwrap();
         assert_eq!((options.socket.as_str(), options.folder.as_str()), ("app.sock", "/mnt"));
-        assert!(options.read_only_at_replica && options.drop && options.until_stdin_ends);
-        assert!(!options.allow_other && !options.auto_unmount);
+        assert!(options.read_only_at_replica && options.drop && options.make_folder && options.until_stdin_ends);
+        assert!(!options.allow_other && !options.auto_unmount && !options.cache);
         assert_eq!((options.uid, options.gid), (Some(7), Some(8)));
         assert_eq!(options.name.as_deref(), Some("app"));
     }
