@@ -51,7 +51,9 @@ WRONG = {
                                'litefs.toml: proxy.target: wanted an address with a host, host:port, since proxy.addr is there; the key is missing'),
     'proxy_of_nobody': ('proxy.addr = ":8080"\nproxy.target = ":80"\n' + RIGHT,
                         'litefs.toml:2: proxy.target: wanted an address with a host, host:port'),
-    'key_of_a_mount': ('fuse.dir = "m"\n' + RIGHT, 'litefs.toml:1: fuse.dir: wanted no key of this name'),
+    'program_without_a_folder': ('fuse.program = "p"\n' + RIGHT,
+                                 'litefs.toml: fuse.dir: wanted a path, since fuse.program is there; the key is missing'),
+    'folder_without_a_name': ('fuse.dir = ""\n' + RIGHT, 'litefs.toml:1: fuse.dir: wanted a path that is not empty'),
     'permit_of_no_time': (RIGHT + 'halt-ttl = 0\n', 'litefs.toml:5: lease.halt-ttl: wanted a number of milliseconds from 1 to 86400000'),
     'key_with_a_newline': (RIGHT + '"a\\nb" = true\n', 'litefs.toml:5: lease.?: wanted no key of this name'),
     'key_twice': (RIGHT + 'hostname = "h"\n', 'litefs.toml:5: wanted TOML in UTF-8'),
@@ -64,7 +66,7 @@ ACCEPTED = {
     'of_65536_bytes': (ADDRESS + RIGHT + '#' * (65536 - len(ADDRESS + RIGHT)), 'litefs.sock'),
     'inline_tables': ('database = "app"\nhttp = { addr = "127.0.0.1:0" }\nfuse = { listen = "here" }\n'
                       'lease = { candidate = true, advertise-url = "http://h:1", hostname = "h" }\n', 'here'),
-    'every_key': ('database = "app"\n[fuse]\nlisten = "s"\n[http]\naddr = "[::1]:0"\n[data]\ncompress = false\nretention-files = 0x10\n'
+    'every_key': ('database = "app"\n[fuse]\nlisten = "s"\ndir = "m"\nprogram = "./p"\n[http]\naddr = "[::1]:0"\n[data]\ncompress = false\nretention-files = 0x10\n'
                   '[proxy]\naddr = "127.0.0.1:0"\ntarget = "localhost:1"\n[lease]\ntype = "static"\ncandidate = true\nadvertise-url = "http://[::1]:1"\nhostname = "h"\n'
                   'service-url = "http://h:2"\nttl = 1_000\nhalt-ttl = 2_000\n', 's'),
 }

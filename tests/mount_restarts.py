@@ -1,17 +1,18 @@
 #!/usr/bin/python3
 """What of a mount ends and comes back: the node is killed and started under it, the program is killed, the folder is
-unmounted in use, the program's standard input ends.
+unmounted in use, the program's standard input ends, another run of it has the folder.
 
 At most: 1200 seconds.
 Seen to fail: with locks of a lost link refused (`node`: an open connection in WAL mode says `database is locked`); without the
 clearing of a dead mount (`program`)"""
+import contextlib
 import os
 import signal
 import sqlite3
 import subprocess
 
 from support import Node, holds, insert, refuses, run, same, seen_by, until
-from support.mount import Mount, ended, in_each_way, need_mount
+from support.mount import UNTIL_WE_END, Mount, ended, fuse_program, in_each_way, need_mount
 
 MODES = ('delete', 'wal')
 
@@ -128,6 +129,29 @@ def ends_in_order(way):
                 refuses(lambda: user.execute(*insert(1)), sqlite3.Error, 'a write without the program')
 
 
+def mounted_already(way):
+    """By a run that is about to unmount it, and by one that goes on."""
+    with Node() as node, Mount(node, way) as mount:
+        command = [fuse_program(), node.socket, mount.folder, '-o', 'mkdir', UNTIL_WE_END]
+        second = subprocess.run(command, stdin=subprocess.PIPE, capture_output=True, text=True)
+        said = f'litefs-fuse: {mount.folder}: another litefs-fuse has mounted it\n'
+        same((second.returncode, second.stderr), (1, said), 'a second run beside the first')
+        user = mount.in_mode('wal')
+        third = subprocess.Popen(command, stdin=subprocess.PIPE, stderr=subprocess.PIPE, text=True)
+        # in use it is unmounted two seconds later
+        mount.process.stdin.close()
+        holds('mounted' in third.stderr.readline(), 'it mounts once the first has ended')
+        refuses(lambda: user.execute(*insert(1)), sqlite3.Error, 'a write by the first mount')
+        with contextlib.suppress(sqlite3.Error):
+            user.close()
+        mount.process.wait(60)
+        again = mount.connect()
+        again.execute(*insert(2))
+        again.close()
+        third.communicate(timeout=60)
+        same((third.returncode, os.listdir(mount.folder)), (0, []), 'its end')
+
+
 def unmounted_after_a_kill(way):
     with Node() as node, Mount(node, way, ['auto_unmount']) as mount:
         mount.in_mode('wal').close()
@@ -137,4 +161,4 @@ def unmounted_after_a_kill(way):
 
 need_mount()
 run(in_each_way(node=node_restarts, node_under_load=node_killed_under_load, program=program_killed,
-                unmount=unmounted_in_use, end=ends_in_order, auto_unmount=unmounted_after_a_kill))
+                unmount=unmounted_in_use, end=ends_in_order, already=mounted_already, auto_unmount=unmounted_after_a_kill))
