@@ -21,7 +21,7 @@ from support.mount import UNTIL_WE_END, fuse_program, why_no_mount
 STAND_IN = '''#!/bin/sh
 echo "$(date +%s%N) $*" >> starts
 {first}
-cat > /dev/null
+while read -r line; do :; done
 echo ended >> ends
 '''
 FRONT = 'litefs: mount at m by {program}: '
@@ -36,7 +36,8 @@ def configured(node, program, following=None):
 
 @contextlib.contextmanager
 def standing_in(first=''):
-    """A node, and what stands in for the program: it says when it starts and with which words, and that its standard input ended."""
+    """A node, and what stands in for the program: it says when it starts and with which words, and that its standard input ended. It
+    starts no process once it has said the first, so that it is one."""
     with Node(starts=False) as node:
         stand_in(os.path.join(node.folder, 'stand-in'), first)
         configured(node, './stand-in')
@@ -86,7 +87,7 @@ def words():
         same([it.split(' ', 1)[1] for it in said_in(node, 'starts')], ['app.sock m -o mkdir,name=app --until-stdin-ends'], 'its words')
         until(lambda: told(node), 'a line')
         same(told(node), ['started'], 'what is told')
-        until(lambda: len(programs(node)) == 1, 'one program runs')
+        same(len(programs(node)), 1, 'programs')
 
 
 def ends_with_the_node():
