@@ -1,24 +1,30 @@
 -- The calls that publish a file.
-use Rattle.std.proofs.Common.{◌≡◌, inl, inr, ℕ, true, false, List, [], ◌∷◌, Some, Option, None, length, Result, refl, sym, ◌∙◌, ap, arith, option_map, unwrap_or}
+use Rattle.std.proofs.Common.{◌≡◌, inl, inr, ℕ, true, false, List, [], ◌∷◌, Some, Option, None, length, Result, ◌≤◌, ◌+◌, ◌++◌, take, drop, refl, sym, ◌∙◌, ap, subst, arith, option_map, unwrap_or}
 use Rattle.std.proofs.lemmas.Bool.{cases_Bool}
+use Rattle.std.proofs.lemmas.List.{drop_all, append-nil}
 use Rattle.lf_disk.specs.declared.name.FileName.{FileName}
 use Rattle.lf_disk.specs.declared.name.FileName.TheVariants.{Staged}
 use Rattle.lf_disk.specs.Folder.{Folder, bytes_of, Same, SameBut, same_name, renamed}
 use Rattle.lf_disk.specs.Names.{same_name-one}
 use Rattle.lf_disk.specs.Change.{Step, OnFile, Perhaps, Writes, SetsFile, Renames}
 use Rattle.lf_disk.specs.History.{History, now, may_leave, Ticks, Moves, EachMoment, IsSettledBut}
-use Rattle.lf_disk.specs.Publish.{IsEmptied, IsStaged, IsOldOrPublished, IsPublished, with_bytes}
-use Rattle.lf_base.proofs.FileLemmas.{overwritten-empty}
+use Rattle.lf_disk.specs.Publish.{IsTrimmed, IsStaged, IsOldOrPublished, IsPublished, with_bytes}
+use Rattle.lf_base.specs.FileBytes.{resized, overwritten}
+use Rattle.lf_base.proofs.FileLemmas.{resized-there}
 use Rattle.lf_disk.proofs.Moments.{started, goes_on}
 use Rattle.lf_disk.proofs.Folders.{LeavesBut, renamed-whole}
 
--- a file of no length has no bytes
-pub no_bytes : (file : Option (List ℕ)) (size : Option ℕ) → size ≡ option_map length file → unwrap_or size 0 ≡ 0 → bytes_of file ≡ []
-no_bytes None size is none = refl
-no_bytes (Some []) size is none = refl
-no_bytes (Some (b ∷ bs)) size is none =
-    let more : unwrap_or (option_map length (Some (b ∷ bs))) 0 ≡ 0 = ap (λ (o : Option ℕ). unwrap_or o 0) (sym is) ∙ none in
-    absurd (omega (arith, more))
+-- a file of at most so much length has at most so many bytes
+pub within : (file : Option (List ℕ)) (size : Option ℕ) (len : ℕ) → size ≡ option_map length file → unwrap_or size 0 ≤ len → length (bytes_of file) ≤ len
+within None size len is fits = omega arith
+within (Some bytes) size len is fits = subst (λ (o : Option ℕ). unwrap_or o 0 ≤ len) is fits
+
+-- a piece written over a file that is no longer is the file
+overwritten-short : (piece bytes : List ℕ) → length bytes ≤ length piece → overwritten 0 piece bytes ≡ piece
+overwritten-short piece bytes short =
+    let none_before : resized 0 bytes ≡ take 0 bytes = resized-there 0 bytes (omega arith) in
+    let none_behind : drop (0 + length piece) bytes ≡ [] = drop_all (0 + length piece) bytes (omega (arith, short)) in
+    ap (λ (l : List ℕ). l ++ piece ++ drop (0 + length piece) bytes) none_before ∙ ap (λ (l : List ℕ). piece ++ l) none_behind ∙ append-nil piece
 
 module _ (h : History) where
   -- a crash at each moment leaves every file but the staged one as before
@@ -36,12 +42,12 @@ module _ (h : History) where
   stages result mid new so_far ticks leaves = goes_on result h mid new (SameBut Staged (now h)) so_far ticks leaves
 
   -- the staged file is written and synced
-  pub staged : (mid wrote synced : History) (bytes : List ℕ) (sees : Step) → IsEmptied (now h) mid → OnFile Staged (Writes 0 bytes) (now mid) (now wrote)
+  pub staged : (mid wrote synced : History) (bytes : List ℕ) (sees : Step) → IsTrimmed (length bytes) (now h) mid → OnFile Staged (Writes 0 bytes) (now mid) (now wrote)
       → Same (now wrote) (now synced) → Moves sees (SetsFile Staged (now wrote Staged)) wrote synced → LeavesBut Staged (now h) synced → IsStaged (now h) bytes synced
-  staged mid wrote synced bytes sees empty written same moves others =
-      let made : now wrote Staged ≡ Some bytes = written.here ∙ ap (λ (b : List ℕ). Some b) (overwritten-empty bytes (bytes_of (now mid Staged)) empty.none) in
+  staged mid wrote synced bytes sees trimmed written same moves others =
+      let made : now wrote Staged ≡ Some bytes = written.here ∙ ap (λ (b : List ℕ). Some b) (overwritten-short bytes (bytes_of (now mid Staged)) trimmed.short) in
       record {
-        seen = λ n other. same n ∙ written.elsewhere n other ∙ empty.seen n other;
+        seen = λ n other. same n ∙ written.elsewhere n other ∙ trimmed.seen n other;
         here = same Staged ∙ made;
         others = others;
         whole = λ c may. (moves.left c may).2.here ∙ made;

@@ -1,14 +1,14 @@
 -- The files before and after one is published.
-use Rattle.std.specs.Prelude.{◌≡◌, ◌⊎◌, ℕ, List, [], Some, None}
+use Rattle.std.specs.Prelude.{◌≡◌, ◌⊎◌, ◌≤◌, ℕ, List, length, Some, None}
 use Rattle.lf_disk.specs.declared.name.FileName.{FileName}
 use Rattle.lf_disk.specs.declared.name.FileName.TheVariants.{Staged}
 use Rattle.lf_disk.specs.Folder.{Folder, bytes_of, with_file, SameBut}
 use Rattle.lf_disk.specs.History.{History, now, may_leave, IsSettledBut}
 
--- the staged file has no bytes, and the others are as before
-pub record IsEmptied (before : Folder) (h : History) : Type 0 where
+-- the staged file has at most so many bytes, and the others are as before
+pub record IsTrimmed (len : ℕ) (before : Folder) (h : History) : Type 0 where
   pub seen : SameBut Staged before (now h)
-  pub none : bytes_of (now h Staged) ≡ []
+  pub short : length (bytes_of (now h Staged)) ≤ len
 
 -- the staged file has these bytes, also in what a crash leaves, and the others are as before
 pub record IsStaged (before : Folder) (bytes : List ℕ) (h : History) : Type 0 where

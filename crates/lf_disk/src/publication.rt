@@ -3,32 +3,33 @@ ghost use Rattle.std.specs.Prelude.{◌≡◌, false, ℕ, List, IsTrue, IsSome,
 ghost use Rattle.lf_base.specs.Faults.{CountsFaults};
 ghost use Rattle.lf_disk.specs.Folder.{Folder, SameBut, same_name};
 ghost use Rattle.lf_disk.specs.History.{now, EachMoment, IsSettledBut};
-ghost use Rattle.lf_disk.specs.Publish.{IsEmptied, IsStaged, IsOldOrPublished, IsPublished, IsOneOfThree, with_bytes};
+ghost use Rattle.lf_disk.specs.Publish.{IsTrimmed, IsStaged, IsOldOrPublished, IsPublished, IsOneOfThree, with_bytes};
 
 use crate::disk::Disk;
 use crate::name::FileName;
 use lf_base::Failed;
 
-/// Cuts off what was left in the staged file before.
-fn empty_staged<D: Disk>(disk: &mut D) -> Result<(), Failed>
+/// Cuts off what stands behind so many bytes in the staged file. What stands there of an earlier file is
+/// written over, which costs less than a new file.
+fn trim_staged<D: Disk>(disk: &mut D, len: u64) -> Result<(), Failed>
     requires settled { IsTrue (D.honest disk.old)
         → IsSettledBut FileName.Staged (D.history disk.old) }
     ensures moments { IsTrue (D.honest disk.old)
         → EachMoment (D.history disk.old) (D.history disk.new)
         (SameBut FileName.Staged (now (D.history disk.old))) }
-    ensures empty { IsTrue (D.honest disk.old) → OnOk result
-        (IsEmptied (now (D.history disk.old)) (D.history disk.new)) }
+    ensures trimmed { IsTrue (D.honest disk.old) → OnOk result
+        (IsTrimmed len (now (D.history disk.old)) (D.history disk.new)) }
     ensures honest { D.honest disk.new ≡ D.honest disk.old }
     ensures cause { CountsFaults (D.faults disk.old) (D.faults disk.new) result }
 {
     let left = disk.size(FileName::Staged)?.unwrap_or(0);
-    if left == 0 {
+    if left <= len {
         return Ok(());
     }
-    disk.cut(FileName::Staged, 0)
+    disk.cut(FileName::Staged, len)
 }
 
-/// Makes the staged file these bytes, and syncs it. What was left in it before is cut off first.
+/// Makes the staged file these bytes, and syncs it. What was left in it before is written over.
 pub fn stage<D: Disk>(disk: &mut D, bytes: &[u8]) -> Result<(), Failed>
     requires settled { IsTrue (D.honest disk.old)
         → IsSettledBut FileName.Staged (D.history disk.old) }
@@ -42,7 +43,7 @@ pub fn stage<D: Disk>(disk: &mut D, bytes: &[u8]) -> Result<(), Failed>
     ensures honest { D.honest disk.new ≡ D.honest disk.old }
     ensures cause { CountsFaults (D.faults disk.old) (D.faults disk.new) result }
 {
-    empty_staged(disk)?;
+    trim_staged(disk, bytes.len() as u64)?;
     disk.write(FileName::Staged, 0, bytes)?;
     disk.sync(FileName::Staged)?;
     Ok(())

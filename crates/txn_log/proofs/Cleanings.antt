@@ -16,7 +16,7 @@ use Rattle.txn_log.specs.Calls.{StandsForOne, RestsAs, Moved}
 use Rattle.txn_log.specs.Durable.{Durable, IsEncoding, log_of, Follow, IsLog}
 use Rattle.txn_log.specs.Entries.{AreNamed}
 use Rattle.txn_log.specs.Kept.{LogFile, file_of, Kept, IsAtRest, Ascends}
-use Rattle.txn_log.specs.Pruning.{IsPruned}
+use Rattle.txn_log.specs.Pruning.{AreFirst, IsPruned}
 use Rattle.txn_log.specs.Store.{image_in, files_in, state_in, state_of, end_of_entries, entry_of, IsStore, IsShaped}
 use Rattle.txn_log.proofs.Moves.{moved-done, moved-in, at_last, tells, summed, files, store}
 use Rattle.txn_log.proofs.Placings.{kept_same}
@@ -102,16 +102,16 @@ module _ (h : History) (size commit : ℕ) (entries : List Entry) (sums : List �
   abbrev pub old_image : DatabaseImage
   old_image = image_in size commit (now h)
 
-  pub ascends : Ascends 0 old_files
+  ascends : Ascends 0 old_files
   ascends = kept.log.log.ascends
 
   pub count : length front ≡ gone
   count = ap length taken ∙ omega (arith, length-take gone entries)
 
-  pub room : length front < length old_files
+  room : length front < length old_files
   room = omega (arith, count, length-files_in entries (now h), fits)
 
-  pub named : AreNamed front old_files
+  named : AreNamed front old_files
   named =
       let all = named_in entries (now h) in
       subst (λ (es : List Entry). AreNamed es old_files) (sym taken)
@@ -123,6 +123,9 @@ module _ (h : History) (size commit : ℕ) (entries : List Entry) (sums : List �
             let low : k < gone = omega (arith, length-take gone entries) in
             all.max k e f (omega (arith, low, fits)) ∙ sym (ap (λ (x : Entry). x.max) (get_or-take gone entries k e low));
       }
+
+  pub first : AreFirst old_image old_files front h
+  first = record { rest = kept.rest; ascends = ascends; named = named; fewer = room }
 
   log_long : length (log_of old_files) ≡ length entries
   log_long = length-map old_files (λ (f : LogFile). file_of f.encoding) ∙ length-files_in entries (now h)

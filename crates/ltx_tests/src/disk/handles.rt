@@ -10,6 +10,8 @@ const DATABASE: FileName = FileName::Database;
 
 const STAGED: FileName = FileName::Staged;
 
+const FIRST: FileName = FileName::Ltx { min: 1, max: 1 };
+
 const FIRST_PATH: &str = "lf_disk_handles/ltx/0000000000000001-0000000000000001.ltx";
 
 const SECOND_PATH: &str = "lf_disk_handles/ltx/0000000000000002-0000000000000002.ltx";
@@ -68,6 +70,24 @@ fn a_handle_goes_with_its_name(rt: HostRuntime) {
     same(rt, disk.size(DATABASE), Ok(None));
     same(rt, disk.size(STAGED), Ok(Some(3)));
     fs::remove_dir_all(&rt, "lf_disk_handles").expect(&rt, "a folder");
+}
+
+/// A file that was published becomes the staged one, and the next is written over it: a shorter one, one of the
+/// same length, and a longer one.
+#[test]
+fn room_is_used_again(rt: HostRuntime) {
+    let _ = fs::remove_dir_all(&rt, "lf_disk_room");
+    let mut disk = DirDisk::open(rt, "lf_disk_room").expect(&rt, "a folder");
+    let path = "lf_disk_room/ltx/0000000000000002-0000000000000002.ltx";
+    for text in ["short", "the first", "longer than that"] {
+        same(rt, take(&mut disk, Step::Publish(1, "the first")), Ok(()));
+        same(rt, take(&mut disk, Step::Rename(FIRST, STAGED)), Ok(()));
+        same(rt, take(&mut disk, Step::Publish(2, text)), Ok(()));
+        file_holds(rt, path, text);
+        same(rt, disk.size(STAGED), Ok(None));
+        same(rt, disk.size(FIRST), Ok(None));
+    }
+    fs::remove_dir_all(&rt, "lf_disk_room").expect(&rt, "a folder");
 }
 
 /// What a file that is open holds after it was cut, read from an offset.

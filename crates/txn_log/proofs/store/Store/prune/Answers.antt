@@ -5,7 +5,7 @@ use Rattle.txn_log.specs.declared.entry.Entry.{Entry}
 use Rattle.world_laws.specs.Store.{MayBeFound}
 use Rattle.txn_log.specs.Calls.{RestsAs}
 use Rattle.txn_log.specs.Store.{IsStore, IsShaped, image_in, state_in, state_of, failed_of}
-use Rattle.txn_log.proofs.Cleanings.{entries-drop, old_image, old_files, ascends, named, room, left_done, went_done, stands, left_in, went_in, went_idle, shaped-drop, unmarked, log_count, mode_after}
+use Rattle.txn_log.proofs.Cleanings.{entries-drop, old_image, old_files, first, left_done, went_done, stands, left_in, went_in, went_idle, shaped-drop, unmarked, log_count, mode_after}
 use Rattle.txn_log.proofs.Moves.{moved-none}
 use Rattle.txn_log.proofs.Stores.{broken, mode_before}
 use Rattle.txn_log.proofs.store.Store.prune.Goals as goal
@@ -47,8 +47,8 @@ invariant_of-self-in-Ok g c = record {
       let taken : front ≡ take gone s.entries.items = c.split_at.ensures.front ∙ ap (λ (es : List Entry). take gone es) c.as_slice.ensures.value in
       let amount : gone ≡ length s.entries.items - c.args.keep = omega (arith, c.saturating_sub-gone.ensures, c.len.ensures) in
       let fits : gone < length s.entries.items = omega (arith, amount, c.if-gone-eq0.false, c.requires) in
-      let runs = c.remove_files.ensures.moments honest (old_image h s.page_size s.commit s.entries.items s.sums.sums s.whole s.tried shaped kept front gone c.args.keep taken fits c.requires amount) (old_files h s.page_size s.commit s.entries.items s.sums.sums s.whole s.tried shaped kept front gone c.args.keep taken fits c.requires amount) kept.rest (ascends h s.page_size s.commit s.entries.items s.sums.sums s.whole s.tried shaped kept front gone c.args.keep taken fits c.requires amount) (named h s.page_size s.commit s.entries.items s.sums.sums s.whole s.tried shaped kept front gone c.args.keep taken fits c.requires amount) (room h s.page_size s.commit s.entries.items s.sums.sums s.whole s.tried shaped kept front gone c.args.keep taken fits c.requires amount) in
-      let done = c.in-Ok.ensures.done honest (old_image h s.page_size s.commit s.entries.items s.sums.sums s.whole s.tried shaped kept front gone c.args.keep taken fits c.requires amount) (old_files h s.page_size s.commit s.entries.items s.sums.sums s.whole s.tried shaped kept front gone c.args.keep taken fits c.requires amount) kept.rest (ascends h s.page_size s.commit s.entries.items s.sums.sums s.whole s.tried shaped kept front gone c.args.keep taken fits c.requires amount) (named h s.page_size s.commit s.entries.items s.sums.sums s.whole s.tried shaped kept front gone c.args.keep taken fits c.requires amount) (room h s.page_size s.commit s.entries.items s.sums.sums s.whole s.tried shaped kept front gone c.args.keep taken fits c.requires amount) in
+      let runs = c.remove_files.ensures.moments honest (old_image h s.page_size s.commit s.entries.items s.sums.sums s.whole s.tried shaped kept front gone c.args.keep taken fits c.requires amount) (old_files h s.page_size s.commit s.entries.items s.sums.sums s.whole s.tried shaped kept front gone c.args.keep taken fits c.requires amount) (first h s.page_size s.commit s.entries.items s.sums.sums s.whole s.tried shaped kept front gone c.args.keep taken fits c.requires amount) in
+      let done = c.in-Ok.ensures.done honest (old_image h s.page_size s.commit s.entries.items s.sums.sums s.whole s.tried shaped kept front gone c.args.keep taken fits c.requires amount) (old_files h s.page_size s.commit s.entries.items s.sums.sums s.whole s.tried shaped kept front gone c.args.keep taken fits c.requires amount) (first h s.page_size s.commit s.entries.items s.sums.sums s.whole s.tried shaped kept front gone c.args.keep taken fits c.requires amount) in
       rw (c.forget_front.ensures, c.if-self.false, isnt) (stands h s.page_size s.commit s.entries.items s.sums.sums s.whole s.tried shaped kept front gone c.args.keep taken fits c.requires amount new runs done c.moment-self.result s.tried);
   left = λ still.
       let honest = sym c.remove_files.ensures.honest ∙ still in
@@ -65,8 +65,8 @@ invariant_of-self-in-Ok g c = record {
       let taken : front ≡ take gone s.entries.items = c.split_at.ensures.front ∙ ap (λ (es : List Entry). take gone es) c.as_slice.ensures.value in
       let amount : gone ≡ length s.entries.items - c.args.keep = omega (arith, c.saturating_sub-gone.ensures, c.len.ensures) in
       let fits : gone < length s.entries.items = omega (arith, amount, c.if-gone-eq0.false, c.requires) in
-      let runs = c.remove_files.ensures.moments honest (old_image h s.page_size s.commit s.entries.items s.sums.sums s.whole s.tried shaped kept front gone c.args.keep taken fits c.requires amount) (old_files h s.page_size s.commit s.entries.items s.sums.sums s.whole s.tried shaped kept front gone c.args.keep taken fits c.requires amount) kept.rest (ascends h s.page_size s.commit s.entries.items s.sums.sums s.whole s.tried shaped kept front gone c.args.keep taken fits c.requires amount) (named h s.page_size s.commit s.entries.items s.sums.sums s.whole s.tried shaped kept front gone c.args.keep taken fits c.requires amount) (room h s.page_size s.commit s.entries.items s.sums.sums s.whole s.tried shaped kept front gone c.args.keep taken fits c.requires amount) in
-      let done = c.in-Ok.ensures.done honest (old_image h s.page_size s.commit s.entries.items s.sums.sums s.whole s.tried shaped kept front gone c.args.keep taken fits c.requires amount) (old_files h s.page_size s.commit s.entries.items s.sums.sums s.whole s.tried shaped kept front gone c.args.keep taken fits c.requires amount) kept.rest (ascends h s.page_size s.commit s.entries.items s.sums.sums s.whole s.tried shaped kept front gone c.args.keep taken fits c.requires amount) (named h s.page_size s.commit s.entries.items s.sums.sums s.whole s.tried shaped kept front gone c.args.keep taken fits c.requires amount) (room h s.page_size s.commit s.entries.items s.sums.sums s.whole s.tried shaped kept front gone c.args.keep taken fits c.requires amount) in
+      let runs = c.remove_files.ensures.moments honest (old_image h s.page_size s.commit s.entries.items s.sums.sums s.whole s.tried shaped kept front gone c.args.keep taken fits c.requires amount) (old_files h s.page_size s.commit s.entries.items s.sums.sums s.whole s.tried shaped kept front gone c.args.keep taken fits c.requires amount) (first h s.page_size s.commit s.entries.items s.sums.sums s.whole s.tried shaped kept front gone c.args.keep taken fits c.requires amount) in
+      let done = c.in-Ok.ensures.done honest (old_image h s.page_size s.commit s.entries.items s.sums.sums s.whole s.tried shaped kept front gone c.args.keep taken fits c.requires amount) (old_files h s.page_size s.commit s.entries.items s.sums.sums s.whole s.tried shaped kept front gone c.args.keep taken fits c.requires amount) (first h s.page_size s.commit s.entries.items s.sums.sums s.whole s.tried shaped kept front gone c.args.keep taken fits c.requires amount) in
       rw (c.forget_front.ensures, c.if-self.false, isnt) (left_done h s.page_size s.commit s.entries.items s.sums.sums s.whole s.tried shaped kept front gone c.args.keep taken fits c.requires amount new runs done);
   mode = λ still.
       let honest = sym c.remove_files.ensures.honest ∙ still in
@@ -85,8 +85,8 @@ invariant_of-self-in-Ok g c = record {
       let taken : front ≡ take gone s.entries.items = c.split_at.ensures.front ∙ ap (λ (es : List Entry). take gone es) c.as_slice.ensures.value in
       let amount : gone ≡ length s.entries.items - c.args.keep = omega (arith, c.saturating_sub-gone.ensures, c.len.ensures) in
       let fits : gone < length s.entries.items = omega (arith, amount, c.if-gone-eq0.false, c.requires) in
-      let runs = c.remove_files.ensures.moments honest (old_image h s.page_size s.commit s.entries.items s.sums.sums s.whole s.tried shaped kept front gone c.args.keep taken fits c.requires amount) (old_files h s.page_size s.commit s.entries.items s.sums.sums s.whole s.tried shaped kept front gone c.args.keep taken fits c.requires amount) kept.rest (ascends h s.page_size s.commit s.entries.items s.sums.sums s.whole s.tried shaped kept front gone c.args.keep taken fits c.requires amount) (named h s.page_size s.commit s.entries.items s.sums.sums s.whole s.tried shaped kept front gone c.args.keep taken fits c.requires amount) (room h s.page_size s.commit s.entries.items s.sums.sums s.whole s.tried shaped kept front gone c.args.keep taken fits c.requires amount) in
-      let done = c.in-Ok.ensures.done honest (old_image h s.page_size s.commit s.entries.items s.sums.sums s.whole s.tried shaped kept front gone c.args.keep taken fits c.requires amount) (old_files h s.page_size s.commit s.entries.items s.sums.sums s.whole s.tried shaped kept front gone c.args.keep taken fits c.requires amount) kept.rest (ascends h s.page_size s.commit s.entries.items s.sums.sums s.whole s.tried shaped kept front gone c.args.keep taken fits c.requires amount) (named h s.page_size s.commit s.entries.items s.sums.sums s.whole s.tried shaped kept front gone c.args.keep taken fits c.requires amount) (room h s.page_size s.commit s.entries.items s.sums.sums s.whole s.tried shaped kept front gone c.args.keep taken fits c.requires amount) in
+      let runs = c.remove_files.ensures.moments honest (old_image h s.page_size s.commit s.entries.items s.sums.sums s.whole s.tried shaped kept front gone c.args.keep taken fits c.requires amount) (old_files h s.page_size s.commit s.entries.items s.sums.sums s.whole s.tried shaped kept front gone c.args.keep taken fits c.requires amount) (first h s.page_size s.commit s.entries.items s.sums.sums s.whole s.tried shaped kept front gone c.args.keep taken fits c.requires amount) in
+      let done = c.in-Ok.ensures.done honest (old_image h s.page_size s.commit s.entries.items s.sums.sums s.whole s.tried shaped kept front gone c.args.keep taken fits c.requires amount) (old_files h s.page_size s.commit s.entries.items s.sums.sums s.whole s.tried shaped kept front gone c.args.keep taken fits c.requires amount) (first h s.page_size s.commit s.entries.items s.sums.sums s.whole s.tried shaped kept front gone c.args.keep taken fits c.requires amount) in
       rw (c.if-self.false) (mode_after h s.page_size s.commit s.entries.items s.sums.sums s.whole s.tried shaped kept front gone c.args.keep taken fits c.requires amount new runs done s.wal mode);
 }
 
@@ -109,7 +109,7 @@ invariant_of-self-in-Err g c = record {
       let taken : front ≡ take gone s.entries.items = c.split_at.ensures.front ∙ ap (λ (es : List Entry). take gone es) c.as_slice.ensures.value in
       let amount : gone ≡ length s.entries.items - c.args.keep = omega (arith, c.saturating_sub-gone.ensures, c.len.ensures) in
       let fits : gone < length s.entries.items = omega (arith, amount, c.if-gone-eq0.false, c.requires) in
-      let runs = c.remove_files.ensures.moments honest (old_image h s.page_size s.commit s.entries.items s.sums.sums s.whole s.tried shaped kept front gone c.args.keep taken fits c.requires amount) (old_files h s.page_size s.commit s.entries.items s.sums.sums s.whole s.tried shaped kept front gone c.args.keep taken fits c.requires amount) kept.rest (ascends h s.page_size s.commit s.entries.items s.sums.sums s.whole s.tried shaped kept front gone c.args.keep taken fits c.requires amount) (named h s.page_size s.commit s.entries.items s.sums.sums s.whole s.tried shaped kept front gone c.args.keep taken fits c.requires amount) (room h s.page_size s.commit s.entries.items s.sums.sums s.whole s.tried shaped kept front gone c.args.keep taken fits c.requires amount) in
+      let runs = c.remove_files.ensures.moments honest (old_image h s.page_size s.commit s.entries.items s.sums.sums s.whole s.tried shaped kept front gone c.args.keep taken fits c.requires amount) (old_files h s.page_size s.commit s.entries.items s.sums.sums s.whole s.tried shaped kept front gone c.args.keep taken fits c.requires amount) (first h s.page_size s.commit s.entries.items s.sums.sums s.whole s.tried shaped kept front gone c.args.keep taken fits c.requires amount) in
       rw (c.moment-self.ensures, isnt) (broken s.page_size s.commit s.entries.items false s.sums.sums h new runs.past s.whole s.tried h.moment runs.later runs.later kept);
   left = λ still.
       let honest = sym c.remove_files.ensures.honest ∙ still in
@@ -126,7 +126,7 @@ invariant_of-self-in-Err g c = record {
       let taken : front ≡ take gone s.entries.items = c.split_at.ensures.front ∙ ap (λ (es : List Entry). take gone es) c.as_slice.ensures.value in
       let amount : gone ≡ length s.entries.items - c.args.keep = omega (arith, c.saturating_sub-gone.ensures, c.len.ensures) in
       let fits : gone < length s.entries.items = omega (arith, amount, c.if-gone-eq0.false, c.requires) in
-      let runs = c.remove_files.ensures.moments honest (old_image h s.page_size s.commit s.entries.items s.sums.sums s.whole s.tried shaped kept front gone c.args.keep taken fits c.requires amount) (old_files h s.page_size s.commit s.entries.items s.sums.sums s.whole s.tried shaped kept front gone c.args.keep taken fits c.requires amount) kept.rest (ascends h s.page_size s.commit s.entries.items s.sums.sums s.whole s.tried shaped kept front gone c.args.keep taken fits c.requires amount) (named h s.page_size s.commit s.entries.items s.sums.sums s.whole s.tried shaped kept front gone c.args.keep taken fits c.requires amount) (room h s.page_size s.commit s.entries.items s.sums.sums s.whole s.tried shaped kept front gone c.args.keep taken fits c.requires amount) in
+      let runs = c.remove_files.ensures.moments honest (old_image h s.page_size s.commit s.entries.items s.sums.sums s.whole s.tried shaped kept front gone c.args.keep taken fits c.requires amount) (old_files h s.page_size s.commit s.entries.items s.sums.sums s.whole s.tried shaped kept front gone c.args.keep taken fits c.requires amount) (first h s.page_size s.commit s.entries.items s.sums.sums s.whole s.tried shaped kept front gone c.args.keep taken fits c.requires amount) in
       rw (c.moment-self.ensures, isnt) (left_in h s.page_size s.commit s.entries.items s.sums.sums s.whole s.tried shaped kept front gone c.args.keep taken fits c.requires amount new runs);
   mode = λ still.
       let honest = sym c.remove_files.ensures.honest ∙ still in
@@ -145,7 +145,7 @@ invariant_of-self-in-Err g c = record {
       let taken : front ≡ take gone s.entries.items = c.split_at.ensures.front ∙ ap (λ (es : List Entry). take gone es) c.as_slice.ensures.value in
       let amount : gone ≡ length s.entries.items - c.args.keep = omega (arith, c.saturating_sub-gone.ensures, c.len.ensures) in
       let fits : gone < length s.entries.items = omega (arith, amount, c.if-gone-eq0.false, c.requires) in
-      let runs = c.remove_files.ensures.moments honest (old_image h s.page_size s.commit s.entries.items s.sums.sums s.whole s.tried shaped kept front gone c.args.keep taken fits c.requires amount) (old_files h s.page_size s.commit s.entries.items s.sums.sums s.whole s.tried shaped kept front gone c.args.keep taken fits c.requires amount) kept.rest (ascends h s.page_size s.commit s.entries.items s.sums.sums s.whole s.tried shaped kept front gone c.args.keep taken fits c.requires amount) (named h s.page_size s.commit s.entries.items s.sums.sums s.whole s.tried shaped kept front gone c.args.keep taken fits c.requires amount) (room h s.page_size s.commit s.entries.items s.sums.sums s.whole s.tried shaped kept front gone c.args.keep taken fits c.requires amount) in
+      let runs = c.remove_files.ensures.moments honest (old_image h s.page_size s.commit s.entries.items s.sums.sums s.whole s.tried shaped kept front gone c.args.keep taken fits c.requires amount) (old_files h s.page_size s.commit s.entries.items s.sums.sums s.whole s.tried shaped kept front gone c.args.keep taken fits c.requires amount) (first h s.page_size s.commit s.entries.items s.sums.sums s.whole s.tried shaped kept front gone c.args.keep taken fits c.requires amount) in
       rw (c.moment-self.ensures) (mode_before s.page_size s.commit s.entries.items false s.sums.sums h new runs.past s.wal mode);
 }
 
@@ -164,8 +164,8 @@ returns-in-Ok-clause-went g c honest =
     let taken : front ≡ take gone s.entries.items = c.split_at.ensures.front ∙ ap (λ (es : List Entry). take gone es) c.as_slice.ensures.value in
     let amount : gone ≡ length s.entries.items - c.args.keep = omega (arith, c.saturating_sub-gone.ensures, c.len.ensures) in
     let fits : gone < length s.entries.items = omega (arith, amount, c.if-gone-eq0.false, c.requires) in
-    let runs = c.remove_files.ensures.moments honest (old_image h s.page_size s.commit s.entries.items s.sums.sums s.whole s.tried shaped kept front gone c.args.keep taken fits c.requires amount) (old_files h s.page_size s.commit s.entries.items s.sums.sums s.whole s.tried shaped kept front gone c.args.keep taken fits c.requires amount) kept.rest (ascends h s.page_size s.commit s.entries.items s.sums.sums s.whole s.tried shaped kept front gone c.args.keep taken fits c.requires amount) (named h s.page_size s.commit s.entries.items s.sums.sums s.whole s.tried shaped kept front gone c.args.keep taken fits c.requires amount) (room h s.page_size s.commit s.entries.items s.sums.sums s.whole s.tried shaped kept front gone c.args.keep taken fits c.requires amount) in
-    let done = c.in-Ok.ensures.done honest (old_image h s.page_size s.commit s.entries.items s.sums.sums s.whole s.tried shaped kept front gone c.args.keep taken fits c.requires amount) (old_files h s.page_size s.commit s.entries.items s.sums.sums s.whole s.tried shaped kept front gone c.args.keep taken fits c.requires amount) kept.rest (ascends h s.page_size s.commit s.entries.items s.sums.sums s.whole s.tried shaped kept front gone c.args.keep taken fits c.requires amount) (named h s.page_size s.commit s.entries.items s.sums.sums s.whole s.tried shaped kept front gone c.args.keep taken fits c.requires amount) (room h s.page_size s.commit s.entries.items s.sums.sums s.whole s.tried shaped kept front gone c.args.keep taken fits c.requires amount) in
+    let runs = c.remove_files.ensures.moments honest (old_image h s.page_size s.commit s.entries.items s.sums.sums s.whole s.tried shaped kept front gone c.args.keep taken fits c.requires amount) (old_files h s.page_size s.commit s.entries.items s.sums.sums s.whole s.tried shaped kept front gone c.args.keep taken fits c.requires amount) (first h s.page_size s.commit s.entries.items s.sums.sums s.whole s.tried shaped kept front gone c.args.keep taken fits c.requires amount) in
+    let done = c.in-Ok.ensures.done honest (old_image h s.page_size s.commit s.entries.items s.sums.sums s.whole s.tried shaped kept front gone c.args.keep taken fits c.requires amount) (old_files h s.page_size s.commit s.entries.items s.sums.sums s.whole s.tried shaped kept front gone c.args.keep taken fits c.requires amount) (first h s.page_size s.commit s.entries.items s.sums.sums s.whole s.tried shaped kept front gone c.args.keep taken fits c.requires amount) in
     rw (c.forget_front.ensures, c.if-self.false, isnt) (went_done h s.page_size s.commit s.entries.items s.sums.sums s.whole s.tried shaped kept front gone c.args.keep taken fits c.requires amount new runs done)
 
 pub returns-in-Err-clause-went : goal.returns-in-Err-clause-went
@@ -183,7 +183,7 @@ returns-in-Err-clause-went g c honest =
     let taken : front ≡ take gone s.entries.items = c.split_at.ensures.front ∙ ap (λ (es : List Entry). take gone es) c.as_slice.ensures.value in
     let amount : gone ≡ length s.entries.items - c.args.keep = omega (arith, c.saturating_sub-gone.ensures, c.len.ensures) in
     let fits : gone < length s.entries.items = omega (arith, amount, c.if-gone-eq0.false, c.requires) in
-    let runs = c.remove_files.ensures.moments honest (old_image h s.page_size s.commit s.entries.items s.sums.sums s.whole s.tried shaped kept front gone c.args.keep taken fits c.requires amount) (old_files h s.page_size s.commit s.entries.items s.sums.sums s.whole s.tried shaped kept front gone c.args.keep taken fits c.requires amount) kept.rest (ascends h s.page_size s.commit s.entries.items s.sums.sums s.whole s.tried shaped kept front gone c.args.keep taken fits c.requires amount) (named h s.page_size s.commit s.entries.items s.sums.sums s.whole s.tried shaped kept front gone c.args.keep taken fits c.requires amount) (room h s.page_size s.commit s.entries.items s.sums.sums s.whole s.tried shaped kept front gone c.args.keep taken fits c.requires amount) in
+    let runs = c.remove_files.ensures.moments honest (old_image h s.page_size s.commit s.entries.items s.sums.sums s.whole s.tried shaped kept front gone c.args.keep taken fits c.requires amount) (old_files h s.page_size s.commit s.entries.items s.sums.sums s.whole s.tried shaped kept front gone c.args.keep taken fits c.requires amount) (first h s.page_size s.commit s.entries.items s.sums.sums s.whole s.tried shaped kept front gone c.args.keep taken fits c.requires amount) in
     rw (c.moment-self.ensures, c.if-self.false, isnt) (inr (went_in h s.page_size s.commit s.entries.items s.sums.sums s.whole s.tried shaped kept front gone c.args.keep taken fits c.requires amount new runs))
 
 pub returns-in-Ok-clause-position : goal.returns-in-Ok-clause-position
