@@ -38,6 +38,9 @@ request_has_bytes call.Tx host front back = omega arith
 request_has_bytes (call.Export name) host front back = omega arith
 request_has_bytes (call.Import name) host front back = omega arith
 request_has_bytes call.Lease host front back = omega arith
+request_has_bytes call.Info host front back = omega arith
+request_has_bytes call.Metrics host front back = omega arith
+request_has_bytes call.Events host front back = omega arith
 request_has_bytes call.Other host front back = omega arith
 
 -- nothing of a request was written

@@ -22,6 +22,6 @@ pub use asking::exchange;
 pub use call_reading::read_call;
 pub use called::{Body, Called};
 pub use request::Request;
-pub use sending::write_reply;
+pub use sending::{write_reply, write_typed_reply};
 pub use told::{Told, Untold};
 pub use wants::{Kept, Wants};

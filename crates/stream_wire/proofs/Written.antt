@@ -227,6 +227,9 @@ plain_target kind.Tx named = plain (codes "/tx") (omega arith) refl refl
 plain_target (kind.Export name) named = with_name (codes "/export?name=") name (plain (codes "/export?name=") (omega arith) refl refl) named
 plain_target (kind.Import name) named = with_name (codes "/import?name=") name (plain (codes "/import?name=") (omega arith) refl refl) named
 plain_target kind.Lease named = plain (codes "/lease") (omega arith) refl refl
+plain_target kind.Info named = plain (codes "/info") (omega arith) refl refl
+plain_target kind.Metrics named = plain (codes "/metrics") (omega arith) refl refl
+plain_target kind.Events named = plain (codes "/events") (omega arith) refl refl
 plain_target kind.Other named = absurd named
 
 method_token : (c : Call) → IsNamed c → (0 < length (method_of c)) × (list_all is_token_byte (method_of c) ≡ true)
@@ -238,6 +241,9 @@ method_token kind.Tx named = (omega arith, refl)
 method_token (kind.Export name) named = (omega arith, refl)
 method_token (kind.Import name) named = (omega arith, refl)
 method_token kind.Lease named = (omega arith, refl)
+method_token kind.Info named = (omega arith, refl)
+method_token kind.Metrics named = (omega arith, refl)
+method_token kind.Events named = (omega arith, refl)
 method_token kind.Other named = absurd named
 
 regroup_request : (m t v e h l : List ℕ) → m ++ (32 ∷ []) ++ t ++ (32 ∷ []) ++ v ++ e ++ h ++ l ++ e ≡ (m ++ 32 ∷ t ++ 32 ∷ v ++ e) ++ ((h ++ (l ++ [])) ++ e)
@@ -285,6 +291,9 @@ call_by method target =
     if bytes_eq target (codes "/stream") then kind.Stream else
     if bytes_eq target (codes "/tx") then kind.Tx else
     if bytes_eq target (codes "/lease") then kind.Lease else
+    if bytes_eq target (codes "/info") then kind.Info else
+    if bytes_eq target (codes "/metrics") then kind.Metrics else
+    if bytes_eq target (codes "/events") then kind.Events else
     if bytes_eq target (codes "/halt") then (if bytes_eq method (codes "POST") then kind.Halt else kind.HaltBack) else
     if bytes_eq method (codes "GET") then kind.Export (drop 13 target) else kind.Import (drop 13 target)
 
@@ -296,6 +305,9 @@ call_by-named kind.Tx named = refl
 call_by-named (kind.Export name) named = refl
 call_by-named (kind.Import name) named = refl
 call_by-named kind.Lease named = refl
+call_by-named kind.Info named = refl
+call_by-named kind.Metrics named = refl
+call_by-named kind.Events named = refl
 call_by-named kind.Other named = absurd named
 
 one : (c d : Call) → IsNamed c → IsNamed d → method_of c ≡ method_of d → target_of c ≡ target_of d → d ≡ c
@@ -310,3 +322,6 @@ same_call c kind.Tx named names = one c kind.Tx named names.0 names.1 names.2
 same_call c (kind.Export name) named names = one c (kind.Export name) named names.0 names.1 names.2
 same_call c (kind.Import name) named names = one c (kind.Import name) named names.0 names.1 names.2
 same_call c kind.Lease named names = one c kind.Lease named names.0 names.1 names.2
+same_call c kind.Info named names = one c kind.Info named names.0 names.1 names.2
+same_call c kind.Metrics named names = one c kind.Metrics named names.0 names.1 names.2
+same_call c kind.Events named names = one c kind.Events named names.0 names.1 names.2

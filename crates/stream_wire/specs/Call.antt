@@ -7,6 +7,9 @@ use Rattle.stream_wire.specs.declared.call.Call.TheVariants as call
 abbrev pub method_of : Call → List ℕ
 method_of call.HaltBack = codes "DELETE"
 method_of (call.Export name) = codes "GET"
+method_of call.Info = codes "GET"
+method_of call.Metrics = codes "GET"
+method_of call.Events = codes "GET"
 method_of call.Other = []
 method_of _ = codes "POST"
 
@@ -18,6 +21,9 @@ target_of call.Tx = codes "/tx"
 target_of (call.Export name) = codes "/export?name=" ++ name
 target_of (call.Import name) = codes "/import?name=" ++ name
 target_of call.Lease = codes "/lease"
+target_of call.Info = codes "/info"
+target_of call.Metrics = codes "/metrics"
+target_of call.Events = codes "/events"
 target_of call.Other = []
 
 -- a call that a method and a target can name

@@ -37,6 +37,18 @@ status_line status = version ++ blank ++ status_digits status ++ blank ++ unwrap
 unfoldable pub reply_head : ℕ → Option ℕ → List ℕ
 reply_head status len = status_line status ++ length_line len ++ line (codes "Connection") (codes "close") ++ crlf_bytes
 
+-- that the body is of this media type
+unfoldable pub type_line : List ℕ → List ℕ
+type_line media_type = line (codes "Content-Type") media_type
+
+-- that the connection ends with the reply, and the end of the head
+unfoldable pub close_lines : List ℕ
+close_lines = line (codes "Connection") (codes "close") ++ crlf_bytes
+
+-- the same of a reply of a media type
+unfoldable pub typed_head : ℕ → List ℕ → Option ℕ → List ℕ
+typed_head status media_type len = status_line status ++ length_line len ++ type_line media_type ++ close_lines
+
 -- method and target
 unfoldable pub request_line : Call → List ℕ
 request_line call = method_of call ++ blank ++ target_of call ++ blank ++ version ++ end_line

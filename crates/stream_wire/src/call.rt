@@ -17,6 +17,12 @@ pub enum Call {
     Import { name: Name },
     /// `POST /lease`: the lease service.
     Lease,
+    /// `GET /info`: what the node is, and where it stands.
+    Info,
+    /// `GET /metrics`: its figures.
+    Metrics,
+    /// `GET /events`: its transactions, as they come.
+    Events,
     /// Any other method or target, and a query whose name is no name of a database.
     Other,
 }

@@ -4,7 +4,7 @@ ghost use Rattle.std.specs.Prelude.{◌≡◌, ◌++◌, length, codes, decimal,
 ghost use Rattle.std.specs.Io.{StartsWith};
 ghost use Rattle.http.specs.StatusCode.{IsStatusCode, code_digits, reason_phrase};
 ghost use Rattle.stream_wire.specs.Call.{IsNamed, method_of, target_of};
-ghost use Rattle.stream_wire.specs.Writing.{line, length_line, blank, end_line, version, status_digits, status_line, request_line, reply_head, request_head};
+ghost use Rattle.stream_wire.specs.Writing.{line, length_line, blank, end_line, version, status_digits, status_line, request_line, reply_head, request_head, type_line, close_lines, typed_head};
 
 use crate::Call;
 use http::StatusCode;
@@ -59,6 +59,62 @@ fn put_status(out: &mut Vec<u8>, status: u16) -> Result<(), NoMemory>
     put_blank(out)?;
     put(out, reason(status))?;
     put_end(out)
+}
+
+/// Appends the head of a reply of this media type. Its body has `length` bytes, or ends with the
+/// connection.
+pub fn write_typed_head(
+    alloc: Global,
+    status: u16,
+    media_type: &[u8],
+    length: Option<u64>,
+    out: &mut Vec<u8>,
+) -> Result<(), NoMemory>
+    requires { IsStatusCode status }
+    ensures ok { OnOk result (out.new.items ≡ out.old.items ++ typed_head status media_type.now length) }
+    ensures err { OnErr result (out.new.items ≡ out.old.items) }
+{
+    let start = out.len();
+    if let Err(error) = put_typed_head(alloc, status, media_type, length, out) {
+        out.truncate(start);
+        return Err(error);
+    }
+    Ok(())
+}
+
+#[tactic(auto, unfolding(crate::specs::Writing::typed_head))]
+fn put_typed_head(
+    alloc: Global,
+    status: u16,
+    media_type: &[u8],
+    length: Option<u64>,
+    out: &mut Vec<u8>,
+) -> Result<(), NoMemory>
+    requires { IsStatusCode status }
+    ensures ok { OnOk result (out.new.items ≡ out.old.items ++ typed_head status media_type.now length) }
+    ensures grows { StartsWith out.new.items out.old.items }
+{
+    put_status(out, status)?;
+    put_length_if(alloc, length, out)?;
+    put_type(out, media_type)?;
+    put_close(out)
+}
+
+#[tactic(auto, unfolding(crate::specs::Writing::type_line))]
+fn put_type(out: &mut Vec<u8>, media_type: &[u8]) -> Result<(), NoMemory>
+    ensures ok { OnOk result (out.new.items ≡ out.old.items ++ type_line media_type.now) }
+    ensures grows { StartsWith out.new.items out.old.items }
+{
+    put_line(out, b"Content-Type", media_type)
+}
+
+#[tactic(auto, unfolding(crate::specs::Writing::close_lines))]
+fn put_close(out: &mut Vec<u8>) -> Result<(), NoMemory>
+    ensures ok { OnOk result (out.new.items ≡ out.old.items ++ close_lines) }
+    ensures grows { StartsWith out.new.items out.old.items }
+{
+    put_line(out, b"Connection", b"close")?;
+    put(out, b"\r\n")
 }
 
 fn put_length_if(alloc: Global, length: Option<u64>, out: &mut Vec<u8>) -> Result<(), NoMemory>
@@ -160,7 +216,7 @@ fn method_of(call: &Call) -> &'static [u8]
 {
     match call {
         Call::HaltBack => b"DELETE",
-        Call::Export { .. } => b"GET",
+        Call::Export { .. } | Call::Info | Call::Metrics | Call::Events => b"GET",
         Call::Other => b"",
         _ => b"POST",
     }
@@ -175,6 +231,9 @@ fn put_target(call: &Call, out: &mut Vec<u8>) -> Result<(), NoMemory>
         Call::Halt | Call::HaltBack => put(out, b"/halt"),
         Call::Tx => put(out, b"/tx"),
         Call::Lease => put(out, b"/lease"),
+        Call::Info => put(out, b"/info"),
+        Call::Metrics => put(out, b"/metrics"),
+        Call::Events => put(out, b"/events"),
         Call::Export { name } => put_both(out, b"/export?name=", name.bytes()),
         Call::Import { name } => put_both(out, b"/import?name=", name.bytes()),
         Call::Other => Ok(()),

@@ -31,7 +31,7 @@ pub use encoding::{encode_frame, encode_ltx_front};
 pub use feed::{Fed, FrameFeed};
 pub use frame::Frame;
 pub use head_reading::{read_request, read_response};
-pub use head_writing::{write_head, write_request};
+pub use head_writing::{write_head, write_request, write_typed_head};
 pub use last_file::{LastFile, read_last_file, write_last_file};
 pub use last_file_field::last_file_in;
 pub use laws::{fronts_stay, one_reading, stream_heads_are_read, written_heads_are_read};

@@ -54,6 +54,15 @@ fn post(alloc: Global, target: &[u8]) -> Result<Call, NoMemory>
 fn get(alloc: Global, target: &[u8]) -> Result<Call, NoMemory>
     ensures { IfOk result (Names (codes "GET") target.now) }
 {
+    if is_same(target, b"/info") {
+        return Ok(Call::Info);
+    }
+    if is_same(target, b"/metrics") {
+        return Ok(Call::Metrics);
+    }
+    if is_same(target, b"/events") {
+        return Ok(Call::Events);
+    }
     match database_in(alloc, target, b"/export?name=")? {
         Some(name) => Ok(Call::Export { name }),
         None => Ok(Call::Other),

@@ -115,6 +115,9 @@ fn call_number(call: &Call) -> usize {
         Call::Import { .. } => 6,
         Call::Lease => 7,
         Call::Other => 8,
+        Call::Info => 9,
+        Call::Metrics => 10,
+        Call::Events => 11,
     }
 }
 
@@ -146,6 +149,12 @@ const REQUESTS: &[(&str, usize, u64)] = &[
     ("GET /export?name=app&x=1 HTTP/1.1\r\n\r\n", 8, 0),
     ("GET /import?name=app HTTP/1.1\r\n\r\n", 8, 0),
     ("GET /none HTTP/1.1\r\n\r\n", 8, 0),
+    ("GET /info HTTP/1.1\r\n\r\n", 9, 0),
+    ("GET /metrics HTTP/1.1\r\n\r\n", 10, 0),
+    ("GET /events HTTP/1.1\r\n\r\n", 11, 0),
+    ("POST /info HTTP/1.1\r\n\r\n", 8, 0),
+    ("GET /metrics?x=1 HTTP/1.1\r\n\r\n", 8, 0),
+    ("GET /events/ HTTP/1.1\r\n\r\n", 8, 0),
     ("OPTIONS * HTTP/1.1\r\n\r\n", 8, 0),
 ];
 
