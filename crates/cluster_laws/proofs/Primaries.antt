@@ -70,6 +70,7 @@ primary-may n asks.Export is = as-it-stands n.standing is
 primary-may n (asks.Import now bytes) is = at-later n now is
 primary-may n (asks.Prune keep) is = as-it-stands n.standing is
 primary-may n (asks.Info now) is = at-later n now is
+primary-may n (asks.Watch now from) is = at-later n now is
 primary-may n (asks.Lease now news) is = at-later n now is
 primary-may n (asks.HaltAsk now node) is = at-later n now is
 primary-may n (asks.HaltBack now number) is = at-later n now is

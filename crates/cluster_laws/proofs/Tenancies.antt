@@ -41,6 +41,7 @@ now-of ask.Export = (0, λ m. sym (max-zero m))
 now-of (ask.Import now bytes) = (now, λ m. refl)
 now-of (ask.Prune keep) = (0, λ m. sym (max-zero m))
 now-of (ask.Info now) = (now, λ m. refl)
+now-of (ask.Watch now from) = (now, λ m. refl)
 now-of (ask.Lease now news) = (now, λ m. refl)
 now-of (ask.HaltAsk now node) = (now, λ m. refl)
 now-of (ask.HaltBack now number) = (now, λ m. refl)
@@ -70,6 +71,7 @@ module _ (v last : Tenancy) (n : ℕ) (t : Tenant) (others : (j : ℕ) → j ≢
   then-news (ask.Import now bytes) here reply is = rests-so (max t.moment now) here is
   then-news (ask.Prune keep) here reply is = rests-so t.moment here is
   then-news (ask.Info now) here reply is = rests-so (max t.moment now) here is
+  then-news (ask.Watch now from) here reply is = rests-so (max t.moment now) here is
   then-news (ask.HaltAsk now node) here reply is = rests-so (max t.moment now) here is
   then-news (ask.HaltBack now number) here reply is = rests-so (max t.moment now) here is
   then-news (ask.Forward now number bytes) here reply is = rests-so (max t.moment now) here is

@@ -77,6 +77,7 @@ fn reply_of(answer: Answer) -> Reply
         | Answer::Pass(_)
         | Answer::Bytes(_)
         | Answer::Info(_)
+        | Answer::Watched { .. }
         | Answer::Refused(_) => Reply::Error(NO_ANSWER),
     }
 }

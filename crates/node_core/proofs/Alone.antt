@@ -194,6 +194,7 @@ module _ (start : History) (old : NodeParts) (end : History) (new : NodeParts) (
   serves-nothing caller request (answers.Pass pass) served = absurd served
   serves-nothing caller request (answers.Bytes bytes) served = absurd served
   serves-nothing caller request (answers.Info info) served = absurd served
+  serves-nothing caller request (answers.Watched info files) served = absurd served
   serves-nothing caller request (answers.Refused why) served = absurd served
 
   unlinks-nothing : (answer : Answer) → UnlinksDatabase start old answer end new said → Holds start old answer end new
@@ -213,6 +214,7 @@ module _ (start : History) (old : NodeParts) (end : History) (new : NodeParts) (
   unlinks-nothing (answers.Send number ltx) dropped = absurd dropped
   unlinks-nothing (answers.Bytes bytes) dropped = absurd dropped
   unlinks-nothing (answers.Info info) dropped = absurd dropped
+  unlinks-nothing (answers.Watched info files) dropped = absurd dropped
   unlinks-nothing (answers.Refused why) dropped = absurd dropped
 
   served : (off : Bool) (caller : ℕ) (request : Request) (answer : Answer) → AnswersServed off start old caller request answer end new said → Holds start old answer end new
@@ -341,6 +343,7 @@ module _ (start : History) (old : NodeParts) (caller : ℕ) (answer : Answer) (e
   alone asks.Export step disk law is out under = rested-as asks.Export step laws.Export (λ law is. is) tt disk law is out under
   alone (asks.Prune keep) step disk law is out under = rested-as (asks.Prune keep) step (laws.Prune (kept_of keep)) (λ law is. is) tt disk law is out under
   alone (asks.Info now) step disk law is out under = rested-as (asks.Info now) step laws.Where (λ law is. is) tt disk law is out under
+  alone (asks.Watch now from) step disk law is out under = rested-as (asks.Watch now from) step laws.Where (λ law is. is) tt disk law is out under
   alone (asks.Lease now news) step disk law is out under = rested-as (asks.Lease now news) step laws.Lease (λ law is. is) tt disk law is out under
   alone (asks.HaltAsk now node) step disk law is out under = rested-as (asks.HaltAsk now node) step laws.Permit (λ law is. is) tt disk law is out under
   alone (asks.HaltBack now number) step disk law is out under = rested-as (asks.HaltBack now number) step laws.Permit (λ law is. is) tt disk law is out under

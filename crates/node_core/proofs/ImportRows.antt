@@ -112,6 +112,7 @@ absent start old (answers.Same here) new zero is = absurd is
 absent start old (answers.Held lock) new zero is = absurd is
 absent start old (answers.Pruned count) new zero is = absurd is
 absent start old (answers.Info info) new zero is = absurd is
+absent start old (answers.Watched info files) new zero is = absurd is
 absent start old (answers.Pass pass) new zero is = absurd is
 absent start old (answers.Send number ltx) new zero is = absurd is
 
@@ -165,6 +166,7 @@ module _ (start : History) (old : NodeParts) (bytes : List ℕ) (end : History) 
   waits (answers.Pruned count) is = absurd is
   waits (answers.Bytes pages) is = absurd is
   waits (answers.Info info) is = absurd is
+  waits (answers.Watched info files) is = absurd is
   waits (answers.Pass pass) is = absurd is
   waits (answers.Send number ltx) is = absurd is
 

@@ -188,6 +188,7 @@ module _ (start : History) (old : NodeParts) (bytes : List ℕ) (change : PageCh
   takes-change (answers.Pruned count) never = absurd never
   takes-change (answers.Bytes bytes) never = absurd never
   takes-change (answers.Info info) never = absurd never
+  takes-change (answers.Watched info files) never = absurd never
 
 -- what the store made of the change, from before it was read
 module _ (start mid : History) (old : NodeParts) (same : IsTrue old.store.honest → state mid old.store ≡ state start old.store)
@@ -235,6 +236,7 @@ module _ (start mid : History) (old : NodeParts) (same : IsTrue old.store.honest
   change-since (answers.Pruned count) new never = absurd never
   change-since (answers.Bytes bytes) new never = absurd never
   change-since (answers.Info info) new never = absurd never
+  change-since (answers.Watched info files) new never = absurd never
 
 -- the store was compared with bytes
 module _ (start mid : History) (old : NodeParts) (new : StoreFields) (bytes : List ℕ) (free : IsFree old) (same : new ≡ record old.store { faults = new.faults })

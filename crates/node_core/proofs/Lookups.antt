@@ -100,6 +100,7 @@ module _ (start mid : History) (old : NodeParts) (looked : IsLookedAt start old.
   tells-since (answers.Pruned count) new tells = tells
   tells-since (answers.Bytes bytes) new tells = tells
   tells-since (answers.Info info) new tells = tells
+  tells-since (answers.Watched info files) new tells = tells
 
 -- what a follower is told since
 pub hello-since : (start mid end : History) (old between new : NodeParts) (from : Pos) (last : Option LastFile) (answer : Answer) → IsLookedAt start old.store mid old.store → between ≡ old

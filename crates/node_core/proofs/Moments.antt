@@ -16,6 +16,7 @@ last_stands first last ask.Export = refl
 last_stands first last (ask.Import before bytes) = refl
 last_stands first last (ask.Prune keep) = refl
 last_stands first last (ask.Info before) = refl
+last_stands first last (ask.Watch before from) = refl
 last_stands first last (ask.Lease before news) = refl
 last_stands first last (ask.HaltAsk before node) = refl
 last_stands first last (ask.HaltBack before number) = refl

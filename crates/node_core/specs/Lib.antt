@@ -2,6 +2,7 @@ pub mod Roles
 pub mod Moments
 pub mod Stores
 pub mod Waiting
+pub mod Watching
 pub mod Nodes
 pub mod Errors
 pub mod Calls

@@ -15,6 +15,7 @@ ask_at now ask.Export = ask.Export
 ask_at now (ask.Import before bytes) = ask.Import now bytes
 ask_at now (ask.Prune keep) = ask.Prune keep
 ask_at now (ask.Info before) = ask.Info now
+ask_at now (ask.Watch before from) = ask.Watch now from
 ask_at now (ask.Lease before news) = ask.Lease now news
 ask_at now (ask.HaltAsk before node) = ask.HaltAsk now node
 ask_at now (ask.HaltBack before number) = ask.HaltBack now number

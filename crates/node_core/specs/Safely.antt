@@ -42,6 +42,7 @@ IsAskOf asks.Export law = law ≡ laws.Export
 IsAskOf (asks.Import now bytes) law = law ≡ laws.Import
 IsAskOf (asks.Prune keep) law = law ≡ laws.Prune (kept_of keep)
 IsAskOf (asks.Info now) law = law ≡ laws.Where
+IsAskOf (asks.Watch now from) law = law ≡ laws.Where
 IsAskOf (asks.Lease now news) law = law ≡ laws.Lease
 IsAskOf (asks.HaltAsk now node) law = law ≡ laws.Permit
 IsAskOf (asks.HaltBack now number) law = law ≡ laws.Permit
@@ -89,6 +90,7 @@ law_answer (answers.Pass pass) = laws.Done
 law_answer (answers.Send number ltx) = laws.Send (file_in ltx)
 law_answer (answers.Bytes bytes) = laws.Done
 law_answer (answers.Info info) = laws.Done
+law_answer (answers.Watched info files) = laws.Done
 law_answer (answers.Refused why) = laws.Refused (law_refusal why)
 
 -- THE CONTRACT OF A STEP over an honest disk: its facts; at each moment a crash leaves a store that a restart may find while the

@@ -30,6 +30,7 @@ use Rattle.node_core.specs.Serving.{ServesFiles}
 use Rattle.node_core.specs.Stores.{OnlyRead}
 use Rattle.node_core.specs.Telling.{AnswersInfo}
 use Rattle.node_core.specs.Unlinking.{UnlinksDatabase, unlinks_database}
+use Rattle.node_core.specs.Watching.{AnswersWatch}
 use Rattle.node_core.specs.Where.{TellsPosition}
 
 -- a request of the files: who is kept out at a replica, and who asks for a writer's lock while a permit is out, is refused, before the
@@ -72,6 +73,7 @@ Does start old caller asks.Export answer end new said = AnswersExport start old 
 Does start old caller (asks.Import now bytes) answer end new said = AnswersImport start (at_moment old now) bytes answer end new
 Does start old caller (asks.Prune keep) answer end new said = AnswersPrune start old keep answer end new
 Does start old caller (asks.Info now) answer end new said = AnswersInfo start (at_moment old now) answer end new
+Does start old caller (asks.Watch now from) answer end new said = AnswersWatch start (at_moment old now) from answer end new
 Does start old caller (asks.Lease now news) answer end new said = AnswersLease start (at_moment old now) now news answer end new
 Does start old caller (asks.HaltAsk now node) answer end new said = AnswersHaltAsk start (at_moment old now) answer end new
 Does start old caller (asks.HaltBack now number) answer end new said = AnswersHaltBack start (at_moment old now) number answer end new
@@ -88,6 +90,7 @@ at_ask old (asks.Frame now bytes) = at_moment old now
 at_ask old (asks.Drop now) = at_moment old now
 at_ask old (asks.Import now bytes) = at_moment old now
 at_ask old (asks.Info now) = at_moment old now
+at_ask old (asks.Watch now from) = at_moment old now
 at_ask old (asks.Lease now news) = at_moment old now
 at_ask old (asks.HaltAsk now node) = at_moment old now
 at_ask old (asks.HaltBack now number) = at_moment old now
@@ -103,6 +106,7 @@ moment_by (asks.Frame now bytes) moment = max moment now
 moment_by (asks.Drop now) moment = max moment now
 moment_by (asks.Import now bytes) moment = max moment now
 moment_by (asks.Info now) moment = max moment now
+moment_by (asks.Watch now from) moment = max moment now
 moment_by (asks.Lease now news) moment = max moment now
 moment_by (asks.HaltAsk now node) moment = max moment now
 moment_by (asks.HaltBack now number) moment = max moment now

@@ -21,6 +21,8 @@ info_of n = record {
   pos = position n.store;
   first = first_of n.store.entries;
   files = length n.store.entries;
+  page_size = n.store.page_size;
+  commit = n.store.commit;
   broken = n.store.broken;
   primary = n.files.host;
 }

@@ -1,3 +1,4 @@
+use crate::files::Files;
 use crate::info::NodeInfo;
 use crate::refusal::Refusal;
 use crate::whereabouts::Whereabouts;
@@ -35,6 +36,8 @@ pub enum Answer {
     Bytes(Bytes),
     /// What the node is, and where it stands.
     Info(NodeInfo),
+    /// The same, with the files of its log from the first that follows a position on.
+    Watched { info: NodeInfo, files: Files },
     /// This LTX file is to be sent to the primary, under the write permit of this number. The request
     /// waits for the reply.
     Send { number: u64, ltx: Bytes },

@@ -49,6 +49,11 @@ pub enum Ask {
     Info {
         now: u64,
     },
+    /// What is the node, and which files of its log lie behind this position?
+    Watch {
+        now: u64,
+        pos: Pos,
+    },
     /// News of leases came.
     Lease {
         now: u64,
@@ -97,6 +102,7 @@ impl Ask {
             Ask::Drop { now } => *now = moment,
             Ask::Import { now, .. } => *now = moment,
             Ask::Info { now } => *now = moment,
+            Ask::Watch { now, .. } => *now = moment,
             Ask::Lease { now, .. } => *now = moment,
             Ask::HaltAsk { now, .. } => *now = moment,
             Ask::HaltBack { now, .. } => *now = moment,

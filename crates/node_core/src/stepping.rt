@@ -53,6 +53,7 @@ impl<D: Disk> Machine for Node<D> {
             Ask::Import { now, bytes } => self.answer_import(*now, bytes),
             Ask::Prune { keep } => self.prune(*keep),
             Ask::Info { now } => self.answer_info(*now),
+            Ask::Watch { now, pos } => self.answer_watch(*now, *pos),
             Ask::Lease { now, news } => self.answer_lease(*now, news),
             Ask::HaltAsk { now, node } => self.answer_halt_ask(*now, *node),
             Ask::HaltBack { now, number } => self.answer_halt_back(*now, *number),

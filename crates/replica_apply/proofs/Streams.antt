@@ -64,6 +64,7 @@ frame_answered who name text asked (answer.Send number ltx) old new turns is a =
 frame_answered who name text asked (answer.Pass pass) old new turns is a = (answer.Pass pass, record { asked = asked; is = is; until = a }, refl)
 frame_answered who name text asked (answer.Bytes bytes) old new turns is a = (answer.Bytes bytes, record { asked = asked; is = is; until = a }, refl)
 frame_answered who name text asked (answer.Info i) old new turns is a = (answer.Info i, record { asked = asked; is = is; until = a }, refl)
+frame_answered who name text asked (answer.Watched i files) old new turns is a = (answer.Watched i files, record { asked = asked; is = is; until = a }, refl)
 
 -- it was asked where the node stands
 pub where_said : (caller : ℕ) (given : Answer) (old new : List NodeEntry) (turns : ℕ) → new ≡ asks_where caller given old → SaysWhere caller old new turns (place_in given)
@@ -83,6 +84,7 @@ where_said caller (answer.Send number ltx) old new turns e = (answer.Send number
 where_said caller (answer.Pass pass) old new turns e = (answer.Pass pass, e, refl)
 where_said caller (answer.Bytes bytes) old new turns e = (answer.Bytes bytes, e, refl)
 where_said caller (answer.Info i) old new turns e = (answer.Info i, e, refl)
+where_said caller (answer.Watched i files) old new turns e = (answer.Watched i files, e, refl)
 
 -- behind a message that was taken out
 pub behind : (text left : Option (List ℕ)) (message ahead : List ℕ) → Keeps text (text_of message ahead left) → Consumes text (text_of [] ahead left) message

@@ -48,6 +48,7 @@ fn place_in(answer: Answer) -> Result<Whereabouts, FollowEnd>
         | Answer::Send { .. }
         | Answer::Pass(_)
         | Answer::Bytes(_)
-        | Answer::Info(_) => Err(FollowEnd::OddAnswer),
+        | Answer::Info(_)
+        | Answer::Watched { .. } => Err(FollowEnd::OddAnswer),
     }
 }

@@ -108,6 +108,7 @@ fn said_by(answer: Answer) -> Result<(), FollowEnd>
         | Answer::Send { .. }
         | Answer::Pass(_)
         | Answer::Bytes(_)
-        | Answer::Info(_) => Err(FollowEnd::OddAnswer),
+        | Answer::Info(_)
+        | Answer::Watched { .. } => Err(FollowEnd::OddAnswer),
     }
 }

@@ -21,6 +21,9 @@ returns-in-Lease g c = rw c.in-Lease.is (c.answer_lease.ensures.step c.args.call
 pub returns-in-Info : goal.returns-in-Info
 returns-in-Info g c = rw c.in-Info.is (c.answer_info.ensures.step c.args.caller)
 
+pub returns-in-Watch : goal.returns-in-Watch
+returns-in-Watch g c = rw c.in-Watch.is (c.answer_watch.ensures.step c.args.caller)
+
 pub returns-in-Export : goal.returns-in-Export
 returns-in-Export g c = rw c.in-Export.is (c.export.ensures.step c.args.caller)
 
