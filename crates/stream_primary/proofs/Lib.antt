@@ -1,4 +1,6 @@
 pub mod Asks
+pub mod Lines
+pub mod EventStreams
 pub mod Requests
 pub mod Forwards
 pub mod Streams

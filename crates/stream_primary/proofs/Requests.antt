@@ -11,6 +11,7 @@ use Rattle.lf_base.specs.declared.session_end.SessionEnd.TheVariants as ends
 use Rattle.link_session.specs.Stands.{Asker, IsStill, Stand}
 use Rattle.turn_desk.specs.History.{entry}
 use Rattle.halt_forward.specs.declared.halt_pass.HaltPass.{HaltPass}
+use Rattle.node_core.specs.declared.answer.Answer.{Answer}
 use Rattle.node_core.specs.declared.ask.Ask.{Ask}
 use Rattle.node_core.specs.declared.ask.Ask.TheVariants as ask
 use Rattle.stream_wire.specs.declared.call.Call.{Call}
@@ -38,6 +39,8 @@ use Rattle.stream_primary.specs.Refusing.{AnswersUnasked, EndsReply}
 use Rattle.stream_primary.specs.Request.{CameOf, CameOfRequest, Request, WasHeard, WasRead}
 use Rattle.stream_primary.specs.StreamCall.{ServesStream, Wants, no_line, other_database, starving, streaming}
 use Rattle.stream_primary.specs.Streaming.{NodeEntry}
+use Rattle.stream_primary.specs.WatchCalls.{AsksInfo, ServesInfo, ServesMetrics, TellsOf, info_reply, info_wanting, informing, measuring, metrics_reply, metrics_wanting, never_told, told_of}
+use Rattle.stream_primary.proofs.EventStreams.{events_behind}
 use Rattle.stream_primary.proofs.Streams.{kept_appends, kept_part, stream_from}
 
 -- ---- what was read
@@ -250,6 +253,22 @@ forward_behind who name body old mid new turns end read (forward_elsewhere says 
 forward_behind who name body old mid new turns end read (forward_unreadable says a) = forward_unreadable says (unasked_behind (reply 400 []) old mid new turns end read a)
 forward_behind who name body old mid new turns end read (forward_wanting is still count) = forward_wanting is (still_behind old mid new read still) (count ∙ read.count)
 
+tells_of_behind : (who : Asker) (reply_of : Answer → List ℕ) (old mid new : Stand NodeEntry) (turns : ℕ) (end : SessionEnd) → OnlyRead old mid → TellsOf who reply_of mid new turns end
+    → TellsOf who reply_of old new turns end
+tells_of_behind who reply_of old mid new turns end read (told_of given asks sent) =
+    told_of given (subst (λ (es : List NodeEntry). AsksInfo who es new.place.entries given) read.still.asked asks)
+    (replied (reply_of given) old.place.taken mid.place.taken new.place.taken old.faults mid.faults new.faults turns end read.still.written read.count sent)
+tells_of_behind who reply_of old mid new turns end read (never_told why still count) = never_told why (still_behind old mid new read still) (count ∙ read.count)
+
+info_behind : (who : Asker) (name : List ℕ) (old mid new : Stand NodeEntry) (turns : ℕ) (end : SessionEnd) → OnlyRead old mid → ServesInfo who name mid new turns end
+    → ServesInfo who name old new turns end
+info_behind who name old mid new turns end read (informing figures t) = informing figures (tells_of_behind who (info_reply name figures) old mid new turns end read t)
+info_behind who name old mid new turns end read (info_wanting is still count) = info_wanting is (still_behind old mid new read still) (count ∙ read.count)
+
+metrics_behind : (who : Asker) (old mid new : Stand NodeEntry) (turns : ℕ) (end : SessionEnd) → OnlyRead old mid → ServesMetrics who mid new turns end → ServesMetrics who old new turns end
+metrics_behind who old mid new turns end read (measuring figures t) = measuring figures (tells_of_behind who (metrics_reply figures) old mid new turns end read t)
+metrics_behind who old mid new turns end read (metrics_wanting is still count) = metrics_wanting is (still_behind old mid new read still) (count ∙ read.count)
+
 pub serves_behind : (called : Call) (who : Asker) (name : List ℕ) (request : Request) (old mid new : Stand NodeEntry) (turns : ℕ) (end : SessionEnd) → OnlyRead old mid
     → Serves called who name request mid new turns end → Serves called who name request old new turns end
 serves_behind call.Stream who name request old mid new turns end read s = stream_behind who name request old mid new turns end read s
@@ -258,6 +277,9 @@ serves_behind call.HaltBack who name request old mid new turns end read s = halt
 serves_behind call.Tx who name request old mid new turns end read s = forward_behind who name request.body old mid new turns end read s
 serves_behind (call.Export other) who name request old mid new turns end read s = export_behind who.caller name other old mid new turns end read s
 serves_behind (call.Import other) who name request old mid new turns end read s = import_behind who name other request.body old mid new turns end read s
+serves_behind call.Info who name request old mid new turns end read s = info_behind who name old mid new turns end read s
+serves_behind call.Metrics who name request old mid new turns end read s = metrics_behind who old mid new turns end read s
+serves_behind call.Events who name request old mid new turns end read s = events_behind who name old mid new turns end read.still.written read.still.asked read.count s
 serves_behind call.Lease who name request old mid new turns end read s = unasked_behind (reply 404 []) old mid new turns end read s
 serves_behind call.Other who name request old mid new turns end read s = unasked_behind (reply 404 []) old mid new turns end read s
 

@@ -8,12 +8,14 @@ use Rattle.http_exchange.specs.declared.wants.Kept.{Kept}
 use Rattle.http_exchange.specs.declared.wants.Kept.TheVariants as kept
 use Rattle.http_exchange.specs.Writing.{reply}
 use Rattle.stream_primary.specs.DatabaseCalls.{ServesExport, ServesImport, import_max}
+use Rattle.stream_primary.specs.Events.{ServesEvents}
 use Rattle.stream_primary.specs.ForwardCall.{ServesForward, forward_max}
 use Rattle.stream_primary.specs.HaltCalls.{ServesHalt, ServesHaltBack, number_line_max}
 use Rattle.stream_primary.specs.Refusing.{AnswersUnasked}
 use Rattle.stream_primary.specs.Request.{Request}
 use Rattle.stream_primary.specs.StreamCall.{ServesStream, line_max}
 use Rattle.stream_primary.specs.Streaming.{NodeEntry}
+use Rattle.stream_primary.specs.WatchCalls.{ServesInfo, ServesMetrics}
 
 -- what is kept of the body: the line that asks for a stream, or names a permit; of an import and a commit all; of another call nothing
 abbrev pub kept_of : Call → Kept
@@ -24,6 +26,9 @@ kept_of call.Tx = kept.All forward_max
 kept_of (call.Export other) = kept.Nothing
 kept_of (call.Import other) = kept.All import_max
 kept_of call.Lease = kept.Nothing
+kept_of call.Info = kept.Nothing
+kept_of call.Metrics = kept.Nothing
+kept_of call.Events = kept.Nothing
 kept_of call.Other = kept.Nothing
 
 -- HOW IT GOES: a call that is not served is 404, and nothing is asked
@@ -34,5 +39,8 @@ Serves call.HaltBack who name request old new turns end = ServesHaltBack who nam
 Serves call.Tx who name request old new turns end = ServesForward who name request.body old new turns end
 Serves (call.Export other) who name request old new turns end = ServesExport who.caller name other old new turns end
 Serves (call.Import other) who name request old new turns end = ServesImport who name other request.body old new turns end
+Serves call.Info who name request old new turns end = ServesInfo who name old new turns end
+Serves call.Metrics who name request old new turns end = ServesMetrics who old new turns end
+Serves call.Events who name request old new turns end = ServesEvents who name old new turns end
 Serves call.Lease who name request old new turns end = AnswersUnasked (reply 404 []) old new turns end
 Serves call.Other who name request old new turns end = AnswersUnasked (reply 404 []) old new turns end

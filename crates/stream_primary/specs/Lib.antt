@@ -7,6 +7,16 @@ pub mod Asking
 pub mod DatabaseCalls
 pub mod HaltCalls
 pub mod ForwardCall
+pub mod Metric
+pub mod MetricNames
+pub mod MetricsText
+pub mod JsonLine
+pub mod JsonText
+pub mod InfoText
+pub mod WatchCalls
+pub mod EventLines
+pub mod EventTelling
+pub mod Events
 pub mod Calls
 pub mod Session
 pub mod OneRun

@@ -7,13 +7,17 @@ ghost use Rattle.link_session.specs.Stands.{asker, stand, AsksOn, Spends};
 ghost use Rattle.stream_primary.specs.Calls.{Serves, kept_of};
 ghost use Rattle.stream_primary.specs.Request.{CameOfRequest, Request};
 
+use crate::about::About;
 use crate::database_calls::{IMPORT_MAX, serve_export, serve_import};
+use crate::events::serve_events;
+use crate::figures::Gauge;
 use crate::forward_call::{FORWARD_MAX, file_in, serve_forward};
 use crate::halt_calls::{NUMBER_LINE_MAX, number_in, serve_halt, serve_halt_back};
 use crate::replies::refuse;
 use crate::stream_call::{LINE_MAX, serve_stream};
+use crate::watch_call::{serve_info, serve_metrics};
 use http_exchange::{Called, Kept, Wants};
-use lf_base::{Clock, Link, Name, Pause, SessionEnd};
+use lf_base::{Clock, Link, Pause, SessionEnd};
 use link_session::{Steps, Turns};
 use node_core::{Answer, Ask};
 use std::alloc::Global;
@@ -37,16 +41,19 @@ impl Wants for Bodies {
             Call::Export { .. } => Kept::Nothing,
             Call::Import { .. } => Kept::All(IMPORT_MAX),
             Call::Lease => Kept::Nothing,
+            Call::Info => Kept::Nothing,
+            Call::Metrics => Kept::Nothing,
+            Call::Events => Kept::Nothing,
             Call::Other => Kept::Nothing,
         }
     }
 }
 
 /// Serves a request that was read, by its call, to the end of its session.
-pub fn serve_call<S: Steps<Ask = Ask, Answer = Answer>, L: Link, C: Clock, P: Pause>(
+pub fn serve_call<S: Steps<Ask = Ask, Answer = Answer>, L: Link, C: Clock, P: Pause, G: Gauge>(
     alloc: Global,
     steps: &mut S,
-    name: &Name,
+    about: &About<G>,
     link: &mut L,
     clock: &mut C,
     pause: &mut P,
@@ -54,7 +61,7 @@ pub fn serve_call<S: Steps<Ask = Ask, Answer = Answer>, L: Link, C: Clock, P: Pa
     turns: &mut Turns,
 ) -> SessionEnd
     ensures serves { (request : Request) → CameOfRequest (kept_of request.call) request called
-        → Serves request.call (asker S.Steps C.Clock steps.old clock.old) name.now request (stand L.Link link.old (S.entries steps.old))
+        → Serves request.call (asker S.Steps C.Clock steps.old clock.old) about.now.name request (stand L.Link link.old (S.entries steps.old))
         (stand L.Link link.new (S.entries steps.new)) turns.new result }
     ensures left { Keeps (L.left link.old) (L.left link.new) }
     ensures same { AsksOn S.Steps C.Clock steps.old steps.new clock.old clock.new }
@@ -62,6 +69,7 @@ pub fn serve_call<S: Steps<Ask = Ask, Answer = Answer>, L: Link, C: Clock, P: Pa
     ensures worn { result ≡ ends.Worn → S.is_worn steps.new }
 {
     let Called { head, call, body } = called;
+    let name = &about.name;
     match call {
         Call::Stream => {
             serve_stream(alloc, steps, name, link, clock, pause, &head, &body, turns)
@@ -82,6 +90,9 @@ pub fn serve_call<S: Steps<Ask = Ask, Answer = Answer>, L: Link, C: Clock, P: Pa
         Call::Import { name: other } => {
             serve_import(alloc, steps, name, link, clock, &other, body, turns)
         }
+        Call::Info => serve_info(alloc, steps, name, &about.gauge, link, clock, turns),
+        Call::Metrics => serve_metrics(alloc, steps, &about.gauge, link, clock, turns),
+        Call::Events => serve_events(alloc, steps, name, link, clock, pause, turns),
         Call::Lease => refuse(alloc, link, NOT_FOUND, turns),
         Call::Other => refuse(alloc, link, NOT_FOUND, turns),
     }

@@ -2,17 +2,29 @@
 //!
 //! A request is read to the end of its body and served by its call: a call is one row of the tables in
 //! `calls`, a file that serves it, and a clause of `specs/Calls.antt`. The stream of the database, its
-//! export, its import and its write permits are served; every other call is answered with status 404.
+//! export, its import, its write permits, what the node is, its metrics and its events are served; every
+//! other call is answered with status 404.
 #![tactic(auto)]
 
+mod about;
 mod asking;
 mod calls;
 mod database_calls;
 mod ending;
+mod event_lines;
+mod events;
+mod figures;
 mod forward_call;
 mod halt_calls;
 mod hello;
+mod histogram;
+mod info_text;
+mod json_line;
+mod json_text;
 mod laws;
+mod metric;
+mod metric_names;
+mod metrics_text;
 mod names;
 mod refusals;
 mod replies;
@@ -23,7 +35,11 @@ mod standing;
 mod stream_call;
 mod streaming;
 mod telling;
+mod viewed;
+mod watch_call;
 
+pub use about::About;
+pub use figures::{Counts, Figures, Gauge, Histogram, Refused};
 pub use laws::{owed_again, stream_in_one_run};
 pub use seat::serve_seat;
 pub use serving::serve_http;

@@ -5,7 +5,7 @@ ghost use Rattle.http.specs.StatusCode.{IsStatusCode};
 ghost use Rattle.link_session.specs.Spending.{MovesFor};
 ghost use Rattle.http_exchange.specs.Writing.{reply};
 ghost use Rattle.stream_primary.specs.Asking.{answer_reply, position_line};
-ghost use Rattle.stream_primary.specs.Refusing.{refused_reply, too_long_reply, EndsReply};
+ghost use Rattle.stream_primary.specs.Refusing.{odd_reply, refused_reply, too_long_reply, EndsReply};
 
 use crate::refusals::{line_of, status_of};
 use http_exchange::write_reply;
@@ -48,22 +48,31 @@ pub fn refuse_answer<L: Link>(
         Answer::Refused(refusal) => {
             say(alloc, link, status_of(*refusal), line_of(*refusal), turns)
         }
-        Answer::Done(_)
-        | Answer::Quiet
-        | Answer::Refuse(_)
-        | Answer::At(_)
+        Answer::Done(_) | Answer::Quiet | Answer::Refuse(_) | Answer::Send { .. } => {
+            say_odd(alloc, link, turns)
+        }
+        Answer::At(_)
         | Answer::Level(_)
         | Answer::Item { .. }
         | Answer::Gone
         | Answer::Applied(_)
-        | Answer::Same(_)
-        | Answer::Held(_)
+        | Answer::Same(_) => say_odd(alloc, link, turns),
+        Answer::Held(_)
         | Answer::Pruned(_)
-        | Answer::Send { .. }
         | Answer::Pass(_)
         | Answer::Bytes(_)
-        | Answer::Info(_) => say(alloc, link, 500, b"OddAnswer\n", turns),
+        | Answer::Info(_)
+        | Answer::Watched { .. } => say_odd(alloc, link, turns),
     }
+}
+
+/// Answers a request whose answer is none to its ask.
+fn say_odd<L: Link>(alloc: Global, link: &mut L, turns: &mut Turns) -> SessionEnd
+    ensures end { EndsReply odd_reply (L.taken link.old) (L.taken link.new) (L.faults link.old) (L.faults link.new) turns.new result }
+    ensures left { Keeps (L.left link.old) (L.left link.new) }
+    ensures spent { MovesFor {T = Unit {0}} (Err result) turns.old (L.moves link.old) turns.new (L.moves link.new) }
+{
+    say(alloc, link, 500, b"OddAnswer\n", turns)
 }
 
 /// Answers a request for which the node was asked once.

@@ -6,8 +6,10 @@ ghost use Rattle.link_session.specs.Stands.{stand};
 ghost use Rattle.turn_desk.specs.Seats.{view, number_of, opened_on, IsOf};
 ghost use Rattle.stream_primary.specs.Session.{IsSession};
 
+use crate::about::About;
+use crate::figures::Gauge;
 use crate::session::serve_link;
-use lf_base::{Clock, Link, Name, Pause, SessionEnd};
+use lf_base::{Clock, Link, Pause, SessionEnd};
 use link_session::AtSeat;
 use node_core::{Answer, Ask};
 use std::alloc::Global;
@@ -21,19 +23,20 @@ pub fn serve_seat<
     L: Link,
     C: Clock,
     P: Pause,
+    G: Gauge,
 >(
     rt: R,
     alloc: Global,
     desk: &Desk<M>,
     seat: &mut Seat<M>,
-    name: &Name,
+    about: &About<G>,
     link: &mut L,
     clock: &mut C,
     pause: &mut P,
     budget: u64,
 ) -> SessionEnd
     requires { IsOf seat.old desk.now }
-    ensures session { IsSession (record { caller = number_of seat.old; may = C.may_give clock.old }) name.now budget (stand L.Link link.old (view seat.old).mine)
+    ensures session { IsSession (record { caller = number_of seat.old; may = C.may_give clock.old }) about.now.name budget (stand L.Link link.old (view seat.old).mine)
         (stand L.Link link.new (view seat.new).mine) result }
     ensures worn { result ≡ ends.Worn → FoundWorn seat.new }
     ensures history { HasGoneOn M.steps (opened_on desk.now) (number_of seat.new) (view seat.old) (view seat.new) }
@@ -47,5 +50,5 @@ pub fn serve_seat<
         desk,
         seat,
     };
-    serve_link(alloc, &mut steps, name, link, clock, pause, budget)
+    serve_link(alloc, &mut steps, about, link, clock, pause, budget)
 }

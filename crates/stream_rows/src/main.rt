@@ -4,7 +4,10 @@
 
 mod behind;
 mod clients;
+mod ends;
+mod failing;
 mod fault;
+mod figures;
 mod lines;
 mod links;
 mod nodes;
@@ -29,6 +32,7 @@ enum Scene {
     Behind,
     Readers,
     OneFile,
+    Failing,
 }
 
 const SCENES: &[(Scene, &str)] = &[
@@ -36,6 +40,7 @@ const SCENES: &[(Scene, &str)] = &[
     (Scene::Behind, "replicas that are behind"),
     (Scene::Readers, "a reader holds a stream back"),
     (Scene::OneFile, "the stream of one file"),
+    (Scene::Failing, "each call fails"),
 ];
 
 /// The scene of a third node.
@@ -59,6 +64,7 @@ fn play_scene<R: Wait + Print + Copy>(
         Scene::Behind => play_with_stranger(rt, primary, replica),
         Scene::Readers => readers::play(rt, primary, replica),
         Scene::OneFile => one_file::play(rt, primary, replica),
+        Scene::Failing => failing::play(rt, primary, replica),
     }
 }
 

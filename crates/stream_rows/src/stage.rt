@@ -3,15 +3,17 @@ ghost use Rattle.std.specs.Prelude.{IfOk};
 ghost use Rattle.turn_desk.specs.Seats.{IsOf};
 
 use crate::fault::Fault;
-use crate::nodes::{MemNode, Part, name, new_node};
+use crate::figures::NoFigures;
+use crate::nodes::{MemNode, NEVER, Part, name, new_node};
 use crate::wishes::{NOW, Wish, ask_of};
 use lf_base::{FixedClock, Link, Name, NoPause, Pos, SessionEnd};
-use lf_disk::Disk;
+use lf_disk::{Disk, MemDisk};
 use node_core::{Answer, Node};
 use replica_apply::{FollowEnd, follow};
 use std::alloc::Global;
+use std::mem;
 use std::sync::Wait;
-use stream_primary::serve_http;
+use stream_primary::{About, serve_http};
 use turn_desk::{Desk, Machine, Seat};
 
 /// How many turns a session has.
@@ -29,8 +31,13 @@ pub struct Stage {
 impl Stage {
     /// The desk of a node of a database that was never written.
     pub fn new(alloc: Global, part: Part) -> Result<Stage, Fault> {
+        Stage::on(alloc, part, NEVER)
+    }
+
+    /// The same, where this call of the node's disk fails.
+    pub fn on(alloc: Global, part: Part, failing: u64) -> Result<Stage, Fault> {
         let name = name(alloc)?;
-        let node = new_node(alloc, part)?;
+        let node = new_node(alloc, part, failing)?;
         let (desk, seat) = desk_of(alloc, node)?;
         Ok(Stage {
             alloc,
@@ -74,6 +81,18 @@ impl Stage {
         Ok(follow_by(rt, self.alloc, &self.desk, &mut seat, &self.name, link))
     }
 
+    /// The disk of the node, after its last step.
+    fn close<R: Wait + Copy>(self, rt: R) -> MemDisk {
+        let Stage {
+            desk,
+            seat,
+            name,
+            ..
+        } = self;
+        drop(name);
+        desk.close(rt, seat).into_store().disk
+    }
+
     /// A second session makes its first ask, this one makes its asks, and then the second one, whose
     /// seat has joined a split of this one's seat, makes its second ask.
     pub fn ask_after<R: Wait + Copy>(
@@ -93,6 +112,12 @@ impl Stage {
     }
 }
 
+/// The node is stopped, and its disk comes back. The node becomes one of a database that was never written.
+pub fn take_disk<R: Wait + Copy>(rt: R, stage: &mut Stage) -> Result<MemDisk, Fault> {
+    let spare = Stage::new(stage.alloc, Part::Replica)?;
+    Ok(mem::replace(stage, spare).close(rt))
+}
+
 /// The desk of a machine, and its first seat.
 fn desk_of<M: Machine + Drop>(alloc: Global, machine: M) -> Result<(Desk<M>, Seat<M>), Fault>
 where
@@ -104,6 +129,12 @@ where
         Ok(made) => Ok(made),
         Err(_) => Err(Fault::NoMemory),
     }
+}
+
+/// The node becomes one of a database that was never written, on a disk of which this call fails.
+pub fn renew_on(stage: &mut Stage, part: Part, failing: u64) -> Result<(), Fault> {
+    *stage = Stage::on(stage.alloc, part, failing)?;
+    Ok(())
 }
 
 /// The node becomes one of a database that was never written.
@@ -120,8 +151,8 @@ pub fn renew_both(primary: &mut Stage, replica: &mut Stage) -> Result<(), Fault>
 
 /// Where the node stands.
 pub fn position<R: Wait + Copy>(rt: R, stage: &mut Stage) -> Result<Pos, Fault> {
-    match stage.ask(rt, Wish::Where)? {
-        Answer::At(here) => Ok(here.pos),
+    match stage.ask(rt, Wish::Info)? {
+        Answer::Info(info) => Ok(info.pos),
         _ => Err(Fault::Answer),
     }
 }
@@ -138,8 +169,15 @@ fn serve_by<R: Wait + Copy, D: Disk, L: Link>(
 {
     let mut clock = FixedClock::new(NOW);
     let mut pause = NoPause::new();
+    let Ok(name) = name.copy() else {
+        return SessionEnd::NoMemory;
+    };
+    let about = About {
+        name,
+        gauge: NoFigures,
+    };
     serve_http(
-        rt, alloc, desk, seat, name, link, &mut clock, &mut pause, TURNS,
+        rt, alloc, desk, seat, &about, link, &mut clock, &mut pause, TURNS,
     )
 }
 

@@ -11,7 +11,7 @@ returns-clause-ends g c =
     let whole = was_read _ _ (g.L.Link.left c.args.link.now) (g.L.Link.left c.read_call.new.link) (g.L.Link.left c.serve_call.new.link) c.in-Ok.called c.in-Ok.ensures.read c.if-is_unread.ensures c.serve_call.ensures.left in
     let came = came_of _ _ (g.L.Link.left c.args.link.now) (g.L.Link.left c.read_call.new.link) c.in-Ok.called refl c.in-Ok.ensures.read c.if-is_unread.ensures in
     serving request whole
-    (serves_behind request.call _ c.args.name.now request (stand g.L.Link c.args.link.now (g.S.Steps.entries c.args.steps.now)) (stand g.L.Link c.read_call.new.link (g.S.Steps.entries c.args.steps.now))
+    (serves_behind request.call _ c.args.about.now.name request (stand g.L.Link c.args.link.now (g.S.Steps.entries c.args.steps.now)) (stand g.L.Link c.read_call.new.link (g.S.Steps.entries c.args.steps.now))
     (stand g.L.Link c.serve_call.new.link (g.S.Steps.entries c.serve_call.new.steps)) c.serve_call.new.turns c.serve_call.result
     (record { still = record { written = c.in-Ok.ensures.taken; asked = refl }; count = c.in-Ok.ensures.cause })
     (c.serve_call.ensures.serves request came))

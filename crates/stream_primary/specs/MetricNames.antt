@@ -1,0 +1,48 @@
+-- The names of the metrics, and what each is. litefs_is_primary, litefs_db_count and litefs_subscriber_count are LiteFS's.
+use Rattle.std.specs.Prelude.{ℕ, List, codes}
+use Rattle.stream_primary.specs.declared.metric_names.Metric.{Metric}
+use Rattle.stream_primary.specs.declared.metric_names.Metric.TheVariants as metric
+
+unfoldable pub name_of : Metric → List ℕ
+name_of metric.IsPrimary = codes "litefs_is_primary"
+name_of metric.IsHalted = codes "litefs_is_halted"
+name_of metric.StoreBroken = codes "litefs_store_broken"
+name_of metric.Uptime = codes "litefs_uptime_seconds"
+name_of metric.Subscribers = codes "litefs_subscriber_count"
+name_of metric.Watchers = codes "litefs_watcher_count"
+name_of metric.Databases = codes "litefs_db_count"
+name_of metric.Txid = codes "litefs_db_txid"
+name_of metric.Pages = codes "litefs_db_pages"
+name_of metric.PageBytes = codes "litefs_db_page_bytes"
+name_of metric.FirstTxid = codes "litefs_log_first_txid"
+name_of metric.LogFiles = codes "litefs_log_files"
+name_of metric.LogBytes = codes "litefs_log_bytes"
+name_of metric.Commits = codes "litefs_commits_total"
+name_of metric.Snapshots = codes "litefs_snapshots_total"
+name_of metric.SentBytes = codes "litefs_stream_sent_bytes_total"
+name_of metric.HeldFrames = codes "litefs_frames_held_total"
+name_of metric.Refusals = codes "litefs_refusals_total"
+name_of metric.CommitTime = codes "litefs_commit_seconds"
+name_of metric.Lag = codes "litefs_replica_lag_seconds"
+
+unfoldable pub help_of : Metric → List ℕ
+help_of metric.IsPrimary = codes "Whether the node is the primary."
+help_of metric.IsHalted = codes "Whether the node has a write permit of the primary."
+help_of metric.StoreBroken = codes "Whether its disk failed, and nothing is committed any more."
+help_of metric.Uptime = codes "For how long the node has run."
+help_of metric.Subscribers = codes "Followers that are served now."
+help_of metric.Watchers = codes "Readers of events that are served now."
+help_of metric.Databases = codes "How many databases the node has."
+help_of metric.Txid = codes "The last transaction."
+help_of metric.Pages = codes "The pages of the database."
+help_of metric.PageBytes = codes "The bytes of a page."
+help_of metric.FirstTxid = codes "The first transaction in the log."
+help_of metric.LogFiles = codes "The files in the log."
+help_of metric.LogBytes = codes "The bytes of the log."
+help_of metric.Commits = codes "Transactions that came into the log."
+help_of metric.Snapshots = codes "Snapshots that were sent or installed."
+help_of metric.SentBytes = codes "The bytes of the files that were sent to followers."
+help_of metric.HeldFrames = codes "Frames that a lock held back."
+help_of metric.Refusals = codes "Requests on the files that were refused, by error number."
+help_of metric.CommitTime = codes "How long commits took."
+help_of metric.Lag = codes "How long after its commit a transaction was applied here."

@@ -1,0 +1,256 @@
+//! `GET /events`: the transactions of the database and who its primary is, to a reader, as they come.
+ghost use Rattle.std.specs.Prelude.{◌≡◌, ◌++◌, length, None, Err, IfErr, IfOk, OnOk, OnErr};
+ghost use Rattle.std.specs.Io.KnownBytes.{Keeps};
+ghost use Rattle.lf_base.specs.Faults.{CountsFaults};
+ghost use Rattle.lf_base.specs.declared.session_end.SessionEnd.TheVariants as ends;
+ghost use Rattle.link_session.specs.Asking.{EndsAsking};
+ghost use Rattle.link_session.specs.Spending.{AsksFor, Moves, MovesFor};
+ghost use Rattle.link_session.specs.Stands.{asker, stand, AsksOn, Spends};
+ghost use Rattle.node_core.specs.declared.answer.Answer.TheVariants as answers;
+ghost use Rattle.stream_primary.specs.Events.{AsksWatch, EndsLines, EndsWatch, ServesEvents};
+ghost use Rattle.stream_primary.specs.EventTelling.{last_lines, place_of, told_lines};
+ghost use Rattle.stream_primary.specs.Refusing.{EndsReply};
+
+use crate::event_lines::{put_init, put_later, stays, viewed_of};
+use crate::replies::refuse_answer;
+use crate::viewed::Viewed;
+use lf_base::{Clock, Failed, Link, Name, NoMemory, Pause, Pos, SessionEnd};
+use link_session::{Steps, Turns, write_whole};
+use node_core::{Answer, Ask, Files, NodeInfo};
+use std::alloc::Global;
+use stream_wire::write_typed_head;
+use txn_log::Entry;
+
+/// Serves a reader of events, to the end of its session: one Watch after another, each told before the
+/// next is asked, and a nap behind each.
+pub fn serve_events<S: Steps<Ask = Ask, Answer = Answer>, L: Link, C: Clock, P: Pause>(
+    alloc: Global,
+    steps: &mut S,
+    name: &Name,
+    link: &mut L,
+    clock: &mut C,
+    pause: &mut P,
+    turns: &mut Turns,
+) -> SessionEnd
+    ensures serves { ServesEvents (asker S.Steps C.Clock steps.old clock.old) name.now (stand L.Link link.old (S.entries steps.old)) (stand L.Link link.new (S.entries steps.new)) turns.new result }
+    ensures left { Keeps (L.left link.old) (L.left link.new) }
+    ensures same { AsksOn S.Steps C.Clock steps.old steps.new clock.old clock.new }
+    ensures spent { Spends {T = Unit {0}} turns.old (stand L.Link link.old (S.entries steps.old)) turns.new (stand L.Link link.new (S.entries steps.new)) (Err result) }
+    ensures worn { result ≡ ends.Worn → S.is_worn steps.new }
+{
+    let mut text = Vec::new(alloc);
+    let mut told: Option<Viewed> = None;
+    'watches: loop {
+        match watch(
+            alloc, steps, name, link, clock, pause, &told, &mut text, turns,
+        ) {
+            Ok(next) => told = next,
+            Err(end) => return end,
+        }
+    }
+}
+
+/// Asks one Watch and tells its answer, and answers what the reader was told then. A reader that was told
+/// something is looked for first.
+///
+/// Closed where the Watch was refused, or the reader can't be brought on; WriteFault also where the
+/// reader is gone.
+fn watch<S: Steps<Ask = Ask, Answer = Answer>, L: Link, C: Clock, P: Pause>(
+    alloc: Global,
+    steps: &mut S,
+    name: &Name,
+    link: &mut L,
+    clock: &mut C,
+    pause: &mut P,
+    told: &Option<Viewed>,
+    text: &mut Vec<u8>,
+    turns: &mut Turns,
+) -> Result<Option<Viewed>, SessionEnd>
+    ensures round { EndsWatch (asker S.Steps C.Clock steps.old clock.old) name.now told.now (stand L.Link link.old (S.entries steps.old)).place
+        (stand L.Link link.new (S.entries steps.new)).place (L.faults link.old) (L.faults link.new) turns.new result }
+    ensures left { Keeps (L.left link.old) (L.left link.new) }
+    ensures same { AsksOn S.Steps C.Clock steps.old steps.new clock.old clock.new }
+    ensures spent { Spends turns.old (stand L.Link link.old (S.entries steps.old)) turns.new (stand L.Link link.new (S.entries steps.new)) result }
+    ensures worn { IfErr result (λ end. end ≡ ends.Worn → S.is_worn steps.new) }
+{
+    match look(link, told) {
+        Ok(()) => watch_and_tell(alloc, steps, name, link, clock, pause, told, text, turns),
+        Err(_) => Err(SessionEnd::WriteFault),
+    }
+}
+
+/// Looks for a reader that was told something, by a write of no bytes, and takes no turn.
+fn look<L: Link>(link: &mut L, told: &Option<Viewed>) -> Result<(), Failed>
+    ensures left { Keeps (L.left link.old) (L.left link.new) }
+    ensures taken { Keeps (L.taken link.old) (L.taken link.new) }
+    ensures moves { Moves 0 (L.moves link.old) 0 (L.moves link.new) }
+    ensures cause { CountsFaults (L.faults link.old) (L.faults link.new) result }
+    ensures unmoved { told.now ≡ None → link.new ≡ link.old }
+{
+    match told {
+        None => Ok(()),
+        Some(_) => match link.write(b"") {
+            Ok(_) => Ok(()),
+            Err(failed) => Err(failed),
+        },
+    }
+}
+
+/// Asks one Watch and tells its answer.
+fn watch_and_tell<S: Steps<Ask = Ask, Answer = Answer>, L: Link, C: Clock, P: Pause>(
+    alloc: Global,
+    steps: &mut S,
+    name: &Name,
+    link: &mut L,
+    clock: &mut C,
+    pause: &mut P,
+    told: &Option<Viewed>,
+    text: &mut Vec<u8>,
+    turns: &mut Turns,
+) -> Result<Option<Viewed>, SessionEnd>
+    ensures round { EndsWatch (asker S.Steps C.Clock steps.old clock.old) name.now told.now (stand L.Link link.old (S.entries steps.old)).place
+        (stand L.Link link.new (S.entries steps.new)).place (L.faults link.old) (L.faults link.new) turns.new result }
+    ensures left { Keeps (L.left link.old) (L.left link.new) }
+    ensures same { AsksOn S.Steps C.Clock steps.old steps.new clock.old clock.new }
+    ensures spent { Spends turns.old (stand L.Link link.old (S.entries steps.old)) turns.new (stand L.Link link.new (S.entries steps.new)) result }
+    ensures worn { IfErr result (λ end. end ≡ ends.Worn → S.is_worn steps.new) }
+{
+    match ask_watch(steps, clock, told, turns) {
+        Ok(answer) => tell_answer(alloc, name, link, pause, told, &answer, text, turns),
+        Err(end) => Err(end),
+    }
+}
+
+/// Asks which files lie behind the place of a reader that was told this. It is a turn.
+fn ask_watch<S: Steps<Ask = Ask, Answer = Answer>, C: Clock>(
+    steps: &mut S,
+    clock: &mut C,
+    told: &Option<Viewed>,
+    turns: &mut Turns,
+) -> Result<Answer, SessionEnd>
+    ensures asked { IfOk result (λ answer. AsksWatch (asker S.Steps C.Clock steps.old clock.old) told.now answer (S.entries steps.old) (S.entries steps.new)) }
+    ensures still { OnErr result (S.entries steps.new ≡ S.entries steps.old) }
+    ensures same { AsksOn S.Steps C.Clock steps.old steps.new clock.old clock.new }
+    ensures spent { AsksFor result turns.old (length (S.entries steps.old)) turns.new (length (S.entries steps.new)) }
+    ensures cause { EndsAsking (S.is_worn steps.new) turns.new result }
+{
+    match turns.take() {
+        Ok(()) => {}
+        Err(_) => return Err(SessionEnd::Turns),
+    }
+    let ask = Ask::Watch {
+        now: clock.now_ms(),
+        pos: place_of(told),
+    };
+    match steps.ask(&ask) {
+        Ok(answer) => Ok(answer),
+        Err(_) => Err(SessionEnd::Worn),
+    }
+}
+
+/// Where a reader that was told this is asked for.
+fn place_of(told: &Option<Viewed>) -> Pos
+    ensures { result ≡ place_of told.now }
+{
+    match told {
+        None => Pos { txid: 0, sum: 0 },
+        Some(viewed) => viewed.pos,
+    }
+}
+
+/// Tells the reader the answer, and naps where it goes on. Nothing is written where memory runs out.
+fn tell_answer<L: Link, P: Pause>(
+    alloc: Global,
+    name: &Name,
+    link: &mut L,
+    pause: &mut P,
+    told: &Option<Viewed>,
+    answer: &Answer,
+    text: &mut Vec<u8>,
+    turns: &mut Turns,
+) -> Result<Option<Viewed>, SessionEnd>
+    ensures sent { EndsLines name.now told.now answer.now (L.taken link.old) (L.taken link.new) (L.faults link.old) (L.faults link.new) turns.new result }
+    ensures left { Keeps (L.left link.old) (L.left link.new) }
+    ensures spent { MovesFor result turns.old (L.moves link.old) turns.new (L.moves link.new) }
+{
+    match answer {
+        Answer::Watched { info, files } => {
+            tell(alloc, name, link, pause, told, info, files, text, turns)
+        }
+        _ => Err(end_events(alloc, link, told, answer, turns)),
+    }
+}
+
+/// Tells the reader these files.
+fn tell<L: Link, P: Pause>(
+    alloc: Global,
+    name: &Name,
+    link: &mut L,
+    pause: &mut P,
+    told: &Option<Viewed>,
+    info: &NodeInfo,
+    files: &Files,
+    text: &mut Vec<u8>,
+    turns: &mut Turns,
+) -> Result<Option<Viewed>, SessionEnd>
+    ensures sent { EndsLines name.now told.now (answers.Watched info.now files.now) (L.taken link.old) (L.taken link.new) (L.faults link.old) (L.faults link.new) turns.new result }
+    ensures left { Keeps (L.left link.old) (L.left link.new) }
+    ensures spent { MovesFor result turns.old (L.moves link.old) turns.new (L.moves link.new) }
+{
+    match put_lines(alloc, name, told, info, files.as_slice(), text) {
+        Ok(()) => {}
+        Err(_) => return Err(SessionEnd::NoMemory),
+    }
+    let next = match viewed_of(told, info, files.as_slice()) {
+        Ok(next) => next,
+        Err(_) => return Err(SessionEnd::NoMemory),
+    };
+    match write_whole(link, text.as_slice(), turns) {
+        Ok(()) => {}
+        Err(end) => return Err(end),
+    }
+    if !stays(told, info, files.as_slice()) {
+        return Err(SessionEnd::Closed);
+    }
+    pause.nap();
+    Ok(Some(next))
+}
+
+/// Puts the lines in place of what is in the buffer.
+fn put_lines(
+    alloc: Global,
+    name: &Name,
+    told: &Option<Viewed>,
+    info: &NodeInfo,
+    files: &[Entry],
+    text: &mut Vec<u8>,
+) -> Result<(), NoMemory>
+    ensures { OnOk result (text.new.items ≡ told_lines name.now told.now info.now files.now) }
+{
+    text.clear();
+    match told {
+        None => {
+            write_typed_head(alloc, 200, b"application/x-ndjson", None, text)?;
+            put_init(alloc, info, text)
+        }
+        Some(viewed) => put_later(alloc, name, viewed, info, files, text),
+    }
+}
+
+/// Ends it with a reply, where nothing was told.
+fn end_events<L: Link>(
+    alloc: Global,
+    link: &mut L,
+    told: &Option<Viewed>,
+    answer: &Answer,
+    turns: &mut Turns,
+) -> SessionEnd
+    ensures end { EndsReply (last_lines told.now answer.now) (L.taken link.old) (L.taken link.new) (L.faults link.old) (L.faults link.new) turns.new result }
+    ensures left { Keeps (L.left link.old) (L.left link.new) }
+    ensures spent { MovesFor {T = Unit {0}} (Err result) turns.old (L.moves link.old) turns.new (L.moves link.new) }
+{
+    match told {
+        None => refuse_answer(alloc, link, answer, turns),
+        Some(_) => SessionEnd::Closed,
+    }
+}
