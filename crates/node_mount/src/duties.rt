@@ -71,6 +71,14 @@ pub fn to_primary<T: Dialer>(duties: &Option<Duties<T>>, dialer: &T) -> ToPrimar
     }
 }
 
+/// Where a node with these duties finds its primary.
+pub fn board_of<T>(duties: &Option<Duties<T>>) -> Result<Option<Board>, NoMemory> {
+    match duties {
+        Some(duties) => Ok(Some(duties.rounds.board.another()?)),
+        None => Ok(None),
+    }
+}
+
 /// The word that is closed once the rounds of these duties have ended; without any it is closed.
 pub fn rounds_word<T>(alloc: Global, duties: &Option<Duties<T>>) -> Result<Closing, NoMemory> {
     match duties {

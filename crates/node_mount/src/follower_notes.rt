@@ -7,9 +7,11 @@ use crate::frame_notes::is_snapshot;
 use crate::hearing::Hear;
 use crate::line::Line;
 use crate::notes::{Note, NoteKind, Notes};
+use crate::tally::{add, take_one};
 use lf_base::{NoMemory, Pos, pos_text};
 use node_core::{Answer, Ask};
 use std::alloc::Global;
+use std::cell::Cell;
 use std::sync::Wait;
 
 /// Notes what becomes of the follower of one session, if it is one's.
@@ -22,23 +24,37 @@ pub struct FollowerNotes<'n, R> {
     who: Line,
     /// Where it stands, once it was answered.
     at: Option<Pos>,
+    /// Whether it watches the node's events.
+    watches: &'n Cell<bool>,
 }
 
 impl<'n, R: Wait> FollowerNotes<'n, R> {
     /// Nothing was asked.
-    pub fn new(rt: R, alloc: Global, notes: &'n Notes, who: Line) -> FollowerNotes<'n, R> {
+    pub fn new(
+        rt: R,
+        alloc: Global,
+        notes: &'n Notes,
+        who: Line,
+        watches: &'n Cell<bool>,
+    ) -> FollowerNotes<'n, R> {
         FollowerNotes {
             rt,
             alloc,
             notes,
             who,
             at: None,
+            watches,
         }
     }
 
     /// The session ended.
     pub fn end(&self) {
+        let cells = self.notes.tally.cells();
+        if self.watches.get() {
+            take_one(&cells.watchers);
+        }
         if let Some(at) = self.at {
+            take_one(&cells.followers);
             self.notes
                 .put(&self.rt, gone_note(self.alloc, &self.who, at));
         }
@@ -50,9 +66,29 @@ impl<R: Wait> Hear for FollowerNotes<'_, R> {
         let at = follower_at(self.at, ask, answer);
         let comes = comes_note(self.alloc, &self.who, self.at, at, ask);
         self.notes.put(&self.rt, comes);
+        self.count(ask, answer, at.is_some());
         let sent = sent_note(self.alloc, &self.who, ask, answer);
         self.notes.put(&self.rt, sent);
         self.at = at;
+    }
+}
+
+impl<R: Wait> FollowerNotes<'_, R> {
+    /// Counts it, and what it is sent.
+    fn count(&self, ask: &Ask, answer: &Answer, follows: bool) {
+        let cells = self.notes.tally.cells();
+        if follows && self.at.is_none() {
+            add(&cells.followers, 1);
+        }
+        if matches!(ask, Ask::Watch { .. }) && !self.watches.replace(true) {
+            add(&cells.watchers, 1);
+        }
+        if let (Ask::Hello { .. }, Answer::Item { ltx, .. }) = (ask, answer) {
+            add(&cells.sent_bytes, ltx.as_slice().len() as u64);
+            if is_snapshot(ltx) {
+                add(&cells.snapshots, 1);
+            }
+        }
     }
 }
 

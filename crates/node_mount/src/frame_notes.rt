@@ -6,6 +6,7 @@ ghost use Rattle.node_mount.specs.declared.notes.NoteKind.TheVariants as kinds;
 use crate::hearing::Hear;
 use crate::line::Line;
 use crate::notes::{Note, NoteKind, Notes};
+use crate::tally::{Tally, add};
 use byte_locks::LockId;
 use lf_base::{Bytes, NoMemory, Pos, be64_at, pos_text};
 use node_core::{Answer, Ask};
@@ -200,6 +201,33 @@ fn lock_name(lock: LockId) -> &'static [u8]
     }
 }
 
+/// Counts what became of a frame: its lag is the time from its commit to its apply, each by its own node's clock.
+fn count_frame(tally: &Tally, ask: &Ask, answer: &Answer) {
+    match (ask, answer) {
+        (Ask::Frame { now, bytes }, Answer::Applied(_)) => {
+            if is_snapshot(bytes) {
+                add(&tally.cells().snapshots, 1);
+            }
+            if let Some(stamp) = stamp_of(bytes) {
+                tally.lag(now.saturating_sub(stamp));
+            }
+        }
+        (Ask::Frame { .. } | Ask::Drop { .. }, Answer::Held(_)) => {
+            add(&tally.cells().held_frames, 1);
+        }
+        _ => {}
+    }
+}
+
+/// The moment that the head of a file says, in milliseconds since the Unix epoch.
+fn stamp_of(bytes: &Bytes) -> Option<u64> {
+    let bytes = bytes.as_slice();
+    if bytes.len() < 40 {
+        return None;
+    }
+    Some(be64_at(bytes, 32))
+}
+
 /// Notes what comes of frames.
 #[derive(Drop)]
 pub struct FrameNotes<'n, R> {
@@ -211,6 +239,7 @@ pub struct FrameNotes<'n, R> {
 
 impl<R: Wait> Hear for FrameNotes<'_, R> {
     fn hear(&mut self, ask: &Ask, answer: &Answer) {
+        count_frame(&self.notes.tally, ask, answer);
         let note = self.replica.note(self.alloc, ask, answer);
         self.notes.put(&self.rt, note);
         self.replica = self.replica.after(ask, answer);

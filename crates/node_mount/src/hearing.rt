@@ -15,7 +15,7 @@ use node_core::{Answer, Ask};
 use replica_apply::{FollowEnd, follow_link};
 use std::alloc::Global;
 use std::sync::Wait;
-use stream_primary::serve_link;
+use stream_primary::{About, Gauge, serve_link};
 use turn_desk::{Desk, Machine, Seat, Worn};
 
 /// Hears what is asked of a node, and what it answers.
@@ -112,20 +112,21 @@ pub fn serve_heard<
     L: Link,
     C: Clock,
     P: Pause,
+    G: Gauge,
     H: Hear,
 >(
     rt: R,
     alloc: Global,
     desk: &Desk<M>,
     seat: &mut Seat<M>,
-    name: &Name,
+    about: &About<G>,
     link: &mut L,
     clock: &mut C,
     pause: &mut P,
     hears: &mut H,
 ) -> SessionEnd
     requires { IsOf seat.old desk.now }
-    ensures session { IsSession (record { caller = number_of seat.old; may = C.may_give clock.old }) name.now BUDGET (stand L.Link link.old (view seat.old).mine)
+    ensures session { IsSession (record { caller = number_of seat.old; may = C.may_give clock.old }) about.now.name BUDGET (stand L.Link link.old (view seat.old).mine)
         (stand L.Link link.new (view seat.new).mine) result }
     ensures worn { result ≡ session_ends.Worn → FoundWorn seat.new }
     ensures history { HasGoneOn M.steps (opened_on desk.now) (number_of seat.new) (view seat.old) (view seat.new) }
@@ -138,5 +139,5 @@ pub fn serve_heard<
         seat,
         hears,
     };
-    serve_link(alloc, &mut steps, name, link, clock, pause, BUDGET)
+    serve_link(alloc, &mut steps, about, link, clock, pause, BUDGET)
 }

@@ -8,6 +8,7 @@ use crate::hearing::serve_heard;
 use crate::line::Line;
 use crate::means::Means;
 use crate::mount_fault::MountFault;
+use crate::node_gauge::{Meters, NodeGauge};
 use crate::notes::Notes;
 use crate::place::Place;
 use crate::sessions::LINKS;
@@ -17,6 +18,8 @@ use lf_base::{
 };
 use node_core::{Answer, Ask};
 use std::alloc::Global;
+use std::cell::Cell;
+use stream_primary::{About, Gauge};
 use turn_desk::{Machine, Rest};
 
 /// How many HTTP links are served at a time, each stream to a follower among them.
@@ -35,18 +38,21 @@ pub struct Door<A> {
     pub calling: Calling,
 }
 
-/// What is asked on HTTP links: a node of this database. The jobs note there what becomes of followers.
+/// What is asked on HTTP links: a node of this database, with its figures. The jobs note there what becomes of
+/// followers.
 #[derive(Drop)]
 pub struct Calling {
     pub name: Name,
     pub notes: Notes,
+    pub meters: Meters,
 }
 
 impl Calling {
-    pub fn of(name: &Name, notes: &Notes) -> Result<Calling, NoMemory> {
+    pub fn of(name: &Name, notes: &Notes, meters: &Meters) -> Result<Calling, NoMemory> {
         Ok(Calling {
             name: name.copy()?,
             notes: notes.another()?,
+            meters: meters.another()?,
         })
     }
 }
@@ -168,7 +174,7 @@ fn start_serving<
 
 /// The work of one more job that serves these links.
 fn callers_of<L: Drop>(calling: &Calling, links: &Links<L>) -> Result<Callers<L>, NoMemory> {
-    let calling = Calling::of(&calling.name, &calling.notes)?;
+    let calling = Calling::of(&calling.name, &calling.notes, &calling.meters)?;
     let links = links.another()?;
     Ok(Callers { links, calling })
 }
@@ -189,11 +195,23 @@ impl<L: Link + Drop> Work for Callers<L> {
         P: Pause + Copy,
     >(self, means: Means<R, C, P>, place: Place<K>) {
         let (mut means, mut place) = (means, place);
+        let Callers { links, calling } = self;
+        let Calling {
+            name,
+            notes,
+            meters,
+        } = calling;
+        let gauge = NodeGauge {
+            rt: means.rt,
+            clock: means.clock,
+            meters,
+        };
+        let about = About { name, gauge };
         for _ in 0..LINKS {
-            let Some(link) = self.links.take(&means.rt) else {
+            let Some(link) = links.take(&means.rt) else {
                 break;
             };
-            serve_caller(&mut means, &mut place, &self.calling, link);
+            serve_caller(&mut means, &mut place, &about, &notes, link);
         }
     }
 }
@@ -202,26 +220,55 @@ impl<L: Link + Drop> Work for Callers<L> {
 fn serve_caller<
     R: Handles + Copy,
     K: Machine<Ask = Ask, Answer = Answer>,
+    G: Gauge,
     L: Link + Drop,
     C: Clock,
-    P: Pause,
->(means: &mut Means<R, C, P>, place: &mut Place<K>, calling: &Calling, link: L) {
+    P: Pause + Copy,
+>(means: &mut Means<R, C, P>, place: &mut Place<K>, about: &About<G>, notes: &Notes, link: L) {
     let mut link = link;
     let who = peer_line(means.alloc, &link);
-    let mut hears = FollowerNotes::new(means.rt, means.alloc, &calling.notes, who);
-    let mut rest = Rest::new(means.rt, &*place.desk, LEVEL_MS);
+    let watches = Cell::new(false);
+    let mut hears = FollowerNotes::new(means.rt, means.alloc, notes, who, &watches);
+    let mut pause = CallPause {
+        rest: Rest::new(means.rt, &*place.desk, LEVEL_MS),
+        nap: means.pause,
+        watches: &watches,
+    };
     serve_heard(
         means.rt,
         means.alloc,
         &*place.desk,
         &mut place.seat,
-        &calling.name,
+        about,
         &mut link,
         &mut means.clock,
-        &mut rest,
+        &mut pause,
         &mut hears,
     );
     hears.end();
+}
+
+/// The pause of a session: a commit ends the rest of a follower, and a watcher of events naps by time, so that
+/// no commit wakes it.
+#[derive(Drop)]
+struct CallPause<'c, W, P> {
+    rest: W,
+    nap: P,
+    watches: &'c Cell<bool>,
+}
+
+impl<W: Pause, P: Pause> Pause for CallPause<'_, W, P> {
+    fn nap(&mut self) {
+        self.naps(1);
+    }
+
+    fn naps(&mut self, count: u64) {
+        if self.watches.get() {
+            self.nap.naps(count);
+        } else {
+            self.rest.naps(count);
+        }
+    }
 }
 
 /// A blank and the address at the other end of a link, or nothing where that isn't known.

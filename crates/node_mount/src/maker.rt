@@ -7,6 +7,7 @@ ghost use Rattle.node_mount.specs.Mounters.{mount_call};
 use crate::failing::FailedCall;
 use crate::mounter::Mounter;
 use crate::obstacle::Obstacle;
+use crate::tally::Tally;
 use crate::tell::Tell;
 use lf_base::{
     Acceptor, Clock, Closing, Dialer, Failed, Link, Name, NoMemory, Pause, Spawner, Text,
@@ -110,6 +111,11 @@ pub trait Maker {
 
     /// Where the lines of its node go. All that it gives tell at the same place.
     fn tell(&mut self) -> Self::Tell
+        ensures kept { (asked self.new ≡ asked self.old) × (number self.new ≡ number self.old) }
+        ensures same { (counts self.new ≡ counts self.old) × (back self.new ≡ back self.old) };
+
+    /// Where its disks count, and what else counts for its node. All that it gives are of the same counts.
+    fn tally(&mut self) -> Result<Tally, NoMemory>
         ensures kept { (asked self.new ≡ asked self.old) × (number self.new ≡ number self.old) }
         ensures same { (counts self.new ≡ counts self.old) × (back self.new ≡ back self.old) };
 

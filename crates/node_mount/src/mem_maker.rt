@@ -20,6 +20,7 @@ use crate::mem_mounter::{MemMounter, MemProgram};
 use crate::mem_spawn::MemSpawn;
 use crate::obstacle::Obstacle;
 use crate::returned::Returned;
+use crate::tally::Tally;
 use crate::tell::{KeptLines, KeptPlace};
 use lf_base::{
     Closing, Dialer, Failed, FixedClock, ListAcceptor, MemDialer, MemLink, Name, NoMemory, NoPause,
@@ -45,6 +46,8 @@ struct Aside {
     program: MemProgram,
     /// It is closed: its acceptors end by themselves.
     ending: Closing,
+    /// Its disks count nothing.
+    tally: Tally,
 }
 
 impl Aside {
@@ -57,6 +60,7 @@ impl Aside {
             lines: KeptPlace::new(alloc)?,
             program: MemProgram::Runs,
             ending,
+            tally: Tally::new(alloc)?,
         })
     }
 }
@@ -178,7 +182,7 @@ impl MemMaker {
         ensures fails { IsTrue result ↔ Contains self.old.failing self.old.calls }
         ensures called { self.new ≡ called self.old }
     {
-        let fails = self.failing.contains(&self.calls);
+        let fails = is_planned(self.failing.as_slice(), self.calls);
         self.calls = self.calls.saturating_add(1);
         fails
     }
@@ -193,6 +197,13 @@ impl MemMaker {
             Err(_) => self.asked.lose(),
         }
     }
+}
+
+/// Whether the call of this number is to fail.
+fn is_planned(failing: &[u64], call: u64) -> bool
+    ensures { IsTrue result ↔ Contains failing.now call }
+{
+    failing.contains(&call)
 }
 
 impl Maker for MemMaker {
@@ -342,6 +353,12 @@ impl Maker for MemMaker {
         ensures { self.new ≡ self.old }
     {
         KeptLines::new(self.aside.alloc, &self.aside.lines)
+    }
+
+    fn tally(&mut self) -> Result<Tally, NoMemory>
+        ensures { self.new ≡ self.old }
+    {
+        self.aside.tally.another()
     }
 
     fn ending(&mut self) -> Result<Closing, NoMemory>

@@ -4,6 +4,7 @@ ghost use Rattle.node_mount.specs.Noting.{BeginsWith, IsDue, IsNext};
 
 use crate::line::Line;
 use crate::stream_notes::{begins_line, ends_line, not_reached_line};
+use crate::tally::Tally;
 use lf_base::{NoMemory, Text};
 use replica_apply::FollowEnd;
 use std::alloc::Global;
@@ -63,12 +64,18 @@ pub const KINDS: [NoteKind; 9] = [
 pub struct Notes {
     alloc: Global,
     notes: Arc<Mutex<Vec<Note>>, Global>,
+    /// What the jobs count.
+    pub tally: Tally,
 }
 
 impl Notes {
-    pub fn new(alloc: Global) -> Result<Notes, NoMemory> {
+    pub fn new(alloc: Global, tally: Tally) -> Result<Notes, NoMemory> {
         let notes = Arc::new(alloc, Mutex::new(Vec::new(alloc)))?;
-        Ok(Notes { alloc, notes })
+        Ok(Notes {
+            alloc,
+            notes,
+            tally,
+        })
     }
 
     /// A second hold of the same notes.
@@ -77,6 +84,7 @@ impl Notes {
         Ok(Notes {
             alloc: self.alloc,
             notes,
+            tally: self.tally.another()?,
         })
     }
 

@@ -115,13 +115,18 @@ fn serve_all<
     ensures limit { GivesLimit (A.given files.new) result }
     ensures cause { CountsServing (A.faults files.old) (A.faults files.new) (S.faults spawner.old) (S.faults spawner.new) result }
 {
-    let Ok(calling) = Calling::of(&read.settings.database, &tasks.watching.notes) else {
+    let Ok(calling) = Calling::of(
+        &read.settings.database,
+        &tasks.watching.notes,
+        &tasks.meters,
+    ) else {
         return Err(MountFault::NoMemory);
     };
     let Tasks {
         duties,
         watching,
         writer,
+        meters: _,
     } = tasks;
     match start_tasks(means, place, duties, watching, closing, spawner) {
         Ok(()) => {}

@@ -3,8 +3,10 @@ ghost use Rattle.std.specs.Prelude.{◌≡◌, IfOk};
 ghost use Rattle.lf_base.specs.Faults.{CountsFaults};
 ghost use Rattle.node_mount.specs.Places.{HasSeenNone};
 
+use crate::counted_link::CountedLink;
 use crate::means::Means;
 use crate::place::Place;
+use crate::tally::Tally;
 use crate::to_primary::ToPrimary;
 use crate::work::{Work, start_work};
 use file_session::serve_seat;
@@ -31,6 +33,8 @@ pub struct Writer<T> {
     pub name: Name,
     pub node: u64,
     pub dialer: ToPrimary<T>,
+    /// Where what is refused is counted.
+    pub tally: Tally,
 }
 
 impl<T: Dialer> Writer<T> {
@@ -39,10 +43,12 @@ impl<T: Dialer> Writer<T> {
         ensures name { IfOk result (λ other. other.name ≡ self.now.name) }
         ensures node { IfOk result (λ other. other.node ≡ self.now.node) }
     {
+        let tally = self.tally.another()?;
         Ok(Writer {
             name: self.name.copy()?,
             node: self.node,
             dialer: self.dialer.another(),
+            tally,
         })
     }
 }
@@ -89,10 +95,14 @@ impl<L: Link + Drop, U: Link + Drop, T: Dialer<L = U> + Drop> Work for Client<L,
         C: Clock + Copy,
         P: Pause + Copy,
     >(self, means: Means<R, C, P>, place: Place<K>) {
-        let Client {
-            mut link,
-            mut writer,
-        } = self;
+        let Client { link, writer } = self;
+        let Writer {
+            name,
+            node,
+            mut dialer,
+            tally,
+        } = writer;
+        let mut link = CountedLink::new(link, tally);
         let (mut seat, mut clock) = (place.seat, means.clock);
         let mut rest = Rest::new(means.rt, &*place.desk, BUSY_MS);
         serve_seat(
@@ -100,10 +110,10 @@ impl<L: Link + Drop, U: Link + Drop, T: Dialer<L = U> + Drop> Work for Client<L,
             means.alloc,
             &*place.desk,
             &mut seat,
-            &writer.name,
-            writer.node,
+            &name,
+            node,
             &mut link,
-            &mut writer.dialer,
+            &mut dialer,
             &mut clock,
             &mut rest,
             BUDGET,

@@ -18,6 +18,7 @@ use crate::system::System;
 use crate::system_dial::SystemDial;
 use crate::system_line::SystemLine;
 use crate::system_mounter::SystemMounter;
+use crate::tally::Tally;
 use crate::tell::{ErrorLines, ErrorPlace};
 use lf_base::{
     Closing, Failed, Name, NoMemory, SleepPause, SystemClock, TcpAccept, Text, ThreadSpawner,
@@ -51,6 +52,7 @@ pub struct SystemMaker<R: System> {
     lines: ErrorPlace,
     /// Which call of the disk failed last.
     failing: Failing,
+    tally: Tally,
     node: u64,
     /// The lock of the data directory. It is held until the maker goes.
     lock: Option<File>,
@@ -67,12 +69,14 @@ impl<R: System> SystemMaker<R> {
         let back = Keeping::new(rt.alloc(), PLACES)?;
         let lines = ErrorPlace::new(rt.alloc())?;
         let failing = Failing::new(rt.alloc())?;
+        let tally = Tally::new(rt.alloc())?;
         let node = random_number(&rt);
         Ok(SystemMaker {
             rt,
             closing,
             lines,
             failing,
+            tally,
             node,
             lock: None,
             obstacle: None,
@@ -90,18 +94,20 @@ fn random_number<R: System>(rt: &R) -> u64 {
     }
 }
 
-/// The data directory of a database, whose calls that fail are noted, and the lock of it.
+/// The data directory of a database, whose calls that fail are noted and whose transactions are counted, and
+/// the lock of it.
 fn opened_noting<R: System>(
     rt: R,
     name: &Name,
     failing: &Failing,
+    tally: &Tally,
 ) -> Result<(NotingDisk<R, DirDisk<R>>, File), Option<Obstacle>>
     ensures { IfOk result (λ made. (made.0.disk.moment ≡ 0) × (made.0.disk.faults ≡ 0)) }
 {
     let (disk, lock) = open_directory(rt, name)?;
-    match failing.another() {
-        Ok(failing) => Ok((NotingDisk::new(rt, disk, failing), lock)),
-        Err(_) => Err(None),
+    match (failing.another(), tally.another()) {
+        (Ok(failing), Ok(tally)) => Ok((NotingDisk::new(rt, disk, failing, tally), lock)),
+        _ => Err(None),
     }
 }
 
@@ -178,7 +184,7 @@ impl<R: System + Send + 'static> Maker for SystemMaker<R> {
     ghost may_give = { λ _ _. Unit {0} };
 
     fn disk(&mut self, name: &Name) -> Result<NotingDisk<R, DirDisk<R>>, Failed> {
-        match opened_noting(self.rt, name, &self.failing) {
+        match opened_noting(self.rt, name, &self.failing, &self.tally) {
             Ok((disk, lock)) => {
                 self.lock = Some(lock);
                 Ok(disk)
@@ -243,6 +249,10 @@ impl<R: System + Send + 'static> Maker for SystemMaker<R> {
 
     fn tell(&mut self) -> ErrorLines<R> {
         ErrorLines::new(self.rt, &self.lines)
+    }
+
+    fn tally(&mut self) -> Result<Tally, NoMemory> {
+        self.tally.another()
     }
 
     fn ending(&mut self) -> Result<Closing, NoMemory> {

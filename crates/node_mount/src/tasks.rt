@@ -4,15 +4,16 @@ ghost use Rattle.node_mount.specs.Asking.{AsksMount};
 ghost use Rattle.node_mount.specs.Duties.{AreDuties, HasDialer};
 ghost use Rattle.node_mount.specs.Mounters.{Mounts};
 
-use crate::duties::{Duties, duties_of, to_primary};
+use crate::duties::{Duties, board_of, duties_of, to_primary};
 use crate::maker::Maker;
 use crate::mount_keeper::MountKeeper;
+use crate::node_gauge::Meters;
 use crate::notes::Notes;
 use crate::patience::lease_patience;
 use crate::sessions::Writer;
 use crate::tell::Lines;
 use crate::watching::{Watching, watching_of};
-use lf_base::NoMemory;
+use lf_base::{Clock, NoMemory};
 use node_settings::{LeaseType, Settings};
 use std::alloc::Global;
 
@@ -22,6 +23,7 @@ pub struct Tasks<T, E, N> {
     pub duties: Option<Duties<T>>,
     pub watching: Watching<E, N>,
     pub writer: Writer<T>,
+    pub meters: Meters,
 }
 
 /// Those of a node of these settings, with what keeps the program running that mounts its files.
@@ -42,18 +44,27 @@ pub fn tasks_of<M: Maker>(
 {
     let lines = Lines::new(make.tell(), settings.log);
     let ending = make.ending()?;
-    let notes = Notes::new(alloc)?;
+    let tally = make.tally()?;
+    let notes = Notes::new(alloc, tally.another()?)?;
     let duties = duties_of(alloc, settings, make.node_id(), dialer, asking, &notes)?;
     let watching = watching_of(alloc, settings, lines, notes, mount, ending)?;
     let writer = Writer {
         name: settings.database.copy()?,
         node: make.node_id(),
         dialer: to_primary(&duties, dialer),
+        tally: tally.another()?,
+    };
+    let meters = Meters {
+        node: make.node_id(),
+        started: make.clock().now_ms(),
+        board: board_of(&duties)?,
+        tally,
     };
     Ok(Tasks {
         duties,
         watching,
         writer,
+        meters,
     })
 }
 

@@ -2,9 +2,10 @@
 //! the node was asked.
 mod stored;
 
+use crate::figures::about;
 use crate::links::link_of;
 use crate::same::same;
-use lf_base::{FixedClock, MemLink, Name, NoPause, SessionEnd};
+use lf_base::{FixedClock, MemLink, NoPause, SessionEnd};
 use std::alloc::Global;
 use std::process::Abort;
 use std::sync::Wait;
@@ -229,11 +230,11 @@ fn served<R: Wait + Copy + Abort>(
 ) -> (SessionEnd, Stored) {
     let machine = Stored::new(alloc, row.answers);
     let (desk, mut seat) = Desk::open(alloc, machine).ok().expect(&rt, "a desk");
-    let name = Name::read(alloc, b"app").expect(&rt, "a name");
+    let about = about(rt, alloc);
     let mut clock = FixedClock::new(5);
     let mut pause = NoPause::new();
     let end = serve_seat(
-        rt, alloc, &desk, &mut seat, &name, link, &mut clock, &mut pause, row.budget,
+        rt, alloc, &desk, &mut seat, &about, link, &mut clock, &mut pause, row.budget,
     );
     (end, desk.close(rt, seat))
 }

@@ -1,9 +1,10 @@
 //! A table of write permits over HTTP: what came, what was written, how it ended and what the node was asked.
 mod permitting;
 
+use crate::figures::about;
 use crate::links::link_of;
 use crate::same::same;
-use lf_base::{FixedClock, MemLink, Name, NoPause, SessionEnd};
+use lf_base::{FixedClock, MemLink, NoPause, SessionEnd};
 use permitting::Permitting;
 pub use permitting::Word;
 use std::alloc::Global;
@@ -204,11 +205,11 @@ fn served<R: Wait + Copy + Abort>(
 ) -> (SessionEnd, Permitting) {
     let machine = Permitting::new(alloc, row.answers);
     let (desk, mut seat) = Desk::open(alloc, machine).ok().expect(&rt, "a desk");
-    let name = Name::read(alloc, b"app").expect(&rt, "a name");
+    let about = about(rt, alloc);
     let mut clock = FixedClock::new(5);
     let mut pause = NoPause::new();
     let end = serve_seat(
-        rt, alloc, &desk, &mut seat, &name, link, &mut clock, &mut pause, row.budget,
+        rt, alloc, &desk, &mut seat, &about, link, &mut clock, &mut pause, row.budget,
     );
     (end, desk.close(rt, seat))
 }

@@ -11,6 +11,8 @@ mod databases;
 #[cfg(test)]
 mod ended;
 #[cfg(test)]
+mod figures;
+#[cfg(test)]
 mod files;
 #[cfg(test)]
 mod following;

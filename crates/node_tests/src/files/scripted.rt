@@ -75,6 +75,7 @@ impl Machine for Scripted {
             | Ask::Import { .. }
             | Ask::Prune { .. }
             | Ask::Info { .. }
+            | Ask::Watch { .. }
             | Ask::Lease { .. }
             | Ask::HaltAsk { .. }
             | Ask::HaltBack { .. }
