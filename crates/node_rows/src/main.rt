@@ -6,6 +6,7 @@
 mod clients;
 mod comparing;
 mod difference;
+mod failing;
 mod fault;
 mod flag;
 mod folder;
@@ -26,6 +27,7 @@ mod waiting;
 mod way;
 
 use difference::Difference;
+use failing::play_failing;
 use fault::Fault;
 use gathering::scenes_in;
 use node_mount::System;
@@ -50,7 +52,8 @@ fn main(rt: HostRuntime) -> Result<(), Fault> {
 fn play_record<R: System + Print + Send + 'static>(rt: R, record: &str) -> Result<(), Fault> {
     let text = fs::read_to_string(&rt, record)?;
     let scenes = scenes_in(rt.alloc(), text.as_str())?;
-    play_scenes(rt, &scenes)
+    play_scenes(rt, &scenes)?;
+    play_failing(rt, rt.alloc(), &scenes)
 }
 
 fn play_scenes<R: System + Print + Send + 'static>(rt: R, scenes: &[Scene]) -> Result<(), Fault> {

@@ -11,7 +11,7 @@ use lf_base::{Handles, MemLink, pos_text};
 use std::alloc::Global;
 
 /// For how many bytes more than the wanted replies a link has room.
-const ROOM: usize = 4_096;
+pub const ROOM: usize = 4_096;
 
 fn link_of(alloc: Global, session: &Session) -> Result<MemLink, Fault> {
     let requests = Vec::from_slice(alloc, &session.requests)?;

@@ -7,7 +7,7 @@ use lf_base::{
 };
 use lf_disk::MemDisk;
 use node_mount::{
-    Counts, FailedCall, KeptLines, Maker, MemMaker, MemMounter, MemSpawn, Obstacle, System,
+    Counts, FailedCall, KeptLines, Maker, MemMaker, MemMounter, MemSpawn, Obstacle, System, Tally,
 };
 use node_settings::MountSettings;
 use std::fs;
@@ -122,6 +122,10 @@ impl<R: System + Send + 'static> Maker for SocketMaker<R> {
 
     fn tell(&mut self) -> KeptLines {
         self.memory.tell()
+    }
+
+    fn tally(&mut self) -> Result<Tally, NoMemory> {
+        self.memory.tally()
     }
 
     /// A word of its own, which is closed: what watches a node in place looks at it once.

@@ -20,7 +20,7 @@ const JOURNAL: u64 = 3;
 pub const SHARED_MEMORY: u64 = 5;
 
 /// The caller that commits.
-const WRITER: u64 = 1;
+pub const WRITER: u64 = 1;
 
 /// The bytes of the lock SHARED.
 const SHARED: (u64, u64) = (0x4000_0002, 0x4000_01ff);
@@ -36,7 +36,7 @@ pub fn bytes(alloc: Global, text: &[u8]) -> Result<Bytes, Fault> {
 }
 
 /// A page full of a byte.
-fn page_of(alloc: Global, byte: u8) -> Result<Bytes, Fault> {
+pub fn page_of(alloc: Global, byte: u8) -> Result<Bytes, Fault> {
     Ok(Bytes::of(vec![in alloc; byte; 512]?))
 }
 
@@ -81,7 +81,7 @@ pub fn creates(
     Ok(does(node, caller, FOLDER, Op::Create { name }))
 }
 
-fn writes(node: &mut MemNode, about: u64, fh: u64, at: u64, bytes: Bytes) -> Answer {
+pub fn writes(node: &mut MemNode, about: u64, fh: u64, at: u64, bytes: Bytes) -> Answer {
     let op = Op::Write {
         fh,
         at,

@@ -4,15 +4,18 @@
 
 mod accepted;
 mod chance;
+mod changes;
 mod clients;
 mod cluster;
 mod fault;
 mod files;
+mod full;
 mod halted;
 mod halted_scenes;
 mod levels;
 mod likeness;
 mod lineage;
+mod log_clients;
 mod nodes;
 mod permits;
 mod readers;
@@ -20,6 +23,7 @@ mod road;
 mod scenes;
 mod seeds;
 mod stops;
+mod strange;
 mod tally;
 mod told;
 mod turns;
@@ -38,6 +42,8 @@ fn play_all(
 ) -> Result<(), Fault> {
     scenes::print_scenes(rt, one, other)?;
     stops::print_stops(rt, one, other, third)?;
+    changes::print_changes(rt, one, other, third)?;
+    full::print_full(rt, one)?;
     let mut cluster = Cluster {
         primary: one,
         left: other,

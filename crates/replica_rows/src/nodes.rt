@@ -131,6 +131,14 @@ pub fn renew_on(
     Ok(())
 }
 
+/// The node becomes a primary of a database that was never written, on a disk that has no room from a call on.
+pub fn renew_full(alloc: Global, node: &mut MemNode, call: u64) -> Result<(), Fault> {
+    let mut disk = blank(alloc, Failing::From, call)?;
+    disk.lose_room();
+    put(node, opened(alloc, disk, Part::Primary)?);
+    Ok(())
+}
+
 /// The node becomes one of a database that was never written.
 pub fn renew(alloc: Global, node: &mut MemNode, part: Part) -> Result<(), Fault> {
     renew_on(alloc, node, part, Failing::From, NEVER)

@@ -3,8 +3,9 @@
 use crate::fault::Fault;
 use crate::nodes::{MemNode, NOWHERE, Part};
 use crate::permits::Asked;
+use crate::strange::{ALL, CUT, OTHER_SIZE, OTHER_SUM};
 use crate::turns::{Pair, Said, Turn, Who, play};
-use crate::waits::{ROLLBACK, WAL};
+use crate::waits::{LEAVES, ROLLBACK, WAL};
 use fuse_msgs::LockWish;
 use lf_base::Pos;
 
@@ -128,6 +129,36 @@ const DROP: &[Turn] = &[
     Turn::Follow,
 ];
 
+/// A reader at the replica holds the word of a drop back.
+const HELD_DROP: &[Turn] = &[
+    Turn::Title("a reader holds a drop back"),
+    PRIMARY,
+    REPLICA,
+    FIRST,
+    Turn::Follow,
+    Turn::Unlink,
+    Turn::Owe,
+    Turn::Wait(LEAVES),
+];
+
+/// Bytes that are no file, and files that don't fit. A replica at the last transaction there is, restarted
+/// as a primary, commits nothing more.
+const STRANGE: &[Turn] = &[
+    Turn::Title("what doesn't fit"),
+    PRIMARY,
+    REPLICA,
+    Turn::Prune(2),
+    FIRST,
+    Turn::Follow,
+    Turn::Give(CUT),
+    Turn::Give(OTHER_SUM),
+    Turn::Give(OTHER_SIZE),
+    Turn::Title("no further transaction"),
+    Turn::Give(ALL),
+    Turn::Restart(Who::Replica, Part::Primary),
+    Turn::Commit(Who::Replica, &[(1, 1)]),
+];
+
 /// The first file is given to its own primary and to the replica, and the second one to the replica
 /// twice, and once it was never written.
 const REFUSALS: &[Turn] = &[
@@ -203,7 +234,7 @@ const UNDER: &[Turn] = &[
 ];
 
 const SCENES: &[&[Turn]] = &[
-    FOLLOWING, PRIMARIES, LOG, READER, WAITS, DROP, REFUSALS, UNDER, FORK,
+    FOLLOWING, PRIMARIES, LOG, READER, WAITS, DROP, HELD_DROP, REFUSALS, STRANGE, UNDER, FORK,
 ];
 
 /// The scenes, one after another. Each begins its nodes anew.

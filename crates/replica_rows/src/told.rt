@@ -53,7 +53,7 @@ pub fn told_by(alloc: Global, answer: &Answer) -> Told {
         Answer::Send { .. } => Told::Word("a commit to be sent"),
         Answer::Pass(_) => Told::Word("a write permit"),
         Answer::Bytes(_) => Told::Word("bytes"),
-        Answer::Info(info) => Told::At("at", info.pos),
+        Answer::Info(info) | Answer::Watched { info, .. } => Told::At("at", info.pos),
         Answer::Refused(
             Refusal::Store(StoreFault::NotNext { have, want })
             | Refusal::Halt(HaltFault::Behind { have, want }),

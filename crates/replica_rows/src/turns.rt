@@ -6,10 +6,11 @@ use crate::levels::asked_by;
 use crate::nodes::{MemNode, NOW, Part, ask, renew, restart, whereabouts};
 use crate::permits::{Asked, makes, permits};
 use crate::readers::{opens, reads_around, wishes};
+use crate::strange::{Pieces, joined};
 use crate::told::told_by;
 use crate::waits::{Moment, asks_by};
 use fuse_msgs::{LockWish, Op};
-use lf_base::Pos;
+use lf_base::{Bytes, Pos};
 use node_core::{Answer, Ask, Whereabouts};
 use txn_log::LastFile;
 
@@ -48,6 +49,8 @@ pub enum Turn {
     Owe,
     /// The node is given what was owed last.
     Take(Who),
+    /// The replica is given these bytes as a file.
+    Give(Pieces),
     /// The primary is told that the database was dropped elsewhere.
     Drop,
     /// The primary's log keeps so many files.
@@ -188,6 +191,12 @@ fn asks_at(rt: HostRuntime, node: &mut MemNode, pos: Pos) -> Result<(), Fault> {
     asks(rt, "primary", node, asked)
 }
 
+/// The replica is given bytes as a file.
+fn is_given(rt: HostRuntime, replica: &mut MemNode, pieces: Pieces) -> Result<(), Fault> {
+    let bytes = Bytes::of(joined(rt.alloc(), pieces)?);
+    asks(rt, "replica", replica, Ask::Frame { now: NOW, bytes })
+}
+
 fn speaks(pair: &mut Pair<'_>, said: Said) -> Result<(), Fault> {
     pair.said = said;
     Ok(())
@@ -203,6 +212,7 @@ fn happens(rt: HostRuntime, pair: &mut Pair<'_>, turn: &Turn) -> Result<(), Faul
         Turn::Ask(who, pos) => asks_at(rt, pair.node(who), pos),
         Turn::Owe => owes(rt, pair),
         Turn::Take(who) => takes(rt, pair, who),
+        Turn::Give(pieces) => is_given(rt, pair.replica, pieces),
         Turn::Drop => asks(rt, "replica", pair.primary, Ask::Drop { now: NOW }),
         Turn::Prune(keep) => asks(rt, "primary", pair.primary, Ask::Prune { keep }),
         Turn::Unlink => unlinks(rt, pair.primary),

@@ -116,6 +116,16 @@ pub const WAL: &[Moment] = &[
     (472, Asked::Reads(COMES, Lock::Read1)),
 ];
 
+/// A reader in rollback mode is inside when what was owed is given, and then it leaves.
+pub const LEAVES: &[Moment] = &[
+    (0, Asked::Reads(INSIDE, Lock::Pending)),
+    (0, Asked::Reads(INSIDE, Lock::Shared)),
+    (0, Asked::Leaves(INSIDE, Lock::Pending)),
+    (0, Asked::File),
+    (1, Asked::Leaves(INSIDE, Lock::Shared)),
+    (1, Asked::File),
+];
+
 /// A reader opens the database file, and the shared memory by its second handle.
 fn opens(rt: HostRuntime, replica: &mut MemNode, reader: u64) -> Result<(), Fault> {
     does(replica, reader, DATABASE, Op::Open);

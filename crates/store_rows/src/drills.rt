@@ -9,7 +9,7 @@ use std::io;
 const CHOICES: [u64; 4] = [0, u64::MAX / 3, 0x6666_6666_6666_6666, u64::MAX];
 
 /// More calls than the script makes of its disk.
-const ENOUGH: u64 = 140;
+pub const ENOUGH: u64 = 140;
 
 /// How the script is played.
 #[derive(Clone, Copy)]

@@ -157,7 +157,7 @@ fn print_to(
 const BREAKING: &[Step] = &[Step::Commit(1, &[(1, 0)]), Step::Apply(B)];
 
 /// A store at transaction 1 that a failed call of its disk broke.
-fn broken(alloc: Global) -> Option<MemStore> {
+pub fn broken(alloc: Global) -> Option<MemStore> {
     let (calls, _) = calls_of(alloc, Way::Whole, BREAKING.get(..1)?)?;
     stopped(alloc, calls, Way::Whole, BREAKING, 1)
 }

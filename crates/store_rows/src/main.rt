@@ -3,10 +3,15 @@
 #![tactic(auto)]
 
 mod answers;
+mod copies;
+mod damaged;
 mod drills;
 mod folders;
 mod given;
+mod into;
 mod primaries;
+mod recoveries;
+mod refusals;
 mod samples;
 mod scenes;
 mod script;
@@ -26,7 +31,11 @@ fn main(rt: HostRuntime) -> io::Result<()> {
     primaries::print_primaries(rt)?;
     sources::print_sources(rt)?;
     given::print_given(rt)?;
+    refusals::print_refusals(rt)?;
+    into::print_snapshots(rt)?;
+    damaged::print_damaged(rt)?;
     drills::print_drills(rt)?;
+    recoveries::print_recoveries(rt)?;
     folders::print_script(rt)?;
     folders::print_two_files(rt)
 }

@@ -1,4 +1,4 @@
-//! Transaction files of databases with pages of 512 bytes, of which each is full of one byte. The sums
+//! Transaction files of databases, of which each page has 512 bytes and is full of one byte. The sums
 //! were computed by another program.
 ghost use Rattle.std.specs.Prelude.{IfSome};
 ghost use Rattle.ltx_codec.specs.Format.{IsFile};
@@ -13,6 +13,7 @@ pub type Filled = (u32, u8);
 /// A transaction file.
 #[derive(Clone, Copy)]
 pub struct Sample {
+    pub page_size: u32,
     pub min: u64,
     pub max: u64,
     pub commit: u32,
@@ -32,6 +33,7 @@ pub const ONE_AND_TWO: u64 = 0xad2d_ffe3_3333_3333;
 
 /// One page of zeros.
 pub const A: Sample = Sample {
+    page_size: 512,
     min: 1,
     max: 1,
     commit: 1,
@@ -42,6 +44,7 @@ pub const A: Sample = Sample {
 
 /// A second page of zeros.
 pub const B: Sample = Sample {
+    page_size: 512,
     min: 2,
     max: 2,
     commit: 2,
@@ -52,6 +55,7 @@ pub const B: Sample = Sample {
 
 /// Two pages of zeros, as the transactions 1 to 8.
 pub const ZEROS_TO_8: Sample = Sample {
+    page_size: 512,
     min: 1,
     max: 8,
     commit: 2,
@@ -62,6 +66,7 @@ pub const ZEROS_TO_8: Sample = Sample {
 
 /// A page of 1 and one of 2, as the transactions 1 to 6.
 pub const FILLED_TO_6: Sample = Sample {
+    page_size: 512,
     min: 1,
     max: 6,
     commit: 2,
@@ -72,7 +77,7 @@ pub const FILLED_TO_6: Sample = Sample {
 
 fn header_of(sample: &Sample) -> Header {
     Header {
-        page_size: 512,
+        page_size: sample.page_size,
         commit: sample.commit,
         min: sample.min,
         max: sample.max,

@@ -39,6 +39,7 @@ const OVER_ZEROS: &[Stage] = &[NEVER_WRITTEN, ZEROS_AT_1, FILLED_AT_2];
 
 /// Pages 1 and 2 as a file.
 const PAGES: Sample = Sample {
+    page_size: 512,
     min: 2,
     max: 2,
     commit: 2,

@@ -22,6 +22,7 @@ pub const STEPS: &[Step] = &[
 
 /// A page of 6 behind a page of 1.
 const SIX: Sample = Sample {
+    page_size: 512,
     min: 2,
     max: 2,
     commit: 2,

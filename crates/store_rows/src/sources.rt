@@ -11,7 +11,7 @@ use std::io;
 use txn_log::{Coming, FileDecoder, FromFault, Outline, SourceFault, Store, read_source};
 
 /// Room for a piece.
-fn room(alloc: Global) -> Option<Vec<u8>>
+pub fn room(alloc: Global) -> Option<Vec<u8>>
     ensures { IfSome result (λ room. length room.items ≡ 65536) }
 {
     vec![in alloc; 0u8; 65536].ok()

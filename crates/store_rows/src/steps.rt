@@ -68,6 +68,7 @@ fn outcome_from(outcome: Option<Result<Pos, FromFault>>) -> Went {
 
 /// The file of a change, of which the numbers and sums do not matter.
 const CHANGE: Sample = Sample {
+    page_size: 512,
     min: 2,
     max: 2,
     commit: 0,

@@ -50,7 +50,7 @@ pub fn opened(alloc: Global, disk: MemDisk) -> Result<MemStore, MemDisk>
 }
 
 /// What a crash leaves of a disk, where a number chooses what is left of each call that is pending.
-fn crashed(disk: MemDisk, choice: u64) -> Option<MemDisk>
+pub fn crashed(disk: MemDisk, choice: u64) -> Option<MemDisk>
     ensures { IfSome result (λ disk. disk.calls ≡ []) }
 {
     match disk.reopen_as(choice) {

@@ -36,7 +36,7 @@ fn steps_done(alloc: Global, store: &mut MemStore, script: &Script) -> Option<us
 }
 
 /// The disk after the script, and how many steps were done on it.
-fn played(alloc: Global, disk: MemDisk, script: &Script) -> Option<(MemDisk, usize)>
+pub fn played(alloc: Global, disk: MemDisk, script: &Script) -> Option<(MemDisk, usize)>
     requires { disk.calls ≡ [] }
 {
     match opened(alloc, disk) {
@@ -49,7 +49,11 @@ fn played(alloc: Global, disk: MemDisk, script: &Script) -> Option<(MemDisk, usi
 }
 
 /// Whether the store is the one before the step that was not done, or the one after it.
-fn place_at(store: &mut MemStore, script: &Script, done: usize) -> Option<(usize, &'static str)> {
+pub fn place_at(
+    store: &mut MemStore,
+    script: &Script,
+    done: usize,
+) -> Option<(usize, &'static str)> {
     let before = script.stages.get(done)?;
     let after = script.stages.get(done.saturating_add(1)).unwrap_or(before);
     Some((done, place_of(store, before, after)?))

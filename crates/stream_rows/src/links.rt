@@ -1,6 +1,7 @@
 //! What is written on links in memory.
 
 use crate::fault::Fault;
+use crate::nodes::NEVER;
 use crate::stage::{Stage, position};
 use lf_base::{MemLink, Pos, SessionEnd};
 use replica_apply::FollowEnd;
@@ -19,12 +20,19 @@ pub struct Followed {
 }
 
 fn link_of(alloc: Global, input: &[u8]) -> Result<MemLink, Fault> {
+    link_on(alloc, input, NEVER)
+}
+
+/// A link of which this call fails.
+pub fn link_on(alloc: Global, input: &[u8], failing: u64) -> Result<MemLink, Fault> {
     let input = Vec::from_slice(alloc, input)?;
-    Ok(MemLink::new(alloc, input, ROOM, Vec::new(alloc))?)
+    let mut numbers = Vec::new(alloc);
+    numbers.push(failing)?;
+    Ok(MemLink::new(alloc, input, ROOM, numbers)?)
 }
 
 /// The bytes that a link took.
-fn taken(link: &MemLink) -> Result<Vec<u8>, Fault> {
+pub fn taken(link: &MemLink) -> Result<Vec<u8>, Fault> {
     Ok(link.watch().bytes()?)
 }
 

@@ -10,6 +10,9 @@ use txn_log::Store;
 
 pub type MemNode = Node<MemDisk>;
 
+/// A number that no call has.
+pub const NEVER: u64 = u64::MAX;
+
 /// What a node is in its cluster.
 #[derive(Clone, Copy)]
 pub enum Part {
@@ -37,9 +40,11 @@ fn config(alloc: Global, part: Part) -> Result<NodeConfig, Fault> {
     })
 }
 
-/// The store of a disk without files.
-fn blank_store(alloc: Global) -> Result<Store<MemDisk>, Fault> {
-    let disk = MemDisk::new(alloc, Vec::new(alloc), None).unwrap();
+/// The store of a disk without files, of which this call fails.
+fn blank_store(alloc: Global, failing: u64) -> Result<Store<MemDisk>, Fault> {
+    let mut numbers = Vec::new(alloc);
+    numbers.push(failing)?;
+    let disk = MemDisk::new(alloc, numbers, None).unwrap();
     match recover(alloc, disk) {
         Ok(store) => Ok(store),
         Err(_) => Err(Fault::Recovery),
@@ -58,9 +63,9 @@ fn node_over<D: Disk + Drop>(
     }
 }
 
-/// A node of a database that was never written.
-pub fn new_node(alloc: Global, part: Part) -> Result<MemNode, Fault> {
+/// A node of a database that was never written, on a disk of which this call fails.
+pub fn new_node(alloc: Global, part: Part, failing: u64) -> Result<MemNode, Fault> {
     let config = config(alloc, part)?;
-    let store = blank_store(alloc)?;
+    let store = blank_store(alloc, failing)?;
     node_over(alloc, store, config)
 }

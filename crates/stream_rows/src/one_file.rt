@@ -1,11 +1,12 @@
 //! A primary with one file, and a replica that has nothing. The stream is cut at each byte.
 
 use crate::clients::commit;
+use crate::ends::{Ends, session_word};
 use crate::fault::Fault;
 use crate::lines::{ends, shows};
 use crate::links::{Followed, follows, serves};
 use crate::nodes::Part;
-use crate::stage::{Stage, renew};
+use crate::stage::{Stage, position, renew};
 use crate::worked::{END, REQUEST, reply};
 use replica_apply::FollowEnd;
 use std::alloc::Global;
@@ -96,6 +97,21 @@ fn print_stream<R: Wait + Print + Copy>(
     print_ended(rt, replica, stream)
 }
 
+/// How the sessions end that are given each front of the request, and where the primary stands then.
+fn print_requests<R: Wait + Print + Copy>(rt: R, primary: &mut Stage) -> Result<(), Fault> {
+    let mut ends = Ends::new(primary.alloc);
+    for count in 0..=REQUEST.len() {
+        let front = REQUEST.get(..count).unwrap_or(&[]);
+        let (_, end) = serves(rt, primary, front)?;
+        ends.count(session_word(end))?;
+    }
+    println!(&rt; "  the fronts of the request")?;
+    ends.print(&rt)?;
+    let at = position(rt, primary)?;
+    println!(&rt; "    the primary at {:x}/{:016x}", at.txid, at.sum)?;
+    Ok(())
+}
+
 /// What a primary writes that has committed one page of zeros.
 pub fn play<R: Wait + Print + Copy>(
     rt: R,
@@ -105,5 +121,6 @@ pub fn play<R: Wait + Print + Copy>(
     commit(rt, primary, &[(1, 0)])?;
     let (stream, end) = serves(rt, primary, REQUEST)?;
     println!(&rt; "  primary: {} bytes, {end:?}", stream.len())?;
-    print_stream(rt, replica, &stream)
+    print_stream(rt, replica, &stream)?;
+    print_requests(rt, primary)
 }

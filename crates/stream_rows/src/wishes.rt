@@ -77,8 +77,8 @@ pub enum Wish {
     Read,
     /// The session ends.
     End,
-    /// Where does the node stand?
-    Where,
+    /// Where does the node stand, whatever its disk does?
+    Info,
 }
 
 fn bytes(alloc: Global, text: &[u8]) -> Result<Bytes, Fault> {
@@ -155,6 +155,6 @@ pub fn ask_of(alloc: Global, wish: Wish) -> Result<Ask, Fault> {
         }
         Wish::Read => Ok(read_of()),
         Wish::End => Ok(Ask::EndSession),
-        Wish::Where => Ok(Ask::Where),
+        Wish::Info => Ok(Ask::Info { now: NOW }),
     }
 }

@@ -15,17 +15,17 @@ pub struct AskRow {
     pub room: usize,
 }
 
-const EXPORT: &str = "litefs export --name app";
+pub const EXPORT: &str = "litefs export --name app";
 
-const IMPORT: &str = "litefs import --name app";
+pub const IMPORT: &str = "litefs import --name app";
 
 /// A reply with the bytes of a database.
-const PAGES: &[u8] = b"HTTP/1.1 200 OK\r\nContent-Length: 6\r\nConnection: close\r\n\r\npages!";
+pub const PAGES: &[u8] = b"HTTP/1.1 200 OK\r\nContent-Length: 6\r\nConnection: close\r\n\r\npages!";
 
 const NO_PAGES: &[u8] = b"HTTP/1.1 200 OK\r\nContent-Length: 0\r\n\r\n";
 
 /// The reply of a node that has imported.
-const IMPORTED: &[u8] = b"HTTP/1.1 200 OK\r\nContent-Length: 34\r\n\r\n\
+pub const IMPORTED: &[u8] = b"HTTP/1.1 200 OK\r\nContent-Length: 34\r\n\r\n\
     0000000000000002/b20aff5e38e38e38\n";
 
 /// The same without its newline, and with upper case.

@@ -71,6 +71,30 @@ pub const COMMANDS: &[CommandRow] = &[
         input: &[],
     },
     CommandRow {
+        line: "litefs apply",
+        input: &[SNAPSHOT, ("other_sum.ltx", ALL)],
+    },
+    CommandRow {
+        line: "litefs apply",
+        input: &[SNAPSHOT, ("other_size.ltx", ALL)],
+    },
+    CommandRow {
+        line: "litefs apply",
+        input: &[SNAPSHOT, ("other_before.ltx", ALL)],
+    },
+    CommandRow {
+        line: "litefs compact",
+        input: &[SNAPSHOT, ("other_sum.ltx", ALL)],
+    },
+    CommandRow {
+        line: "litefs compact",
+        input: &[SNAPSHOT, ("other_size.ltx", ALL)],
+    },
+    CommandRow {
+        line: "litefs compact",
+        input: &[SNAPSHOT, ("other_before.ltx", ALL)],
+    },
+    CommandRow {
         line: "litefs drill 007",
         input: &[],
     },

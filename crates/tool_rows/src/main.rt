@@ -5,13 +5,16 @@ mod asking;
 mod asks;
 mod backing;
 mod backups;
+mod changed;
 mod commands;
 mod drills;
+mod failing;
 mod fault;
 mod leases;
 mod lines;
 mod making;
 mod nodes;
+mod objects;
 mod playing;
 mod replies;
 mod running;
@@ -29,5 +32,7 @@ fn main(rt: HostRuntime) -> Result<(), Fault> {
     asking::play_asks(rt)?;
     backing::play_backups(rt)?;
     starting::play_runs(rt)?;
+    failing::play_failing(rt)?;
+    changed::play_changed(rt)?;
     drills::play_drills(&rt, rt.alloc())
 }

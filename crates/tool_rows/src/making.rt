@@ -13,7 +13,7 @@ use node_mount::{MemMaker, MemSpawn};
 use std::alloc::Global;
 
 /// OPEN of the position file, and READ of it.
-const ASKED: &[u8] = b"\x30\0\0\0\x0e\0\0\0\x06\0\0\0\0\0\0\0\x06\0\0\0\0\0\0\0\0\0\0\0\0\0\0\0\
+pub const ASKED: &[u8] = b"\x30\0\0\0\x0e\0\0\0\x06\0\0\0\0\0\0\0\x06\0\0\0\0\0\0\0\0\0\0\0\0\0\0\0\
     \0\0\0\0\0\0\0\0\0\0\0\0\0\0\0\0\
     \x50\0\0\0\x0f\0\0\0\x07\0\0\0\0\0\0\0\x06\0\0\0\0\0\0\0\0\0\0\0\0\0\0\0\
     \0\0\0\0\0\0\0\0\x01\0\0\0\0\0\0\0\0\0\0\0\0\0\0\0\0\x10\0\0\0\0\0\0\
@@ -46,7 +46,7 @@ fn write_log<D: Disk>(disk: &mut D, file: &[u8]) -> Result<(), Fault> {
 
 /// A disk that has one file of the log, or a part of it, as a node finds it that was stopped.
 #[tactic(auto, using(node_mount::proofs::DiskLemmas::rests))]
-fn disk_with(alloc: Global, file: &[u8]) -> Result<MemDisk, Fault>
+pub fn disk_with(alloc: Global, file: &[u8]) -> Result<MemDisk, Fault>
     ensures { IfOk result IsNewDisk }
 {
     let mut disk = MemDisk::new(alloc, Vec::new(alloc), None).unwrap();

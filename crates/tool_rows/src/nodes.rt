@@ -1,7 +1,7 @@
 //! Runs of `mount`.
 
 /// A primary.
-const CONFIG: &[u8] = b"database = \"app\"\n[lease]\ncandidate = true\n\
+pub const CONFIG: &[u8] = b"database = \"app\"\n[lease]\ncandidate = true\n\
     advertise-url = \"http://localhost:20202\"\nhostname = \"localhost\"\n";
 
 /// The same without its database.
@@ -11,7 +11,7 @@ const NO_DATABASE: &[u8] = b"[lease]\ncandidate = true\n\
 /// One byte more than a configuration has.
 const LONG: &[u8] = &[b'\n'; 65_537];
 
-const REQUEST: &[u8] = b"GET /none HTTP/1.1\r\n\r\n";
+pub const REQUEST: &[u8] = b"GET /none HTTP/1.1\r\n\r\n";
 
 /// The request for the stream of the log, from nothing on.
 const STREAM: &[u8] = b"POST /stream HTTP/1.1\r\nHost: localhost\r\nContent-Length: 38\r\n\r\n\

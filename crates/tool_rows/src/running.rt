@@ -83,6 +83,24 @@ pub fn host_with<'a, M: Drop>(
     })
 }
 
+/// A host over these streams and this maker.
+pub fn host_failing<'a, M: Drop>(
+    alloc: Global,
+    input: SliceSource<'a>,
+    config: SliceSource<'a>,
+    output: VecSink,
+    make: M,
+) -> Result<MemHost<'a, M>, Fault> {
+    Ok(Host {
+        input,
+        output,
+        errors: VecSink::new(alloc, 256, Vec::new(alloc))?,
+        config,
+        make,
+        child: starter(alloc, b"", u64::MAX)?,
+    })
+}
+
 /// A host over this maker and this starter, whose streams nobody moves.
 pub fn host_starting<'a, M: Drop>(
     alloc: Global,
