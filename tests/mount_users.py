@@ -4,14 +4,17 @@ allow_other and then as the files' modes say.
 
 At most: 600 seconds.
 Seen to fail: with mount(2) for an ordinary user (`ordinary_user`: Operation not permitted); with allow_other left out of the
-mount's options (`others`)"""
+mount's options (`others`); with the drop-in as it was, which left the unit's group as it is (`drop_in`: Permission denied)"""
+import configparser
+import grp
 import os
+import pwd
 import shutil
 import stat
 import subprocess
 import tempfile
 
-from support import Node, Skipped, holds, run, same
+from support import ROOT, Node, Skipped, holds, run, same
 from support.mount import Mount, fuse_program, need_mount
 
 NOBODY = 65534
@@ -97,5 +100,25 @@ said(' '.join(attempt(os.O_RDONLY, 'reads') + attempt(os.O_RDWR, 'writes')) or '
             same(client.communicate(timeout=60)[0], wanted, f'what another user may with {options}')
 
 
+def drop_in():
+    """With the user and the group that packaging/mount.conf has the node run by, root's shell reaches the mount."""
+    if os.geteuid():
+        raise Skipped('only root becomes another user')
+    unit = configparser.ConfigParser(strict=False, interpolation=None)
+    for name in 'litefs@.service', 'mount.conf':
+        unit.read(f'{ROOT}/packaging/{name}')
+    user, group = unit['Service']['User'], unit['Service']['Group']
+    numbers = [pwd.getpwnam(user).pw_uid, grp.getgrnam(group).gr_gid if group != 'litefs' else NOBODY]
+    with Node() as node:
+        folder = os.path.join(node.folder, 'mounted')
+        os.mkdir(folder)
+        words = ['setpriv', f'--reuid={numbers[0]}', f'--regid={numbers[1]}', '--clear-groups', fuse_program(), node.socket, folder, '-o', 'name=app',
+                 '--until-stdin-ends']
+        with subprocess.Popen(words, stdin=subprocess.PIPE, stderr=subprocess.PIPE, text=True) as mount:
+            holds('mounted' in mount.stderr.readline(), 'it is mounted')
+            same(subprocess.run(['ls', folder], capture_output=True, text=True, timeout=60).stderr, '', 'what ls complains of')
+            mount.stdin.close()
+
+
 need_mount()
-run({'ordinary_user': ordinary_user, 'user_namespace': user_namespace, 'others': others})
+run({'ordinary_user': ordinary_user, 'user_namespace': user_namespace, 'others': others, 'drop_in': drop_in})

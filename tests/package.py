@@ -19,6 +19,7 @@ PAGES = {'litefs.1': 'LITEFS(1)', 'litefs.toml.5': 'LITEFS.TOML(5)'}
 UNITS = ('litefs@', 'litefs-lease@')
 WANTED = ('usr/bin/litefs', *(f'usr/lib/systemd/system/{it}.service' for it in UNITS), 'usr/lib/sysusers.d/litefs.conf',
           'usr/share/man/man1/litefs.1.gz', 'usr/share/man/man5/litefs.toml.5.gz', 'usr/share/doc/litefs/examples/litefs.toml', 'usr/share/doc/litefs/examples/mount.conf',
+          'usr/share/doc/litefs/examples/alerts.yml', 'usr/share/doc/litefs/examples/dashboard.json',
           'usr/share/doc/litefs/OPERATING.md',
           'usr/share/doc/litefs/TROUBLESHOOTING.md', 'usr/share/doc/litefs/CHANGELOG.md')
 CLIENTS = {'usr/bin/litefs-fuse': 'clients/litefs-fuse/target/release/litefs-fuse', 'usr/lib/litefs/litefs-vfs.so': 'clients/litefs-vfs/build.sh'}
