@@ -8,95 +8,26 @@ At most: 900 seconds.
 Seen to fail: a service that tells a longer time than it grants (stopped, stopped_at_work, inside, cut_off), one that answers at once after
 its start (service_anew): a write at a node while another one's grant stands, a commit that is not refused. A build whose followers say
 nothing of their last file, given the cases of a fork: the old primary stays apart."""
-import contextlib
 import functools
-import os
 import socket
-import sqlite3
 
-from support import (Cluster, Node, Skipped, configuration, connect, holds, in_each_mode, in_mode, insert, length, refuses, run, same,
-                     small_disk, until)
+from support import Cluster, Node, Skipped, configuration, failovers, holds, in_each_mode, in_mode, length, run, same, until
 from support.cluster import Server, keys, standing_still, takes
 
 TURNS = length(2, 10)
 EITHER = length(('wal',), ('delete', 'wal'))
 
 
-def killed(mode):
-    """kill -9 of whoever is primary while it takes rows: what the next one had is there, the third follows it, and then the old one."""
-    with Cluster(mode) as cluster:
-        for _ in range(TURNS):
-            before = cluster.follows()
-            cluster.level(before)
-            kept = keys(before)
-            primary, writer = cluster.at_work()
-            primary.kill()
-            writer.ended()
-            heir = cluster.heir(primary)
-            kept |= keys(heir)
-            same(cluster.follows(primary) is heir, True, 'the other candidate is primary')
-            cluster.level(heir, without=primary)
-            primary.start()
-            cluster.refuses(primary)
-            cluster.ends(kept)
+def over(call, *words):
+    """The case of support/failovers.py, over a cluster in this mode."""
+    def case(mode):
+        with Cluster(mode) as cluster:
+            call(cluster, *words)
+    return case
 
 
-def stopped(mode):
-    """A primary that stands still for longer than its lease takes no write when it goes on, and follows."""
-    with Cluster(mode) as cluster:
-        primary = cluster.follows()
-        cluster.level(primary)
-        kept = keys(primary)
-        with cluster.cut_off(primary):
-            with standing_still(primary):
-                cluster.level(cluster.follows(primary), without=primary)
-            cluster.refuses(primary)
-        cluster.ends(kept)
-
-
-def stopped_at_work(mode):
-    """The same while a client writes: of what it is answered afterwards one row at most, which was on its way."""
-    with Cluster(mode) as cluster:
-        for _ in range(length(1, 10)):
-            primary, writer = cluster.at_work()
-            with cluster.cut_off(primary):
-                with standing_still(primary):
-                    heir = cluster.follows(primary)
-                    cluster.level(heir, without=primary)
-                    kept, before = keys(heir), list(writer.answered)
-                after = writer.ended()[len(before):]
-                holds(len(after) <= 1, f'{len(after)} rows are taken behind the lease\'s end')
-            cluster.ends(kept)
-
-
-def inside(mode):
-    """A transaction inside which the lease ends, with pages in the file already, is not committed."""
-    with Cluster(mode) as cluster:
-        before = cluster.follows()
-        cluster.level(before)
-        kept = keys(before)
-        primary, connection = until(lambda: begun(cluster.follows()), 'a transaction is begun')
-        with contextlib.closing(connection):
-            with cluster.cut_off(primary):
-                with standing_still(primary):
-                    cluster.follows(primary)
-                refuses(lambda: connection.execute('commit'), sqlite3.Error, 'the commit')
-        cluster.ends(kept)
-        for node in cluster.nodes:
-            holds(min(keys(node)) > 0, 'nothing of it is there')
-
-
-def begun(primary):
-    """The node, and a connection inside a transaction that has pages in the file; None where a row is refused."""
-    connection = connect(primary.socket)
-    try:
-        connection.execute('pragma cache_size=4')
-        connection.execute('begin immediate')
-        for key in range(-40, 0):
-            connection.execute(*insert(key, 3000))
-        return primary, connection
-    except sqlite3.Error:
-        connection.close()
+def broken(mode):
+    failovers.broken(functools.partial(Cluster, mode))
 
 
 def service_anew(mode):
@@ -121,34 +52,6 @@ def service_stopped(mode):
         with standing_still(cluster.service):
             until(lambda: not cluster.takers(), 'no node takes writes')
         cluster.has_one()
-        cluster.ends(kept)
-
-
-def cut_off(mode):
-    """A primary that can't reach the service, and the others can: another one takes over, and it follows once it can again."""
-    with Cluster(mode) as cluster:
-        primary = cluster.nodes[0]
-        kept = keys(primary)
-        with cluster.cut_off(primary):
-            heir = cluster.follows(primary)
-            cluster.refuses(primary)
-            cluster.level(heir, without=primary)
-        cluster.ends(kept)
-
-
-def broken(mode):
-    """A primary whose disk is full gives its lease back, and another one takes over. With room, and started anew, it follows."""
-    with small_disk('size=32m') as disk, Cluster(mode, folder=disk.folder) as cluster:
-        primary = cluster.nodes[0]
-        kept = keys(primary)
-        with open(f'{disk.folder}/filler', 'wb', buffering=0) as filler, contextlib.suppress(OSError):
-            while filler.write(bytes(1000)):
-                pass
-        until(lambda: not cluster.writes(primary), 'a write that finds no room')
-        same(primary.ended(), 5, 'its status')
-        cluster.level(cluster.follows(primary), without=primary)
-        os.remove(f'{disk.folder}/filler')
-        primary.start()
         cluster.ends(kept)
 
 
@@ -232,7 +135,8 @@ def says_last_file():
             return any(it.startswith(b'litefs-last-file:') for it in head)
 
 
-run({**in_each_mode(('delete', 'wal'), killed=killed, stopped=stopped, stopped_at_work=stopped_at_work, inside=inside, forked=forked,
+run({**in_each_mode(('delete', 'wal'), killed=over(failovers.killed, TURNS), stopped=over(failovers.stopped),
+                    stopped_at_work=over(failovers.stopped_at_work, length(1, 10)), inside=over(failovers.inside), forked=forked,
                     forked_apart=forked_apart),
      **in_each_mode(EITHER, service_anew=service_anew, nonsense=nonsense, broken=broken),
-     **in_each_mode(length((), EITHER), service_stopped=service_stopped, cut_off=cut_off)}, at_once=4)
+     **in_each_mode(length((), EITHER), service_stopped=service_stopped, cut_off=over(failovers.cut_off))}, at_once=4)

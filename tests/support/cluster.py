@@ -26,7 +26,7 @@ class Cluster:
         self.stack = contextlib.ExitStack()
         self.keys = itertools.count(1)
         try:
-            self.service = self.stack.enter_context(Service(ttl=4000))
+            self.service = self.stack.enter_context(self.makes_service())
             self.doors = {}
             self.nodes = [self.node(True, keep, folder), self.node(True, keep), self.node(False, keep)]
             self.begin(mode)
@@ -40,8 +40,14 @@ class Cluster:
     def __exit__(self, *_):
         self.stack.close()
 
+    def makes_service(self):
+        return Service(ttl=4000)
+
+    def makes_door(self):
+        return Door(self.service)
+
     def node(self, candidate, keep, folder=None):
-        door = self.stack.enter_context(Door(self.service))
+        door = self.stack.enter_context(self.makes_door())
         node = self.stack.enter_context(Node(service=door, candidate=candidate, keep=keep, folder=folder, starts=False))
         self.doors[node] = door
         return node
@@ -196,6 +202,7 @@ class Door(Listening):
     def __init__(self, service):
         self.service, self.ttl, self.open = service, service.ttl, True
         super().__init__(Passing)
+        self.told = f'type = "service"\nservice-url = "http://127.0.0.1:{self.port}"\n'
 
 
 class Passing(socketserver.BaseRequestHandler):

@@ -24,12 +24,10 @@ candidate = {candidate}
 advertise-url = "http://127.0.0.1:{primary}"
 hostname = "db1"
 '''
-# what a node says of its lease that asks a service for it
-LEASED = '''type = "service"
-candidate = {candidate}
+# what a node says of its lease that asks a service for it, behind which service that is
+LEASED = '''candidate = {candidate}
 advertise-url = "http://127.0.0.1:{port}"
 hostname = "{host}"
-service-url = "http://127.0.0.1:{service}"
 ttl = {ttl}
 '''
 Position = collections.namedtuple('Position', 'txid sum')
@@ -44,7 +42,7 @@ def configuration(port, primary=None, keep=KEEP_ALL, database='app'):
 def leased(port, service, candidate, keep=KEEP_ALL, database='app'):
     """The same of a node that asks the lease service which node is primary."""
     before = configuration(port, None, keep, database).split('type = ')[0]
-    return before + LEASED.format(candidate=str(candidate).lower(), port=port, host=f'db{port}', service=service.port, ttl=service.ttl)
+    return before + service.told + LEASED.format(candidate=str(candidate).lower(), port=port, host=f'db{port}', ttl=service.ttl)
 
 
 class Node(Running):
