@@ -18,6 +18,7 @@ from support import (ROOT, Cluster, Link, Node, Wrong, configuration, connect, f
                      small_disk, until)
 from support.cluster import standing_still
 from support.listening import Listening
+from support.node import SERVICE
 from support.wire import ROOT_NODE, UNLINK
 
 NOWHERE = '0000000000000000/0000000000000000'
@@ -241,6 +242,7 @@ class Granting(Listening):
     def __init__(self):
         self.asked = []
         super().__init__(Grants)
+        self.told = SERVICE.format(port=self.port)
 
 
 class Grants(socketserver.StreamRequestHandler):

@@ -10,7 +10,7 @@ import time
 
 from .cases import holds
 from .listening import Listening
-from .node import KEEP_ALL, Node
+from .node import KEEP_ALL, SERVICE, Node
 from .outcomes import Wrong
 from .service import Service
 from .sqlite import connect, in_mode
@@ -202,7 +202,7 @@ class Door(Listening):
     def __init__(self, service):
         self.service, self.ttl, self.open = service, service.ttl, True
         super().__init__(Passing)
-        self.told = f'type = "service"\nservice-url = "http://127.0.0.1:{self.port}"\n'
+        self.told = SERVICE.format(port=self.port)
 
 
 class Passing(socketserver.BaseRequestHandler):

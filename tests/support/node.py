@@ -30,6 +30,7 @@ advertise-url = "http://127.0.0.1:{port}"
 hostname = "{host}"
 ttl = {ttl}
 '''
+SERVICE = 'type = "service"\nservice-url = "http://127.0.0.1:{port}"\n'
 Position = collections.namedtuple('Position', 'txid sum')
 
 

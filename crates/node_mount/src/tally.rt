@@ -44,10 +44,12 @@ struct Times {
     sum: AtomicU64,
 }
 
-/// The bytes of each file of a log, and of the one that is being written.
+/// The bytes of each file of a log, and of the one that is being written. No transaction behind `greatest` is
+/// in a file that is known.
 #[derive(Drop)]
 struct LogFiles {
     sizes: Vec<(FileName, u64)>,
+    greatest: u64,
     staged: u64,
 }
 
@@ -125,20 +127,26 @@ impl LogFiles {
         if name == FileName::Staged {
             self.staged = size;
         } else if is_of_log(name) {
-            if !self.is_last(name) {
+            if !self.is_new(name) {
                 let _ = self.take(name);
             }
-            let _ = self.sizes.push((name, size));
+            self.add(name, size);
         }
     }
 
     /// Whether it is a file of the log behind all that are known.
-    fn is_last(&self, name: FileName) -> bool {
-        match (self.sizes.last(), name) {
-            (None, _) => true,
-            (Some((FileName::Ltx { max, .. }, _)), FileName::Ltx { min, .. }) => min > *max,
+    fn is_new(&self, name: FileName) -> bool {
+        match name {
+            FileName::Ltx { min, .. } => min > self.greatest,
             _ => false,
         }
+    }
+
+    fn add(&mut self, name: FileName, size: u64) {
+        if let FileName::Ltx { max, .. } = name {
+            self.greatest = self.greatest.max(max);
+        }
+        let _ = self.sizes.push((name, size));
     }
 
     /// A file loses its name. It had so many bytes, or 0 where that isn't known.
@@ -182,6 +190,7 @@ impl Tally {
             refusals: zeros(alloc, ERRNOS)?,
             log: Mutex::new(LogFiles {
                 sizes: Vec::new(alloc),
+                greatest: 0,
                 staged: 0,
             }),
         };
