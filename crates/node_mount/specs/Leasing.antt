@@ -1,5 +1,5 @@
 -- How a node keeps its lease: for how long it waits, when it asks to be primary, and whom it follows then.
-use Rattle.std.specs.Prelude.{◌≡◌, ◌≢◌, ℕ, ◌/◌, min, max, ◌==◌, ◌&&◌, not, Bool, true, false, List, [], ◌++◌, codes, Option, Some, None}
+use Rattle.std.specs.Prelude.{◌≡◌, ◌≢◌, ℕ, ◌+◌, ◌/◌, min, max, ◌==◌, ◌&&◌, not, Bool, true, false, List, [], ◌++◌, codes, Option, Some, None}
 use Rattle.lease_core.specs.declared.grant.Grant.{Grant}
 use Rattle.lease_link.specs.declared.keep_end.KeepEnd.{KeepEnd}
 use Rattle.lease_link.specs.declared.keep_end.KeepEnd.TheVariants as ends
@@ -24,6 +24,10 @@ lease_patience ttl = max (min (ttl / 4) 5000) 250
 -- the naps of a round: one for each second of a lease, but from 1 to 20
 abbrev pub naps_of : ℕ → ℕ
 naps_of ttl = max (min (ttl / 1000) 20) 1
+
+-- the naps of one of so many watchers of events between two looks
+abbrev pub watcher_naps : ℕ → ℕ
+watcher_naps watchers = watchers / 10 + 1
 
 -- ---- what it asks
 

@@ -10,8 +10,10 @@ use crate::means::Means;
 use crate::mount_fault::MountFault;
 use crate::node_gauge::{Meters, NodeGauge};
 use crate::notes::Notes;
+use crate::patience::watcher_naps;
 use crate::place::Place;
 use crate::sessions::LINKS;
+use crate::tally::Tally;
 use crate::work::{Work, start_work};
 use lf_base::{
     Acceptor, Clock, Closing, Handles, Job, Link, Name, NoMemory, Pause, Spawner, start,
@@ -233,6 +235,7 @@ fn serve_caller<
         rest: Rest::new(means.rt, &*place.desk, LEVEL_MS),
         nap: means.pause,
         watches: &watches,
+        tally: &notes.tally,
     };
     serve_heard(
         means.rt,
@@ -249,12 +252,13 @@ fn serve_caller<
 }
 
 /// The pause of a session: a commit ends the rest of a follower, and a watcher of events naps by time, so that
-/// no commit wakes it.
+/// no commit wakes it, and the longer the more of them there are.
 #[derive(Drop)]
 struct CallPause<'c, W, P> {
     rest: W,
     nap: P,
     watches: &'c Cell<bool>,
+    tally: &'c Tally,
 }
 
 impl<W: Pause, P: Pause> Pause for CallPause<'_, W, P> {
@@ -264,7 +268,8 @@ impl<W: Pause, P: Pause> Pause for CallPause<'_, W, P> {
 
     fn naps(&mut self, count: u64) {
         if self.watches.get() {
-            self.nap.naps(count);
+            let naps = watcher_naps(self.tally.watchers());
+            self.nap.naps(count.saturating_mul(naps));
         } else {
             self.rest.naps(count);
         }

@@ -1,6 +1,6 @@
 //! For how long a node waits for others.
 ghost use Rattle.std.specs.Prelude.{◌≡◌};
-ghost use Rattle.node_mount.specs.Leasing.{following_patience as follows_for, lease_patience as asks_for, naps_of as naps};
+ghost use Rattle.node_mount.specs.Leasing.{following_patience as follows_for, lease_patience as asks_for, naps_of as naps, watcher_naps as watcher_naps_of};
 
 use node_settings::{LeaseSettings, LeaseType};
 
@@ -33,4 +33,12 @@ pub fn naps_of(ttl: u64) -> u64
     ensures { result ≡ naps ttl }
 {
     (ttl / 1_000).min(20).max(1)
+}
+
+/// The naps of one of so many watchers of events between two looks: one more for each ten of them, so that
+/// many together look hardly more often than ten do.
+pub fn watcher_naps(watchers: u64) -> u64
+    ensures { result ≡ watcher_naps_of watchers }
+{
+    watchers / 10 + 1
 }

@@ -209,6 +209,11 @@ impl Tally {
         &*self.cells
     }
 
+    /// How many read the node's events.
+    pub fn watchers(&self) -> u64 {
+        read(&self.cells.watchers)
+    }
+
     /// A transaction came into the log, in so many microseconds.
     pub fn commit(&self, micros: u64) {
         add(&self.cells.commits, 1);
