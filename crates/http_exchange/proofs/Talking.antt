@@ -1,5 +1,5 @@
 -- A request, and then its reply.
-use Rattle.std.proofs.Common.{◌≡◌, zero, ℕ, ◌<◌, ◌≤◌, List, [], ◌++◌, length, take, Option, Result, Ok, Err, OnOk, OnErr, refl, sym, ◌∙◌, subst, arith}
+use Rattle.std.proofs.Common.{◌≡◌, zero, ℕ, ◌<◌, ◌≤◌, List, [], ◌∷◌, ◌++◌, length, take, Option, Result, Ok, Err, OnOk, OnErr, refl, sym, ◌∙◌, subst, arith}
 use Rattle.std.specs.Io.KnownBytes.{Appends, Keeps}
 use Rattle.std.proofs.KnownBytes.{Appends-kept, Appends-trans}
 use Rattle.lf_base.specs.declared.link.Link.{Ghosts as LinkGhosts}
@@ -14,6 +14,7 @@ use Rattle.http_exchange.specs.declared.told.Told.{Told}
 use Rattle.http_exchange.specs.declared.told.Untold.{Untold}
 use Rattle.http_exchange.specs.declared.told.Untold.TheVariants as untold
 use Rattle.http_exchange.specs.Exchange.{sent, unsent, untold_by, Asked, FaultsBy, ReadsReply, StopsWriting, Talks, TurnsBy}
+use Rattle.http_exchange.specs.Letters.{letter_line, letter_text}
 use Rattle.http_exchange.specs.Writing.{request_text, EndsSending}
 use Rattle.http_exchange.proofs.Giving.{kept_appends, kept_nothing}
 
@@ -128,3 +129,16 @@ pub both_sent : (old new : Option (List ℕ)) (text front back : List ℕ) (befo
 both_sent old new text front back before now turns (Ok x) is all part e = (subst (λ (t : List ℕ). Appends old new t) (sym is) all, e)
 both_sent old new text front back before now turns (Err end) is all part e =
     sending_ends text old new before now turns end (subst (λ (t : List ℕ). AppendsPart old new t) (sym is) part) e
+
+-- a text that was written by one call
+pub text_sent : (old new : Option (List ℕ)) (text bytes : List ℕ) (before now turns : ℕ) (r : Result (Unit {0}) SessionEnd) → bytes ≡ text
+    → OnOk r (Appends old new bytes) → OnErr r (AppendsPart old new bytes) → EndsWriting before now turns r → EndsSending text old new before now turns r
+text_sent old new text bytes before now turns (Ok x) is all part e = (subst (λ (t : List ℕ). Appends old new t) is all, e)
+text_sent old new text bytes before now turns (Err end) is all part e =
+    sending_ends text old new before now turns end (subst (λ (t : List ℕ). AppendsPart old new t) is part) e
+
+-- a letter has bytes
+pub letter_has_bytes : (method path host body : List ℕ) → 0 < length (letter_text method path host body)
+unfolding letter_line
+letter_has_bytes [] path host body = omega arith
+letter_has_bytes (b ∷ bs) path host body = omega arith

@@ -3,3 +3,4 @@ pub mod Reply
 pub mod Writing
 pub mod Exchange
 pub mod Called
+pub mod Letters
