@@ -1,20 +1,19 @@
 -- A round put together of what its calls did.
 use Rattle.std.proofs.Common.{◌≡◌, ◌≢◌, ◌⊎◌, inl, inr, ℕ, Bool, IsTrue, List, [], ◌∷◌, ◌++◌, Option, Result, Ok, Err, OnOk, OnErr, IfErr, refl, sym, ap, ◌∙◌, subst, append_assoc}
-use Rattle.lf_base.specs.Dials.{Dial}
 use Rattle.turn_desk.specs.declared.history.Entry.{Entry}
 use Rattle.turn_desk.specs.History.{entry}
 use Rattle.link_session.specs.Stands.{Asker}
 use Rattle.lease_core.specs.declared.grant.Grant.{Grant}
 use Rattle.lease_core.specs.declared.lease_ask.LeaseAsk.{LeaseAsk}
-use Rattle.http_exchange.specs.declared.told.Told.{Told}
-use Rattle.http_exchange.specs.declared.told.Untold.{Untold}
-use Rattle.http_exchange.specs.Exchange.{DialsOnce, FaultsBy}
 use Rattle.lease_link.specs.declared.bringing.Bringing.{Ghosts as BringingGhosts}
 use Rattle.lease_link.specs.declared.keep_end.KeepEnd.{KeepEnd}
 use Rattle.lease_link.specs.declared.keep_end.KeepEnd.TheVariants as ends
 use Rattle.lease_link.specs.declared.learned.Learned.{Learned}
 use Rattle.lease_link.specs.declared.learned.Learned.TheVariants as learned
-use Rattle.lease_link.specs.Keeping.{AreNews, Asks, AsksService, Concludes, EndsIdle, EndsTell, EndsUntaken, Exchanges, IsNews, IsRound, KeepStand, Learns, NewsOf, ask_text, concluded, done, end_of, ended_by, keep_stand, request_with, unconcluded, untaken}
+use Rattle.lease_link.specs.declared.service.Service.{Ghosts as ServiceGhosts}
+use Rattle.lease_link.specs.declared.unlearned.Unlearned.{Unlearned}
+use Rattle.lease_link.specs.Asking.{DialStand}
+use Rattle.lease_link.specs.Keeping.{AreNews, Asks, AsksService, Concludes, EndsIdle, EndsTell, EndsUntaken, IsNews, IsRound, KeepStand, NewsOf, Serves, concluded, done, end_of, ended_by, keep_stand, unconcluded, untaken}
 
 -- the first news of a round, or its last
 pub first_news : {Q A : Type 0} (who : Asker) (at : ℕ → Q) (now : ℕ) (news : Q) (old new : List (Entry Q A)) → IsTrue (who.may now) → news ≡ at now
@@ -74,44 +73,43 @@ concludes_by b who own l at now news worn turns (Ok x) old new term url end are 
 concludes_by b who own l at now news worn turns (Err e) old new term url end are some ends_so given same asks still cause is =
     unconcluded some still (subst EndsUntaken (sym is) (untaken_end worn turns e cause))
 
--- the exchange was of this request
-pub exchanged : {E : Type 0} (tell : Type 0) (service body : List ℕ) (asked : LeaseAsk) (told : Result Told Untold) (old new : KeepStand E) → body ≡ ask_text asked
-    → DialsOnce (request_with service body) tell old.dials new.dials told → FaultsBy old.faults new.faults told → Exchanges tell service asked told old new
-exchanged tell service body asked told old new same dial fault = record {
-  dial = subst (λ (text : List ℕ). DialsOnce (request_with service text) tell old.dials new.dials told) same dial;
-  fault = fault;
-}
-
 pub nothing_behind : {E : Type 0} (xs : List E) → xs ++ [] ≡ xs
 nothing_behind [] = refl
 nothing_behind (x ∷ xs) = ap (λ l. x ∷ l) (nothing_behind xs)
 
+-- what was asked and heard is this
+pub served_as : {V : Type 0} (s : ServiceGhosts V) (tell : Type 0) (said asked : LeaseAsk) (heard meant : Result Learned Unlearned) (old new : DialStand) (service now : V)
+    → said ≡ asked → heard ≡ meant → s.serves service said tell old new heard now → s.serves service asked tell old new meant now
+served_as s tell said asked heard meant old new service now same is serves =
+    subst (λ (a : LeaseAsk). s.serves service a tell old new meant now) same
+    (subst (λ (h : Result Learned Unlearned). s.serves service said tell old new h now) is serves)
+
 -- the service was asked behind the news of it
-pub asked_behind : {B Q A : Type 0} (b : BringingGhosts B Q) (who : Asker) (tell : Type 0) (service : List ℕ) (asked : LeaseAsk) (told : Result Told Untold)
-    (old new : KeepStand (Entry Q A)) (between behind : List (Entry Q A)) (first : Entry Q A) → IsNews who b.asking_at first → between ≡ old.entries ++ first ∷ []
-    → Exchanges tell service asked told old new → new.entries ≡ between ++ behind → AsksService b who tell service asked told old new behind
-asked_behind b who tell service asked told old new between behind first asking same exchange more = record {
+pub asked_behind : {B Q A V : Type 0} (b : BringingGhosts B Q) (s : ServiceGhosts V) (who : Asker) (tell : Type 0) (asked : LeaseAsk) (heard : Result Learned Unlearned)
+    (old new : KeepStand (Entry Q A) V) (between behind : List (Entry Q A)) (first : Entry Q A) → IsNews who b.asking_at first → between ≡ old.entries ++ first ∷ []
+    → Serves s tell asked heard old new → new.entries ≡ between ++ behind → AsksService b s who tell asked heard old new behind
+asked_behind b s who tell asked heard old new between behind first asking same serves more = record {
   first = first;
   asking = asking;
-  exchange = exchange;
+  serves = serves;
   entries = more ∙ ap (λ l. l ++ behind) same ∙ append_assoc old.entries (first ∷ []) behind;
 }
 
 -- the round to its end
-pub round_ended : {B Q A : Type 0} (b : BringingGhosts B Q) (who : Asker) (tell : Type 0) (service : List ℕ) (asked : LeaseAsk) (own : Grant) (budget : ℕ)
-    (old new : KeepStand (Entry Q A)) (end : KeepEnd) (told : Result Told Untold) (l : Learned) (between : List (Entry Q A)) (first : Entry Q A)
-    → IsNews who b.asking_at first → between ≡ old.entries ++ first ∷ [] → Exchanges tell service asked told old new → Learns asked told l
-    → Concludes b who own l between new.entries end → IsRound b who tell service asked own budget old new end
-round_ended b who tell service asked own budget old new end told l between first asking same exchange learns (concluded news is more end_is) =
-    done told l news (asked_behind b who tell service asked told old new between news first asking same exchange more) learns is end_is
-round_ended b who tell service asked own budget old new end told l between first asking same exchange learns (unconcluded some still why) =
-    untaken told l (asked_behind b who tell service asked told old new between [] first asking same exchange (still ∙ sym (nothing_behind between))) learns some why
+pub round_ended : {B Q A V : Type 0} (b : BringingGhosts B Q) (s : ServiceGhosts V) (who : Asker) (tell : Type 0) (asked : LeaseAsk) (own : Grant) (budget : ℕ)
+    (old new : KeepStand (Entry Q A) V) (end : KeepEnd) (l : Learned) (between : List (Entry Q A)) (first : Entry Q A)
+    → IsNews who b.asking_at first → between ≡ old.entries ++ first ∷ [] → Serves s tell asked (Ok l) old new
+    → Concludes b who own l between new.entries end → IsRound b s who tell asked own budget old new end
+round_ended b s who tell asked own budget old new end l between first asking same serves (concluded news is more end_is) =
+    done l news (asked_behind b s who tell asked (Ok l) old new between news first asking same serves more) is end_is
+round_ended b s who tell asked own budget old new end l between first asking same serves (unconcluded some still why) =
+    untaken l (asked_behind b s who tell asked (Ok l) old new between [] first asking same serves (still ∙ sym (nothing_behind between))) some why
 
 -- the same by a seat, of which a look at its desk changed neither its number nor its entries
-pub by_seat : {B Q A : Type 0} (b : BringingGhosts B Q) (caller looked : ℕ) (may : ℕ → Bool) (tell : Type 0) (service : List ℕ) (asked : LeaseAsk) (own : Grant) (budget : ℕ)
-    (mine seen : List (Entry Q A)) (dials : Option (List Dial)) (faults : ℕ) (new : KeepStand (Entry Q A)) (end : KeepEnd) → looked ≡ caller → seen ≡ mine
-    → IsRound b (record { caller = looked; may = may }) tell service asked own budget (keep_stand seen dials faults) new end
-    → IsRound b (record { caller = caller; may = may }) tell service asked own budget (keep_stand mine dials faults) new end
-by_seat {Q = Q} {A = A} b caller looked may tell service asked own budget mine seen dials faults new end number entries round =
-    subst (λ (n : ℕ). IsRound b (record { caller = n; may = may }) tell service asked own budget (keep_stand mine dials faults) new end) number
-    (subst (λ (m : List (Entry Q A)). IsRound b (record { caller = looked; may = may }) tell service asked own budget (keep_stand m dials faults) new end) entries round)
+pub by_seat : {B Q A V : Type 0} (b : BringingGhosts B Q) (s : ServiceGhosts V) (caller looked : ℕ) (may : ℕ → Bool) (tell : Type 0) (asked : LeaseAsk) (own : Grant) (budget : ℕ)
+    (mine seen : List (Entry Q A)) (dialed : DialStand) (service : V) (new : KeepStand (Entry Q A) V) (end : KeepEnd) → looked ≡ caller → seen ≡ mine
+    → IsRound b s (record { caller = looked; may = may }) tell asked own budget (keep_stand seen dialed service) new end
+    → IsRound b s (record { caller = caller; may = may }) tell asked own budget (keep_stand mine dialed service) new end
+by_seat {Q = Q} {A = A} b s caller looked may tell asked own budget mine seen dialed service new end number entries round =
+    subst (λ (n : ℕ). IsRound b s (record { caller = n; may = may }) tell asked own budget (keep_stand mine dialed service) new end) number
+    (subst (λ (m : List (Entry Q A)). IsRound b s (record { caller = looked; may = may }) tell asked own budget (keep_stand m dialed service) new end) entries round)

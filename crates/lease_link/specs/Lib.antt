@@ -1,5 +1,7 @@
 pub mod Table
 pub mod Learning
+pub mod Asking
+pub mod Own
 pub mod Keeping
 pub mod Serving
 pub mod Waiting

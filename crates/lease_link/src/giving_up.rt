@@ -1,14 +1,17 @@
 //! A lease given up over one that asks steps.
 
-ghost use Rattle.std.specs.Prelude.{◌≡◌, IsErr, OnErr, OnOk};
+ghost use Rattle.std.specs.Prelude.{IsErr};
 ghost use Rattle.http_exchange.specs.Exchange.{LinksTell};
 ghost use Rattle.link_session.specs.Stands.{asker, AsksOn};
+ghost use Rattle.lease_link.specs.Asking.{dial_stand};
 ghost use Rattle.lease_link.specs.Keeping.{GivesUp, Releases, keep_stand};
 
 use crate::bringing::Bringing;
-use crate::keeping::{ask_service, body_of, tell};
+use crate::keeping::tell;
+use crate::service::Service;
+use crate::unlearned::Unlearned;
 use lease_core::{Grant, LeaseAsk};
-use lf_base::{Clock, Dialer, Handles, NoMemory, Text};
+use lf_base::{Clock, Dialer, Handles, NoMemory};
 use link_session::{Steps, Turns};
 use std::alloc::Global;
 
@@ -20,6 +23,7 @@ pub(crate) fn give_up<
     A: Drop,
     S: Steps<Ask = Q, Answer = A>,
     B: Bringing<Ask = Q>,
+    V: Service,
     T: Dialer,
     C: Clock,
 >(
@@ -28,13 +32,14 @@ pub(crate) fn give_up<
     steps: &mut S,
     bring: &B,
     dialer: &mut T,
-    service: &Text,
+    service: &mut V,
     own: &Grant,
     clock: &mut C,
     budget: u64,
 ) -> Result<(), NoMemory>
-    ensures given { GivesUp B.Bringing (asker S.Steps C.Clock steps.old clock.old) (LinksTell T.L.given T.L.taken) service.now own.now budget (S.is_worn steps.new)
-        (keep_stand (S.entries steps.old) (T.dials dialer.old) (T.faults dialer.old)) (keep_stand (S.entries steps.new) (T.dials dialer.new) (T.faults dialer.new)) (IsErr result) }
+    ensures given { GivesUp B.Bringing V.Service (asker S.Steps C.Clock steps.old clock.old) (LinksTell T.L.given T.L.taken) own.now budget (S.is_worn steps.new)
+        (keep_stand (S.entries steps.old) (dial_stand (T.dials dialer.old) (T.faults dialer.old)) service.old)
+        (keep_stand (S.entries steps.new) (dial_stand (T.dials dialer.new) (T.faults dialer.new)) service.new) (IsErr result) }
     ensures same { AsksOn S.Steps C.Clock steps.old steps.new clock.old clock.new }
 {
     let mut turns = Turns::new(budget);
@@ -50,22 +55,23 @@ pub(crate) fn give_up<
 }
 
 /// Gives the term back, once.
-fn release<R: Handles, T: Dialer>(
+fn release<R: Handles, V: Service, T: Dialer>(
     rt: &R,
     alloc: Global,
     dialer: &mut T,
-    service: &Text,
+    service: &mut V,
     own: &Grant,
     turns: &mut Turns,
 ) -> Result<(), NoMemory>
-    ensures once { OnOk result (Releases (LinksTell T.L.given T.L.taken) service.now own.now (T.dials dialer.old) (T.dials dialer.new) (T.faults dialer.old) (T.faults dialer.new)) }
-    ensures none { OnErr result ((T.dials dialer.new ≡ T.dials dialer.old) × (T.faults dialer.new ≡ T.faults dialer.old)) }
+    ensures { Releases V.Service (LinksTell T.L.given T.L.taken) own.now (dial_stand (T.dials dialer.old) (T.faults dialer.old))
+        (dial_stand (T.dials dialer.new) (T.faults dialer.new)) service.old service.new (IsErr result) }
 {
     let asked = LeaseAsk::Release {
         node: own.node,
         term: own.term,
     };
-    let body = body_of(alloc, &asked)?;
-    let _told = ask_service(rt, alloc, dialer, service, body.as_slice(), turns);
-    Ok(())
+    match service.ask(rt, alloc, dialer, &asked, turns) {
+        Ok(_) | Err(Unlearned::Turns) => Ok(()),
+        Err(Unlearned::NoMemory) => Err(NoMemory),
+    }
 }

@@ -1,25 +1,23 @@
 //! A round over one that asks steps.
 
-ghost use Rattle.std.specs.Prelude.{◌≡◌, IfErr, IfOk, OnErr, OnOk};
-ghost use Rattle.http_exchange.specs.Exchange.{DialsOnce, FaultsBy, LinksTell};
+ghost use Rattle.std.specs.Prelude.{◌≡◌, IfErr, OnErr, OnOk};
+ghost use Rattle.http_exchange.specs.Exchange.{LinksTell};
 ghost use Rattle.link_session.specs.Stands.{asker, AsksOn, GoesOn};
 ghost use Rattle.lease_link.specs.declared.keep_end.KeepEnd.TheVariants as ends;
-ghost use Rattle.lease_link.specs.Keeping.{Asks, Concludes, EndsTell, EndsUntold, IsRound, Learns, ask_text, ended_by, keep_stand, request_with};
+ghost use Rattle.lease_link.specs.Asking.{dial_stand};
+ghost use Rattle.lease_link.specs.Keeping.{Asks, Concludes, EndsTell, IsRound, end_untold, ended_by, keep_stand};
 ghost use Rattle.lease_link.specs.Learning.{round_ask};
 
 use crate::bringing::Bringing;
 use crate::keep_end::KeepEnd;
 use crate::learned::Learned;
-use crate::learning::{learn, round_ask};
-use http_exchange::{Request, Told, Untold, exchange};
-use lease_core::{Grant, LeaseAsk, write_ask};
-use lf_base::{Clock, Dialer, Handles, NoMemory, Pause, Text};
+use crate::learning::round_ask;
+use crate::service::Service;
+use crate::unlearned::Unlearned;
+use lease_core::Grant;
+use lf_base::{Clock, Dialer, Handles, Pause, Text};
 use link_session::{Steps, Turns};
 use std::alloc::Global;
-use stream_wire::Call;
-
-/// The most bytes of a reply's body.
-const REPLY_MAX: u64 = 65_536;
 
 /// One round, by one that asks steps.
 pub(crate) fn keep<
@@ -28,6 +26,7 @@ pub(crate) fn keep<
     A: Drop,
     S: Steps<Ask = Q, Answer = A>,
     B: Bringing<Ask = Q>,
+    V: Service,
     T: Dialer,
     C: Clock,
     P: Pause,
@@ -37,21 +36,21 @@ pub(crate) fn keep<
     steps: &mut S,
     bring: &B,
     dialer: &mut T,
-    service: &Text,
+    service: &mut V,
     own: &Grant,
     candidate: bool,
     clock: &mut C,
     pause: &mut P,
     budget: u64,
 ) -> KeepEnd
-    ensures round { IsRound B.Bringing (asker S.Steps C.Clock steps.old clock.old) (LinksTell T.L.given T.L.taken) service.now
-        (round_ask own.now candidate) own.now budget (keep_stand (S.entries steps.old) (T.dials dialer.old) (T.faults dialer.old))
-        (keep_stand (S.entries steps.new) (T.dials dialer.new) (T.faults dialer.new)) result }
+    ensures round { IsRound B.Bringing V.Service (asker S.Steps C.Clock steps.old clock.old) (LinksTell T.L.given T.L.taken)
+        (round_ask own.now candidate) own.now budget (keep_stand (S.entries steps.old) (dial_stand (T.dials dialer.old) (T.faults dialer.old)) service.old)
+        (keep_stand (S.entries steps.new) (dial_stand (T.dials dialer.new) (T.faults dialer.new)) service.new) result }
     ensures same { AsksOn S.Steps C.Clock steps.old steps.new clock.old clock.new }
     ensures worn { result ≡ ends.Worn → S.is_worn steps.new }
 {
     let mut turns = Turns::new(budget);
-    let Ok((asked, body)) = request_of(alloc, own, candidate) else {
+    let Ok(asked) = round_ask(own, candidate) else {
         return KeepEnd::NoMemory;
     };
     let first = bring.asking(clock.now_ms());
@@ -59,28 +58,20 @@ pub(crate) fn keep<
         Ok(()) => {}
         Err(end) => return end,
     }
-    let told = ask_service(rt, alloc, dialer, service, body.as_slice(), &mut turns);
-    match learn_from(alloc, &asked, told) {
+    match service.ask(rt, alloc, dialer, &asked, &mut turns) {
         Ok(learned) => conclude(steps, bring, own, learned, clock, pause, &mut turns),
-        Err(end) => end,
+        Err(why) => end_untold(why),
     }
 }
 
-/// What is asked, and its text.
-fn request_of(alloc: Global, own: &Grant, candidate: bool) -> Result<(LeaseAsk, Vec<u8>), NoMemory>
-    ensures { IfOk result (λ p. (p.0 ≡ round_ask own.now candidate) × (p.1.items ≡ ask_text (round_ask own.now candidate))) }
+/// How a round ends that learned nothing of the service, since turns or memory ran out.
+fn end_untold(why: Unlearned) -> KeepEnd
+    ensures { result ≡ end_untold why }
 {
-    let asked = round_ask(own, candidate)?;
-    let body = body_of(alloc, &asked)?;
-    Ok((asked, body))
-}
-
-pub(crate) fn body_of(alloc: Global, asked: &LeaseAsk) -> Result<Vec<u8>, NoMemory>
-    ensures { IfOk result (λ body. body.items ≡ ask_text asked.now) }
-{
-    let mut body = Vec::new(alloc);
-    write_ask(alloc, asked, &mut body)?;
-    Ok(body)
+    match why {
+        Unlearned::Turns => KeepEnd::Turns,
+        Unlearned::NoMemory => KeepEnd::NoMemory,
+    }
 }
 
 /// Tells the machine. It is a turn.
@@ -101,48 +92,6 @@ pub(crate) fn tell<Q: Drop, A: Drop, S: Steps<Ask = Q, Answer = A>>(
     match steps.ask(&news) {
         Ok(_) => Ok(()),
         Err(_) => Err(KeepEnd::Worn),
-    }
-}
-
-/// Asks the service once.
-pub(crate) fn ask_service<R: Handles, T: Dialer>(
-    rt: &R,
-    alloc: Global,
-    dialer: &mut T,
-    service: &Text,
-    body: &[u8],
-    turns: &mut Turns,
-) -> Result<Told, Untold>
-    ensures dial { DialsOnce (request_with service.now body.now) (LinksTell T.L.given T.L.taken) (T.dials dialer.old) (T.dials dialer.new) result }
-    ensures fault { FaultsBy (T.faults dialer.old) (T.faults dialer.new) result }
-{
-    let request = Request {
-        call: &Call::Lease,
-        host: service,
-        front: body,
-        back: b"",
-        sized: false,
-    };
-    exchange(rt, alloc, dialer, service, request, REPLY_MAX, turns)
-}
-
-/// What is learned of an exchange.
-fn learn_from(
-    alloc: Global,
-    asked: &LeaseAsk,
-    told: Result<Told, Untold>,
-) -> Result<Learned, KeepEnd>
-    ensures ok { IfOk result (Learns asked.now told) }
-    ensures err { IfErr result (EndsUntold told) }
-{
-    match told {
-        Ok(told) => match learn(alloc, asked, told.status, told.body.as_slice()) {
-            Ok(learned) => Ok(learned),
-            Err(_) => Err(KeepEnd::NoMemory),
-        },
-        Err(Untold::Turns) => Err(KeepEnd::Turns),
-        Err(Untold::NoMemory) => Err(KeepEnd::NoMemory),
-        Err(Untold::Fault | Untold::Unfit | Untold::TooLong) => Ok(Learned::Nothing),
     }
 }
 

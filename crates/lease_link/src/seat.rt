@@ -5,6 +5,7 @@ ghost use Rattle.http_exchange.specs.Exchange.{LinksTell};
 ghost use Rattle.link_session.specs.Seats.{FoundWorn, HasGoneOn};
 ghost use Rattle.turn_desk.specs.Seats.{view, number_of, opened_on, IsOf};
 ghost use Rattle.lease_link.specs.declared.keep_end.KeepEnd.TheVariants as ends;
+ghost use Rattle.lease_link.specs.Asking.{dial_stand};
 ghost use Rattle.lease_link.specs.Keeping.{GivesUp, IsRound, keep_stand};
 ghost use Rattle.lease_link.specs.Learning.{round_ask};
 
@@ -12,8 +13,9 @@ use crate::bringing::Bringing;
 use crate::giving_up::give_up;
 use crate::keep_end::KeepEnd;
 use crate::keeping::keep;
+use crate::service::Service;
 use lease_core::Grant;
-use lf_base::{Clock, Dialer, Handles, NoMemory, Pause, Text};
+use lf_base::{Clock, Dialer, Handles, NoMemory, Pause};
 use link_session::AtSeat;
 use std::alloc::Global;
 use turn_desk::{Desk, Machine, Seat};
@@ -22,16 +24,17 @@ use turn_desk::{Desk, Machine, Seat};
 ///
 /// The machine is told that the service is about to be asked. Then the service is asked once: for a later
 /// end of the term that the node has, without one for a term where it is a candidate, and else who is
-/// primary. What the reply tells the machine is told: a grant, a loss, the primary's host. Of a fault of
+/// primary. What is learned the machine is told: a grant, a loss, the primary's host. Of a fault of
 /// the link, and of a reply that is none, it is told nothing. Then comes a nap.
 ///
-/// `own` is this node's, with the term that it has, 0 for none. `service` is where the service is found.
+/// `own` is this node's, with the term that it has, 0 for none.
 pub fn keep_lease<
     R: Handles + Copy,
     Q: Drop,
     A: Drop,
     M: Machine<Ask = Q, Answer = A>,
     B: Bringing<Ask = Q>,
+    V: Service,
     T: Dialer,
     C: Clock,
     P: Pause,
@@ -42,7 +45,7 @@ pub fn keep_lease<
     seat: &mut Seat<M>,
     bring: &B,
     dialer: &mut T,
-    service: &Text,
+    service: &mut V,
     own: &Grant,
     candidate: bool,
     clock: &mut C,
@@ -50,9 +53,9 @@ pub fn keep_lease<
     budget: u64,
 ) -> KeepEnd
     requires { IsOf seat.old desk.now }
-    ensures round { IsRound B.Bringing (record { caller = number_of seat.old; may = C.may_give clock.old }) (LinksTell T.L.given T.L.taken) service.now
-        (round_ask own.now candidate) own.now budget (keep_stand (view seat.old).mine (T.dials dialer.old) (T.faults dialer.old))
-        (keep_stand (view seat.new).mine (T.dials dialer.new) (T.faults dialer.new)) result }
+    ensures round { IsRound B.Bringing V.Service (record { caller = number_of seat.old; may = C.may_give clock.old }) (LinksTell T.L.given T.L.taken)
+        (round_ask own.now candidate) own.now budget (keep_stand (view seat.old).mine (dial_stand (T.dials dialer.old) (T.faults dialer.old)) service.old)
+        (keep_stand (view seat.new).mine (dial_stand (T.dials dialer.new) (T.faults dialer.new)) service.new) result }
     ensures worn { result ≡ ends.Worn → FoundWorn seat.new }
     ensures history { HasGoneOn M.steps (opened_on desk.now) (number_of seat.new) (view seat.old) (view seat.new) }
     ensures seat { IsOf seat.new desk.now × (number_of seat.new ≡ number_of seat.old) }
@@ -80,6 +83,7 @@ pub fn give_up_lease<
     A: Drop,
     M: Machine<Ask = Q, Answer = A>,
     B: Bringing<Ask = Q>,
+    V: Service,
     T: Dialer,
     C: Clock,
 >(
@@ -89,15 +93,15 @@ pub fn give_up_lease<
     seat: &mut Seat<M>,
     bring: &B,
     dialer: &mut T,
-    service: &Text,
+    service: &mut V,
     own: &Grant,
     clock: &mut C,
     budget: u64,
 ) -> Result<(), NoMemory>
     requires { IsOf seat.old desk.now }
-    ensures given { GivesUp B.Bringing (record { caller = number_of seat.old; may = C.may_give clock.old }) (LinksTell T.L.given T.L.taken) service.now own.now budget
-        (FoundWorn seat.new) (keep_stand (view seat.old).mine (T.dials dialer.old) (T.faults dialer.old))
-        (keep_stand (view seat.new).mine (T.dials dialer.new) (T.faults dialer.new)) (IsErr result) }
+    ensures given { GivesUp B.Bringing V.Service (record { caller = number_of seat.old; may = C.may_give clock.old }) (LinksTell T.L.given T.L.taken) own.now budget
+        (FoundWorn seat.new) (keep_stand (view seat.old).mine (dial_stand (T.dials dialer.old) (T.faults dialer.old)) service.old)
+        (keep_stand (view seat.new).mine (dial_stand (T.dials dialer.new) (T.faults dialer.new)) service.new) (IsErr result) }
     ensures history { HasGoneOn M.steps (opened_on desk.now) (number_of seat.new) (view seat.old) (view seat.new) }
     ensures seat { IsOf seat.new desk.now × (number_of seat.new ≡ number_of seat.old) }
     ensures clock { C.may_give clock.new ≡ C.may_give clock.old }

@@ -7,7 +7,7 @@ mod replies;
 
 use crate::exchange::{dialer_of, link_of};
 use lease_core::Grant;
-use lease_link::{KeepEnd, keep_lease};
+use lease_link::{KeepEnd, OwnService, keep_lease};
 use lf_base::{FixedClock, Handles, MemDialer, NoPause, Text};
 use listener::{Account, Bring, News, closed, opened};
 use std::alloc::Global;
@@ -73,6 +73,12 @@ fn grant_of(rt: &impl Abort, alloc: Global, term: u64) -> Grant {
     }
 }
 
+fn service_of(rt: &impl Abort, alloc: Global) -> OwnService {
+    OwnService {
+        address: Text::of(alloc, "s:1").expect(rt, "memory"),
+    }
+}
+
 /// A round of a node by this dialer: what its machine heard, and how the round ended.
 fn round<R: Handles + Abort + Copy>(
     rt: R,
@@ -83,7 +89,7 @@ fn round<R: Handles + Abort + Copy>(
 ) -> (Account, End) {
     let (desk, mut seat) = opened(rt, alloc);
     let own = grant_of(&rt, alloc, who.term);
-    let service = Text::of(alloc, "s:1").expect(&rt, "memory");
+    let mut service = service_of(&rt, alloc);
     let (mut clock, mut pause) = (FixedClock::new(NOW), NoPause::new());
     let end = keep_lease(
         rt,
@@ -92,7 +98,7 @@ fn round<R: Handles + Abort + Copy>(
         &mut seat,
         &Bring,
         dialer,
-        &service,
+        &mut service,
         &own,
         who.candidate,
         &mut clock,

@@ -33,7 +33,7 @@ first_wish settings node = record { candidate = settings.lease.candidate && not 
 
 -- what asks the lease service, at the service's URL
 pub record IsKeeper {T : Type 0} (settings : Settings) (node : ℕ) (keeper : Keeper T) : Type 0 where
-  pub service : settings.lease.service_url ≡ Some (codes "http://" ++ keeper.service)
+  pub service : settings.lease.service_url ≡ Some (codes "http://" ++ keeper.service.address)
   pub own : keeper.own ≡ own_of settings node
   pub wish : keeper.wish ≡ first_wish settings node
 

@@ -12,6 +12,7 @@ use crate::patience::naps_of;
 use crate::to_primary::ToPrimary;
 use crate::wish::Wish;
 use lease_core::Grant;
+use lease_link::OwnService;
 use lf_base::{Closing, Dialer, NoMemory, Text};
 use node_settings::{LeaseSettings, LeaseType, Settings, Url};
 use std::alloc::Global;
@@ -143,7 +144,9 @@ fn keeper_of<T: Drop>(
     let Some(url) = &settings.lease.service_url else {
         return Ok(None);
     };
-    let service = url.address().copy()?;
+    let service = OwnService {
+        address: url.address().copy()?,
+    };
     let own = own_of(alloc, settings, node)?;
     Ok(Some(Keeper {
         dialer,

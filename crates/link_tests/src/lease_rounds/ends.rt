@@ -2,11 +2,11 @@
 ghost use Rattle.lf_base.specs.Doors.{IsUnused};
 
 use super::listener::{Account, Bring, Heard, SILENCE, closed, opened};
-use super::{CANDIDATE, End, HOLDER, NOW, TURNS, Who, grant_of, round};
+use super::{CANDIDATE, End, HOLDER, NOW, TURNS, Who, grant_of, round, service_of};
 use crate::exchange::{dialer_of, link_of};
 use crate::same::same;
 use lease_link::give_up_lease;
-use lf_base::{FixedClock, Handles, MemDialer, MemLink, Text};
+use lf_base::{FixedClock, Handles, MemDialer, MemLink};
 use std::alloc::Global;
 use std::net::{TcpListener, TcpStream};
 use std::process::Abort;
@@ -93,7 +93,7 @@ fn given_up<R: Handles + Abort + Copy>(
     let link = link(&rt, alloc, room, TURNS);
     let watch = link.watch();
     let mut dialer = dialer_of(&rt, alloc, link);
-    let service = Text::of(alloc, "s:1").expect(&rt, "memory");
+    let mut service = service_of(&rt, alloc);
     let own = grant_of(&rt, alloc, term);
     let mut clock = FixedClock::new(NOW);
     let ended = give_up_lease(
@@ -103,7 +103,7 @@ fn given_up<R: Handles + Abort + Copy>(
         &mut seat,
         &Bring,
         &mut dialer,
-        &service,
+        &mut service,
         &own,
         &mut clock,
         TURNS,

@@ -13,5 +13,5 @@ returns-clause-history g c = rw (c.seat-1.given.1 (sym (ap (λ (p : SeatPlace _)
 pub returns-clause-given : goal.returns-clause-given
 returns-clause-given g c =
     rw (c.seat-1.given.1 (sym (ap (λ (p : SeatPlace _). p.seat) c.give_up.ensures.same.0)))
-    (given_by_seat _ (number_of c.args.seat.now) (number_of c.edition.new.seat) _ _ _ _ _ _ (view c.args.seat.now).mine (view c.edition.new.seat).mine _ _ _ _
+    (given_by_seat g.B.Bringing g.V.Service (number_of c.args.seat.now) (number_of c.edition.new.seat) _ _ _ _ _ (view c.args.seat.now).mine (view c.edition.new.seat).mine _ _ _ _
     c.edition.ensures.seat.0.2 c.edition.ensures.same.1 c.give_up.ensures.given)
