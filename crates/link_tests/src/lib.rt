@@ -6,6 +6,10 @@
 #[cfg(test)]
 mod desk;
 #[cfg(test)]
+mod etcd_rounds;
+#[cfg(test)]
+mod etcd_texts;
+#[cfg(test)]
 mod exchange;
 #[cfg(test)]
 mod lease;

@@ -1,0 +1,5 @@
+use Rattle.std.proofs.Common.{length}
+use Rattle.etcd_lease.proofs.rounds.+note_each.Given as goal
+
+abbrev pub decreases-note_each : goal.decreases-note_each
+decreases-note_each g l = length l.endpoints.now

@@ -1,0 +1,4 @@
+pub mod Asking
+pub mod Turns
+pub mod Rounds
+pub mod Acquiring
