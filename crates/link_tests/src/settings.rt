@@ -195,8 +195,136 @@ fn a_lease_service_is_read(rt: HostRuntime) {
     holds(rt, fixed.is_ok(), "a static lease");
 }
 
+/// Where etcd is: the address of each endpoint, and the key.
+fn etcd_line(rt: impl Copy + Abort, alloc: Global, settings: &Settings) -> String {
+    let mut line = String::new(alloc);
+    if let Some(etcd) = &settings.lease.etcd {
+        for endpoint in etcd.endpoints.as_slice() {
+            line.push_str(endpoint.address().as_str())
+                .expect(&rt, "memory");
+            line.push(' ').expect(&rt, "memory");
+        }
+        if let Some(key) = &etcd.key {
+            line.push_str(key.as_str()).expect(&rt, "memory");
+        }
+    }
+    line
+}
+
+const ETCDS: &[(&str, &str)] = &[
+    ("", ""),
+    ("[lease.etcd]\n", ""),
+    (
+        "type = \"etcd\"\netcd.endpoints = [\"http://e1:2379\"]\n",
+        "e1:2379 ",
+    ),
+    (
+        "type = \"etcd\"\nttl = 2000\n[lease.etcd]\nkey = \"a/b c\"\nendpoints = [ # three\n'http://e1:2379', \"http://[::1]:0\",\n\"http://e1:2379\",\n]\n",
+        "e1:2379 [::1]:0 e1:2379 a/b c",
+    ),
+    (
+        "etcd = { endpoints = [\"http://e:1\"], key = \"k\" }\nttl = 1\n",
+        "e:1 k",
+    ),
+    (
+        "type = \"service\"\nservice-url = \"http://l:1\"\nttl = 1\netcd.endpoints = [\"http://e:1\"]\n",
+        "e:1 ",
+    ),
+];
+
+/// What the table of etcd says, also beside a lease of another type.
+#[test]
+fn places_of_etcd_are_read(rt: HostRuntime) {
+    let alloc = rt.alloc();
+    for (more, said) in ETCDS {
+        let text = with_required(rt, alloc, more);
+        let settings = read_settings(alloc, text.as_bytes()).expect(&rt, "settings");
+        same(
+            rt,
+            (*more, etcd_line(rt, alloc, &settings).as_str()),
+            (*more, *said),
+        );
+    }
+}
+
+/// A text of `count` endpoints, and a key of so many bytes.
+fn etcd_text(rt: impl Copy + Abort, alloc: Global, count: usize, bytes: usize) -> String {
+    let mut text = with_required(rt, alloc, "type = \"etcd\"\n[lease.etcd]\nendpoints = [");
+    for _ in 0..count {
+        text.push_str("\"http://e:2379\", ").expect(&rt, "memory");
+    }
+    text.push_str("]\nkey = \"").expect(&rt, "memory");
+    for _ in 0..bytes {
+        text.push('k').expect(&rt, "memory");
+    }
+    text.push_str("\"\n").expect(&rt, "memory");
+    text
+}
+
+const ETCD_ENDS: &[(usize, usize, &str)] = &[
+    (1, 1, "nothing"),
+    (16, 1_000, "nothing"),
+    (
+        0,
+        1,
+        "lease.etcd.endpoints 7 an array of 1 to 16 URLs, each http://host:port",
+    ),
+    (
+        17,
+        1,
+        "lease.etcd.endpoints 7 an array of 1 to 16 URLs, each http://host:port",
+    ),
+    (1, 0, "lease.etcd.key 8 a text of 1 to 1000 bytes"),
+    (1, 1_001, "lease.etcd.key 8 a text of 1 to 1000 bytes"),
+];
+
+/// How many endpoints there are, and how long a key is.
+#[test]
+fn places_of_etcd_have_ends(rt: HostRuntime) {
+    let alloc = rt.alloc();
+    for (count, bytes, said) in ETCD_ENDS {
+        let text = etcd_text(rt, alloc, *count, *bytes);
+        let read = read_settings(alloc, text.as_bytes());
+        same(
+            rt,
+            (*count, *bytes, complaint(rt, alloc, read).as_str()),
+            (*count, *bytes, *said),
+        );
+    }
+}
+
+/// A node that takes its lease from etcd: its type, and that it is refused to one that needs no lease.
+#[test]
+fn a_lease_of_etcd_is_read(rt: HostRuntime) {
+    let alloc = rt.alloc();
+    let text = etcd_text(rt, alloc, 3, 1);
+    says(
+        rt,
+        alloc,
+        text.as_str(),
+        "litefs.sock :20202 1000 false db1:20202 db1 none 10000",
+    );
+    let settings = read_settings(alloc, text.as_bytes()).expect(&rt, "settings");
+    holds(rt, settings.lease.lease_type == LeaseType::Etcd, "its type");
+    let refused = read_static_settings(alloc, text.as_bytes());
+    same(
+        rt,
+        complaint(rt, alloc, refused).as_str(),
+        "lease.type 5 static",
+    );
+    let beside = with_required(rt, alloc, "etcd.endpoints = [\"http://e:1\"]\n");
+    let fixed = read_static_settings(alloc, beside.as_bytes());
+    holds(rt, fixed.is_ok(), "a static lease");
+}
+
 const SERVICES: &[(&str, &str)] = &[
     ("", ":20202 10000"),
+    ("lease.type = \"etcd\"\nlease.ttl = 1\n", ":20202 1"),
+    ("lease.etcd.key = \"k\"\n", ":20202 10000"),
+    (
+        "lease.etcd.endpoints = [\"http://e:1\"]\nlease.ttl = 7\n",
+        ":20202 7",
+    ),
     ("http.addr = \"db:1\"\nlease.ttl = 7\n", "db:1 7"),
     (
         "[lease]\ntype = \"service\"\ncandidate = true\n",
@@ -256,6 +384,12 @@ const NO_SERVICES: &[&str] = &[
     "fuse.program = \"\"\n",
     "lease.halt-ttl = 0\n",
     "lease = 1\n",
+    "lease.etcd = 1\n",
+    "lease.etcd.endpoints = []\n",
+    "lease.etcd.endpoints = \"http://e:1\"\n",
+    "lease.etcd.endpoints = [\"http://e:1\", \"e:2\"]\n",
+    "lease.etcd.key = \"\"\n",
+    "lease.etcd.user = \"root\"\n",
     "log = \"Off\"\n",
     "log = false\n",
     "database",
@@ -311,6 +445,17 @@ const FURTHER: &[&str] = &[
     "service-url = \"lease:20202\"\n",
     "service-url = \"https://lease:20202\"\n",
     "promote = true\n",
+    "type = \"etcd\"\n",
+    "type = \"Etcd\"\netcd.endpoints = [\"http://e:1\"]\n",
+    "etcd.key = \"k\"\n",
+    "etcd = []\n",
+    "[[lease.etcd]]\n",
+    "[etcd]\nendpoints = [\"http://e:1\"]\n",
+    "etcd.endpoints = [\"http://e:1\", [\"http://e:1\"]]\n",
+    "etcd.endpoints = [\"http://:1\"]\n",
+    "etcd.endpoints = [\"http://e\"]\n",
+    "etcd.endpoints = [\"http://e:1/v3\"]\n",
+    "etcd.endpoints = [\"http://e:1\"]\netcd.key = 1\n",
     "hostname = \"twice\"\n",
     "[fuse]\nlisten = 1\n",
     "[fuse]\ndir = \"\"\n",
@@ -495,7 +640,7 @@ const COMPLAINTS: &[(&str, &str)] = &[
     ),
     (
         "type = \"other\"\n",
-        "lease.type 5 static or service, as a text",
+        "lease.type 5 static, service or etcd, as a text",
     ),
     (
         "type = \"service\"\n",
@@ -505,6 +650,40 @@ const COMPLAINTS: &[(&str, &str)] = &[
         "service-url = \"h:1\"\n",
         "lease.service-url 5 a URL, http://host:port",
     ),
+    (
+        "type = \"etcd\"\n",
+        "lease.etcd.endpoints 0 an array of 1 to 16 URLs, each http://host:port, since lease.type is etcd; the key is missing",
+    ),
+    (
+        "[lease.etcd]\nkey = \"\"\n",
+        "lease.etcd.endpoints 0 an array of 1 to 16 URLs, each http://host:port, since lease.etcd.key is there; the key is missing",
+    ),
+    // The time is said behind the type, and in front of the table.
+    (
+        "type = \"etcd\"\nttl = 1999\n",
+        "lease.ttl 6 a number of milliseconds from 2000 to 86400000, since lease.type is etcd",
+    ),
+    (
+        "type = \"etcd\"\nttl = 0\n",
+        "lease.ttl 6 a number of milliseconds from 1 to 86400000",
+    ),
+    (
+        "[lease.etcd]\nendpoints = [\"http://e:1\",\n\"https://e:1\"]\n",
+        "lease.etcd.endpoints 6 an array of 1 to 16 URLs, each http://host:port",
+    ),
+    (
+        "etcd.endpoints = [\"http://e:1\"]\n\netcd.key = true\n",
+        "lease.etcd.key 7 a text of 1 to 1000 bytes",
+    ),
+    (
+        "[lease.etcd]\nendpoints = [\"http://e:1\"]\nuser = \"root\"\n",
+        "lease.etcd.user 7 no key of this name",
+    ),
+    (
+        "etcd.ca-file = \"ca.pem\"\n",
+        "lease.etcd.ca-file 5 no key of this name",
+    ),
+    ("[[lease.etcd]]\n", "lease.etcd 5 a table"),
 ];
 
 const WHOLE_COMPLAINTS: &[(&str, &str)] = &[
@@ -573,6 +752,10 @@ const SERVICE_COMPLAINTS: &[(&str, &str)] = &[
     (
         "proxy.target = \":1\"\nfuse.program = \"\"\n",
         "fuse.program 2 a path that is not empty",
+    ),
+    (
+        "lease.etcd.endpoints = [\"e:1\"]\nlease.etcd.key = \"\"\n",
+        "lease.etcd.endpoints 1 an array of 1 to 16 URLs, each http://host:port",
     ),
 ];
 

@@ -71,6 +71,12 @@ judged P (Ok a) b h is = (λ _. (a, h), λ _. is)
 judged P (Err fault.Config) b h is = (λ t. absurd (cc), λ x. absurd (h x.0 x.1))
 judged P (Err fault.NoMemory) b h is = absurd is
 
+-- what is so only where it is asked for, and it is asked for
+pub asked_for : (P : Type 0) (IsSo : Option Data → Type 0) (o p : Option Data) (b : Result Bool NoMemory) → P → o ≡ p → IfOk b (λ kept. IsTrue kept ↔ IsSo o)
+    → IfOk b (λ kept. IsTrue kept ↔ (P → IsSo p))
+asked_for P IsSo o p (Ok b) asked e h = (λ t _. subst IsSo e (h.0 t), λ so. h.1 (subst IsSo (sym e) (so asked)))
+asked_for P IsSo o p (Err f) asked e h = tt
+
 -- whether a value is one that a rule allows
 pub fits_from : {A : Type 0} (IsOf : Data → A → Type 0) (d : Data) (r : Result A SettingsFault) (b : Result Bool NoMemory) → Reads (IsOf d) r → IfOk b (Judges r)
     → IfOk b (λ kept. IsTrue kept ↔ Says IsOf d)

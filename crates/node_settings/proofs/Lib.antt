@@ -6,3 +6,5 @@ pub mod Kept
 pub mod Refusing
 pub mod Walking
 pub mod Deciding
+pub mod Adding
+pub mod Placing

@@ -1,15 +1,16 @@
 -- A configuration says one thing.
-use Rattle.std.proofs.Common.{◌≡◌, ℕ, pos, List, Option, true, false, Some, None, IsSomeAnd, MatchOption, option_map, sym, ap, ◌∙◌, subst, refl, codes}
-use Rattle.toml.specs.Data.{Data, Members}
+use Rattle.std.proofs.Common.{◌≡◌, ℕ, pos, List, [], ◌∷◌, Option, true, false, Some, None, IsSomeAnd, MatchOption, option_map, sym, ap, ◌∙◌, subst, refl, codes}
+use Rattle.toml.specs.Data.{Data, Items, no_items, item, array, Members}
 use Rattle.node_settings.specs.declared.settings.Settings.{Settings}
+use Rattle.node_settings.specs.declared.settings.EtcdPlace.{EtcdPlace}
 use Rattle.node_settings.specs.declared.settings.LeaseSettings.{LeaseSettings}
 use Rattle.node_settings.specs.declared.settings.MountSettings.{MountSettings}
 use Rattle.node_settings.specs.declared.settings.ProxySettings.{ProxySettings}
 use Rattle.node_settings.specs.declared.settings.LeaseType.TheVariants as lease
 use Rattle.node_settings.specs.declared.settings.ServiceSettings.{ServiceSettings}
 use Rattle.node_settings.specs.Service.{IsServiceConfiguration, IsServiceLease, IsServiceRoot}
-use Rattle.node_settings.specs.Configuration.{IsFuse, IsHttp, IsProxy, IsData, IsLease, IsRoot, IsConfiguration, dir_of, program_of}
-use Rattle.node_settings.specs.Values.{HoldsOr, section, IsText, IsPath, IsNameText, IsAddressText, IsTargetText, IsUrlText, IsSomeOf, IsFlag, IsOff, IsSwitch, IsNumber, IsLeaseType}
+use Rattle.node_settings.specs.Configuration.{IsEtcd, IsEtcdTable, IsFuse, IsHttp, IsProxy, IsData, IsLease, IsRoot, IsConfiguration, dir_of, endpoints_of, etcd_key_of, program_of}
+use Rattle.node_settings.specs.Values.{HoldsOr, section, IsText, IsPath, IsNameText, IsAddressText, IsTargetText, IsUrlText, AreUrls, IsUrls, IsKeyText, IsSomeOf, IsFlag, IsOff, IsSwitch, IsNumber, IsLeaseType}
 
 -- a rule reads one value
 abbrev ReadsOne : {A : Type 0} → (Data → A → Type 0) → Type 0
@@ -30,8 +31,25 @@ one_path d a b x y = one_text d a b x.0 y.0
 one_target : ReadsOne IsTargetText
 one_target d a b x y = one_text d a b x.0 y.0
 
-one_url : ReadsOne IsUrlText
+pub one_url : ReadsOne IsUrlText
 one_url d a b x y = one_text d a b x.0 y.0
+
+are_one : (items : Items) (a b : List (List ℕ)) → AreUrls items a → AreUrls items b → a ≡ b
+are_one no_items [] [] x y = refl
+are_one no_items [] (v ∷ b) x y = absurd y
+are_one no_items (u ∷ a) b x y = absurd x
+are_one (item d items) [] b x y = absurd x
+are_one (item d items) (u ∷ a) [] x y = absurd y
+are_one (item d items) (u ∷ a) (v ∷ b) x y = let first = one_url d u v x.0 y.0 in let more = are_one items a b x.1 y.1 in cc (first, more)
+
+one_urls : ReadsOne IsUrls
+one_urls d a b x y =
+    let arrays : array x.items ≡ array y.items = sym x.is_array ∙ y.is_array in
+    let same : x.items ≡ y.items = cc in
+    are_one y.items a b (subst (λ (i : Items). AreUrls i a) same x.each) y.each
+
+one_key : ReadsOne IsKeyText
+one_key d a b x y = one_text d a b x.0 y.0
 
 one_some : {A : Type 0} (Rule : Data → A → Type 0) → ReadsOne Rule → ReadsOne (IsSomeOf Rule)
 one_some Rule one d None b x y = absurd x
@@ -56,8 +74,13 @@ one_number least most d a b x y = let e : pos a ≡ pos b = cc (x.0, y.0) in cc
 pub one_lease_type : ReadsOne IsLeaseType
 one_lease_type d lease.Static lease.Static x y = refl
 one_lease_type d lease.Service lease.Service x y = refl
+one_lease_type d lease.Etcd lease.Etcd x y = refl
 one_lease_type d lease.Static lease.Service x y = absurd (cc)
+one_lease_type d lease.Static lease.Etcd x y = absurd (cc)
 one_lease_type d lease.Service lease.Static x y = absurd (cc)
+one_lease_type d lease.Service lease.Etcd x y = absurd (cc)
+one_lease_type d lease.Etcd lease.Static x y = absurd (cc)
+one_lease_type d lease.Etcd lease.Service x y = absurd (cc)
 
 pub one_some_url : ReadsOne (IsSomeOf IsUrlText)
 one_some_url = one_some IsUrlText one_url
@@ -85,10 +108,30 @@ one_proxy None (Some b) addrs targets = absurd (cc)
 one_proxy (Some a) None addrs targets = absurd (cc)
 one_proxy (Some a) (Some b) addrs targets = let addr : a.addr ≡ b.addr = cc in let target : a.target ≡ b.target = cc in λ i. Some (record { addr = addr i; target = target i })
 
+-- a place of etcd is its endpoints and its key
+pub one_place : (a b : Option EtcdPlace) → endpoints_of a ≡ endpoints_of b → etcd_key_of a ≡ etcd_key_of b → a ≡ b
+one_place None None endpoints keys = refl
+one_place None (Some b) endpoints keys = absurd (cc)
+one_place (Some a) None endpoints keys = absurd (cc)
+one_place (Some a) (Some b) endpoints keys = let same : a.endpoints ≡ b.endpoints = cc in λ i. Some (record { endpoints = same i; key = keys i })
+
 -- two facts of one table
 both : (o : Option Members) (P Q : Members → Type 0) → IsSomeAnd o P → IsSomeAnd o Q → (t : Members) × P t × Q t
 both None P Q x y = absurd x
 both (Some t) P Q x y = (t, x, y)
+
+-- the table of etcd says one thing
+pub one_table : (o : Option Members) (a b : Option (List (List ℕ))) (j k : Option (List ℕ)) → IsSomeAnd o (λ m. IsEtcdTable m a j) → IsSomeAnd o (λ m. IsEtcdTable m b k) → (a ≡ b) × (j ≡ k)
+one_table o a b j k x y =
+    let etcd = both o (λ m. IsEtcdTable m a j) (λ m. IsEtcdTable m b k) x y in (
+      holds_or (IsSomeOf IsUrls) (one_some IsUrls one_urls) None _ a b etcd.1.some_endpoints etcd.2.some_endpoints,
+      holds_or (IsSomeOf IsKeyText) (one_some IsKeyText one_key) None _ j k etcd.1.a_key etcd.2.a_key,
+    )
+
+pub one_etcd : (t : Members) (a b : Option EtcdPlace) → IsSomeAnd (section (codes "etcd") t) (λ m. IsEtcd m a) → IsSomeAnd (section (codes "etcd") t) (λ m. IsEtcd m b) → a ≡ b
+one_etcd t a b x y =
+    let same = one_table (section (codes "etcd") t) (endpoints_of a) (endpoints_of b) (etcd_key_of a) (etcd_key_of b) x y in
+    one_place a b same.0 same.1
 
 one_lease : (t : Members) (a b : LeaseSettings) → IsLease t a → IsLease t b → a ≡ b
 one_lease t a b x y =
@@ -101,6 +144,7 @@ one_lease t a b x y =
       advertise_url = holds IsUrlText one_url _ a.advertise_url b.advertise_url x.advertise_url y.advertise_url i;
       hostname = holds IsText one_text _ a.hostname b.hostname x.hostname y.hostname i;
       service_url = holds_or (IsSomeOf IsUrlText) one_some_url None _ a.service_url b.service_url x.service_url y.service_url i;
+      etcd = one_etcd t a.etcd b.etcd x.etcd y.etcd i;
       ttl = one_ttl i;
       halt_ttl = one_halt i;
     }

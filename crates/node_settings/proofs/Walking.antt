@@ -24,6 +24,7 @@ empty_lacks place.Http (Some name) h = absurd (cc)
 empty_lacks place.Proxy (Some name) h = absurd (cc)
 empty_lacks place.Data (Some name) h = absurd (cc)
 empty_lacks place.Lease (Some name) h = absurd (cc)
+empty_lacks place.Etcd (Some name) h = absurd (cc)
 
 -- no line is read yet
 pub at_start : (text : List ℕ) (p : Place) (name : Option (Bor (List ℕ))) → LacksAt (Stands p name) text 0

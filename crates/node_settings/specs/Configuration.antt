@@ -3,11 +3,12 @@ use Rattle.std.specs.Prelude.{◌≡◌, ℕ, ◌≤◌, ◌^◌, ◌-◌, List,
 use Rattle.toml.specs.Data.{Members}
 use Rattle.toml.specs.Parse.{parse_document}
 use Rattle.node_settings.specs.declared.settings.Settings.{Settings}
+use Rattle.node_settings.specs.declared.settings.EtcdPlace.{EtcdPlace}
 use Rattle.node_settings.specs.declared.settings.LeaseSettings.{LeaseSettings}
 use Rattle.node_settings.specs.declared.settings.MountSettings.{MountSettings}
 use Rattle.node_settings.specs.declared.settings.ProxySettings.{ProxySettings}
 use Rattle.node_settings.specs.declared.settings.LeaseType.TheVariants as lease_type
-use Rattle.node_settings.specs.Values.{Holds, HoldsOr, HasOnly, section, IsText, IsPath, IsNameText, IsAddressText, IsTargetText, IsUrlText, IsSomeOf, IsFlag, IsOff, IsSwitch, IsNumber, IsLeaseType, HasService}
+use Rattle.node_settings.specs.Values.{Holds, HoldsOr, HasOnly, section, IsText, IsPath, IsNameText, IsAddressText, IsTargetText, IsUrlText, IsUrls, IsKeyText, IsSomeOf, IsFlag, IsOff, IsSwitch, IsNumber, IsLeaseType, HasService, HasEtcd, HasTtl}
 
 abbrev pub fuse_keys : List (List ℕ)
 fuse_keys = codes "listen" ∷ codes "dir" ∷ codes "program" ∷ []
@@ -55,8 +56,29 @@ pub record IsData (members : Members) (packed : Bool) (files : ℕ) : Type 0 whe
   pub compress : HoldsOr (codes "compress") IsOff false members packed
   pub retention_files : HoldsOr (codes "retention-files") (IsNumber 1 (2 ^ 63 - 1)) 1000 members files
 
+abbrev pub etcd_keys : List (List ℕ)
+etcd_keys = codes "endpoints" ∷ codes "key" ∷ []
+
+-- the keys of [lease.etcd]
+pub record IsEtcdTable (members : Members) (endpoints : Option (List (List ℕ))) (key : Option (List ℕ)) : Type 0 where
+  pub keys : HasOnly etcd_keys members
+  pub some_endpoints : HoldsOr (codes "endpoints") (IsSomeOf IsUrls) None members endpoints
+  pub a_key : HoldsOr (codes "key") (IsSomeOf IsKeyText) None members key
+
+abbrev pub endpoints_of : Option EtcdPlace → Option (List (List ℕ))
+endpoints_of etcd = option_map (λ e. e.endpoints) etcd
+
+-- there is none without endpoints
+abbrev pub etcd_key_of : Option EtcdPlace → Option (List ℕ)
+etcd_key_of None = None
+etcd_key_of (Some etcd) = etcd.key
+
+-- [lease.etcd]
+abbrev pub IsEtcd : Members → Option EtcdPlace → Type 0
+IsEtcd members etcd = IsEtcdTable members (endpoints_of etcd) (etcd_key_of etcd)
+
 abbrev pub lease_keys : List (List ℕ)
-lease_keys = codes "type" ∷ codes "candidate" ∷ codes "advertise-url" ∷ codes "hostname" ∷ codes "service-url" ∷ codes "ttl" ∷ codes "halt-ttl" ∷ []
+lease_keys = codes "type" ∷ codes "candidate" ∷ codes "advertise-url" ∷ codes "hostname" ∷ codes "service-url" ∷ codes "ttl" ∷ codes "halt-ttl" ∷ codes "etcd" ∷ []
 
 -- [lease]
 pub record IsLease (members : Members) (lease : LeaseSettings) : Type 0 where
@@ -68,7 +90,10 @@ pub record IsLease (members : Members) (lease : LeaseSettings) : Type 0 where
   pub service_url : HoldsOr (codes "service-url") (IsSomeOf IsUrlText) None members lease.service_url
   pub has_service : HasService lease.lease_type lease.service_url
   pub ttl : HoldsOr (codes "ttl") (IsNumber 1 86400000) 10000 members lease.ttl
+  pub has_ttl : HasTtl lease.lease_type lease.ttl
   pub halt_ttl : HoldsOr (codes "halt-ttl") (IsNumber 1 86400000) lease.ttl members lease.halt_ttl
+  pub etcd : IsSomeAnd (section (codes "etcd") members) (λ etcd. IsEtcd etcd lease.etcd)
+  pub has_etcd : HasEtcd lease.lease_type lease.etcd
 
 abbrev pub root_keys : List (List ℕ)
 root_keys = codes "database" ∷ codes "log" ∷ codes "fuse" ∷ codes "http" ∷ codes "proxy" ∷ codes "data" ∷ codes "lease" ∷ []
@@ -84,7 +109,7 @@ pub record IsRoot (members : Members) (s : Settings) : Type 0 where
   pub data_kept : IsSomeAnd (section (codes "data") members) (λ kept. IsData kept s.compress s.retention_files)
   pub lease : IsSomeAnd (section (codes "lease") members) (λ lease. IsLease lease s.lease)
 
--- the same of a node that needs no lease service
+-- the same of a node whose lease is granted by nobody
 abbrev pub IsStaticRoot : Members → Settings → Type 0
 IsStaticRoot members s = IsRoot members s × (s.lease.lease_type ≡ lease_type.Static)
 
@@ -96,7 +121,7 @@ pub record IsConfiguration (bytes : List ℕ) (s : Settings) : Type 0 where
   pub is_toml : parse_document bytes ≡ Some root
   pub says : IsRoot root s
 
--- the same of a node that needs no lease service
+-- the same of a node whose lease is granted by nobody
 pub record IsStaticConfiguration (bytes : List ℕ) (s : Settings) : Type 0 where
   pub says : IsConfiguration bytes s
   pub static : s.lease.lease_type ≡ lease_type.Static

@@ -8,8 +8,8 @@ use Rattle.node_settings.specs.declared.place.Place.{Place}
 use Rattle.node_settings.specs.declared.place.Place.TheVariants as place
 use Rattle.node_settings.specs.declared.rule.Rule.{Rule}
 use Rattle.node_settings.specs.declared.rule.Rule.TheVariants as rule
-use Rattle.node_settings.specs.Configuration.{fuse_keys, lease_keys, proxy_keys, root_keys}
-use Rattle.node_settings.specs.Values.{HasOnly, is_among, section, IsText, IsPath, IsNameText, IsAddressText, IsTargetText, IsUrlText, IsFlag, IsOff, IsSwitch, IsNumber, IsLeaseType}
+use Rattle.node_settings.specs.Configuration.{etcd_keys, fuse_keys, lease_keys, proxy_keys, root_keys}
+use Rattle.node_settings.specs.Values.{HasOnly, is_among, section, IsText, IsPath, IsNameText, IsAddressText, IsTargetText, IsUrlText, IsUrls, IsKeyText, IsFlag, IsOff, IsSwitch, IsNumber, IsLeaseType}
 
 -- ---- tables and keys
 
@@ -20,6 +20,17 @@ name_of_place place.Http = codes "http"
 name_of_place place.Proxy = codes "proxy"
 name_of_place place.Data = codes "data"
 name_of_place place.Lease = codes "lease"
+name_of_place place.Etcd = codes "etcd"
+
+-- the table that it stands in; the text itself stands in none
+abbrev pub parent_of : Place → Place
+parent_of place.Root = place.Root
+parent_of place.Fuse = place.Root
+parent_of place.Http = place.Root
+parent_of place.Proxy = place.Root
+parent_of place.Data = place.Root
+parent_of place.Lease = place.Root
+parent_of place.Etcd = place.Lease
 
 -- what stands in front of the name of each of its keys
 abbrev pub prefix_of : Place → List ℕ
@@ -29,6 +40,7 @@ prefix_of place.Http = codes "http."
 prefix_of place.Proxy = codes "proxy."
 prefix_of place.Data = codes "data."
 prefix_of place.Lease = codes "lease."
+prefix_of place.Etcd = codes "lease.etcd."
 
 abbrev pub keys_of : Place → List (List ℕ)
 keys_of place.Root = root_keys
@@ -37,6 +49,11 @@ keys_of place.Http = codes "addr" ∷ []
 keys_of place.Proxy = proxy_keys
 keys_of place.Data = codes "compress" ∷ codes "retention-files" ∷ []
 keys_of place.Lease = lease_keys
+keys_of place.Etcd = etcd_keys
+
+abbrev pub members_or_none : Option Members → Members
+members_or_none None = no_members
+members_or_none (Some members) = members
 
 -- its members: none where it is missing, and nothing where its value is no table
 abbrev pub section_of : Place → Members → Option Members
@@ -46,10 +63,7 @@ section_of place.Http root = section (codes "http") root
 section_of place.Proxy root = section (codes "proxy") root
 section_of place.Data root = section (codes "data") root
 section_of place.Lease root = section (codes "lease") root
-
-abbrev pub members_or_none : Option Members → Members
-members_or_none None = no_members
-members_or_none (Some members) = members
+section_of place.Etcd root = section (codes "etcd") (members_or_none (section (codes "lease") root))
 
 -- the same, and none where its value is no table
 abbrev pub members_in : Place → Members → Members
@@ -73,6 +87,8 @@ place_of key.Hostname = place.Lease
 place_of key.ServiceUrl = place.Lease
 place_of key.Ttl = place.Lease
 place_of key.HaltTtl = place.Lease
+place_of key.Endpoints = place.Etcd
+place_of key.EtcdKey = place.Etcd
 
 abbrev pub name_of : Key → List ℕ
 name_of key.Database = codes "database"
@@ -92,6 +108,8 @@ name_of key.Hostname = codes "hostname"
 name_of key.ServiceUrl = codes "service-url"
 name_of key.Ttl = codes "ttl"
 name_of key.HaltTtl = codes "halt-ttl"
+name_of key.Endpoints = codes "endpoints"
+name_of key.EtcdKey = codes "key"
 
 abbrev pub value_of : Key → Members → Option Data
 value_of k root = get_member (name_of k) (members_in (place_of k) root)
@@ -130,10 +148,24 @@ Fits key.Hostname d = Says IsText d
 Fits key.ServiceUrl d = Says IsUrlText d
 Fits key.Ttl d = Says (IsNumber 1 86400000) d
 Fits key.HaltTtl d = Says (IsNumber 1 86400000) d
+Fits key.Endpoints d = Says IsUrls d
+Fits key.EtcdKey d = Says IsKeyText d
+
+-- the lease's type is said by this word
+abbrev pub IsTyped : List ℕ → Members → Type 0
+IsTyped word root = value_of key.Type root ≡ Some (string word)
 
 -- the lease is said to be a service's
 abbrev pub IsServices : Members → Type 0
-IsServices root = value_of key.Type root ≡ Some (string (codes "service"))
+IsServices root = IsTyped (codes "service") root
+
+-- the lease is said to be etcd's
+abbrev pub IsEtcds : Members → Type 0
+IsEtcds root = IsTyped (codes "etcd") root
+
+-- where the time of a lease is said, it is two seconds at least
+abbrev pub LastsSeconds : Members → Type 0
+LastsSeconds root = MatchOption (value_of key.Ttl root) (Unit {0}) (λ d. Says (IsNumber 2000 86400000) d)
 
 -- where the one key is, the other is too
 abbrev pub Brings : Key → Key → Members → Type 0
@@ -149,7 +181,10 @@ Keeps rule.Dir root = Brings key.Program key.Dir root
 Keeps rule.Addr root = Brings key.Target key.ProxyAddr root
 Keeps rule.Target root = Brings key.ProxyAddr key.Target root
 Keeps rule.Service root = IsServices root → IsSome (value_of key.ServiceUrl root)
-Keeps rule.Static root = IsServices root → ⊥
+Keeps rule.Seconds root = IsEtcds root → LastsSeconds root
+Keeps rule.Etcd root = IsEtcds root → IsSome (value_of key.Endpoints root)
+Keeps rule.Endpoints root = Brings key.EtcdKey key.Endpoints root
+Keeps rule.Static root = (IsServices root → ⊥) × (IsEtcds root → ⊥)
 
 -- each of these rules is kept
 abbrev pub AllKept : List Rule → Members → Type 0
@@ -169,7 +204,7 @@ other_key keys no_members = []
 other_key keys (member name d members) = if is_among keys name then other_key keys members else name
 
 abbrev pub place_of_rule : Rule → Place
-place_of_rule (rule.Table p) = place.Root
+place_of_rule (rule.Table p) = parent_of p
 place_of_rule (rule.Keys p) = p
 place_of_rule (rule.There k) = place_of k
 place_of_rule (rule.Value k) = place_of k
@@ -177,6 +212,9 @@ place_of_rule rule.Dir = place.Fuse
 place_of_rule rule.Addr = place.Proxy
 place_of_rule rule.Target = place.Proxy
 place_of_rule rule.Service = place.Lease
+place_of_rule rule.Seconds = place.Lease
+place_of_rule rule.Etcd = place.Etcd
+place_of_rule rule.Endpoints = place.Etcd
 place_of_rule rule.Static = place.Lease
 
 abbrev pub name_of_rule : Rule → Members → List ℕ
@@ -188,6 +226,9 @@ name_of_rule rule.Dir root = codes "dir"
 name_of_rule rule.Addr root = codes "addr"
 name_of_rule rule.Target root = codes "target"
 name_of_rule rule.Service root = codes "service-url"
+name_of_rule rule.Seconds root = codes "ttl"
+name_of_rule rule.Etcd root = codes "endpoints"
+name_of_rule rule.Endpoints root = codes "endpoints"
 name_of_rule rule.Static root = codes "type"
 
 -- ---- which rules, in which order
@@ -203,9 +244,10 @@ node_rules = rule.Keys place.Root
     ∷ rule.Table place.Data ∷ rule.Keys place.Data ∷ rule.Value key.Compress ∷ rule.Value key.RetentionFiles
     ∷ rule.Table place.Lease ∷ rule.Keys place.Lease ∷ rule.Value key.Type ∷ rule.Value key.Candidate
     ∷ rule.There key.AdvertiseUrl ∷ rule.Value key.AdvertiseUrl ∷ rule.There key.Hostname ∷ rule.Value key.Hostname
-    ∷ rule.Value key.ServiceUrl ∷ rule.Service ∷ rule.Value key.Ttl ∷ rule.Value key.HaltTtl ∷ []
+    ∷ rule.Value key.ServiceUrl ∷ rule.Service ∷ rule.Value key.Ttl ∷ rule.Seconds ∷ rule.Value key.HaltTtl
+    ∷ rule.Table place.Etcd ∷ rule.Keys place.Etcd ∷ rule.Etcd ∷ rule.Endpoints ∷ rule.Value key.Endpoints ∷ rule.Value key.EtcdKey ∷ []
 
--- those of a node that needs no lease service
+-- those of a node whose lease is granted by nobody
 abbrev pub static_rules : List Rule
 static_rules = node_rules ++ rule.Static ∷ []
 
@@ -219,4 +261,5 @@ service_rules = rule.Keys place.Root
     ∷ rule.Table place.Proxy ∷ rule.Keys place.Proxy ∷ rule.Value key.ProxyAddr ∷ rule.Value key.Target
     ∷ rule.Table place.Data ∷ rule.Keys place.Data ∷ rule.Value key.Compress ∷ rule.Value key.RetentionFiles
     ∷ rule.Table place.Lease ∷ rule.Keys place.Lease ∷ rule.Value key.Type ∷ rule.Value key.Candidate
-    ∷ rule.Value key.AdvertiseUrl ∷ rule.Value key.Hostname ∷ rule.Value key.ServiceUrl ∷ rule.Value key.Ttl ∷ rule.Value key.HaltTtl ∷ []
+    ∷ rule.Value key.AdvertiseUrl ∷ rule.Value key.Hostname ∷ rule.Value key.ServiceUrl ∷ rule.Value key.Ttl ∷ rule.Value key.HaltTtl
+    ∷ rule.Table place.Etcd ∷ rule.Keys place.Etcd ∷ rule.Value key.Endpoints ∷ rule.Value key.EtcdKey ∷ []

@@ -6,7 +6,7 @@ use Rattle.toml.specs.Parse.{parse_document}
 use Rattle.node_settings.specs.declared.settings.ServiceSettings.{ServiceSettings}
 use Rattle.node_settings.specs.declared.settings.LeaseType.{LeaseType}
 use Rattle.node_settings.specs.declared.settings.LeaseType.TheVariants as lease_type
-use Rattle.node_settings.specs.Configuration.{IsFuseTable, IsHttp, IsProxyTable, IsData, lease_keys, root_keys}
+use Rattle.node_settings.specs.Configuration.{IsEtcdTable, IsFuseTable, IsHttp, IsProxyTable, IsData, lease_keys, root_keys}
 use Rattle.node_settings.specs.Values.{HoldsOr, HasOnly, section, IsSomeOf, IsText, IsNameText, IsUrlText, IsFlag, IsSwitch, IsNumber, IsLeaseType}
 
 -- [lease]
@@ -17,6 +17,8 @@ pub record IsServiceLease (members : Members) (ttl : ℕ) : Type 0 where
   pub hostname : Option (List ℕ)
   pub service_url : Option (List ℕ)
   pub halt_ttl : ℕ
+  pub endpoints : Option (List (List ℕ))
+  pub etcd_key : Option (List ℕ)
   pub keys : HasOnly lease_keys members
   pub a_type : HoldsOr (codes "type") IsLeaseType lease_type.Static members kind
   pub a_flag : HoldsOr (codes "candidate") IsFlag false members candidate
@@ -25,6 +27,7 @@ pub record IsServiceLease (members : Members) (ttl : ℕ) : Type 0 where
   pub served : HoldsOr (codes "service-url") (IsSomeOf IsUrlText) None members service_url
   pub lasts : HoldsOr (codes "ttl") (IsNumber 1 86400000) 10000 members ttl
   pub permitted : HoldsOr (codes "halt-ttl") (IsNumber 1 86400000) ttl members halt_ttl
+  pub granted : IsSomeAnd (section (codes "etcd") members) (λ etcd. IsEtcdTable etcd endpoints etcd_key)
 
 -- the whole table
 pub record IsServiceRoot (members : Members) (s : ServiceSettings) : Type 0 where

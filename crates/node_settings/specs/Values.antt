@@ -1,14 +1,15 @@
 -- What the keys of a TOML table (TOML 1.1) say: the rules of their values.
-use Rattle.std.specs.Prelude.{◌≡◌, ℕ, ◌≤◌, ◌<◌, pos, List, length, Bool, true, false, ◌&&◌, IsTrue, Option, Some, None, MatchOption, IsSome, IsSomeAnd, String, codes}
+use Rattle.std.specs.Prelude.{◌≡◌, ℕ, ◌≤◌, ◌<◌, pos, List, [], ◌∷◌, length, Bool, true, false, ◌&&◌, IsTrue, Option, Some, None, MatchOption, IsSome, IsSomeAnd, String, codes}
 use Rattle.std.specs.List.{list_any}
 use Rattle.std.specs.Str.{bytes_eq}
 use Rattle.std.specs.Borrow.{Bor}
 use Rattle.std.specs.BTreeMap.{BTreeMap}
 use Rattle.std.specs.declared.alloc.Global.{Global}
 use Rattle.lf_base.specs.Name.{IsName}
-use Rattle.toml.specs.Data.{Data, string, integer, boolean, table, Members, no_members, member, get_member}
+use Rattle.toml.specs.Data.{Data, string, integer, boolean, array, table, Items, no_items, item, Members, no_members, member, get_member}
 use Rattle.toml.specs.declared.value.Value.{Value}
 use Rattle.toml.specs.View.{table_view}
+use Rattle.node_settings.specs.declared.settings.EtcdPlace.{EtcdPlace}
 use Rattle.node_settings.specs.declared.settings.LeaseType.{LeaseType}
 use Rattle.node_settings.specs.declared.settings.LeaseType.TheVariants as lease
 use Rattle.node_settings.specs.Address.{IsAddress, IsTarget, IsUrl}
@@ -42,6 +43,25 @@ IsTargetText d address = (d ≡ string address) × IsTarget address
 abbrev pub IsUrlText : Data → List ℕ → Type 0
 IsUrlText d url = (d ≡ string url) × IsUrl url
 
+-- each of these is the text of a URL
+abbrev pub AreUrls : Items → List (List ℕ) → Type 0
+AreUrls no_items [] = Unit {0}
+AreUrls no_items (url ∷ urls) = ⊥
+AreUrls (item d items) [] = ⊥
+AreUrls (item d items) (url ∷ urls) = IsUrlText d url × AreUrls items urls
+
+-- an array of URLs: one at least, and at most 16
+pub record IsUrls (d : Data) (urls : List (List ℕ)) : Type 0 where
+  pub items : Items
+  pub is_array : d ≡ array items
+  pub each : AreUrls items urls
+  pub some : 0 < length urls
+  pub few : length urls ≤ 16
+
+-- a text of 1 to 1,000 bytes
+abbrev pub IsKeyText : Data → List ℕ → Type 0
+IsKeyText d key = (d ≡ string key) × (0 < length key) × (length key ≤ 1000)
+
 -- a value that may be missing stands here, and has this rule
 abbrev pub IsSomeOf : {A : Type 0} → (Data → A → Type 0) → Data → Option A → Type 0
 IsSomeOf Rule d found = IsSomeAnd found (λ a. Rule d a)
@@ -67,11 +87,25 @@ IsNumber least most d n = (d ≡ integer (pos n)) × (least ≤ n) × (n ≤ mos
 abbrev pub IsLeaseType : Data → LeaseType → Type 0
 IsLeaseType d lease.Static = d ≡ string (codes "static")
 IsLeaseType d lease.Service = d ≡ string (codes "service")
+IsLeaseType d lease.Etcd = d ≡ string (codes "etcd")
 
 -- a lease that a service keeps has the service's url
 abbrev pub HasService : LeaseType → Option (List ℕ) → Type 0
 HasService lease.Static url = Unit {0}
 HasService lease.Service url = IsSome url
+HasService lease.Etcd url = Unit {0}
+
+-- a lease that etcd grants has a place where etcd is
+abbrev pub HasEtcd : LeaseType → Option EtcdPlace → Type 0
+HasEtcd lease.Static etcd = Unit {0}
+HasEtcd lease.Service etcd = Unit {0}
+HasEtcd lease.Etcd etcd = IsSome etcd
+
+-- a lease that etcd grants lasts two seconds at least, since etcd counts whole seconds, and a belief ends one before
+abbrev pub HasTtl : LeaseType → ℕ → Type 0
+HasTtl lease.Static ttl = Unit {0}
+HasTtl lease.Service ttl = Unit {0}
+HasTtl lease.Etcd ttl = 2000 ≤ ttl
 
 -- the members of a table under a key: none where the key is missing, and nothing where its value is no table
 abbrev pub section_in : Option Data → Option Members

@@ -17,13 +17,15 @@ words_of_key key.ProxyAddr = codes "an address, host:port"
 words_of_key key.Target = codes "an address with a host, host:port"
 words_of_key key.Compress = codes "false"
 words_of_key key.RetentionFiles = codes "a number from 1 to 9223372036854775807"
-words_of_key key.Type = codes "static or service, as a text"
+words_of_key key.Type = codes "static, service or etcd, as a text"
 words_of_key key.Candidate = codes "true or false"
 words_of_key key.AdvertiseUrl = codes "a URL, http://host:port"
 words_of_key key.Hostname = codes "a text"
 words_of_key key.ServiceUrl = codes "a URL, http://host:port"
 words_of_key key.Ttl = codes "a number of milliseconds from 1 to 86400000"
 words_of_key key.HaltTtl = codes "a number of milliseconds from 1 to 86400000"
+words_of_key key.Endpoints = codes "an array of 1 to 16 URLs, each http://host:port"
+words_of_key key.EtcdKey = codes "a text of 1 to 1000 bytes"
 
 -- of a key that is missing
 abbrev pub words_of_missing : Key → List ℕ
@@ -44,6 +46,8 @@ words_of_missing key.Hostname = codes "a text; the key is missing"
 words_of_missing key.ServiceUrl = codes "a text; the key is missing"
 words_of_missing key.Ttl = codes "a text; the key is missing"
 words_of_missing key.HaltTtl = codes "a text; the key is missing"
+words_of_missing key.Endpoints = codes "a text; the key is missing"
+words_of_missing key.EtcdKey = codes "a text; the key is missing"
 
 abbrev pub words_of : Rule → List ℕ
 words_of (rule.Table p) = codes "a table"
@@ -54,4 +58,7 @@ words_of rule.Dir = codes "a path, since fuse.program is there; the key is missi
 words_of rule.Addr = codes "an address, host:port, since proxy.target is there; the key is missing"
 words_of rule.Target = codes "an address with a host, host:port, since proxy.addr is there; the key is missing"
 words_of rule.Service = codes "a URL, http://host:port, since lease.type is service; the key is missing"
+words_of rule.Seconds = codes "a number of milliseconds from 2000 to 86400000, since lease.type is etcd"
+words_of rule.Etcd = codes "an array of 1 to 16 URLs, each http://host:port, since lease.type is etcd; the key is missing"
+words_of rule.Endpoints = codes "an array of 1 to 16 URLs, each http://host:port, since lease.etcd.key is there; the key is missing"
 words_of rule.Static = codes "static"

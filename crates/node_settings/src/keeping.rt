@@ -3,13 +3,14 @@ ghost use Rattle.std.specs.Prelude.{◌≡◌, ◌↔◌, IfOk, IsTrue, MatchOpt
 ghost use Rattle.node_settings.specs.declared.rule.Rule.TheVariants as rule;
 ghost use Rattle.toml.specs.View.{view, table_view};
 ghost use Rattle.node_settings.specs.Answers.{Judges};
-ghost use Rattle.node_settings.specs.Rules.{AllKept, Brings, Fits, IsFirstBroken, IsServices, Keeps, value_of as value_at_key};
+ghost use Rattle.node_settings.specs.Rules.{AllKept, Brings, Fits, IsFirstBroken, IsTyped, Keeps, value_of as value_at_key};
 
 use crate::key::{name_of, place_of};
 use crate::place::{keys_of, section_of, table_at};
 use crate::table::{has_only, value_at};
+use crate::url_array::urls;
 use crate::values::{
-    address, flag, lease_type, name, number, off, path, switch, target, text, url,
+    address, flag, key_text, lease_type, name, number, off, path, switch, target, text, url,
 };
 use crate::{Key, Rule, SettingsFault};
 use lf_base::NoMemory;
@@ -45,8 +46,13 @@ fn keeps(alloc: Global, rule: Rule, root: &Table) -> Result<bool, NoMemory>
         Rule::Dir => Ok(brings(Key::Program, Key::Dir, root)),
         Rule::Addr => Ok(brings(Key::Target, Key::ProxyAddr, root)),
         Rule::Target => Ok(brings(Key::ProxyAddr, Key::Target, root)),
-        Rule::Service => Ok(!is_services(root) || value_of(Key::ServiceUrl, root).is_some()),
-        Rule::Static => Ok(!is_services(root)),
+        Rule::Service => {
+            Ok(!is_typed("service", root) || value_of(Key::ServiceUrl, root).is_some())
+        }
+        Rule::Seconds => lasts_seconds(root),
+        Rule::Etcd => Ok(!is_typed("etcd", root) || value_of(Key::Endpoints, root).is_some()),
+        Rule::Endpoints => Ok(brings(Key::EtcdKey, Key::Endpoints, root)),
+        Rule::Static => Ok(!is_typed("service", root) && !is_typed("etcd", root)),
     }
 }
 
@@ -63,13 +69,26 @@ fn value_of(key: Key, root: &Table) -> Option<&Value>
     value_at(table_at(place_of(key), root), name_of(key))
 }
 
-/// Whether the lease is said to be a service's.
-fn is_services(root: &Table) -> bool
-    ensures { IsTrue result ↔ IsServices (table_view root.now) }
+/// Whether the lease's type is said by this word.
+fn is_typed(word: &str, root: &Table) -> bool
+    ensures { IsTrue result ↔ IsTyped word.now (table_view root.now) }
 {
     match value_of(Key::Type, root) {
-        Some(value) => value.as_str() == Some("service"),
+        Some(value) => value.as_str() == Some(word),
         None => false,
+    }
+}
+
+/// Whether a lease that is etcd's lasts two seconds at least.
+fn lasts_seconds(root: &Table) -> Result<bool, NoMemory>
+    ensures { IfOk result (λ kept. IsTrue kept ↔ Keeps rule.Seconds (table_view root.now)) }
+{
+    if !is_typed("etcd", root) {
+        return Ok(true);
+    }
+    match value_of(Key::Ttl, root) {
+        Some(value) => judged(number(value, 2_000, 86_400_000)),
+        None => Ok(true),
     }
 }
 
@@ -104,6 +123,8 @@ fn fits(alloc: Global, key: Key, value: &Value) -> Result<bool, NoMemory>
         Key::ServiceUrl => judged(url(alloc, value)),
         Key::Ttl => judged(number(value, 1, 86_400_000)),
         Key::HaltTtl => judged(number(value, 1, 86_400_000)),
+        Key::Endpoints => judged(urls(alloc, value)),
+        Key::EtcdKey => judged(key_text(alloc, value)),
     }
 }
 

@@ -23,6 +23,8 @@ pub enum Key {
     ServiceUrl,
     Ttl,
     HaltTtl,
+    Endpoints,
+    EtcdKey,
 }
 
 /// The table that it stands in.
@@ -42,6 +44,7 @@ pub(crate) fn place_of(key: Key) -> Place
         | Key::ServiceUrl
         | Key::Ttl
         | Key::HaltTtl => Place::Lease,
+        Key::Endpoints | Key::EtcdKey => Place::Etcd,
     }
 }
 
@@ -66,5 +69,7 @@ pub(crate) fn name_of(key: Key) -> &'static str
         Key::ServiceUrl => "service-url",
         Key::Ttl => "ttl",
         Key::HaltTtl => "halt-ttl",
+        Key::Endpoints => "endpoints",
+        Key::EtcdKey => "key",
     }
 }

@@ -6,12 +6,13 @@ ghost use Rattle.node_settings.specs.declared.settings.LeaseType.TheVariants as 
 ghost use Rattle.node_settings.specs.declared.settings_fault.SettingsFault.TheVariants as fault;
 ghost use Rattle.node_settings.specs.Answers.{Reads};
 ghost use Rattle.node_settings.specs.Configuration.{IsLease, lease_keys};
-ghost use Rattle.node_settings.specs.Values.{Holds, HasOnly, HoldsOr, section as section_at, members_at, IsSomeOf, IsText, IsUrlText, IsFlag, IsNumber, IsLeaseType, HasService};
+ghost use Rattle.node_settings.specs.Values.{Holds, HasOnly, HoldsOr, section as section_at, members_at, IsSomeOf, IsText, IsUrlText, IsFlag, IsNumber, IsLeaseType, HasService, HasEtcd, HasTtl};
 
+use crate::etcd_table::etcd;
 use crate::place::keys_of;
 use crate::table::{check_keys, section, value_at};
 use crate::values::{flag, lease_type, number, text, url};
-use crate::{LeaseSettings, LeaseType, Place, SettingsFault, Url};
+use crate::{EtcdPlace, LeaseSettings, LeaseType, Place, SettingsFault, Url};
 use lf_base::Text;
 use std::alloc::Global;
 use toml::Table;
@@ -34,13 +35,17 @@ fn lease_of(alloc: Global, table: Option<&Table>) -> Result<LeaseSettings, Setti
     let service_url = url_at(alloc, table, "service-url")?;
     check_service(lease_type, &service_url)?;
     let ttl = ttl(table)?;
+    check_ttl(lease_type, ttl)?;
     let halt_ttl = halt_ttl(table, ttl)?;
+    let etcd = etcd(alloc, table)?;
+    check_etcd(lease_type, &etcd)?;
     Ok(LeaseSettings {
         lease_type,
         candidate,
         advertise_url,
         hostname,
         service_url,
+        etcd,
         ttl,
         halt_ttl,
     })
@@ -60,6 +65,28 @@ fn check_service(lease_type: LeaseType, url: &Option<Url>) -> Result<(), Setting
 {
     match (lease_type, url) {
         (LeaseType::Service, None) => Err(SettingsFault::Config),
+        _ => Ok(()),
+    }
+}
+
+/// A lease that etcd grants has a place where etcd is.
+fn check_etcd(lease_type: LeaseType, etcd: &Option<EtcdPlace>) -> Result<(), SettingsFault>
+    ensures ok { OnOk result (HasEtcd lease_type etcd.now) }
+    ensures fault { IfErr result (λ f. (f ≡ fault.Config) × (HasEtcd lease_type etcd.now → ⊥)) }
+{
+    match (lease_type, etcd) {
+        (LeaseType::Etcd, None) => Err(SettingsFault::Config),
+        _ => Ok(()),
+    }
+}
+
+/// A lease that etcd grants lasts two seconds at least.
+fn check_ttl(lease_type: LeaseType, ttl: u64) -> Result<(), SettingsFault>
+    ensures ok { OnOk result (HasTtl lease_type ttl) }
+    ensures fault { IfErr result (λ f. (f ≡ fault.Config) × (HasTtl lease_type ttl → ⊥)) }
+{
+    match lease_type {
+        LeaseType::Etcd if ttl < 2_000 => Err(SettingsFault::Config),
         _ => Ok(()),
     }
 }

@@ -4,6 +4,7 @@
 mod address;
 mod complaining;
 mod complaint;
+mod etcd_table;
 mod fuse_table;
 mod host;
 mod keeping;
@@ -22,6 +23,8 @@ mod settings_fault;
 mod settings_refusal;
 mod table;
 mod url;
+mod url_array;
+mod urls;
 mod values;
 
 pub use address::Address;
@@ -36,8 +39,9 @@ pub use reading::{read_settings, read_static_settings};
 pub use rule::{Rule, words_of};
 pub use service::read_service_settings;
 pub use settings::{
-    LeaseSettings, LeaseType, MountSettings, ProxySettings, ServiceSettings, Settings,
+    EtcdPlace, LeaseSettings, LeaseType, MountSettings, ProxySettings, ServiceSettings, Settings,
 };
 pub use settings_fault::SettingsFault;
 pub use settings_refusal::SettingsRefusal;
 pub use url::Url;
+pub use urls::Urls;

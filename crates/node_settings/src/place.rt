@@ -1,10 +1,10 @@
 ghost use Rattle.std.specs.Prelude.{◌≡◌, ◌↔◌, Some, None, map, IfOk, IfErr, IsTrue};
 ghost use Rattle.toml.specs.View.{table_view};
-ghost use Rattle.node_settings.specs.Rules.{Stands, keys_of as keys_at, members_in, section_of as section_in, prefix_of};
-ghost use Rattle.node_settings.specs.Values.{members_at};
+ghost use Rattle.node_settings.specs.Rules.{Stands, keys_of as keys_at, members_in, members_or_none, parent_of, section_of as section_in, prefix_of};
+ghost use Rattle.node_settings.specs.Values.{members_at, section as section_under};
 
 use crate::SettingsFault;
-use crate::table::{section, value_at};
+use crate::table::{section, section_at, value_at};
 use toml::Table;
 
 /// A table of a configuration.
@@ -17,6 +17,19 @@ pub enum Place {
     Proxy,
     Data,
     Lease,
+    /// The table `etcd` in the table `lease`.
+    Etcd,
+}
+
+/// The table that it stands in. The text itself stands in none.
+pub(crate) fn parent_of(place: Place) -> Place
+    ensures { result ≡ parent_of place }
+{
+    match place {
+        Place::Etcd => Place::Lease,
+        Place::Root | Place::Fuse | Place::Http | Place::Proxy | Place::Data | Place::Lease =>
+            Place::Root,
+    }
 }
 
 /// What stands in front of the name of each of its keys.
@@ -30,6 +43,7 @@ pub(crate) fn prefix_of(place: Place) -> &'static str
         Place::Proxy => "proxy.",
         Place::Data => "data.",
         Place::Lease => "lease.",
+        Place::Etcd => "lease.etcd.",
     }
 }
 
@@ -51,7 +65,10 @@ const LEASE_KEYS: &[&str] = &[
     "service-url",
     "ttl",
     "halt-ttl",
+    "etcd",
 ];
+
+const ETCD_KEYS: &[&str] = &["endpoints", "key"];
 
 /// The names of its keys.
 pub(crate) fn keys_of(place: Place) -> &'static [&'static str]
@@ -64,6 +81,7 @@ pub(crate) fn keys_of(place: Place) -> &'static [&'static str]
         Place::Proxy => PROXY_KEYS,
         Place::Data => DATA_KEYS,
         Place::Lease => LEASE_KEYS,
+        Place::Etcd => ETCD_KEYS,
     }
 }
 
@@ -79,6 +97,17 @@ pub(crate) fn section_of(place: Place, root: &Table) -> Result<Option<&Table>, S
         Place::Proxy => section(root, "proxy"),
         Place::Data => section(root, "data"),
         Place::Lease => section(root, "lease"),
+        Place::Etcd => section_at(table_or_none(root, "lease"), "etcd"),
+    }
+}
+
+/// The table under a key, and none where something else stands there.
+fn table_or_none<'a>(root: &'a Table, key: &str) -> Option<&'a Table>
+    ensures { members_at result ≡ members_or_none (section_under key.now (table_view root.now)) }
+{
+    match section(root, key) {
+        Ok(table) => table,
+        Err(_) => None,
     }
 }
 

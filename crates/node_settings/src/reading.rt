@@ -34,7 +34,7 @@ pub fn read_settings(alloc: Global, bytes: &[u8]) -> Result<Settings, SettingsRe
     }
 }
 
-/// The settings of a node that needs no lease service. A configuration with one is refused.
+/// The settings of a node whose lease is granted by nobody. A configuration of another is refused.
 pub fn read_static_settings(alloc: Global, bytes: &[u8]) -> Result<Settings, SettingsRefusal>
     ensures { Answers (IsStaticConfiguration bytes.now) static_rules bytes.now result }
 {
@@ -53,6 +53,7 @@ fn static_settings(alloc: Global, root: &Table) -> Result<Settings, SettingsFaul
     match settings.lease.lease_type {
         LeaseType::Static => Ok(settings),
         LeaseType::Service => Err(SettingsFault::Config),
+        LeaseType::Etcd => Err(SettingsFault::Config),
     }
 }
 

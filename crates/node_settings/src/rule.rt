@@ -5,7 +5,7 @@ ghost use Rattle.node_settings.specs.Rules.{name_of_place, name_of_rule, place_o
 ghost use Rattle.node_settings.specs.Words.{words_of, words_of_key, words_of_missing};
 
 use crate::key::{name_of, place_of};
-use crate::place::{keys_of, table_at};
+use crate::place::{keys_of, parent_of, table_at};
 use crate::table::other_key;
 use crate::{Key, Place};
 use toml::Table;
@@ -29,7 +29,13 @@ pub enum Rule {
     Target,
     /// With `lease.type = "service"` the key `lease.service-url` is there.
     Service,
-    /// The lease's type is not `"service"`.
+    /// With `lease.type = "etcd"` a lease lasts two seconds at least.
+    Seconds,
+    /// With `lease.type = "etcd"` the key `lease.etcd.endpoints` is there.
+    Etcd,
+    /// With `lease.etcd.key` the key `lease.etcd.endpoints` is there.
+    Endpoints,
+    /// The lease's type is neither `"service"` nor `"etcd"`.
     Static,
 }
 
@@ -48,6 +54,13 @@ pub fn words_of(rule: Rule) -> &'static str
             "an address with a host, host:port, since proxy.addr is there; the key is missing"
         }
         Rule::Service => "a URL, http://host:port, since lease.type is service; the key is missing",
+        Rule::Seconds => "a number of milliseconds from 2000 to 86400000, since lease.type is etcd",
+        Rule::Etcd => {
+            "an array of 1 to 16 URLs, each http://host:port, since lease.type is etcd; the key is missing"
+        }
+        Rule::Endpoints => {
+            "an array of 1 to 16 URLs, each http://host:port, since lease.etcd.key is there; the key is missing"
+        }
         Rule::Static => "static",
     }
 }
@@ -64,10 +77,12 @@ fn words_of_key(key: Key) -> &'static str
         Key::Target => "an address with a host, host:port",
         Key::Compress => "false",
         Key::RetentionFiles => "a number from 1 to 9223372036854775807",
-        Key::Type => "static or service, as a text",
+        Key::Type => "static, service or etcd, as a text",
         Key::Candidate => "true or false",
         Key::AdvertiseUrl | Key::ServiceUrl => "a URL, http://host:port",
         Key::Ttl | Key::HaltTtl => "a number of milliseconds from 1 to 86400000",
+        Key::Endpoints => "an array of 1 to 16 URLs, each http://host:port",
+        Key::EtcdKey => "a text of 1 to 1000 bytes",
     }
 }
 
@@ -92,7 +107,9 @@ fn words_of_missing(key: Key) -> &'static str
         | Key::Hostname
         | Key::ServiceUrl
         | Key::Ttl
-        | Key::HaltTtl => "a text; the key is missing",
+        | Key::HaltTtl
+        | Key::Endpoints
+        | Key::EtcdKey => "a text; the key is missing",
     }
 }
 
@@ -101,12 +118,13 @@ pub(crate) fn place_of_rule(rule: Rule) -> Place
     ensures { result ≡ place_of_rule rule }
 {
     match rule {
-        Rule::Table(_) => Place::Root,
+        Rule::Table(place) => parent_of(place),
         Rule::Keys(place) => place,
         Rule::There(key) | Rule::Value(key) => place_of(key),
         Rule::Dir => Place::Fuse,
         Rule::Addr | Rule::Target => Place::Proxy,
-        Rule::Service | Rule::Static => Place::Lease,
+        Rule::Service | Rule::Seconds | Rule::Static => Place::Lease,
+        Rule::Etcd | Rule::Endpoints => Place::Etcd,
     }
 }
 
@@ -122,6 +140,8 @@ pub(crate) fn name_of_rule(rule: Rule, root: &Table) -> &str
         Rule::Addr => "addr",
         Rule::Target => "target",
         Rule::Service => "service-url",
+        Rule::Seconds => "ttl",
+        Rule::Etcd | Rule::Endpoints => "endpoints",
         Rule::Static => "type",
     }
 }
@@ -136,5 +156,6 @@ fn name_of_place(place: Place) -> &'static str
         Place::Proxy => "proxy",
         Place::Data => "data",
         Place::Lease => "lease",
+        Place::Etcd => "etcd",
     }
 }

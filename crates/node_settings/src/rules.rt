@@ -4,8 +4,8 @@ ghost use Rattle.node_settings.specs.Rules.{node_rules, service_rules, static_ru
 
 use crate::{Key, Place, Rule};
 
-/// Those of a node that needs no lease service. All but the last are those of a node.
-const RULES: [Rule; 36] = [
+/// Those of a node whose lease is granted by nobody. All but the last are those of a node.
+const RULES: [Rule; 43] = [
     Rule::Keys(Place::Root),
     Rule::There(Key::Database),
     Rule::Value(Key::Database),
@@ -40,12 +40,19 @@ const RULES: [Rule; 36] = [
     Rule::Value(Key::ServiceUrl),
     Rule::Service,
     Rule::Value(Key::Ttl),
+    Rule::Seconds,
     Rule::Value(Key::HaltTtl),
+    Rule::Table(Place::Etcd),
+    Rule::Keys(Place::Etcd),
+    Rule::Etcd,
+    Rule::Endpoints,
+    Rule::Value(Key::Endpoints),
+    Rule::Value(Key::EtcdKey),
     Rule::Static,
 ];
 
 /// Those of a lease service.
-const SERVICE_RULES: [Rule; 28] = [
+const SERVICE_RULES: [Rule; 32] = [
     Rule::Keys(Place::Root),
     Rule::Value(Key::Database),
     Rule::Value(Key::Log),
@@ -74,12 +81,16 @@ const SERVICE_RULES: [Rule; 28] = [
     Rule::Value(Key::ServiceUrl),
     Rule::Value(Key::Ttl),
     Rule::Value(Key::HaltTtl),
+    Rule::Table(Place::Etcd),
+    Rule::Keys(Place::Etcd),
+    Rule::Value(Key::Endpoints),
+    Rule::Value(Key::EtcdKey),
 ];
 
 pub(crate) fn node_rules() -> &'static [Rule]
     ensures { result.now ≡ node_rules }
 {
-    &RULES[..35]
+    &RULES[..42]
 }
 
 pub(crate) fn static_rules() -> &'static [Rule]

@@ -10,6 +10,7 @@ ghost use Rattle.node_settings.specs.Service.{IsServiceConfiguration, IsServiceL
 ghost use Rattle.node_settings.specs.Values.{HoldsOr, IsNameText, IsSomeOf, IsText, members_at, section as section_at};
 
 use crate::complaining::{document, refused};
+use crate::etcd_table::etcd_table;
 use crate::fuse_table::fuse_table;
 use crate::lease_table::{candidate, check_lease_keys, halt_ttl, kind, ttl, url_at};
 use crate::proxy_table::proxy_table;
@@ -79,6 +80,7 @@ fn time_of(alloc: Global, table: Option<&Table>) -> Result<u64, SettingsFault>
     let _service = url_at(alloc, table, "service-url")?;
     let ttl = ttl(table)?;
     let _permit = halt_ttl(table, ttl)?;
+    let _etcd = etcd_table(alloc, table)?;
     Ok(ttl)
 }
 

@@ -1,4 +1,4 @@
-use crate::{Address, Url};
+use crate::{Address, Url, Urls};
 use lf_base::{Name, Text};
 
 /// What a node is told when it is started.
@@ -47,12 +47,14 @@ pub struct LeaseSettings {
     pub lease_type: LeaseType,
     /// Whether this node may become primary.
     pub candidate: bool,
-    /// Where the primary of a static lease is found; with a lease service, where this node is.
+    /// Where the primary of a static lease is found; where a lease is granted, where this node is.
     pub advertise_url: Url,
     /// The host of the same node.
     pub hostname: Text,
     /// Where the lease service is found.
     pub service_url: Option<Url>,
+    /// Where an etcd cluster is found, and its key.
+    pub etcd: Option<EtcdPlace>,
     /// How long a lease lasts, in milliseconds.
     pub ttl: u64,
     /// How long a write permit lasts, in milliseconds.
@@ -67,6 +69,19 @@ pub enum LeaseType {
     /// The node that the lease service grants it is primary, and tells it where the others find it.
     /// Then the service's URL is there.
     Service,
+    /// The node that has the key in etcd is primary. Then the endpoints are there, and a lease lasts
+    /// two seconds at least.
+    Etcd,
+}
+
+/// An etcd cluster that grants leases.
+#[derive(Debug, Drop)]
+pub struct EtcdPlace {
+    /// Its members, in the order in which they are asked: 1 to 16.
+    pub endpoints: Urls,
+    /// The key that stands for the lease, where one is named, of 1 to 1,000 bytes; else it is
+    /// `litefs/DATABASE/primary`.
+    pub key: Option<Text>,
 }
 
 /// What a lease service is told when it is started.

@@ -36,6 +36,20 @@ pub(crate) fn section<'a>(root: &'a Table, key: &str) -> Result<Option<&'a Table
     }
 }
 
+/// The same of a table that may be missing itself.
+pub(crate) fn section_at<'a>(
+    table: Option<&'a Table>,
+    key: &str,
+) -> Result<Option<&'a Table>, SettingsFault>
+    ensures ok { IfOk result (λ inner. section_at key.now (members_at table.entry) ≡ Some (members_at inner)) }
+    ensures fault { IfErr result (λ f. (f ≡ fault.Config) × (section_at key.now (members_at table.entry) ≡ None)) }
+{
+    match table {
+        Some(table) => section(table, key),
+        None => Ok(None),
+    }
+}
+
 /// A table has no other keys than these.
 pub(crate) fn check_keys(table: Option<&Table>, keys: &[&str]) -> Result<(), SettingsFault>
     ensures ok { OnOk result (HasOnly (map (λ k. k.now) keys.now) (members_at table.entry)) }

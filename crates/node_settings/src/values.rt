@@ -5,7 +5,7 @@ ghost use Rattle.toml.specs.Data.{string};
 ghost use Rattle.toml.specs.View.{view};
 ghost use Rattle.node_settings.specs.declared.settings_fault.SettingsFault.TheVariants as fault;
 ghost use Rattle.node_settings.specs.Answers.{Reads};
-ghost use Rattle.node_settings.specs.Values.{IsText, IsPath, IsNameText, IsAddressText, IsTargetText, IsUrlText, IsFlag, IsOff, IsSwitch, IsNumber, IsLeaseType};
+ghost use Rattle.node_settings.specs.Values.{IsText, IsPath, IsKeyText, IsNameText, IsAddressText, IsTargetText, IsUrlText, IsFlag, IsOff, IsSwitch, IsNumber, IsLeaseType};
 
 use crate::host::is_target;
 use crate::{Address, LeaseType, SettingsFault, Url};
@@ -36,6 +36,17 @@ pub(crate) fn path(alloc: Global, value: &Value) -> Result<Text, SettingsFault>
         return Err(SettingsFault::Config);
     }
     Ok(Text::of(alloc, path)?)
+}
+
+/// A text of 1 to 1,000 bytes.
+pub(crate) fn key_text(alloc: Global, value: &Value) -> Result<Text, SettingsFault>
+    ensures { Reads (IsKeyText (view value.now)) result }
+{
+    let key = as_text(value)?;
+    if key.is_empty() || key.len() > 1_000 {
+        return Err(SettingsFault::Config);
+    }
+    Ok(Text::of(alloc, key)?)
 }
 
 pub(crate) fn name(alloc: Global, value: &Value) -> Result<Name, SettingsFault>
@@ -117,6 +128,7 @@ pub(crate) fn lease_type(value: &Value) -> Result<LeaseType, SettingsFault>
     match as_text(value)? {
         "static" => Ok(LeaseType::Static),
         "service" => Ok(LeaseType::Service),
+        "etcd" => Ok(LeaseType::Etcd),
         _ => Err(SettingsFault::Config),
     }
 }

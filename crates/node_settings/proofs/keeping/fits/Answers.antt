@@ -1,5 +1,5 @@
 use Rattle.std.proofs.Common.{◌^◌, ◌-◌}
-use Rattle.node_settings.specs.Values.{IsNameText, IsSwitch, IsText, IsPath, IsAddressText, IsTargetText, IsOff, IsNumber, IsLeaseType, IsFlag, IsUrlText}
+use Rattle.node_settings.specs.Values.{IsNameText, IsSwitch, IsText, IsPath, IsAddressText, IsTargetText, IsOff, IsNumber, IsLeaseType, IsFlag, IsUrlText, IsUrls, IsKeyText}
 use Rattle.node_settings.proofs.Answering.{fits_from}
 use Rattle.node_settings.proofs.keeping.fits.Goals as goal
 
@@ -53,3 +53,9 @@ returns-in-ServiceUrl c = rw c.in-ServiceUrl.is (fits_from IsUrlText _ c.url-in-
 
 pub returns-in-Ttl : goal.returns-in-Ttl
 returns-in-Ttl c = rw c.in-Ttl.is (fits_from (IsNumber 1 86400000) _ c.number-in-Ttl.result c.judged-in-Ttl.result c.number-in-Ttl.ensures c.judged-in-Ttl.ensures)
+
+pub returns-in-Endpoints : goal.returns-in-Endpoints
+returns-in-Endpoints c = rw c.in-Endpoints.is (fits_from IsUrls _ c.urls.result c.judged-in-Endpoints.result c.urls.ensures c.judged-in-Endpoints.ensures)
+
+pub returns-in-EtcdKey : goal.returns-in-EtcdKey
+returns-in-EtcdKey c = rw c.in-EtcdKey.is (fits_from IsKeyText _ c.key_text.result c.judged-in-EtcdKey.result c.key_text.ensures c.judged-in-EtcdKey.ensures)

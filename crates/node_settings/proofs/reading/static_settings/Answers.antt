@@ -17,3 +17,9 @@ returns-in-Service c = λ (t : Settings) is.
     let same = one_root (table_view c.args.root.now) c.in_ok-settings.settings t c.in_ok-settings.ensures is.0 in
     let kind : c.in_ok-settings.settings.lease.lease_type ≡ lease.Static = ap (λ (s : Settings). s.lease.lease_type) same ∙ is.1 in
     absurd (cc (kind, c.in-Service.is))
+
+pub returns-in-Etcd : goal.returns-in-Etcd
+returns-in-Etcd c = λ (t : Settings) is.
+    let same = one_root (table_view c.args.root.now) c.in_ok-settings.settings t c.in_ok-settings.ensures is.0 in
+    let kind : c.in_ok-settings.settings.lease.lease_type ≡ lease.Static = ap (λ (s : Settings). s.lease.lease_type) same ∙ is.1 in
+    absurd (cc (kind, c.in-Etcd.is))
