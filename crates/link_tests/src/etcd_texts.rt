@@ -127,7 +127,7 @@ enum Says {
     Done,
 }
 
-fn says(said: &Option<Said>) -> Says {
+fn meaning_of(said: &Option<Said>) -> Says {
     match said {
         None => Says::Nothing,
         Some(Said::Key(None)) => Says::NoKey,
@@ -246,7 +246,7 @@ pub fn with_result(rt: impl Copy + Abort, alloc: Global, beside: &str) -> String
 fn is_read(rt: impl Copy + Abort, alloc: Global, kind: Kind, body: &str, wanted: Says) {
     let call = call_of(rt, alloc, kind);
     let said = read_said(alloc, &call, body.as_bytes()).expect(&rt, "memory");
-    same(rt, (kind, body, says(&said)), (kind, body, wanted));
+    same(rt, (kind, body, meaning_of(&said)), (kind, body, wanted));
 }
 
 #[test]
