@@ -18,6 +18,7 @@ WORDS = (2, 'litefs: words refused\n')
 LEASE = '[lease]\nadvertise-url = "http://127.0.0.1:9"\nhostname = "h"\n'
 RIGHT = 'database = "app"\n' + LEASE
 URL = 'a URL, http://host:port'
+URLS = 'an array of 1 to 16 URLs, each http://host:port'
 # what is wrong with the keys of crates/node_settings: each text is refused as Config, behind a line that says where and what was wanted
 WRONG = {
     'empty': ('', 'litefs.toml: database: wanted the name of a database; the key is missing'),
@@ -41,6 +42,15 @@ WRONG = {
     'compressed': ('data.compress = true\n' + RIGHT, 'litefs.toml:1: data.compress: wanted false'),
     'lease_service': (RIGHT + 'type = "service"\n',
                       f'litefs.toml: lease.service-url: wanted {URL}, since lease.type is service; the key is missing'),
+    'etcd_nowhere': (RIGHT + 'type = "etcd"\n', f'litefs.toml: lease.etcd.endpoints: wanted {URLS}, since lease.type is etcd; the key is missing'),
+    'etcd_key_alone': (RIGHT + '[lease.etcd]\nkey = "k"\n',
+                       f'litefs.toml: lease.etcd.endpoints: wanted {URLS}, since lease.etcd.key is there; the key is missing'),
+    'etcd_of_a_second': (RIGHT + 'type = "etcd"\nttl = 1999\netcd.endpoints = ["http://127.0.0.1:1"]\n',
+                         'litefs.toml:6: lease.ttl: wanted a number of milliseconds from 2000 to 86400000, since lease.type is etcd'),
+    'etcd_with_tls': (RIGHT + '[lease.etcd]\nendpoints = ["https://127.0.0.1:1"]\n', f'litefs.toml:6: lease.etcd.endpoints: wanted {URLS}'),
+    'etcd_with_a_user': (RIGHT + 'etcd.user = "root"\n', 'litefs.toml:5: lease.etcd.user: wanted no key of this name'),
+    'etcd_with_an_empty_key': (RIGHT + 'etcd = { endpoints = ["http://127.0.0.1:1"], key = "" }\n',
+                               'litefs.toml:5: lease.etcd.key: wanted a text of 1 to 1000 bytes'),
     'lease_of_no_time': (RIGHT + 'candidate = true\nttl = 0\n',
                          'litefs.toml:6: lease.ttl: wanted a number of milliseconds from 1 to 86400000'),
     'candidate_no_boolean': (RIGHT + 'candidate = "yes"\n', 'litefs.toml:5: lease.candidate: wanted true or false'),
@@ -68,7 +78,7 @@ ACCEPTED = {
                       'lease = { candidate = true, advertise-url = "http://h:1", hostname = "h" }\n', 'here'),
     'every_key': ('database = "app"\n[fuse]\nlisten = "s"\ndir = "m"\nprogram = "./p"\n[http]\naddr = "[::1]:0"\n[data]\ncompress = false\nretention-files = 0x10\n'
                   '[proxy]\naddr = "127.0.0.1:0"\ntarget = "localhost:1"\n[lease]\ntype = "static"\ncandidate = true\nadvertise-url = "http://[::1]:1"\nhostname = "h"\n'
-                  'service-url = "http://h:2"\nttl = 1_000\nhalt-ttl = 2_000\n', 's'),
+                  'service-url = "http://h:2"\nttl = 1_000\nhalt-ttl = 2_000\n[lease.etcd]\nendpoints = ["http://h:3", "http://[::1]:3"]\nkey = "k"\n', 's'),
 }
 
 

@@ -4,7 +4,7 @@ package in /root, and COMMANDS and CONTRIBUTING on one with the repository in /r
 
 A block fenced as sh is run, and has to end with status 0. In a block fenced as console each line behind `$ ` is run, and what it
 writes has to be what stands below it, where `..` stands for anything; the block is run again until it is so, so it changes nothing.
-`sh mount` and `console mount` are left out where nothing can be mounted. In CONTRIBUTING's table each row says `run` or `proves`:
+`sh mount` and `console mount` are left out where nothing can be mounted, `sh etcd` and `console etcd` where there is no etcd. In CONTRIBUTING's table each row says `run` or `proves`:
 the commands of the first have to end with status 0, and the second stands only by what proves, builds, or is the whole of ./check.
 
 At most: 900 seconds.
@@ -74,6 +74,8 @@ def left_out(root, part, no_mount):
     """Why a part can't be run here."""
     if part.kind.endswith(' mount') and no_mount:
         return no_mount
+    if part.kind.endswith(' etcd') and not all(shutil.which(it, path=MACHINE['PATH']) for it in ('etcd', 'etcdctl')):
+        return 'etcd-server and etcd-client are not installed'
     if part.kind == 'row' and is_run(part.text) and any('rt' in it.split() for it in commands(part.text)) and shell(root, 'rt version')[0]:
         return 'no rt in the machine'
     return None

@@ -8,7 +8,7 @@ from .node import read
 
 PAGES = {'OPERATING': 'docs/OPERATING.md', 'TROUBLESHOOTING': 'docs/TROUBLESHOOTING.md', 'CLIENTS': 'docs/CLIENTS.md',
          'COMMANDS': 'docs/COMMANDS.md', 'CONTRIBUTING': 'CONTRIBUTING.md'}
-FENCED = r'^```(?P<kind>(?:sh|console)(?: mount)?)\n(?P<body>.*?)^```$'
+FENCED = r'^```(?P<kind>(?:sh|console)(?: mount| etcd)?)\n(?P<body>.*?)^```$'
 PARTS = re.compile(rf'^#+ (?P<head>[^\n]*)$|{FENCED}|^(?P<row>\|[^\n]*\| (?:run|proves) \|)$', re.M | re.S)
 TAKES_LONG = r'rt (ci|check|run|test|try|must-fail)\b.*|\./check( scripts)?'
 WORD = r'\brt [a-z-]+'
