@@ -6,13 +6,13 @@ node at most takes writes, and it is the one whose name and URL are in the key, 
 At most: 900 seconds.
 Seen to fail: doors of the first node behind which a renewal says ten times its time (stopped, inside, cut_off, all_gone, ended_early): a write
 at a node while another one's key stands, a commit that is not refused, writes without etcd. A build that takes a key for a lease as soon as it
-is put (ended_early): two nodes take writes."""
+is put (ended_early): two nodes take writes. One that asks the first endpoint alone (members_killed, refuses, error): no node takes writes."""
 import contextlib
 import functools
 import socket
 import time
 
-from support import Node, Skipped, configuration, failovers, holds, in_each_mode, length, run, until
+from support import failovers, holds, in_each_mode, length, run, until
 from support.cluster import Nonsense, keys, standing_still
 from support.etcd import EtcdCluster
 from support.listening import Listening
@@ -20,20 +20,9 @@ from support.listening import Listening
 TURNS, TRIES = length(2, 10), 3
 
 
-@functools.cache
-def knows_etcd():
-    """Whether the program takes leases from etcd."""
-    with Node(starts=False) as node:
-        before = configuration(node.port).split('type = ')[0]
-        node.configure(before + 'type = "etcd"\netcd.endpoints = []\nadvertise-url = "http://127.0.0.1:1"\nhostname = "db"\n')
-        return 'etcd.endpoints' in node.outcome()[1]
-
-
 def over(call, *words):
     """The case over a cluster in this mode."""
     def case(mode):
-        if not knows_etcd():
-            raise Skipped('this program knows no lease.type "etcd"')
         with EtcdCluster(mode) as cluster:
             call(cluster, *words)
     return case
@@ -47,29 +36,35 @@ def within(seconds, waits, what):
         took.append(waits())
 
 
-def without_writes(nodes, cluster):
-    """For how long no node takes a write."""
-    since = time.monotonic()
-    until(lambda: any(cluster.writes(it) for it in nodes), 'a node takes writes')
-    return time.monotonic() - since
+def longest_pause(cluster):
+    """The longest time in which no node takes a write, of two leases' time from now on."""
+    last = time.monotonic()
+    end = last + 2 * cluster.service.ttl / 1000
+    longest = 0
+    while (now := time.monotonic()) < end:
+        _, took = cluster.look()
+        longest = max(longest, time.monotonic() - last)
+        last = now if took else last
+    return longest
 
 
 def members_killed(cluster):
-    """A member that follows is killed, and then the leader: the primary stays, or another one comes within a lease's time."""
+    """The member that the nodes ask is killed, once one that follows and then two that lead: the primary stays, or another one comes
+    within a lease's time."""
     kept = keys(cluster.nodes[0])
     etcd = cluster.service
 
-    def killed(choose):
-        member = choose()
+    def killed(member, leads):
+        etcd.have_led(member if leads else next(it for it in etcd.members if it is not member))
         member.kill()
-        took = without_writes(cluster.nodes, cluster)
-        cluster.follows()
-        cluster.has_one()
+        pause = longest_pause(cluster)
         member.start()
         until(etcd.leader, 'etcd has a leader')
-        return took
-    for choose in (lambda: next(it for it in etcd.members if it is not etcd.leader()), etcd.leader):
-        within(etcd.ttl / 1000, functools.partial(killed, choose), 'a node takes writes')
+        cluster.follows()
+        return pause
+    for member in etcd.members:
+        leads = member is not etcd.members[0]
+        within(etcd.ttl / 1000, functools.partial(killed, member, leads), f'a member is killed, {leads=}: a node takes writes')
     cluster.ends(kept)
 
 
@@ -77,8 +72,8 @@ def leader_stopped(cluster):
     """The leader stands still for longer than a lease, and goes on."""
     kept = keys(cluster.nodes[0])
     with standing_still(cluster.service.leader()):
-        cluster.follows()
         cluster.has_one()
+        cluster.follows()
     cluster.has_one()
     cluster.ends(kept)
 
@@ -129,7 +124,9 @@ def primary_killed(cluster):
         cluster.level(primary)
         kept = keys(primary)
         primary.kill()
-        took = without_writes([it for it in cluster.nodes if it is not primary], cluster)
+        since = time.monotonic()
+        until(lambda: any(cluster.writes(it) for it in cluster.nodes if it is not primary), 'another node takes writes')
+        took = time.monotonic() - since
         cluster.level(cluster.follows(primary), without=primary)
         primary.start()
         cluster.ends(kept)
@@ -145,43 +142,55 @@ def told(cluster, port):
     cluster.ends(keys(cluster.follows()))
 
 
+def alone(cluster, server):
+    """Nothing but that endpoint is reached: whatever it answers, nobody is primary; and somebody is once the others are back."""
+    with contextlib.ExitStack() as cut:
+        for node in cluster.nodes:
+            cut.enter_context(cluster.cut_off(node))
+        until(lambda: not cluster.takers(), 'no node takes writes')
+        asked = server.links + 3 * len(cluster.nodes) * len(server.RequestHandlerClass.texts)
+        until(lambda: server.links > asked, 'the nodes go on asking')
+        holds(not cluster.takers(), 'nobody takes writes')
+    cluster.has_one()
+    cluster.ends(keys(cluster.follows()))
+
+
 class Refusing(Nonsense):
     """Answers each link with an error in JSON."""
     texts = (b'HTTP/1.0 503 Service Unavailable\r\nContent-Type: application/json\r\n\r\n{"error":"etcdserver: no leader","code":14}',
-             b'HTTP/1.0 200 OK\r\nContent-Type: application/json\r\n\r\n{"error":"etcdserver: user name is empty","code":3}')
+             b'HTTP/1.0 200 OK\r\nContent-Type: application/json\r\n\r\n{"error":"etcdserver: user name is empty","code":3}',
+             b'HTTP/1.0 200 OK\r\n\r\n{"header":{},"error":{"grpc_code":14}}', b'HTTP/1.0 200 OK\r\n\r\n{"header":{"revision":"x"},"ID":"1","TTL":"x"}')
 
 
-def behind(made):
-    """The case of `told` behind such an endpoint."""
-    def case(mode):
-        if not knows_etcd():
-            raise Skipped('this program knows no lease.type "etcd"')
-        with contextlib.ExitStack() as stack:
-            port = made(stack)
-            told(stack.enter_context(EtcdCluster(mode, before=[port])), port)
-    return case
-
-
-def refusing(stack):
+def refuses(mode):
     """A port at which nobody listens."""
     with socket.create_server(('127.0.0.1', 0)) as server:
-        return server.getsockname()[1]
+        port = server.getsockname()[1]
+    with EtcdCluster(mode, before=[port]) as cluster:
+        told(cluster, port)
 
 
-def silent(stack):
-    return stack.enter_context(socket.create_server(('127.0.0.1', 0), backlog=500)).getsockname()[1]
+def silent(mode):
+    """A port that is dialed, and at which nothing is said."""
+    with socket.create_server(('127.0.0.1', 0), backlog=500) as server:
+        port = server.getsockname()[1]
+        with EtcdCluster(mode, before=[port]) as cluster:
+            told(cluster, port)
 
 
-def answering(handler):
-    def made(stack):
-        server = stack.enter_context(Listening(handler))
-        server.links = 0
-        return server.port
-    return made
+def answers(handler):
+    """A port at which this is answered."""
+    def case(mode):
+        with Listening(handler) as server:
+            server.links = 0
+            with EtcdCluster(mode, before=[server.port]) as cluster:
+                told(cluster, server.port)
+                alone(cluster, server)
+    return case
 
 
 run(in_each_mode(('wal',), members_killed=over(members_killed), leader_stopped=over(leader_stopped), ended_early=over(ended_early),
                  all_gone=over(all_gone), primary_killed=over(primary_killed), killed=over(failovers.killed, TURNS),
                  stopped=over(failovers.stopped), inside=over(failovers.inside), cut_off=over(failovers.cut_off),
-                 refuses=behind(refusing), silent=behind(silent), nonsense=behind(answering(Nonsense)), error=behind(answering(Refusing))),
+                 refuses=refuses, silent=silent, nonsense=answers(Nonsense), error=answers(Refusing)),
     at_once=3)

@@ -104,16 +104,20 @@ class Cluster:
         return [it for it in self.nodes if self.writes(it)]
 
     def one_takes(self):
+        """The node that takes a write, and has a grant that stands meanwhile (`look`)."""
+        return self.look()[0]
+
+    def look(self):
         """Tries a write at each node between two looks at the grant: where one stands meanwhile, its holder alone takes it, and where
-        the service is away meanwhile, one node at most. Answers that holder."""
+        the service is away meanwhile, one node at most. Answers that holder, None where there is none, and who took it."""
         before, took, after = self.service.info(), self.takers(), self.service.info()
         if before is None and after is None:
             holds(len(took) < 2, 'two nodes take writes while nobody is granted a term')
         if not before or not after or (before['term'], before['host']) != (after['term'], after['host']):
-            return None
+            return None, took
         holder = self.holder(before)
         holds(set(took) <= {holder}, 'a write at a node while another one\'s grant stands')
-        return holder
+        return holder, took
 
     def refuses(self, node):
         """Another node's grant stands, and this one takes no write."""

@@ -46,10 +46,7 @@ class Etcd:
 
     def ask(self, *words):
         """What etcdctl writes, None where no member answers."""
-        told = ','.join(f'http://127.0.0.1:{it.port}' for it in self.members)
-        ran = subprocess.run(['etcdctl', '--endpoints', told, '--command-timeout', '3s', *words], env=dict(os.environ, ETCDCTL_API='3'),
-                             stdout=subprocess.PIPE, stderr=subprocess.DEVNULL)
-        return ran.stdout.decode() if ran.returncode == 0 else None
+        return asked('--endpoints', ','.join(it.address for it in self.members), '--command-timeout', '3s', *words)
 
     def leader(self):
         """The member that leads, None where none is known."""
@@ -58,6 +55,15 @@ class Etcd:
             if status and status['leader'] == status['header']['member_id']:
                 return it
         return None
+
+    def have_led(self, member):
+        """Waits until this member leads, and makes it so where another does."""
+        def leads():
+            leader = self.leader()
+            if leader and leader is not member:
+                asked('--endpoints', leader.address, 'move-leader', f'{member.status()["header"]["member_id"]:x}')
+            return leader is member
+        until(leads, 'the member leads')
 
     def key(self):
         """The key as etcdctl tells it: {} where there is none, None where etcd doesn't answer."""
@@ -79,14 +85,21 @@ class Etcd:
         return dict(value, term=found['create_revision']) if time.monotonic() >= stands else {}
 
 
+def asked(*words):
+    """What etcdctl writes at these words, None where it fails."""
+    ran = subprocess.run(['etcdctl', *words], env=dict(os.environ, ETCDCTL_API='3'), stdout=subprocess.PIPE, stderr=subprocess.DEVNULL)
+    return ran.stdout.decode() if ran.returncode == 0 else None
+
+
 class Member:
     def __init__(self, name):
         self.name, self.port, self.peers = name, free_port(), free_port()
+        self.address = f'http://127.0.0.1:{self.port}'
         self.folder = tempfile.mkdtemp(prefix='litefs-etcd-')
         self.process = None
 
     def launch(self, cluster):
-        here, peers = f'http://127.0.0.1:{self.port}', f'http://127.0.0.1:{self.peers}'
+        here, peers = self.address, f'http://127.0.0.1:{self.peers}'
         self.cluster = cluster
         with open(f'{self.folder}/errors', 'ab') as errors:
             self.process = subprocess.Popen(
@@ -110,11 +123,8 @@ class Member:
 
     def status(self):
         """What the member says of itself, None where it doesn't."""
-        ran = subprocess.run(['etcdctl', '--endpoints', f'http://127.0.0.1:{self.port}', '--command-timeout', '2s', 'endpoint', 'status',
-                              '-w', 'json'], env=dict(os.environ, ETCDCTL_API='3'), stdout=subprocess.PIPE, stderr=subprocess.DEVNULL)
-        with contextlib.suppress(ValueError, LookupError):
-            return json.loads(ran.stdout)[0]['Status']
-        return None
+        said = asked('--endpoints', self.address, '--command-timeout', '2s', 'endpoint', 'status', '-w', 'json')
+        return json.loads(said)[0]['Status'] if said else None
 
 
 class EtcdCluster(Cluster):
