@@ -6,3 +6,4 @@ mod ServiceLemmas
 mod AskLemmas
 mod DoorLemmas
 mod EndLemmas
+mod NoteLemmas

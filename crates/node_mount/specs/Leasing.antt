@@ -12,12 +12,13 @@ use Rattle.node_mount.specs.declared.wish.Wish.{Wish}
 
 -- ---- how long, in milliseconds
 
--- for its primary: half a minute, and with a lease service half a lease, but from half a second to half a minute
+-- for its primary: half a minute, and with a lease that is granted half of it, but from half a second to half a minute
 abbrev pub following_patience : LeaseType → ℕ → ℕ
 following_patience lease_type.Static ttl = 30000
 following_patience lease_type.Service ttl = max (min (ttl / 2) 30000) 500
+following_patience lease_type.Etcd ttl = max (min (ttl / 2) 30000) 500
 
--- for the lease service: a quarter of a lease, but from a quarter of a second to five
+-- for who grants the lease, at each dial: a quarter of a lease, but from a quarter of a second to five
 abbrev pub lease_patience : ℕ → ℕ
 lease_patience ttl = max (min (ttl / 4) 5000) 250
 

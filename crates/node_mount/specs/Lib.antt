@@ -14,6 +14,7 @@ pub mod Complaining
 pub mod Serving
 pub mod Leasing
 pub mod Standing
+pub mod Sources
 pub mod Duties
 pub mod Opening
 pub mod Places

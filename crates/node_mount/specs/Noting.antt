@@ -1,8 +1,13 @@
 -- What is told of notes that come again.
-use Rattle.std.specs.Prelude.{◌≡◌, ◌≢◌, ◌⊎◌, ℕ, ◌<◌, ◌≤◌, ◌-◌, List, ◌++◌, codes, Option, Some, None}
+use Rattle.std.specs.Prelude.{◌≡◌, ◌≢◌, ◌⊎◌, ℕ, ◌<◌, ◌≤◌, ◌-◌, List, [], ◌∷◌, ◌++◌, codes, length, All, slice_set, Option, Some, None}
+use Rattle.std.specs.List.{HoldsAt}
 use Rattle.lf_base.specs.Faults.{one_more}
 use Rattle.node_mount.specs.Lines.{shown}
-use Rattle.node_mount.specs.declared.notes.Repeats.{Repeats}
+use Rattle.node_mount.specs.declared.notes.Note.{Note}
+use Rattle.node_mount.specs.declared.notes.NoteKind.{NoteKind}
+use Rattle.node_mount.specs.declared.notes.NoteKind.TheVariants as kinds
+use Rattle.node_mount.specs.declared.repeats.Repeats.{Repeats}
+use Rattle.node_mount.specs.declared.repeats.Told.{Told}
 
 -- a primary that was dialed, and reached or not
 abbrev pub begins_line : (address : List ℕ) → List ℕ
@@ -10,6 +15,10 @@ begins_line address = codes "stream from " ++ shown address ++ codes " begins"
 
 abbrev pub not_reached_line : (address : List ℕ) → List ℕ
 not_reached_line address = codes "primary not reached at " ++ shown address
+
+-- an endpoint of a cluster that grants leases gave no answer
+abbrev pub no_answer_line : (address : List ℕ) → List ℕ
+no_answer_line address = codes "lease: " ++ shown address ++ codes " gave no answer"
 
 -- the line begins so
 abbrev pub BeginsWith : List ℕ → List ℕ → Type 0
@@ -25,6 +34,37 @@ abbrev pub IsDue : Repeats → (now : ℕ) → Option (List ℕ) → Repeats →
 IsDue old now None new = ((old.count ≡ 0) ⊎ (now - old.since < 60000)) × (new ≡ old)
 IsDue old now (Some told) new =
     (0 < old.count) × (60000 ≤ now - old.since) × BeginsWith told old.last × (new ≡ record old { since = now; count = 0 })
+
+-- a note is counted with one that was told: one of its kind, and of endpoints that give no answer one of the same
+abbrev pub IsOf : Told → NoteKind → (line : List ℕ) → Type 0
+IsOf told kind line = (told.kind ≡ kind) × (kind ≡ kinds.Lease → line ≡ told.repeats.last)
+
+-- it is counted with none of these
+abbrev pub AreOthers : List Told → NoteKind → (line : List ℕ) → Type 0
+AreOthers known kind line = All (λ told. IsOf told kind line → ⊥) known
+
+-- none was told
+abbrev pub untold : Repeats
+untold = record { last = []; since = 0; count = 0 }
+
+-- one more stands behind those that were told
+abbrev pub IsToldFirst : (old : List Told) → NoteKind → (line : List ℕ) → (now : ℕ) → Option (List ℕ) → (new : List Told) → Type 0
+IsToldFirst old kind line now told new =
+    (repeats : Repeats) × IsNext untold line now told repeats × (new ≡ old ++ record { kind = kind; repeats = repeats } ∷ [])
+
+-- the one at this place it is counted with
+abbrev pub IsWith : List Told → (place : ℕ) → NoteKind → (line : List ℕ) → Type 0
+IsWith known place kind line = (place < length known) × HoldsAt (λ told. IsOf told kind line) known place
+
+-- one of those that were told counts it
+abbrev pub IsToldBy : (old : List Told) → NoteKind → (line : List ℕ) → (now : ℕ) → Option (List ℕ) → (new : List Told) → Type 0
+IsToldBy old kind line now told new = (place : ℕ) × (repeats : Repeats) × IsWith old place kind line
+    × HoldsAt (λ known. IsNext known.repeats line now told repeats × (new ≡ slice_set old place (record known { repeats = repeats }))) old place
+
+-- AND OF ONE BESIDE ALL THAT WERE TOLD
+abbrev pub IsToldOf : (old : List Told) → Note → (now : ℕ) → Option (List ℕ) → (new : List Told) → Type 0
+IsToldOf old note now told new = IsToldBy old note.kind note.line now told new
+    ⊎ (AreOthers old note.kind note.line × IsToldFirst old note.kind note.line now told new)
 
 -- WHAT IS TOLD OF TWO LOOKS at a node, so many milliseconds apart at most, or else that it stood still
 abbrev pub TellsStill : (before now most : ℕ) → Option (List ℕ) → Type 0

@@ -9,22 +9,22 @@ use crate::keeper::Keeper;
 use crate::lease_rounds::Rounds;
 use crate::notes::Notes;
 use crate::patience::naps_of;
+use crate::sources::source_of;
 use crate::to_primary::ToPrimary;
 use crate::wish::Wish;
 use lease_core::Grant;
-use lease_link::OwnService;
 use lf_base::{Closing, Dialer, NoMemory, Text};
 use node_settings::{LeaseSettings, LeaseType, Settings, Url};
 use std::alloc::Global;
 
-/// The naps of a round of a node that asks no lease service.
+/// The naps of a round of a node that asks for no lease.
 const NAPS: u64 = 200;
 
 /// What a node does beside serving links.
 #[derive(Drop)]
-pub struct Duties<T> {
+pub struct Duties<T, C> {
     pub primary: Primary<T>,
-    pub rounds: Rounds<T>,
+    pub rounds: Rounds<T, C>,
 }
 
 /// Whether a node is primary from the start.
@@ -33,27 +33,29 @@ pub fn stands_as_primary(lease: &LeaseSettings) -> bool
 {
     match lease.lease_type {
         LeaseType::Static => lease.candidate,
-        LeaseType::Service => false,
+        LeaseType::Service | LeaseType::Etcd => false,
     }
 }
 
 /// What a node of this number does. It follows by dialers of this one's kind, and notes there how;
-/// `asking` dials the lease service, where there is one.
-pub fn duties_of<T: Dialer + Drop>(
+/// `asking` dials who grants its lease, where that is granted, and `clock` is of use there.
+pub fn duties_of<T: Dialer + Drop, C: Copy>(
     alloc: Global,
     settings: &Settings,
     node: u64,
     dialer: &T,
     asking: Option<T>,
+    clock: C,
     notes: &Notes,
-) -> Result<Option<Duties<T>>, NoMemory>
+) -> Result<Option<Duties<T, C>>, NoMemory>
     ensures { IfOk result (AreDuties settings.now node asking) }
 {
     if stands_as_primary(&settings.lease) {
         return Ok(None);
     }
     let board = Board::new(alloc, first_address(&settings.lease)?)?;
-    let rounds = rounds_of(alloc, settings, node, asking, board.another()?)?;
+    let theirs = board.another()?;
+    let rounds = rounds_of(alloc, settings, node, asking, clock, notes, theirs)?;
     let primary = Primary {
         name: settings.database.copy()?,
         dialer: ToPrimary::new(dialer.another(), board),
@@ -63,7 +65,7 @@ pub fn duties_of<T: Dialer + Drop>(
 }
 
 /// What dials the primary that a node with these duties follows; without any, nobody.
-pub fn to_primary<T: Dialer>(duties: &Option<Duties<T>>, dialer: &T) -> ToPrimary<T>
+pub fn to_primary<T: Dialer, C>(duties: &Option<Duties<T, C>>, dialer: &T) -> ToPrimary<T>
     ensures { ⟦<ToPrimary<T> as Dialer>⟧.faults result ≡ 0 }
 {
     match duties {
@@ -73,7 +75,7 @@ pub fn to_primary<T: Dialer>(duties: &Option<Duties<T>>, dialer: &T) -> ToPrimar
 }
 
 /// Where a node with these duties finds its primary.
-pub fn board_of<T>(duties: &Option<Duties<T>>) -> Result<Option<Board>, NoMemory> {
+pub fn board_of<T, C>(duties: &Option<Duties<T, C>>) -> Result<Option<Board>, NoMemory> {
     match duties {
         Some(duties) => Ok(Some(duties.rounds.board.another()?)),
         None => Ok(None),
@@ -81,7 +83,10 @@ pub fn board_of<T>(duties: &Option<Duties<T>>) -> Result<Option<Board>, NoMemory
 }
 
 /// The word that is closed once the rounds of these duties have ended; without any it is closed.
-pub fn rounds_word<T>(alloc: Global, duties: &Option<Duties<T>>) -> Result<Closing, NoMemory> {
+pub fn rounds_word<T, C>(
+    alloc: Global,
+    duties: &Option<Duties<T, C>>,
+) -> Result<Closing, NoMemory> {
     match duties {
         Some(duties) => duties.rounds.ended.another(),
         None => {
@@ -98,20 +103,22 @@ fn first_address(lease: &LeaseSettings) -> Result<Option<Text>, NoMemory>
 {
     match lease.lease_type {
         LeaseType::Static => Ok(Some(lease.advertise_url.address().copy()?)),
-        LeaseType::Service => Ok(None),
+        LeaseType::Service | LeaseType::Etcd => Ok(None),
     }
 }
 
-fn rounds_of<T: Drop>(
+fn rounds_of<T: Drop, C: Copy>(
     alloc: Global,
     settings: &Settings,
     node: u64,
     asking: Option<T>,
+    clock: C,
+    notes: &Notes,
     board: Board,
-) -> Result<Rounds<T>, NoMemory>
+) -> Result<Rounds<T, C>, NoMemory>
     ensures { IfOk result (AreRounds settings.now node asking) }
 {
-    let keeper = keeper_of(alloc, settings, node, asking)?;
+    let keeper = keeper_of(alloc, settings, node, asking, clock, notes)?;
     Ok(Rounds {
         keeper,
         board,
@@ -126,31 +133,30 @@ fn round_naps(lease: &LeaseSettings) -> u64
 {
     match lease.lease_type {
         LeaseType::Static => NAPS,
-        LeaseType::Service => naps_of(lease.ttl),
+        LeaseType::Service | LeaseType::Etcd => naps_of(lease.ttl),
     }
 }
 
-fn keeper_of<T: Drop>(
+fn keeper_of<T: Drop, C: Copy>(
     alloc: Global,
     settings: &Settings,
     node: u64,
     asking: Option<T>,
-) -> Result<Option<Keeper<T>>, NoMemory>
+    clock: C,
+    notes: &Notes,
+) -> Result<Option<Keeper<T, C>>, NoMemory>
     ensures { IfOk result (IsKept settings.now node asking) }
 {
     let Some(dialer) = asking else {
         return Ok(None);
     };
-    let Some(url) = &settings.lease.service_url else {
+    let Some(source) = source_of(alloc, settings, clock, notes)? else {
         return Ok(None);
-    };
-    let service = OwnService {
-        address: url.address().copy()?,
     };
     let own = own_of(alloc, settings, node)?;
     Ok(Some(Keeper {
         dialer,
-        service,
+        source,
         own,
         wish: first_wish(settings, node),
     }))
@@ -165,7 +171,7 @@ fn first_wish(settings: &Settings, node: u64) -> Wish
     }
 }
 
-/// What a node asks the lease service as.
+/// What a node asks for its lease as.
 fn own_of(alloc: Global, settings: &Settings, node: u64) -> Result<Grant, NoMemory>
     ensures { IfOk result (λ own. own ≡ own_at settings.now node) }
 {

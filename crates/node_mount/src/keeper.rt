@@ -1,12 +1,12 @@
+use crate::lease_source::LeaseSource;
 use crate::wish::Wish;
 use lease_core::Grant;
-use lease_link::OwnService;
 
-/// What asks the lease service for a node.
+/// What asks for a node's lease.
 #[derive(Drop)]
-pub struct Keeper<T> {
+pub struct Keeper<T, C> {
     pub dialer: T,
-    pub service: OwnService,
+    pub source: LeaseSource<C>,
     /// The node's own, with the term that it has, 0 for none.
     pub own: Grant,
     pub wish: Wish,

@@ -27,9 +27,9 @@ use txn_log::StoreFault;
 
 /// The rounds of a node.
 #[derive(Drop)]
-pub struct Rounds<T> {
+pub struct Rounds<T, C> {
     /// None where the lease is static.
-    pub keeper: Option<Keeper<T>>,
+    pub keeper: Option<Keeper<T, C>>,
     /// Where the following job finds the primary.
     pub board: Board,
     /// How many files of the log are kept.
@@ -52,7 +52,7 @@ pub fn start_rounds<
 >(
     means: Means<R, C, P>,
     place: &mut Place<K>,
-    rounds: Rounds<T>,
+    rounds: Rounds<T, C>,
     closing: &Closing,
     spawner: &mut S,
 ) -> Result<(), MountFault>
@@ -71,12 +71,12 @@ pub fn start_rounds<
 
 /// The work of the job.
 #[derive(Drop)]
-struct Going<T> {
-    rounds: Rounds<T>,
+struct Going<T, Q> {
+    rounds: Rounds<T, Q>,
     closing: Closing,
 }
 
-impl<T: Dialer + Drop> Work for Going<T> {
+impl<T: Dialer + Drop, Q: Clock + Copy> Work for Going<T, Q> {
     /// Makes one round after another until the word is closed. Then the lease is given up.
     fn go<
         R: Handles + Copy,
@@ -102,11 +102,14 @@ impl<T: Dialer + Drop> Work for Going<T> {
 
 /// One round: the lease is kept, and the log pruned. A node whose store is broken gives its lease up,
 /// and asks for none from then on. Answers how many naps are left of the round's.
-fn round<R: Handles + Copy, K: Machine<Ask = Ask, Answer = Answer>, T: Dialer, C: Clock, P: Pause>(
-    means: &mut Means<R, C, P>,
-    place: &mut Place<K>,
-    rounds: &mut Rounds<T>,
-) -> u64 {
+fn round<
+    R: Handles + Copy,
+    K: Machine<Ask = Ask, Answer = Answer>,
+    T: Dialer,
+    Q: Clock,
+    C: Clock,
+    P: Pause,
+>(means: &mut Means<R, C, P>, place: &mut Place<K>, rounds: &mut Rounds<T, Q>) -> u64 {
     let Rounds {
         keeper,
         board,
@@ -132,11 +135,18 @@ fn round<R: Handles + Copy, K: Machine<Ask = Ask, Answer = Answer>, T: Dialer, C
     }
 }
 
-/// One round with the lease service.
-fn keep<R: Handles + Copy, K: Machine<Ask = Ask, Answer = Answer>, T: Dialer, C: Clock, P: Pause>(
+/// One round with who grants the lease.
+fn keep<
+    R: Handles + Copy,
+    K: Machine<Ask = Ask, Answer = Answer>,
+    T: Dialer,
+    Q: Clock,
+    C: Clock,
+    P: Pause,
+>(
     means: &mut Means<R, C, P>,
     place: &mut Place<K>,
-    keeper: &mut Keeper<T>,
+    keeper: &mut Keeper<T, Q>,
     board: &Board,
 ) -> KeepEnd {
     let end = keep_lease(
@@ -146,7 +156,7 @@ fn keep<R: Handles + Copy, K: Machine<Ask = Ask, Answer = Answer>, T: Dialer, C:
         &mut place.seat,
         &ToNode,
         &mut keeper.dialer,
-        &mut keeper.service,
+        &mut keeper.source,
         &keeper.own,
         keeper.wish.asks_to_be(),
         &mut means.clock,
@@ -173,9 +183,10 @@ fn give_up<
     R: Handles + Copy,
     K: Machine<Ask = Ask, Answer = Answer>,
     T: Dialer,
+    Q: Clock,
     C: Clock,
     P: Pause,
->(means: &mut Means<R, C, P>, place: &mut Place<K>, keeper: &mut Keeper<T>) {
+>(means: &mut Means<R, C, P>, place: &mut Place<K>, keeper: &mut Keeper<T, Q>) {
     let _ = give_up_lease(
         means.rt,
         means.alloc,
@@ -183,7 +194,7 @@ fn give_up<
         &mut place.seat,
         &ToNode,
         &mut keeper.dialer,
-        &mut keeper.service,
+        &mut keeper.source,
         &keeper.own,
         &mut means.clock,
         BUDGET,

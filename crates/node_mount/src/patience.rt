@@ -15,11 +15,11 @@ pub fn following_patience(lease: &LeaseSettings) -> u64
 {
     match lease.lease_type {
         LeaseType::Static => 30_000,
-        LeaseType::Service => (lease.ttl / 2).min(30_000).max(500),
+        LeaseType::Service | LeaseType::Etcd => (lease.ttl / 2).min(30_000).max(500),
     }
 }
 
-/// For how many milliseconds a node waits for the lease service: a quarter of a lease, at least a
+/// For how many milliseconds a node waits for who grants its lease, at each dial: a quarter of a lease, at least a
 /// quarter of a second and at most five.
 pub fn lease_patience(ttl: u64) -> u64
     ensures { result ≡ asks_for ttl }
@@ -27,7 +27,7 @@ pub fn lease_patience(ttl: u64) -> u64
     (ttl / 4).min(5_000).max(250)
 }
 
-/// The naps of a round with the lease service: one for each second of a lease, at least 1 and at most
+/// The naps of a round with who grants the lease: one for each second of a lease, at least 1 and at most
 /// 20.
 pub fn naps_of(ttl: u64) -> u64
     ensures { result ≡ naps ttl }

@@ -50,7 +50,7 @@ pub fn serve_links<
     files: &mut A,
     calls: Calls<B, T>,
     read: &Configuration,
-    tasks: Tasks<T, E, N>,
+    tasks: Tasks<T, E, N, C>,
     spawner: &mut S,
 ) -> Result<End, MountFault>
     requires unused { IsUnused place.seat (arc_value place.desk) }
@@ -102,7 +102,7 @@ fn serve_all<
     files: &mut A,
     calls: Calls<B, T>,
     read: &Configuration,
-    tasks: Tasks<T, E, N>,
+    tasks: Tasks<T, E, N, C>,
     closing: &Closing,
     spawner: &mut S,
 ) -> Result<(), MountFault>
@@ -161,7 +161,7 @@ fn start_tasks<
 >(
     means: Means<R, C, P>,
     place: &mut Place<K>,
-    duties: Option<Duties<T>>,
+    duties: Option<Duties<T, C>>,
     watching: Watching<E, N>,
     closing: &Closing,
     spawner: &mut S,
@@ -188,7 +188,7 @@ fn start_duties<
 >(
     means: Means<R, C, P>,
     place: &mut Place<K>,
-    duties: Option<Duties<T>>,
+    duties: Option<Duties<T, C>>,
     closing: &Closing,
     spawner: &mut S,
 ) -> Result<(), MountFault>

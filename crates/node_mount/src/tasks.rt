@@ -19,8 +19,8 @@ use std::alloc::Global;
 
 /// What a node does beside serving links, what watches it, and as whom its sessions ask for write permits.
 #[derive(Drop)]
-pub struct Tasks<T, E, N> {
-    pub duties: Option<Duties<T>>,
+pub struct Tasks<T, E, N, C> {
+    pub duties: Option<Duties<T, C>>,
     pub watching: Watching<E, N>,
     pub writer: Writer<T>,
     pub meters: Meters,
@@ -34,7 +34,7 @@ pub fn tasks_of<M: Maker>(
     asking: Option<M::Dial>,
     mount: Option<MountKeeper<M::Mounter>>,
     make: &mut M,
-) -> Result<Tasks<M::Dial, M::Tell, M::Mounter>, NoMemory>
+) -> Result<Tasks<M::Dial, M::Tell, M::Mounter, M::Clock>, NoMemory>
     requires mounts { Mounts settings.now.mount mount }
     ensures mounts { IfOk result (λ tasks. Mounts settings.now.mount tasks.watching.mount) }
     ensures duties { IfOk result (λ tasks. AreDuties settings.now (M.number make.old) asking tasks.duties) }
@@ -46,17 +46,19 @@ pub fn tasks_of<M: Maker>(
     let ending = make.ending()?;
     let tally = make.tally()?;
     let notes = Notes::new(alloc, tally.another()?)?;
-    let duties = duties_of(alloc, settings, make.node_id(), dialer, asking, &notes)?;
+    let mut clock = make.clock();
+    let node = make.node_id();
+    let duties = duties_of(alloc, settings, node, dialer, asking, clock, &notes)?;
     let watching = watching_of(alloc, settings, lines, notes, mount, ending)?;
     let writer = Writer {
         name: settings.database.copy()?,
-        node: make.node_id(),
+        node,
         dialer: to_primary(&duties, dialer),
         tally: tally.another()?,
     };
     let meters = Meters {
-        node: make.node_id(),
-        started: make.clock().now_ms(),
+        node,
+        started: clock.now_ms(),
         board: board_of(&duties)?,
         tally,
     };
@@ -90,7 +92,7 @@ pub fn mount_of<M: Maker>(
     }
 }
 
-/// What dials the lease service, where there is one.
+/// What dials who grants the lease, where it is granted.
 pub fn dialer_of_service<M: Maker>(settings: &Settings, make: &mut M) -> Option<M::Dial>
     ensures kept { (M.asked make.new ≡ M.asked make.old) × (M.number make.new ≡ M.number make.old) }
     ensures same { (M.counts make.new ≡ M.counts make.old) × (M.back make.new ≡ M.back make.old) }
@@ -98,6 +100,8 @@ pub fn dialer_of_service<M: Maker>(settings: &Settings, make: &mut M) -> Option<
 {
     match settings.lease.lease_type {
         LeaseType::Static => None,
-        LeaseType::Service => Some(make.dialer(lease_patience(settings.lease.ttl))),
+        LeaseType::Service | LeaseType::Etcd => {
+            Some(make.dialer(lease_patience(settings.lease.ttl)))
+        }
     }
 }

@@ -13,8 +13,9 @@ use crate::means::Means;
 use crate::mount_fault::MountFault;
 use crate::mount_keeper::MountKeeper;
 use crate::mounter::Mounter;
-use crate::notes::{KINDS, MOST, Note, Notes, Repeated};
+use crate::notes::{MOST, NoteKind, Notes};
 use crate::place::Place;
+use crate::repeats::{KINDS, Repeated};
 use crate::role_told::RoleTold;
 use crate::sessions::LINKS;
 use crate::stillness::still_line;
@@ -206,16 +207,28 @@ fn tell_notes<R: Handles, E: Tell, N, C: Clock, P>(
     repeated: &mut Repeated,
 ) {
     for _ in 0..MOST {
-        let Some(Note { kind, line }) = watching.notes.take(&means.rt) else {
+        let Some(note) = watching.notes.take(&means.rt) else {
             break;
         };
         let now = means.clock.now_ms();
-        let told = repeated.of(kind).next(means.alloc, line, now);
+        let told = repeated.next(means.alloc, note, now);
         say_some(&means.rt, &mut watching.lines, told);
     }
     for kind in KINDS {
-        let now = means.clock.now_ms();
-        let told = repeated.of(kind).due(means.alloc, now);
+        tell_again(means, watching, repeated, kind);
+    }
+}
+
+/// Tells which notes of a kind came again, and how often.
+fn tell_again<R: Handles, E: Tell, N, C: Clock, P>(
+    means: &mut Means<R, C, P>,
+    watching: &mut Watching<E, N>,
+    repeated: &mut Repeated,
+    kind: NoteKind,
+) {
+    let now = means.clock.now_ms();
+    for place in 0..repeated.count() {
+        let told = repeated.due(means.alloc, kind, place, now);
         say_some(&means.rt, &mut watching.lines, told);
     }
 }

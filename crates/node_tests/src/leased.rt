@@ -97,7 +97,7 @@ const ROWS: &[Row] = &[
 ];
 
 /// The bytes of a request, to the end of its body.
-fn request_on<R: Copy + Abort>(rt: R, alloc: Global, stream: &mut TcpStream) -> Vec<u8> {
+pub(crate) fn request_on<R: Copy + Abort>(rt: R, alloc: Global, stream: &mut TcpStream) -> Vec<u8> {
     let mut request = Vec::new(alloc);
     let mut piece = [0u8; 512];
     for _ in 0..64u32 {
@@ -226,7 +226,7 @@ fn config_of<R: Handles + Abort + Copy>(
 }
 
 /// Removes the socket of such a node.
-fn remove_socket<R: System + Abort + Copy>(rt: R, alloc: Global, database: &str) {
+pub(crate) fn remove_socket<R: System + Abort + Copy>(rt: R, alloc: Global, database: &str) {
     let socket = format!(in alloc; "{database}_socket").expect(&rt, "memory");
     fs::remove_file(&rt, socket.as_str()).expect(&rt, "removed");
 }

@@ -11,6 +11,8 @@ mod databases;
 #[cfg(test)]
 mod ended;
 #[cfg(test)]
+mod etcd_leased;
+#[cfg(test)]
 mod figures;
 #[cfg(test)]
 mod files;
