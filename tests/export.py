@@ -2,7 +2,7 @@
 """A node's database taken out and put in by curl: of each page size and mode, with free pages and grown over them, the bytes come back as
 they went in, and SQLite and a replica find them sound. What is no database, comes to the wrong node or name, or is held back by a
 client changes nothing. A node that is killed while it imports stands before or behind it. Followers that leave an idle node keep none
-of its jobs.
+of its jobs. By hand, with LITEFS_LONG, bytes at the lock page.
 
 At most: 900 seconds.
 Seen to fail: a node that answers 404 to both calls; one that never looks for its followers (`left`: timed out)."""
@@ -105,6 +105,37 @@ def again():
         before, files = line(node), node.log()
         same(imported(node, data), (200, before), 'the second one answers the position')
         same((line(node), node.log()), (before, files), 'position and log behind it')
+
+
+def lock_page():
+    """Bytes at the lock page of a database past 1 GiB are of no account: they come back as zeros, and the same once more is no transaction."""
+    size, at = 65536, 1 << 30
+    with scratch() as folder, Node() as node:
+        path = os.path.join(folder, 'database')
+        past_a_gibibyte(path, size)
+        with open(path, 'r+b') as file:
+            file.seek(at)
+            file.write(b'\xee' * size)
+        for _ in range(2):
+            same(curl('-H', 'Expect:', '-X', 'POST', '-T', path, f'http://127.0.0.1:{node.port}/import?name=app'), (200, line(node)), 'the import')
+            same(node.position().txid, 1, 'the position')
+        wanted = contents(path)
+        wanted = wanted[:at] + bytes(size) + wanted[at + size:]
+        same(exported(node) == (200, wanted), True, 'the export')
+        with contextlib.closing(connect(node.socket)) as client:
+            same(client.execute('pragma integrity_check').fetchall(), [('ok',)], 'integrity')
+
+
+def past_a_gibibyte(path, page_size):
+    """A database of 1,080 rows of a million bytes each."""
+    with contextlib.closing(sqlite3.connect(path, isolation_level=None)) as at:
+        at.execute(f'pragma page_size={page_size}')
+        at.execute('pragma journal_mode=off')
+        at.execute('create table t(a integer primary key,b,c)')
+        at.execute('begin')
+        for key in range(1080):
+            at.execute('insert into t values(?,randomblob(1000000),0)', (key,))
+        at.execute('commit')
 
 
 def held(mode):
@@ -237,4 +268,6 @@ def half_closed(port):
 
 all_sizes = {f'sizes-{size}-{mode}': lambda size=size, mode=mode: sizes(size, mode) for size in SIZES for mode in ('delete', 'wal')}
 by_mode = {f'{name}-{mode}': lambda call=call, mode=mode: call(mode) for name, call in (('held', held), ('busy', busy)) for mode in MODES}
-run({**all_sizes, **by_mode, 'again': again, 'refused': refused, 'killed': killed, 'left': left}, at_once=2)
+# it takes 8 GB of memory
+by_hand = {'lock_page': lock_page} if length(0, 1) else {}
+run({**all_sizes, **by_mode, **by_hand, 'again': again, 'refused': refused, 'killed': killed, 'left': left}, at_once=2)
