@@ -110,6 +110,19 @@ fn serve<R: Handles + Copy + Abort>(
     asked
 }
 
+/// The thread that plays the endpoint.
+fn play<R: Handles + Abort + Copy + Send + 'static>(
+    rt: R,
+    alloc: Global,
+    etcd: TcpListener,
+    closing: Closing,
+) -> thread::JoinHandle<Vec<u8>> {
+    let started = thread::spawn(&rt, move || -> Vec<u8> {
+        serve(rt, alloc, &etcd, &closing)
+    });
+    started.ok().expect(&rt, "a thread")
+}
+
 fn config_of<R: Handles + Abort + Copy>(
     rt: R,
     alloc: Global,
@@ -157,8 +170,7 @@ fn a_lease_is_taken_of_etcd(rt: HostRuntime) {
     let theirs = closing.another().expect(&rt, "memory");
     let mut maker = SystemMaker::new(rt, closing).expect(&rt, "a maker");
     let mut source = SliceSource::new(config.as_bytes(), Vec::new(alloc)).expect(&rt, "a source");
-    let started = thread::spawn(&rt, move || -> Vec<u8> { serve(rt, alloc, &etcd, &theirs) });
-    let peer = started.ok().expect(&rt, "a thread");
+    let peer = play(rt, alloc, etcd, theirs);
     same(rt, mount(rt, alloc, &mut source, &mut maker), Ok(()));
     remove_socket(rt, alloc, "etcd_leased");
     let asked = peer.join(&rt);
