@@ -5,7 +5,8 @@ replica's node and the primary are killed at random moments, and commits and rep
 once in the log, and no half of one is.
 
 At most: 900 seconds.
-Seen to fail: before nodes forwarded, each case (the lock is refused) but `lost`, against which no wrong node was tried."""
+Seen to fail: before nodes forwarded, each case (the lock is refused) but `lost`, against which no wrong node was tried; `migration` where a
+replica's stream ended behind each commit of its own."""
 import contextlib
 import fcntl
 import random
@@ -79,6 +80,7 @@ def migration(mode):
         same(locked(replica), 'attempt to write a readonly database', 'a write behind it')
         commits(primary, writer, 1, "insert into t(a) values(100)")
         primary.level(replica)
+        same([it for it in replica.news() if it.startswith('stream ends')], [], 'its stream goes on behind its own commits')
         primary.sound()
 
 

@@ -24,7 +24,7 @@ use Rattle.replica_apply.specs.declared.follow_end.FollowEnd.{FollowEnd}
 use Rattle.replica_apply.specs.declared.follow_end.FollowEnd.TheVariants as ends
 use Rattle.replica_apply.specs.Asking.{IsAskOf, NodeEntry, drop as a_drop, file as a_file, manner}
 use Rattle.replica_apply.specs.Following.{Ends, EndsAnswer, EndsFrames, Follows, SaysWhere, StopsAt, answered, asks_where, at_frame, between, no_stream, stream, unplaced, unsent}
-use Rattle.replica_apply.specs.Frames.{EndsFrame, IsAnswered, IsHeldBack, IsRound, applied, level}
+use Rattle.replica_apply.specs.Frames.{EndsFrame, IsAnswered, IsHeldBack, IsRound, applied, had, level}
 use Rattle.replica_apply.specs.Heads.{IsHead}
 use Rattle.cluster_laws.specs.StreamLaw.{AsksInOrder, again, next, no_more}
 use Rattle.cluster_laws.proofs.Frames.{BeginsBy, Fits, pos_len, reads_one, texts}
@@ -119,11 +119,13 @@ record Behind (rounds : List (Round NodeEntry)) (rest : List ℕ) (frames : List
   rest_is : rest ≡ texts left
   then : (more : List NodeEntry) → AsksInOrder (asks_in left) more → AsksInOrder (asks_in frames) (asked_in rounds ++ more)
 
-one_behind : (who : Asker) (name : List ℕ) (round : Round NodeEntry) (rounds : List (Round NodeEntry)) (rest : List ℕ) (frames : List Frame) → length name < 2 ^ 32
+-- a round of a frame that was asked until it was answered
+round_behind : (who : Asker) (name : List ℕ) (round : Round NodeEntry) (rounds : List (Round NodeEntry)) (rest : List ℕ) (frames : List Frame) → length name < 2 ^ 32
     → length (round.message ++ messages rounds) < 2 ^ 64 → AllByRecursion Fits frames
     → ((left : List Frame) → AllByRecursion Fits left → messages rounds ++ rest ≡ texts left → Behind rounds rest left)
-    → IsRound who name round → (round.message ++ messages rounds) ++ rest ≡ texts frames → Behind (round ∷ rounds) rest frames
-one_behind who name round rounds rest frames fits few fit others (applied asked pos is until silent) e =
+    → (asked : Ask) (given : Answer) → IsAskOf name round.message asked → AskedUntil (manner who) asked [] round.entries given
+    → (round.message ++ messages rounds) ++ rest ≡ texts frames → Behind (round ∷ rounds) rest frames
+round_behind who name round rounds rest frames fits few fit others asked given is until e =
     let here : length round.message < 2 ^ 64 = omega (arith, few, length-append round.message (messages rounds)) in
     let f : IsFirstFrame asked (messages rounds ++ rest) frames =
     first_asked name round.message (messages rounds ++ rest) asked frames fits here fit is (sym (append_assoc round.message (messages rounds) rest) ∙ e) in
@@ -134,8 +136,17 @@ one_behind who name round rounds rest frames fits few fit others (applied asked 
       rest_is = b.rest_is;
       then = λ more x. subst (λ (asks : List Ask). AsksInOrder asks ((round.entries ++ asked_in rounds) ++ more)) (sym f.asks)
           (subst (λ (es : List NodeEntry). AsksInOrder (asked ∷ asks_in f.left) es) (sym (append_assoc round.entries (asked_in rounds) more))
-          (until_in_order who asked (asks_in f.left) round.entries (asked_in rounds ++ more) (answer.Applied pos) until (b.then more x)));
+          (until_in_order who asked (asks_in f.left) round.entries (asked_in rounds ++ more) given until (b.then more x)));
     }
+
+one_behind : (who : Asker) (name : List ℕ) (round : Round NodeEntry) (rounds : List (Round NodeEntry)) (rest : List ℕ) (frames : List Frame) → length name < 2 ^ 32
+    → length (round.message ++ messages rounds) < 2 ^ 64 → AllByRecursion Fits frames
+    → ((left : List Frame) → AllByRecursion Fits left → messages rounds ++ rest ≡ texts left → Behind rounds rest left)
+    → IsRound who name round → (round.message ++ messages rounds) ++ rest ≡ texts frames → Behind (round ∷ rounds) rest frames
+one_behind who name round rounds rest frames fits few fit others (applied asked pos is until silent) e =
+    round_behind who name round rounds rest frames fits few fit others asked (answer.Applied pos) is until e
+one_behind who name round rounds rest frames fits few fit others (had asked pos is until silent) e =
+    round_behind who name round rounds rest frames fits few fit others asked (answer.Same pos) is until e
 one_behind who name round rounds rest frames fits few fit others (level pos is none silent) e =
     let written : frame_text (frame.Ready name pos) ++ (messages rounds ++ rest) ≡ texts frames =
     ap (λ (l : List ℕ). l ++ (messages rounds ++ rest)) (sym is) ∙ sym (append_assoc round.message (messages rounds) rest) ∙ e in

@@ -1,4 +1,5 @@
--- FRAME: an LTX file of another node is installed where it begins with transaction 1, and else applied.
+-- FRAME: an LTX file of another node is installed where it begins with transaction 1, and else applied. One that leads to just where
+-- the node stands is passed over, as the node's own commit is that comes back by the stream.
 use Rattle.std.specs.Prelude.{◌≡◌, ◌≢◌, ◌⊎◌, IsTrue, List, ℕ, Some, Result, Ok, Err}
 use Rattle.lf_base.specs.declared.pos.Pos.{Pos}
 use Rattle.lf_disk.specs.History.{History}
@@ -62,12 +63,22 @@ RefusesFile start old file (refusals.Store why) end new = IsNotTaken start old f
 RefusesFile start old file refusals.NoMemory end new = IsNotTaken start old file fault.NoMemory end new
 RefusesFile start old file why end new = ⊥
 
--- what it answers to a file
+-- the file leads to just where the node stands. Of a snapshot this is of no account: it is the remedy of a node that doubts its own log
+abbrev pub LeadsHere : NodeParts → Ltx → Type 0
+LeadsHere n file = (file.header.min ≢ 1) × (after file ≡ position n.store)
+
+-- what it answers to a file that it hasn't
+abbrev pub TakesLtx : History → NodeParts → Ltx → Answer → History → NodeParts → Type 0
+TakesLtx start old file (answers.Applied here) end new = (here ≡ after file) × IsTaken start old file end new
+TakesLtx start old file (answers.Held lock) end new = (first_blocking old.files old.store.wal ≡ Some lock) × IsUntouched start old end new
+TakesLtx start old file (answers.Refused why) end new = RefusesFile start old file why end new
+TakesLtx start old file answer end new = ⊥
+
+-- what it answers to a file. Where it leads to just where the node stands nothing is done, whatever a lock holds back
 abbrev pub AnswersLtx : History → NodeParts → Ltx → Answer → History → NodeParts → Type 0
-AnswersLtx start old file (answers.Applied here) end new = (here ≡ after file) × IsTaken start old file end new
-AnswersLtx start old file (answers.Held lock) end new = (first_blocking old.files old.store.wal ≡ Some lock) × IsUntouched start old end new
-AnswersLtx start old file (answers.Refused why) end new = RefusesFile start old file why end new
-AnswersLtx start old file answer end new = ⊥
+AnswersLtx start old file answer end new =
+    (LeadsHere old file × (answer ≡ answers.Same (position old.store)) × IsUntouched start old end new)
+    ⊎ ((LeadsHere old file → ⊥) × TakesLtx start old file answer end new)
 
 -- why bytes are refused before there is a file: by their earliest fault, or for want of memory
 abbrev pub RefusesBytes : List ℕ → Answer → Type 0

@@ -1,5 +1,5 @@
 //! An LTX file of another node.
-ghost use Rattle.std.specs.Prelude.{◌≡◌, ◌≢◌, ℕ, false, IsTrue};
+ghost use Rattle.std.specs.Prelude.{◌≡◌, ◌≢◌, ℕ, true, false, IsTrue};
 ghost use Rattle.file_view.specs.declared.role.Role.TheVariants as role;
 ghost use Rattle.ltx_codec.specs.Format.{IsFile};
 ghost use Rattle.txn_log.specs.Calls.{Went};
@@ -7,7 +7,7 @@ ghost use Rattle.txn_log.specs.Causes.{Breaks};
 ghost use Rattle.world_laws.specs.Answers.{call_of};
 ghost use Rattle.world_laws.specs.Node as laws;
 ghost use Rattle.node_core.specs.Dropping.{IsFree};
-ghost use Rattle.node_core.specs.Framing.{AnswersFrame, AnswersLtx, Stands, Takes};
+ghost use Rattle.node_core.specs.Framing.{AnswersFrame, AnswersLtx, LeadsHere, Stands, Takes, TakesLtx};
 ghost use Rattle.node_core.specs.Nodes.{history, parts_of, role_in, said_to, seen};
 ghost use Rattle.node_core.specs.Safely.{IsFrameOf, StepsSafely, law_answer};
 ghost use Rattle.node_core.specs.Steps.{IsStep};
@@ -45,12 +45,20 @@ fn take<D: Disk>(store: &mut Store<D>, file: &Ltx) -> Result<Pos, StoreFault>
 }
 
 impl<D: Disk> Node<D> {
+    /// Whether a file leads to just where the node stands, and is no snapshot.
+    fn leads_here(&self, file: &Ltx) -> bool
+        ensures yes { result ≡ true → LeadsHere (parts_of self.now) file.now }
+        ensures no { result ≡ false → LeadsHere (parts_of self.now) file.now → ⊥ }
+    {
+        file.header.min != 1 && file.after() == self.store.pos()
+    }
+
     /// Takes a file that no lock holds back.
     fn take_file(&mut self, file: &Ltx) -> Answer
         requires valid { IsFile file.now }
         requires replica { role_in (parts_of self.old) ≢ role.Primary }
         requires free { IsFree (parts_of self.old) }
-        ensures does { AnswersLtx (history self.old) (parts_of self.old) file.now result (history self.new) (parts_of self.new) }
+        ensures does { TakesLtx (history self.old) (parts_of self.old) file.now result (history self.new) (parts_of self.new) }
         ensures safe { IsTrue (D.honest self.old.store.disk) → StepsSafely (seen (history self.old) (parts_of self.old)) (laws.Frame file.now)
             (law_answer result) (seen (history self.new) (parts_of self.new)) (history self.old) (history self.new) }
         ensures standing { self.new.standing ≡ self.old.standing }
@@ -77,6 +85,9 @@ impl<D: Disk> Node<D> {
         ensures standing { self.new.standing ≡ self.old.standing }
         ensures honest { D.honest self.new.store.disk ≡ D.honest self.old.store.disk }
     {
+        if self.leads_here(file) {
+            return Answer::Same(self.store.pos());
+        }
         match self.view.apply_clear(self.store.wal) {
             Ok(()) => self.take_file(file),
             Err(lock) => Answer::Held(lock),

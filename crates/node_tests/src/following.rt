@@ -119,7 +119,11 @@ const ROWS: &[Row] = &[
         asked: &[1],
         ..CUT
     },
-    // A file that is held back twice, and one that is refused.
+    // A file that the node has, one that is held back twice, and one that is refused.
+    Row {
+        script: &[Word::Same],
+        ..WORKED
+    },
     Row {
         script: &[Word::Held, Word::Held, Word::Applied],
         asked: &[1, 5, 5, 5, 5, 0],

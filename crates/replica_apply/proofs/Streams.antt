@@ -31,7 +31,7 @@ use Rattle.lf_base.specs.declared.pos.Pos.{Pos}
 use Rattle.replica_apply.specs.declared.follow_end.FollowEnd.{FollowEnd}
 use Rattle.replica_apply.specs.declared.follow_end.FollowEnd.TheVariants as ends
 use Rattle.replica_apply.specs.Asking.{IsAskOf, NodeEntry, manner}
-use Rattle.replica_apply.specs.Frames.{applied, said_by, EndsFrame, IsDone, IsRound}
+use Rattle.replica_apply.specs.Frames.{applied, had, said_by, EndsFrame, IsDone, IsRound}
 use Rattle.replica_apply.specs.Following.{asks_where, at_frame, declined, end_of, frame_limit, no_memory, no_stream, place_in, reading, stream, unsent_by, Asks, EndsAnswer, EndsFrames, HasReadHead, IsNext, SaysWhere, StopsAt, Uses}
 
 -- ---- one frame
@@ -42,6 +42,15 @@ pub done_with : (who : Asker) (name text : List ℕ) (asked : Ask) (pos : Pos) (
 done_with who name text asked pos old new is a = record {
   entries = a.repeated ++ entry who.caller a.last (answer.Applied pos) ∷ [];
   round = applied asked pos is (record { repeated = a.repeated; last = a.last; each = a.each; asked = a.asked; settled = a.settled; entries = refl }) refl;
+  asked = a.entries;
+}
+
+-- the node had it already
+pub had_with : (who : Asker) (name text : List ℕ) (asked : Ask) (pos : Pos) (old new : List NodeEntry) → IsAskOf name text asked
+    → AskedUntil (manner who) asked old new (answer.Same pos) → IsDone who name text old new
+had_with who name text asked pos old new is a = record {
+  entries = a.repeated ++ entry who.caller a.last (answer.Same pos) ∷ [];
+  round = had asked pos is (record { repeated = a.repeated; last = a.last; each = a.each; asked = a.asked; settled = a.settled; entries = refl }) refl;
   asked = a.entries;
 }
 
@@ -57,7 +66,7 @@ frame_answered who name text asked (answer.At pos) old new turns is a = (answer.
 frame_answered who name text asked (answer.Level pos) old new turns is a = (answer.Level pos, record { asked = asked; is = is; until = a }, refl)
 frame_answered who name text asked (answer.Item ltx after) old new turns is a = (answer.Item ltx after, record { asked = asked; is = is; until = a }, refl)
 frame_answered who name text asked answer.Gone old new turns is a = (answer.Gone, record { asked = asked; is = is; until = a }, refl)
-frame_answered who name text asked (answer.Same pos) old new turns is a = (answer.Same pos, record { asked = asked; is = is; until = a }, refl)
+frame_answered who name text asked (answer.Same pos) old new turns is a = had_with who name text asked pos old new is a
 frame_answered who name text asked (answer.Held lock) old new turns is a = (answer.Held lock, record { asked = asked; is = is; until = a }, refl)
 frame_answered who name text asked (answer.Pruned n) old new turns is a = (answer.Pruned n, record { asked = asked; is = is; until = a }, refl)
 frame_answered who name text asked (answer.Send number ltx) old new turns is a = (answer.Send number ltx, record { asked = asked; is = is; until = a }, refl)

@@ -14,22 +14,26 @@ use Rattle.replica_apply.specs.declared.follow_end.FollowEnd.{FollowEnd}
 use Rattle.replica_apply.specs.declared.follow_end.FollowEnd.TheVariants as ends
 use Rattle.replica_apply.specs.Asking.{IsAskOf, NodeEntry, manner}
 
--- A ROUND. A file or a drop was asked until no lock held it back, and was applied; that the follower is level asks nothing. Nothing
--- is written
+-- A ROUND. A file or a drop was asked until no lock held it back, and was applied, or led to just where the node stands; that the
+-- follower is level asks nothing. Nothing is written
 pub data IsRound (who : Asker) (name : List ℕ) (round : Round NodeEntry) : Type 0 where
   applied : (asked : Ask) (pos : Pos) → IsAskOf name round.message asked → AskedUntil (manner who) asked [] round.entries (answer.Applied pos)
       → round.reply ≡ [] → IsRound who name round
+  had : (asked : Ask) (pos : Pos) → IsAskOf name round.message asked → AskedUntil (manner who) asked [] round.entries (answer.Same pos)
+      → round.reply ≡ [] → IsRound who name round
   level : (pos : Pos) → round.message ≡ frame_text (frame.Ready name pos) → round.entries ≡ [] → round.reply ≡ [] → IsRound who name round
 
--- whether an answer settles a frame: it is applied, or refused
+-- whether an answer settles a frame: it is applied, had already, or refused
 abbrev pub settles : Answer → Bool
 settles (answer.Applied pos) = true
+settles (answer.Same pos) = true
 settles (answer.Refused refused) = true
 settles _ = false
 
 -- what an answer says of its frame
 abbrev pub said_by : Answer → Result (Unit {0}) FollowEnd
 said_by (answer.Applied pos) = Ok tt
+said_by (answer.Same pos) = Ok tt
 said_by (answer.Refused refused) = Err (ends.Refused refused)
 said_by _ = Err ends.OddAnswer
 

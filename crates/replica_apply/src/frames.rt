@@ -61,7 +61,7 @@ fn is_same(one: &Name, other: &Name) -> bool
     one.bytes() == other.bytes()
 }
 
-/// Asks until no lock holds it back, and goes on only where it is applied.
+/// Asks until no lock holds it back, and goes on only where it is applied, or the node has it already.
 fn apply<S: Steps<Ask = Ask, Answer = Answer>, C: Clock, P: Pause>(
     steps: &mut S,
     clock: &mut C,
@@ -93,7 +93,7 @@ fn said_by(answer: Answer) -> Result<(), FollowEnd>
     ensures { result ≡ said_by answer }
 {
     match answer {
-        Answer::Applied(_) => Ok(()),
+        Answer::Applied(_) | Answer::Same(_) => Ok(()),
         Answer::Refused(refusal) => Err(FollowEnd::Refused(refusal)),
         Answer::Done(_)
         | Answer::Quiet
@@ -102,7 +102,6 @@ fn said_by(answer: Answer) -> Result<(), FollowEnd>
         | Answer::Level(_)
         | Answer::Item { .. }
         | Answer::Gone
-        | Answer::Same(_)
         | Answer::Held(_)
         | Answer::Pruned(_)
         | Answer::Send { .. }

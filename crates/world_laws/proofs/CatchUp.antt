@@ -1,17 +1,18 @@
 -- The answer to a position that the log lacks, and what is delivered.
-use Rattle.std.proofs.Common.{◌≡◌, ◌≢◌, ◌⊎◌, ℕ, ◌≤◌, Bool, true, false, cond, eqb, List, [], ◌∷◌, Option, IsSome, inl, inr, refl, sym, ap, subst, ◌∙◌}
+use Rattle.std.proofs.Common.{◌≡◌, ◌≢◌, ◌⊎◌, ℕ, ◌≤◌, Bool, true, false, cond, eqb, List, [], ◌∷◌, Option, IsSome, inl, inr, refl, sym, ap, subst, ◌∙◌, ◌-◌, arith}
 use Rattle.lf_base.specs.declared.pos.Pos.{Pos}
 use Rattle.lf_base.specs.Faults.{Rose}
 use Rattle.byte_locks.specs.declared.lock_id.LockId.{LockId}
 use Rattle.lf_sqlite_pages.specs.Image.{DatabaseImage, IsImage, SameImage}
 use Rattle.ltx_codec.specs.declared.file.Ltx.{Ltx}
+use Rattle.ltx_codec.specs.Format.{IsFile}
 use Rattle.ltx_codec.specs.Positions.{Joins, after, before, nowhere}
 use Rattle.ltx_codec.specs.Sums.{image_sum}
 use Rattle.world_laws.specs.declared.last_file.LastFile.{LastFile}
 use Rattle.world_laws.specs.Answers.{AnswersDrop, AnswersFrame, AnswersHello, Knows, LeavesUndone, Owes, by_doubt, by_file, by_snapshot, call_of, completed_over, snapshot_of}
 use Rattle.world_laws.specs.CatchUpLaw.{AnswersByWhole, DropInstalls, IsFreeRefusal, IsHeldBack, IsWhole, SentFileApplies, SnapshotInstalls}
 use Rattle.world_laws.specs.Lineage.{Lineage, Suits, image_of, position_of}
-use Rattle.world_laws.specs.Node.{Answer, Applied, BadFile, Broken, Disk, Gone, Held, Item, Level, Limit, NoMemory, NodeState, NotNext, NotPrimary, NotReplica, PageSize, Primary, Refused, Role, SumDiffers}
+use Rattle.world_laws.specs.Node.{Answer, Applied, BadFile, Broken, Disk, Done, Gone, Held, Item, Level, Limit, NoMemory, NodeState, NotNext, NotPrimary, NotReplica, PageSize, Primary, Refused, Role, SumDiffers}
 use Rattle.world_laws.specs.Premises.{OneImagePerPosition}
 use Rattle.world_laws.specs.Safe.{IsAllowed, IsSafe, IsSendable}
 use Rattle.world_laws.specs.Served.{HoldsBack}
@@ -92,6 +93,7 @@ frame-answered old new role from did failed (Refused SumDiffers) tree may valid 
 frame-answered old new role from did failed (Refused Disk) tree may valid not_primary store rose undone answers = inr (inr (inl (refl, rose answers)))
 frame-answered old new role from did failed (Refused Broken) tree may valid not_primary store rose undone answers = inr (inr (inr (inl (refl, answers))))
 frame-answered old new role from did failed (Refused NoMemory) tree may valid not_primary store rose undone answers = inr (inr (inr (inr refl)))
+frame-answered old new role from did failed Done tree may valid not_primary store rose undone answers = absurd (answers.1.0 (snapshot-first from))
 frame-answered old new role from did failed other tree may valid not_primary store rose undone answers = absurd answers
 
 pub snapshot_installs-of : SnapshotInstalls
@@ -153,6 +155,10 @@ called-end : (old : StoreState) (file : Ltx) (first : Bool) → at (done old (co
 called-end old file true = end_of-one file
 called-end old file false = end_of-push old.log (completed_over old file)
 
+-- a file leads on from where it begins
+leads-on : (file : Ltx) → IsFile file → before file ≡ after file → ⊥
+leads-on file is same = let txid : file.header.min - 1 ≡ file.header.max = ap (λ (p : Pos). p.txid) same in omega (arith, txid, is.header.min, is.header.max)
+
 sent-answered : (old new : NodeState) (role : Role) (file : Ltx) (did : List StoreCall) (failed : Option Failure) (answer : Answer) → (tree : List Lineage) →
     IsSendable tree file → role ≢ Primary → Joins old.store.image (at old.store) file → new.store ≡ all_done old.store did → (IsSome failed → Rose old.faults new.faults) → LeavesUndone answer did →
     AnswersFrame old role file did failed answer new →
@@ -174,6 +180,7 @@ sent-answered old new role file did failed (Refused SumDiffers) tree may not_pri
 sent-answered old new role file did failed (Refused Disk) tree may not_primary joins store rose undone answers = inr (inr (inl (refl, rose answers)))
 sent-answered old new role file did failed (Refused Broken) tree may not_primary joins store rose undone answers = inr (inr (inr (inl (refl, answers))))
 sent-answered old new role file did failed (Refused NoMemory) tree may not_primary joins store rose undone answers = inr (inr (inr (inr refl)))
+sent-answered old new role file did failed Done tree may not_primary joins store rose undone answers = absurd (leads-on file may.sound (joins.next ∙ sym answers.1.1))
 sent-answered old new role file did failed other tree may not_primary joins store rose undone answers = absurd answers
 
 pub sent_file_applies-of : SentFileApplies

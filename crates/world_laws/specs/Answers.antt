@@ -108,11 +108,17 @@ RefusesFrame old role file failed Broken = IsSome old.failed
 RefusesFrame old role file failed NoMemory = Unit {0}
 RefusesFrame old role file failed why = ⊥
 
--- an LTX frame is applied or installed, held back by a lock that somebody holds, or refused
+-- a file leads to just where a store stands, and is no snapshot
+abbrev pub LeadsHere : StoreState → Ltx → Type 0
+LeadsHere store file = (file.header.min ≢ 1) × (after file ≡ at store)
+
+-- an LTX frame is applied or installed, held back by a lock that somebody holds, or refused; and one that leads to just where the node
+-- stands is done with, and nothing is done
 abbrev pub AnswersFrame : NodeState → Role → Ltx → List StoreCall → Option Failure → Answer → NodeState → Type 0
 AnswersFrame old role file did failed (Applied position) new = (did ≡ call_of old.store file ∷ []) × (failed ≡ None) × (position ≡ at new.store)
 AnswersFrame old role file did failed (Held lock) new = HoldsBack old.served old.store.image lock
 AnswersFrame old role file did failed (Refused why) new = RefusesFrame old role file failed why
+AnswersFrame old role file did failed Done new = (role ≢ Primary) × LeadsHere old.store file × (did ≡ []) × (failed ≡ None)
 AnswersFrame old role file did failed other new = ⊥
 
 -- why a Drop frame is refused. It takes no memory

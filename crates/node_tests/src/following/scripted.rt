@@ -10,6 +10,7 @@ use txn_log::StoreFault;
 #[derive(Clone, Copy, PartialEq, Eq)]
 pub enum Word {
     Applied,
+    Same,
     Held,
     Disk,
 }
@@ -37,6 +38,7 @@ impl Scripted {
         let word = self.script.get(self.at);
         self.at = self.at.wrapping_add(1);
         match word {
+            Some(Word::Same) => Answer::Same(self.here.pos),
             Some(Word::Held) => Answer::Held(LockId::Shared),
             Some(Word::Disk) => Answer::Refused(Refusal::Store(StoreFault::Disk)),
             _ => Answer::Applied(self.here.pos),
