@@ -138,7 +138,7 @@ REFUSED = {
 }
 HARMLESS = {
     'nothing': lambda node: None,
-    'a_staged_file': lambda node: written(f'{node.data}/staged', b'x' * 1000),
+    'a_staged_file': lambda node: written(f'{node.data}/ltx/.staged', b'x' * 1000),
     'a_page_of_the_last_transaction_torn': lambda node: flipped(f'{node.data}/database', 2000),
     'pages_behind_the_end': lambda node: appended(f'{node.data}/database', b'x' * PAGE),
     'the_oldest_file_pruned': lambda node: os.remove(node.log()[0]),

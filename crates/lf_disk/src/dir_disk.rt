@@ -22,7 +22,7 @@ use std::rt::Files;
 /// At this moment every changing call fails.
 const LAST_MOMENT: u64 = 1 << 62;
 
-/// The files `database`, `staged`, `snapshot.ltx`, `dropped` and `ltx/MIN-MAX.ltx` of a folder, where
+/// The files `database`, `snapshot.ltx`, `dropped`, `ltx/.staged` and `ltx/MIN-MAX.ltx` of a folder, where
 /// MIN and MAX have 16 digits in base 16. `database` and `staged` are opened at their first use and stay
 /// open until their name is given or taken away; each other file is opened by each call. After a name was
 /// made, given or taken away, the folder that has it is synced, but for the making of `staged`.

@@ -128,7 +128,7 @@ fn a_folder_with_others(rt: HostRuntime) {
     same(rt, disk.write(FileName::Dropped, 0, b""), Ok(()));
     list_only(&rt, &mut disk, FileName::Dropped);
 
-    fs::create_dir(&rt, "lf_disk_others/x/staged").expect(&rt, "a folder");
+    fs::create_dir(&rt, "lf_disk_others/x/ltx/.staged").expect(&rt, "a folder");
     same(rt, disk.write(STAGED, 0, b"s"), Err(Failed));
     assert!(&rt; DirDisk::open(rt, "lf_disk_others/x/other").is_err());
     fs::remove_dir_all(&rt, "lf_disk_others").expect(&rt, "a folder");

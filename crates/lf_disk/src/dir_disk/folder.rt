@@ -47,7 +47,7 @@ impl<R: Files<File = File> + AllocGlobal + Copy> Folder<R> {
     fn path_to(&self, name: FileName) -> Result<String, AllocError> {
         match name {
             FileName::Database => self.path_of("/database"),
-            FileName::Staged => self.path_of("/staged"),
+            FileName::Staged => self.path_of("/ltx/.staged"),
             FileName::Snapshot => self.path_of("/snapshot.ltx"),
             FileName::Dropped => self.path_of("/dropped"),
             FileName::Ltx { min, max } => {

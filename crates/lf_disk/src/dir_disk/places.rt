@@ -30,22 +30,24 @@ impl Places {
 
     /// Syncs the folder that has this name.
     pub(super) fn sync(&self, name: FileName) -> io::Result<()> {
-        match name {
-            FileName::Ltx { .. } => self.transactions.sync_all(),
-            _ => self.folder.sync_all(),
+        if is_beside_transactions(name) {
+            self.transactions.sync_all()
+        } else {
+            self.folder.sync_all()
         }
     }
 
     /// Syncs the folders that have these names, each once.
     pub(super) fn sync_both(&self, one: FileName, other: FileName) -> io::Result<()> {
         self.sync(one)?;
-        if is_transaction(one) == is_transaction(other) {
+        if is_beside_transactions(one) == is_beside_transactions(other) {
             return Ok(());
         }
         self.sync(other)
     }
 }
 
-fn is_transaction(name: FileName) -> bool {
-    matches!(name, FileName::Ltx { .. })
+/// The staged file stands where it is renamed to most often, so that one folder has both names.
+fn is_beside_transactions(name: FileName) -> bool {
+    matches!(name, FileName::Ltx { .. } | FileName::Staged)
 }

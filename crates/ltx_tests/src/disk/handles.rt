@@ -16,7 +16,7 @@ const FIRST_PATH: &str = "lf_disk_handles/ltx/0000000000000001-0000000000000001.
 
 const SECOND_PATH: &str = "lf_disk_handles/ltx/0000000000000002-0000000000000002.ltx";
 
-const STAGED_PATH: &str = "lf_disk_handles/staged";
+const STAGED_PATH: &str = "lf_disk_handles/ltx/.staged";
 
 const DATABASE_PATH: &str = "lf_disk_handles/database";
 
