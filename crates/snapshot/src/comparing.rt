@@ -15,6 +15,7 @@ use crate::reading::read_page;
 use lf_base::Failed;
 use lf_disk::Disk;
 use lf_sqlite_pages::{Change, lock_page};
+use std::alloc::Global;
 
 /// Whether page `n` of a database file has these bytes. It is read into `standing`.
 fn has_page<D: Disk>(
@@ -95,8 +96,18 @@ fn page_of(bytes: &[u8], size: u32, n: u32) -> &[u8]
     page
 }
 
+/// How many pages' room is asked for at once.
+const PAGES_AT_ONCE: u32 = 16;
+
+/// Makes the heap grow by room for many pages, which then take theirs of it without a call of the system: malloc lets the heap of
+/// a thread that is not the first one grow by no more than a page needs. Where there is no memory the pages say so.
+fn grow_heap(alloc: Global) {
+    let _ = Vec::<u8>::with_capacity(alloc, 1 << 16);
+}
+
 /// Adds each page of the bytes that the database file does not have at its place.
 pub fn push_all<D: Disk>(
+    alloc: Global,
     disk: &mut D,
     page_size: u32,
     commit: u32,
@@ -118,6 +129,9 @@ pub fn push_all<D: Disk>(
     let count = change.commit();
     let mut number = 0;
     while number < count {
+        if number % PAGES_AT_ONCE == 0 {
+            grow_heap(alloc);
+        }
         number += 1;
         if number != lock_page(size) {
             match push_changed(

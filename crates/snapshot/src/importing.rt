@@ -56,6 +56,7 @@ pub fn import_change<D: Disk>(
     };
     let mut change = Change::new(alloc, size, count);
     match push_all(
+        alloc,
         &mut store.disk,
         store.page_size,
         store.commit,
