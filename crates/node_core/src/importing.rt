@@ -22,10 +22,10 @@ use world_laws::moment_is_of_step;
 
 impl<D: Disk> Node<D> {
     /// Commits the change that an import is. Its files are then those of the new image.
-    fn commit_import(&mut self, change: &Change) -> Answer
+    fn commit_import(&mut self, change: Change) -> Answer
         requires primary { role_in (parts_of self.old) ≡ role.Primary }
         requires free { IsFree (parts_of self.old) }
-        ensures does { AnswersChange (history self.old) (parts_of self.old) change.now result (history self.new) (parts_of self.new) }
+        ensures does { AnswersChange (history self.old) (parts_of self.old) change result (history self.new) (parts_of self.new) }
         ensures safe { IsTrue (D.honest self.old.store.disk) → StepsSafely (seen (history self.old) (parts_of self.old)) laws.Import
             (law_answer result) (seen (history self.new) (parts_of self.new)) (history self.old) (history self.new) }
         ensures standing { self.new.standing ≡ self.old.standing }
@@ -57,7 +57,7 @@ impl<D: Disk> Node<D> {
     {
         match import_change(&mut self.store, bytes.as_slice()) {
             Ok(None) => Answer::Same(self.store.pos()),
-            Ok(Some(change)) => self.commit_import(&change),
+            Ok(Some(change)) => self.commit_import(change),
             Err(fault) => Answer::Refused(refusal_of_import(fault)),
         }
     }

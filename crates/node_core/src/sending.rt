@@ -32,14 +32,14 @@ use txn_log::{Store, StoreFault};
 fn file_to_send<D: Disk>(
     store: &Store<D>,
     alloc: Global,
-    change: &Change,
+    change: Change,
     stamp: u64,
     node: u64,
 ) -> Result<(Ltx, Bytes), StoreFault>
-    ensures drafts { IfOk result (λ sent. Drafts store.now.broken (position (fields_of store.now)) store.now.page_size store.now.commit store.now.sums.sums change.now stamp node (Ok sent.0)) }
+    ensures drafts { IfOk result (λ sent. Drafts store.now.broken (position (fields_of store.now)) store.now.page_size store.now.commit store.now.sums.sums change stamp node (Ok sent.0)) }
     ensures valid { IfOk result (λ sent. IsTransaction sent.0) }
     ensures encodes { IfOk result (λ sent. IsLtx sent.1 sent.0 × (file_in sent.1 ≡ sent.0)) }
-    ensures refuses { IfErr result (λ why. Drafts store.now.broken (position (fields_of store.now)) store.now.page_size store.now.commit store.now.sums.sums change.now stamp node (Err why)) }
+    ensures refuses { IfErr result (λ why. Drafts store.now.broken (position (fields_of store.now)) store.now.page_size store.now.commit store.now.sums.sums change stamp node (Err why)) }
 {
     file_is_read();
     let file = store.draft(change, stamp, node)?;
@@ -80,7 +80,7 @@ impl<D: Disk> Node<D> {
                 match file_to_send(
                     &self.store,
                     self.alloc,
-                    &change,
+                    change,
                     self.standing.moment,
                     self.config.node,
                 ) {

@@ -50,7 +50,7 @@ impl<D: Disk> Node<D> {
                 let kept = self.config.retention.max(1);
                 match self
                     .store
-                    .commit_and_prune(&change, self.standing.moment, self.config.node, kept)
+                    .commit_and_prune(change, self.standing.moment, self.config.node, kept)
                 {
                     Ok(position) => {
                         self.view.commit_done();

@@ -46,7 +46,7 @@ fn commit_next<D: Disk>(
         return Err(Fault::Record);
     }
     let change = Change::new(alloc, page_size, pages);
-    store.commit(&change, txid.saturating_mul(1_000), NODE)?;
+    store.commit(change, txid.saturating_mul(1_000), NODE)?;
     Ok(())
 }
 

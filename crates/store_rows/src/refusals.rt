@@ -94,7 +94,7 @@ fn commits(
         return None;
     }
     let change = Change::new(alloc, page_size, pages);
-    Some(store.commit(&change, 0, 0))
+    Some(store.commit(change, 0, 0))
 }
 
 fn print_commit(rt: HostRuntime, title: &str, store: &mut MemStore, pages: u32) -> io::Result<()> {

@@ -89,7 +89,7 @@ fn commits<D: Disk>(
         ..CHANGE
     };
     match file_of(alloc, &sample) {
-        Some(file) => outcome_of(store.commit(&file.change, 0, 0)),
+        Some(file) => outcome_of(store.commit(file.change, 0, 0)),
         None => Went::Refused,
     }
 }

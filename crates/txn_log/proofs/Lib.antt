@@ -16,6 +16,7 @@ pub mod Entries
 pub mod Fittings
 pub mod FromMoves
 pub mod FromMovesAnew
+pub mod Gatherings
 pub mod Givings
 pub mod Growths
 pub mod Installed
@@ -26,6 +27,7 @@ pub mod Modes
 pub mod Moves
 pub mod Naming
 pub mod Octets
+pub mod PageRuns
 pub mod PagesRead
 pub mod Places
 pub mod Placings

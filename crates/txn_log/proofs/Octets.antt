@@ -1,11 +1,11 @@
 -- The numbers in the encoding of a file that was taken in are bytes, so that it reads back.
-use Rattle.std.proofs.Common.{◌≡◌, inl, inr, ℕ, zero, suc, ◌+◌, ◌<◌, eqb, Option, Some, None, List, [], ◌∷◌, ◌++◌, length, get_or, replicate, refl, sym, ◌∙◌, ap, subst, arith, unwrap_or}
+use Rattle.std.proofs.Common.{◌≡◌, inl, inr, ℕ, zero, suc, ◌+◌, ◌<◌, eqb, Option, Some, None, List, [], ◌∷◌, ◌++◌, length, get_or, take, replicate, refl, sym, ◌∙◌, ap, subst, arith, unwrap_or}
 use Rattle.std.specs.Prelude.{◌/◌, ◌%◌}
 use Rattle.std.specs.Int.{w32, w64, to_be_bytes}
 use Rattle.std.specs.List.{All}
 use Rattle.std.proofs.lemmas.Bool.{cases_lt, cases_Bool}
 use Rattle.std.proofs.lemmas.List.{get_or-replicate, get_or_past, length-replicate}
-use Rattle.std.proofs.lemmas.List.Elements.{All-tail}
+use Rattle.std.proofs.lemmas.List.Elements.{All-more, All-tail}
 use Rattle.std.proofs.lemmas.List.FromFn.{get_or-map-range_with_len}
 use Rattle.lf_sqlite_pages.specs.LockPage.{IsDataPage}
 use Rattle.lf_sqlite_pages.specs.Change.{PageChange, written}
@@ -14,7 +14,7 @@ use Rattle.lf_sqlite_pages.specs.declared.page_write.PageWrite.{PageWrite}
 use Rattle.lf_sqlite_pages.proofs.Completing.{completed-lock_page, completed-within, completed-past}
 use Rattle.lf_sqlite_pages.proofs.Writes.{All-writes_of, option_cases}
 use Rattle.ltx_codec.specs.Fields.{AreBytes, stated_page_size}
-use Rattle.ltx_codec.specs.Format.{IsLtx, magic, no_meaning, header_encoding, pages_encoding, file_encoding, file_sum, summed_encoding}
+use Rattle.ltx_codec.specs.Format.{IsLtx, magic, no_meaning, header_encoding, pages_encoding, file_encoding, file_sum, summed_encoding, IsFile}
 use Rattle.ltx_codec.specs.Places.{write_in, number_place}
 use Rattle.ltx_codec.specs.declared.header.Header.{Header}
 use Rattle.ltx_codec.specs.declared.file.Ltx.{Ltx}
@@ -148,3 +148,14 @@ reads_back count encoding file octets is whole =
     All-writes_of (λ (w : PageWrite). AreBytes w.bytes) (completed_page file.change count) file.change.commit
     (λ n bytes first last some. whole_bytes file.change count n bytes (encoding_pages encoding file octets is) some) in
     file_read (file_encoding made no_meaning) made (file_bytes made all) (record { valid = whole; reserved = no_meaning; room = refl; encoding = refl })
+
+-- and so does the encoding of any file whose pages are bytes
+pub file_reads_back : (file : Ltx) → IsFile file → All (λ (w : PageWrite). AreBytes w.bytes) file.change.pages → file_of (file_encoding file no_meaning) ≡ file
+unfolding file_of
+file_reads_back file is all = file_read (file_encoding file no_meaning) file (file_bytes file all) (record { valid = is; reserved = no_meaning; room = refl; encoding = refl })
+
+-- one page more
+pub pages_bytes-next : (ws : List PageWrite) (i : ℕ) (w : PageWrite) (bytes : List ℕ) → i < length ws → w ≡ get_or ws i w → bytes ≡ w.bytes → AreBytes bytes
+    → All (λ (v : PageWrite). AreBytes v.bytes) (take i ws) → All (λ (v : PageWrite). AreBytes v.bytes) (take (i + 1) ws)
+pages_bytes-next ws i w bytes within read same octets so_far =
+    All-more (λ (v : PageWrite). AreBytes v.bytes) ws i w within so_far (subst (λ (v : PageWrite). AreBytes v.bytes) read (subst (λ (b : List ℕ). AreBytes b) same octets))

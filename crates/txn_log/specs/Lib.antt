@@ -22,6 +22,7 @@ pub mod LastFile
 pub mod Looking
 pub mod Modes
 pub mod Opening
+pub mod PageRun
 pub mod Pages
 pub mod Placing
 pub mod PlacingFrom

@@ -23,3 +23,10 @@ front_encoding header pages = header_encoding header no_meaning ++ pages_encodin
 pub record IsStaging (staging : Staging) (header : Header) (pages : List PageWrite) : Type 0 where
   pub written : HasWritten staging.register header pages (front_encoding header pages)
   pub len : staging.len ≡ length (front_encoding header pages)
+
+-- the front of an encoding is staged up to here, and the rest of it is gathered
+pub record HasGathered (before : Folder) (at : ℕ) (gathered encoding : List ℕ) (h : History) : Type 0 where
+  pub written : List ℕ
+  pub len : at ≡ length written
+  pub whole : written ++ gathered ≡ encoding
+  pub held : HoldsSoFar before written h

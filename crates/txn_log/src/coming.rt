@@ -57,7 +57,7 @@ fn ended_part(seen: Seen) -> Part
 }
 
 /// The numbers in a piece are bytes.
-fn are_bytes(piece: &[u8])
+pub fn are_bytes(piece: &[u8])
     ensures { AreBytes piece.now }
 {}
 

@@ -15,16 +15,16 @@ use lf_sqlite_pages::Change;
 impl<D: Disk> Store<D> {
     /// Commits a change as the next transaction, with one file. It is the file that `draft` of this
     /// change gives, and it refuses what `draft` refuses, and where the disk fails.
-    pub fn commit(&mut self, change: &Change, stamp: u64, node: u64) -> Result<Pos, StoreFault>
-        ensures commits { CommitsBy self.old change.now stamp node result }
+    pub fn commit(&mut self, change: Change, stamp: u64, node: u64) -> Result<Pos, StoreFault>
+        ensures commits { CommitsBy self.old change stamp node result }
         ensures cause { CallBreaks self.old result self.new }
-        ensures shape { OnOk result (HasShape self.new change.now.page_size change.now.commit) }
+        ensures shape { OnOk result (HasShape self.new change.page_size change.commit) }
         ensures position { IfOk result (λ told. end_of_entries self.new.entries.items ≡ told) }
         ensures same { OnErr result (HasSameFiles self.old self.new) }
 
         // What a crash leaves at each moment.
         ensures went { IsTrue (D.honest self.old.disk)
-            → CallWent self.old (Commit (drafted_by self.old change.now stamp node)) result self.new }
+            → CallWent self.old (Commit (drafted_by self.old change stamp node)) result self.new }
         ensures honest { D.honest self.new.disk ≡ D.honest self.old.disk }
     {
         match self.draft(change, stamp, node) {

@@ -5,7 +5,6 @@ ghost use Rattle.ltx_codec.specs.Format.{IsFile, FitsWidths};
 ghost use Rattle.txn_log.specs.Store.{end_of_entries};
 ghost use Rattle.txn_log.specs.Draft.{file_with, IsWithin, Drafts};
 
-use crate::copying::copy_of;
 use crate::fault::StoreFault;
 use crate::store::Store;
 use crate::sums::total_after;
@@ -17,8 +16,10 @@ use page_checksum::Sums;
 
 /// Whether there is a next number, and the database stays within its limit.
 fn is_within(position: Pos, change: &Change) -> bool
-    ensures { IsTrue result ↔ IsWithin position change.now }
+    ensures within { IsTrue result ↔ IsWithin position change.now }
+    ensures valid { IsChange change.now }
 {
+    let _pages = change.pages();
     position.txid < u64::MAX && is_within_limit(change.page_size(), change.commit())
 }
 
@@ -52,13 +53,13 @@ fn file_behind(position: Pos, sums: &Sums, change: Change, stamp: u64, node: u64
 
 impl<D: Disk> Store<D> {
     /// The file that `commit` of this change would publish, or why it would refuse: the change made
-    /// complete, the sums and the limits. The disk is not asked. `stamp` is in milliseconds since the
-    /// Unix epoch.
-    pub fn draft(&self, change: &Change, stamp: u64, node: u64) -> Result<Ltx, StoreFault>
+    /// complete in place, the sums and the limits. The disk is not asked. `stamp` is in milliseconds
+    /// since the Unix epoch.
+    pub fn draft(&self, change: Change, stamp: u64, node: u64) -> Result<Ltx, StoreFault>
         ensures drafts { Drafts self.now.broken (end_of_entries self.now.entries.items) self.now.page_size self.now.commit
-            self.now.sums.sums change.now stamp node result }
+            self.now.sums.sums change stamp node result }
         ensures valid { IfOk result IsFile }
-        ensures change { OnOk result (IsChange change.now) }
+        ensures change { OnOk result (IsChange change) }
     {
         if self.broken {
             return Err(StoreFault::Broken);
@@ -70,12 +71,10 @@ impl<D: Disk> Store<D> {
             });
         }
         let position = self.pos();
-        if !is_within(position, change) {
+        if !is_within(position, &change) {
             return Err(StoreFault::Limit);
         }
-        let Ok(mut complete) = copy_of(*self.entries.allocator(), change) else {
-            return Err(StoreFault::NoMemory);
-        };
+        let mut complete = change;
         match complete.complete(self.commit) {
             Ok(()) => Ok(file_behind(position, &self.sums, complete, stamp, node)),
             Err(_) => Err(StoreFault::NoMemory),

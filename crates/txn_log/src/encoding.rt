@@ -1,27 +1,26 @@
-ghost use Rattle.std.specs.Prelude.{◌≡◌, IfOk};
-ghost use Rattle.ltx_codec.specs.Format.{IsFile, IsLtx};
+//! The encoding of a file reads as that file.
+ghost use Rattle.std.specs.Prelude.{◌≡◌, All};
+ghost use Rattle.ltx_codec.specs.Fields.{AreBytes};
+ghost use Rattle.ltx_codec.specs.Format.{IsFile, file_encoding, no_meaning};
 ghost use Rattle.txn_log.specs.Kept.{file_of};
 
-use lf_base::NoMemory;
-use ltx_codec::{Ltx, encode, file_is_read};
-use std::alloc::Global;
+use crate::coming::are_bytes;
+use lf_sqlite_pages::Change;
+use ltx_codec::Ltx;
 
-/// The encoding of a file.
-pub fn encoding_of(alloc: Global, file: &Ltx) -> Result<Vec<u8>, NoMemory>
-    requires { IsFile file.now }
-    ensures encoding { IfOk result (λ encoding. IsLtx encoding.items file.now) }
-    ensures read { IfOk result (λ encoding. file_of encoding.items ≡ file.now) }
+/// The pages of a change are bytes.
+fn pages_are_bytes(change: &Change)
+    ensures { All (λ w. AreBytes w.bytes) change.now.pages }
 {
-    let mut encoding = Vec::new(alloc);
-    encode(file, &mut encoding)?;
-    reads_back(encoding.as_slice(), file);
-    Ok(encoding)
+    for page in change.pages() {
+        are_bytes(page.bytes.as_slice());
+    }
 }
 
-/// An encoding of a file reads as that file.
-fn reads_back(encoding: &[u8], file: &Ltx)
-    requires { IsLtx encoding.now file.now }
-    ensures { file_of encoding.now ≡ file.now }
+/// The encoding of a file, as it is written, reads as that file.
+pub fn file_reads_back(file: &Ltx)
+    requires { IsFile file.now }
+    ensures { file_of (file_encoding file.now no_meaning) ≡ file.now }
 {
-    file_is_read();
+    pages_are_bytes(&file.change);
 }

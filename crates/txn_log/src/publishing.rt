@@ -8,7 +8,7 @@ ghost use Rattle.txn_log.specs.Publishing.{Publishes, call_of, CanTake, IsSummed
 ghost use Rattle.txn_log.specs.Store.{end_of_entries, entry_of as entry};
 
 use crate::attempt::Attempt;
-use crate::encoding::encoding_of;
+use crate::encoding::file_reads_back;
 use crate::entry::Entry;
 use crate::fault::StoreFault;
 use crate::mode::wal_after;
@@ -53,9 +53,7 @@ pub fn publish<D: Disk>(
     ensures cause { CallBreaks store.old result store.new }
     ensures honest { D.honest store.new.disk ≡ D.honest store.old.disk }
 {
-    let Ok(encoding) = encoding_of(*store.entries.allocator(), file) else {
-        return Err(StoreFault::NoMemory);
-    };
+    file_reads_back(file);
     if store.entries.reserve(1).is_err() {
         return Err(StoreFault::NoMemory);
     }
@@ -65,14 +63,8 @@ pub fn publish<D: Disk>(
         Err(_) => return Err(StoreFault::NoMemory),
     }
     store.whole = store.disk.moment();
-    match place(
-        &mut store.disk,
-        store.dropped,
-        encoding.as_slice(),
-        file.header.min,
-        file.header.max,
-        &file.change,
-    ) {
+    let alloc = *store.entries.allocator();
+    match place(alloc, &mut store.disk, store.dropped, file) {
         Placed::Whole => {
             store.page_size = file.header.page_size;
             store.commit = file.header.commit;

@@ -8,7 +8,7 @@ ghost use Rattle.txn_log.specs.Fields.{CallBreaks, CallWent, HasSameFiles, HasSh
 ghost use Rattle.txn_log.specs.Store.{end_of_entries};
 
 use crate::attempt::Attempt;
-use crate::encoding::encoding_of;
+use crate::encoding::file_reads_back;
 use crate::fault::StoreFault;
 use crate::mode::wal_after;
 use crate::placed::Placed;
@@ -34,9 +34,7 @@ pub fn publish_anew<D: Disk>(store: &mut Store<D>, file: &Ltx) -> Result<Pos, St
     ensures cause { CallBreaks store.old result store.new }
     ensures honest { D.honest store.new.disk ≡ D.honest store.old.disk }
 {
-    let Ok(encoding) = encoding_of(*store.entries.allocator(), file) else {
-        return Err(StoreFault::NoMemory);
-    };
+    file_reads_back(file);
     if store.entries.reserve(1).is_err() {
         return Err(StoreFault::NoMemory);
     }
@@ -46,14 +44,8 @@ pub fn publish_anew<D: Disk>(store: &mut Store<D>, file: &Ltx) -> Result<Pos, St
         Err(_) => return Err(StoreFault::NoMemory),
     }
     store.whole = store.disk.moment();
-    match place_anew(
-        &mut store.disk,
-        store.entries.as_slice(),
-        encoding.as_slice(),
-        file.header.min,
-        file.header.max,
-        &file.change,
-    ) {
+    let alloc = *store.entries.allocator();
+    match place_anew(alloc, &mut store.disk, store.entries.as_slice(), file) {
         Placed::Whole => {
             store.page_size = file.header.page_size;
             store.commit = file.header.commit;

@@ -11,9 +11,16 @@ use crate::rewriting::rewrite;
 use lf_base::Failed;
 use lf_disk::{Disk, FileName, put_in_place};
 use lf_sqlite_pages::Change;
+use std::alloc::Global;
 
 /// Gives the staged file its name in the log, and then writes its change over the database file.
-pub fn put<D: Disk>(disk: &mut D, min: u64, max: u64, change: &Change) -> Result<(), Failed>
+pub fn put<D: Disk>(
+    alloc: Global,
+    disk: &mut D,
+    min: u64,
+    max: u64,
+    change: &Change,
+) -> Result<(), Failed>
     requires settled { IsTrue (D.honest disk.old) → IsSettled (D.history disk.old) }
     requires there { IsTrue (D.honest disk.old) → IsSome (now (D.history disk.old) FileName.Staged) }
     ensures moments { IsTrue (D.honest disk.old) → (image : DatabaseImage) (files : List LogFile) (encoding : List ℕ)
@@ -27,6 +34,6 @@ pub fn put<D: Disk>(disk: &mut D, min: u64, max: u64, change: &Change) -> Result
     ensures cause { CountsFaults (D.faults disk.old) (D.faults disk.new) result }
 {
     put_in_place(disk, FileName::Ltx { min, max })?;
-    rewrite(disk, change)?;
+    rewrite(alloc, disk, change)?;
     Ok(())
 }

@@ -13,10 +13,12 @@ use crate::settling::settle;
 use lf_base::Failed;
 use lf_disk::{Disk, FileName, put_in_place};
 use lf_sqlite_pages::Change;
+use std::alloc::Global;
 
 /// Publishes the staged file as a snapshot in place of the transaction files of these entries, and
 /// does the rest of an install.
 pub fn put_anew<D: Disk>(
+    alloc: Global,
     disk: &mut D,
     entries: &[Entry],
     min: u64,
@@ -36,6 +38,6 @@ pub fn put_anew<D: Disk>(
     ensures cause { CountsFaults (D.faults disk.old) (D.faults disk.new) result }
 {
     put_in_place(disk, FileName::Snapshot)?;
-    settle(disk, entries, min, max, change)?;
+    settle(alloc, disk, entries, min, max, change)?;
     Ok(())
 }

@@ -10,9 +10,10 @@ use crate::writing::write_pages;
 use lf_base::Failed;
 use lf_disk::{Disk, FileName};
 use lf_sqlite_pages::Change;
+use std::alloc::Global;
 
 /// Writes the pages of a change over the database file, gives it the change's size, and syncs it.
-pub fn rewrite<D: Disk>(disk: &mut D, change: &Change) -> Result<(), Failed>
+pub fn rewrite<D: Disk>(alloc: Global, disk: &mut D, change: &Change) -> Result<(), Failed>
     requires { IsTrue (D.honest disk.old) → IsSettledBut FileName.Staged (D.history disk.old) }
     ensures valid { IsChange change.now }
     ensures moments { IsTrue (D.honest disk.old)
@@ -22,7 +23,7 @@ pub fn rewrite<D: Disk>(disk: &mut D, change: &Change) -> Result<(), Failed>
     ensures honest { D.honest disk.new ≡ D.honest disk.old }
     ensures cause { CountsFaults (D.faults disk.old) (D.faults disk.new) result }
 {
-    write_pages(disk, change)?;
+    write_pages(alloc, disk, change)?;
     let len = u64::from(change.commit()) * u64::from(change.page_size());
     fit(disk, len)?;
     disk.sync(FileName::Database)?;

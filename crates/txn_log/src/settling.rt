@@ -27,6 +27,7 @@ pub fn no_pages(alloc: Global) -> Change
 /// the transaction files of these entries, writes the snapshot's change over the database file, and
 /// gives the snapshot its name in the log.
 pub fn settle<D: Disk>(
+    alloc: Global,
     disk: &mut D,
     entries: &[Entry],
     min: u64,
@@ -46,7 +47,7 @@ pub fn settle<D: Disk>(
 {
     disk.remove(FileName::Dropped)?;
     clear(disk, entries)?;
-    rewrite(disk, change)?;
+    rewrite(alloc, disk, change)?;
     disk.rename(FileName::Snapshot, FileName::Ltx { min, max })?;
     Ok(())
 }
@@ -65,6 +66,6 @@ pub fn empty<D: Disk>(alloc: Global, disk: &mut D, entries: &[Entry]) -> Result<
 {
     clear(disk, entries)?;
     let nothing = no_pages(alloc);
-    rewrite(disk, &nothing)?;
+    rewrite(alloc, disk, &nothing)?;
     Ok(())
 }

@@ -27,7 +27,7 @@ pub struct Staging {
 }
 
 /// Cuts off what was left in the staged file before.
-fn clear<D: Disk>(disk: &mut D) -> Result<(), Failed>
+pub fn clear<D: Disk>(disk: &mut D) -> Result<(), Failed>
     requires { IsTrue (D.honest disk.old) → IsSettledBut Name.Staged (D.history disk.old) }
     ensures moments { IsTrue (D.honest disk.old)
         → EachMoment (D.history disk.old) (D.history disk.new) (SameBut Name.Staged (now (D.history disk.old))) }

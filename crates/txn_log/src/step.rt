@@ -15,21 +15,21 @@ impl<D: Disk> Store<D> {
     /// where the prune failed.
     pub fn commit_and_prune(
         &mut self,
-        change: &Change,
+        change: Change,
         stamp: u64,
         node: u64,
         keep: u64,
     ) -> Result<Pos, StoreFault>
         requires { 1 ≤ keep }
-        ensures commits { CommitsBy self.old change.now stamp node result }
+        ensures commits { CommitsBy self.old change stamp node result }
         ensures cause { CallBreaksPruned self.old result self.new }
-        ensures shape { OnOk result (HasShape self.new change.now.page_size change.now.commit) }
+        ensures shape { OnOk result (HasShape self.new change.page_size change.commit) }
         ensures position { IfOk result (λ told. end_of_entries self.new.entries.items ≡ told) }
         ensures same { OnErr result (HasSameFiles self.old self.new) }
 
         // What a crash leaves at each moment.
         ensures went { IsTrue (D.honest self.old.disk) → CallWentPruned
-            self.old (Commit (drafted_by self.old change.now stamp node)) keep result self.new }
+            self.old (Commit (drafted_by self.old change stamp node)) keep result self.new }
         ensures honest { D.honest self.new.disk ≡ D.honest self.old.disk }
     {
         match self.commit(change, stamp, node) {

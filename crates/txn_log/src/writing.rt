@@ -7,12 +7,14 @@ ghost use Rattle.lf_disk.specs.Stretch.{Stretch};
 ghost use Rattle.lf_sqlite_pages.specs.Change.{IsChange};
 ghost use Rattle.txn_log.specs.Pages.{Wears, Patches};
 
+use crate::page_run::{begin_run, put_page, write_run};
 use lf_base::Failed;
-use lf_disk::{Disk, FileName};
+use lf_disk::Disk;
 use lf_sqlite_pages::Change;
+use std::alloc::Global;
 
-/// Writes the pages of a change to their places.
-pub fn write_pages<D: Disk>(disk: &mut D, change: &Change) -> Result<(), Failed>
+/// Writes the pages of a change to their places. Pages that stand side by side are written by one call.
+pub fn write_pages<D: Disk>(alloc: Global, disk: &mut D, change: &Change) -> Result<(), Failed>
     ensures valid { IsChange change.now }
     ensures moments { IsTrue (D.honest disk.old)
         → Stretch (OnFile FileName.Database (Wears change.now)) (D.history disk.old) (D.history disk.new) }
@@ -22,9 +24,12 @@ pub fn write_pages<D: Disk>(disk: &mut D, change: &Change) -> Result<(), Failed>
     ensures cause { CountsFaults (D.faults disk.old) (D.faults disk.new) result }
 {
     let size = u64::from(change.page_size());
+    let _commit = change.commit();
+    let mut run = begin_run(alloc);
     for page in change.pages() {
         let at = u64::from(page.number - 1) * size;
-        disk.write(FileName::Database, at, page.bytes.as_slice())?;
+        put_page(disk, &mut run, at, page.bytes.as_slice())?;
     }
+    write_run(disk, &mut run)?;
     Ok(())
 }

@@ -1,6 +1,6 @@
-use Rattle.std.proofs.Common.{◌≡◌, ◌∙◌, ℕ, List, Bool, true, false, Some, inl, inr, sym, ap, subst, arith}
+use Rattle.std.proofs.Common.{◌≡◌, ◌∙◌, ℕ, List, Bool, true, false, Some, inl, inr, refl, sym, ap, subst, arith}
 use Rattle.lf_disk.specs.History.{now}
-use Rattle.ltx_codec.specs.Format.{IsLtx}
+use Rattle.ltx_codec.specs.Format.{IsLtx, file_encoding, no_meaning}
 use Rattle.txn_log.specs.Kept.{file_of}
 use Rattle.txn_log.specs.Publishing.{CanTake}
 use Rattle.lf_sqlite_pages.specs.Header.{image_is_wal}
@@ -14,9 +14,6 @@ use Rattle.txn_log.proofs.Entries.{end-push}
 use Rattle.txn_log.proofs.Modes.{mode_after}
 use Rattle.txn_log.proofs.Stores.{broken, mode_before}
 use Rattle.txn_log.proofs.publishing.publish.Goals as goal
-
-pub returns-in_default-clause-went : goal.returns-in_default-clause-went
-returns-in_default-clause-went g c honest = moved-none _ _ _ (c.args.store.now.left honest)
 
 pub invariant_of-store-clause-shaped : goal.invariant_of-store-clause-shaped
 invariant_of-store-clause-shaped g c = rw (c.reserve.ensures.items) c.args.store.now.shaped
@@ -56,8 +53,8 @@ invariant_of-store-in-Err-clause-mode g c = c.args.store.now.mode
 pub returns-in-Err-clause-went : goal.returns-in-Err-clause-went
 returns-in-Err-clause-went g c honest = rw (c.reserve.ensures.items) (moved-none _ _ _ (c.args.store.now.left honest))
 
-pub place-requires : goal.place-requires
-place-requires g c honest =
+pub place-requires-clause-settled : goal.place-requires-clause-settled
+place-requires-clause-settled g c honest =
     let s = c.args.store.now in
     let h = g.D.Disk.history s.disk in
     (subst (λ (b : Bool). IsStore h s.page_size s.commit s.entries.items s.dropped s.sums.sums b s.whole s.tried) c.requires.open_ (s.kept honest)).rest.settled
@@ -68,7 +65,7 @@ invariant_of-store-in-Whole g c = record {
   shaped =
       let s = c.args.store.now in
       let file = c.args.file.now in
-      rw (c.push_reserved.ensures.items, c.entry_of.ensures, c.reserve.ensures.items, c.update.ensures, c.in-Ok-reserve.ensures.ok)
+      rw (c.push_reserved.ensures.items, c.entry_of.ensures, c.reserve.ensures.items, c.update.ensures, c.in-Ok.ensures.ok)
       (shaped-after s.commit s.entries.items s.sums.sums file (sym c.requires.valid.block.commit) c.requires.valid.header.widths.commit
       (omega (arith, c.requires.valid.header.min, c.requires.valid.header.max)) c.requires.sum);
   kept = λ still.
@@ -77,28 +74,28 @@ invariant_of-store-in-Whole g c = record {
       let h = g.D.Disk.history s.disk in
       let new = g.D.Disk.history c.place.new.disk in
       let file = c.args.file.now in
-      let encoding : List ℕ = c.as_slice.result.now in
+      let encoding : List ℕ = file_encoding file no_meaning in
       let kept : IsStore h s.page_size s.commit s.entries.items s.dropped s.sums.sums false s.whole s.tried =
       subst (λ (b : Bool). IsStore h s.page_size s.commit s.entries.items s.dropped s.sums.sums b s.whole s.tried) c.requires.open_ (s.kept honest) in
       let can : CanTake (state_in s.page_size s.commit s.entries.items s.dropped (now h)) file =
       subst (λ (b : Bool). CanTake (state_of h s.page_size s.commit s.entries.items s.dropped b s.whole) file) c.requires.open_ (c.requires.can honest) in
-      let is : IsLtx encoding file = subst (λ (t : List ℕ). IsLtx t file) (sym c.as_slice.ensures.value) c.in-Ok.ensures.encoding in
-      let read : file_of encoding ≡ file = ap file_of c.as_slice.ensures.value ∙ c.in-Ok.ensures.read in
+      let is : IsLtx encoding file = record { valid = c.requires.valid; reserved = no_meaning; room = refl; encoding = refl } in
+      let read : file_of encoding ≡ file = c.file_reads_back.ensures in
       let places = c.in-Whole.ensures.places honest (image h s.page_size s.commit s.entries.items s.dropped s.sums.sums s.whole s.tried s.shaped kept) (files h s.page_size s.commit s.entries.items s.dropped s.sums.sums s.whole s.tried s.shaped kept) (over h s.page_size s.commit s.entries.items s.dropped s.sums.sums s.whole s.tried s.shaped kept c.args.attempt file encoding c.requires.publishes can is read) in
-      rw (c.push_reserved.ensures.items, c.entry_of.ensures, c.reserve.ensures.items, c.update.ensures, c.in-Ok-reserve.ensures.ok, c.requires.open_) (stands h s.page_size s.commit s.entries.items s.dropped s.sums.sums s.whole s.tried s.shaped kept c.args.attempt file encoding c.requires.publishes can is read new places.0 places.1 c.moment-store.result s.tried);
+      rw (c.push_reserved.ensures.items, c.entry_of.ensures, c.reserve.ensures.items, c.update.ensures, c.in-Ok.ensures.ok, c.requires.open_) (stands h s.page_size s.commit s.entries.items s.dropped s.sums.sums s.whole s.tried s.shaped kept c.args.attempt file encoding c.requires.publishes can is read new places.0 places.1 c.moment-store.result s.tried);
   left = λ still.
       let honest = sym c.place.ensures.honest ∙ still in
       let s = c.args.store.now in
       let h = g.D.Disk.history s.disk in
       let new = g.D.Disk.history c.place.new.disk in
       let file = c.args.file.now in
-      let encoding : List ℕ = c.as_slice.result.now in
+      let encoding : List ℕ = file_encoding file no_meaning in
       let kept : IsStore h s.page_size s.commit s.entries.items s.dropped s.sums.sums false s.whole s.tried =
       subst (λ (b : Bool). IsStore h s.page_size s.commit s.entries.items s.dropped s.sums.sums b s.whole s.tried) c.requires.open_ (s.kept honest) in
       let can : CanTake (state_in s.page_size s.commit s.entries.items s.dropped (now h)) file =
       subst (λ (b : Bool). CanTake (state_of h s.page_size s.commit s.entries.items s.dropped b s.whole) file) c.requires.open_ (c.requires.can honest) in
-      let is : IsLtx encoding file = subst (λ (t : List ℕ). IsLtx t file) (sym c.as_slice.ensures.value) c.in-Ok.ensures.encoding in
-      let read : file_of encoding ≡ file = ap file_of c.as_slice.ensures.value ∙ c.in-Ok.ensures.read in
+      let is : IsLtx encoding file = record { valid = c.requires.valid; reserved = no_meaning; room = refl; encoding = refl } in
+      let read : file_of encoding ≡ file = c.file_reads_back.ensures in
       let places = c.in-Whole.ensures.places honest (image h s.page_size s.commit s.entries.items s.dropped s.sums.sums s.whole s.tried s.shaped kept) (files h s.page_size s.commit s.entries.items s.dropped s.sums.sums s.whole s.tried s.shaped kept) (over h s.page_size s.commit s.entries.items s.dropped s.sums.sums s.whole s.tried s.shaped kept c.args.attempt file encoding c.requires.publishes can is read) in
       rw (c.push_reserved.ensures.items, c.entry_of.ensures, c.reserve.ensures.items, c.requires.open_) (left_done h s.page_size s.commit s.entries.items s.dropped s.sums.sums s.whole s.tried s.shaped kept c.args.attempt file encoding c.requires.publishes can is read new places.0 places.1);
   mode = λ still.
@@ -107,13 +104,13 @@ invariant_of-store-in-Whole g c = record {
       let h = g.D.Disk.history s.disk in
       let new = g.D.Disk.history c.place.new.disk in
       let file = c.args.file.now in
-      let encoding : List ℕ = c.as_slice.result.now in
+      let encoding : List ℕ = file_encoding file no_meaning in
       let kept : IsStore h s.page_size s.commit s.entries.items s.dropped s.sums.sums false s.whole s.tried =
       subst (λ (b : Bool). IsStore h s.page_size s.commit s.entries.items s.dropped s.sums.sums b s.whole s.tried) c.requires.open_ (s.kept honest) in
       let can : CanTake (state_in s.page_size s.commit s.entries.items s.dropped (now h)) file =
       subst (λ (b : Bool). CanTake (state_of h s.page_size s.commit s.entries.items s.dropped b s.whole) file) c.requires.open_ (c.requires.can honest) in
-      let is : IsLtx encoding file = subst (λ (t : List ℕ). IsLtx t file) (sym c.as_slice.ensures.value) c.in-Ok.ensures.encoding in
-      let read : file_of encoding ≡ file = ap file_of c.as_slice.ensures.value ∙ c.in-Ok.ensures.read in
+      let is : IsLtx encoding file = record { valid = c.requires.valid; reserved = no_meaning; room = refl; encoding = refl } in
+      let read : file_of encoding ≡ file = c.file_reads_back.ensures in
       let places = c.in-Whole.ensures.places honest (image h s.page_size s.commit s.entries.items s.dropped s.sums.sums s.whole s.tried s.shaped kept) (files h s.page_size s.commit s.entries.items s.dropped s.sums.sums s.whole s.tried s.shaped kept) (over h s.page_size s.commit s.entries.items s.dropped s.sums.sums s.whole s.tried s.shaped kept c.args.attempt file encoding c.requires.publishes can is read) in
       let mode : s.wal ≡ image_is_wal (image_in s.page_size s.commit (now h)) =
       subst (λ (b : Bool). s.wal ≡ image_is_wal (state_of h s.page_size s.commit s.entries.items s.dropped b s.whole).image) c.requires.open_ (s.mode honest) in
@@ -128,35 +125,35 @@ returns-in-Whole-clause-went g c honest =
     let h = g.D.Disk.history s.disk in
     let new = g.D.Disk.history c.place.new.disk in
     let file = c.args.file.now in
-    let encoding : List ℕ = c.as_slice.result.now in
+    let encoding : List ℕ = file_encoding file no_meaning in
     let kept : IsStore h s.page_size s.commit s.entries.items s.dropped s.sums.sums false s.whole s.tried =
     subst (λ (b : Bool). IsStore h s.page_size s.commit s.entries.items s.dropped s.sums.sums b s.whole s.tried) c.requires.open_ (s.kept honest) in
     let can : CanTake (state_in s.page_size s.commit s.entries.items s.dropped (now h)) file =
     subst (λ (b : Bool). CanTake (state_of h s.page_size s.commit s.entries.items s.dropped b s.whole) file) c.requires.open_ (c.requires.can honest) in
-    let is : IsLtx encoding file = subst (λ (t : List ℕ). IsLtx t file) (sym c.as_slice.ensures.value) c.in-Ok.ensures.encoding in
-    let read : file_of encoding ≡ file = ap file_of c.as_slice.ensures.value ∙ c.in-Ok.ensures.read in
+    let is : IsLtx encoding file = record { valid = c.requires.valid; reserved = no_meaning; room = refl; encoding = refl } in
+    let read : file_of encoding ≡ file = c.file_reads_back.ensures in
     let places = c.in-Whole.ensures.places honest (image h s.page_size s.commit s.entries.items s.dropped s.sums.sums s.whole s.tried s.shaped kept) (files h s.page_size s.commit s.entries.items s.dropped s.sums.sums s.whole s.tried s.shaped kept) (over h s.page_size s.commit s.entries.items s.dropped s.sums.sums s.whole s.tried s.shaped kept c.args.attempt file encoding c.requires.publishes can is read) in
     rw (c.push_reserved.ensures.items, c.entry_of.ensures, c.reserve.ensures.items, c.requires.open_) (went_done h s.page_size s.commit s.entries.items s.dropped s.sums.sums s.whole s.tried s.shaped kept c.args.attempt file encoding c.requires.publishes can is read new places.0 places.1)
 
 pub invariant_of-store-in-Unpublished : goal.invariant_of-store-in-Unpublished
 invariant_of-store-in-Unpublished g c = record {
   sized = c.args.store.now.sized;
-  shaped = rw (c.reserve.ensures.items, c.in-Ok-reserve.ensures.ok) c.args.store.now.shaped;
+  shaped = rw (c.reserve.ensures.items, c.in-Ok.ensures.ok) c.args.store.now.shaped;
   kept = λ still.
       let honest = sym c.place.ensures.honest ∙ still in
       let s = c.args.store.now in
       let h = g.D.Disk.history s.disk in
       let new = g.D.Disk.history c.place.new.disk in
       let file = c.args.file.now in
-      let encoding : List ℕ = c.as_slice.result.now in
+      let encoding : List ℕ = file_encoding file no_meaning in
       let kept : IsStore h s.page_size s.commit s.entries.items s.dropped s.sums.sums false s.whole s.tried =
       subst (λ (b : Bool). IsStore h s.page_size s.commit s.entries.items s.dropped s.sums.sums b s.whole s.tried) c.requires.open_ (s.kept honest) in
       let can : CanTake (state_in s.page_size s.commit s.entries.items s.dropped (now h)) file =
       subst (λ (b : Bool). CanTake (state_of h s.page_size s.commit s.entries.items s.dropped b s.whole) file) c.requires.open_ (c.requires.can honest) in
-      let is : IsLtx encoding file = subst (λ (t : List ℕ). IsLtx t file) (sym c.as_slice.ensures.value) c.in-Ok.ensures.encoding in
-      let read : file_of encoding ≡ file = ap file_of c.as_slice.ensures.value ∙ c.in-Ok.ensures.read in
+      let is : IsLtx encoding file = record { valid = c.requires.valid; reserved = no_meaning; room = refl; encoding = refl } in
+      let read : file_of encoding ≡ file = c.file_reads_back.ensures in
       let places = c.in-Unpublished.ensures.places honest (image h s.page_size s.commit s.entries.items s.dropped s.sums.sums s.whole s.tried s.shaped kept) (files h s.page_size s.commit s.entries.items s.dropped s.sums.sums s.whole s.tried s.shaped kept) (over h s.page_size s.commit s.entries.items s.dropped s.sums.sums s.whole s.tried s.shaped kept c.args.attempt file encoding c.requires.publishes can is read) in
-      rw (c.reserve.ensures.items, c.in-Ok-reserve.ensures.ok, c.moment-store.ensures)
+      rw (c.reserve.ensures.items, c.in-Ok.ensures.ok, c.moment-store.ensures)
       (broken s.page_size s.commit s.entries.items s.dropped s.sums.sums h new places.past s.whole s.tried h.moment places.later places.later kept);
   left = λ still.
       let honest = sym c.place.ensures.honest ∙ still in
@@ -164,13 +161,13 @@ invariant_of-store-in-Unpublished g c = record {
       let h = g.D.Disk.history s.disk in
       let new = g.D.Disk.history c.place.new.disk in
       let file = c.args.file.now in
-      let encoding : List ℕ = c.as_slice.result.now in
+      let encoding : List ℕ = file_encoding file no_meaning in
       let kept : IsStore h s.page_size s.commit s.entries.items s.dropped s.sums.sums false s.whole s.tried =
       subst (λ (b : Bool). IsStore h s.page_size s.commit s.entries.items s.dropped s.sums.sums b s.whole s.tried) c.requires.open_ (s.kept honest) in
       let can : CanTake (state_in s.page_size s.commit s.entries.items s.dropped (now h)) file =
       subst (λ (b : Bool). CanTake (state_of h s.page_size s.commit s.entries.items s.dropped b s.whole) file) c.requires.open_ (c.requires.can honest) in
-      let is : IsLtx encoding file = subst (λ (t : List ℕ). IsLtx t file) (sym c.as_slice.ensures.value) c.in-Ok.ensures.encoding in
-      let read : file_of encoding ≡ file = ap file_of c.as_slice.ensures.value ∙ c.in-Ok.ensures.read in
+      let is : IsLtx encoding file = record { valid = c.requires.valid; reserved = no_meaning; room = refl; encoding = refl } in
+      let read : file_of encoding ≡ file = c.file_reads_back.ensures in
       let places = c.in-Unpublished.ensures.places honest (image h s.page_size s.commit s.entries.items s.dropped s.sums.sums s.whole s.tried s.shaped kept) (files h s.page_size s.commit s.entries.items s.dropped s.sums.sums s.whole s.tried s.shaped kept) (over h s.page_size s.commit s.entries.items s.dropped s.sums.sums s.whole s.tried s.shaped kept c.args.attempt file encoding c.requires.publishes can is read) in
       rw (c.reserve.ensures.items, c.moment-store.ensures) (left_before h s.page_size s.commit s.entries.items s.dropped s.sums.sums s.whole s.tried s.shaped kept new places);
   mode = λ still.
@@ -179,13 +176,13 @@ invariant_of-store-in-Unpublished g c = record {
       let h = g.D.Disk.history s.disk in
       let new = g.D.Disk.history c.place.new.disk in
       let file = c.args.file.now in
-      let encoding : List ℕ = c.as_slice.result.now in
+      let encoding : List ℕ = file_encoding file no_meaning in
       let kept : IsStore h s.page_size s.commit s.entries.items s.dropped s.sums.sums false s.whole s.tried =
       subst (λ (b : Bool). IsStore h s.page_size s.commit s.entries.items s.dropped s.sums.sums b s.whole s.tried) c.requires.open_ (s.kept honest) in
       let can : CanTake (state_in s.page_size s.commit s.entries.items s.dropped (now h)) file =
       subst (λ (b : Bool). CanTake (state_of h s.page_size s.commit s.entries.items s.dropped b s.whole) file) c.requires.open_ (c.requires.can honest) in
-      let is : IsLtx encoding file = subst (λ (t : List ℕ). IsLtx t file) (sym c.as_slice.ensures.value) c.in-Ok.ensures.encoding in
-      let read : file_of encoding ≡ file = ap file_of c.as_slice.ensures.value ∙ c.in-Ok.ensures.read in
+      let is : IsLtx encoding file = record { valid = c.requires.valid; reserved = no_meaning; room = refl; encoding = refl } in
+      let read : file_of encoding ≡ file = c.file_reads_back.ensures in
       let places = c.in-Unpublished.ensures.places honest (image h s.page_size s.commit s.entries.items s.dropped s.sums.sums s.whole s.tried s.shaped kept) (files h s.page_size s.commit s.entries.items s.dropped s.sums.sums s.whole s.tried s.shaped kept) (over h s.page_size s.commit s.entries.items s.dropped s.sums.sums s.whole s.tried s.shaped kept c.args.attempt file encoding c.requires.publishes can is read) in
       let mode : s.wal ≡ image_is_wal (image_in s.page_size s.commit (now h)) =
       subst (λ (b : Bool). s.wal ≡ image_is_wal (state_of h s.page_size s.commit s.entries.items s.dropped b s.whole).image) c.requires.open_ (s.mode honest) in
@@ -198,35 +195,35 @@ returns-in-Unpublished-clause-went g c honest =
     let h = g.D.Disk.history s.disk in
     let new = g.D.Disk.history c.place.new.disk in
     let file = c.args.file.now in
-    let encoding : List ℕ = c.as_slice.result.now in
+    let encoding : List ℕ = file_encoding file no_meaning in
     let kept : IsStore h s.page_size s.commit s.entries.items s.dropped s.sums.sums false s.whole s.tried =
     subst (λ (b : Bool). IsStore h s.page_size s.commit s.entries.items s.dropped s.sums.sums b s.whole s.tried) c.requires.open_ (s.kept honest) in
     let can : CanTake (state_in s.page_size s.commit s.entries.items s.dropped (now h)) file =
     subst (λ (b : Bool). CanTake (state_of h s.page_size s.commit s.entries.items s.dropped b s.whole) file) c.requires.open_ (c.requires.can honest) in
-    let is : IsLtx encoding file = subst (λ (t : List ℕ). IsLtx t file) (sym c.as_slice.ensures.value) c.in-Ok.ensures.encoding in
-    let read : file_of encoding ≡ file = ap file_of c.as_slice.ensures.value ∙ c.in-Ok.ensures.read in
+    let is : IsLtx encoding file = record { valid = c.requires.valid; reserved = no_meaning; room = refl; encoding = refl } in
+    let read : file_of encoding ≡ file = c.file_reads_back.ensures in
     let places = c.in-Unpublished.ensures.places honest (image h s.page_size s.commit s.entries.items s.dropped s.sums.sums s.whole s.tried s.shaped kept) (files h s.page_size s.commit s.entries.items s.dropped s.sums.sums s.whole s.tried s.shaped kept) (over h s.page_size s.commit s.entries.items s.dropped s.sums.sums s.whole s.tried s.shaped kept c.args.attempt file encoding c.requires.publishes can is read) in
     rw (c.reserve.ensures.items, c.moment-store.ensures, c.requires.open_) (inl (went_before h s.page_size s.commit s.entries.items s.dropped s.sums.sums s.whole s.tried s.shaped kept new places))
 
 pub invariant_of-store-in-From : goal.invariant_of-store-in-From
 invariant_of-store-in-From g c = record {
   sized = c.args.store.now.sized;
-  shaped = rw (c.reserve.ensures.items, c.in-Ok-reserve.ensures.ok) c.args.store.now.shaped;
+  shaped = rw (c.reserve.ensures.items, c.in-Ok.ensures.ok) c.args.store.now.shaped;
   kept = λ still.
       let honest = sym c.place.ensures.honest ∙ still in
       let s = c.args.store.now in
       let h = g.D.Disk.history s.disk in
       let new = g.D.Disk.history c.place.new.disk in
       let file = c.args.file.now in
-      let encoding : List ℕ = c.as_slice.result.now in
+      let encoding : List ℕ = file_encoding file no_meaning in
       let kept : IsStore h s.page_size s.commit s.entries.items s.dropped s.sums.sums false s.whole s.tried =
       subst (λ (b : Bool). IsStore h s.page_size s.commit s.entries.items s.dropped s.sums.sums b s.whole s.tried) c.requires.open_ (s.kept honest) in
       let can : CanTake (state_in s.page_size s.commit s.entries.items s.dropped (now h)) file =
       subst (λ (b : Bool). CanTake (state_of h s.page_size s.commit s.entries.items s.dropped b s.whole) file) c.requires.open_ (c.requires.can honest) in
-      let is : IsLtx encoding file = subst (λ (t : List ℕ). IsLtx t file) (sym c.as_slice.ensures.value) c.in-Ok.ensures.encoding in
-      let read : file_of encoding ≡ file = ap file_of c.as_slice.ensures.value ∙ c.in-Ok.ensures.read in
+      let is : IsLtx encoding file = record { valid = c.requires.valid; reserved = no_meaning; room = refl; encoding = refl } in
+      let read : file_of encoding ≡ file = c.file_reads_back.ensures in
       let places = c.in-From.ensures.places honest (image h s.page_size s.commit s.entries.items s.dropped s.sums.sums s.whole s.tried s.shaped kept) (files h s.page_size s.commit s.entries.items s.dropped s.sums.sums s.whole s.tried s.shaped kept) (over h s.page_size s.commit s.entries.items s.dropped s.sums.sums s.whole s.tried s.shaped kept c.args.attempt file encoding c.requires.publishes can is read) in
-      rw (c.reserve.ensures.items, c.in-Ok-reserve.ensures.ok, c.moment-store.ensures)
+      rw (c.reserve.ensures.items, c.in-Ok.ensures.ok, c.moment-store.ensures)
       (broken s.page_size s.commit s.entries.items s.dropped s.sums.sums h new places.0.past s.whole s.tried c.in-From.tried places.0.later places.1.past kept);
   left = λ still.
       let honest = sym c.place.ensures.honest ∙ still in
@@ -234,13 +231,13 @@ invariant_of-store-in-From g c = record {
       let h = g.D.Disk.history s.disk in
       let new = g.D.Disk.history c.place.new.disk in
       let file = c.args.file.now in
-      let encoding : List ℕ = c.as_slice.result.now in
+      let encoding : List ℕ = file_encoding file no_meaning in
       let kept : IsStore h s.page_size s.commit s.entries.items s.dropped s.sums.sums false s.whole s.tried =
       subst (λ (b : Bool). IsStore h s.page_size s.commit s.entries.items s.dropped s.sums.sums b s.whole s.tried) c.requires.open_ (s.kept honest) in
       let can : CanTake (state_in s.page_size s.commit s.entries.items s.dropped (now h)) file =
       subst (λ (b : Bool). CanTake (state_of h s.page_size s.commit s.entries.items s.dropped b s.whole) file) c.requires.open_ (c.requires.can honest) in
-      let is : IsLtx encoding file = subst (λ (t : List ℕ). IsLtx t file) (sym c.as_slice.ensures.value) c.in-Ok.ensures.encoding in
-      let read : file_of encoding ≡ file = ap file_of c.as_slice.ensures.value ∙ c.in-Ok.ensures.read in
+      let is : IsLtx encoding file = record { valid = c.requires.valid; reserved = no_meaning; room = refl; encoding = refl } in
+      let read : file_of encoding ≡ file = c.file_reads_back.ensures in
       let places = c.in-From.ensures.places honest (image h s.page_size s.commit s.entries.items s.dropped s.sums.sums s.whole s.tried s.shaped kept) (files h s.page_size s.commit s.entries.items s.dropped s.sums.sums s.whole s.tried s.shaped kept) (over h s.page_size s.commit s.entries.items s.dropped s.sums.sums s.whole s.tried s.shaped kept c.args.attempt file encoding c.requires.publishes can is read) in
       let P : List Entry → ℕ → Type 0 = λ es w. RestsAs (MayBeFound (state_of new s.page_size s.commit es s.dropped true w) (Some (failure_of new c.in-From.tried c.args.attempt))) new in
       subst (λ (es : List Entry). P es c.moment-store.result) (sym c.reserve.ensures.items) (subst (λ (w : ℕ). P s.entries.items w) (sym c.moment-store.ensures)
@@ -251,32 +248,32 @@ invariant_of-store-in-From g c = record {
       let h = g.D.Disk.history s.disk in
       let new = g.D.Disk.history c.place.new.disk in
       let file = c.args.file.now in
-      let encoding : List ℕ = c.as_slice.result.now in
+      let encoding : List ℕ = file_encoding file no_meaning in
       let kept : IsStore h s.page_size s.commit s.entries.items s.dropped s.sums.sums false s.whole s.tried =
       subst (λ (b : Bool). IsStore h s.page_size s.commit s.entries.items s.dropped s.sums.sums b s.whole s.tried) c.requires.open_ (s.kept honest) in
       let can : CanTake (state_in s.page_size s.commit s.entries.items s.dropped (now h)) file =
       subst (λ (b : Bool). CanTake (state_of h s.page_size s.commit s.entries.items s.dropped b s.whole) file) c.requires.open_ (c.requires.can honest) in
-      let is : IsLtx encoding file = subst (λ (t : List ℕ). IsLtx t file) (sym c.as_slice.ensures.value) c.in-Ok.ensures.encoding in
-      let read : file_of encoding ≡ file = ap file_of c.as_slice.ensures.value ∙ c.in-Ok.ensures.read in
+      let is : IsLtx encoding file = record { valid = c.requires.valid; reserved = no_meaning; room = refl; encoding = refl } in
+      let read : file_of encoding ≡ file = c.file_reads_back.ensures in
       let places = c.in-From.ensures.places honest (image h s.page_size s.commit s.entries.items s.dropped s.sums.sums s.whole s.tried s.shaped kept) (files h s.page_size s.commit s.entries.items s.dropped s.sums.sums s.whole s.tried s.shaped kept) (over h s.page_size s.commit s.entries.items s.dropped s.sums.sums s.whole s.tried s.shaped kept c.args.attempt file encoding c.requires.publishes can is read) in
       let mode : s.wal ≡ image_is_wal (image_in s.page_size s.commit (now h)) =
       subst (λ (b : Bool). s.wal ≡ image_is_wal (state_of h s.page_size s.commit s.entries.items s.dropped b s.whole).image) c.requires.open_ (s.mode honest) in
       rw (c.moment-store.ensures) (mode_before s.page_size s.commit s.entries.items s.dropped s.sums.sums h new places.0.past s.wal mode);
 }
 
-pub returns-clause-went : goal.returns-clause-went
-returns-clause-went g c honest =
+pub returns-in-From-clause-went : goal.returns-in-From-clause-went
+returns-in-From-clause-went g c honest =
     let s = c.args.store.now in
     let h = g.D.Disk.history s.disk in
     let new = g.D.Disk.history c.place.new.disk in
     let file = c.args.file.now in
-    let encoding : List ℕ = c.as_slice.result.now in
+    let encoding : List ℕ = file_encoding file no_meaning in
     let kept : IsStore h s.page_size s.commit s.entries.items s.dropped s.sums.sums false s.whole s.tried =
     subst (λ (b : Bool). IsStore h s.page_size s.commit s.entries.items s.dropped s.sums.sums b s.whole s.tried) c.requires.open_ (s.kept honest) in
     let can : CanTake (state_in s.page_size s.commit s.entries.items s.dropped (now h)) file =
     subst (λ (b : Bool). CanTake (state_of h s.page_size s.commit s.entries.items s.dropped b s.whole) file) c.requires.open_ (c.requires.can honest) in
-    let is : IsLtx encoding file = subst (λ (t : List ℕ). IsLtx t file) (sym c.as_slice.ensures.value) c.in-Ok.ensures.encoding in
-    let read : file_of encoding ≡ file = ap file_of c.as_slice.ensures.value ∙ c.in-Ok.ensures.read in
+    let is : IsLtx encoding file = record { valid = c.requires.valid; reserved = no_meaning; room = refl; encoding = refl } in
+    let read : file_of encoding ≡ file = c.file_reads_back.ensures in
     let places = c.in-From.ensures.places honest (image h s.page_size s.commit s.entries.items s.dropped s.sums.sums s.whole s.tried s.shaped kept) (files h s.page_size s.commit s.entries.items s.dropped s.sums.sums s.whole s.tried s.shaped kept) (over h s.page_size s.commit s.entries.items s.dropped s.sums.sums s.whole s.tried s.shaped kept c.args.attempt file encoding c.requires.publishes can is read) in
     rw (c.reserve.ensures.items, c.moment-store.ensures, c.requires.open_) (inr (went_in h s.page_size s.commit s.entries.items s.dropped s.sums.sums s.whole s.tried s.shaped kept c.args.attempt file encoding c.requires.publishes can is read new c.in-From.tried places.0 places.1))
 

@@ -4,7 +4,7 @@ use Rattle.lf_disk.specs.History.{now}
 use Rattle.lf_sqlite_pages.specs.Apply.{apply}
 use Rattle.lf_sqlite_pages.specs.Header.{image_is_wal}
 use Rattle.lf_sqlite_pages.specs.Image.{DatabaseImage, empty_image}
-use Rattle.ltx_codec.specs.Format.{IsLtx}
+use Rattle.ltx_codec.specs.Format.{IsLtx, file_encoding, no_meaning}
 use Rattle.world_laws.specs.Store.{StoreState, MayBeFound}
 use Rattle.txn_log.specs.declared.attempt.Attempt.TheVariants as attempt
 use Rattle.txn_log.specs.declared.entry.Entry.{Entry}
@@ -19,11 +19,8 @@ use Rattle.txn_log.proofs.Moves.{moved-none, left_before, went_before}
 use Rattle.txn_log.proofs.Stores.{broken, mode_before}
 use Rattle.txn_log.proofs.publishing_anew.publish_anew.Goals as goal
 
-pub returns-in_default-clause-went : goal.returns-in_default-clause-went
-returns-in_default-clause-went g c honest = moved-none _ _ _ (c.args.store.now.left honest)
-
-pub invariant_of-store-then-is_err : goal.invariant_of-store-then-is_err
-invariant_of-store-then-is_err g c = record {
+pub invariant_of-store : goal.invariant_of-store
+invariant_of-store g c = record {
   sized = c.args.store.now.sized;
   shaped = rw (c.reserve.ensures.items) c.args.store.now.shaped;
   kept = rw (c.reserve.ensures.items) c.args.store.now.kept;
@@ -54,8 +51,8 @@ invariant_of-store-in-Err g c = record {
 pub returns-in-Err-clause-went : goal.returns-in-Err-clause-went
 returns-in-Err-clause-went g c honest = rw (c.reserve.ensures.items) (moved-none _ _ _ (c.args.store.now.left honest))
 
-pub place_anew-requires : goal.place_anew-requires
-place_anew-requires g c honest =
+pub place_anew-requires-clause-settled : goal.place_anew-requires-clause-settled
+place_anew-requires-clause-settled g c honest =
     let s = c.args.store.now in
     let h = g.D.Disk.history s.disk in
     (subst (λ (b : Bool). IsStore h s.page_size s.commit s.entries.items s.dropped s.sums.sums b s.whole s.tried) c.requires.open_ (s.kept honest)).rest.settled
@@ -70,11 +67,11 @@ invariant_of-store-in-Whole g c = record {
       let h = g.D.Disk.history s.disk in
       let new = g.D.Disk.history c.place_anew.new.disk in
       let file = c.args.file.now in
-      let encoding : List ℕ = c.as_slice-2.result.now in
+      let encoding : List ℕ = file_encoding file no_meaning in
       let kept : IsStore h s.page_size s.commit s.entries.items s.dropped s.sums.sums false s.whole s.tried =
       subst (λ (b : Bool). IsStore h s.page_size s.commit s.entries.items s.dropped s.sums.sums b s.whole s.tried) c.requires.open_ (s.kept honest) in
-      let is : IsLtx encoding file = subst (λ (t : List ℕ). IsLtx t file) (sym c.as_slice-2.ensures.value) c.in-Ok.ensures.encoding in
-      let read : file_of encoding ≡ file = ap file_of c.as_slice-2.ensures.value ∙ c.in-Ok.ensures.read in
+      let is : IsLtx encoding file = record { valid = c.requires.valid; reserved = no_meaning; room = refl; encoding = refl } in
+      let read : file_of encoding ≡ file = c.file_reads_back.ensures in
       let old : DatabaseImage = old_image file c.requires.valid c.requires.first encoding is read h s.page_size s.commit s.entries.items s.dropped s.sums.sums s.whole s.tried s.shaped kept in
       let before : List LogFile = old_files file c.requires.valid c.requires.first encoding is read h s.page_size s.commit s.entries.items s.dropped s.sums.sums s.whole s.tried s.shaped kept in
       let made : DatabaseImage = apply empty_image file.change in
@@ -88,11 +85,11 @@ invariant_of-store-in-Whole g c = record {
       let h = g.D.Disk.history s.disk in
       let new = g.D.Disk.history c.place_anew.new.disk in
       let file = c.args.file.now in
-      let encoding : List ℕ = c.as_slice-2.result.now in
+      let encoding : List ℕ = file_encoding file no_meaning in
       let kept : IsStore h s.page_size s.commit s.entries.items s.dropped s.sums.sums false s.whole s.tried =
       subst (λ (b : Bool). IsStore h s.page_size s.commit s.entries.items s.dropped s.sums.sums b s.whole s.tried) c.requires.open_ (s.kept honest) in
-      let is : IsLtx encoding file = subst (λ (t : List ℕ). IsLtx t file) (sym c.as_slice-2.ensures.value) c.in-Ok.ensures.encoding in
-      let read : file_of encoding ≡ file = ap file_of c.as_slice-2.ensures.value ∙ c.in-Ok.ensures.read in
+      let is : IsLtx encoding file = record { valid = c.requires.valid; reserved = no_meaning; room = refl; encoding = refl } in
+      let read : file_of encoding ≡ file = c.file_reads_back.ensures in
       let old : DatabaseImage = old_image file c.requires.valid c.requires.first encoding is read h s.page_size s.commit s.entries.items s.dropped s.sums.sums s.whole s.tried s.shaped kept in
       let before : List LogFile = old_files file c.requires.valid c.requires.first encoding is read h s.page_size s.commit s.entries.items s.dropped s.sums.sums s.whole s.tried s.shaped kept in
       let made : DatabaseImage = apply empty_image file.change in
@@ -106,11 +103,11 @@ invariant_of-store-in-Whole g c = record {
       let h = g.D.Disk.history s.disk in
       let new = g.D.Disk.history c.place_anew.new.disk in
       let file = c.args.file.now in
-      let encoding : List ℕ = c.as_slice-2.result.now in
+      let encoding : List ℕ = file_encoding file no_meaning in
       let kept : IsStore h s.page_size s.commit s.entries.items s.dropped s.sums.sums false s.whole s.tried =
       subst (λ (b : Bool). IsStore h s.page_size s.commit s.entries.items s.dropped s.sums.sums b s.whole s.tried) c.requires.open_ (s.kept honest) in
-      let is : IsLtx encoding file = subst (λ (t : List ℕ). IsLtx t file) (sym c.as_slice-2.ensures.value) c.in-Ok.ensures.encoding in
-      let read : file_of encoding ≡ file = ap file_of c.as_slice-2.ensures.value ∙ c.in-Ok.ensures.read in
+      let is : IsLtx encoding file = record { valid = c.requires.valid; reserved = no_meaning; room = refl; encoding = refl } in
+      let read : file_of encoding ≡ file = c.file_reads_back.ensures in
       let old : DatabaseImage = old_image file c.requires.valid c.requires.first encoding is read h s.page_size s.commit s.entries.items s.dropped s.sums.sums s.whole s.tried s.shaped kept in
       let before : List LogFile = old_files file c.requires.valid c.requires.first encoding is read h s.page_size s.commit s.entries.items s.dropped s.sums.sums s.whole s.tried s.shaped kept in
       let made : DatabaseImage = apply empty_image file.change in
@@ -128,11 +125,11 @@ returns-in-Whole-clause-went g c honest =
     let h = g.D.Disk.history s.disk in
     let new = g.D.Disk.history c.place_anew.new.disk in
     let file = c.args.file.now in
-    let encoding : List ℕ = c.as_slice-2.result.now in
+    let encoding : List ℕ = file_encoding file no_meaning in
     let kept : IsStore h s.page_size s.commit s.entries.items s.dropped s.sums.sums false s.whole s.tried =
     subst (λ (b : Bool). IsStore h s.page_size s.commit s.entries.items s.dropped s.sums.sums b s.whole s.tried) c.requires.open_ (s.kept honest) in
-    let is : IsLtx encoding file = subst (λ (t : List ℕ). IsLtx t file) (sym c.as_slice-2.ensures.value) c.in-Ok.ensures.encoding in
-    let read : file_of encoding ≡ file = ap file_of c.as_slice-2.ensures.value ∙ c.in-Ok.ensures.read in
+    let is : IsLtx encoding file = record { valid = c.requires.valid; reserved = no_meaning; room = refl; encoding = refl } in
+    let read : file_of encoding ≡ file = c.file_reads_back.ensures in
     let old : DatabaseImage = old_image file c.requires.valid c.requires.first encoding is read h s.page_size s.commit s.entries.items s.dropped s.sums.sums s.whole s.tried s.shaped kept in
     let before : List LogFile = old_files file c.requires.valid c.requires.first encoding is read h s.page_size s.commit s.entries.items s.dropped s.sums.sums s.whole s.tried s.shaped kept in
     let made : DatabaseImage = apply empty_image file.change in
@@ -144,25 +141,25 @@ returns-in-Whole-clause-went g c honest =
 pub invariant_of-store-in-Unpublished : goal.invariant_of-store-in-Unpublished
 invariant_of-store-in-Unpublished g c = record {
   sized = c.args.store.now.sized;
-  shaped = rw (c.reserve.ensures.items, c.in-Ok-reserve.ensures.ok) c.args.store.now.shaped;
+  shaped = rw (c.reserve.ensures.items, c.in-Ok.ensures.ok) c.args.store.now.shaped;
   kept = λ still.
       let honest = sym c.place_anew.ensures.honest ∙ still in
       let s = c.args.store.now in
       let h = g.D.Disk.history s.disk in
       let new = g.D.Disk.history c.place_anew.new.disk in
       let file = c.args.file.now in
-      let encoding : List ℕ = c.as_slice-2.result.now in
+      let encoding : List ℕ = file_encoding file no_meaning in
       let kept : IsStore h s.page_size s.commit s.entries.items s.dropped s.sums.sums false s.whole s.tried =
       subst (λ (b : Bool). IsStore h s.page_size s.commit s.entries.items s.dropped s.sums.sums b s.whole s.tried) c.requires.open_ (s.kept honest) in
-      let is : IsLtx encoding file = subst (λ (t : List ℕ). IsLtx t file) (sym c.as_slice-2.ensures.value) c.in-Ok.ensures.encoding in
-      let read : file_of encoding ≡ file = ap file_of c.as_slice-2.ensures.value ∙ c.in-Ok.ensures.read in
+      let is : IsLtx encoding file = record { valid = c.requires.valid; reserved = no_meaning; room = refl; encoding = refl } in
+      let read : file_of encoding ≡ file = c.file_reads_back.ensures in
       let old : DatabaseImage = old_image file c.requires.valid c.requires.first encoding is read h s.page_size s.commit s.entries.items s.dropped s.sums.sums s.whole s.tried s.shaped kept in
       let before : List LogFile = old_files file c.requires.valid c.requires.first encoding is read h s.page_size s.commit s.entries.items s.dropped s.sums.sums s.whole s.tried s.shaped kept in
       let made : DatabaseImage = apply empty_image file.change in
       let ready : IsOverAnew old before s.dropped made encoding c.as_slice.result.now file.change h =
       subst (λ (es : List Entry). IsOverAnew old before s.dropped made encoding es file.change h) (sym (c.as_slice.ensures.value ∙ c.reserve.ensures.items)) (over file c.requires.valid c.requires.first encoding is read h s.page_size s.commit s.entries.items s.dropped s.sums.sums s.whole s.tried s.shaped kept) in
       let places = c.in-Unpublished.ensures.places honest old made before s.dropped ready in
-      rw (c.reserve.ensures.items, c.in-Ok-reserve.ensures.ok, c.moment-store.ensures)
+      rw (c.reserve.ensures.items, c.in-Ok.ensures.ok, c.moment-store.ensures)
       (broken s.page_size s.commit s.entries.items s.dropped s.sums.sums h new places.past s.whole s.tried h.moment places.later places.later kept);
   left = λ still.
       let honest = sym c.place_anew.ensures.honest ∙ still in
@@ -170,11 +167,11 @@ invariant_of-store-in-Unpublished g c = record {
       let h = g.D.Disk.history s.disk in
       let new = g.D.Disk.history c.place_anew.new.disk in
       let file = c.args.file.now in
-      let encoding : List ℕ = c.as_slice-2.result.now in
+      let encoding : List ℕ = file_encoding file no_meaning in
       let kept : IsStore h s.page_size s.commit s.entries.items s.dropped s.sums.sums false s.whole s.tried =
       subst (λ (b : Bool). IsStore h s.page_size s.commit s.entries.items s.dropped s.sums.sums b s.whole s.tried) c.requires.open_ (s.kept honest) in
-      let is : IsLtx encoding file = subst (λ (t : List ℕ). IsLtx t file) (sym c.as_slice-2.ensures.value) c.in-Ok.ensures.encoding in
-      let read : file_of encoding ≡ file = ap file_of c.as_slice-2.ensures.value ∙ c.in-Ok.ensures.read in
+      let is : IsLtx encoding file = record { valid = c.requires.valid; reserved = no_meaning; room = refl; encoding = refl } in
+      let read : file_of encoding ≡ file = c.file_reads_back.ensures in
       let old : DatabaseImage = old_image file c.requires.valid c.requires.first encoding is read h s.page_size s.commit s.entries.items s.dropped s.sums.sums s.whole s.tried s.shaped kept in
       let before : List LogFile = old_files file c.requires.valid c.requires.first encoding is read h s.page_size s.commit s.entries.items s.dropped s.sums.sums s.whole s.tried s.shaped kept in
       let made : DatabaseImage = apply empty_image file.change in
@@ -188,11 +185,11 @@ invariant_of-store-in-Unpublished g c = record {
       let h = g.D.Disk.history s.disk in
       let new = g.D.Disk.history c.place_anew.new.disk in
       let file = c.args.file.now in
-      let encoding : List ℕ = c.as_slice-2.result.now in
+      let encoding : List ℕ = file_encoding file no_meaning in
       let kept : IsStore h s.page_size s.commit s.entries.items s.dropped s.sums.sums false s.whole s.tried =
       subst (λ (b : Bool). IsStore h s.page_size s.commit s.entries.items s.dropped s.sums.sums b s.whole s.tried) c.requires.open_ (s.kept honest) in
-      let is : IsLtx encoding file = subst (λ (t : List ℕ). IsLtx t file) (sym c.as_slice-2.ensures.value) c.in-Ok.ensures.encoding in
-      let read : file_of encoding ≡ file = ap file_of c.as_slice-2.ensures.value ∙ c.in-Ok.ensures.read in
+      let is : IsLtx encoding file = record { valid = c.requires.valid; reserved = no_meaning; room = refl; encoding = refl } in
+      let read : file_of encoding ≡ file = c.file_reads_back.ensures in
       let old : DatabaseImage = old_image file c.requires.valid c.requires.first encoding is read h s.page_size s.commit s.entries.items s.dropped s.sums.sums s.whole s.tried s.shaped kept in
       let before : List LogFile = old_files file c.requires.valid c.requires.first encoding is read h s.page_size s.commit s.entries.items s.dropped s.sums.sums s.whole s.tried s.shaped kept in
       let made : DatabaseImage = apply empty_image file.change in
@@ -210,11 +207,11 @@ returns-in-Unpublished-clause-went g c honest =
     let h = g.D.Disk.history s.disk in
     let new = g.D.Disk.history c.place_anew.new.disk in
     let file = c.args.file.now in
-    let encoding : List ℕ = c.as_slice-2.result.now in
+    let encoding : List ℕ = file_encoding file no_meaning in
     let kept : IsStore h s.page_size s.commit s.entries.items s.dropped s.sums.sums false s.whole s.tried =
     subst (λ (b : Bool). IsStore h s.page_size s.commit s.entries.items s.dropped s.sums.sums b s.whole s.tried) c.requires.open_ (s.kept honest) in
-    let is : IsLtx encoding file = subst (λ (t : List ℕ). IsLtx t file) (sym c.as_slice-2.ensures.value) c.in-Ok.ensures.encoding in
-    let read : file_of encoding ≡ file = ap file_of c.as_slice-2.ensures.value ∙ c.in-Ok.ensures.read in
+    let is : IsLtx encoding file = record { valid = c.requires.valid; reserved = no_meaning; room = refl; encoding = refl } in
+    let read : file_of encoding ≡ file = c.file_reads_back.ensures in
     let old : DatabaseImage = old_image file c.requires.valid c.requires.first encoding is read h s.page_size s.commit s.entries.items s.dropped s.sums.sums s.whole s.tried s.shaped kept in
     let before : List LogFile = old_files file c.requires.valid c.requires.first encoding is read h s.page_size s.commit s.entries.items s.dropped s.sums.sums s.whole s.tried s.shaped kept in
     let made : DatabaseImage = apply empty_image file.change in
@@ -226,25 +223,25 @@ returns-in-Unpublished-clause-went g c honest =
 pub invariant_of-store-in-From : goal.invariant_of-store-in-From
 invariant_of-store-in-From g c = record {
   sized = c.args.store.now.sized;
-  shaped = rw (c.reserve.ensures.items, c.in-Ok-reserve.ensures.ok) c.args.store.now.shaped;
+  shaped = rw (c.reserve.ensures.items, c.in-Ok.ensures.ok) c.args.store.now.shaped;
   kept = λ still.
       let honest = sym c.place_anew.ensures.honest ∙ still in
       let s = c.args.store.now in
       let h = g.D.Disk.history s.disk in
       let new = g.D.Disk.history c.place_anew.new.disk in
       let file = c.args.file.now in
-      let encoding : List ℕ = c.as_slice-2.result.now in
+      let encoding : List ℕ = file_encoding file no_meaning in
       let kept : IsStore h s.page_size s.commit s.entries.items s.dropped s.sums.sums false s.whole s.tried =
       subst (λ (b : Bool). IsStore h s.page_size s.commit s.entries.items s.dropped s.sums.sums b s.whole s.tried) c.requires.open_ (s.kept honest) in
-      let is : IsLtx encoding file = subst (λ (t : List ℕ). IsLtx t file) (sym c.as_slice-2.ensures.value) c.in-Ok.ensures.encoding in
-      let read : file_of encoding ≡ file = ap file_of c.as_slice-2.ensures.value ∙ c.in-Ok.ensures.read in
+      let is : IsLtx encoding file = record { valid = c.requires.valid; reserved = no_meaning; room = refl; encoding = refl } in
+      let read : file_of encoding ≡ file = c.file_reads_back.ensures in
       let old : DatabaseImage = old_image file c.requires.valid c.requires.first encoding is read h s.page_size s.commit s.entries.items s.dropped s.sums.sums s.whole s.tried s.shaped kept in
       let before : List LogFile = old_files file c.requires.valid c.requires.first encoding is read h s.page_size s.commit s.entries.items s.dropped s.sums.sums s.whole s.tried s.shaped kept in
       let made : DatabaseImage = apply empty_image file.change in
       let ready : IsOverAnew old before s.dropped made encoding c.as_slice.result.now file.change h =
       subst (λ (es : List Entry). IsOverAnew old before s.dropped made encoding es file.change h) (sym (c.as_slice.ensures.value ∙ c.reserve.ensures.items)) (over file c.requires.valid c.requires.first encoding is read h s.page_size s.commit s.entries.items s.dropped s.sums.sums s.whole s.tried s.shaped kept) in
       let places = c.in-From.ensures.places honest old made before s.dropped ready in
-      rw (c.reserve.ensures.items, c.in-Ok-reserve.ensures.ok, c.moment-store.ensures)
+      rw (c.reserve.ensures.items, c.in-Ok.ensures.ok, c.moment-store.ensures)
       (broken s.page_size s.commit s.entries.items s.dropped s.sums.sums h new places.0.past s.whole s.tried c.in-From.tried places.0.later places.1.past kept);
   left = λ still.
       let honest = sym c.place_anew.ensures.honest ∙ still in
@@ -252,11 +249,11 @@ invariant_of-store-in-From g c = record {
       let h = g.D.Disk.history s.disk in
       let new = g.D.Disk.history c.place_anew.new.disk in
       let file = c.args.file.now in
-      let encoding : List ℕ = c.as_slice-2.result.now in
+      let encoding : List ℕ = file_encoding file no_meaning in
       let kept : IsStore h s.page_size s.commit s.entries.items s.dropped s.sums.sums false s.whole s.tried =
       subst (λ (b : Bool). IsStore h s.page_size s.commit s.entries.items s.dropped s.sums.sums b s.whole s.tried) c.requires.open_ (s.kept honest) in
-      let is : IsLtx encoding file = subst (λ (t : List ℕ). IsLtx t file) (sym c.as_slice-2.ensures.value) c.in-Ok.ensures.encoding in
-      let read : file_of encoding ≡ file = ap file_of c.as_slice-2.ensures.value ∙ c.in-Ok.ensures.read in
+      let is : IsLtx encoding file = record { valid = c.requires.valid; reserved = no_meaning; room = refl; encoding = refl } in
+      let read : file_of encoding ≡ file = c.file_reads_back.ensures in
       let old : DatabaseImage = old_image file c.requires.valid c.requires.first encoding is read h s.page_size s.commit s.entries.items s.dropped s.sums.sums s.whole s.tried s.shaped kept in
       let before : List LogFile = old_files file c.requires.valid c.requires.first encoding is read h s.page_size s.commit s.entries.items s.dropped s.sums.sums s.whole s.tried s.shaped kept in
       let made : DatabaseImage = apply empty_image file.change in
@@ -272,11 +269,11 @@ invariant_of-store-in-From g c = record {
       let h = g.D.Disk.history s.disk in
       let new = g.D.Disk.history c.place_anew.new.disk in
       let file = c.args.file.now in
-      let encoding : List ℕ = c.as_slice-2.result.now in
+      let encoding : List ℕ = file_encoding file no_meaning in
       let kept : IsStore h s.page_size s.commit s.entries.items s.dropped s.sums.sums false s.whole s.tried =
       subst (λ (b : Bool). IsStore h s.page_size s.commit s.entries.items s.dropped s.sums.sums b s.whole s.tried) c.requires.open_ (s.kept honest) in
-      let is : IsLtx encoding file = subst (λ (t : List ℕ). IsLtx t file) (sym c.as_slice-2.ensures.value) c.in-Ok.ensures.encoding in
-      let read : file_of encoding ≡ file = ap file_of c.as_slice-2.ensures.value ∙ c.in-Ok.ensures.read in
+      let is : IsLtx encoding file = record { valid = c.requires.valid; reserved = no_meaning; room = refl; encoding = refl } in
+      let read : file_of encoding ≡ file = c.file_reads_back.ensures in
       let old : DatabaseImage = old_image file c.requires.valid c.requires.first encoding is read h s.page_size s.commit s.entries.items s.dropped s.sums.sums s.whole s.tried s.shaped kept in
       let before : List LogFile = old_files file c.requires.valid c.requires.first encoding is read h s.page_size s.commit s.entries.items s.dropped s.sums.sums s.whole s.tried s.shaped kept in
       let made : DatabaseImage = apply empty_image file.change in
@@ -288,17 +285,17 @@ invariant_of-store-in-From g c = record {
       rw (c.moment-store.ensures) (mode_before s.page_size s.commit s.entries.items s.dropped s.sums.sums h new places.0.past s.wal mode);
 }
 
-pub returns-clause-went : goal.returns-clause-went
-returns-clause-went g c honest =
+pub returns-in-From-clause-went : goal.returns-in-From-clause-went
+returns-in-From-clause-went g c honest =
     let s = c.args.store.now in
     let h = g.D.Disk.history s.disk in
     let new = g.D.Disk.history c.place_anew.new.disk in
     let file = c.args.file.now in
-    let encoding : List ℕ = c.as_slice-2.result.now in
+    let encoding : List ℕ = file_encoding file no_meaning in
     let kept : IsStore h s.page_size s.commit s.entries.items s.dropped s.sums.sums false s.whole s.tried =
     subst (λ (b : Bool). IsStore h s.page_size s.commit s.entries.items s.dropped s.sums.sums b s.whole s.tried) c.requires.open_ (s.kept honest) in
-    let is : IsLtx encoding file = subst (λ (t : List ℕ). IsLtx t file) (sym c.as_slice-2.ensures.value) c.in-Ok.ensures.encoding in
-    let read : file_of encoding ≡ file = ap file_of c.as_slice-2.ensures.value ∙ c.in-Ok.ensures.read in
+    let is : IsLtx encoding file = record { valid = c.requires.valid; reserved = no_meaning; room = refl; encoding = refl } in
+    let read : file_of encoding ≡ file = c.file_reads_back.ensures in
     let old : DatabaseImage = old_image file c.requires.valid c.requires.first encoding is read h s.page_size s.commit s.entries.items s.dropped s.sums.sums s.whole s.tried s.shaped kept in
     let before : List LogFile = old_files file c.requires.valid c.requires.first encoding is read h s.page_size s.commit s.entries.items s.dropped s.sums.sums s.whole s.tried s.shaped kept in
     let made : DatabaseImage = apply empty_image file.change in

@@ -65,7 +65,7 @@ returns-in-Ok-clause-does g c =
     let h = history_of n.store in
     let t = c.commit.new.self in
     let end = history_of t in
-    let change = c.args.change.now in
+    let change = c.args.change in
     let at = c.in-Ok.position in
     let given = c.in-Ok.ensures in
     let is : c.told_position.new.self ≡ record (applied n.view change.page_size change.commit) { position = at } =
@@ -88,7 +88,7 @@ returns-in-Ok-clause-safe g c honest =
     let h = history_of n.store in
     let t = c.commit.new.self in
     let end = history_of t in
-    let change = c.args.change.now in
+    let change = c.args.change in
     let at = c.in-Ok.position in
     let given = c.in-Ok.ensures in
     let files = record (applied n.view t.page_size t.commit) { position = at } in
@@ -114,8 +114,8 @@ invariant_of-self-in-Err-1 g c =
           let h = history_of n.store in
           let end = history_of t in
           let alike : state end (fields_of t) ≡ state h old.store =
-          err-same Pos (state h old.store) (state end (fields_of t)) (failed h old.store) (failed end (fields_of t)) (Commit (file_of old c.args.change.now)) c.in-Err.fault
-          (commit-changes h end old (fields_of t) c.args.change.now (Err c.in-Err.fault) given.commits (given.went honest)) in
+          err-same Pos (state h old.store) (state end (fields_of t)) (failed h old.store) (failed end (fields_of t)) (Commit (file_of old c.args.change)) c.in-Err.fault
+          (commit-changes h end old (fields_of t) c.args.change (Err c.in-Err.fault) given.commits (given.went honest)) in
           subst (λ (st : StoreState). IsOverImage n.view st.image) (sym alike) (n.image honest);
       named = n.named;
       told = n.told ∙ sym (ap end_of_entries given.same.2);
@@ -127,8 +127,8 @@ invariant_of-self-in-Err-1 g c =
           let end = history_of t in
           waits-kept h end (fields_of n.store) (fields_of t) n.view n.sent c.commit.ensures.honest
           (λ honest. ap (λ (st : StoreState). st.image)
-          (err-same Pos (state h old.store) (state end (fields_of t)) (failed h old.store) (failed end (fields_of t)) (Commit (file_of old c.args.change.now)) c.in-Err.fault
-          (commit-changes h end old (fields_of t) c.args.change.now (Err c.in-Err.fault) given.commits (given.went honest)))) (ap end_of_entries given.same.2) n.awaits;
+          (err-same Pos (state h old.store) (state end (fields_of t)) (failed h old.store) (failed end (fields_of t)) (Commit (file_of old c.args.change)) c.in-Err.fault
+          (commit-changes h end old (fields_of t) c.args.change (Err c.in-Err.fault) given.commits (given.went honest)))) (ap end_of_entries given.same.2) n.awaits;
       locked = n.locked;
     }
 
@@ -139,7 +139,7 @@ returns-in-Err-clause-does g c =
     let h = history_of n.store in
     let t = c.commit.new.self in
     let end = history_of t in
-    let change = c.args.change.now in
+    let change = c.args.change in
     let why = c.in-Err.fault in
     let given = c.in-Err.ensures in
     subst (λ (r : Refusal). AnswersChange h old change (answers.Refused r) end (record old { store = fields_of t })) (sym c.refusal_of.ensures)
@@ -161,7 +161,7 @@ returns-in-Err-clause-safe g c honest =
     let h = history_of n.store in
     let t = c.commit.new.self in
     let end = history_of t in
-    let change = c.args.change.now in
+    let change = c.args.change in
     let why = c.in-Err.fault in
     let given = c.in-Err.ensures in
     let new : NodeParts = record old { store = fields_of t } in

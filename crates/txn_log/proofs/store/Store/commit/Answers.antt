@@ -16,12 +16,12 @@ publish-requires-clause-can g c honest =
     let s = c.args.self.now in
     let h = g.D.Disk.history s.disk in
     let drafts = c.in-Ok.ensures.drafts in
-    let file : Ltx = drafted (end_of_entries s.entries.items) s.commit s.sums.sums c.args.change.now c.args.stamp c.args.node in
+    let file : Ltx = drafted (end_of_entries s.entries.items) s.commit s.sums.sums c.args.change c.args.stamp c.args.node in
     let kept : IsStore h s.page_size s.commit s.entries.items s.dropped s.sums.sums false s.whole s.tried =
     subst (λ (b : Bool). IsStore h s.page_size s.commit s.entries.items s.dropped s.sums.sums b s.whole s.tried) drafts.0 (s.kept honest) in
     let is : IsFile file = subst (λ (f : Ltx). IsFile f) drafts.3 c.in-Ok.ensures.valid in
     let can : CanTake (state_in s.page_size s.commit s.entries.items s.dropped (now h)) file =
-    can_take h s.page_size s.commit s.entries.items s.dropped s.sums.sums s.whole s.tried kept c.args.change.now c.in-Ok.ensures.change drafts.1 c.args.stamp c.args.node is in
+    can_take h s.page_size s.commit s.entries.items s.dropped s.sums.sums s.whole s.tried kept c.args.change c.in-Ok.ensures.change drafts.1 c.args.stamp c.args.node is in
     subst (λ (f : Ltx). CanTake (state_of h s.page_size s.commit s.entries.items s.dropped s.broken s.whole) f) (sym drafts.3)
     (subst (λ (b : Bool). CanTake (state_of h s.page_size s.commit s.entries.items s.dropped b s.whole) file) (sym drafts.0) can)
 
@@ -29,5 +29,5 @@ pub returns-in-Err-clause-went : goal.returns-in-Err-clause-went
 returns-in-Err-clause-went g c honest =
     let s = c.args.self.now in
     went-none Pos _ _ _ _ c.in-Err.fault
-    (λ same. subst (λ (w : StoreFault). Drafts s.broken (end_of_entries s.entries.items) s.page_size s.commit s.sums.sums c.args.change.now c.args.stamp c.args.node (Err w)) same c.in-Err.ensures.drafts)
+    (λ same. subst (λ (w : StoreFault). Drafts s.broken (end_of_entries s.entries.items) s.page_size s.commit s.sums.sums c.args.change c.args.stamp c.args.node (Err w)) same c.in-Err.ensures.drafts)
     (s.left honest)
