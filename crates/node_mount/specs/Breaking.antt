@@ -24,7 +24,7 @@ call_words call.List = codes "list"
 abbrev pub file_path : Option FileName → List ℕ
 file_path None = []
 file_path (Some name.Database) = codes "/database"
-file_path (Some name.Staged) = codes "/staged"
+file_path (Some name.Staged) = codes "/ltx/.staged"
 file_path (Some name.Snapshot) = codes "/snapshot.ltx"
 file_path (Some name.Dropped) = codes "/dropped"
 file_path (Some (name.Ltx min max)) = codes "/ltx/" ++ shown (hex_digits 16 min) ++ codes "-" ++ shown (hex_digits 16 max) ++ codes ".ltx"

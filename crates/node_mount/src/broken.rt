@@ -106,7 +106,7 @@ pub(crate) fn put_file(line: &mut Line, file: Option<FileName>) -> Result<(), No
 {
     match file {
         Some(FileName::Database) => line.put(b"/database"),
-        Some(FileName::Staged) => line.put(b"/staged"),
+        Some(FileName::Staged) => line.put(b"/ltx/.staged"),
         Some(FileName::Snapshot) => line.put(b"/snapshot.ltx"),
         Some(FileName::Dropped) => line.put(b"/dropped"),
         Some(FileName::Ltx { min, max }) => put_transactions(line, min, max),
