@@ -5,7 +5,7 @@ client changes nothing. A node that is killed while it imports stands before or 
 of its jobs. By hand, with LITEFS_LONG, bytes at the lock page.
 
 At most: 900 seconds.
-Seen to fail: a node that answers 404 to both calls; one that never looks for its followers (`left`: timed out)."""
+Seen to fail: a node that answers 404 to both calls; one that prunes at commits alone (`pruned`); one that never looks for its followers (`left`: timed out)."""
 import contextlib
 import os
 import random
@@ -105,6 +105,19 @@ def again():
         before, files = line(node), node.log()
         same(imported(node, data), (200, before), 'the second one answers the position')
         same((line(node), node.log()), (before, files), 'position and log behind it')
+
+
+def pruned():
+    """A primary that nobody writes to but by imports keeps no more files than it is to."""
+    with Node(keep=2) as node:
+        for rows in range(10, 60, 10):
+            data = made(4096, 'delete', rows)
+            same(imported(node, data)[0], 200, f'the import of {rows} rows')
+        until(lambda: len(node.log()) <= 2, 'its log is short')
+        same(exported(node) == (200, data), True, 'the export')
+        before = node.position()
+        node.restart()
+        same((node.position(), before.txid), (before, 5), 'the position behind a restart')
 
 
 def lock_page():
@@ -270,4 +283,4 @@ all_sizes = {f'sizes-{size}-{mode}': lambda size=size, mode=mode: sizes(size, mo
 by_mode = {f'{name}-{mode}': lambda call=call, mode=mode: call(mode) for name, call in (('held', held), ('busy', busy)) for mode in MODES}
 # it takes 8 GB of memory
 by_hand = {'lock_page': lock_page} if length(0, 1) else {}
-run({**all_sizes, **by_mode, **by_hand, 'again': again, 'refused': refused, 'killed': killed, 'left': left}, at_once=2)
+run({**all_sizes, **by_mode, **by_hand, 'again': again, 'pruned': pruned, 'refused': refused, 'killed': killed, 'left': left}, at_once=2)

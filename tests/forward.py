@@ -6,7 +6,7 @@ once in the log, and no half of one is.
 
 At most: 900 seconds.
 Seen to fail: before nodes forwarded, each case (the lock is refused) but `lost`, against which no wrong node was tried; `migration` where a
-replica's stream ended behind each commit of its own."""
+replica's stream ended behind each commit of its own; `pruned` where a primary prunes at its own commits alone."""
 import contextlib
 import fcntl
 import random
@@ -100,6 +100,18 @@ def mounted(mode):
         for node in replica, third:
             primary.level(node)
         commits(primary, writer, 1, "insert into t(a) values(100)")
+
+
+def pruned(mode):
+    """What a replica commits at a primary that keeps few files lengthens its log no further, and no node loses its place."""
+    with level_pair(mode, keep=4) as (primary, replica, writer), contextlib.closing(connect(replica.socket)) as at:
+        with permitted(replica.socket):
+            commits(replica, at, 30, *[insert(key) for key in range(50, 80)])
+        until(lambda: len(primary.log()) <= 4, 'its log is short')
+        primary.level(replica)
+        commits(primary, writer, 1, insert(100))
+        primary.level(replica)
+        same(len(primary.log()), 4, 'files of its log')
 
 
 def rollback(mode):
@@ -292,7 +304,7 @@ def told(node, key):
             return False
 
 
-run({**in_each_mode(EITHER, migration=migration, mounted=mounted, rollback=rollback, turns=turns, wanted_by_two=wanted_by_two, lost=lost),
+run({**in_each_mode(EITHER, migration=migration, mounted=mounted, pruned=pruned, rollback=rollback, turns=turns, wanted_by_two=wanted_by_two, lost=lost),
      **in_each_mode(length(('wal',), EITHER), killed_client=killed('client'), killed_replica=killed('replica'), followed=followed),
      **in_each_mode(length(('delete',), EITHER), killed_primary=killed('primary')),
      **in_each_mode(length((), EITHER), stopped=stopped)}, at_once=2)

@@ -57,6 +57,10 @@ pub record AreRounds {T C : Type 0} (settings : Settings) (node : ℕ) (asking :
   pub retention : rounds.retention ≡ settings.retention_files
   pub naps : rounds.naps ≡ round_naps settings.lease.lease_type settings.lease.ttl
 
+-- how many files of its log a node keeps that makes no rounds
+abbrev pub retention_without_rounds : Settings → Option ℕ
+retention_without_rounds settings = if stands_as_primary settings.lease.lease_type settings.lease.candidate then Some settings.retention_files else None
+
 -- WHAT A NODE DOES: a static primary nothing more, and each other node follows a primary, for the database that it keeps, and makes rounds
 abbrev pub AreDuties : {T C : Type 0} → Settings → ℕ → Option T → Option (Duties T C) → Type 0
 AreDuties settings node asking None = stands_as_primary settings.lease.lease_type settings.lease.candidate ≡ true

@@ -202,7 +202,7 @@ fn give_up<
 }
 
 /// Prunes the log to its newest files. Answers whether the store is broken.
-fn prune<R: Handles + Copy, K: Machine<Ask = Ask, Answer = Answer>, C: Clock, P: Pause>(
+pub fn prune<R: Handles + Copy, K: Machine<Ask = Ask, Answer = Answer>, C: Clock, P: Pause>(
     means: &mut Means<R, C, P>,
     place: &mut Place<K>,
     keep: u64,

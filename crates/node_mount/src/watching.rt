@@ -1,13 +1,15 @@
 //! A node is watched: what it is is told, and what its jobs note; the program is kept running that mounts its files; and where its
-//! store broke no more links come.
+//! store broke no more links come. Where no rounds prune its log, this job does.
 ghost use Rattle.std.specs.Prelude.{◌≡◌, ◌++◌, max, IfOk};
+ghost use Rattle.node_mount.specs.Duties.{retention_without_rounds};
 ghost use Rattle.node_mount.specs.RoleLines.{start_behind, start_front};
 ghost use Rattle.node_mount.specs.Mounters.{Mounts};
 ghost use Rattle.node_mount.specs.Places.{HasSeenNone};
 ghost use Rattle.node_mount.specs.Serving.{CountsStarts};
 
+use crate::duties::stands_as_primary;
 use crate::ending::info_of;
-use crate::lease_rounds::nap;
+use crate::lease_rounds::{nap, prune};
 use crate::line::Line;
 use crate::means::Means;
 use crate::mount_fault::MountFault;
@@ -43,6 +45,8 @@ pub struct Watching<E, N> {
     pub mount: Option<MountKeeper<N>>,
     /// How many milliseconds may lie between two looks: those of a lease, and a second at least.
     pub lease: u64,
+    /// How many files of the log are kept, where no rounds prune it.
+    pub retention: Option<u64>,
     /// Once it is closed no more links come.
     pub ending: Closing,
 }
@@ -60,6 +64,7 @@ pub fn watching_of<E: Drop, N: Drop>(
     ensures front { IfOk result (λ watching. watching.front ≡ start_front settings.now) }
     ensures behind { IfOk result (λ watching. watching.behind ≡ start_behind settings.now) }
     ensures lease { IfOk result (λ watching. watching.lease ≡ max settings.now.lease.ttl 1000) }
+    ensures retention { IfOk result (λ watching. watching.retention ≡ retention_without_rounds settings.now) }
     ensures mounts { IfOk result (λ watching. Mounts settings.now.mount watching.mount) }
 {
     let front = front_of(alloc, settings)?;
@@ -71,8 +76,20 @@ pub fn watching_of<E: Drop, N: Drop>(
         notes,
         mount,
         lease: settings.lease.ttl.max(1000),
+        retention: retention_without_rounds(settings),
         ending,
     })
+}
+
+/// How many files of its log a node keeps that makes no rounds, which is a static primary.
+fn retention_without_rounds(settings: &Settings) -> Option<u64>
+    ensures { result ≡ retention_without_rounds settings.now }
+{
+    if stands_as_primary(&settings.lease) {
+        Some(settings.retention_files)
+    } else {
+        None
+    }
 }
 
 /// What stands in front of the role: the version of the program, as the file VERSION says it, among it.
@@ -152,6 +169,7 @@ impl<E: Tell + Drop, N: Mounter + Drop> Work for Watcher<E, N> {
             if look(&mut means, &mut place, &mut watching, &mut told, looks == 0) {
                 watching.ending.close_doors(&means.rt);
             }
+            shorten(&mut means, &mut place, watching.retention);
             keep_mounted(&mut means, &mut watching);
             tell_notes(&mut means, &mut watching, &mut repeated);
             if watching.ending.is_closed() || closing.is_closed() {
@@ -183,6 +201,17 @@ fn look<R: Handles + Copy, K: Machine<Ask = Ask, Answer = Answer>, E: Tell, N, C
         watching.lines.say(&means.rt, line);
     }
     info.broken
+}
+
+/// Prunes the log to so many files, where no rounds do: an import and a commit that a replica sends prune nothing.
+fn shorten<R: Handles + Copy, K: Machine<Ask = Ask, Answer = Answer>, C: Clock, P: Pause>(
+    means: &mut Means<R, C, P>,
+    place: &mut Place<K>,
+    retention: Option<u64>,
+) {
+    if let Some(keep) = retention {
+        let _ = prune(means, place, keep);
+    }
 }
 
 /// Keeps the program running that mounts the node's files, where one does, and notes what came of that.
