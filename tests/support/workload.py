@@ -3,7 +3,7 @@ import contextlib
 import os
 
 from .cases import same
-from .node import Node
+from .node import KEEP_ALL, Node
 from .sqlite import MODES, in_mode
 
 
@@ -36,10 +36,10 @@ def in_each_mode(modes=MODES, **workloads):
 
 
 @contextlib.contextmanager
-def level_pair(mode, count=10):
+def level_pair(mode, count=10, keep=KEEP_ALL):
     """A primary with a table t(a, b, c) of so many rows, each of a transaction of its own; a replica that is level; and who writes at
-    the primary."""
-    with Node() as primary, Node(following=primary) as replica:
+    the primary. Each keeps so many files of its log."""
+    with Node(keep=keep) as primary, Node(following=primary, keep=keep) as replica:
         writer = in_mode(primary.socket, mode)
         fill(writer, range(count))
         primary.level(replica)
