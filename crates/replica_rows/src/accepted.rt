@@ -7,7 +7,9 @@ use crate::cluster::{Cluster, Who};
 use crate::fault::Fault;
 use crate::levels::gets_level;
 use crate::likeness::is_as;
-use crate::nodes::{Failing, MemNode, NEVER, NOW, Part, ask, renew, renew_on, take_disk};
+use crate::nodes::{
+    Failing, MemNode, NEVER, Part, ask_once, calls_of, is_applied, is_broken, renew, renew_on,
+};
 use crate::permits::{forward_of, gets_permit};
 use crate::tally::{CHOICES, NONE, Tally, count_if};
 use lf_base::Errno;
@@ -20,21 +22,25 @@ const NUMBER: u64 = 7;
 /// A node becomes a primary after two transactions.
 fn begins(alloc: Global, primary: &mut MemNode) -> Result<(), Fault> {
     renew(alloc, primary, Part::Primary)?;
-    commit(alloc, primary, &[(1, 1)])?;
-    commit(alloc, primary, &[(2, 2)])?;
+    drop(commit(alloc, primary, &[(1, 1)])?);
+    drop(commit(alloc, primary, &[(2, 2)])?);
     Ok(())
 }
 
 /// A client of the replica commits a page, and the primary accepts it.
 fn sends(alloc: Global, primary: &mut MemNode, replica: &mut MemNode) -> Result<(), Fault> {
-    gets_permit(primary, replica, NUMBER);
-    let answer = commit_and_stay(alloc, replica, &[(1, 4)])?;
-    let Some(asked) = forward_of(answer) else {
-        return Err(Fault::Owed);
-    };
-    match ask(primary, 0, &asked) {
-        Answer::Applied(_) => Ok(()),
-        _ => Err(Fault::Owed),
+    drop(gets_permit(primary, replica, NUMBER));
+    match forward_of(commit_and_stay(alloc, replica, &[(1, 4)])?) {
+        Some(asked) => is_accepted(primary, asked),
+        None => Err(Fault::Owed),
+    }
+}
+
+fn is_accepted(primary: &mut MemNode, asked: Ask) -> Result<(), Fault> {
+    if is_applied(ask_once(primary, 0, asked)) {
+        Ok(())
+    } else {
+        Err(Fault::Owed)
     }
 }
 
@@ -53,29 +59,24 @@ fn prepare(
 
 /// The reply comes.
 fn replies(replica: &mut MemNode) -> Answer {
-    ask(replica, 0, &Ask::Forwarded { ok: true })
+    ask_once(replica, 0, Ask::Forwarded { ok: true })
 }
 
 /// How many calls of the disk there are before the reply, and with it.
 fn counts(alloc: Global, cluster: &mut Cluster<'_>) -> Result<(u64, u64), Fault> {
     prepare(alloc, cluster, Failing::From, NEVER)?;
-    let before = take_disk(alloc, cluster.left)?.calls();
+    let before = calls_of(alloc, cluster.left)?;
     prepare(alloc, cluster, Failing::From, NEVER)?;
-    replies(cluster.left);
-    Ok((before, take_disk(alloc, cluster.left)?.calls()))
-}
-
-/// Whether a node's store is broken.
-fn is_broken(node: &mut MemNode) -> bool {
-    match ask(node, 0, &Ask::Info { now: NOW }) {
-        Answer::Info(info) => info.broken,
-        _ => false,
-    }
+    drop(replies(cluster.left));
+    Ok((before, calls_of(alloc, cluster.left)?))
 }
 
 /// Whether the client is answered 5, and its replica's store is broken.
 fn refuses(replica: &mut MemNode) -> bool {
-    matches!(replies(replica), Answer::Refuse(Errno(5))) && is_broken(replica)
+    let answer = replies(replica);
+    let refused = matches!(&answer, Answer::Refuse(Errno(5)));
+    drop(answer);
+    refused && is_broken(replica)
 }
 
 /// Where the replica is after its restart, and whether it is level after what it is owed there.

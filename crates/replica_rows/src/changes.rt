@@ -6,7 +6,7 @@ use crate::fault::Fault;
 use crate::likeness::is_as;
 use crate::log_clients::{begins_log, ends_log};
 use crate::nodes::{
-    Failing, MemNode, NEVER, NOW, Part, ask, position, renew_on, restart, take_disk,
+    Failing, MemNode, NEVER, NOW, Part, ask_once, calls_of, is_broken, position, renew_on, restart,
 };
 use crate::tally::{CHOICES, count_if};
 use lf_base::{Bytes, Errno};
@@ -87,7 +87,7 @@ fn begins(alloc: Global, node: &mut MemNode, change: Change) -> Result<(), Fault
 fn comes(alloc: Global, node: &mut MemNode, change: Change) -> Result<Answer, Fault> {
     match change {
         Change::Log => ends_log(alloc, node),
-        Change::Import => Ok(ask(node, 0, &database(alloc, 9)?)),
+        Change::Import => Ok(ask_once(node, 0, database(alloc, 9)?)),
     }
 }
 
@@ -100,39 +100,33 @@ fn prepare(
     call: u64,
 ) -> Result<(), Fault> {
     renew_on(alloc, node, Part::Primary, failing, call)?;
-    ask(node, 0, &database(alloc, 0)?);
+    drop(ask_once(node, 0, database(alloc, 0)?));
     begins(alloc, node, change)
 }
 
 /// How many calls of the disk there are before the change, and with it.
 fn calls(alloc: Global, node: &mut MemNode, change: Change) -> Result<(u64, u64), Fault> {
     prepare(alloc, node, change, Failing::From, NEVER)?;
-    let before = take_disk(alloc, node)?.calls();
+    let before = calls_of(alloc, node)?;
     prepare(alloc, node, change, Failing::From, NEVER)?;
-    comes(alloc, node, change)?;
-    Ok((before, take_disk(alloc, node)?.calls()))
+    drop(comes(alloc, node, change)?);
+    Ok((before, calls_of(alloc, node)?))
 }
 
 /// Whether an answer is that of a disk that failed.
-fn is_refusal(answer: &Answer) -> bool {
-    matches!(
-        answer,
+fn is_refusal(answer: Answer) -> bool {
+    let refused = matches!(
+        &answer,
         Answer::Refuse(Errno(5))
             | Answer::Refused(Refusal::Store(StoreFault::Disk) | Refusal::Import(_))
-    )
-}
-
-/// Whether a node's store is broken.
-fn is_broken(node: &mut MemNode) -> bool {
-    match ask(node, 0, &Ask::Info { now: NOW }) {
-        Answer::Info(info) => info.broken,
-        _ => false,
-    }
+    );
+    drop(answer);
+    refused
 }
 
 /// The change comes, and the node is restarted: until then its database file has no page of its log.
 fn finishes(alloc: Global, node: &mut MemNode, change: Change) -> Result<(), Fault> {
-    comes(alloc, node, change)?;
+    drop(comes(alloc, node, change)?);
     restart(alloc, node, Part::Primary, 0)
 }
 
@@ -171,7 +165,7 @@ fn run(
     prepare(alloc, three.primary, change, failing, call)?;
     let answer = comes(alloc, three.primary, change)?;
     count_if(&mut counts.runs, true);
-    count_if(&mut counts.refused, is_refusal(&answer));
+    count_if(&mut counts.refused, is_refusal(answer));
     count_if(&mut counts.broken, is_broken(three.primary));
     restart(alloc, three.primary, Part::Primary, choice)?;
     judge(alloc, three, change, counts)

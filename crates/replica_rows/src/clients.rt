@@ -1,7 +1,7 @@
 //! Clients of a node: what they ask of its files. Each page that is written is full of one byte.
 
 use crate::fault::Fault;
-use crate::nodes::{MemNode, NOW, ask};
+use crate::nodes::{MemNode, NOW, ask, ask_once};
 use fuse_msgs::{LockWish, Op, Reply, Request};
 use lf_base::Bytes;
 use node_core::{Answer, Ask};
@@ -48,7 +48,7 @@ pub fn does(node: &mut MemNode, caller: u64, about: u64, op: Op) -> Answer {
         pid: 1,
         op,
     };
-    ask(node, caller, &Ask::File { now: NOW, request })
+    ask_once(node, caller, Ask::File { now: NOW, request })
 }
 
 /// A caller wishes a lock on a range of a file on which it has the handle.
@@ -93,17 +93,17 @@ pub fn writes(node: &mut MemNode, about: u64, fh: u64, at: u64, bytes: Bytes) ->
 
 /// The writer locks the database file and begins a journal.
 fn begins(alloc: Global, node: &mut MemNode) -> Result<(), Fault> {
-    does(node, WRITER, DATABASE, Op::Open);
-    locks(node, WRITER, DATABASE, 1, SHARED, LockWish::Write);
-    creates(alloc, node, WRITER, b"app-journal")?;
-    writes(node, JOURNAL, 2, 0, bytes(alloc, &HEADER)?);
+    drop(does(node, WRITER, DATABASE, Op::Open));
+    drop(locks(node, WRITER, DATABASE, 1, SHARED, LockWish::Write));
+    drop(creates(alloc, node, WRITER, b"app-journal")?);
+    drop(writes(node, JOURNAL, 2, 0, bytes(alloc, &HEADER)?));
     Ok(())
 }
 
 fn writes_page(alloc: Global, node: &mut MemNode, page: Filled) -> Result<(), Fault> {
     let (number, byte) = page;
     let at = u64::from(number).saturating_sub(1).saturating_mul(512);
-    writes(node, DATABASE, 1, at, page_of(alloc, byte)?);
+    drop(writes(node, DATABASE, 1, at, page_of(alloc, byte)?));
     Ok(())
 }
 
@@ -139,7 +139,7 @@ pub fn leaves(node: &mut MemNode) -> Answer {
 /// A client commits these pages, and its session ends. The answer is that to the call that commits.
 pub fn commit(alloc: Global, node: &mut MemNode, pages: &[Filled]) -> Result<Answer, Fault> {
     let answer = commit_and_stay(alloc, node, pages)?;
-    leaves(node);
+    drop(leaves(node));
     Ok(answer)
 }
 

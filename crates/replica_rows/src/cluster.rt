@@ -69,5 +69,8 @@ impl Cluster<'_> {
 
 fn is_astray(node: &mut MemNode, lineage: &Lineage) -> bool {
     let position = position(node);
-    !lineage.has(position, &image(node))
+    let read = image(node);
+    let has = lineage.has(position, &read);
+    drop(read);
+    !has
 }

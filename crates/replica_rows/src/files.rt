@@ -3,7 +3,7 @@
 use crate::clients::commit;
 use crate::fault::Fault;
 use crate::levels::asked_by;
-use crate::nodes::{MemNode, NOW, Part, ask, position, renew};
+use crate::nodes::{MemNode, Part, owed_at, position, renew};
 use lf_base::Pos;
 use node_core::Ask;
 use std::alloc::Global;
@@ -25,22 +25,14 @@ pub struct Files {
 fn goes_on(alloc: Global, primary: &mut MemNode, from: u8, count: u8) -> Result<(), Fault> {
     for number in 1..=count {
         let page = if number % 2 == 1 { 1 } else { 2 };
-        commit(alloc, primary, &[(page, from.wrapping_add(number))])?;
+        drop(commit(alloc, primary, &[(page, from.wrapping_add(number))])?);
     }
     Ok(())
 }
 
 /// The file that a primary owes at a position.
-fn owed_at(primary: &mut MemNode, pos: Pos) -> Result<Ask, Fault> {
-    match asked_by(ask(
-        primary,
-        0,
-        &Ask::Hello {
-            now: NOW,
-            pos,
-            last: None,
-        },
-    )) {
+fn file_at(primary: &mut MemNode, pos: Pos) -> Result<Ask, Fault> {
+    match asked_by(owed_at(primary, pos)) {
         Some(frame) => Ok(frame),
         None => Err(Fault::Owed),
     }
@@ -50,14 +42,14 @@ fn owed_at(primary: &mut MemNode, pos: Pos) -> Result<Ask, Fault> {
 fn begins(alloc: Global, primary: &mut MemNode, from: u8, count: u8) -> Result<Ask, Fault> {
     renew(alloc, primary, Part::Primary)?;
     goes_on(alloc, primary, from, count)?;
-    owed_at(primary, UNKNOWN)
+    file_at(primary, UNKNOWN)
 }
 
 /// The primary commits once more. The file of that.
 fn next_of(alloc: Global, primary: &mut MemNode) -> Result<Ask, Fault> {
     let before = position(primary);
     goes_on(alloc, primary, 8, 1)?;
-    owed_at(primary, before)
+    file_at(primary, before)
 }
 
 /// The nodes become the two primaries. What they send.

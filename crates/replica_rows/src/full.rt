@@ -2,21 +2,21 @@
 
 use crate::clients::{commit, unlinks};
 use crate::fault::Fault;
-use crate::nodes::{MemNode, NEVER, renew_full, take_disk};
-use crate::turns::says;
+use crate::nodes::{MemNode, NEVER, calls_of, renew_full};
+use crate::turns::tells;
 use std::alloc::Global;
 
 /// The node becomes a primary with one page, on a disk that has no room from a call on.
 fn begins(alloc: Global, node: &mut MemNode, call: u64) -> Result<(), Fault> {
     renew_full(alloc, node, call)?;
-    commit(alloc, node, &[(1, 1)])?;
+    drop(commit(alloc, node, &[(1, 1)])?);
     Ok(())
 }
 
 /// How many calls of the disk there are before the drop.
 fn calls(alloc: Global, node: &mut MemNode) -> Result<u64, Fault> {
     begins(alloc, node, NEVER)?;
-    Ok(take_disk(alloc, node)?.calls())
+    calls_of(alloc, node)
 }
 
 /// The drop, and once more.
@@ -24,6 +24,6 @@ pub fn print_full(rt: HostRuntime, node: &mut MemNode) -> Result<(), Fault> {
     println!(rt; "a disk without room")?;
     let call = calls(rt.alloc(), node)?;
     begins(rt.alloc(), node, call)?;
-    says(rt, "unlink", &unlinks(rt.alloc(), node, b"app")?)?;
-    says(rt, "unlink", &unlinks(rt.alloc(), node, b"app")?)
+    tells(rt, "unlink", unlinks(rt.alloc(), node, b"app")?)?;
+    tells(rt, "unlink", unlinks(rt.alloc(), node, b"app")?)
 }

@@ -3,11 +3,11 @@
 use crate::clients::{Filled, commit, commit_and_stay, creates, leaves, unlinks, unlocks};
 use crate::cluster::{Cluster, Who};
 use crate::fault::Fault;
-use crate::levels::asked_by;
+use crate::levels::{asked_by, keep};
 use crate::likeness::is_as;
-use crate::nodes::{MemNode, NOW, ask, position};
+use crate::nodes::{MemNode, NOW, ask, ask_once, owed_at, position};
 use crate::permits::{forward_of, gets_permit};
-use crate::turns::says;
+use crate::turns::{says, tells};
 use lf_base::Bytes;
 use node_core::{Answer, Ask};
 use std::alloc::Global;
@@ -82,13 +82,13 @@ fn database(alloc: Global) -> Result<Bytes, Fault> {
     Ok(Bytes::of(page))
 }
 
-fn asks(rt: HostRuntime, cluster: &mut Cluster<'_>, who: Who, asked: &Ask) -> Result<(), Fault> {
-    says(rt, name_of(who), &ask(cluster.node(who), 0, asked))
+fn asks(rt: HostRuntime, cluster: &mut Cluster<'_>, who: Who, asked: Ask) -> Result<(), Fault> {
+    tells(rt, name_of(who), ask_once(cluster.node(who), 0, asked))
 }
 
 fn begins(rt: HostRuntime, cluster: &mut Cluster<'_>) -> Result<(), Fault> {
     cluster.renew(rt.alloc())?;
-    commit(rt.alloc(), cluster.primary, &[(1, 1)])?;
+    drop(commit(rt.alloc(), cluster.primary, &[(1, 1)])?);
     levels(rt, cluster)
 }
 
@@ -98,7 +98,7 @@ fn halts(rt: HostRuntime, cluster: &mut Cluster<'_>, who: Who) -> Result<(), Fau
         Who::Left => gets_permit(cluster.primary, cluster.left, number_of(who)),
         Who::Right => gets_permit(cluster.primary, cluster.right, number_of(who)),
     };
-    says(rt, "primary", &answer)
+    tells(rt, "primary", answer)
 }
 
 fn gives_back(
@@ -107,12 +107,12 @@ fn gives_back(
     who: Who,
     number: u64,
 ) -> Result<(), Fault> {
-    asks(rt, cluster, who, &Ask::HaltLost { number })?;
+    asks(rt, cluster, who, Ask::HaltLost { number })?;
     asks(
         rt,
         cluster,
         Who::Primary,
-        &Ask::HaltBack { now: NOW, number },
+        Ask::HaltBack { now: NOW, number },
     )
 }
 
@@ -124,9 +124,9 @@ fn sends(
     sent: &mut Option<Ask>,
 ) -> Result<(), Fault> {
     let answer = commit_and_stay(rt.alloc(), cluster.node(who), pages)?;
-    says(rt, client_of(who), &answer)?;
-    *sent = forward_of(answer);
-    Ok(())
+    let said = says(rt, client_of(who), &answer);
+    keep(sent, forward_of(answer));
+    said
 }
 
 fn forwards(
@@ -141,7 +141,7 @@ fn forwards(
     if let Ask::Forward { number, .. } = asked {
         *number = under;
     }
-    says(rt, "primary", &ask(primary, 0, asked))
+    tells(rt, "primary", ask(primary, 0, asked))
 }
 
 fn commits(
@@ -151,44 +151,41 @@ fn commits(
     pages: &[Filled],
 ) -> Result<(), Fault> {
     let answer = commit(rt.alloc(), cluster.node(who), pages)?;
-    says(rt, client_of(who), &answer)
+    tells(rt, client_of(who), answer)
 }
 
 fn makes_journal(rt: HostRuntime, cluster: &mut Cluster<'_>, who: Who) -> Result<(), Fault> {
     let answer = creates(rt.alloc(), cluster.node(who), 1, b"app-journal")?;
-    leaves(cluster.node(who));
-    says(rt, client_of(who), &answer)
+    drop(leaves(cluster.node(who)));
+    tells(rt, client_of(who), answer)
 }
 
 fn drops(rt: HostRuntime, cluster: &mut Cluster<'_>, who: Who) -> Result<(), Fault> {
     let answer = unlinks(rt.alloc(), cluster.node(who), b"app")?;
-    says(rt, client_of(who), &answer)
+    tells(rt, client_of(who), answer)
 }
 
 fn follows(rt: HostRuntime, cluster: &mut Cluster<'_>, who: Who) -> Result<(), Fault> {
     let pos = position(cluster.node(who));
-    let hello = Ask::Hello {
-        now: NOW,
-        pos,
-        last: None,
-    };
-    let owed = ask(cluster.primary, 0, &hello);
-    says(rt, "primary", &owed)?;
+    let owed = owed_at(cluster.primary, pos);
+    let said = says(rt, "primary", &owed);
     match asked_by(owed) {
-        Some(asked) => asks(rt, cluster, who, &asked),
-        None => Ok(()),
+        Some(asked) => {
+            asks(rt, cluster, who, asked)?;
+            said
+        }
+        None => said,
     }
 }
 
 fn imports(rt: HostRuntime, cluster: &mut Cluster<'_>, who: Who) -> Result<(), Fault> {
     let bytes = database(rt.alloc())?;
-    asks(rt, cluster, who, &Ask::Import { now: NOW, bytes })
+    asks(rt, cluster, who, Ask::Import { now: NOW, bytes })
 }
 
-fn looks(rt: HostRuntime, cluster: &mut Cluster<'_>, who: Who, after: u64) -> Result<(), Fault> {
-    let now = NOW.saturating_add(after);
-    let answer = ask(cluster.node(who), 0, &Ask::Info { now });
-    if let Answer::Info(info) = &answer {
+/// What a node is, and where it stands.
+fn prints_info(rt: HostRuntime, who: Who, answer: &Answer) -> Result<(), Fault> {
+    if let Answer::Info(info) = answer {
         println!(rt;
             "  {}: {:?} at {:x}/{:016x}",
             name_of(who),
@@ -198,6 +195,14 @@ fn looks(rt: HostRuntime, cluster: &mut Cluster<'_>, who: Who, after: u64) -> Re
         )?;
     }
     Ok(())
+}
+
+fn looks(rt: HostRuntime, cluster: &mut Cluster<'_>, who: Who, after: u64) -> Result<(), Fault> {
+    let now = NOW.saturating_add(after);
+    let answer = ask_once(cluster.node(who), 0, Ask::Info { now });
+    let looked = prints_info(rt, who, &answer);
+    drop(answer);
+    looked
 }
 
 fn compares(rt: HostRuntime, cluster: &mut Cluster<'_>) -> Result<(), Fault> {
@@ -230,9 +235,9 @@ fn happens(
         Event::GiveBack(who, number) => gives_back(rt, cluster, who, number),
         Event::Send(who, pages) => sends(rt, cluster, who, pages, sent),
         Event::Forward(under) => forwards(rt, cluster.primary, under, sent),
-        Event::Reply(who, ok) => asks(rt, cluster, who, &Ask::Forwarded { ok }),
-        Event::Unlock(who) => says(rt, client_of(who), &unlocks(cluster.node(who))),
-        Event::Leave(who) => says(rt, client_of(who), &leaves(cluster.node(who))),
+        Event::Reply(who, ok) => asks(rt, cluster, who, Ask::Forwarded { ok }),
+        Event::Unlock(who) => tells(rt, client_of(who), unlocks(cluster.node(who))),
+        Event::Leave(who) => tells(rt, client_of(who), leaves(cluster.node(who))),
         Event::Commit(who, pages) => commits(rt, cluster, who, pages),
         Event::Journal(who) => makes_journal(rt, cluster, who),
         Event::Unlink(who) => drops(rt, cluster, who),

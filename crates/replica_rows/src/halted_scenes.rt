@@ -4,6 +4,7 @@ use crate::cluster::Cluster;
 use crate::cluster::Who::{Left, Primary, Right};
 use crate::fault::Fault;
 use crate::halted::{Event, play};
+use node_core::Ask;
 
 /// A title, and what happens.
 type Scene = (&'static str, &'static [&'static [Event]]);
@@ -230,6 +231,19 @@ const SCENES: &[Scene] = &[
     ),
 ];
 
+/// The parts of a scene. `sent` is what was kept to be sent.
+fn play_parts(
+    rt: HostRuntime,
+    cluster: &mut Cluster<'_>,
+    sent: &mut Option<Ask>,
+    parts: &[&[Event]],
+) -> Result<(), Fault> {
+    for events in parts {
+        play(rt, cluster, sent, *events)?;
+    }
+    Ok(())
+}
+
 fn print_scene(
     rt: HostRuntime,
     cluster: &mut Cluster<'_>,
@@ -238,10 +252,9 @@ fn print_scene(
 ) -> Result<(), Fault> {
     println!(rt; "{title}")?;
     let mut sent = None;
-    for events in parts {
-        play(rt, cluster, &mut sent, *events)?;
-    }
-    Ok(())
+    let played = play_parts(rt, cluster, &mut sent, parts);
+    drop(sent);
+    played
 }
 
 /// The scenes, one after another. Each begins its nodes anew.

@@ -1,7 +1,8 @@
 //! A follower is given what a primary owes it. Nothing is printed.
 
-use crate::nodes::{MemNode, NOW, ask, position};
+use crate::nodes::{MemNode, NOW, ask_once, is_applied, owed_at, position};
 use node_core::{Answer, Ask};
+use std::mem;
 
 /// More files than any of the followers here is owed.
 const ENOUGH: u64 = 100;
@@ -18,24 +19,17 @@ pub fn asked_by(owed: Answer) -> Option<Ask> {
     }
 }
 
+/// What was owed last gives way.
+pub fn keep(owed: &mut Option<Ask>, next: Option<Ask>) {
+    drop(mem::replace(owed, next));
+}
+
 /// The follower is given what it is owed next. Whether it took something, and whether it is level.
 fn gives_next(primary: &mut MemNode, follower: &mut MemNode) -> (bool, bool) {
-    let pos = position(follower);
-    let owed = ask(
-        primary,
-        0,
-        &Ask::Hello {
-            now: NOW,
-            pos,
-            last: None,
-        },
-    );
-    let is_level = matches!(owed, Answer::Level(_));
+    let owed = owed_at(primary, position(follower));
+    let is_level = matches!(&owed, Answer::Level(_));
     match asked_by(owed) {
-        Some(asked) => (
-            matches!(ask(follower, 0, &asked), Answer::Applied(_)),
-            false,
-        ),
+        Some(asked) => (is_applied(ask_once(follower, 0, asked)), false),
         None => (false, is_level),
     }
 }

@@ -11,9 +11,9 @@ const LOOKER: u64 = 5;
 
 /// What the database file of a node reads as.
 pub fn image(node: &mut MemNode) -> Option<Bytes> {
-    does(node, LOOKER, DATABASE, Op::Open);
+    drop(does(node, LOOKER, DATABASE, Op::Open));
     let bytes = reads(node, LOOKER);
-    ask(node, LOOKER, &Ask::EndSession);
+    drop(ask(node, LOOKER, &Ask::EndSession));
     bytes
 }
 
@@ -27,5 +27,12 @@ pub fn is_same(one: &Option<Bytes>, other: &Option<Bytes>) -> bool {
 
 /// Whether two nodes stand at one position, with the same pages.
 pub fn is_as(one: &mut MemNode, other: &mut MemNode) -> bool {
-    position(one) == position(other) && is_same(&image(one), &image(other))
+    if position(one) != position(other) {
+        return false;
+    }
+    let (one, other) = (image(one), image(other));
+    let same = is_same(&one, &other);
+    drop(one);
+    drop(other);
+    same
 }

@@ -34,20 +34,20 @@ fn logs(node: &mut MemNode, at: u64, bytes: Bytes) -> Answer {
 
 /// The client opens the files, and takes the lock WRITE by a handle on the shared memory.
 fn enters(alloc: Global, node: &mut MemNode) -> Result<(), Fault> {
-    does(node, WRITER, DATABASE, Op::Open);
-    creates(alloc, node, WRITER, b"app-wal")?;
-    creates(alloc, node, WRITER, b"app-shm")?;
-    locks(node, WRITER, SHARED_MEMORY, 3, WRITE, LockWish::Write);
+    drop(does(node, WRITER, DATABASE, Op::Open));
+    drop(creates(alloc, node, WRITER, b"app-wal")?);
+    drop(creates(alloc, node, WRITER, b"app-shm")?);
+    drop(locks(node, WRITER, SHARED_MEMORY, 3, WRITE, LockWish::Write));
     Ok(())
 }
 
 /// It writes the log up to the page that commits.
 pub fn begins_log(alloc: Global, node: &mut MemNode) -> Result<(), Fault> {
     enters(alloc, node)?;
-    logs(node, 0, bytes(alloc, HEADER)?);
-    logs(node, 32, bytes(alloc, THIRD)?);
-    logs(node, 56, page_of(alloc, 3)?);
-    logs(node, 568, bytes(alloc, FOURTH)?);
+    drop(logs(node, 0, bytes(alloc, HEADER)?));
+    drop(logs(node, 32, bytes(alloc, THIRD)?));
+    drop(logs(node, 56, page_of(alloc, 3)?));
+    drop(logs(node, 568, bytes(alloc, FOURTH)?));
     Ok(())
 }
 

@@ -79,29 +79,47 @@ fn store_of(alloc: Global, disk: MemDisk) -> Result<Store<MemDisk>, Fault>
 {
     match recover(alloc, disk) {
         Ok(store) => Ok(store),
-        Err(_) => Err(Fault::Recovery),
+        Err(why) => {
+            drop(why);
+            Err(Fault::Recovery)
+        }
     }
 }
 
 /// A node over a store.
-fn node_over(alloc: Global, store: Store<MemDisk>, part: Part) -> Result<MemNode, Fault> {
-    match Node::open(alloc, store, config(alloc, part)?) {
+fn node_over(alloc: Global, store: Store<MemDisk>, config: NodeConfig) -> Result<MemNode, Fault> {
+    match Node::open(alloc, store, config) {
         Ok(node) => Ok(node),
-        Err(_) => Err(Fault::NoMemory),
+        Err(why) => {
+            drop(why);
+            Err(Fault::NoMemory)
+        }
     }
 }
 
 /// The node of a disk on which nothing was called.
-fn opened(alloc: Global, disk: MemDisk, part: Part) -> Result<MemNode, Fault>
+fn opened(alloc: Global, disk: MemDisk, config: NodeConfig) -> Result<MemNode, Fault>
     requires { disk.calls ≡ [] }
 {
-    let store = store_of(alloc, disk)?;
-    node_over(alloc, store, part)
+    match store_of(alloc, disk) {
+        Ok(store) => node_over(alloc, store, config),
+        Err(why) => {
+            drop(config);
+            Err(why)
+        }
+    }
 }
 
 /// A node of a database that was never written, on a disk that fails at a call.
 fn node_on(alloc: Global, part: Part, failing: Failing, call: u64) -> Result<MemNode, Fault> {
-    opened(alloc, blank(alloc, failing, call)?, part)
+    let disk = blank(alloc, failing, call)?;
+    match config(alloc, part) {
+        Ok(config) => opened(alloc, disk, config),
+        Err(why) => {
+            drop(disk);
+            Err(why)
+        }
+    }
 }
 
 /// A node of a database that was never written.
@@ -109,9 +127,10 @@ pub fn new_node(alloc: Global, part: Part) -> Result<MemNode, Fault> {
     node_on(alloc, part, Failing::From, NEVER)
 }
 
-/// The node is stopped. Elsewhere no node is dropped: that is long to prove.
+/// The node is stopped. Elsewhere no node is dropped: that is long to prove. So it is with other large
+/// values, which end in calls of `drop` and not with a statement.
 pub fn stop(node: MemNode) {
-    node.into_store();
+    drop(node.into_store());
 }
 
 /// Another node comes in its place.
@@ -131,11 +150,19 @@ pub fn renew_on(
     Ok(())
 }
 
-/// The node becomes a primary of a database that was never written, on a disk that has no room from a call on.
-pub fn renew_full(alloc: Global, node: &mut MemNode, call: u64) -> Result<(), Fault> {
+/// A disk without files that has no room from a call on.
+fn full(alloc: Global, call: u64) -> Result<MemDisk, Fault>
+    ensures { IfOk result (λ disk. disk.calls ≡ []) }
+{
     let mut disk = blank(alloc, Failing::From, call)?;
     disk.lose_room();
-    put(node, opened(alloc, disk, Part::Primary)?);
+    Ok(disk)
+}
+
+/// The node becomes a primary of a database that was never written, on a disk that has no room from a call on.
+pub fn renew_full(alloc: Global, node: &mut MemNode, call: u64) -> Result<(), Fault> {
+    let config = config(alloc, Part::Primary)?;
+    put(node, opened(alloc, full(alloc, call)?, config)?);
     Ok(())
 }
 
@@ -150,20 +177,32 @@ pub fn take_disk(alloc: Global, node: &mut MemNode) -> Result<MemDisk, Fault> {
     Ok(mem::replace(node, spare).into_store().disk)
 }
 
+/// The node is stopped, and how many calls its disk had. It becomes one of a database that was never written.
+pub fn calls_of(alloc: Global, node: &mut MemNode) -> Result<u64, Fault> {
+    let disk = take_disk(alloc, node)?;
+    let calls = disk.calls();
+    drop(disk);
+    Ok(calls)
+}
+
 /// What a crash leaves of a disk, where a number chooses what is left of each call that is pending.
 fn crashed(disk: MemDisk, choice: u64) -> Result<MemDisk, Fault>
     ensures { IfOk result (λ disk. disk.calls ≡ []) }
 {
     match disk.reopen_as(choice) {
         Ok(disk) => Ok(disk),
-        Err(_) => Err(Fault::NoMemory),
+        Err(why) => {
+            drop(why);
+            Err(Fault::NoMemory)
+        }
     }
 }
 
 /// The node is stopped, its disk crashed, and it is opened again.
 pub fn restart(alloc: Global, node: &mut MemNode, part: Part, choice: u64) -> Result<(), Fault> {
+    let config = config(alloc, part)?;
     let disk = crashed(take_disk(alloc, node)?, choice)?;
-    put(node, opened(alloc, disk, part)?);
+    put(node, opened(alloc, disk, config)?);
     Ok(())
 }
 
@@ -172,15 +211,57 @@ pub fn ask(node: &mut MemNode, caller: u64, ask: &Ask) -> Answer {
     node.step(caller, ask)
 }
 
-/// Where a node stands, with its last file.
-pub fn whereabouts(node: &mut MemNode) -> Whereabouts {
-    match ask(node, 0, &Ask::Where) {
-        Answer::At(here) => here,
+/// One step of a node, with which what was asked ends.
+pub fn ask_once(node: &mut MemNode, caller: u64, asked: Ask) -> Answer {
+    let answer = ask(node, caller, &asked);
+    drop(asked);
+    answer
+}
+
+/// What a node owes at a position.
+pub fn owed_at(node: &mut MemNode, pos: Pos) -> Answer {
+    let hello = Ask::Hello {
+        now: NOW,
+        pos,
+        last: None,
+    };
+    ask_once(node, 0, hello)
+}
+
+/// Whether a file was applied.
+pub fn is_applied(answer: Answer) -> bool {
+    let applied = matches!(&answer, Answer::Applied(_));
+    drop(answer);
+    applied
+}
+
+/// Whether a node's store is broken.
+pub fn is_broken(node: &mut MemNode) -> bool {
+    let answer = ask_once(node, 0, Ask::Info { now: NOW });
+    let broken = match &answer {
+        Answer::Info(info) => info.broken,
+        _ => false,
+    };
+    drop(answer);
+    broken
+}
+
+fn here_of(answer: &Answer) -> Whereabouts {
+    match answer {
+        Answer::At(here) => *here,
         _ => Whereabouts {
             pos: NOWHERE,
             last: None,
         },
     }
+}
+
+/// Where a node stands, with its last file.
+pub fn whereabouts(node: &mut MemNode) -> Whereabouts {
+    let answer = ask(node, 0, &Ask::Where);
+    let here = here_of(&answer);
+    drop(answer);
+    here
 }
 
 /// Where a node stands.

@@ -1,8 +1,9 @@
 //! A transaction of another node comes to the primary under a write permit, and replicas get permits.
 
 use crate::fault::Fault;
-use crate::nodes::{MemNode, NOW, ask, position};
-use crate::turns::{Pair, says};
+use crate::levels::keep;
+use crate::nodes::{MemNode, NOW, ask, ask_once, owed_at, position};
+use crate::turns::{Pair, says, tells};
 use node_core::{Answer, Ask};
 
 /// What is asked of a primary with its write permits.
@@ -30,15 +31,10 @@ fn forwarded_by(owed: Answer) -> Option<Ask> {
 
 /// The other node is asked what it made behind the primary's position.
 pub fn makes(rt: HostRuntime, pair: &mut Pair<'_>) -> Result<(), Fault> {
-    let hello = Ask::Hello {
-        now: NOW,
-        pos: position(pair.primary),
-        last: None,
-    };
-    let answer = ask(pair.replica, 0, &hello);
-    says(rt, "the other", &answer)?;
-    pair.owed = forwarded_by(answer);
-    Ok(())
+    let answer = owed_at(pair.replica, position(pair.primary));
+    let said = says(rt, "the other", &answer);
+    keep(&mut pair.owed, forwarded_by(answer));
+    said
 }
 
 fn forwards(rt: HostRuntime, pair: &mut Pair<'_>, under: u64) -> Result<(), Fault> {
@@ -49,8 +45,8 @@ fn forwards(rt: HostRuntime, pair: &mut Pair<'_>, under: u64) -> Result<(), Faul
         *number = under;
     }
     let answer = ask(pair.primary, 0, &asked);
-    pair.owed = Some(asked);
-    says(rt, "primary", &answer)
+    keep(&mut pair.owed, Some(asked));
+    tells(rt, "primary", answer)
 }
 
 /// This is asked of the primary.
@@ -60,7 +56,7 @@ pub fn permits(rt: HostRuntime, pair: &mut Pair<'_>, asked: Asked) -> Result<(),
         Asked::GiveBack(number) => Ask::HaltBack { now: NOW, number },
         Asked::Forward(number) => return forwards(rt, pair, number),
     };
-    says(rt, "primary", &ask(pair.primary, 0, &asked))
+    tells(rt, "primary", ask_once(pair.primary, 0, asked))
 }
 
 /// A replica gets a write permit of the primary.
@@ -69,13 +65,13 @@ pub fn gets_permit(primary: &mut MemNode, replica: &mut MemNode, number: u64) ->
         now: NOW,
         node: number,
     };
-    let answer = ask(primary, 0, &asked);
+    let answer = ask_once(primary, 0, asked);
     if let Answer::Pass(pass) = &answer {
         let got = Ask::HaltGot {
             now: NOW,
             pass: *pass,
         };
-        ask(replica, 0, &got);
+        drop(ask_once(replica, 0, got));
     }
     answer
 }

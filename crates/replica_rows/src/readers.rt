@@ -4,7 +4,7 @@ use crate::clients::{DATABASE, SHARED_MEMORY, creates, does, locks, reads};
 use crate::fault::Fault;
 use crate::likeness::is_same;
 use crate::nodes::MemNode;
-use crate::turns::{Pair, Who, says, takes};
+use crate::turns::{Pair, Who, takes, tells};
 use fuse_msgs::{LockWish, Op};
 
 /// The caller that reads.
@@ -15,15 +15,15 @@ const READ1: (u64, u64) = (124, 124);
 
 /// The reader opens the database file, and the shared memory by its second handle.
 pub fn opens(rt: HostRuntime, replica: &mut MemNode) -> Result<(), Fault> {
-    does(replica, READER, DATABASE, Op::Open);
-    creates(rt.alloc(), replica, READER, b"app-shm")?;
+    drop(does(replica, READER, DATABASE, Op::Open));
+    drop(creates(rt.alloc(), replica, READER, b"app-shm")?);
     Ok(())
 }
 
 /// The reader takes its lock, or lets it go.
 pub fn wishes(rt: HostRuntime, replica: &mut MemNode, kind: LockWish) -> Result<(), Fault> {
     let answer = locks(replica, READER, SHARED_MEMORY, 2, READ1, kind);
-    says(rt, "reader", &answer)
+    tells(rt, "reader", answer)
 }
 
 /// The replica is given what it was owed between two reads.

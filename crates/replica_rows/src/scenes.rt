@@ -237,6 +237,13 @@ const SCENES: &[&[Turn]] = &[
     FOLLOWING, PRIMARIES, LOG, READER, WAITS, DROP, HELD_DROP, REFUSALS, STRANGE, UNDER, FORK,
 ];
 
+fn play_scenes(rt: HostRuntime, pair: &mut Pair<'_>) -> Result<(), Fault> {
+    for turns in SCENES {
+        play(rt, pair, *turns)?;
+    }
+    Ok(())
+}
+
 /// The scenes, one after another. Each begins its nodes anew.
 pub fn print_scenes(
     rt: HostRuntime,
@@ -250,8 +257,7 @@ pub fn print_scenes(
         took: false,
         said: Said::Nothing,
     };
-    for turns in SCENES {
-        play(rt, &mut pair, *turns)?;
-    }
-    Ok(())
+    let played = play_scenes(rt, &mut pair);
+    drop(pair);
+    played
 }

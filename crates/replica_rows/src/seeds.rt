@@ -5,7 +5,7 @@ use crate::cluster::{Cluster, Who};
 use crate::fault::Fault;
 use crate::levels::asked_by;
 use crate::lineage::PAGES;
-use crate::nodes::{NOW, ask, position};
+use crate::nodes::{ask, ask_once, is_applied, owed_at, position};
 use crate::road::{Road, Sent, count};
 use lf_base::Pos;
 use node_core::{Answer, Ask};
@@ -25,7 +25,7 @@ fn commits(alloc: Global, cluster: &mut Cluster<'_>, road: &mut Road) -> Result<
         u32::try_from(number).unwrap_or(1),
         u8::try_from(byte).unwrap_or(0),
     );
-    commit(alloc, cluster.primary, &[page])?;
+    drop(commit(alloc, cluster.primary, &[page])?);
     road.lineage.commit(page)
 }
 
@@ -51,16 +51,7 @@ fn said_position(cluster: &mut Cluster<'_>, road: &mut Road, who: Who) -> Pos {
 fn sends(cluster: &mut Cluster<'_>, road: &mut Road) -> Result<(), Fault> {
     let who = replica(road);
     let pos = said_position(cluster, road, who);
-    let owed = ask(
-        cluster.primary,
-        0,
-        &Ask::Hello {
-            now: NOW,
-            pos,
-            last: None,
-        },
-    );
-    match asked_by(owed) {
+    match asked_by(owed_at(cluster.primary, pos)) {
         Some(frame) => road.send(who, frame),
         None => Ok(()),
     }
@@ -68,8 +59,7 @@ fn sends(cluster: &mut Cluster<'_>, road: &mut Road) -> Result<(), Fault> {
 
 /// A file arrives. Whether it was applied.
 fn arrives(cluster: &mut Cluster<'_>, sent: &Sent) -> bool {
-    let answer = ask(cluster.node(sent.to), 0, &sent.frame);
-    matches!(answer, Answer::Applied(_))
+    is_applied(ask(cluster.node(sent.to), 0, &sent.frame))
 }
 
 /// One of the files arrives. Once in two times it is still on its way and may arrive again.
@@ -100,9 +90,11 @@ fn loses(road: &mut Road) {
 /// The primary's log keeps its last files, one to four.
 fn prunes(cluster: &mut Cluster<'_>, road: &mut Road) {
     let keep = road.chance.below(4).saturating_add(1);
-    if let Answer::Pruned(gone) = ask(cluster.primary, 0, &Ask::Prune { keep }) {
-        road.counts.pruned = road.counts.pruned.saturating_add(gone);
+    let answer = ask_once(cluster.primary, 0, Ask::Prune { keep });
+    if let Answer::Pruned(gone) = &answer {
+        road.counts.pruned = road.counts.pruned.saturating_add(*gone);
     }
+    drop(answer);
 }
 
 /// One of the nodes is restarted.
@@ -187,7 +179,9 @@ fn play(
 fn print_seed(rt: HostRuntime, seed: u64, cluster: &mut Cluster<'_>) -> Result<(), Fault> {
     cluster.renew(rt.alloc())?;
     let mut road = Road::new(rt.alloc(), seed)?;
-    play(rt, seed, cluster, &mut road)
+    let played = play(rt, seed, cluster, &mut road);
+    drop(road);
+    played
 }
 
 /// The seeds, one after another.

@@ -5,7 +5,7 @@ use crate::fault::Fault;
 use crate::files::{Files, files_of};
 use crate::levels::gets_level;
 use crate::likeness::is_as;
-use crate::nodes::{Failing, MemNode, NEVER, Part, ask, renew_on, restart, take_disk};
+use crate::nodes::{Failing, MemNode, NEVER, Part, ask, calls_of, renew_on, restart};
 use crate::tally::{CHOICES, NONE, Tally, count_if};
 use node_core::{Answer, Refusal};
 use std::alloc::Global;
@@ -29,26 +29,35 @@ fn prepare(
     call: u64,
 ) -> Result<(), Fault> {
     renew_on(alloc, replica, Part::Replica, failing, call)?;
-    ask(replica, 0, &files.base);
-    ask(replica, 0, &files.ninth);
+    drop(ask(replica, 0, &files.base));
+    drop(ask(replica, 0, &files.ninth));
     Ok(())
 }
 
 /// How many calls of the disk there are before the install, and with it.
 fn counts(alloc: Global, files: &Files, replica: &mut MemNode) -> Result<(u64, u64), Fault> {
     prepare(alloc, files, replica, Failing::From, NEVER)?;
-    let before = take_disk(alloc, replica)?.calls();
+    let before = calls_of(alloc, replica)?;
     prepare(alloc, files, replica, Failing::From, NEVER)?;
-    ask(replica, 0, &files.snapshot);
-    Ok((before, take_disk(alloc, replica)?.calls()))
+    drop(ask(replica, 0, &files.snapshot));
+    Ok((before, calls_of(alloc, replica)?))
+}
+
+/// Why the store refused.
+fn refusal(answer: Answer) -> Option<StoreFault> {
+    let refused = match &answer {
+        Answer::Refused(Refusal::Store(why)) => Some(*why),
+        _ => None,
+    };
+    drop(answer);
+    refused
 }
 
 /// Whether the replica refuses the snapshot for its disk, and once more since its store is broken.
 fn refuses(replica: &mut MemNode, files: &Files) -> bool {
-    let first = ask(replica, 0, &files.snapshot);
-    let second = ask(replica, 0, &files.snapshot);
-    matches!(first, Answer::Refused(Refusal::Store(StoreFault::Disk)))
-        && matches!(second, Answer::Refused(Refusal::Store(StoreFault::Broken)))
+    let first = refusal(ask(replica, 0, &files.snapshot));
+    let second = refusal(ask(replica, 0, &files.snapshot));
+    matches!(first, Some(StoreFault::Disk)) && matches!(second, Some(StoreFault::Broken))
 }
 
 /// Where the replica is after its restart, and whether it is level after what it is owed there.
@@ -127,5 +136,7 @@ pub fn print_stops(
         replica,
         files: &files,
     };
-    print_both(rt, &mut install)
+    let printed = print_both(rt, &mut install);
+    drop(files);
+    printed
 }

@@ -2,8 +2,10 @@
 
 use crate::clients::{FOLDER, Filled, bytes, commit, creates, does};
 use crate::fault::Fault;
-use crate::levels::asked_by;
-use crate::nodes::{MemNode, NOW, Part, ask, renew, restart, whereabouts};
+use crate::levels::{asked_by, keep};
+use crate::nodes::{
+    MemNode, NOW, Part, ask, ask_once, is_applied, owed_at, renew, restart, whereabouts,
+};
 use crate::permits::{Asked, makes, permits};
 use crate::readers::{opens, reads_around, wishes};
 use crate::strange::{Pieces, joined};
@@ -100,12 +102,19 @@ pub fn says(rt: HostRuntime, who: &str, answer: &Answer) -> Result<(), Fault> {
     Ok(())
 }
 
+/// The same of an answer that ends with it.
+pub fn tells(rt: HostRuntime, who: &str, answer: Answer) -> Result<(), Fault> {
+    let said = says(rt, who, &answer);
+    drop(answer);
+    said
+}
+
 fn asks(rt: HostRuntime, who: &str, node: &mut MemNode, asked: Ask) -> Result<(), Fault> {
-    says(rt, who, &ask(node, 0, &asked))
+    tells(rt, who, ask_once(node, 0, asked))
 }
 
 fn commits(rt: HostRuntime, node: &mut MemNode, pages: &[Filled]) -> Result<(), Fault> {
-    says(rt, "commit", &commit(rt.alloc(), node, pages)?)?;
+    tells(rt, "commit", commit(rt.alloc(), node, pages)?)?;
     asks(rt, "primary", node, Ask::Where)
 }
 
@@ -130,10 +139,10 @@ fn greets(pair: &mut Pair<'_>) -> Ask {
 
 fn owes(rt: HostRuntime, pair: &mut Pair<'_>) -> Result<(), Fault> {
     let hello = greets(pair);
-    let answer = ask(pair.primary, 0, &hello);
-    says(rt, "primary", &answer)?;
-    pair.owed = asked_by(answer);
-    Ok(())
+    let answer = ask_once(pair.primary, 0, hello);
+    let said = says(rt, "primary", &answer);
+    keep(&mut pair.owed, asked_by(answer));
+    said
 }
 
 /// The node is given what was owed.
@@ -146,8 +155,9 @@ pub fn takes(rt: HostRuntime, pair: &mut Pair<'_>, who: Who) -> Result<(), Fault
         Who::Primary => ask(pair.primary, 0, asked),
         Who::Replica => ask(pair.replica, 0, asked),
     };
-    pair.took = matches!(answer, Answer::Applied(_));
-    says(rt, "replica", &answer)
+    let said = says(rt, "replica", &answer);
+    pair.took = is_applied(answer);
+    said
 }
 
 /// The replica is given what it is owed next.
@@ -169,12 +179,12 @@ fn follows(rt: HostRuntime, pair: &mut Pair<'_>) -> Result<(), Fault> {
 
 fn unlinks(rt: HostRuntime, primary: &mut MemNode) -> Result<(), Fault> {
     let name = bytes(rt.alloc(), b"app")?;
-    says(rt, "unlink", &does(primary, 1, FOLDER, Op::Unlink { name }))
+    tells(rt, "unlink", does(primary, 1, FOLDER, Op::Unlink { name }))
 }
 
 fn begins_journal(rt: HostRuntime, replica: &mut MemNode) -> Result<(), Fault> {
     let answer = creates(rt.alloc(), replica, 1, b"app-journal")?;
-    says(rt, "journal at a replica", &answer)
+    tells(rt, "journal at a replica", answer)
 }
 
 fn prints(rt: HostRuntime, title: &str) -> Result<(), Fault> {
@@ -183,12 +193,7 @@ fn prints(rt: HostRuntime, title: &str) -> Result<(), Fault> {
 }
 
 fn asks_at(rt: HostRuntime, node: &mut MemNode, pos: Pos) -> Result<(), Fault> {
-    let asked = Ask::Hello {
-        now: NOW,
-        pos,
-        last: None,
-    };
-    asks(rt, "primary", node, asked)
+    tells(rt, "primary", owed_at(node, pos))
 }
 
 /// The replica is given bytes as a file.

@@ -2,7 +2,7 @@
 
 use crate::clients::{DATABASE, SHARED_MEMORY, creates, does};
 use crate::fault::Fault;
-use crate::nodes::{MemNode, NOW, ask};
+use crate::nodes::{MemNode, NOW, ask, ask_once};
 use crate::told::told_by;
 use crate::turns::Pair;
 use fuse_msgs::{LockWish, Op, Request};
@@ -128,8 +128,8 @@ pub const LEAVES: &[Moment] = &[
 
 /// A reader opens the database file, and the shared memory by its second handle.
 fn opens(rt: HostRuntime, replica: &mut MemNode, reader: u64) -> Result<(), Fault> {
-    does(replica, reader, DATABASE, Op::Open);
-    creates(rt.alloc(), replica, reader, b"app-shm")?;
+    drop(does(replica, reader, DATABASE, Op::Open));
+    drop(creates(rt.alloc(), replica, reader, b"app-shm")?);
     Ok(())
 }
 
@@ -148,7 +148,7 @@ fn wishes(replica: &mut MemNode, now: u64, reader: u64, lock: Lock, kind: LockWi
             kind,
         },
     };
-    ask(replica, reader, &Ask::File { now, request })
+    ask_once(replica, reader, Ask::File { now, request })
 }
 
 fn lock_asked(
@@ -160,10 +160,9 @@ fn lock_asked(
     kind: LockWish,
 ) -> Result<(), Fault> {
     let answer = wishes(replica, NOW.saturating_add(at), reader, lock, kind);
-    println!(rt;
-        "  at {at}: reader {reader}: {}",
-        told_by(rt.alloc(), &answer)
-    )?;
+    let told = told_by(rt.alloc(), &answer);
+    drop(answer);
+    println!(rt; "  at {at}: reader {reader}: {told}")?;
     Ok(())
 }
 
@@ -173,7 +172,9 @@ fn file_given(rt: HostRuntime, pair: &mut Pair<'_>, at: u64) -> Result<(), Fault
     };
     owed.set_moment(NOW.saturating_add(at));
     let answer = ask(pair.replica, 0, owed);
-    println!(rt; "  at {at}: replica: {}", told_by(rt.alloc(), &answer))?;
+    let told = told_by(rt.alloc(), &answer);
+    drop(answer);
+    println!(rt; "  at {at}: replica: {told}")?;
     Ok(())
 }
 

@@ -70,7 +70,11 @@ fn print_pruned(rt: HostRuntime, store: &mut MemStore) -> io::Result<()> {
 
 pub fn print_log(rt: HostRuntime) -> io::Result<()> {
     match made(rt.alloc(), Way::Whole, FOUR) {
-        Some(mut store) => print_pruned(rt, &mut store),
+        Some(mut store) => {
+            let printed = print_pruned(rt, &mut store);
+            drop(store);
+            printed
+        }
         None => println!(rt; "no log of four"),
     }
 }
@@ -113,7 +117,11 @@ fn print_said(rt: HostRuntime, store: &mut MemStore) -> io::Result<()> {
 /// The same of the log of four files.
 pub fn print_last(rt: HostRuntime) -> io::Result<()> {
     match made(rt.alloc(), Way::Whole, FOUR) {
-        Some(mut store) => print_said(rt, &mut store),
+        Some(mut store) => {
+            let printed = print_said(rt, &mut store);
+            drop(store);
+            printed
+        }
         None => println!(rt; "no log of four"),
     }
 }
@@ -128,7 +136,11 @@ const DROPS: &[(&str, &[Step])] = &[
 fn print_drop(rt: HostRuntime, title: &str, steps: &[Step]) -> io::Result<()> {
     println!(rt; "{title}")?;
     match made(rt.alloc(), Way::Whole, steps) {
-        Some(store) => print_owed(rt, &store, AROUND),
+        Some(store) => {
+            let printed = print_owed(rt, &store, AROUND);
+            drop(store);
+            printed
+        }
         None => println!(rt; "  no store"),
     }
 }

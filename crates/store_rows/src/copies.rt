@@ -38,6 +38,9 @@ pub fn copied(alloc: Global, disk: &mut MemDisk) -> Option<MemDisk>
     ensures { IfSome result (λ copy. copy.calls ≡ []) }
 {
     let mut copy = MemDisk::new(alloc, Vec::new(alloc), None).ok()?;
-    write_each(alloc, disk, &mut copy)?;
-    crashed(copy, 0)
+    if write_each(alloc, disk, &mut copy).is_some() {
+        return crashed(copy, 0);
+    }
+    drop(copy);
+    None
 }

@@ -96,8 +96,11 @@ fn disk_of(alloc: Global, folder: &Folder) -> Option<MemDisk>
     ensures { IfSome result (λ disk. disk.calls ≡ []) }
 {
     let mut disk = MemDisk::new(alloc, Vec::new(alloc), None).ok()?;
-    write_all(alloc, &mut disk, folder)?;
-    crashed(disk, 0)
+    if write_all(alloc, &mut disk, folder).is_some() {
+        return crashed(disk, 0);
+    }
+    drop(disk);
+    None
 }
 
 /// Why a disk is not recovered, and how many of its calls changed something.
@@ -105,8 +108,15 @@ fn refused(alloc: Global, disk: MemDisk) -> Option<(RecoverFault, u64)>
     requires { disk.calls ≡ [] }
 {
     match recover(alloc, disk) {
-        Ok(_) => None,
-        Err((why, disk)) => Some((why, disk.moment())),
+        Ok(store) => {
+            drop(store);
+            None
+        }
+        Err((why, disk)) => {
+            let changes = disk.moment();
+            drop(disk);
+            Some((why, changes))
+        }
     }
 }
 
@@ -132,7 +142,11 @@ fn failing(alloc: Global) -> Option<MemDisk>
 /// What it says when it is to list its files.
 fn print_list(rt: HostRuntime) -> io::Result<()> {
     let listed = match failing(rt.alloc()) {
-        Some(mut disk) => disk.list().err(),
+        Some(mut disk) => {
+            let listed = disk.list().err();
+            drop(disk);
+            listed
+        }
         None => Some(ListFault::NoMemory),
     };
     println!(rt; "  a list: {listed:?}")

@@ -26,12 +26,18 @@ fn in_folder(rt: HostRuntime) -> Option<FolderStore> {
     }
 }
 
+/// Looks whether a store is at a stage, and does a step.
+fn does_at(rt: HostRuntime, store: &mut FolderStore, stage: &Stage, step: &Step) -> bool {
+    is_just(store, stage) && matches!(does(rt.alloc(), store, Way::Whole, step), Went::Done)
+}
+
 /// Opens the folder, looks whether its store is at a stage, and does a step.
 fn goes_on(rt: HostRuntime, stage: &Stage, step: &Step) -> bool {
     match in_folder(rt) {
         Some(mut store) => {
-            is_just(&mut store, stage)
-                && matches!(does(rt.alloc(), &mut store, Way::Whole, step), Went::Done)
+            let done = does_at(rt, &mut store, stage, step);
+            drop(store);
+            done
         }
         None => false,
     }
@@ -64,7 +70,11 @@ const TWO: &[Step] = &[Step::Commit(1, &[(1, 0)]), Step::Apply(B)];
 /// How many of them are published.
 fn publishes(rt: HostRuntime) -> usize {
     match in_folder(rt) {
-        Some(mut store) => run(rt.alloc(), &mut store, Way::Whole, TWO).0,
+        Some(mut store) => {
+            let (done, _) = run(rt.alloc(), &mut store, Way::Whole, TWO);
+            drop(store);
+            done
+        }
         None => 0,
     }
 }

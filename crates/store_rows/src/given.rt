@@ -148,7 +148,11 @@ fn print_to(
     gifts: &[Gift],
 ) -> io::Result<()> {
     match store {
-        Some(mut store) => print_gifts(rt, title, &mut store, gifts),
+        Some(mut store) => {
+            let printed = print_gifts(rt, title, &mut store, gifts);
+            drop(store);
+            printed
+        }
         None => println!(rt; "no store"),
     }
 }
@@ -172,7 +176,11 @@ fn print_replaced(rt: HostRuntime, store: &mut MemStore) -> io::Result<()> {
 
 fn print_at_nine(rt: HostRuntime) -> io::Result<()> {
     match made(rt.alloc(), Way::Whole, TO_NINE) {
-        Some(mut store) => print_replaced(rt, &mut store),
+        Some(mut store) => {
+            let printed = print_replaced(rt, &mut store);
+            drop(store);
+            printed
+        }
         None => println!(rt; "no store"),
     }
 }

@@ -77,10 +77,13 @@ fn print_into(rt: HostRuntime, file: &[u8], store: &mut MemStore, failing: u64) 
 }
 
 /// The same, if there is a store.
-fn print_of(rt: HostRuntime, file: &[u8], title: &str, store: Option<MemStore>) -> io::Result<()> {
-    print!(rt; "  {title}: ")?;
+fn print_of(rt: HostRuntime, file: &[u8], store: Option<MemStore>) -> io::Result<()> {
     match store {
-        Some(mut store) => print_into(rt, file, &mut store, WRITES),
+        Some(mut store) => {
+            let printed = print_into(rt, file, &mut store, WRITES);
+            drop(store);
+            printed
+        }
         None => println!(rt; "no store"),
     }
 }
@@ -97,14 +100,20 @@ fn print_writes(rt: HostRuntime, file: &[u8], store: &mut MemStore) -> io::Resul
 fn print_all(rt: HostRuntime, file: &[u8], store: &mut MemStore) -> io::Result<()> {
     println!(rt; "a snapshot into a sink")?;
     print_writes(rt, file, store)?;
-    print_of(rt, file, "its disk fails", failing(rt.alloc()))?;
-    print_of(rt, file, "a broken store", broken(rt.alloc()))
+    print!(rt; "  its disk fails: ")?;
+    print_of(rt, file, failing(rt.alloc()))?;
+    print!(rt; "  a broken store: ")?;
+    print_of(rt, file, broken(rt.alloc()))
 }
 
 pub fn print_snapshots(rt: HostRuntime) -> io::Result<()> {
     let alloc = rt.alloc();
     match (encoding_of(alloc, &A), made(alloc, Way::Whole, COMMIT)) {
-        (Some(file), Some(mut store)) => print_all(rt, file.as_slice(), &mut store),
+        (Some(file), Some(mut store)) => {
+            let printed = print_all(rt, file.as_slice(), &mut store);
+            drop(store);
+            printed
+        }
         _ => println!(rt; "no store"),
     }
 }

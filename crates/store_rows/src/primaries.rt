@@ -73,7 +73,11 @@ fn follow(rt: HostRuntime, old: &mut MemStore, new: &mut MemStore) -> io::Result
     let owed = new.answer(stands, false);
     println!(rt; "  old at ({}, {:x}): {owed:?}", stands.txid, stands.sum)?;
     match owed_file(rt.alloc(), new, owed) {
-        Some(file) => take(rt, old, &file),
+        Some(file) => {
+            let taken = take(rt, old, &file);
+            drop(file);
+            taken
+        }
         None => Ok(()),
     }
 }
@@ -90,7 +94,11 @@ fn print_following(rt: HostRuntime, old: &mut MemStore, new: &mut MemStore) -> i
 
 fn print_with(rt: HostRuntime, old: &mut MemStore) -> io::Result<()> {
     match made(rt.alloc(), Way::Whole, NEW) {
-        Some(mut new) => print_following(rt, old, &mut new),
+        Some(mut new) => {
+            let printed = print_following(rt, old, &mut new);
+            drop(new);
+            printed
+        }
         None => println!(rt; "no new store"),
     }
 }
@@ -98,7 +106,11 @@ fn print_with(rt: HostRuntime, old: &mut MemStore) -> io::Result<()> {
 /// An old primary follows a new one.
 pub fn print_primaries(rt: HostRuntime) -> io::Result<()> {
     match made(rt.alloc(), Way::Whole, OLD) {
-        Some(mut old) => print_with(rt, &mut old),
+        Some(mut old) => {
+            let printed = print_with(rt, &mut old);
+            drop(old);
+            printed
+        }
         None => println!(rt; "no old store"),
     }
 }

@@ -43,7 +43,11 @@ struct Left {
 
 fn place_of(store: Option<MemStore>, left: Left) -> Place {
     match store {
-        Some(mut store) => place_at(&mut store, &SCRIPT, left.done),
+        Some(mut store) => {
+            let place = place_at(&mut store, &SCRIPT, left.done);
+            drop(store);
+            place
+        }
         None => None,
     }
 }
@@ -73,7 +77,10 @@ fn stopping(alloc: Global, disk: &mut MemDisk, stop: u64) -> Option<MemDisk>
 /// The store of a disk after its recovery stopped at a call. `None` where it makes no such call.
 fn found_again(alloc: Global, disk: &mut MemDisk, left: Left, stop: u64) -> Option<Place> {
     match opened(alloc, stopping(alloc, disk, stop)?) {
-        Ok(_) => None,
+        Ok(store) => {
+            drop(store);
+            None
+        }
         Err(disk) => Some(place_of(recovered(alloc, disk, left.choice), left)),
     }
 }

@@ -57,18 +57,19 @@ fn answers(
     store: &mut MemStore,
     sample: &Sample,
 ) -> Option<(Result<Pos, StoreFault>, Result<Pos, FromFault>)> {
-    let file = file_of(alloc, sample)?;
+    let whole = applies(store, file_of(alloc, sample)?);
     let encoding = encoding_of(alloc, sample)?;
-    let whole = applies(store, &file);
     let bytes = encoding.as_slice();
     let given = take_from(alloc, store, Taking::Apply, sample.commit, bytes, None)?;
     Some((whole, given))
 }
 
-fn applies(store: &mut MemStore, file: &Ltx) -> Result<Pos, StoreFault>
-    requires { IsFile file.now }
+fn applies(store: &mut MemStore, file: Ltx) -> Result<Pos, StoreFault>
+    requires { IsFile file }
 {
-    store.apply(file)
+    let applied = store.apply(&file);
+    drop(file);
+    applied
 }
 
 fn print_behind(
@@ -104,24 +105,42 @@ fn print_commit(rt: HostRuntime, title: &str, store: &mut MemStore, pages: u32) 
     }
 }
 
+/// What a new store answers to a file.
+fn print_file(rt: HostRuntime, title: &str, sample: &Sample) -> io::Result<()> {
+    match store_of(rt.alloc(), Step::Apply(A)) {
+        Some(mut store) => {
+            let printed = print_behind(rt, title, &mut store, sample);
+            drop(store);
+            printed
+        }
+        None => println!(rt; "  no store"),
+    }
+}
+
 fn print_files(rt: HostRuntime) -> io::Result<()> {
     for (title, sample) in BEHIND {
-        match store_of(rt.alloc(), Step::Apply(A)) {
-            Some(mut store) => print_behind(rt, title, &mut store, sample)?,
-            None => println!(rt; "  no store")?,
-        }
+        print_file(rt, title, sample)?;
     }
     Ok(())
+}
+
+/// What a store of a file answers to a commit after which there are so many pages.
+fn print_pages(rt: HostRuntime, title: &str, sample: &Sample, pages: u32) -> io::Result<()> {
+    match store_of(rt.alloc(), Step::Install(*sample)) {
+        Some(mut store) => {
+            let printed = print_commit(rt, title, &mut store, pages);
+            drop(store);
+            printed
+        }
+        None => println!(rt; "  no store"),
+    }
 }
 
 pub fn print_refusals(rt: HostRuntime) -> io::Result<()> {
     println!(rt; "what a store refuses")?;
     print_files(rt)?;
     for (title, sample, pages) in COMMITS {
-        match store_of(rt.alloc(), Step::Install(*sample)) {
-            Some(mut store) => print_commit(rt, title, &mut store, *pages)?,
-            None => println!(rt; "  no store")?,
-        }
+        print_pages(rt, title, sample, *pages)?;
     }
     Ok(())
 }

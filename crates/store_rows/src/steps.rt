@@ -112,7 +112,11 @@ fn takes_whole<D: Disk>(
     sample: &Sample,
 ) -> Went {
     match file_of(alloc, sample) {
-        Some(file) => takes_file(store, taking, &file),
+        Some(file) => {
+            let went = takes_file(store, taking, &file);
+            drop(file);
+            went
+        }
         None => Went::Refused,
     }
 }

@@ -74,7 +74,11 @@ pub fn stopped(
 ) -> Option<MemStore> {
     let mut store = opened(alloc, blank(alloc, Failing::From, call)?).ok()?;
     let (done, _) = run(alloc, &mut store, way, steps);
-    if done == count { Some(store) } else { None }
+    if done == count {
+        return Some(store);
+    }
+    drop(store);
+    None
 }
 
 /// A store after some steps.
@@ -85,5 +89,7 @@ pub fn made(alloc: Global, way: Way, steps: &[Step]) -> Option<MemStore> {
 /// How many calls a disk has had after some steps, and how many of them change something.
 pub fn calls_of(alloc: Global, way: Way, steps: &[Step]) -> Option<(u64, u64)> {
     let store = made(alloc, way, steps)?;
-    Some((store.disk.calls(), store.disk.moment()))
+    let calls = (store.disk.calls(), store.disk.moment());
+    drop(store);
+    Some(calls)
 }

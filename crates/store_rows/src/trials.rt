@@ -42,7 +42,10 @@ pub fn played(alloc: Global, disk: MemDisk, script: &Script) -> Option<(MemDisk,
     match opened(alloc, disk) {
         Ok(mut store) => match steps_done(alloc, &mut store, script) {
             Some(done) => Some((store.disk, done)),
-            None => None,
+            None => {
+                drop(store);
+                None
+            }
         },
         Err(disk) => Some((disk, 0)),
     }
@@ -69,7 +72,11 @@ pub fn trial(
 ) -> Option<(usize, &'static str)> {
     let (disk, done) = played(alloc, blank(alloc, failing, call)?, script)?;
     match recovered(alloc, disk, choice) {
-        Some(mut store) => place_at(&mut store, script, done),
+        Some(mut store) => {
+            let place = place_at(&mut store, script, done);
+            drop(store);
+            place
+        }
         None => None,
     }
 }
