@@ -11,7 +11,7 @@ mod renewing;
 
 use crate::etcd_texts::{KEY, with_header, with_result};
 use crate::exchange::link_of;
-use crate::same::same;
+use crate::same::{holds, same};
 use etcd_lease::{EtcdService, EtcdSettings, Held, Noting};
 use lease_core::LeaseAsk;
 use lease_link::{Learned, Service, Unlearned};
@@ -97,7 +97,7 @@ fn add(rt: impl Copy + Abort, alloc: Global, lines: &mut Lines, meets: Meets, si
     lines.dials = dial.saturating_add(1);
     let failing = match meets {
         Meets::Refused => {
-            assert!(rt; lines.failing.push(dial).is_ok());
+            lines.failing.push(dial).expect(&rt, "memory");
             return;
         }
         Meets::Fails(call) => call,
@@ -105,7 +105,7 @@ fn add(rt: impl Copy + Abort, alloc: Global, lines: &mut Lines, meets: Meets, si
     };
     let text = text_of(rt, alloc, meets);
     let link = link_of(&rt, alloc, text.as_bytes(), size, 1_024, failing);
-    assert!(rt; lines.watches.push(link.watch()).is_ok());
+    holds(rt, lines.watches.push(link.watch()).is_ok(), "memory");
     assert!(rt; lines.links.push(link).is_ok());
 }
 
@@ -231,7 +231,7 @@ fn sent_text(rt: impl Copy + Abort, alloc: Global, sent: &[Sent]) -> String {
             body.len()
         )
         .expect(&rt, "memory");
-        assert!(rt; text.push_str(call.as_str()).is_ok());
+        text.push_str(call.as_str()).expect(&rt, "memory");
     }
     text
 }
@@ -241,7 +241,8 @@ fn taken(rt: impl Copy + Abort, alloc: Global, watches: &[Watch]) -> Vec<u8> {
     let mut all = Vec::new(alloc);
     for watch in watches {
         let bytes = watch.bytes().expect(&rt, "memory");
-        assert!(rt; all.extend_from_slice(bytes.as_slice()).is_ok());
+        all.extend_from_slice(bytes.as_slice())
+            .expect(&rt, "memory");
     }
     all
 }
@@ -271,7 +272,7 @@ fn service_of<'a>(
     let mut endpoints = Vec::new(alloc);
     for address in ["a:1", "b:2", "c:3"] {
         let address = Text::of(alloc, address).expect(&rt, "memory");
-        assert!(rt; endpoints.push(address).is_ok());
+        holds(rt, endpoints.push(address).is_ok(), "memory");
     }
     EtcdService {
         settings: EtcdSettings {
@@ -291,8 +292,8 @@ fn service_of<'a>(
 fn order_of(rt: impl Copy + Abort, alloc: Global, endpoints: &[Text]) -> String {
     let mut text = String::new(alloc);
     for endpoint in endpoints {
-        assert!(rt; text.push_str(" ").is_ok());
-        assert!(rt; text.push_str(endpoint.as_str()).is_ok());
+        text.push_str(" ").expect(&rt, "memory");
+        text.push_str(endpoint.as_str()).expect(&rt, "memory");
     }
     text
 }
@@ -307,10 +308,37 @@ fn is_round<R: Handles + Abort + Copy>(rt: R, alloc: Global, row: &Row, size: us
     } = lines_of(rt, alloc, row.meets, size);
     let mut dialer = MemDialer::new(alloc, links, 9, failing).expect(&rt, "a dialer");
     let mut service = service_of(rt, alloc, row.held, watches.as_slice());
-    let asked = ask_of(rt, alloc, row.asked);
     let mut turns = Turns::new(TURNS);
-    let heard = heard_of(service.ask(&rt, alloc, &mut dialer, &asked, &mut turns));
+    let heard = asks(rt, alloc, &mut service, &mut dialer, row.asked, &mut turns);
+    drop(dialer);
     same(rt, (row.name, heard), (row.name, row.heard));
+    is_left(rt, alloc, row, &service);
+    drop(service);
+    is_sent(rt, alloc, row, watches.as_slice());
+}
+
+/// What is heard of an ask.
+fn asks<R: Handles + Abort + Copy>(
+    rt: R,
+    alloc: Global,
+    service: &mut EtcdService<DialClock<'_>, Passed>,
+    dialer: &mut MemDialer,
+    asked: Asked,
+    turns: &mut Turns,
+) -> Heard {
+    let asked = ask_of(rt, alloc, asked);
+    let heard = heard_of(service.ask(&rt, alloc, dialer, &asked, turns));
+    drop(asked);
+    heard
+}
+
+/// The service is left as the row says.
+fn is_left(
+    rt: impl Copy + Abort,
+    alloc: Global,
+    row: &Row,
+    service: &EtcdService<DialClock<'_>, Passed>,
+) {
     same(rt, (row.name, service.held), (row.name, row.after));
     let order = order_of(rt, alloc, service.endpoints.as_slice());
     same(rt, (row.name, order.as_str()), (row.name, row.order));
@@ -319,10 +347,12 @@ fn is_round<R: Handles + Abort + Copy>(rt: R, alloc: Global, row: &Row, size: us
         (row.name, service.notes.text.as_str()),
         (row.name, row.passed),
     );
-    let (got, wanted) = (
-        taken(rt, alloc, watches.as_slice()),
-        sent_text(rt, alloc, row.sent),
-    );
+}
+
+/// The links took the calls of the row.
+fn is_sent(rt: impl Copy + Abort, alloc: Global, row: &Row, watches: &[Watch]) {
+    let got = taken(rt, alloc, watches);
+    let wanted = sent_text(rt, alloc, row.sent);
     same(
         rt,
         (row.name, got.as_slice()),
@@ -353,13 +383,16 @@ fn told_by<R: Handles + Abort + Copy>(
     } = lines_of(rt, alloc, meets, 99_999);
     let mut dialer = MemDialer::new(alloc, links, 9, failing).expect(&rt, "a dialer");
     let mut service = service_of(rt, alloc, Some(HELD), watches.as_slice());
-    let asked = ask_of(rt, alloc, Asked::Renew(HELD.term));
     let mut turns = Turns::new(budget);
-    let heard = heard_of(service.ask(&rt, alloc, &mut dialer, &asked, &mut turns));
+    let asked = Asked::Renew(HELD.term);
+    let heard = asks(rt, alloc, &mut service, &mut dialer, asked, &mut turns);
+    let held = service.held;
+    drop(service);
+    drop(dialer);
     Renewed {
         heard,
         spent: budget.saturating_sub(turns.left()),
-        held: service.held,
+        held,
     }
 }
 

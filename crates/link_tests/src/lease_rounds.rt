@@ -105,6 +105,8 @@ fn round<R: Handles + Abort + Copy>(
         &mut pause,
         budget,
     );
+    drop(own);
+    drop(service);
     (closed(rt, desk, seat), end_of(end))
 }
 
@@ -120,5 +122,6 @@ fn round_of<R: Handles + Abort + Copy>(
     let watch = link.watch();
     let mut dialer = dialer_of(&rt, alloc, link);
     let (account, end) = round(rt, alloc, who, &mut dialer, TURNS);
+    drop(dialer);
     (account, end, watch.bytes().expect(&rt, "memory"))
 }

@@ -46,6 +46,7 @@ fn says(rt: impl Copy + Abort, alloc: Global, text: &str, said: &str) {
         (text, line(rt, alloc, &settings).as_str()),
         (text, said),
     );
+    drop(settings);
 }
 
 const READ: &[(&str, &str)] = &[
@@ -155,13 +156,17 @@ fn keys_beside_are_read(rt: HostRuntime) {
     let alloc = rt.alloc();
     for (more, said) in BESIDE {
         let text = with_required(rt, alloc, more);
-        let settings = read_settings(alloc, text.as_bytes()).expect(&rt, "settings");
-        same(
-            rt,
-            (*more, beside_line(rt, alloc, &settings).as_str()),
-            (*more, *said),
-        );
+        let line = beside_of(rt, alloc, text.as_bytes());
+        same(rt, (*more, line.as_str()), (*more, *said));
     }
+}
+
+/// What a configuration says of them.
+fn beside_of(rt: impl Copy + Abort, alloc: Global, text: &[u8]) -> String {
+    let settings = read_settings(alloc, text).expect(&rt, "settings");
+    let line = beside_line(rt, alloc, &settings);
+    drop(settings);
+    line
 }
 
 const SERVICE: &str =
@@ -178,21 +183,24 @@ fn a_lease_service_is_read(rt: HostRuntime) {
         text.as_str(),
         "litefs.sock :20202 1000 true db1:20202 db1 lease:20202 10000",
     );
-    let settings = read_settings(alloc, text.as_bytes()).expect(&rt, "settings");
-    holds(
-        rt,
-        settings.lease.lease_type == LeaseType::Service,
-        "its type",
-    );
-    let refused = read_static_settings(alloc, text.as_bytes());
-    same(
-        rt,
-        complaint(rt, alloc, refused).as_str(),
-        "lease.type 5 static",
-    );
+    is_of_type(rt, alloc, text.as_bytes(), LeaseType::Service);
     let required = with_required(rt, alloc, "service-url = \"http://lease:20202\"\n");
-    let fixed = read_static_settings(alloc, required.as_bytes());
+    is_static(rt, alloc, required.as_bytes());
+}
+
+/// The lease is of a type that is refused to a node that needs none.
+fn is_of_type(rt: impl Copy + Abort, alloc: Global, text: &[u8], wanted: LeaseType) {
+    let settings = read_settings(alloc, text).expect(&rt, "settings");
+    holds(rt, settings.lease.lease_type == wanted, "its type");
+    drop(settings);
+    let refused = complaint(rt, alloc, read_static_settings(alloc, text));
+    same(rt, refused.as_str(), "lease.type 5 static");
+}
+
+fn is_static(rt: impl Copy + Abort, alloc: Global, text: &[u8]) {
+    let fixed = read_static_settings(alloc, text);
     holds(rt, fixed.is_ok(), "a static lease");
+    drop(fixed);
 }
 
 /// Where etcd is: the address of each endpoint, and the key.
@@ -238,13 +246,16 @@ fn places_of_etcd_are_read(rt: HostRuntime) {
     let alloc = rt.alloc();
     for (more, said) in ETCDS {
         let text = with_required(rt, alloc, more);
-        let settings = read_settings(alloc, text.as_bytes()).expect(&rt, "settings");
-        same(
-            rt,
-            (*more, etcd_line(rt, alloc, &settings).as_str()),
-            (*more, *said),
-        );
+        let line = etcd_of(rt, alloc, text.as_bytes());
+        same(rt, (*more, line.as_str()), (*more, *said));
     }
+}
+
+fn etcd_of(rt: impl Copy + Abort, alloc: Global, text: &[u8]) -> String {
+    let settings = read_settings(alloc, text).expect(&rt, "settings");
+    let line = etcd_line(rt, alloc, &settings);
+    drop(settings);
+    line
 }
 
 /// A text of `count` endpoints, and a key of so many bytes.
@@ -304,17 +315,9 @@ fn a_lease_of_etcd_is_read(rt: HostRuntime) {
         text.as_str(),
         "litefs.sock :20202 1000 false db1:20202 db1 none 10000",
     );
-    let settings = read_settings(alloc, text.as_bytes()).expect(&rt, "settings");
-    holds(rt, settings.lease.lease_type == LeaseType::Etcd, "its type");
-    let refused = read_static_settings(alloc, text.as_bytes());
-    same(
-        rt,
-        complaint(rt, alloc, refused).as_str(),
-        "lease.type 5 static",
-    );
+    is_of_type(rt, alloc, text.as_bytes(), LeaseType::Etcd);
     let beside = with_required(rt, alloc, "etcd.endpoints = [\"http://e:1\"]\n");
-    let fixed = read_static_settings(alloc, beside.as_bytes());
-    holds(rt, fixed.is_ok(), "a static lease");
+    is_static(rt, alloc, beside.as_bytes());
 }
 
 const SERVICES: &[(&str, &str)] = &[
@@ -348,13 +351,16 @@ const SERVICES: &[(&str, &str)] = &[
 fn services_are_read(rt: HostRuntime) {
     let alloc = rt.alloc();
     for (text, said) in SERVICES {
-        let settings = read_service_settings(alloc, text.as_bytes()).expect(&rt, "settings");
-        same(
-            rt,
-            (*text, service_line(rt, alloc, &settings).as_str()),
-            (*text, *said),
-        );
+        let line = service_of(rt, alloc, text.as_bytes());
+        same(rt, (*text, line.as_str()), (*text, *said));
     }
+}
+
+fn service_of(rt: impl Copy + Abort, alloc: Global, text: &[u8]) -> String {
+    let settings = read_service_settings(alloc, text).expect(&rt, "settings");
+    let line = service_line(rt, alloc, &settings);
+    drop(settings);
+    line
 }
 
 fn service_line(rt: impl Copy + Abort, alloc: Global, settings: &ServiceSettings) -> String {
@@ -400,9 +406,15 @@ const NO_SERVICES: &[&str] = &[
 fn no_services_are_refused(rt: HostRuntime) {
     let alloc = rt.alloc();
     for text in NO_SERVICES {
-        let read = read_service_settings(alloc, text.as_bytes());
-        holds(rt, matches!(read, Err(SettingsRefusal::Config(_))), text);
+        holds(rt, is_no_service(alloc, text.as_bytes()), text);
     }
+}
+
+fn is_no_service(alloc: Global, text: &[u8]) -> bool {
+    let read = read_service_settings(alloc, text);
+    let refused = matches!(&read, Err(SettingsRefusal::Config(_)));
+    drop(read);
+    refused
 }
 
 const OTHER_FORMS: &[(&str, &str)] = &[
@@ -537,10 +549,10 @@ fn is_refused(alloc: Global, bytes: &[u8]) -> bool {
 /// Whether a text is a configuration, and whether it is refused as none.
 fn judged(alloc: Global, bytes: &[u8]) -> (bool, bool) {
     let read = read_settings(alloc, bytes);
-    (
-        read.is_ok(),
-        matches!(read, Err(SettingsRefusal::Config(_))),
-    )
+    let refused = matches!(&read, Err(SettingsRefusal::Config(_)));
+    let judged = (read.is_ok(), refused);
+    drop(read);
+    judged
 }
 
 /// What is complained of: the key, its line, and what was wanted.

@@ -10,7 +10,7 @@ ghost use Rattle.lf_disk.specs.MemDisk.{history_of};
 ghost use Rattle.ltx_codec.specs.Format.{IsFile};
 
 use crate::same::same;
-use crate::sample::{DELTA, SNAPSHOT, SUM_1, SUM_2, encoding, header};
+use crate::sample::{DELTA, Fields, SNAPSHOT, SUM_1, SUM_2, encoding, header};
 use lf_base::Pos;
 use lf_disk::MemDisk;
 use lf_sqlite_pages::Image;
@@ -43,7 +43,7 @@ fn encoded(
     };
     let mut encoder = Encoder::start(&header, &mut out).expect(rt, "memory");
     encoder.page(1, &[byte; 512], &mut out).expect(rt, "memory");
-    assert!(rt; encoder.finish(post, &mut out).is_ok());
+    same(rt, encoder.finish(post, &mut out).is_ok(), true);
     out
 }
 
@@ -102,14 +102,19 @@ fn opened(rt: &impl Abort, opening: Opened) -> Backup<MemDisk> {
     }
 }
 
+/// Adds the file of a transaction.
+fn add_nth(rt: &impl Abort, alloc: Global, backup: &mut Backup<MemDisk>, txid: u64) {
+    let file = nth(rt, alloc, txid);
+    let end = backup.add(alloc, &file).expect(rt, "a file that joins");
+    same(rt, end.txid, txid);
+    drop(file);
+}
+
 /// A backup with the files of the first transactions.
 fn filled(rt: &impl Abort, alloc: Global, last: u64) -> Backup<MemDisk> {
     let mut backup = empty(rt, alloc);
     for txid in 1..=last {
-        let end = backup
-            .add(alloc, &nth(rt, alloc, txid))
-            .expect(rt, "a file that joins");
-        same(rt, end.txid, txid);
+        add_nth(rt, alloc, &mut backup, txid);
     }
     backup
 }
@@ -130,72 +135,107 @@ fn byte_at(
     backup: &mut Backup<MemDisk>,
     txid: u64,
 ) -> Result<u8, BackupFault> {
-    let image = backup.restore(alloc, txid)?;
-    same(rt, (image.commit(), image.page_size()), (1, 512));
-    let page = page_of(rt, &image, 1);
-    let byte = page.first().copied().unwrap_or(0);
-    assert!(rt; page.iter().all(|other| *other == byte));
-    Ok(byte)
+    match backup.restore(alloc, txid) {
+        Ok(image) => Ok(byte_in(rt, image)),
+        Err(why) => Err(why),
+    }
 }
 
-#[test]
-fn a_file_that_does_not_join(rt: HostRuntime) {
-    let alloc = rt.alloc();
-    let first = decode(
-        alloc,
-        encoding(alloc, &SNAPSHOT).expect(&rt, "memory").as_slice(),
-    )
-    .expect(&rt, "a file");
-    let second = decode(
-        alloc,
-        encoding(alloc, &DELTA).expect(&rt, "memory").as_slice(),
-    )
-    .expect(&rt, "a file");
-    let mut backup = empty(&rt, alloc);
+/// The same of a database.
+fn byte_in(rt: &impl Abort, image: Image) -> u8 {
+    same(rt, (image.commit(), image.page_size()), (1, 512));
+    let byte = byte_of(rt, page_of(rt, &image, 1));
+    drop(image);
+    byte
+}
+
+/// The byte of which a page of 512 bytes is full.
+fn byte_of(rt: &impl Abort, page: &[u8]) -> u8 {
+    let byte = page.first().copied().unwrap_or(0);
+    same(rt, page, [byte; 512].as_slice());
+    byte
+}
+
+/// The file of one of the samples.
+fn of_sample(rt: &impl Abort, alloc: Global, fields: &Fields) -> Ltx
+    ensures { IsFile result }
+{
+    let bytes = encoding(alloc, fields).expect(rt, "memory");
+    decode(alloc, bytes.as_slice()).expect(rt, "a file")
+}
+
+/// The second file is added before the first one, which is refused, and behind it.
+fn are_added(
+    rt: &impl Abort,
+    alloc: Global,
+    backup: &mut Backup<MemDisk>,
+    first: &Ltx,
+    second: &Ltx,
+)
+    requires first { IsFile first.now }
+    requires second { IsFile second.now }
+{
     let have = Pos { txid: 0, sum: 0 };
     let want = Pos {
         txid: 1,
         sum: SUM_1,
     };
-    same(
-        &rt,
-        backup.add(alloc, &second),
-        Err(BackupFault::NotNext { have, want }),
-    );
-    same(&rt, backup.add(alloc, &first), Ok(want));
-    same(
-        &rt,
-        backup.add(alloc, &second),
-        Ok(Pos {
-            txid: 2,
-            sum: SUM_2,
-        }),
-    );
-    let image = backup.restore(alloc, 2).expect(&rt, "a database");
-    same(&rt, (image.commit(), image.page_size()), (2, 512));
+    let end = Pos {
+        txid: 2,
+        sum: SUM_2,
+    };
+    let refused = Err(BackupFault::NotNext { have, want });
+    same(rt, backup.add(alloc, second), refused);
+    same(rt, backup.add(alloc, first), Ok(want));
+    same(rt, backup.add(alloc, second), Ok(end));
+}
+
+/// Two pages of zeros.
+fn is_two_pages(rt: &impl Abort, image: &Image) {
+    same(rt, (image.commit(), image.page_size()), (2, 512));
     for number in 1..3 {
-        let page = page_of(&rt, &image, number);
-        assert!(&rt; page.iter().all(|byte| *byte == 0));
+        same(rt, byte_of(rt, page_of(rt, image, number)), 0);
     }
+}
+
+/// The two samples are added to an empty backup.
+fn samples_are_added(rt: &impl Abort, alloc: Global, backup: &mut Backup<MemDisk>) {
+    let first = of_sample(rt, alloc, &SNAPSHOT);
+    let second = of_sample(rt, alloc, &DELTA);
+    are_added(rt, alloc, backup, &first, &second);
+    drop(first);
+    drop(second);
+}
+
+#[test]
+fn a_file_that_does_not_join(rt: HostRuntime) {
+    let alloc = rt.alloc();
+    let mut backup = empty(&rt, alloc);
+    samples_are_added(&rt, alloc, &mut backup);
+    let image = backup.restore(alloc, 2).expect(&rt, "a database");
+    is_two_pages(&rt, &image);
+    drop(image);
+    drop(backup);
+}
+
+/// A third file says another sum than its pages have.
+fn adds_wrong(rt: &impl Abort, alloc: Global, backup: &mut Backup<MemDisk>) {
+    let wrong = file(rt, alloc, 3, sum_of(1), 7, FLAG);
+    let end = Pos { txid: 3, sum: FLAG };
+    same(rt, backup.add(alloc, &wrong), Ok(end));
+    let differs = BackupFault::SumDiffers {
+        want: FLAG,
+        got: sum_of(7),
+    };
+    same(rt, byte_at(rt, alloc, backup, 3), Err(differs));
+    same(rt, byte_at(rt, alloc, backup, 2), Ok(1));
+    drop(wrong);
 }
 
 #[test]
 fn a_sum_that_is_not_the_pages(rt: HostRuntime) {
     let alloc = rt.alloc();
     let mut backup = filled(&rt, alloc, 2);
-    let wrong = file(&rt, alloc, 3, sum_of(1), 7, FLAG);
-    same(
-        &rt,
-        backup.add(alloc, &wrong),
-        Ok(Pos { txid: 3, sum: FLAG }),
-    );
-    same(
-        &rt,
-        byte_at(&rt, alloc, &mut backup, 3),
-        Err(BackupFault::SumDiffers {
-            want: FLAG,
-            got: sum_of(7),
-        }),
-    );
-    same(&rt, byte_at(&rt, alloc, &mut backup, 2), Ok(1));
+    adds_wrong(&rt, alloc, &mut backup);
+    drop(backup);
 }

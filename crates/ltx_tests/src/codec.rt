@@ -124,7 +124,7 @@ fn changes_are_refused(rt: HostRuntime) {
 #[test]
 fn a_byte_behind_the_file_is_its_tail(rt: HostRuntime) {
     let mut bytes = encoding(rt.alloc(), &SNAPSHOT).expect(&rt, "memory");
-    assert!(rt; bytes.push(0).is_ok());
+    bytes.push(0).expect(&rt, "memory");
     same(rt, refusal(rt.alloc(), &bytes), Some(LtxFault::Tail));
 }
 

@@ -86,7 +86,8 @@ fn encoding_of(rt: &impl Abort, alloc: Global, sample: &Sample) -> Vec<u8> {
             encoder.page(number, &page, &mut out).expect(rt, "memory");
         }
     }
-    assert!(rt; encoder.finish(sample.post, &mut out).is_ok());
+    let finished = encoder.finish(sample.post, &mut out).is_ok();
+    same(rt, finished, true);
     out
 }
 
@@ -155,7 +156,7 @@ fn expect_file(
     same(rt, (header.stamp, header.node), (last.stamp, last.stamp));
     same(rt, (header.wal_offset, header.wal_size), (0, 0));
     same(rt, (header.wal_salt1, header.wal_salt2), (0, 0));
-    assert!(rt; holds(file, pages));
+    same(rt, holds(file, pages), true);
 }
 
 /// The length of a file's encoding, and its last sum.
@@ -167,7 +168,8 @@ fn written(rt: &impl Abort, alloc: Global, file: &Ltx) -> (usize, Option<[u8; 8]
             .page(page.number, page.bytes.as_slice(), &mut out)
             .expect(rt, "memory");
     }
-    assert!(rt; encoder.finish(file.post, &mut out).is_ok());
+    let finished = encoder.finish(file.post, &mut out).is_ok();
+    same(rt, finished, true);
     (out.len(), out.as_slice().last_chunk::<8>().copied())
 }
 
@@ -175,7 +177,7 @@ fn written(rt: &impl Abort, alloc: Global, file: &Ltx) -> (usize, Option<[u8; 8]
 fn a_snapshot_and_a_delta_become_a_snapshot(rt: HostRuntime) {
     let file = one_of(&rt, rt.alloc(), &[SNAPSHOT, DELTA]).expect(&rt, "one file");
     same(rt, (file.header.pre, file.post), (0, SUM_2));
-    assert!(rt; holds(&file, &[(1, 0), (2, 0)]));
+    same(rt, holds(&file, &[(1, 0), (2, 0)]), true);
     let sum = FILE_SUM.to_be_bytes();
     same(rt, written(&rt, rt.alloc(), &file), (1152, Some(sum)));
 }

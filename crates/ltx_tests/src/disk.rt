@@ -130,7 +130,8 @@ fn a_folder_with_others(rt: HostRuntime) {
 
     fs::create_dir(&rt, "lf_disk_others/x/ltx/.staged").expect(&rt, "a folder");
     same(rt, disk.write(STAGED, 0, b"s"), Err(Failed));
-    assert!(&rt; DirDisk::open(rt, "lf_disk_others/x/other").is_err());
+    let opened = DirDisk::open(rt, "lf_disk_others/x/other");
+    same(rt, opened.is_err(), true);
     fs::remove_dir_all(&rt, "lf_disk_others").expect(&rt, "a folder");
 }
 

@@ -2,7 +2,7 @@ ghost use Rattle.std.specs.Prelude.{◌≡◌};
 
 mod blocks;
 
-use crate::same::{same, same_at};
+use crate::same::{holds, same, same_at};
 use lf_base::Bytes;
 use lf_sqlite_pages::{
     Change, Image, Overlay, PageStore, header_pages, is_page_size, is_wal, is_within_limit,
@@ -171,7 +171,8 @@ fn first_pages_are_read(rt: HostRuntime) {
         same(rt, page_size_of(&bytes[..17]), None);
         same(rt, is_wal(&bytes[..18]), false);
     }
-    assert!(rt; is_page_size(32768) && !is_page_size(131072) && !is_page_size(1));
+    let sizes = is_page_size(32768) && !is_page_size(131072) && !is_page_size(1);
+    holds(rt, sizes, "sizes of pages");
 }
 
 /// Looks at a change whose pages past the third were added.
@@ -189,7 +190,7 @@ fn is_complete(rt: &impl Abort, change: &Change) {
     same(rt, change.page(4), Some(page(0).as_slice()));
     same(rt, change.page(5), Some(page(5).as_slice()));
     same(rt, change.page(3), None);
-    assert!(rt; change.equals(change));
+    holds(rt, change.equals(change), "it equals itself");
 }
 
 /// A change over three pages that grows a database to six: page 5 is written, 4 and 6 are added.
@@ -235,7 +236,8 @@ fn lock_page_and_limit(rt: HostRuntime) {
     for (page_size, number) in [(512, 2_097_153), (4096, 262_145), (65_536, 16_385)] {
         same(rt, lock_page(page_size), number);
     }
-    assert!(rt; is_within_limit(4096, 523_776) && !is_within_limit(4096, 523_777));
+    let limit = is_within_limit(4096, 523_776) && !is_within_limit(4096, 523_777);
+    holds(rt, limit, "the limit");
 }
 
 /// Looks at an overlay that holds pages 3 and 9.

@@ -16,3 +16,8 @@ pub fn same_at<R: Copy + Abort, D: Debug + Drop, T: PartialEq + Debug + Drop>(
 ) {
     assert_eq!(rt; got, wanted, "{row:?}");
 }
+
+/// Ends the test where a condition does not hold.
+pub fn holds<R: Copy + Abort>(rt: R, condition: bool, what: &str) {
+    assert!(rt; condition, "{what}");
+}

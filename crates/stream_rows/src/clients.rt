@@ -39,7 +39,7 @@ pub const LEAVES: &[Wish] = &[Wish::Lock(NO_READ1)];
 pub fn commit<R: Wait + Copy>(rt: R, stage: &mut Stage, pages: &[Filled]) -> Result<(), Fault> {
     stage.asks(rt, BEGINS)?;
     for page in pages {
-        stage.ask(rt, Wish::Page(*page))?;
+        drop(stage.ask(rt, Wish::Page(*page))?);
     }
     stage.asks(rt, ENDS)
 }

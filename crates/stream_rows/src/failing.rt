@@ -6,7 +6,7 @@ use crate::fault::Fault;
 use crate::lines::shows;
 use crate::links::{link_on, serves, taken};
 use crate::nodes::{NEVER, Part};
-use crate::stage::{Stage, position, renew_on, take_disk};
+use crate::stage::{Stage, calls_of, position, renew_on};
 use crate::worked::{REQUEST, reply};
 use lf_base::MemLink;
 use std::io::Print;
@@ -54,12 +54,12 @@ fn session_of<R: Wait + Copy>(
     word: &'static str,
 ) -> Result<Session, Fault> {
     let txid = position(rt, stage)?.txid;
-    let failed = take_disk(rt, stage)?.has_failed() || link.has_failed();
+    let (_, failed) = calls_of(rt, stage)?;
     Ok(Session {
         word,
         written: taken(link)?,
         txid,
-        failed,
+        failed: failed || link.has_failed(),
     })
 }
 
@@ -96,7 +96,7 @@ fn goes<R: Wait + Copy>(
 }
 
 /// The numbers of the calls of the link and of the disk that fail.
-fn calls_of(object: Object, call: u64) -> (u64, u64) {
+fn failing_calls(object: Object, call: u64) -> (u64, u64) {
     match object {
         Object::PrimaryLink | Object::ReplicaLink => (call, NEVER),
         Object::PrimaryDisk | Object::ReplicaDisk => (NEVER, call),
@@ -111,11 +111,22 @@ fn run_session<R: Wait + Copy>(
     call: u64,
     input: &[u8],
 ) -> Result<Session, Fault> {
-    let (link, disk) = calls_of(object, call);
+    let (link, disk) = failing_calls(object, call);
     prepare(rt, stage, object, disk)?;
     let mut link = link_on(stage.alloc, input, link)?;
-    let word = goes(rt, stage, object, &mut link)?;
-    session_of(rt, stage, &link, word)
+    let session = session_over(rt, stage, object, &mut link);
+    drop(link);
+    session
+}
+
+fn session_over<R: Wait + Copy>(
+    rt: R,
+    stage: &mut Stage,
+    object: Object,
+    link: &mut MemLink,
+) -> Result<Session, Fault> {
+    let word = goes(rt, stage, object, link)?;
+    session_of(rt, stage, link, word)
 }
 
 /// The number of the first call that is made in a session.
@@ -124,7 +135,8 @@ fn first_call<R: Wait + Copy>(rt: R, stage: &mut Stage, object: Object) -> Resul
         Object::PrimaryLink | Object::ReplicaLink => Ok(0),
         Object::PrimaryDisk | Object::ReplicaDisk => {
             prepare(rt, stage, object, NEVER)?;
-            Ok(take_disk(rt, stage)?.calls())
+            let (calls, _) = calls_of(rt, stage)?;
+            Ok(calls)
         }
     }
 }

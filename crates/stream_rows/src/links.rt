@@ -43,15 +43,28 @@ pub fn serves<R: Wait + Copy>(
     request: &[u8],
 ) -> Result<(Vec<u8>, SessionEnd), Fault> {
     let mut link = link_of(primary.alloc, request)?;
-    let end = primary.serve(rt, &mut link)?;
-    Ok((taken(&link)?, end))
+    let served = serves_over(rt, primary, &mut link);
+    drop(link);
+    served
+}
+
+fn serves_over<R: Wait + Copy>(
+    rt: R,
+    primary: &mut Stage,
+    link: &mut MemLink,
+) -> Result<(Vec<u8>, SessionEnd), Fault> {
+    let end = primary.serve(rt, link)?;
+    Ok((taken(link)?, end))
 }
 
 /// The request that a replica writes where it stands.
 fn request_by<R: Wait + Copy>(rt: R, replica: &mut Stage) -> Result<Vec<u8>, Fault> {
     let mut link = link_of(replica.alloc, &[])?;
-    replica.follow(rt, &mut link)?;
-    taken(&link)
+    let followed = replica.follow(rt, &mut link);
+    let request = taken(&link);
+    drop(link);
+    followed?;
+    request
 }
 
 /// What the primary writes to the request of a replica.
@@ -68,7 +81,9 @@ pub fn reply_to<R: Wait + Copy>(
 /// How a replica ends that is given a reply.
 fn ends_by<R: Wait + Copy>(rt: R, replica: &mut Stage, reply: &[u8]) -> Result<FollowEnd, Fault> {
     let mut link = link_of(replica.alloc, reply)?;
-    replica.follow(rt, &mut link)
+    let end = replica.follow(rt, &mut link);
+    drop(link);
+    end
 }
 
 /// A replica follows a reply to its end.

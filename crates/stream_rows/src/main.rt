@@ -50,7 +50,9 @@ fn play_with_stranger<R: Wait + Print + Copy>(
     replica: &mut Stage,
 ) -> Result<(), Fault> {
     let mut stranger = Stage::new(primary.alloc, Part::Replica)?;
-    behind::play(rt, primary, replica, &mut stranger)
+    let played = behind::play(rt, primary, replica, &mut stranger);
+    drop(stranger);
+    played
 }
 
 fn play_scene<R: Wait + Print + Copy>(
@@ -83,10 +85,14 @@ fn play<R: Wait + Print + Copy>(
 
 fn play_with_replica<R: Wait + Print + Copy>(rt: R, primary: &mut Stage) -> Result<(), Fault> {
     let mut replica = Stage::new(primary.alloc, Part::Replica)?;
-    play(rt, primary, &mut replica)
+    let played = play(rt, primary, &mut replica);
+    drop(replica);
+    played
 }
 
 fn main(rt: HostRuntime) -> Result<(), Fault> {
     let mut primary = Stage::new(rt.alloc(), Part::Primary)?;
-    play_with_replica(rt, &mut primary)
+    let played = play_with_replica(rt, &mut primary);
+    drop(primary);
+    played
 }

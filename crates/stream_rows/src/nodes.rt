@@ -47,7 +47,10 @@ fn blank_store(alloc: Global, failing: u64) -> Result<Store<MemDisk>, Fault> {
     let disk = MemDisk::new(alloc, numbers, None).unwrap();
     match recover(alloc, disk) {
         Ok(store) => Ok(store),
-        Err(_) => Err(Fault::Recovery),
+        Err(why) => {
+            drop(why);
+            Err(Fault::Recovery)
+        }
     }
 }
 
@@ -59,7 +62,10 @@ fn node_over<D: Disk + Drop>(
 ) -> Result<Node<D>, Fault> {
     match Node::open(alloc, store, config) {
         Ok(node) => Ok(node),
-        Err(_) => Err(Fault::NoMemory),
+        Err(why) => {
+            drop(why);
+            Err(Fault::NoMemory)
+        }
     }
 }
 

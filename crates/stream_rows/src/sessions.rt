@@ -26,7 +26,7 @@ fn follower_reads<R: Wait + Print + Copy>(
     replica: &mut Stage,
 ) -> Result<Bytes, Fault> {
     ends(&rt, catches_up(rt, primary, replica)?)?;
-    replica.ask(rt, Wish::Open)?;
+    drop(replica.ask(rt, Wish::Open)?);
     reads(rt, replica)
 }
 

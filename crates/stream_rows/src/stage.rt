@@ -105,7 +105,7 @@ impl Stage {
         let Ok(mut other) = self.desk.split(rt, &mut self.seat) else {
             return Err(Fault::Worn);
         };
-        ask_by(rt, self.alloc, &self.desk, &mut other, first)?;
+        drop(ask_by(rt, self.alloc, &self.desk, &mut other, first)?);
         ask_each(rt, self.alloc, &self.desk, &mut self.seat, wishes)?;
         meet(rt, &self.desk, &mut self.seat, &mut other)?;
         ask_by(rt, self.alloc, &self.desk, &mut other, second)
@@ -113,7 +113,7 @@ impl Stage {
 }
 
 /// The node is stopped, and its disk comes back. The node becomes one of a database that was never written.
-pub fn take_disk<R: Wait + Copy>(rt: R, stage: &mut Stage) -> Result<MemDisk, Fault> {
+fn take_disk<R: Wait + Copy>(rt: R, stage: &mut Stage) -> Result<MemDisk, Fault> {
     let spare = Stage::new(stage.alloc, Part::Replica)?;
     Ok(mem::replace(stage, spare).close(rt))
 }
@@ -127,19 +127,24 @@ where
 {
     match Desk::open(alloc, machine) {
         Ok(made) => Ok(made),
-        Err(_) => Err(Fault::NoMemory),
+        Err(why) => {
+            drop(why);
+            Err(Fault::NoMemory)
+        }
     }
 }
 
 /// The node becomes one of a database that was never written, on a disk of which this call fails.
 pub fn renew_on(stage: &mut Stage, part: Part, failing: u64) -> Result<(), Fault> {
-    *stage = Stage::on(stage.alloc, part, failing)?;
+    let next = Stage::on(stage.alloc, part, failing)?;
+    drop(mem::replace(stage, next));
     Ok(())
 }
 
 /// The node becomes one of a database that was never written.
 pub fn renew(stage: &mut Stage, part: Part) -> Result<(), Fault> {
-    *stage = Stage::new(stage.alloc, part)?;
+    let next = Stage::new(stage.alloc, part)?;
+    drop(mem::replace(stage, next));
     Ok(())
 }
 
@@ -151,10 +156,26 @@ pub fn renew_both(primary: &mut Stage, replica: &mut Stage) -> Result<(), Fault>
 
 /// Where the node stands.
 pub fn position<R: Wait + Copy>(rt: R, stage: &mut Stage) -> Result<Pos, Fault> {
-    match stage.ask(rt, Wish::Info)? {
+    let answer = stage.ask(rt, Wish::Info)?;
+    let position = position_in(&answer);
+    drop(answer);
+    position
+}
+
+fn position_in(answer: &Answer) -> Result<Pos, Fault> {
+    match answer {
         Answer::Info(info) => Ok(info.pos),
         _ => Err(Fault::Answer),
     }
+}
+
+/// How many calls the disk of the node had, and whether one failed. The node becomes one of a database that was
+/// never written.
+pub fn calls_of<R: Wait + Copy>(rt: R, stage: &mut Stage) -> Result<(u64, bool), Fault> {
+    let disk = take_disk(rt, stage)?;
+    let calls = (disk.calls(), disk.has_failed());
+    drop(disk);
+    Ok(calls)
 }
 
 fn serve_by<R: Wait + Copy, D: Disk, L: Link>(
@@ -225,7 +246,9 @@ fn ask_by<R: Wait + Copy>(
     ensures { IsOf seat.new desk.now }
 {
     let ask = ask_of(alloc, wish)?;
-    step(rt, desk, seat, &ask)
+    let answer = step(rt, desk, seat, &ask);
+    drop(ask);
+    answer
 }
 
 /// One step for each wish.
@@ -240,7 +263,7 @@ fn ask_each<R: Wait + Copy>(
     ensures { IsOf seat.new desk.now }
 {
     for wish in wishes {
-        ask_by(rt, alloc, desk, seat, *wish)?;
+        drop(ask_by(rt, alloc, desk, seat, *wish)?);
     }
     Ok(())
 }

@@ -21,6 +21,7 @@ fn fails_at<R: Handles + Abort + Copy>(rt: R, alloc: Global, call: u64, room: us
     let (told, _, _) = ask(&rt, alloc, &mut dialer, TAKEN);
     same(rt, (call, room, told), (call, room, Err(Untold::Fault)));
     same(rt, dialer.has_failed(), true);
+    drop(dialer);
 }
 
 /// Three writes and three reads, each failing in turn; a link without room; a dialer without a link.
@@ -39,6 +40,7 @@ fn faults(rt: HostRuntime) {
     );
     let (told, _, left) = ask(&rt, alloc, &mut none, TAKEN);
     same(rt, (told, left), (Err(Untold::Fault), 99));
+    drop(none);
 }
 
 /// Six calls of the link that move bytes are six turns.
@@ -46,18 +48,23 @@ fn faults(rt: HostRuntime) {
 fn turns(rt: HostRuntime) {
     let _named: Option<(TcpListener, TcpStream)> = None;
     for budget in 0..8u64 {
-        let link = link_of(&rt, rt.alloc(), REPLY, 20, 99, 99);
-        let mut dialer = dialer_of(&rt, rt.alloc(), link);
-        let taken = Taken { budget, ..TAKEN };
-        let (told, _, left) = ask(&rt, rt.alloc(), &mut dialer, taken);
-        let wanted = if budget < 6 {
-            (Err(Untold::Turns), 0)
-        } else {
-            (Ok(200), budget - 6)
-        };
-        same(rt, (budget, (told, left)), (budget, wanted));
-        same(rt, dialer.has_failed(), false);
+        takes_turns(rt, rt.alloc(), budget);
     }
+}
+
+/// An exchange with so many turns.
+fn takes_turns<R: Handles + Abort + Copy>(rt: R, alloc: Global, budget: u64) {
+    let mut dialer = dialer_of(&rt, alloc, link_of(&rt, alloc, REPLY, 20, 99, 99));
+    let taken = Taken { budget, ..TAKEN };
+    let (told, _, left) = ask(&rt, alloc, &mut dialer, taken);
+    let wanted = if budget < 6 {
+        (Err(Untold::Turns), 0)
+    } else {
+        (Ok(200), budget - 6)
+    };
+    same(rt, (budget, (told, left)), (budget, wanted));
+    same(rt, dialer.has_failed(), false);
+    drop(dialer);
 }
 
 /// After a fault no other link is dialed: it is there for the next exchange.
@@ -73,4 +80,5 @@ fn one_dial_an_exchange(rt: HostRuntime) {
         let (got, _, _) = ask(&rt, alloc, &mut dialer, TAKEN);
         same(rt, got, told);
     }
+    drop(dialer);
 }

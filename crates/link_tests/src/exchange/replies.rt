@@ -193,6 +193,7 @@ fn is_told<R: Handles + Abort + Copy>(rt: R, alloc: Global, row: &Row, size: usi
     same(rt, (reply, size, told), (reply, size, status));
     same(rt, bytes.as_slice(), body.as_bytes());
     same(rt, dialer.has_failed(), false);
+    drop(dialer);
     let written = watch.bytes().expect(&rt, "memory");
     same(rt, written.as_slice(), REQUEST);
 }

@@ -34,6 +34,7 @@ fn fails_at<R: Handles + Abort + Copy>(rt: R, alloc: Global, call: u64, room: us
     same(rt, (call, room, account), (call, room, ASKED));
     same(rt, end, End::Done { term: 7, db2: None });
     same(rt, dialer.has_failed(), true);
+    drop(dialer);
 }
 
 /// Two writes and three reads, each failing in turn; a link without room.
@@ -54,14 +55,19 @@ fn faults_of_a_dialer(rt: HostRuntime) {
     let _named: Option<(TcpListener, TcpStream)> = None;
     let alloc = rt.alloc();
     for who in [CANDIDATE, HOLDER] {
-        let mut none = MemDialer::new(alloc, Vec::new(alloc), 1, Vec::new(alloc)).expect(
-            &rt, "a dialer",
-        );
-        let (account, end) = round(rt, alloc, who, &mut none, TURNS);
-        let Who { term, candidate: _ } = who;
-        same(rt, (account, end), (ASKED, End::Done { term, db2: None }));
-        same(rt, none.has_failed(), true);
+        fails_to_dial(rt, alloc, who);
     }
+}
+
+/// A round by a dialer without a link: nothing is told.
+fn fails_to_dial<R: Handles + Abort + Copy>(rt: R, alloc: Global, who: Who) {
+    let none = MemDialer::new(alloc, Vec::new(alloc), 1, Vec::new(alloc));
+    let mut none = none.expect(&rt, "a dialer");
+    let (account, end) = round(rt, alloc, who, &mut none, TURNS);
+    let Who { term, candidate: _ } = who;
+    same(rt, (account, end), (ASKED, End::Done { term, db2: None }));
+    same(rt, none.has_failed(), true);
+    drop(none);
 }
 
 /// A step is a turn, and so is each of the five calls of the link. Without one the machine is asked
@@ -70,15 +76,20 @@ fn faults_of_a_dialer(rt: HostRuntime) {
 fn turns_of_a_round(rt: HostRuntime) {
     let _named: Option<(TcpListener, TcpStream)> = None;
     for budget in 0..10u64 {
-        let link = link(&rt, rt.alloc(), 256, TURNS);
-        let mut dialer = dialer_of(&rt, rt.alloc(), link);
-        let (account, end) = round(rt, rt.alloc(), HOLDER, &mut dialer, budget);
-        same(rt, (budget, account.asked), (budget, u64::from(budget > 0)));
-        same(rt, (budget, account.told), (budget, u64::from(budget > 6)));
-        let done = End::Done { term: 7, db2: None };
-        let wanted = if budget > 6 { done } else { End::Turns };
-        same(rt, (budget, end), (budget, wanted));
+        takes_turns(rt, rt.alloc(), budget);
     }
+}
+
+/// A round with so many turns.
+fn takes_turns<R: Handles + Abort + Copy>(rt: R, alloc: Global, budget: u64) {
+    let mut dialer = dialer_of(&rt, alloc, link(&rt, alloc, 256, TURNS));
+    let (account, end) = round(rt, alloc, HOLDER, &mut dialer, budget);
+    drop(dialer);
+    same(rt, (budget, account.asked), (budget, u64::from(budget > 0)));
+    same(rt, (budget, account.told), (budget, u64::from(budget > 6)));
+    let done = End::Done { term: 7, db2: None };
+    let wanted = if budget > 6 { done } else { End::Turns };
+    same(rt, (budget, end), (budget, wanted));
 }
 
 /// Gives up a lease of this term by a link with room for so many bytes: what was heard, and what was
@@ -109,6 +120,9 @@ fn given_up<R: Handles + Abort + Copy>(
         TURNS,
     );
     same(rt, ended.is_ok(), true);
+    drop(dialer);
+    drop(service);
+    drop(own);
     let written = watch.bytes().expect(&rt, "memory");
     (closed(rt, desk, seat), written)
 }

@@ -6,7 +6,7 @@ ghost use Rattle.lf_disk.specs.History.{IsSettledBut};
 ghost use Rattle.lf_disk.specs.MemDisk.{history_of};
 ghost use Rattle.ltx_codec.specs.Format.{IsFile};
 
-use super::{FLAG, crashed, empty, filled, page_of};
+use super::{FLAG, byte_of, crashed, empty, filled, page_of};
 use crate::same::{same, same_at};
 use crate::sample::header;
 use lf_disk::{Disk, FileName, MemDisk};
@@ -18,7 +18,7 @@ use page_checksum::page_sum;
 use std::alloc::Global;
 use std::process::Abort;
 
-type Disks = (MemDisk, MemDisk, MemDisk);
+pub type Disks = (MemDisk, MemDisk, MemDisk);
 
 /// What comes of opening at a transaction.
 #[derive(Clone, Copy, Debug, PartialEq, Eq)]
@@ -39,10 +39,7 @@ fn fill_of(rt: &impl Abort, image: &Image, number: u32) -> u8 {
     if number == 0 || number > image.commit() {
         return 0;
     }
-    let page = page_of(rt, image, number);
-    let byte = page.first().copied().unwrap_or(0);
-    assert!(rt; page.len() == 512 && page.iter().all(|other| *other == byte));
-    byte
+    byte_of(rt, page_of(rt, image, number))
 }
 
 fn pages_of(rt: &impl Abort, image: &Image) -> Seen {
@@ -54,7 +51,11 @@ fn pages_of(rt: &impl Abort, image: &Image) -> Seen {
 
 fn seen_of(rt: &impl Abort, restored: Result<Image, BackupFault>) -> Seen {
     match restored {
-        Ok(image) => pages_of(rt, &image),
+        Ok(image) => {
+            let seen = pages_of(rt, &image);
+            drop(image);
+            seen
+        }
         Err(why) => Seen::Refused(why),
     }
 }
@@ -92,7 +93,7 @@ struct Files {
 }
 
 /// The bytes of a file.
-fn read_all(rt: &impl Abort, alloc: Global, disk: &mut MemDisk, name: FileName) -> Vec<u8> {
+pub fn read_all(rt: &impl Abort, alloc: Global, disk: &mut MemDisk, name: FileName) -> Vec<u8> {
     let size = disk.size(name).expect(rt, "a size").unwrap_or(0) as usize;
     let mut bytes = vec![in alloc; 0u8; size].expect(rt, "memory");
     same(rt, disk.read(name, 0, bytes.as_mut_slice()), Ok(size));
@@ -131,6 +132,7 @@ fn all_opened(rt: &impl Abort, alloc: Global, disks: Disks, openings: &[Opening]
     for opening in openings {
         disks = opened_at(rt, alloc, disks, opening);
     }
+    drop(disks);
 }
 
 /// A file: how many pages the database has then, the pages that it holds, each with the byte that it is full of, and
@@ -183,6 +185,12 @@ fn sum_behind(sample: &Sample) -> u64 {
     (one ^ two ^ three) | FLAG
 }
 
+/// Writes a page that is full of a byte.
+fn add_page(rt: &impl Abort, encoder: &mut Encoder, held: &(u32, u8), out: &mut Vec<u8>) {
+    let (number, byte) = *held;
+    encoder.page(number, &[byte; 512], out).expect(rt, "memory");
+}
+
 /// The file of a transaction behind a database of this sum.
 fn file_of(rt: &impl Abort, alloc: Global, txid: u64, pre: u64, sample: &Sample) -> Ltx
     ensures { IsFile result }
@@ -190,13 +198,29 @@ fn file_of(rt: &impl Abort, alloc: Global, txid: u64, pre: u64, sample: &Sample)
     let mut out = Vec::new(alloc);
     let header = header(512, sample.commit, txid, pre);
     let mut encoder = Encoder::start(&header, &mut out).expect(rt, "memory");
-    for (number, byte) in sample.held {
-        encoder
-            .page(*number, &[*byte; 512], &mut out)
-            .expect(rt, "memory");
+    for held in sample.held {
+        add_page(rt, &mut encoder, held, &mut out);
     }
-    assert!(rt; encoder.finish(sum_behind(sample), &mut out).is_ok());
+    let finished = encoder.finish(sum_behind(sample), &mut out).is_ok();
+    same(rt, finished, true);
     decode(alloc, out.as_slice()).expect(rt, "a file")
+}
+
+/// Adds the file of a sample behind a database of this sum, and answers the sum behind it.
+fn add_sample(
+    rt: &impl Abort,
+    alloc: Global,
+    backup: &mut Backup<MemDisk>,
+    txid: u64,
+    pre: u64,
+    sample: &Sample,
+) -> u64 {
+    let file = file_of(rt, alloc, txid, pre, sample);
+    let sum = sum_behind(sample);
+    let end = backup.add(alloc, &file).expect(rt, "a file that joins");
+    same(rt, (end.txid, end.sum), (txid, sum));
+    drop(file);
+    sum
 }
 
 /// A backup with the files of the samples.
@@ -206,10 +230,7 @@ fn sampled(rt: &impl Abort, alloc: Global) -> Backup<MemDisk> {
     let mut pre = 0;
     for sample in &SAMPLES {
         txid = txid.saturating_add(1);
-        let file = file_of(rt, alloc, txid, pre, sample);
-        pre = sum_behind(sample);
-        let end = backup.add(alloc, &file).expect(rt, "a file that joins");
-        same(rt, (end.txid, end.sum), (txid, pre));
+        pre = add_sample(rt, alloc, &mut backup, txid, pre, sample);
     }
     backup
 }
@@ -254,7 +275,7 @@ fn an_empty_backup_has_none(rt: HostRuntime) {
 }
 
 /// A backup of one file on each level: 1 to 64, 65 to 72, and 73.
-fn on_all_levels(rt: &impl Abort, alloc: Global) -> Backup<MemDisk> {
+pub fn on_all_levels(rt: &impl Abort, alloc: Global) -> Backup<MemDisk> {
     let mut backup = filled(rt, alloc, 73);
     same(rt, backup.settle(alloc), Ok(10));
     backup

@@ -71,13 +71,8 @@ fn crash(rt: &impl Abort, alloc: Global, disks: Disks, choice: u64) -> Backup<Me
     opened(rt, Backup::open(alloc, low, middle, high))
 }
 
-/// Eight files become one, or don't: what is last stays. Whether all was done.
-fn settle_stops(rt: &impl Abort, alloc: Global, at: Stop) -> bool {
-    let mut backup = stopping(filled(rt, alloc, 8), at);
-    let done = backup.settle(alloc).is_ok();
-    same_at(rt, at, backup.settle(alloc).is_ok(), done);
-    let mut left = crash(rt, alloc, backup.into_disks(), at.choice);
-    let fourth = byte_at(rt, alloc, &mut left, 4);
+/// The fourth transaction is there, or gone since the eight are one.
+fn stays_or_goes(rt: &impl Abort, at: Stop, fourth: Result<u8, BackupFault>, done: bool) {
     let gone = fourth == Err(BackupFault::NoSuchTxid { txid: 4, last: 8 });
     same_at(
         rt,
@@ -85,7 +80,17 @@ fn settle_stops(rt: &impl Abort, alloc: Global, at: Stop) -> bool {
         (gone || fourth == Ok(3), gone || !done),
         (true, true),
     );
+}
+
+/// Eight files become one, or don't: what is last stays. Whether all was done.
+fn settle_stops(rt: &impl Abort, alloc: Global, at: Stop) -> bool {
+    let mut backup = stopping(filled(rt, alloc, 8), at);
+    let done = backup.settle(alloc).is_ok();
+    same_at(rt, at, backup.settle(alloc).is_ok(), done);
+    let mut left = crash(rt, alloc, backup.into_disks(), at.choice);
+    stays_or_goes(rt, at, byte_at(rt, alloc, &mut left, 4), done);
     same_at(rt, at, byte_at(rt, alloc, &mut left, 8), Ok(7));
+    drop(left);
     done
 }
 
@@ -123,6 +128,7 @@ fn open_stops(rt: &impl Abort, alloc: Global, at: Stop) -> bool {
     };
     let mut left = crash(rt, alloc, disks, at.choice);
     same_at(rt, at, byte_at(rt, alloc, &mut left, 8), Ok(7));
+    drop(left);
     done
 }
 
@@ -155,17 +161,44 @@ fn on_all_levels(rt: &impl Abort, alloc: Global) -> Backup<MemDisk> {
 /// A snapshot takes the place of files on all levels, or doesn't. Whether all was done.
 fn snapshot_stops(rt: &impl Abort, alloc: Global, at: Stop) -> bool {
     let mut backup = stopping(on_all_levels(rt, alloc), at);
-    let snapshot = file(rt, alloc, 1, 0, 99, sum_of(99));
-    let done = backup.add(alloc, &snapshot).is_ok();
+    let done = adds_snapshot(rt, alloc, &mut backup);
     let mut left = crash(rt, alloc, backup.into_disks(), at.choice);
-    let first = byte_at(rt, alloc, &mut left, 1);
-    let last = byte_at(rt, alloc, &mut left, 73);
+    let ends = (
+        byte_at(rt, alloc, &mut left, 1),
+        byte_at(rt, alloc, &mut left, 73),
+    );
+    drop(left);
+    old_or_new(rt, at, ends, done);
+    done
+}
+
+/// Whether a snapshot of transaction 1 is added.
+fn adds_snapshot(rt: &impl Abort, alloc: Global, backup: &mut Backup<MemDisk>) -> bool {
+    let snapshot = file(rt, alloc, 1, 0, 99, sum_of(99));
+    let added = backup.add(alloc, &snapshot).is_ok();
+    drop(snapshot);
+    added
+}
+
+/// What the transactions 1 and 73 restore.
+type Ends = (Result<u8, BackupFault>, Result<u8, BackupFault>);
+
+/// The snapshot is there alone, or not at all.
+fn old_or_new(rt: &impl Abort, at: Stop, (first, last): Ends, done: bool) {
     let no_first = Err(BackupFault::NoSuchTxid { txid: 1, last: 73 });
     let no_last = Err(BackupFault::NoSuchTxid { txid: 73, last: 1 });
     let old = first == no_first && last == Ok(73);
     let new = first == Ok(99) && last == no_last;
     same_at(rt, at, (old || new, new || !done), (true, true));
-    done
+}
+
+/// Whether all was done.
+fn is_done(rt: &impl Abort, alloc: Global, at: Stop, doing: Doing) -> bool {
+    match doing {
+        Doing::Settle => settle_stops(rt, alloc, at),
+        Doing::Open => open_stops(rt, alloc, at),
+        Doing::Snapshot => snapshot_stops(rt, alloc, at),
+    }
 }
 
 /// Before which call of a disk it stops last: from then on all is done.
@@ -178,11 +211,7 @@ fn last_stop(rt: &impl Abort, alloc: Global, disk: u8, doing: Doing) -> u64 {
                 calls,
                 choice,
             };
-            let all = match doing {
-                Doing::Settle => settle_stops(rt, alloc, at),
-                Doing::Open => open_stops(rt, alloc, at),
-                Doing::Snapshot => snapshot_stops(rt, alloc, at),
-            };
+            let all = is_done(rt, alloc, at, doing);
             done = done && all;
         }
         if done {
@@ -192,26 +221,24 @@ fn last_stop(rt: &impl Abort, alloc: Global, disk: u8, doing: Doing) -> u64 {
     40
 }
 
+/// One of three disks stops, until all is done.
+fn stops(rt: &impl Abort, alloc: Global, doing: Doing) {
+    for disk in 0..3 {
+        same_at(rt, disk, last_stop(rt, alloc, disk, doing) < 40, true);
+    }
+}
+
 #[test]
 fn settle_stops_at_each_call(rt: HostRuntime) {
-    let alloc = rt.alloc();
-    for disk in 0..3 {
-        assert!(&rt; last_stop(&rt, alloc, disk, Doing::Settle) < 40);
-    }
+    stops(&rt, rt.alloc(), Doing::Settle);
 }
 
 #[test]
 fn open_stops_at_each_call(rt: HostRuntime) {
-    let alloc = rt.alloc();
-    for disk in 0..3 {
-        assert!(&rt; last_stop(&rt, alloc, disk, Doing::Open) < 40);
-    }
+    stops(&rt, rt.alloc(), Doing::Open);
 }
 
 #[test]
 fn a_snapshot_stops_at_each_call(rt: HostRuntime) {
-    let alloc = rt.alloc();
-    for disk in 0..3 {
-        assert!(&rt; last_stop(&rt, alloc, disk, Doing::Snapshot) < 40);
-    }
+    stops(&rt, rt.alloc(), Doing::Snapshot);
 }

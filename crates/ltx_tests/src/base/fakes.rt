@@ -48,7 +48,7 @@ fn a_link_fails_where_planned_and_past_its_room(rt: HostRuntime) {
     link.cut_into(2);
     let watch = link.watch();
     read_and_write(&rt, &mut link);
-    assert!(rt; link.has_failed());
+    same(rt, link.has_failed(), true);
     drop(link);
     let bytes = watch.bytes().expect(&rt, "memory");
     same(rt, bytes.as_slice(), b"xyzu".as_slice());
@@ -66,7 +66,8 @@ pub fn accepts<R: Handles, A: Acceptor>(rt: &R, acceptor: &mut A) -> Result<bool
 fn an_acceptor_fails_where_planned(rt: HostRuntime) {
     let _named: Option<(TcpListener, TcpStream)> = None;
     let mut links = Vec::new(rt.alloc());
-    assert!(rt; links.push(failing_link(&rt, rt.alloc())).is_ok());
+    let pushed = links.push(failing_link(&rt, rt.alloc()));
+    same(rt, pushed.is_ok(), true);
     let failing = failing_call(&rt, rt.alloc(), 0);
     let mut acceptor = ListAcceptor::new(links, failing).expect(&rt, "an acceptor");
     for comes in [Err(Failed), Ok(true), Ok(false)] {
@@ -78,7 +79,7 @@ fn an_acceptor_fails_where_planned(rt: HostRuntime) {
 fn failing_dialer(rt: &impl Abort, alloc: Global) -> MemDialer {
     let mut links = Vec::new(alloc);
     let link = failing_link(rt, alloc);
-    assert!(rt; links.push(link).is_ok());
+    same(rt, links.push(link).is_ok(), true);
     let failing = failing_call(rt, alloc, 0);
     MemDialer::new(alloc, links, 2, failing).expect(rt, "a dialer")
 }

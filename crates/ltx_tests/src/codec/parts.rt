@@ -1,5 +1,5 @@
 //! Files that come and go part by part.
-use crate::same::{same, same_at};
+use crate::same::{holds, same, same_at};
 use crate::sample::{DELTA, EMPTY, Fields, PAGE, SNAPSHOT, SUM_1, encoding, header_of};
 use ltx_codec::{Decoder, Encoder, FileReader, Ltx, LtxFault, Seen};
 use std::alloc::Global;
@@ -12,7 +12,7 @@ fn written(rt: &impl Abort, alloc: Global, fields: &Fields) -> Vec<u8> {
     if let Some(number) = fields.page {
         encoder.page(number, &PAGE, &mut out).expect(rt, "memory");
     }
-    assert!(rt; encoder.finish(fields.post, &mut out).is_ok());
+    holds(rt, encoder.finish(fields.post, &mut out).is_ok(), "memory");
     out
 }
 
@@ -72,11 +72,11 @@ fn read_pieces(rt: &impl Abort, alloc: Global, bytes: &[u8], size: usize) -> Vec
             let Some((file, used)) = reader.feed(rest).expect(rt, "no fault") else {
                 break;
             };
-            assert!(rt; files.push(file).is_ok());
+            holds(rt, files.push(file).is_ok(), "memory");
             rest = rest.get(used..).unwrap_or(&[]);
         }
     }
-    assert!(rt; reader.is_between(), "the last file is whole");
+    holds(rt, reader.is_between(), "the last file is whole");
     files
 }
 
@@ -101,7 +101,7 @@ fn are_both(rt: &impl Abort, files: &[Ltx], size: usize) {
 fn files_come_in_pieces(rt: HostRuntime) {
     let mut bytes = encoding(rt.alloc(), &SNAPSHOT).expect(&rt, "memory");
     let delta = encoding(rt.alloc(), &DELTA).expect(&rt, "memory");
-    assert!(rt; bytes.extend_from_slice(&delta).is_ok());
+    bytes.extend_from_slice(&delta).expect(&rt, "memory");
     for size in [1usize, 7, 100, bytes.len()] {
         let files = read_pieces(&rt, rt.alloc(), &bytes, size);
         are_both(&rt, files.as_slice(), size);

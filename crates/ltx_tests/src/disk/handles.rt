@@ -4,6 +4,7 @@ use crate::same::same;
 use lf_base::Failed;
 use lf_disk::{DirDisk, Disk, FileName, publish};
 use std::fs::{self, File};
+use std::process::Abort;
 use std::rt::Files;
 
 const DATABASE: FileName = FileName::Database;
@@ -44,32 +45,53 @@ fn take<R: Files<File = File> + AllocGlobal + Copy>(
     }
 }
 
-/// After each step one file holds this.
+/// Steps, and what one file holds after each.
+const STEPS: &[(Step, &str, &str)] = &[
+    (Step::Publish(1, "first"), FIRST_PATH, "first"),
+    (Step::Publish(2, "the second"), SECOND_PATH, "the second"),
+    (Step::Write(STAGED, 0, "third"), STAGED_PATH, "third"),
+    (Step::Remove(STAGED), FIRST_PATH, "first"),
+    (Step::Write(STAGED, 0, "4th"), STAGED_PATH, "4th"),
+    (Step::Write(DATABASE, 0, "old"), DATABASE_PATH, "old"),
+    (Step::Rename(STAGED, DATABASE), DATABASE_PATH, "4th"),
+    (Step::Write(DATABASE, 1, "5"), DATABASE_PATH, "45h"),
+    (Step::Write(STAGED, 0, "6"), DATABASE_PATH, "45h"),
+    (Step::Rename(DATABASE, STAGED), STAGED_PATH, "45h"),
+    (Step::Write(DATABASE, 0, "7"), STAGED_PATH, "45h"),
+    (Step::Write(STAGED, 0, "8"), DATABASE_PATH, "7"),
+    (Step::Remove(DATABASE), SECOND_PATH, "the second"),
+];
+
+fn take_all<R: Files<File = File> + AllocGlobal + Abort + Copy>(rt: R, disk: &mut DirDisk<R>) {
+    for (step, path, want) in STEPS {
+        same(rt, take(disk, *step), Ok(()));
+        file_holds(rt, path, want);
+    }
+}
+
 #[test]
 fn a_handle_goes_with_its_name(rt: HostRuntime) {
     let _ = fs::remove_dir_all(&rt, "lf_disk_handles");
     let mut disk = DirDisk::open(rt, "lf_disk_handles").expect(&rt, "a folder");
-    for (step, path, want) in [
-        (Step::Publish(1, "first"), FIRST_PATH, "first"),
-        (Step::Publish(2, "the second"), SECOND_PATH, "the second"),
-        (Step::Write(STAGED, 0, "third"), STAGED_PATH, "third"),
-        (Step::Remove(STAGED), FIRST_PATH, "first"),
-        (Step::Write(STAGED, 0, "4th"), STAGED_PATH, "4th"),
-        (Step::Write(DATABASE, 0, "old"), DATABASE_PATH, "old"),
-        (Step::Rename(STAGED, DATABASE), DATABASE_PATH, "4th"),
-        (Step::Write(DATABASE, 1, "5"), DATABASE_PATH, "45h"),
-        (Step::Write(STAGED, 0, "6"), DATABASE_PATH, "45h"),
-        (Step::Rename(DATABASE, STAGED), STAGED_PATH, "45h"),
-        (Step::Write(DATABASE, 0, "7"), STAGED_PATH, "45h"),
-        (Step::Write(STAGED, 0, "8"), DATABASE_PATH, "7"),
-        (Step::Remove(DATABASE), SECOND_PATH, "the second"),
-    ] {
-        same(rt, take(&mut disk, step), Ok(()));
-        file_holds(rt, path, want);
-    }
+    take_all(rt, &mut disk);
     same(rt, disk.size(DATABASE), Ok(None));
     same(rt, disk.size(STAGED), Ok(Some(3)));
     fs::remove_dir_all(&rt, "lf_disk_handles").expect(&rt, "a folder");
+}
+
+/// A file that was published becomes the staged one, and the next one, this text, is written over it.
+fn goes_over<R: Files<File = File> + AllocGlobal + Abort + Copy>(
+    rt: R,
+    disk: &mut DirDisk<R>,
+    text: &'static str,
+) {
+    let path = "lf_disk_room/ltx/0000000000000002-0000000000000002.ltx";
+    same(rt, take(disk, Step::Publish(1, "the first")), Ok(()));
+    same(rt, take(disk, Step::Rename(FIRST, STAGED)), Ok(()));
+    same(rt, take(disk, Step::Publish(2, text)), Ok(()));
+    file_holds(rt, path, text);
+    same(rt, disk.size(STAGED), Ok(None));
+    same(rt, disk.size(FIRST), Ok(None));
 }
 
 /// A file that was published becomes the staged one, and the next is written over it: a shorter one, one of the
@@ -78,35 +100,69 @@ fn a_handle_goes_with_its_name(rt: HostRuntime) {
 fn room_is_used_again(rt: HostRuntime) {
     let _ = fs::remove_dir_all(&rt, "lf_disk_room");
     let mut disk = DirDisk::open(rt, "lf_disk_room").expect(&rt, "a folder");
-    let path = "lf_disk_room/ltx/0000000000000002-0000000000000002.ltx";
     for text in ["short", "the first", "longer than that"] {
-        same(rt, take(&mut disk, Step::Publish(1, "the first")), Ok(()));
-        same(rt, take(&mut disk, Step::Rename(FIRST, STAGED)), Ok(()));
-        same(rt, take(&mut disk, Step::Publish(2, text)), Ok(()));
-        file_holds(rt, path, text);
-        same(rt, disk.size(STAGED), Ok(None));
-        same(rt, disk.size(FIRST), Ok(None));
+        goes_over(rt, &mut disk, text);
     }
     fs::remove_dir_all(&rt, "lf_disk_room").expect(&rt, "a folder");
 }
 
-/// What a file that is open holds after it was cut, read from an offset.
+/// The file is cut to a length, and this is read from an offset then.
+fn is_cut<R: Files<File = File> + AllocGlobal + Abort + Copy>(
+    rt: R,
+    disk: &mut DirDisk<R>,
+    cut: &Cut,
+) {
+    let mut out = [b'.'; 8];
+    same(rt, disk.cut(DATABASE, cut.len), Ok(()));
+    same(rt, disk.size(DATABASE), Ok(Some(cut.len)));
+    same(rt, disk.read(DATABASE, cut.at, &mut out), Ok(cut.count));
+    same(rt, out, cut.want);
+}
+
+/// To which length a file is cut, from where it is read then, how many bytes that gives, and which.
+#[derive(Clone, Copy)]
+struct Cut {
+    len: u64,
+    at: u64,
+    count: usize,
+    want: [u8; 8],
+}
+
+const CUTS: &[Cut] = &[
+    Cut {
+        len: 4,
+        at: 0,
+        count: 4,
+        want: *b"abcd....",
+    },
+    Cut {
+        len: 6,
+        at: 3,
+        count: 3,
+        want: *b"d\0\0.....",
+    },
+    Cut {
+        len: 0,
+        at: 0,
+        count: 0,
+        want: *b"........",
+    },
+    Cut {
+        len: 2,
+        at: 1,
+        count: 1,
+        want: *b"\0.......",
+    },
+];
+
+/// What a file that is open holds after it was cut.
 #[test]
 fn an_open_file_is_cut(rt: HostRuntime) {
     let _ = fs::remove_dir_all(&rt, "lf_disk_cuts");
     let mut disk = DirDisk::open(rt, "lf_disk_cuts").expect(&rt, "a folder");
     same(rt, disk.write(DATABASE, 0, b"abcdef"), Ok(()));
-    for (len, at, count, want) in [
-        (4, 0, 4, *b"abcd...."),
-        (6, 3, 3, *b"d\0\0....."),
-        (0, 0, 0, *b"........"),
-        (2, 1, 1, *b"\0......."),
-    ] {
-        let mut out = [b'.'; 8];
-        same(rt, disk.cut(DATABASE, len), Ok(()));
-        same(rt, disk.size(DATABASE), Ok(Some(len)));
-        same(rt, disk.read(DATABASE, at, &mut out), Ok(count));
-        same(rt, out, want);
+    for cut in CUTS {
+        is_cut(rt, &mut disk, cut);
     }
     fs::remove_dir_all(&rt, "lf_disk_cuts").expect(&rt, "a folder");
 }

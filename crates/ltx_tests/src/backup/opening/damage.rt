@@ -190,6 +190,16 @@ fn a_sum_that_differs_is_told(rt: HostRuntime) {
     all_opened(&rt, alloc, disks, &openings);
 }
 
+/// Of all three disks, the lowest has one file with these bytes, that of the transactions 1 to 5.
+fn is_named(rt: &impl Abort, alloc: Global, disks: &mut Disks, bytes: &[u8]) {
+    let files = files_on(rt, alloc, &mut disks.0);
+    let named = [FileName::Ltx { min: 1, max: 5 }];
+    same(rt, files.bytes.as_slice(), bytes);
+    same(rt, files.names.as_slice(), named.as_slice());
+    same(rt, files_on(rt, alloc, &mut disks.1).names.len(), 0);
+    same(rt, files_on(rt, alloc, &mut disks.2).names.len(), 0);
+}
+
 /// A snapshot that waits for its name is the whole backup, and gets its name.
 #[test]
 fn a_snapshot_that_waits_is_restored(rt: HostRuntime) {
@@ -200,15 +210,7 @@ fn a_snapshot_that_waits_is_restored(rt: HostRuntime) {
     same(&rt, staged, Ok(()));
     let (seen, mut disks) = tried(&rt, alloc, settled(&rt, disks), 5);
     same(&rt, seen, Seen::Pages(1, [9, 0, 0]));
-    let files = files_on(&rt, alloc, &mut disks.0);
-    same(&rt, files.bytes.as_slice(), bytes.as_slice());
-    same(
-        &rt,
-        files.names.as_slice(),
-        &[FileName::Ltx { min: 1, max: 5 }],
-    );
-    same(&rt, files_on(&rt, alloc, &mut disks.1).names.len(), 0);
-    same(&rt, files_on(&rt, alloc, &mut disks.2).names.len(), 0);
+    is_named(&rt, alloc, &mut disks, bytes.as_slice());
     all_opened(
         &rt,
         alloc,
