@@ -5,7 +5,8 @@ client changes nothing. A node that is killed while it imports stands before or 
 of its jobs. By hand, with LITEFS_LONG, bytes at the lock page.
 
 At most: 900 seconds.
-Seen to fail: a node that answers 404 to both calls; one that prunes at commits alone (`pruned`); one that never looks for its followers (`left`: timed out)."""
+Seen to fail: a node that answers 404 to both calls; one that prunes at commits alone (`pruned`); one whose pages side by
+side are written at the front (`large`); one that never looks for its followers (`left`: timed out)."""
 import contextlib
 import os
 import random
@@ -13,7 +14,7 @@ import socket
 import sqlite3
 import threading
 
-from support import MODES, Node, connect, count, curl, fill, in_mode, insert, length, run, same, until
+from support import MODES, Node, connect, count, curl, fill, holds, in_mode, insert, length, run, same, until
 from support.curl import contents
 from support.preloaded import scratch
 
@@ -95,6 +96,25 @@ def sizes(page_size, mode):
         sound(exported(node)[1], 31)
         node.level(replica)
         node.sound()
+
+
+def large(page_size):
+    """A database of more than 2 MiB, whose file is staged in parts, and then one that differs from it in runs of pages: each comes back, at a replica
+    too, and the log applied is the database."""
+    first = made(page_size, 'delete', 8000)
+    size = len(first)
+    second = bytearray(made(page_size, 'delete', 8000))
+    for at in range(page_size * 3, size - 50 * page_size, 50 * page_size):
+        second[at:at + 20 * page_size] = first[at:at + 20 * page_size]
+    holds(size > 2 << 20 and bytes(second) != first, f'a large database: {size} bytes')
+    with Node() as node, Node(following=node) as replica:
+        for data in first, bytes(second):
+            same(imported(node, data), (200, line(node)), 'the import')
+            same(exported(node) == (200, data), True, 'the export is what was imported')
+            node.level(replica)
+        same(node.position().txid, 2, 'transactions')
+        node.sound()
+        replica.sound()
 
 
 def again():
@@ -280,7 +300,8 @@ def half_closed(port):
 
 
 all_sizes = {f'sizes-{size}-{mode}': lambda size=size, mode=mode: sizes(size, mode) for size in SIZES for mode in ('delete', 'wal')}
+all_large = {f'large-{size}': lambda size=size: large(size) for size in (512, 4096, 65536)}
 by_mode = {f'{name}-{mode}': lambda call=call, mode=mode: call(mode) for name, call in (('held', held), ('busy', busy)) for mode in MODES}
 # it takes 8 GB of memory
 by_hand = {'lock_page': lock_page} if length(0, 1) else {}
-run({**all_sizes, **by_mode, **by_hand, 'again': again, 'pruned': pruned, 'refused': refused, 'killed': killed, 'left': left}, at_once=2)
+run({**all_sizes, **all_large, **by_mode, **by_hand, 'again': again, 'pruned': pruned, 'refused': refused, 'killed': killed, 'left': left}, at_once=2)
