@@ -12,8 +12,8 @@ use Rattle.link_session.specs.Stands.{Asker}
 use Rattle.node_core.specs.declared.ask.Ask.{Ask}
 use Rattle.node_core.specs.declared.ask.Ask.TheVariants as ask
 use Rattle.node_core.specs.declared.answer.Answer.{Answer}
-use Rattle.file_session.specs.declared.tries.Tries.{Tries}
-use Rattle.file_session.specs.declared.tries.Tries.TheVariants as tries
+use Rattle.file_session.specs.declared.serving.Tries.{Tries}
+use Rattle.file_session.specs.declared.serving.Tries.TheVariants as tries
 use Rattle.file_session.specs.Asking.{FileEntry, is_again, manner, tries_of}
 use Rattle.file_session.specs.Message.{IsRound, served, unserved}
 use Rattle.file_session.specs.Written.{IsAskedOnce}

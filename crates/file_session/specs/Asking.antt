@@ -9,8 +9,8 @@ use Rattle.node_core.specs.declared.ask.Ask.{Ask}
 use Rattle.node_core.specs.declared.answer.Answer.{Answer}
 use Rattle.node_core.specs.declared.answer.Answer.TheVariants as answer
 use Rattle.node_core.specs.Moments.{ask_at}
-use Rattle.file_session.specs.declared.tries.Tries.{Tries}
-use Rattle.file_session.specs.declared.tries.Tries.TheVariants as tries
+use Rattle.file_session.specs.declared.serving.Tries.{Tries}
+use Rattle.file_session.specs.declared.serving.Tries.TheVariants as tries
 
 -- a SETLKW waits for its lock, every other request is asked once
 abbrev pub tries_of : Op → Tries

@@ -13,9 +13,8 @@ ghost use Rattle.file_session.specs.Permits.{held_by, is_done, is_file, is_stran
 ghost use Rattle.file_session.specs.Primary.{phone, writer};
 
 use crate::forwarding::forward;
-use crate::giving_back::give_back;
 use crate::halting::{ask_permit, take_permit};
-use crate::permits::{Held, kept, owed, taker, wants_permit};
+use crate::permits::{Held, give_back, kept, owed, taker, wants_permit};
 use crate::primary::Means;
 use lf_base::{Dialer, Errno, Handles, Pause};
 use link_session::Steps;

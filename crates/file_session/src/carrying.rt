@@ -2,7 +2,7 @@
 ghost use Rattle.std.specs.Prelude.{◌≡◌, ◌≤◌, ◌⊎◌, [], true, false, length, List, None};
 ghost use Rattle.std.proofs.Props.{props};
 ghost use Rattle.lf_base.specs.declared.session_end.SessionEnd.TheVariants as ends;
-ghost use Rattle.link_session.specs.Stands.{stand, AsksOn};
+ghost use Rattle.link_session.specs.Sessions.{stand_of, SessionGoesOn};
 ghost use Rattle.http_exchange.specs.Exchange.{LinksTell};
 ghost use Rattle.file_session.specs.Carried.{IsPermitted};
 ghost use Rattle.file_session.specs.Asking.{FileEntry};
@@ -15,7 +15,7 @@ use crate::permits::Held;
 use crate::primary::Means;
 use crate::session::serve_link;
 use lf_base::{Clock, Dialer, Handles, Link, Name, Pause, SessionEnd};
-use link_session::Steps;
+use link_session::{Session, Steps};
 use node_core::{Answer, Ask};
 use std::marker::{Brand, PhantomData};
 use turn_desk::Worn;
@@ -123,7 +123,8 @@ impl<K: Begun, R: Handles, S: Steps<Ask = Ask, Answer = Answer>, T: Dialer, P: P
     }
 }
 
-/// Serves the client of a link by these steps, with what their entries and the dials were before.
+/// Serves the client of the session's link. What the session asks is carried out by these means, with what its entries and the
+/// dials were before.
 pub(crate) fn serve_steps<
     K: Begun,
     S: Steps<Ask = Ask, Answer = Answer>,
@@ -131,35 +132,32 @@ pub(crate) fn serve_steps<
     L: Link,
     T: Dialer,
     C: Clock,
+    P: Pause,
     N: Pause,
 >(
-    means: Means<'_, R>,
+    session: &mut Session<L, C, P>,
     steps: &mut S,
-    link: &mut L,
+    means: Means<'_, R>,
     dialer: &mut T,
-    clock: &mut C,
-    own: &mut N,
-    tries: &mut N,
-    budget: u64,
+    pause: &mut N,
 ) -> SessionEnd
     requires entries { K.entries ≡ S.entries steps.old }
     requires seen { S.goes_on steps.old K.seen }
     requires phone { K.phone ≡ phone (T.dials dialer.old) (T.faults dialer.old) }
-    ensures session { IsPermitted (LinksTell T.L.given T.L.taken) (writer means.entry.name.now means.entry.node (S.number steps.old)) (C.may_give clock.old) budget (S.is_worn steps.new)
-        (stand L.Link link.old (S.entries steps.old)) (stand L.Link link.new (S.entries steps.new))
+    ensures session { IsPermitted (LinksTell T.L.given T.L.taken) (writer means.entry.name.now means.entry.node (S.number steps.old)) (C.may_give session.old.clock.now) session.old.turns
+        (S.is_worn steps.new) (stand_of S.Steps L.Link session.old steps.old) (stand_of S.Steps L.Link session.new steps.new)
         (phone (T.dials dialer.old) (T.faults dialer.old)) (phone (T.dials dialer.new) (T.faults dialer.new)) result }
-    ensures same { AsksOn S.Steps C.Clock steps.old steps.new clock.old clock.new }
+    ensures same { SessionGoesOn S.Steps C.Clock session.old session.new steps.old steps.new }
     ensures worn { result ≡ ends.Worn → S.is_worn steps.new }
 {
-    let alloc = means.alloc;
     let mut carrying = Carrying {
         means,
         steps,
         dialer,
-        pause: own,
+        pause,
         held: None,
         cut: false,
         of: PhantomData::<K>,
     };
-    serve_link(alloc, &mut carrying, link, clock, tries, budget)
+    serve_link(session, &mut carrying)
 }

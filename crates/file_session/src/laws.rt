@@ -7,7 +7,7 @@ ghost use Rattle.link_session.specs.Rounds.{Round};
 ghost use Rattle.link_session.specs.Seats.{FoundWorn};
 ghost use Rattle.http_exchange.specs.Exchange.{LinksTell};
 ghost use Rattle.link_session.specs.Stands.{Asker, Stand};
-ghost use Rattle.file_session.specs.declared.tries.Tries.TheVariants as tries;
+ghost use Rattle.file_session.specs.declared.serving.Tries.TheVariants as tries;
 ghost use Rattle.file_session.specs.Asking.{FileEntry, tries_of};
 ghost use Rattle.file_session.specs.Message.{IsRound};
 ghost use Rattle.file_session.specs.OneRun.{SessionsAreInOneRun};

@@ -10,3 +10,4 @@ pub mod Talking
 pub mod Stands
 pub mod Parts
 pub mod Runs
+pub mod Sessions

@@ -10,3 +10,4 @@ pub mod Rounds
 pub mod Unread
 pub mod Stands
 pub mod Runs
+pub mod Sessions

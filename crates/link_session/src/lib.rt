@@ -5,30 +5,24 @@
 //! machine.
 #![tactic(auto)]
 
-mod asking;
 mod feed;
 mod frame_feed;
 mod inbox;
 mod laws;
 mod message_feed;
 mod patience;
-mod piece;
 mod seat;
+mod session;
 mod stage;
 mod steps;
-mod turns;
 mod unread;
-mod writing;
 
-pub use asking::ask_until;
 pub use feed::{Feed, FeedFault};
-pub use inbox::Inbox;
+pub use inbox::{Inbox, Piece};
 pub use laws::{rounds_follow, seats_are_in_runs};
 pub use patience::Patience;
-pub use piece::Piece;
 pub use seat::{AtSeat, SeatPlace};
+pub use session::{Session, Turns, ask_until, write_both, write_whole};
 pub use stage::Stage;
 pub use steps::Steps;
-pub use turns::Turns;
 pub use unread::Unread;
-pub use writing::{write_both, write_whole};

@@ -1,5 +1,7 @@
 //! A seat of a desk, as one that asks steps.
 ghost use Rattle.std.specs.Prelude.{◌≡◌};
+ghost use Rattle.turn_desk.specs.Calls.{IsSameHistory};
+ghost use Rattle.turn_desk.specs.History.{IsLegal};
 ghost use Rattle.turn_desk.specs.Seats.{view, number_of, opened_on, IsOf};
 ghost use Rattle.link_session.specs.Seats.{FoundWorn, Gives, HasSeen};
 
@@ -20,6 +22,19 @@ pub struct AtSeat<'r, 'a, M: Machine, R> {
     pub desk: &'a Desk<M>,
     pub seat: &'a mut Seat<M>,
     pub ghost at: { IsOf seat.now desk.now },
+}
+
+impl<M: Machine, R> AtSeat<'_, '_, M, R> {
+    /// A look at the desk: what the seat has seen is the machine's history then.
+    pub fn look(&mut self)
+        ensures legal { IsLegal M.steps (opened_on self.new.desk.now) (view self.new.seat.now).seen }
+        ensures same { IsSameHistory (view self.old.seat.now) (view self.new.seat.now) }
+        ensures number { number_of self.new.seat.now ≡ number_of self.old.seat.now }
+        ensures seat { self.new.seat.ghost_name ≡ self.old.seat.ghost_name }
+        ensures desk { self.new.desk.now ≡ self.old.desk.now }
+    {
+        self.desk.edition(self.seat);
+    }
 }
 
 impl<M: Machine, R: Wait + Copy> Steps for AtSeat<'_, '_, M, R> {

@@ -5,17 +5,18 @@ ghost use Rattle.node_mount.specs.Serving.{CountsStarts};
 
 use crate::frame_notes::{FrameNotes, Replica};
 use crate::hall::{Links, two_holds};
-use crate::hearing::follow_heard;
+use crate::hearing::{HeardSeat, follow_heard};
 use crate::means::Means;
 use crate::mount_fault::MountFault;
 use crate::notes::Notes;
 use crate::place::Place;
-use crate::sessions::LINKS;
+use crate::sessions::{BUDGET, LINKS};
 use crate::to_primary::ToPrimary;
 use crate::work::{Work, start_work};
 use lf_base::{
     Clock, Closing, Dialer, Failed, Handles, Job, Link, Name, NoMemory, Pause, Spawner, Text, start,
 };
+use link_session::{Session, Turns};
 use node_core::{Answer, Ask};
 use replica_apply::Doubt;
 use std::alloc::Global;
@@ -204,18 +205,21 @@ fn follow_next<
         replica: Replica::new(),
     };
     let mut rest = Rest::new(means.rt, &*place.desk, HELD_MS);
-    let end = follow_heard(
-        means.rt,
-        means.alloc,
-        &*place.desk,
-        &mut place.seat,
-        &streams.name,
-        &mut link,
-        &mut means.clock,
-        &mut rest,
-        doubt.is_unknown(),
-        &mut hears,
-    );
+    let rt = means.rt;
+    let mut session = Session {
+        alloc: means.alloc,
+        link: &mut link,
+        clock: &mut means.clock,
+        pause: &mut rest,
+        turns: Turns::new(BUDGET),
+    };
+    let mut at = HeardSeat {
+        rt: &rt,
+        desk: &*place.desk,
+        seat: &mut place.seat,
+        hears: &mut hears,
+    };
+    let end = follow_heard(&mut session, &mut at, &streams.name, doubt.is_unknown());
     streams.notes.ended(&means.rt, end);
     streams.links.give_back(&means.rt, link);
     Some(doubt.after(end))

@@ -8,12 +8,10 @@ ghost use Rattle.replica_apply.specs.declared.follow_end.FollowEnd.TheVariants a
 ghost use Rattle.stream_primary.specs.Session.{IsSession};
 ghost use Rattle.turn_desk.specs.Seats.{view, number_of, opened_on, IsOf};
 
-use crate::sessions::BUDGET;
 use lf_base::{Clock, Link, Name, Pause, SessionEnd};
-use link_session::{SeatPlace, Steps};
+use link_session::{SeatPlace, Session, Steps};
 use node_core::{Answer, Ask};
 use replica_apply::{FollowEnd, follow_link};
-use std::alloc::Global;
 use std::sync::Wait;
 use stream_primary::{About, Gauge, serve_link};
 use turn_desk::{Desk, Machine, Seat, Worn};
@@ -67,7 +65,7 @@ fn tell<H: Hear>(hears: &mut H, ask: &Ask, answered: &Result<Answer, Worn>) {
     }
 }
 
-/// Follows the stream of another node over the link, by the seat, to its end; it is heard.
+/// Follows the stream of another node over the session's link, by the seat, to its end; it is heard.
 pub fn follow_heard<
     R: Wait + Copy,
     M: Machine<Ask = Ask, Answer = Answer>,
@@ -76,36 +74,24 @@ pub fn follow_heard<
     P: Pause,
     H: Hear,
 >(
-    rt: R,
-    alloc: Global,
-    desk: &Desk<M>,
-    seat: &mut Seat<M>,
+    session: &mut Session<L, C, P>,
+    at: &mut HeardSeat<M, R, H>,
     name: &Name,
-    link: &mut L,
-    clock: &mut C,
-    pause: &mut P,
     unknown: bool,
-    hears: &mut H,
 ) -> FollowEnd
-    requires { IsOf seat.old desk.now }
-    ensures follows { Follows (record { caller = number_of seat.old; may = C.may_give clock.old }) name.now unknown BUDGET (stand L.Link link.old (view seat.old).mine)
-        (stand L.Link link.new (view seat.new).mine) result }
-    ensures worn { result ≡ follow_ends.Worn → FoundWorn seat.new }
-    ensures history { HasGoneOn M.steps (opened_on desk.now) (number_of seat.new) (view seat.old) (view seat.new) }
-    ensures seat { IsOf seat.new desk.now × (number_of seat.new ≡ number_of seat.old) }
+    ensures follows { Follows (record { caller = number_of at.old.seat.now; may = C.may_give session.old.clock.now }) name.now unknown session.old.turns
+        (stand L.Link session.old.link.now (view at.old.seat.now).mine) (stand L.Link session.new.link.now (view at.new.seat.now).mine) result }
+    ensures worn { result ≡ follow_ends.Worn → FoundWorn at.new.seat.now }
+    ensures history { HasGoneOn M.steps (opened_on at.old.desk.now) (number_of at.new.seat.now) (view at.old.seat.now) (view at.new.seat.now) }
+    ensures seat { (at.new.desk.now ≡ at.old.desk.now) × (at.new.seat.ghost_name ≡ at.old.seat.ghost_name)
+        × (number_of at.new.seat.now ≡ number_of at.old.seat.now) }
 {
     // A look at the desk tells that what the seat has seen is the machine's history.
-    desk.edition(seat);
-    let mut steps = HeardSeat {
-        rt: &rt,
-        desk,
-        seat,
-        hears,
-    };
-    follow_link(alloc, &mut steps, name, link, clock, pause, unknown, BUDGET)
+    at.desk.edition(at.seat);
+    follow_link(session, at, name, unknown)
 }
 
-/// Serves the one request of a link by the seat, to the end of its session; it is heard.
+/// Serves the one request of the session's link by the seat, to its end; it is heard.
 pub fn serve_heard<
     R: Wait + Copy,
     M: Machine<Ask = Ask, Answer = Answer>,
@@ -114,30 +100,14 @@ pub fn serve_heard<
     P: Pause,
     G: Gauge,
     H: Hear,
->(
-    rt: R,
-    alloc: Global,
-    desk: &Desk<M>,
-    seat: &mut Seat<M>,
-    about: &About<G>,
-    link: &mut L,
-    clock: &mut C,
-    pause: &mut P,
-    hears: &mut H,
-) -> SessionEnd
-    requires { IsOf seat.old desk.now }
-    ensures session { IsSession (record { caller = number_of seat.old; may = C.may_give clock.old }) about.now.name BUDGET (stand L.Link link.old (view seat.old).mine)
-        (stand L.Link link.new (view seat.new).mine) result }
-    ensures worn { result ≡ session_ends.Worn → FoundWorn seat.new }
-    ensures history { HasGoneOn M.steps (opened_on desk.now) (number_of seat.new) (view seat.old) (view seat.new) }
-    ensures seat { IsOf seat.new desk.now × (number_of seat.new ≡ number_of seat.old) }
+>(session: &mut Session<L, C, P>, at: &mut HeardSeat<M, R, H>, about: &About<G>) -> SessionEnd
+    ensures session { IsSession (record { caller = number_of at.old.seat.now; may = C.may_give session.old.clock.now }) about.now.name session.old.turns
+        (stand L.Link session.old.link.now (view at.old.seat.now).mine) (stand L.Link session.new.link.now (view at.new.seat.now).mine) result }
+    ensures worn { result ≡ session_ends.Worn → FoundWorn at.new.seat.now }
+    ensures history { HasGoneOn M.steps (opened_on at.old.desk.now) (number_of at.new.seat.now) (view at.old.seat.now) (view at.new.seat.now) }
+    ensures seat { (at.new.desk.now ≡ at.old.desk.now) × (at.new.seat.ghost_name ≡ at.old.seat.ghost_name)
+        × (number_of at.new.seat.now ≡ number_of at.old.seat.now) }
 {
-    desk.edition(seat);
-    let mut steps = HeardSeat {
-        rt: &rt,
-        desk,
-        seat,
-        hears,
-    };
-    serve_link(alloc, &mut steps, about, link, clock, pause, BUDGET)
+    at.desk.edition(at.seat);
+    serve_link(session, at, about)
 }

@@ -4,7 +4,7 @@ ghost use Rattle.node_mount.specs.Serving.{CountsStarts};
 
 use crate::follower_notes::FollowerNotes;
 use crate::hall::{Links, two_holds};
-use crate::hearing::serve_heard;
+use crate::hearing::{HeardSeat, serve_heard};
 use crate::line::Line;
 use crate::means::Means;
 use crate::mount_fault::MountFault;
@@ -12,12 +12,13 @@ use crate::node_gauge::{Meters, NodeGauge};
 use crate::notes::Notes;
 use crate::patience::watcher_naps;
 use crate::place::Place;
-use crate::sessions::LINKS;
+use crate::sessions::{BUDGET, LINKS};
 use crate::tally::Tally;
 use crate::work::{Work, start_work};
 use lf_base::{
     Acceptor, Clock, Closing, Handles, Job, Link, Name, NoMemory, Pause, Spawner, start,
 };
+use link_session::{Session, Turns};
 use node_core::{Answer, Ask};
 use std::alloc::Global;
 use std::cell::Cell;
@@ -237,17 +238,21 @@ fn serve_caller<
         watches: &watches,
         tally: &notes.tally,
     };
-    serve_heard(
-        means.rt,
-        means.alloc,
-        &*place.desk,
-        &mut place.seat,
-        about,
-        &mut link,
-        &mut means.clock,
-        &mut pause,
-        &mut hears,
-    );
+    let rt = means.rt;
+    let mut session = Session {
+        alloc: means.alloc,
+        link: &mut link,
+        clock: &mut means.clock,
+        pause: &mut pause,
+        turns: Turns::new(BUDGET),
+    };
+    let mut at = HeardSeat {
+        rt: &rt,
+        desk: &*place.desk,
+        seat: &mut place.seat,
+        hears: &mut hears,
+    };
+    serve_heard(&mut session, &mut at, about);
     hears.end();
 }
 

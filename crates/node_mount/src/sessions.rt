@@ -9,8 +9,9 @@ use crate::place::Place;
 use crate::tally::Tally;
 use crate::to_primary::ToPrimary;
 use crate::work::{Work, start_work};
-use file_session::serve_seat;
+use file_session::serve_files;
 use lf_base::{Clock, Dialer, Failed, Handles, Link, Name, NoMemory, Pause, Spawner};
+use link_session::{AtSeat, Session, Turns};
 use node_core::{Answer, Ask};
 use turn_desk::{Machine, Rest};
 
@@ -105,18 +106,26 @@ impl<L: Link + Drop, U: Link + Drop, T: Dialer<L = U> + Drop> Work for Client<L,
         let mut link = CountedLink::new(link, tally);
         let (mut seat, mut clock) = (place.seat, means.clock);
         let mut rest = Rest::new(means.rt, &*place.desk, BUSY_MS);
-        serve_seat(
-            means.rt,
-            means.alloc,
-            &*place.desk,
-            &mut seat,
+        let mut between = Rest::new(means.rt, &*place.desk, BUSY_MS);
+        let mut session = Session {
+            alloc: means.alloc,
+            link: &mut link,
+            clock: &mut clock,
+            pause: &mut rest,
+            turns: Turns::new(BUDGET),
+        };
+        let mut at = AtSeat {
+            rt: &means.rt,
+            desk: &*place.desk,
+            seat: &mut seat,
+        };
+        serve_files(
+            &mut session,
+            &mut at,
             &name,
             node,
-            &mut link,
             &mut dialer,
-            &mut clock,
-            &mut rest,
-            BUDGET,
+            &mut between,
         );
     }
 }

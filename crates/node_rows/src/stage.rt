@@ -5,6 +5,7 @@ use crate::fault::Fault;
 use file_session::serve_files;
 use lf_base::{FixedClock, Handles, MemDialer, MemLink, Name, NoPause, Pos, SessionEnd};
 use lf_disk::MemDisk;
+use link_session::{AtSeat, Session, Turns};
 use node_core::{Answer, Ask, Node};
 use std::alloc::Global;
 use std::sync::Wait;
@@ -83,19 +84,24 @@ fn serve_seat<R: Handles + Copy>(
     requires { IsOf seat.old desk.now }
 {
     let (name, mut dialer) = alone(alloc)?;
-    let mut clock = FixedClock::new(NOW);
-    let mut pause = NoPause::new();
-    Ok(serve_files(
-        rt,
+    let mut session = Session {
         alloc,
+        link,
+        clock: &mut FixedClock::new(NOW),
+        pause: &mut NoPause::new(),
+        turns: Turns::new(budget),
+    };
+    let mut at = AtSeat {
+        rt: &rt,
         desk,
         seat,
+    };
+    Ok(serve_files(
+        &mut session,
+        &mut at,
         &name,
         3,
-        link,
         &mut dialer,
-        &mut clock,
-        &mut pause,
-        budget,
+        &mut NoPause::new(),
     ))
 }

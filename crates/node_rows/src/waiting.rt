@@ -10,8 +10,9 @@ use crate::held_link::HeldLink;
 use crate::opening::open_node;
 use crate::scene::{Scene, Session};
 use crate::stage::{NOW, alone};
-use file_session::serve_seat;
-use lf_base::{FixedClock, Handles, Link, MemLink, Pause, SessionEnd, SleepPause, Watch};
+use file_session::serve_files;
+use lf_base::{FixedClock, Handles, Link, MemLink, NoPause, Pause, SessionEnd, SleepPause, Watch};
+use link_session::{AtSeat, Turns};
 use node_core::{Answer, Ask};
 use std::alloc::Global;
 use std::thread;
@@ -69,19 +70,25 @@ fn serve_client<R: Handles + Copy, K: Machine<Ask = Ask, Answer = Answer>, P: Pa
     requires { IsOf seat.old desk.now }
 {
     let (name, mut dialer) = alone(alloc)?;
-    let mut clock = FixedClock::new(NOW);
-    Ok(serve_seat(
-        rt,
+    let mut session = link_session::Session {
         alloc,
+        link,
+        clock: &mut FixedClock::new(NOW),
+        pause,
+        turns: Turns::new(TURNS),
+    };
+    let mut at = AtSeat {
+        rt: &rt,
         desk,
         seat,
+    };
+    Ok(serve_files(
+        &mut session,
+        &mut at,
         &name,
         3,
-        link,
         &mut dialer,
-        &mut clock,
-        pause,
-        TURNS,
+        &mut NoPause::new(),
     ))
 }
 

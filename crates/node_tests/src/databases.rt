@@ -6,11 +6,12 @@ use crate::figures::about;
 use crate::links::link_of;
 use crate::same::same;
 use lf_base::{FixedClock, MemLink, NoPause, SessionEnd};
+use link_session::{AtSeat, Session, Turns};
 use std::alloc::Global;
 use std::process::Abort;
 use std::sync::Wait;
 use stored::{Stored, Word};
-use stream_primary::serve_seat;
+use stream_primary::serve_http;
 use turn_desk::Desk;
 
 const EXPORT: &[u8] = b"GET /export?name=app HTTP/1.1\r\nHost: localhost:20202\r\n\r\n";
@@ -231,11 +232,19 @@ fn served<R: Wait + Copy + Abort>(
     let machine = Stored::new(alloc, row.answers);
     let (desk, mut seat) = Desk::open(alloc, machine).ok().expect(&rt, "a desk");
     let about = about(rt, alloc);
-    let mut clock = FixedClock::new(5);
-    let mut pause = NoPause::new();
-    let end = serve_seat(
-        rt, alloc, &desk, &mut seat, &about, link, &mut clock, &mut pause, row.budget,
-    );
+    let mut session = Session {
+        alloc,
+        link,
+        clock: &mut FixedClock::new(5),
+        pause: &mut NoPause::new(),
+        turns: Turns::new(row.budget),
+    };
+    let mut at = AtSeat {
+        rt: &rt,
+        desk: &desk,
+        seat: &mut seat,
+    };
+    let end = serve_http(&mut session, &mut at, &about);
     (end, desk.close(rt, seat))
 }
 

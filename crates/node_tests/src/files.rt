@@ -3,8 +3,9 @@ mod scripted;
 
 use crate::links::{link_of, name_of, nobody};
 use crate::same::same;
-use file_session::serve_seat;
+use file_session::serve_files;
 use lf_base::{FixedClock, Handles, MemLink, NoPause, SessionEnd};
+use link_session::{AtSeat, Session, Turns};
 use scripted::Scripted;
 use std::alloc::Global;
 use std::net::{TcpListener, TcpStream};
@@ -203,18 +204,27 @@ fn served<R: Handles + Copy + Abort>(
     let (desk, mut seat) = Desk::open(alloc, Scripted::new(alloc))
         .ok()
         .expect(&rt, "a desk");
-    let end = serve_seat(
-        rt,
+    let mut session = Session {
         alloc,
-        &desk,
-        &mut seat,
-        &name_of(rt, alloc),
-        3,
         link,
-        &mut nobody(rt, alloc),
-        &mut FixedClock::new(5),
+        clock: &mut FixedClock::new(5),
+        pause: &mut NoPause::new(),
+        turns: Turns::new(budget),
+    };
+    let mut at = AtSeat {
+        rt: &rt,
+        desk: &desk,
+        seat: &mut seat,
+    };
+    let name = name_of(rt, alloc);
+    let mut dialer = nobody(rt, alloc);
+    let end = serve_files(
+        &mut session,
+        &mut at,
+        &name,
+        3,
+        &mut dialer,
         &mut NoPause::new(),
-        budget,
     );
     (end, desk.close(rt, seat))
 }

@@ -4,8 +4,9 @@ mod scripted;
 use crate::links::link_of;
 use crate::same::same;
 use lf_base::{FixedClock, MemLink, Name, NoPause, Pos};
+use link_session::{AtSeat, Session, Turns};
 use node_core::{Refusal, Whereabouts};
-use replica_apply::{Doubt, FollowEnd, follow_seat};
+use replica_apply::{Doubt, FollowEnd, follow};
 use scripted::{Scripted, Word};
 use std::alloc::Global;
 use std::process::Abort;
@@ -172,11 +173,19 @@ fn followed<R: Wait + Copy + Abort>(
     let machine = Scripted::new(alloc, Whereabouts { pos, last }, row.script);
     let (desk, mut seat) = Desk::open(alloc, machine).ok().expect(&rt, "a desk");
     let name = Name::read(alloc, b"app").expect(&rt, "a name");
-    let mut clock = FixedClock::new(5);
-    let mut pause = NoPause::new();
-    let end = follow_seat(
-        rt, alloc, &desk, &mut seat, &name, link, &mut clock, &mut pause, unknown, row.budget,
-    );
+    let mut session = Session {
+        alloc,
+        link,
+        clock: &mut FixedClock::new(5),
+        pause: &mut NoPause::new(),
+        turns: Turns::new(row.budget),
+    };
+    let mut at = AtSeat {
+        rt: &rt,
+        desk: &desk,
+        seat: &mut seat,
+    };
+    let end = follow(&mut session, &mut at, &name, unknown);
     (end, desk.close(rt, seat))
 }
 

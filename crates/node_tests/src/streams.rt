@@ -6,11 +6,12 @@ use crate::figures::about;
 use crate::links::link_of;
 use crate::same::same;
 use lf_base::{FixedClock, MemLink, NoPause, SessionEnd};
+use link_session::{AtSeat, Session, Turns};
 use scripted::{Scripted, Word};
 use std::alloc::Global;
 use std::process::Abort;
 use std::sync::Wait;
-use stream_primary::serve_seat;
+use stream_primary::serve_http;
 use turn_desk::Desk;
 
 const NOT_FOUND: &[u8] =
@@ -339,11 +340,19 @@ fn served<R: Wait + Copy + Abort>(
     let machine = Scripted::new(alloc, file(rt, alloc), row.script);
     let (desk, mut seat) = Desk::open(alloc, machine).ok().expect(&rt, "a desk");
     let about = about(rt, alloc);
-    let mut clock = FixedClock::new(5);
-    let mut pause = NoPause::new();
-    let end = serve_seat(
-        rt, alloc, &desk, &mut seat, &about, link, &mut clock, &mut pause, row.budget,
-    );
+    let mut session = Session {
+        alloc,
+        link,
+        clock: &mut FixedClock::new(5),
+        pause: &mut NoPause::new(),
+        turns: Turns::new(row.budget),
+    };
+    let mut at = AtSeat {
+        rt: &rt,
+        desk: &desk,
+        seat: &mut seat,
+    };
+    let end = serve_http(&mut session, &mut at, &about);
     (end, desk.close(rt, seat))
 }
 

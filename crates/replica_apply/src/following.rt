@@ -4,8 +4,8 @@ ghost use Rattle.std.specs.Io.KnownBytes.{Keeps};
 ghost use Rattle.link_session.specs.declared.stage.Stage.TheVariants as stages;
 ghost use Rattle.link_session.specs.Reach.{reach};
 ghost use Rattle.link_session.specs.Reading.{coming};
+ghost use Rattle.link_session.specs.Sessions.{asker_of, stand_holding, stand_of, SessionGoesOn};
 ghost use Rattle.link_session.specs.Spending.{MovesFor};
-ghost use Rattle.link_session.specs.Stands.{asker, stand, stand_with, AsksOn};
 ghost use Rattle.link_session.specs.Unread.{ended, LeavesUnread};
 ghost use Rattle.stream_wire.specs.Head.{NeverTakesResponse};
 ghost use Rattle.replica_apply.specs.declared.follow_end.FollowEnd.TheVariants as ends;
@@ -19,9 +19,8 @@ use crate::frames::follow_frame;
 use crate::head_feed::HeadFeed;
 use crate::requesting::send_request;
 use lf_base::{Clock, Link, Name, Pause};
-use link_session::{Inbox, Steps, Turns, Unread};
+use link_session::{Inbox, Session, Steps, Turns, Unread};
 use node_core::{Answer, Ask};
-use std::alloc::Global;
 use stream_wire::FrameFeed;
 
 /// The most bytes of a frame's body.
@@ -33,81 +32,75 @@ const OK: u16 = 200;
 /// Follows the stream of another node over the link, to its end. Its request says what the last file of
 /// the node's log is, or that its position is unknown.
 pub fn follow_link<S: Steps<Ask = Ask, Answer = Answer>, L: Link, C: Clock, P: Pause>(
-    alloc: Global,
+    session: &mut Session<L, C, P>,
     steps: &mut S,
     name: &Name,
-    link: &mut L,
-    clock: &mut C,
-    pause: &mut P,
     unknown: bool,
-    budget: u64,
 ) -> FollowEnd
-    ensures follows { Follows (asker S.Steps C.Clock steps.old clock.old) name.now unknown budget (stand L.Link link.old (S.entries steps.old)) (stand L.Link link.new (S.entries steps.new)) result }
-    ensures same { AsksOn S.Steps C.Clock steps.old steps.new clock.old clock.new }
+    ensures follows { Follows (asker_of S.Steps C.Clock session.old steps.old) name.now unknown session.old.turns (stand_of S.Steps L.Link session.old steps.old) (stand_of S.Steps L.Link session.new steps.new) result }
+    ensures same { SessionGoesOn S.Steps C.Clock session.old session.new steps.old steps.new }
     ensures worn { result ≡ ends.Worn → S.is_worn steps.new }
 {
-    let mut turns = Turns::new(budget);
-    follow_all(alloc, steps, name, link, clock, pause, unknown, &mut turns)
+    follow_all(session, steps, name, unknown)
 }
 
 /// Asks where the node stands, asks the other for the stream from there on, and follows it.
 fn follow_all<S: Steps<Ask = Ask, Answer = Answer>, L: Link, C: Clock, P: Pause>(
-    alloc: Global,
+    session: &mut Session<L, C, P>,
     steps: &mut S,
     name: &Name,
-    link: &mut L,
-    clock: &mut C,
-    pause: &mut P,
     unknown: bool,
-    turns: &mut Turns,
 ) -> FollowEnd
-    ensures ends { Ends (asker S.Steps C.Clock steps.old clock.old) name.now unknown (stand L.Link link.old (S.entries steps.old)) (stand L.Link link.new (S.entries steps.new)) turns.new result }
-    ensures same { AsksOn S.Steps C.Clock steps.old steps.new clock.old clock.new }
-    ensures spent { Uses {T = Unit {0}} turns.old (stand L.Link link.old (S.entries steps.old)) turns.new (stand L.Link link.new (S.entries steps.new)) (Err result) }
+    ensures ends { Ends (asker_of S.Steps C.Clock session.old steps.old) name.now unknown (stand_of S.Steps L.Link session.old steps.old) (stand_of S.Steps L.Link session.new steps.new) session.new.turns result }
+    ensures same { SessionGoesOn S.Steps C.Clock session.old session.new steps.old steps.new }
+    ensures spent { Uses {T = Unit {0}} session.old.turns (stand_of S.Steps L.Link session.old steps.old) session.new.turns (stand_of S.Steps L.Link session.new steps.new) (Err result) }
     ensures worn { result ≡ ends.Worn → S.is_worn steps.new }
 {
-    let here = match ask_where(steps, turns) {
+    let here = match ask_where(steps, &mut session.turns) {
         Ok(here) => here,
         Err(end) => return end,
     };
-    match send_request(alloc, link, name, here, unknown, turns) {
+    match send_request(
+        session.alloc,
+        session.link,
+        name,
+        here,
+        unknown,
+        &mut session.turns,
+    ) {
         Ok(()) => {}
         Err(why) => return unsent_by(why),
     }
-    follow_reply(alloc, steps, name, link, clock, pause, turns)
+    follow_reply(session, steps, name)
 }
 
 /// Reads the head of the reply, and follows the frames behind it.
 fn follow_reply<S: Steps<Ask = Ask, Answer = Answer>, L: Link, C: Clock, P: Pause>(
-    alloc: Global,
+    session: &mut Session<L, C, P>,
     steps: &mut S,
     name: &Name,
-    link: &mut L,
-    clock: &mut C,
-    pause: &mut P,
-    turns: &mut Turns,
 ) -> FollowEnd
-    ensures answer { EndsAnswer (asker S.Steps C.Clock steps.old clock.old) name.now (stand L.Link link.old (S.entries steps.old)) (stand L.Link link.new (S.entries steps.new)) turns.new result }
-    ensures same { AsksOn S.Steps C.Clock steps.old steps.new clock.old clock.new }
-    ensures spent { Uses {T = Unit {0}} turns.old (stand L.Link link.old (S.entries steps.old)) turns.new (stand L.Link link.new (S.entries steps.new)) (Err result) }
+    ensures answer { EndsAnswer (asker_of S.Steps C.Clock session.old steps.old) name.now (stand_of S.Steps L.Link session.old steps.old) (stand_of S.Steps L.Link session.new steps.new) session.new.turns result }
+    ensures same { SessionGoesOn S.Steps C.Clock session.old session.new steps.old steps.new }
+    ensures spent { Uses {T = Unit {0}} session.old.turns (stand_of S.Steps L.Link session.old steps.old) session.new.turns (stand_of S.Steps L.Link session.new steps.new) (Err result) }
     ensures worn { result ≡ ends.Worn → S.is_worn steps.new }
 {
-    let mut heads = match Inbox::new(alloc, HeadFeed::new(alloc)) {
+    let mut heads = match Inbox::new(session.alloc, HeadFeed::new(session.alloc)) {
         Ok(heads) => heads,
         Err(_) => return FollowEnd::NoMemory,
     };
-    let status = match read_head(&mut heads, link, turns) {
+    let status = match read_head(&mut heads, session.link, &mut session.turns) {
         Ok(status) => status,
         Err(why) => return end_of(why),
     };
     if status != OK {
         return FollowEnd::Status(status);
     }
-    let mut frames = match FrameFeed::new(alloc, FRAME_MAX) {
+    let mut frames = match FrameFeed::new(session.alloc, FRAME_MAX) {
         Ok(feed) => heads.change(feed),
         Err(_) => return FollowEnd::NoMemory,
     };
-    follow_frames(steps, name, link, clock, pause, &mut frames, turns)
+    follow_frames(session, steps, name, &mut frames)
 }
 
 /// Reads the head of the reply, and answers its status.
@@ -131,23 +124,20 @@ fn read_head<L: Link>(
 
 /// Follows one frame after another. Each that is followed leaves fewer bytes within reach of the turns.
 fn follow_frames<S: Steps<Ask = Ask, Answer = Answer>, L: Link, C: Clock, P: Pause>(
+    session: &mut Session<L, C, P>,
     steps: &mut S,
     name: &Name,
-    link: &mut L,
-    clock: &mut C,
-    pause: &mut P,
     frames: &mut Inbox<FrameFeed>,
-    turns: &mut Turns,
 ) -> FollowEnd
     requires { (frames.old.stage ≡ stages.Open) × (frames.old.limit ≡ frame_limit) }
-    ensures frames { EndsFrames (asker S.Steps C.Clock steps.old clock.old) name.now (stand_with L.Link frames.old link.old (S.entries steps.old))
-        (stand L.Link link.new (S.entries steps.new)) turns.new result }
-    ensures same { AsksOn S.Steps C.Clock steps.old steps.new clock.old clock.new }
-    ensures spent { Uses {T = Unit {0}} turns.old (stand_with L.Link frames.old link.old (S.entries steps.old)) turns.new (stand L.Link link.new (S.entries steps.new)) (Err result) }
+    ensures frames { EndsFrames (asker_of S.Steps C.Clock session.old steps.old) name.now (stand_holding S.Steps L.Link frames.old session.old steps.old)
+        (stand_of S.Steps L.Link session.new steps.new) session.new.turns result }
+    ensures same { SessionGoesOn S.Steps C.Clock session.old session.new steps.old steps.new }
+    ensures spent { Uses {T = Unit {0}} session.old.turns (stand_holding S.Steps L.Link frames.old session.old steps.old) session.new.turns (stand_of S.Steps L.Link session.new steps.new) (Err result) }
     ensures worn { result ≡ ends.Worn → S.is_worn steps.new }
 {
     'frames: loop {
-        match follow_next(steps, name, link, clock, pause, frames, turns) {
+        match follow_next(session, steps, name, frames) {
             Ok(()) => {}
             Err(end) => return end,
         }
@@ -156,28 +146,25 @@ fn follow_frames<S: Steps<Ask = Ask, Answer = Answer>, L: Link, C: Clock, P: Pau
 
 /// Reads a frame and follows it.
 fn follow_next<S: Steps<Ask = Ask, Answer = Answer>, L: Link, C: Clock, P: Pause>(
+    session: &mut Session<L, C, P>,
     steps: &mut S,
     name: &Name,
-    link: &mut L,
-    clock: &mut C,
-    pause: &mut P,
     frames: &mut Inbox<FrameFeed>,
-    turns: &mut Turns,
 ) -> Result<(), FollowEnd>
     requires { (frames.old.stage ≡ stages.Open) × (frames.old.limit ≡ frame_limit) }
-    ensures next { OnOk result (IsNext (asker S.Steps C.Clock steps.old clock.old) name.now (stand_with L.Link frames.old link.old (S.entries steps.old)).place
-        (stand_with L.Link frames.new link.new (S.entries steps.new)).place × (L.faults link.new ≡ L.faults link.old)) }
+    ensures next { OnOk result (IsNext (asker_of S.Steps C.Clock session.old steps.old) name.now (stand_holding S.Steps L.Link frames.old session.old steps.old).place
+        (stand_holding S.Steps L.Link frames.new session.new steps.new).place × (L.faults session.new.link.now ≡ L.faults session.old.link.now)) }
     ensures between { OnOk result ((frames.new.stage ≡ stages.Open) × (frames.new.limit ≡ frame_limit)) }
-    ensures stops { IfErr result (StopsAt (asker S.Steps C.Clock steps.old clock.old) name.now (stand_with L.Link frames.old link.old (S.entries steps.old)).place
-        (L.faults link.old) (stand L.Link link.new (S.entries steps.new)) turns.new) }
-    ensures within { OnOk result (reach frames.new turns.new < reach frames.old turns.old) }
-    ensures same { AsksOn S.Steps C.Clock steps.old steps.new clock.old clock.new }
-    ensures spent { Uses turns.old (stand L.Link link.old (S.entries steps.old)) turns.new (stand L.Link link.new (S.entries steps.new)) result }
+    ensures stops { IfErr result (StopsAt (asker_of S.Steps C.Clock session.old steps.old) name.now (stand_holding S.Steps L.Link frames.old session.old steps.old).place
+        (L.faults session.old.link.now) (stand_of S.Steps L.Link session.new steps.new) session.new.turns) }
+    ensures within { OnOk result (reach frames.new session.new.turns < reach frames.old session.old.turns) }
+    ensures same { SessionGoesOn S.Steps C.Clock session.old session.new steps.old steps.new }
+    ensures spent { Uses session.old.turns (stand_of S.Steps L.Link session.old steps.old) session.new.turns (stand_of S.Steps L.Link session.new steps.new) result }
     ensures worn { IfErr result (λ end. end ≡ ends.Worn → S.is_worn steps.new) }
 {
-    match frames.gather(link, turns) {
+    match frames.gather(session.link, &mut session.turns) {
         Ok(()) => {}
         Err(why) => return Err(end_of(why)),
     }
-    follow_frame(steps, name, clock, pause, frames.next(), turns)
+    follow_frame(session, steps, name, frames.next())
 }

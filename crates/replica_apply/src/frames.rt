@@ -1,6 +1,6 @@
 //! One frame: it is asked until no lock holds it back.
 ghost use Rattle.std.specs.Prelude.{ℕ, List, ◌≡◌, length, IfErr, MatchBool};
-ghost use Rattle.link_session.specs.Stands.{asker, AsksOn};
+ghost use Rattle.link_session.specs.Sessions.{asker_of, SessionGoesOn};
 ghost use Rattle.stream_wire.specs.Frame.{frame_text};
 ghost use Rattle.replica_apply.specs.declared.follow_end.FollowEnd.TheVariants as ends;
 ghost use Rattle.replica_apply.specs.Asking.{IsAskOf};
@@ -10,36 +10,35 @@ ghost use Rattle.replica_apply.specs.Frames.{said_by, EndsFrame};
 use crate::follow_end::FollowEnd;
 use crate::patience::WhileHeld;
 use lf_base::{Clock, Name, Pause, SessionEnd};
-use link_session::{Steps, Turns, ask_until};
+use link_session::{Session, Steps};
 use node_core::{Answer, Ask};
 use stream_wire::Frame;
 
 /// Does with a frame what it asks for. A file and a drop are asked again, after a nap, while a lock
 /// holds them back.
-pub fn follow_frame<S: Steps<Ask = Ask, Answer = Answer>, C: Clock, P: Pause>(
+pub fn follow_frame<S: Steps<Ask = Ask, Answer = Answer>, L, C: Clock, P: Pause>(
+    session: &mut Session<L, C, P>,
     steps: &mut S,
     name: &Name,
-    clock: &mut C,
-    pause: &mut P,
     frame: Frame,
-    turns: &mut Turns,
 ) -> Result<(), FollowEnd>
-    ensures end { EndsFrame (asker S.Steps C.Clock steps.old clock.old) name.now (frame_text frame) (S.entries steps.old) (S.entries steps.new) turns.new result }
-    ensures same { AsksOn S.Steps C.Clock steps.old steps.new clock.old clock.new }
-    ensures spent { Asks turns.old (length (S.entries steps.old)) turns.new (length (S.entries steps.new)) result }
+    ensures end { EndsFrame (asker_of S.Steps C.Clock session.old steps.old) name.now (frame_text frame) (S.entries steps.old) (S.entries steps.new) session.new.turns result }
+    ensures same { SessionGoesOn S.Steps C.Clock session.old session.new steps.old steps.new }
+    ensures link { session.new.link ≡ session.old.link }
+    ensures spent { Asks session.old.turns (length (S.entries steps.old)) session.new.turns (length (S.entries steps.new)) result }
     ensures worn { IfErr result (λ end. end ≡ ends.Worn → S.is_worn steps.new) }
 {
     match frame {
         Frame::Ltx { name: of, bytes } => {
             if is_same(&of, name) {
-                apply(steps, clock, pause, Ask::Frame { now: 0, bytes }, turns)
+                apply(session, steps, Ask::Frame { now: 0, bytes })
             } else {
                 Err(FollowEnd::BadFrame)
             }
         }
         Frame::Drop { name: of } => {
             if is_same(&of, name) {
-                apply(steps, clock, pause, Ask::Drop { now: 0 }, turns)
+                apply(session, steps, Ask::Drop { now: 0 })
             } else {
                 Err(FollowEnd::BadFrame)
             }
@@ -62,19 +61,18 @@ fn is_same(one: &Name, other: &Name) -> bool
 }
 
 /// Asks until no lock holds it back, and goes on only where it is applied, or the node has it already.
-fn apply<S: Steps<Ask = Ask, Answer = Answer>, C: Clock, P: Pause>(
+fn apply<S: Steps<Ask = Ask, Answer = Answer>, L, C: Clock, P: Pause>(
+    session: &mut Session<L, C, P>,
     steps: &mut S,
-    clock: &mut C,
-    pause: &mut P,
     ask: Ask,
-    turns: &mut Turns,
 ) -> Result<(), FollowEnd>
-    ensures end { (name text : List ℕ) → IsAskOf name text ask → EndsFrame (asker S.Steps C.Clock steps.old clock.old) name text (S.entries steps.old) (S.entries steps.new) turns.new result }
-    ensures same { AsksOn S.Steps C.Clock steps.old steps.new clock.old clock.new }
-    ensures spent { Asks turns.old (length (S.entries steps.old)) turns.new (length (S.entries steps.new)) result }
+    ensures end { (name text : List ℕ) → IsAskOf name text ask → EndsFrame (asker_of S.Steps C.Clock session.old steps.old) name text (S.entries steps.old) (S.entries steps.new) session.new.turns result }
+    ensures same { SessionGoesOn S.Steps C.Clock session.old session.new steps.old steps.new }
+    ensures link { session.new.link ≡ session.old.link }
+    ensures spent { Asks session.old.turns (length (S.entries steps.old)) session.new.turns (length (S.entries steps.new)) result }
     ensures worn { IfErr result (λ end. end ≡ ends.Worn → S.is_worn steps.new) }
 {
-    match ask_until(steps, clock, pause, ask, &WhileHeld, turns) {
+    match session.ask_until(steps, ask, &WhileHeld) {
         Ok(answer) => said_by(answer),
         Err(SessionEnd::Turns) => Err(FollowEnd::Turns),
         Err(SessionEnd::Worn) => Err(FollowEnd::Worn),

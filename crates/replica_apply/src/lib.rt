@@ -11,10 +11,8 @@ mod frames;
 mod head_feed;
 mod patience;
 mod requesting;
-mod seat;
 
 pub use applying::follow;
 pub use doubt::Doubt;
 pub use follow_end::FollowEnd;
 pub use following::follow_link;
-pub use seat::follow_seat;

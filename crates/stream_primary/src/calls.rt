@@ -3,7 +3,8 @@
 ghost use Rattle.std.specs.Prelude.{◌≡◌, Err};
 ghost use Rattle.std.specs.Io.KnownBytes.{Keeps};
 ghost use Rattle.lf_base.specs.declared.session_end.SessionEnd.TheVariants as ends;
-ghost use Rattle.link_session.specs.Stands.{asker, stand, AsksOn, Spends};
+ghost use Rattle.link_session.specs.Sessions.{asker_of, stand_of, SessionGoesOn};
+ghost use Rattle.link_session.specs.Stands.{Spends};
 ghost use Rattle.stream_primary.specs.Calls.{Serves, kept_of};
 ghost use Rattle.stream_primary.specs.Request.{CameOfRequest, Request};
 
@@ -18,9 +19,8 @@ use crate::stream_call::{LINE_MAX, serve_stream};
 use crate::watch_call::{serve_info, serve_metrics};
 use http_exchange::{Called, Kept, Wants};
 use lf_base::{Clock, Link, Pause, SessionEnd};
-use link_session::{Steps, Turns};
+use link_session::{Session, Steps};
 use node_core::{Answer, Ask};
-use std::alloc::Global;
 use stream_wire::Call;
 
 /// The status of a call that is not served.
@@ -51,49 +51,69 @@ impl Wants for Bodies {
 
 /// Serves a request that was read, by its call, to the end of its session.
 pub fn serve_call<S: Steps<Ask = Ask, Answer = Answer>, L: Link, C: Clock, P: Pause, G: Gauge>(
-    alloc: Global,
+    session: &mut Session<L, C, P>,
     steps: &mut S,
     about: &About<G>,
-    link: &mut L,
-    clock: &mut C,
-    pause: &mut P,
     called: Called,
-    turns: &mut Turns,
 ) -> SessionEnd
     ensures serves { (request : Request) → CameOfRequest (kept_of request.call) request called
-        → Serves request.call (asker S.Steps C.Clock steps.old clock.old) about.now.name request (stand L.Link link.old (S.entries steps.old))
-        (stand L.Link link.new (S.entries steps.new)) turns.new result }
-    ensures left { Keeps (L.left link.old) (L.left link.new) }
-    ensures same { AsksOn S.Steps C.Clock steps.old steps.new clock.old clock.new }
-    ensures spent { Spends {T = Unit {0}} turns.old (stand L.Link link.old (S.entries steps.old)) turns.new (stand L.Link link.new (S.entries steps.new)) (Err result) }
+        → Serves request.call (asker_of S.Steps C.Clock session.old steps.old) about.now.name request (stand_of S.Steps L.Link session.old steps.old)
+        (stand_of S.Steps L.Link session.new steps.new) session.new.turns result }
+    ensures left { Keeps (L.left session.old.link.now) (L.left session.new.link.now) }
+    ensures same { SessionGoesOn S.Steps C.Clock session.old session.new steps.old steps.new }
+    ensures spent { Spends {T = Unit {0}} session.old.turns (stand_of S.Steps L.Link session.old steps.old) session.new.turns (stand_of S.Steps L.Link session.new steps.new) (Err result) }
     ensures worn { result ≡ ends.Worn → S.is_worn steps.new }
 {
     let Called { head, call, body } = called;
     let name = &about.name;
     match call {
-        Call::Stream => {
-            serve_stream(alloc, steps, name, link, clock, pause, &head, &body, turns)
-        }
-        Call::Halt => match number_in(alloc, name, &body) {
-            Ok(said) => serve_halt(alloc, steps, link, clock, said, turns),
+        Call::Stream => serve_stream(session, steps, name, &head, &body),
+        Call::Halt => match number_in(session.alloc, name, &body) {
+            Ok(said) => serve_halt(
+                session.alloc,
+                steps,
+                session.link,
+                session.clock,
+                said,
+                &mut session.turns,
+            ),
             Err(_) => SessionEnd::NoMemory,
         },
-        Call::HaltBack => match number_in(alloc, name, &body) {
-            Ok(said) => serve_halt_back(alloc, steps, link, clock, said, turns),
+        Call::HaltBack => match number_in(session.alloc, name, &body) {
+            Ok(said) => serve_halt_back(
+                session.alloc,
+                steps,
+                session.link,
+                session.clock,
+                said,
+                &mut session.turns,
+            ),
             Err(_) => SessionEnd::NoMemory,
         },
-        Call::Tx => match file_in(alloc, name, body) {
-            Ok(said) => serve_forward(alloc, steps, link, clock, said, turns),
+        Call::Tx => match file_in(session.alloc, name, body) {
+            Ok(said) => serve_forward(
+                session.alloc,
+                steps,
+                session.link,
+                session.clock,
+                said,
+                &mut session.turns,
+            ),
             Err(_) => SessionEnd::NoMemory,
         },
-        Call::Export { name: other } => serve_export(alloc, steps, name, link, &other, turns),
-        Call::Import { name: other } => {
-            serve_import(alloc, steps, name, link, clock, &other, body, turns)
-        }
-        Call::Info => serve_info(alloc, steps, name, &about.gauge, link, clock, turns),
-        Call::Metrics => serve_metrics(alloc, steps, &about.gauge, link, clock, turns),
-        Call::Events => serve_events(alloc, steps, name, link, clock, pause, turns),
-        Call::Lease => refuse(alloc, link, NOT_FOUND, turns),
-        Call::Other => refuse(alloc, link, NOT_FOUND, turns),
+        Call::Export { name: other } => serve_export(
+            session.alloc,
+            steps,
+            name,
+            session.link,
+            &other,
+            &mut session.turns,
+        ),
+        Call::Import { name: other } => serve_import(session, steps, name, &other, body),
+        Call::Info => serve_info(session, steps, name, &about.gauge),
+        Call::Metrics => serve_metrics(session, steps, &about.gauge),
+        Call::Events => serve_events(session, steps, name),
+        Call::Lease => refuse(session.alloc, session.link, NOT_FOUND, &mut session.turns),
+        Call::Other => refuse(session.alloc, session.link, NOT_FOUND, &mut session.turns),
     }
 }

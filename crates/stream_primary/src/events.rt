@@ -5,7 +5,8 @@ ghost use Rattle.lf_base.specs.Faults.{CountsFaults};
 ghost use Rattle.lf_base.specs.declared.session_end.SessionEnd.TheVariants as ends;
 ghost use Rattle.link_session.specs.Asking.{EndsAsking};
 ghost use Rattle.link_session.specs.Spending.{AsksFor, Moves, MovesFor};
-ghost use Rattle.link_session.specs.Stands.{asker, stand, AsksOn, Spends};
+ghost use Rattle.link_session.specs.Sessions.{asker_of, stand_of, Borrows, SessionGoesOn};
+ghost use Rattle.link_session.specs.Stands.{asker, AsksOn, Spends};
 ghost use Rattle.node_core.specs.declared.answer.Answer.TheVariants as answers;
 ghost use Rattle.stream_primary.specs.Events.{AsksWatch, EndsLines, EndsWatch, ServesEvents};
 ghost use Rattle.stream_primary.specs.EventTelling.{last_lines, place_of, told_lines};
@@ -15,7 +16,7 @@ use crate::event_lines::{put_init, put_later, stays, viewed_of};
 use crate::replies::refuse_answer;
 use crate::viewed::Viewed;
 use lf_base::{Clock, Failed, Link, Name, NoMemory, Pause, Pos, SessionEnd};
-use link_session::{Steps, Turns, write_whole};
+use link_session::{Session, Steps, Turns, write_whole};
 use node_core::{Answer, Ask, Files, NodeInfo};
 use std::alloc::Global;
 use stream_wire::write_typed_head;
@@ -24,26 +25,20 @@ use txn_log::Entry;
 /// Serves a reader of events, to the end of its session: one Watch after another, each told before the
 /// next is asked, and a nap behind each.
 pub fn serve_events<S: Steps<Ask = Ask, Answer = Answer>, L: Link, C: Clock, P: Pause>(
-    alloc: Global,
+    session: &mut Session<L, C, P>,
     steps: &mut S,
     name: &Name,
-    link: &mut L,
-    clock: &mut C,
-    pause: &mut P,
-    turns: &mut Turns,
 ) -> SessionEnd
-    ensures serves { ServesEvents (asker S.Steps C.Clock steps.old clock.old) name.now (stand L.Link link.old (S.entries steps.old)) (stand L.Link link.new (S.entries steps.new)) turns.new result }
-    ensures left { Keeps (L.left link.old) (L.left link.new) }
-    ensures same { AsksOn S.Steps C.Clock steps.old steps.new clock.old clock.new }
-    ensures spent { Spends {T = Unit {0}} turns.old (stand L.Link link.old (S.entries steps.old)) turns.new (stand L.Link link.new (S.entries steps.new)) (Err result) }
+    ensures serves { ServesEvents (asker_of S.Steps C.Clock session.old steps.old) name.now (stand_of S.Steps L.Link session.old steps.old) (stand_of S.Steps L.Link session.new steps.new) session.new.turns result }
+    ensures left { Keeps (L.left session.old.link.now) (L.left session.new.link.now) }
+    ensures same { SessionGoesOn S.Steps C.Clock session.old session.new steps.old steps.new }
+    ensures spent { Spends {T = Unit {0}} session.old.turns (stand_of S.Steps L.Link session.old steps.old) session.new.turns (stand_of S.Steps L.Link session.new steps.new) (Err result) }
     ensures worn { result ≡ ends.Worn → S.is_worn steps.new }
 {
-    let mut text = Vec::new(alloc);
+    let mut text = Vec::new(session.alloc);
     let mut told: Option<Viewed> = None;
     'watches: loop {
-        match watch(
-            alloc, steps, name, link, clock, pause, &told, &mut text, turns,
-        ) {
+        match watch(session, steps, name, &told, &mut text) {
             Ok(next) => told = next,
             Err(end) => return end,
         }
@@ -56,25 +51,21 @@ pub fn serve_events<S: Steps<Ask = Ask, Answer = Answer>, L: Link, C: Clock, P: 
 /// Closed where the Watch was refused, or the reader can't be brought on; WriteFault also where the
 /// reader is gone.
 fn watch<S: Steps<Ask = Ask, Answer = Answer>, L: Link, C: Clock, P: Pause>(
-    alloc: Global,
+    session: &mut Session<L, C, P>,
     steps: &mut S,
     name: &Name,
-    link: &mut L,
-    clock: &mut C,
-    pause: &mut P,
     told: &Option<Viewed>,
     text: &mut Vec<u8>,
-    turns: &mut Turns,
 ) -> Result<Option<Viewed>, SessionEnd>
-    ensures round { EndsWatch (asker S.Steps C.Clock steps.old clock.old) name.now told.now (stand L.Link link.old (S.entries steps.old)).place
-        (stand L.Link link.new (S.entries steps.new)).place (L.faults link.old) (L.faults link.new) turns.new result }
-    ensures left { Keeps (L.left link.old) (L.left link.new) }
-    ensures same { AsksOn S.Steps C.Clock steps.old steps.new clock.old clock.new }
-    ensures spent { Spends turns.old (stand L.Link link.old (S.entries steps.old)) turns.new (stand L.Link link.new (S.entries steps.new)) result }
+    ensures round { EndsWatch (asker_of S.Steps C.Clock session.old steps.old) name.now told.now (stand_of S.Steps L.Link session.old steps.old).place
+        (stand_of S.Steps L.Link session.new steps.new).place (L.faults session.old.link.now) (L.faults session.new.link.now) session.new.turns result }
+    ensures left { Keeps (L.left session.old.link.now) (L.left session.new.link.now) }
+    ensures same { SessionGoesOn S.Steps C.Clock session.old session.new steps.old steps.new }
+    ensures spent { Spends session.old.turns (stand_of S.Steps L.Link session.old steps.old) session.new.turns (stand_of S.Steps L.Link session.new steps.new) result }
     ensures worn { IfErr result (λ end. end ≡ ends.Worn → S.is_worn steps.new) }
 {
-    match look(link, told) {
-        Ok(()) => watch_and_tell(alloc, steps, name, link, clock, pause, told, text, turns),
+    match look(session.link, told) {
+        Ok(()) => watch_and_tell(session, steps, name, told, text),
         Err(_) => Err(SessionEnd::WriteFault),
     }
 }
@@ -98,25 +89,21 @@ fn look<L: Link>(link: &mut L, told: &Option<Viewed>) -> Result<(), Failed>
 
 /// Asks one Watch and tells its answer.
 fn watch_and_tell<S: Steps<Ask = Ask, Answer = Answer>, L: Link, C: Clock, P: Pause>(
-    alloc: Global,
+    session: &mut Session<L, C, P>,
     steps: &mut S,
     name: &Name,
-    link: &mut L,
-    clock: &mut C,
-    pause: &mut P,
     told: &Option<Viewed>,
     text: &mut Vec<u8>,
-    turns: &mut Turns,
 ) -> Result<Option<Viewed>, SessionEnd>
-    ensures round { EndsWatch (asker S.Steps C.Clock steps.old clock.old) name.now told.now (stand L.Link link.old (S.entries steps.old)).place
-        (stand L.Link link.new (S.entries steps.new)).place (L.faults link.old) (L.faults link.new) turns.new result }
-    ensures left { Keeps (L.left link.old) (L.left link.new) }
-    ensures same { AsksOn S.Steps C.Clock steps.old steps.new clock.old clock.new }
-    ensures spent { Spends turns.old (stand L.Link link.old (S.entries steps.old)) turns.new (stand L.Link link.new (S.entries steps.new)) result }
+    ensures round { EndsWatch (asker_of S.Steps C.Clock session.old steps.old) name.now told.now (stand_of S.Steps L.Link session.old steps.old).place
+        (stand_of S.Steps L.Link session.new steps.new).place (L.faults session.old.link.now) (L.faults session.new.link.now) session.new.turns result }
+    ensures left { Keeps (L.left session.old.link.now) (L.left session.new.link.now) }
+    ensures same { SessionGoesOn S.Steps C.Clock session.old session.new steps.old steps.new }
+    ensures spent { Spends session.old.turns (stand_of S.Steps L.Link session.old steps.old) session.new.turns (stand_of S.Steps L.Link session.new steps.new) result }
     ensures worn { IfErr result (λ end. end ≡ ends.Worn → S.is_worn steps.new) }
 {
-    match ask_watch(steps, clock, told, turns) {
-        Ok(answer) => tell_answer(alloc, name, link, pause, told, &answer, text, turns),
+    match ask_watch(steps, session.clock, told, &mut session.turns) {
+        Ok(answer) => tell_answer(session, name, told, &answer, text),
         Err(end) => Err(end),
     }
 }
@@ -159,45 +146,47 @@ fn place_of(told: &Option<Viewed>) -> Pos
 }
 
 /// Tells the reader the answer, and naps where it goes on. Nothing is written where memory runs out.
-fn tell_answer<L: Link, P: Pause>(
-    alloc: Global,
+fn tell_answer<L: Link, C, P: Pause>(
+    session: &mut Session<L, C, P>,
     name: &Name,
-    link: &mut L,
-    pause: &mut P,
     told: &Option<Viewed>,
     answer: &Answer,
     text: &mut Vec<u8>,
-    turns: &mut Turns,
 ) -> Result<Option<Viewed>, SessionEnd>
-    ensures sent { EndsLines name.now told.now answer.now (L.taken link.old) (L.taken link.new) (L.faults link.old) (L.faults link.new) turns.new result }
-    ensures left { Keeps (L.left link.old) (L.left link.new) }
-    ensures spent { MovesFor result turns.old (L.moves link.old) turns.new (L.moves link.new) }
+    ensures sent { EndsLines name.now told.now answer.now (L.taken session.old.link.now) (L.taken session.new.link.now) (L.faults session.old.link.now) (L.faults session.new.link.now) session.new.turns result }
+    ensures left { Keeps (L.left session.old.link.now) (L.left session.new.link.now) }
+    ensures spent { MovesFor result session.old.turns (L.moves session.old.link.now) session.new.turns (L.moves session.new.link.now) }
+    ensures borrows { Borrows session.old session.new }
+    ensures clock { session.new.clock ≡ session.old.clock }
 {
     match answer {
-        Answer::Watched { info, files } => {
-            tell(alloc, name, link, pause, told, info, files, text, turns)
-        }
-        _ => Err(end_events(alloc, link, told, answer, turns)),
+        Answer::Watched { info, files } => tell(session, name, told, info, files, text),
+        _ => Err(end_events(
+            session.alloc,
+            session.link,
+            told,
+            answer,
+            &mut session.turns,
+        )),
     }
 }
 
 /// Tells the reader these files.
-fn tell<L: Link, P: Pause>(
-    alloc: Global,
+fn tell<L: Link, C, P: Pause>(
+    session: &mut Session<L, C, P>,
     name: &Name,
-    link: &mut L,
-    pause: &mut P,
     told: &Option<Viewed>,
     info: &NodeInfo,
     files: &Files,
     text: &mut Vec<u8>,
-    turns: &mut Turns,
 ) -> Result<Option<Viewed>, SessionEnd>
-    ensures sent { EndsLines name.now told.now (answers.Watched info.now files.now) (L.taken link.old) (L.taken link.new) (L.faults link.old) (L.faults link.new) turns.new result }
-    ensures left { Keeps (L.left link.old) (L.left link.new) }
-    ensures spent { MovesFor result turns.old (L.moves link.old) turns.new (L.moves link.new) }
+    ensures sent { EndsLines name.now told.now (answers.Watched info.now files.now) (L.taken session.old.link.now) (L.taken session.new.link.now) (L.faults session.old.link.now) (L.faults session.new.link.now) session.new.turns result }
+    ensures left { Keeps (L.left session.old.link.now) (L.left session.new.link.now) }
+    ensures spent { MovesFor result session.old.turns (L.moves session.old.link.now) session.new.turns (L.moves session.new.link.now) }
+    ensures borrows { Borrows session.old session.new }
+    ensures clock { session.new.clock ≡ session.old.clock }
 {
-    match put_lines(alloc, name, told, info, files.as_slice(), text) {
+    match put_lines(session.alloc, name, told, info, files.as_slice(), text) {
         Ok(()) => {}
         Err(_) => return Err(SessionEnd::NoMemory),
     }
@@ -205,14 +194,14 @@ fn tell<L: Link, P: Pause>(
         Ok(next) => next,
         Err(_) => return Err(SessionEnd::NoMemory),
     };
-    match write_whole(link, text.as_slice(), turns) {
+    match write_whole(session.link, text.as_slice(), &mut session.turns) {
         Ok(()) => {}
         Err(end) => return Err(end),
     }
     if !stays(told, info, files.as_slice()) {
         return Err(SessionEnd::Closed);
     }
-    pause.nap();
+    session.pause.nap();
     Ok(Some(next))
 }
 

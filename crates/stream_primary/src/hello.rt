@@ -5,7 +5,8 @@ ghost use Rattle.lf_base.specs.Faults.{CountsFaults};
 ghost use Rattle.lf_base.specs.declared.session_end.SessionEnd.TheVariants as ends;
 ghost use Rattle.link_session.specs.Asking.{EndsAsking};
 ghost use Rattle.link_session.specs.Spending.{AsksFor, Moves, MovesFor};
-ghost use Rattle.link_session.specs.Stands.{asker, stand, AsksOn, Spends};
+ghost use Rattle.link_session.specs.Sessions.{asker_of, stand_of, Borrows, SessionGoesOn};
+ghost use Rattle.link_session.specs.Stands.{asker, AsksOn, Spends};
 ghost use Rattle.stream_primary.specs.declared.standing.Sent.TheVariants as sents;
 ghost use Rattle.stream_primary.specs.Streaming.{AsksHello, EndsRound, EndsTelling};
 
@@ -13,34 +14,29 @@ use crate::ending::end_stream;
 use crate::standing::{Sent, Standing};
 use crate::telling::{file_of, goes_on, next, put_words};
 use lf_base::{Clock, Failed, Link, Name, Pause, SessionEnd};
-use link_session::{Steps, Turns, write_both};
+use link_session::{Session, Steps, Turns, write_both};
 use node_core::{Answer, Ask, Whereabouts};
-use std::alloc::Global;
 
 /// Asks one Hello and tells its answer, and answers how the follower stands then. A follower that was
 /// level is looked for first.
 ///
 /// Closed where the Hello was refused, and that is sent; WriteFault also where the follower is gone.
 pub fn greet<S: Steps<Ask = Ask, Answer = Answer>, L: Link, C: Clock, P: Pause>(
-    alloc: Global,
+    session: &mut Session<L, C, P>,
     steps: &mut S,
     name: &Name,
-    link: &mut L,
-    clock: &mut C,
-    pause: &mut P,
     at: Standing,
     text: &mut Vec<u8>,
-    turns: &mut Turns,
 ) -> Result<Standing, SessionEnd>
-    ensures round { EndsRound (asker S.Steps C.Clock steps.old clock.old) name.now at (stand L.Link link.old (S.entries steps.old)).place
-        (stand L.Link link.new (S.entries steps.new)).place (L.faults link.old) (L.faults link.new) turns.new result }
-    ensures left { Keeps (L.left link.old) (L.left link.new) }
-    ensures same { AsksOn S.Steps C.Clock steps.old steps.new clock.old clock.new }
-    ensures spent { Spends turns.old (stand L.Link link.old (S.entries steps.old)) turns.new (stand L.Link link.new (S.entries steps.new)) result }
+    ensures round { EndsRound (asker_of S.Steps C.Clock session.old steps.old) name.now at (stand_of S.Steps L.Link session.old steps.old).place
+        (stand_of S.Steps L.Link session.new steps.new).place (L.faults session.old.link.now) (L.faults session.new.link.now) session.new.turns result }
+    ensures left { Keeps (L.left session.old.link.now) (L.left session.new.link.now) }
+    ensures same { SessionGoesOn S.Steps C.Clock session.old session.new steps.old steps.new }
+    ensures spent { Spends session.old.turns (stand_of S.Steps L.Link session.old steps.old) session.new.turns (stand_of S.Steps L.Link session.new steps.new) result }
     ensures worn { IfErr result (λ end. end ≡ ends.Worn → S.is_worn steps.new) }
 {
-    match look(link, at.sent) {
-        Ok(()) => ask_and_tell(alloc, steps, name, link, clock, pause, at, text, turns),
+    match look(session.link, at.sent) {
+        Ok(()) => ask_and_tell(session, steps, name, at, text),
         Err(_) => Err(SessionEnd::WriteFault),
     }
 }
@@ -66,25 +62,21 @@ fn look<L: Link>(link: &mut L, sent: Sent) -> Result<(), Failed>
 
 /// Asks one Hello and tells its answer.
 fn ask_and_tell<S: Steps<Ask = Ask, Answer = Answer>, L: Link, C: Clock, P: Pause>(
-    alloc: Global,
+    session: &mut Session<L, C, P>,
     steps: &mut S,
     name: &Name,
-    link: &mut L,
-    clock: &mut C,
-    pause: &mut P,
     at: Standing,
     text: &mut Vec<u8>,
-    turns: &mut Turns,
 ) -> Result<Standing, SessionEnd>
-    ensures round { EndsRound (asker S.Steps C.Clock steps.old clock.old) name.now at (stand L.Link link.old (S.entries steps.old)).place
-        (stand L.Link link.new (S.entries steps.new)).place (L.faults link.old) (L.faults link.new) turns.new result }
-    ensures left { Keeps (L.left link.old) (L.left link.new) }
-    ensures same { AsksOn S.Steps C.Clock steps.old steps.new clock.old clock.new }
-    ensures spent { Spends turns.old (stand L.Link link.old (S.entries steps.old)) turns.new (stand L.Link link.new (S.entries steps.new)) result }
+    ensures round { EndsRound (asker_of S.Steps C.Clock session.old steps.old) name.now at (stand_of S.Steps L.Link session.old steps.old).place
+        (stand_of S.Steps L.Link session.new steps.new).place (L.faults session.old.link.now) (L.faults session.new.link.now) session.new.turns result }
+    ensures left { Keeps (L.left session.old.link.now) (L.left session.new.link.now) }
+    ensures same { SessionGoesOn S.Steps C.Clock session.old session.new steps.old steps.new }
+    ensures spent { Spends session.old.turns (stand_of S.Steps L.Link session.old steps.old) session.new.turns (stand_of S.Steps L.Link session.new steps.new) result }
     ensures worn { IfErr result (λ end. end ≡ ends.Worn → S.is_worn steps.new) }
 {
-    match ask_hello(steps, clock, at.here, turns) {
-        Ok(answer) => tell(alloc, name, link, pause, at, answer, text, turns),
+    match ask_hello(steps, session.clock, at.here, &mut session.turns) {
+        Ok(answer) => tell(session, name, at, answer, text),
         Err(end) => Err(end),
     }
 }
@@ -118,33 +110,44 @@ fn ask_hello<S: Steps<Ask = Ask, Answer = Answer>, C: Clock>(
 }
 
 /// Tells the follower the answer, and naps where it is level. Nothing is written where memory runs out.
-fn tell<L: Link, P: Pause>(
-    alloc: Global,
+fn tell<L: Link, C, P: Pause>(
+    session: &mut Session<L, C, P>,
     name: &Name,
-    link: &mut L,
-    pause: &mut P,
     at: Standing,
     answer: Answer,
     text: &mut Vec<u8>,
-    turns: &mut Turns,
 ) -> Result<Standing, SessionEnd>
-    ensures sent { EndsTelling name.now at answer (L.taken link.old) (L.taken link.new) (L.faults link.old) (L.faults link.new) turns.new result }
-    ensures left { Keeps (L.left link.old) (L.left link.new) }
-    ensures spent { MovesFor result turns.old (L.moves link.old) turns.new (L.moves link.new) }
+    ensures sent { EndsTelling name.now at answer (L.taken session.old.link.now) (L.taken session.new.link.now) (L.faults session.old.link.now) (L.faults session.new.link.now) session.new.turns result }
+    ensures left { Keeps (L.left session.old.link.now) (L.left session.new.link.now) }
+    ensures spent { MovesFor result session.old.turns (L.moves session.old.link.now) session.new.turns (L.moves session.new.link.now) }
+    ensures borrows { Borrows session.old session.new }
+    ensures clock { session.new.clock ≡ session.old.clock }
 {
     if !goes_on(&answer) {
-        return Err(end_stream(alloc, link, at.sent, &answer, text, turns));
+        return Err(end_stream(
+            session.alloc,
+            session.link,
+            at.sent,
+            &answer,
+            text,
+            &mut session.turns,
+        ));
     }
-    match put_words(alloc, name, at.sent, &answer, text) {
+    match put_words(session.alloc, name, at.sent, &answer, text) {
         Ok(()) => {}
         Err(_) => return Err(SessionEnd::NoMemory),
     }
-    match write_both(link, text.as_slice(), file_of(&answer), turns) {
+    match write_both(
+        session.link,
+        text.as_slice(),
+        file_of(&answer),
+        &mut session.turns,
+    ) {
         Ok(()) => {}
         Err(end) => return Err(end),
     }
     if matches!(answer, Answer::Level(_)) {
-        pause.nap();
+        session.pause.nap();
     }
     Ok(next(at, &answer))
 }

@@ -3,7 +3,8 @@ ghost use Rattle.std.specs.Prelude.{◌≡◌, Err, IfOk};
 ghost use Rattle.std.specs.Io.KnownBytes.{Keeps};
 ghost use Rattle.lf_base.specs.Name.{IsName};
 ghost use Rattle.lf_base.specs.declared.session_end.SessionEnd.TheVariants as ends;
-ghost use Rattle.link_session.specs.Stands.{asker, stand, AsksOn, Spends};
+ghost use Rattle.link_session.specs.Sessions.{asker_of, stand_of, SessionGoesOn};
+ghost use Rattle.link_session.specs.Stands.{Spends};
 ghost use Rattle.stream_wire.specs.StreamLine.{stream_line};
 ghost use Rattle.http_exchange.specs.declared.wants.Kept.TheVariants as kept;
 ghost use Rattle.stream_primary.specs.Request.{CameOf, Request};
@@ -14,7 +15,7 @@ use crate::replies::refuse;
 use crate::streaming::stream;
 use http_exchange::Body;
 use lf_base::{Bytes, Clock, Link, Name, NoMemory, Pause, Pos, SessionEnd};
-use link_session::{Steps, Turns};
+use link_session::{Session, Steps};
 use node_core::{Answer, Ask, Whereabouts};
 use std::alloc::Global;
 use stream_wire::{LastFile as Said, last_file_in, read_stream_line};
@@ -42,32 +43,29 @@ pub enum Wish {
 
 /// Serves a request for a stream, to the end of its session.
 pub fn serve_stream<S: Steps<Ask = Ask, Answer = Answer>, L: Link, C: Clock, P: Pause>(
-    alloc: Global,
+    session: &mut Session<L, C, P>,
     steps: &mut S,
     name: &Name,
-    link: &mut L,
-    clock: &mut C,
-    pause: &mut P,
     head: &Bytes,
     body: &Body,
-    turns: &mut Turns,
 ) -> SessionEnd
     ensures serves { (request : Request) → head.now ≡ request.head → CameOf (kept.Line line_max) request.body body.now
-        → ServesStream (asker S.Steps C.Clock steps.old clock.old) name.now request (stand L.Link link.old (S.entries steps.old))
-        (stand L.Link link.new (S.entries steps.new)) turns.new result }
-    ensures left { Keeps (L.left link.old) (L.left link.new) }
-    ensures same { AsksOn S.Steps C.Clock steps.old steps.new clock.old clock.new }
-    ensures spent { Spends {T = Unit {0}} turns.old (stand L.Link link.old (S.entries steps.old)) turns.new (stand L.Link link.new (S.entries steps.new)) (Err result) }
+        → ServesStream (asker_of S.Steps C.Clock session.old steps.old) name.now request (stand_of S.Steps L.Link session.old steps.old)
+        (stand_of S.Steps L.Link session.new steps.new) session.new.turns result }
+    ensures left { Keeps (L.left session.old.link.now) (L.left session.new.link.now) }
+    ensures same { SessionGoesOn S.Steps C.Clock session.old session.new steps.old steps.new }
+    ensures spent { Spends {T = Unit {0}} session.old.turns (stand_of S.Steps L.Link session.old steps.old) session.new.turns (stand_of S.Steps L.Link session.new steps.new) (Err result) }
     ensures worn { result ≡ ends.Worn → S.is_worn steps.new }
 {
-    match wish_of(alloc, name, body) {
+    match wish_of(session.alloc, name, body) {
         Ok(Wish::Stream(pos)) => {
             let last = last_in(head.as_slice());
-            let from = Whereabouts { pos, last };
-            stream(alloc, steps, name, link, clock, pause, from, turns)
+            stream(session, steps, name, Whereabouts { pos, last })
         }
-        Ok(Wish::OtherDatabase) => refuse(alloc, link, NOT_FOUND, turns),
-        Ok(Wish::NoLine) => refuse(alloc, link, BAD_REQUEST, turns),
+        Ok(Wish::OtherDatabase) => {
+            refuse(session.alloc, session.link, NOT_FOUND, &mut session.turns)
+        }
+        Ok(Wish::NoLine) => { refuse(session.alloc, session.link, BAD_REQUEST, &mut session.turns) }
         Err(_) => SessionEnd::NoMemory,
     }
 }

@@ -2,41 +2,37 @@
 ghost use Rattle.std.specs.Prelude.{◌≡◌, Err};
 ghost use Rattle.std.specs.Io.KnownBytes.{Keeps};
 ghost use Rattle.lf_base.specs.declared.session_end.SessionEnd.TheVariants as ends;
-ghost use Rattle.link_session.specs.Stands.{asker, stand, AsksOn, Spends};
+ghost use Rattle.link_session.specs.Sessions.{asker_of, stand_of, SessionGoesOn};
+ghost use Rattle.link_session.specs.Stands.{Spends};
 ghost use Rattle.stream_primary.specs.Streaming.{Streams};
 
 use crate::hello::greet;
 use crate::standing::{Sent, Standing};
 use lf_base::{Clock, Link, Name, Pause, SessionEnd};
-use link_session::{Steps, Turns};
+use link_session::{Session, Steps};
 use node_core::{Answer, Ask, Whereabouts};
-use std::alloc::Global;
 
 /// Streams to a follower that says that it stands here, to the end of the session: one Hello after another, each
 /// sent before the next is asked.
 pub fn stream<S: Steps<Ask = Ask, Answer = Answer>, L: Link, C: Clock, P: Pause>(
-    alloc: Global,
+    session: &mut Session<L, C, P>,
     steps: &mut S,
     name: &Name,
-    link: &mut L,
-    clock: &mut C,
-    pause: &mut P,
     from: Whereabouts,
-    turns: &mut Turns,
 ) -> SessionEnd
-    ensures streams { Streams (asker S.Steps C.Clock steps.old clock.old) name.now from (stand L.Link link.old (S.entries steps.old)) (stand L.Link link.new (S.entries steps.new)) turns.new result }
-    ensures left { Keeps (L.left link.old) (L.left link.new) }
-    ensures same { AsksOn S.Steps C.Clock steps.old steps.new clock.old clock.new }
-    ensures spent { Spends {T = Unit {0}} turns.old (stand L.Link link.old (S.entries steps.old)) turns.new (stand L.Link link.new (S.entries steps.new)) (Err result) }
+    ensures streams { Streams (asker_of S.Steps C.Clock session.old steps.old) name.now from (stand_of S.Steps L.Link session.old steps.old) (stand_of S.Steps L.Link session.new steps.new) session.new.turns result }
+    ensures left { Keeps (L.left session.old.link.now) (L.left session.new.link.now) }
+    ensures same { SessionGoesOn S.Steps C.Clock session.old session.new steps.old steps.new }
+    ensures spent { Spends {T = Unit {0}} session.old.turns (stand_of S.Steps L.Link session.old steps.old) session.new.turns (stand_of S.Steps L.Link session.new steps.new) (Err result) }
     ensures worn { result ≡ ends.Worn → S.is_worn steps.new }
 {
-    let mut text = Vec::new(alloc);
+    let mut text = Vec::new(session.alloc);
     let mut at = Standing {
         here: from,
         sent: Sent::Nothing,
     };
     'hellos: loop {
-        match greet(alloc, steps, name, link, clock, pause, at, &mut text, turns) {
+        match greet(session, steps, name, at, &mut text) {
             Ok(next) => at = next,
             Err(end) => return end,
         }

@@ -4,7 +4,8 @@ ghost use Rattle.std.specs.Io.KnownBytes.{Keeps};
 ghost use Rattle.lf_base.specs.declared.session_end.SessionEnd.TheVariants as ends;
 ghost use Rattle.link_session.specs.Asking.{EndsAsking};
 ghost use Rattle.link_session.specs.Spending.{AsksFor, MovesFor};
-ghost use Rattle.link_session.specs.Stands.{asker, stand, AsksOn, Spends};
+ghost use Rattle.link_session.specs.Sessions.{asker_of, stand_of, SessionGoesOn};
+ghost use Rattle.link_session.specs.Stands.{asker, AsksOn, Spends};
 ghost use Rattle.http_exchange.specs.Writing.{typed_reply};
 ghost use Rattle.stream_primary.specs.InfoText.{info_text, info_type};
 ghost use Rattle.stream_primary.specs.MetricsText.{metrics_text, metrics_type};
@@ -17,92 +18,95 @@ use crate::metrics_text::{metrics_type, put_metrics};
 use crate::replies::refuse_answer;
 use http_exchange::write_typed_reply;
 use lf_base::{Clock, Link, Name, SessionEnd};
-use link_session::{Steps, Turns};
+use link_session::{Session, Steps, Turns};
 use node_core::{Answer, Ask, NodeInfo};
 use std::alloc::Global;
 
 /// Serves a request for what the node is, to the end of its session.
-pub fn serve_info<S: Steps<Ask = Ask, Answer = Answer>, L: Link, C: Clock, G: Gauge>(
-    alloc: Global,
+pub fn serve_info<S: Steps<Ask = Ask, Answer = Answer>, L: Link, C: Clock, P, G: Gauge>(
+    session: &mut Session<L, C, P>,
     steps: &mut S,
     name: &Name,
     gauge: &G,
-    link: &mut L,
-    clock: &mut C,
-    turns: &mut Turns,
 ) -> SessionEnd
-    ensures serves { ServesInfo (asker S.Steps C.Clock steps.old clock.old) name.now (stand L.Link link.old (S.entries steps.old)) (stand L.Link link.new (S.entries steps.new)) turns.new result }
-    ensures left { Keeps (L.left link.old) (L.left link.new) }
-    ensures same { AsksOn S.Steps C.Clock steps.old steps.new clock.old clock.new }
-    ensures spent { Spends {T = Unit {0}} turns.old (stand L.Link link.old (S.entries steps.old)) turns.new (stand L.Link link.new (S.entries steps.new)) (Err result) }
+    ensures serves { ServesInfo (asker_of S.Steps C.Clock session.old steps.old) name.now (stand_of S.Steps L.Link session.old steps.old) (stand_of S.Steps L.Link session.new steps.new) session.new.turns result }
+    ensures left { Keeps (L.left session.old.link.now) (L.left session.new.link.now) }
+    ensures same { SessionGoesOn S.Steps C.Clock session.old session.new steps.old steps.new }
+    ensures spent { Spends {T = Unit {0}} session.old.turns (stand_of S.Steps L.Link session.old steps.old) session.new.turns (stand_of S.Steps L.Link session.new steps.new) (Err result) }
     ensures worn { result ≡ ends.Worn → S.is_worn steps.new }
 {
-    match gauge.read(alloc) {
-        Ok(figures) => inform(alloc, steps, name, &figures, link, clock, turns),
+    match gauge.read(session.alloc) {
+        Ok(figures) => inform(session, steps, name, &figures),
         Err(_) => SessionEnd::NoMemory,
     }
 }
 
 /// Serves a request for its metrics, to the end of its session.
-pub fn serve_metrics<S: Steps<Ask = Ask, Answer = Answer>, L: Link, C: Clock, G: Gauge>(
-    alloc: Global,
+pub fn serve_metrics<S: Steps<Ask = Ask, Answer = Answer>, L: Link, C: Clock, P, G: Gauge>(
+    session: &mut Session<L, C, P>,
     steps: &mut S,
     gauge: &G,
-    link: &mut L,
-    clock: &mut C,
-    turns: &mut Turns,
 ) -> SessionEnd
-    ensures serves { ServesMetrics (asker S.Steps C.Clock steps.old clock.old) (stand L.Link link.old (S.entries steps.old)) (stand L.Link link.new (S.entries steps.new)) turns.new result }
-    ensures left { Keeps (L.left link.old) (L.left link.new) }
-    ensures same { AsksOn S.Steps C.Clock steps.old steps.new clock.old clock.new }
-    ensures spent { Spends {T = Unit {0}} turns.old (stand L.Link link.old (S.entries steps.old)) turns.new (stand L.Link link.new (S.entries steps.new)) (Err result) }
+    ensures serves { ServesMetrics (asker_of S.Steps C.Clock session.old steps.old) (stand_of S.Steps L.Link session.old steps.old) (stand_of S.Steps L.Link session.new steps.new) session.new.turns result }
+    ensures left { Keeps (L.left session.old.link.now) (L.left session.new.link.now) }
+    ensures same { SessionGoesOn S.Steps C.Clock session.old session.new steps.old steps.new }
+    ensures spent { Spends {T = Unit {0}} session.old.turns (stand_of S.Steps L.Link session.old steps.old) session.new.turns (stand_of S.Steps L.Link session.new steps.new) (Err result) }
     ensures worn { result ≡ ends.Worn → S.is_worn steps.new }
 {
-    match gauge.read(alloc) {
-        Ok(figures) => measure(alloc, steps, &figures, link, clock, turns),
+    match gauge.read(session.alloc) {
+        Ok(figures) => measure(session, steps, &figures),
         Err(_) => SessionEnd::NoMemory,
     }
 }
 
 /// Asks what the node is, and ends the session with that and these figures as JSON.
-fn inform<S: Steps<Ask = Ask, Answer = Answer>, L: Link, C: Clock>(
-    alloc: Global,
+fn inform<S: Steps<Ask = Ask, Answer = Answer>, L: Link, C: Clock, P>(
+    session: &mut Session<L, C, P>,
     steps: &mut S,
     name: &Name,
     figures: &Figures,
-    link: &mut L,
-    clock: &mut C,
-    turns: &mut Turns,
 ) -> SessionEnd
-    ensures tells { TellsOf (asker S.Steps C.Clock steps.old clock.old) (info_reply name.now figures.now) (stand L.Link link.old (S.entries steps.old)) (stand L.Link link.new (S.entries steps.new)) turns.new result }
-    ensures left { Keeps (L.left link.old) (L.left link.new) }
-    ensures same { AsksOn S.Steps C.Clock steps.old steps.new clock.old clock.new }
-    ensures spent { Spends {T = Unit {0}} turns.old (stand L.Link link.old (S.entries steps.old)) turns.new (stand L.Link link.new (S.entries steps.new)) (Err result) }
+    ensures tells { TellsOf (asker_of S.Steps C.Clock session.old steps.old) (info_reply name.now figures.now) (stand_of S.Steps L.Link session.old steps.old) (stand_of S.Steps L.Link session.new steps.new) session.new.turns result }
+    ensures left { Keeps (L.left session.old.link.now) (L.left session.new.link.now) }
+    ensures same { SessionGoesOn S.Steps C.Clock session.old session.new steps.old steps.new }
+    ensures spent { Spends {T = Unit {0}} session.old.turns (stand_of S.Steps L.Link session.old steps.old) session.new.turns (stand_of S.Steps L.Link session.new steps.new) (Err result) }
     ensures worn { result ≡ ends.Worn → S.is_worn steps.new }
 {
-    match ask_info(steps, clock, turns) {
-        Ok(answer) => reply_info(alloc, link, name, figures, &answer, turns),
+    match ask_info(steps, session.clock, &mut session.turns) {
+        Ok(answer) => reply_info(
+            session.alloc,
+            session.link,
+            name,
+            figures,
+            &answer,
+            &mut session.turns,
+        ),
         Err(end) => end,
     }
 }
 
 /// Asks what the node is, and ends the session with its metrics.
-fn measure<S: Steps<Ask = Ask, Answer = Answer>, L: Link, C: Clock>(
-    alloc: Global,
+fn measure<S: Steps<Ask = Ask, Answer = Answer>, L: Link, C: Clock, P>(
+    session: &mut Session<L, C, P>,
     steps: &mut S,
     figures: &Figures,
-    link: &mut L,
-    clock: &mut C,
-    turns: &mut Turns,
 ) -> SessionEnd
-    ensures tells { TellsOf (asker S.Steps C.Clock steps.old clock.old) (metrics_reply figures.now) (stand L.Link link.old (S.entries steps.old)) (stand L.Link link.new (S.entries steps.new)) turns.new result }
-    ensures left { Keeps (L.left link.old) (L.left link.new) }
-    ensures same { AsksOn S.Steps C.Clock steps.old steps.new clock.old clock.new }
-    ensures spent { Spends {T = Unit {0}} turns.old (stand L.Link link.old (S.entries steps.old)) turns.new (stand L.Link link.new (S.entries steps.new)) (Err result) }
+    ensures tells { TellsOf (asker_of S.Steps C.Clock session.old steps.old) (metrics_reply figures.now) (stand_of S.Steps L.Link session.old steps.old) (stand_of S.Steps L.Link session.new steps.new) session.new.turns result }
+    ensures left { Keeps (L.left session.old.link.now) (L.left session.new.link.now) }
+    ensures same { SessionGoesOn S.Steps C.Clock session.old session.new steps.old steps.new }
+    ensures spent { Spends {T = Unit {0}} session.old.turns (stand_of S.Steps L.Link session.old steps.old) session.new.turns (stand_of S.Steps L.Link session.new steps.new) (Err result) }
     ensures worn { result ≡ ends.Worn → S.is_worn steps.new }
 {
-    match ask_info(steps, clock, turns) {
-        Ok(answer) => reply_metrics(alloc, link, figures, &answer, turns),
+    match ask_info(steps, session.clock, &mut session.turns) {
+        Ok(answer) => {
+            reply_metrics(
+                session.alloc,
+                session.link,
+                figures,
+                &answer,
+                &mut session.turns,
+            )
+        }
         Err(end) => end,
     }
 }

@@ -8,6 +8,7 @@ use crate::nodes::{MemNode, NEVER, Part, name, new_node};
 use crate::wishes::{NOW, Wish, ask_of};
 use lf_base::{FixedClock, Link, Name, NoPause, Pos, SessionEnd};
 use lf_disk::{Disk, MemDisk};
+use link_session::{AtSeat, Session, Turns};
 use node_core::{Answer, Node};
 use replica_apply::{FollowEnd, follow};
 use std::alloc::Global;
@@ -167,8 +168,6 @@ fn serve_by<R: Wait + Copy, D: Disk, L: Link>(
 ) -> SessionEnd
     requires { IsOf seat.old desk.now }
 {
-    let mut clock = FixedClock::new(NOW);
-    let mut pause = NoPause::new();
     let Ok(name) = name.copy() else {
         return SessionEnd::NoMemory;
     };
@@ -176,9 +175,19 @@ fn serve_by<R: Wait + Copy, D: Disk, L: Link>(
         name,
         gauge: NoFigures,
     };
-    serve_http(
-        rt, alloc, desk, seat, &about, link, &mut clock, &mut pause, TURNS,
-    )
+    let mut session = Session {
+        alloc,
+        link,
+        clock: &mut FixedClock::new(NOW),
+        pause: &mut NoPause::new(),
+        turns: Turns::new(TURNS),
+    };
+    let mut at = AtSeat {
+        rt: &rt,
+        desk,
+        seat,
+    };
+    serve_http(&mut session, &mut at, &about)
 }
 
 fn follow_by<R: Wait + Copy, D: Disk, L: Link>(
@@ -191,11 +200,19 @@ fn follow_by<R: Wait + Copy, D: Disk, L: Link>(
 ) -> FollowEnd
     requires { IsOf seat.old desk.now }
 {
-    let mut clock = FixedClock::new(NOW);
-    let mut pause = NoPause::new();
-    follow(
-        rt, alloc, desk, seat, name, link, &mut clock, &mut pause, false, TURNS,
-    )
+    let mut session = Session {
+        alloc,
+        link,
+        clock: &mut FixedClock::new(NOW),
+        pause: &mut NoPause::new(),
+        turns: Turns::new(TURNS),
+    };
+    let mut at = AtSeat {
+        rt: &rt,
+        desk,
+        seat,
+    };
+    follow(&mut session, &mut at, name, false)
 }
 
 /// One step of a machine.

@@ -4,9 +4,10 @@ use super::pieces::{Piece, append_all};
 use super::primary::dialer_of;
 use crate::links::{link_of, name_of};
 use crate::same::same;
-use file_session::serve_seat;
+use file_session::serve_files;
 use fuse_msgs::{Op, Reply, Request};
 use lf_base::{Errno, FixedClock, Handles, MemDialer, MemLink, NoPause, Pos};
+use link_session::{AtSeat, Session, Turns};
 use node_core::{Answer, Ask, Whereabouts};
 use std::alloc::Global;
 use std::net::{TcpListener, TcpStream};
@@ -96,19 +97,20 @@ fn served<R: Handles + Copy + Abort>(
         halted: false,
     };
     let (desk, mut seat) = Desk::open(alloc, machine).ok().expect(&rt, "a desk");
-    serve_seat(
-        rt,
+    let mut session = Session {
         alloc,
-        &desk,
-        &mut seat,
-        &name_of(rt, alloc),
-        3,
         link,
-        dialer,
-        &mut FixedClock::new(5),
-        &mut NoPause::new(),
-        1_000,
-    );
+        clock: &mut FixedClock::new(5),
+        pause: &mut NoPause::new(),
+        turns: Turns::new(1_000),
+    };
+    let mut at = AtSeat {
+        rt: &rt,
+        desk: &desk,
+        seat: &mut seat,
+    };
+    let name = name_of(rt, alloc);
+    serve_files(&mut session, &mut at, &name, 3, dialer, &mut NoPause::new());
     let Moving { asks, halted: _ } = desk.close(rt, seat);
     asks
 }

@@ -10,8 +10,9 @@ use crate::leases::node::close;
 use crate::leases::session::{Counting, opened};
 use crate::links::{link_of, name_of};
 use crate::same::same;
-use file_session::serve_seat;
+use file_session::serve_files;
 use lf_base::{Handles, MemDialer, MemLink, NoPause, SessionEnd};
+use link_session::{AtSeat, Session, Turns};
 use node_core::{Answer, Ask};
 use std::alloc::Global;
 use std::process::Abort;
@@ -46,19 +47,20 @@ fn served<R: Handles + Copy + Abort>(
     clock: &mut Counting,
 ) -> Left {
     let (desk, mut seat) = opened(rt, alloc);
-    let end = serve_seat(
-        rt,
+    let mut session = Session {
         alloc,
-        &desk,
-        &mut seat,
-        &name_of(rt, alloc),
-        3,
         link,
-        dialer,
         clock,
-        &mut NoPause::new(),
-        1_000,
-    );
+        pause: &mut NoPause::new(),
+        turns: Turns::new(1_000),
+    };
+    let mut at = AtSeat {
+        rt: &rt,
+        desk: &desk,
+        seat: &mut seat,
+    };
+    let name = name_of(rt, alloc);
+    let end = serve_files(&mut session, &mut at, &name, 3, dialer, &mut NoPause::new());
     let steps = desk.edition(&mut seat);
     let place = says(rt, alloc, &desk, &mut seat, Deed::Where);
     let part = says(rt, alloc, &desk, &mut seat, Deed::UnlinkDatabase);

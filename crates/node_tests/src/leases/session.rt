@@ -7,8 +7,9 @@ use crate::leases::node::{close, open};
 use crate::leases::{GRANTED, Turn};
 use crate::links::{link_of, name_of, nobody};
 use crate::same::same;
-use file_session::serve_seat;
+use file_session::serve_files;
 use lf_base::{Clock, Handles, MemLink, NoPause, SessionEnd};
+use link_session::{AtSeat, Session, Turns};
 use node_core::{Ask, Node};
 use std::alloc::Global;
 use std::net::{TcpListener, TcpStream};
@@ -123,18 +124,27 @@ fn served<R: Handles + Copy + Abort>(
     let (desk, mut seat) = opened(rt, alloc);
     begin(rt, alloc, &desk, &mut seat, GRANTED);
     let mut clock = Counting::new(first, 1);
-    let end = serve_seat(
-        rt,
+    let mut session = Session {
         alloc,
-        &desk,
-        &mut seat,
-        &name_of(rt, alloc),
-        3,
         link,
-        &mut nobody(rt, alloc),
-        &mut clock,
+        clock: &mut clock,
+        pause: &mut NoPause::new(),
+        turns: Turns::new(100),
+    };
+    let mut at = AtSeat {
+        rt: &rt,
+        desk: &desk,
+        seat: &mut seat,
+    };
+    let name = name_of(rt, alloc);
+    let mut dialer = nobody(rt, alloc);
+    let end = serve_files(
+        &mut session,
+        &mut at,
+        &name,
+        3,
+        &mut dialer,
         &mut NoPause::new(),
-        100,
     );
     close(desk.close(rt, seat));
     end

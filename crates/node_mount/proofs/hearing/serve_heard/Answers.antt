@@ -1,10 +1,9 @@
-use Rattle.std.proofs.Common.{ap, sym}
 use Rattle.turn_desk.specs.Seats.{opened_on, view}
-use Rattle.link_session.specs.declared.seat.SeatPlace.{SeatPlace}
 use Rattle.link_session.proofs.Seats.{has_gone_on}
 use Rattle.node_mount.proofs.hearing.serve_heard.Goals as goal
 
 pub returns-clause-history : goal.returns-clause-history
-returns-clause-history g c = rw (c.seat-1.given.1 (sym (ap (λ (p : SeatPlace _). p.seat) c.serve_link.ensures.same.0)))
-    (has_gone_on g.M.Machine.steps (λ desk. opened_on desk) _ _ _ (view c.args.seat.now) (view c.edition.new.seat) (view c.serve_link.new.steps.seat.now)
-    c.edition.ensures.legal c.edition.ensures.same.0 c.serve_link.ensures.same.0 c.serve_link.ensures.same.2 c.serve_link.new.steps.seat.now.seated.own)
+returns-clause-history g c =
+    has_gone_on g.M.Machine.steps (λ desk. opened_on desk) (record { seat = c.args.at.now.seat.ghost_name; desk = c.args.at.now.desk.now }) _ _
+    (view c.args.at.now.seat.now) (view c.edition.new.seat) (view c.serve_link.new.steps.seat.now)
+    c.edition.ensures.legal c.edition.ensures.same.0 c.serve_link.ensures.same.1.0 c.serve_link.ensures.same.1.2 c.serve_link.new.steps.seat.now.seated.own

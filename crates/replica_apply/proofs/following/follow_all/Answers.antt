@@ -1,4 +1,5 @@
 use Rattle.std.proofs.Common.{refl, subst}
+use Rattle.link_session.specs.Sessions.{stand_of}
 use Rattle.link_session.specs.Stands.{Asker, stand}
 use Rattle.link_session.proofs.Stands.{same_asker}
 use Rattle.replica_apply.specs.Following.{answered, unsent, EndsAnswer}
@@ -13,5 +14,5 @@ returns-clause-ends g c =
     answered c.in-Ok.here (stand g.L.Link c.send_request.new.link (g.S.Steps.entries c.ask_where.new.steps)) c.in-Ok.ensures.says
     c.in-Ok-send_request.ensures.end.0 c.send_request.ensures.left c.in-Ok-send_request.ensures.end.1
     (subst (λ (w : Asker). EndsAnswer w c.args.name.now (stand g.L.Link c.send_request.new.link (g.S.Steps.entries c.ask_where.new.steps))
-    (stand g.L.Link c.follow_reply.new.link (g.S.Steps.entries c.follow_reply.new.steps)) c.follow_reply.new.turns c.follow_reply.result)
+    (stand_of g.S.Steps g.L.Link c.follow_reply.new.session c.follow_reply.new.steps) c.follow_reply.new.session.turns c.follow_reply.result)
     (same_asker _ _ _ _ c.ask_where.ensures.same.1 refl) c.follow_reply.ensures.answer)

@@ -4,7 +4,7 @@ use Rattle.replica_apply.proofs.frames.apply.Goals as goal
 
 pub returns-in-Ok-clause-end : goal.returns-in-Ok-clause-end
 returns-in-Ok-clause-end g c = λ name text is.
-    rw c.said_by.ensures (frame_answered (asker g.S.Steps g.C.Clock c.args.steps.now c.args.clock.now) name text c.args.ask c.in-Ok.answer
+    rw c.said_by.ensures (frame_answered (asker g.S.Steps g.C.Clock c.args.steps.now c.args.session.now.clock.now) name text c.args.ask c.in-Ok.answer
     (g.S.Steps.entries c.args.steps.now) (g.S.Steps.entries c.ask_until.new.steps) _ is c.in-Ok.ensures.answered)
 
 pub returns-in-Err-Turns-clause-end : goal.returns-in-Err-Turns-clause-end

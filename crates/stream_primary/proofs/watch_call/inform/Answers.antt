@@ -11,4 +11,4 @@ returns-in-Ok-clause-tells g c = told_of c.in-Ok.answer c.in-Ok.ensures.asked c.
 pub returns-in-Err-clause-tells : goal.returns-in-Err-clause-tells
 returns-in-Err-clause-tells g c =
     never_told (ended_asking Answer (Unit {0}) (g.S.Steps.is_worn c.ask_info.new.steps) c.ask_info.new.turns c.in-Err.end c.in-Err.ensures.cause)
-    (record { written = Keeps-refl (g.L.Link.taken c.args.link.now); asked = c.in-Err.ensures.still }) refl
+    (record { written = Keeps-refl (g.L.Link.taken c.args.session.now.link.now); asked = c.in-Err.ensures.still }) refl

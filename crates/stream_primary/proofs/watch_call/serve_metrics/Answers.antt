@@ -7,4 +7,4 @@ pub returns-in-Ok-clause-serves : goal.returns-in-Ok-clause-serves
 returns-in-Ok-clause-serves g c = measuring c.in-Ok.figures c.measure.ensures.tells
 
 pub returns-in-Err-clause-serves : goal.returns-in-Err-clause-serves
-returns-in-Err-clause-serves g c = metrics_wanting refl (record { written = Keeps-refl (g.L.Link.taken c.args.link.now); asked = refl }) refl
+returns-in-Err-clause-serves g c = metrics_wanting refl (record { written = Keeps-refl (g.L.Link.taken c.args.session.now.link.now); asked = refl }) refl

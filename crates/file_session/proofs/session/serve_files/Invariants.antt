@@ -1,6 +1,6 @@
 use Rattle.turn_desk.specs.Seats.{view}
 use Rattle.file_session.specs.Primary.{phone}
-use Rattle.file_session.proofs.seat.serve_seat.Given as goal
+use Rattle.file_session.proofs.session.serve_files.Given as goal
 
 -- what the seat has seen, and its entries and the dials, before the session
 abbrev pub ghosts-serve_steps : goal.ghosts-serve_steps

@@ -1,7 +1,7 @@
 use Rattle.std.proofs.Common.{refl, Err}
 use Rattle.http_exchange.specs.declared.told.Untold.TheVariants as untold
 use Rattle.file_session.specs.Primary.{Exchanges, no_memory}
-use Rattle.file_session.proofs.giving_back.tell_back.Goals as goal
+use Rattle.file_session.proofs.permits.tell_back.Goals as goal
 
 pub returns-in_default : goal.returns-in_default
 returns-in_default g c = λ caller. (Err untold.NoMemory, no_memory refl refl)

@@ -1,7 +1,7 @@
 use Rattle.std.proofs.Common.{◌≡◌, ◌≤◌, ◌+◌, length, ℕ}
 use Rattle.link_session.specs.Asking.{AskedInVain}
 use Rattle.link_session.specs.Stands.{GoesOn}
-use Rattle.link_session.proofs.asking.ask_until.Given as goal
+use Rattle.link_session.proofs.session.ask_until.Given as goal
 
 abbrev pub invariant-asks : goal.invariant-asks
 invariant-asks g l = record {

@@ -3,7 +3,7 @@ use Rattle.std.specs.Io.KnownBytes.{Appends}
 use Rattle.std.proofs.KnownBytes.{Appends-trans, Keeps-trans}
 use Rattle.link_session.proofs.Lists.{take_two}
 use Rattle.link_session.proofs.Spending.{one_move}
-use Rattle.link_session.proofs.writing.write_whole.Goals as goal
+use Rattle.link_session.proofs.session.write_whole.Goals as goal
 
 pub loop-done-preserved : goal.loop-done-preserved
 loop-done-preserved g c = record {

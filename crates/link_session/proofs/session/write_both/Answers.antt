@@ -1,5 +1,5 @@
 use Rattle.link_session.proofs.Parts.{back_in_part}
-use Rattle.link_session.proofs.writing.write_both.Goals as goal
+use Rattle.link_session.proofs.session.write_both.Goals as goal
 
 pub returns-in-Ok-clause-part : goal.returns-in-Ok-clause-part
 returns-in-Ok-clause-part g c =
