@@ -3,7 +3,7 @@ use Rattle.std.proofs.Common.{◌≡◌, ◌∙◌, ℕ, Bool, false, List, [], 
 use Rattle.lf_base.specs.declared.pos.Pos.{Pos}
 use Rattle.lf_disk.specs.History.{History}
 use Rattle.lf_sqlite_pages.specs.Change.{PageChange}
-use Rattle.txn_log.specs.declared.attempt.Attempt.{Attempt}
+use Rattle.txn_log.specs.declared.entry.Attempt.{Attempt}
 use Rattle.txn_log.specs.declared.fault.StoreFault.{StoreFault}
 use Rattle.txn_log.specs.declared.fault.StoreFault.TheVariants as fault
 use Rattle.txn_log.specs.Calls.{Moved, Went, WentPruned}

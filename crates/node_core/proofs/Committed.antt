@@ -12,7 +12,7 @@ use Rattle.file_view.specs.DatabaseState.{HeldWrite}
 use Rattle.file_view.specs.Endings.{committed}
 use Rattle.file_view.specs.Overlay.{FitsImage, IsOverImage}
 use Rattle.file_view.specs.Served.{Served}
-use Rattle.txn_log.specs.declared.attempt.Attempt.{Attempt}
+use Rattle.txn_log.specs.declared.entry.Attempt.{Attempt}
 use Rattle.txn_log.specs.declared.fault.StoreFault.{StoreFault}
 use Rattle.txn_log.specs.declared.fault.StoreFault.TheVariants as fault
 use Rattle.txn_log.specs.Calls.{WentPruned}

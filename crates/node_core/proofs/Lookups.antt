@@ -11,8 +11,8 @@ use Rattle.file_view.specs.Overlay.{IsOverImage}
 use Rattle.txn_log.specs.Giving.{IsEncodingAt}
 use Rattle.txn_log.specs.LastFile.{Doubts}
 use Rattle.txn_log.specs.Looking.{IsLookedAt}
-use Rattle.txn_log.specs.declared.answer.Answer.{Answer as OwedAnswer}
-use Rattle.txn_log.specs.declared.answer.Answer.TheVariants as owed
+use Rattle.txn_log.specs.declared.answering.Answer.{Answer as OwedAnswer}
+use Rattle.txn_log.specs.declared.answering.Answer.TheVariants as owed
 use Rattle.txn_log.specs.declared.entry.Entry.{Entry}
 use Rattle.txn_log.proofs.Resting.{same_now}
 use Rattle.world_laws.specs.declared.last_file.LastFile.{LastFile}

@@ -12,7 +12,7 @@ use Rattle.ltx_codec.specs.FileIn.{file_in}
 use Rattle.ltx_codec.specs.Format.{IsFile, IsLtx, file_encoding, no_meaning}
 use Rattle.ltx_codec.specs.Positions.{before, nowhere}
 use Rattle.ltx_codec.specs.declared.file.Ltx.{Ltx}
-use Rattle.txn_log.specs.declared.answer.Answer.TheVariants as owed
+use Rattle.txn_log.specs.declared.answering.Answer.TheVariants as owed
 use Rattle.txn_log.specs.declared.entry.Entry.{Entry}
 use Rattle.txn_log.specs.Answering.{Answers, AnswersBy, IsFirstBehind}
 use Rattle.txn_log.specs.LastFile.{Doubts, HasFile}

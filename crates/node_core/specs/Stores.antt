@@ -5,7 +5,7 @@ use Rattle.lf_disk.specs.declared.disk.Disk.{Ghosts}
 use Rattle.lf_disk.specs.History.{History, Rests}
 use Rattle.lf_sqlite_pages.specs.Image.{DatabaseImage}
 use Rattle.txn_log.specs.declared.store.Store.{Store}
-use Rattle.txn_log.specs.declared.attempt.Attempt.TheVariants.{Unpublished}
+use Rattle.txn_log.specs.declared.entry.Attempt.TheVariants.{Unpublished}
 pub use Rattle.txn_log.specs.Fields.{StoreFields, fields_of, history_of, state, failed, position}
 
 module _ {D : Type 0} {G : Ghosts D} where

@@ -3,8 +3,8 @@ use Rattle.std.specs.Prelude.{◌≡◌, ◌⊎◌, List, [], drop, false}
 use Rattle.lf_base.specs.declared.pos.Pos.{Pos}
 use Rattle.lf_disk.specs.History.{History}
 use Rattle.txn_log.specs.Answering.{AnswersBy}
-use Rattle.txn_log.specs.declared.answer.Answer.{Answer as OwedAnswer}
-use Rattle.txn_log.specs.declared.answer.Answer.TheVariants as owed
+use Rattle.txn_log.specs.declared.answering.Answer.{Answer as OwedAnswer}
+use Rattle.txn_log.specs.declared.answering.Answer.TheVariants as owed
 use Rattle.txn_log.specs.declared.entry.Entry.{Entry}
 use Rattle.node_core.specs.declared.answer.Answer.{Answer}
 use Rattle.node_core.specs.declared.answer.Answer.TheVariants as answers

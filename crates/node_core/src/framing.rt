@@ -17,17 +17,18 @@ use crate::answer::Answer;
 use crate::ask::Ask;
 use crate::node::Node;
 use crate::octets::are_bytes;
+use crate::received::Received;
 use crate::refusal::{Refusal, refusal_of, refusal_of_encoding};
 use crate::sent::overtake;
 use lf_base::{Bytes, Pos};
 use lf_disk::Disk;
-use ltx_codec::{Ltx, decode, encoding_breaks_no_rule, file_is_read};
+use ltx_codec::{encoding_breaks_no_rule, file_is_read};
 use snapshot::install;
 use txn_log::{Store, StoreFault};
 use world_laws::moment_is_of_step;
 
 /// A store takes a file: a snapshot is installed, any other is applied.
-fn take<D: Disk>(store: &mut Store<D>, file: &Ltx) -> Result<Pos, StoreFault>
+fn take<D: Disk>(store: &mut Store<D>, file: &Received<'_>) -> Result<Pos, StoreFault>
     requires { IsFile file.now }
     ensures answers { Takes (fields_of store.old) file.now result }
     ensures cause { Breaks store.old.broken (D.faults store.old.disk) result store.new.broken (D.faults store.new.disk) }
@@ -37,24 +38,23 @@ fn take<D: Disk>(store: &mut Store<D>, file: &Ltx) -> Result<Pos, StoreFault>
         (state (history_of store.new) (fields_of store.new)) (failed (history_of store.new) (fields_of store.new)) (history_of store.new) }
     ensures honest { D.honest store.new.disk ≡ D.honest store.old.disk }
 {
-    if file.header.min == 1 {
-        install(store, file)
-    } else {
-        store.apply(file)
+    match file.pages() {
+        Some(other) => store.apply(other),
+        None => install(store, file.encoded()),
     }
 }
 
 impl<D: Disk> Node<D> {
     /// Whether a file leads to just where the node stands, and is no snapshot.
-    fn leads_here(&self, file: &Ltx) -> bool
+    fn leads_here(&self, file: &Received<'_>) -> bool
         ensures yes { result ≡ true → LeadsHere (parts_of self.now) file.now }
         ensures no { result ≡ false → LeadsHere (parts_of self.now) file.now → ⊥ }
     {
-        file.header.min != 1 && file.after() == self.store.pos()
+        file.pages().is_some() && file.after() == self.store.pos()
     }
 
     /// Takes a file that no lock holds back.
-    fn take_file(&mut self, file: &Ltx) -> Answer
+    fn take_file(&mut self, file: &Received<'_>) -> Answer
         requires valid { IsFile file.now }
         requires replica { role_in (parts_of self.old) ≢ role.Primary }
         requires free { IsFree (parts_of self.old) }
@@ -76,7 +76,7 @@ impl<D: Disk> Node<D> {
     }
 
     /// Answers a file.
-    fn answer_ltx(&mut self, file: &Ltx) -> Answer
+    fn answer_ltx(&mut self, file: &Received<'_>) -> Answer
         requires valid { IsFile file.now }
         requires replica { role_in (parts_of self.old) ≢ role.Primary }
         ensures does { AnswersLtx (history self.old) (parts_of self.old) file.now result (history self.new) (parts_of self.new) }
@@ -108,7 +108,7 @@ impl<D: Disk> Node<D> {
         file_is_read();
         encoding_breaks_no_rule();
         are_bytes(bytes.as_slice());
-        match decode(self.alloc, bytes.as_slice()) {
+        match Received::read(self.alloc, bytes.as_slice()) {
             Ok(file) => self.answer_ltx(&file),
             Err(fault) => Answer::Refused(refusal_of_encoding(fault)),
         }

@@ -7,7 +7,7 @@ ghost use Rattle.node_core.specs.Nodes.{history, parts_of, role_in, said_to, see
 ghost use Rattle.node_core.specs.Safely.{StepsSafely, law_answer};
 ghost use Rattle.node_core.specs.Steps.{IsStep};
 ghost use Rattle.txn_log.specs.LastFile.{Doubts};
-ghost use Rattle.txn_log.specs.declared.answer.Answer.TheVariants as owed;
+ghost use Rattle.txn_log.specs.declared.answering.Answer.TheVariants as owed;
 ghost use Rattle.world_laws.specs.Node as laws;
 
 use crate::answer::Answer;

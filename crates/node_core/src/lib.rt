@@ -29,6 +29,7 @@ mod octets;
 mod opening;
 mod permitting;
 mod pruning;
+mod received;
 mod refusal;
 mod replying;
 mod sending;

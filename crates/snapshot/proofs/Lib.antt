@@ -1,3 +1,5 @@
+mod FileBytes
+mod InstallLemmas
 mod PageLemmas
 mod ExportLemmas
 mod OutputLemmas

@@ -7,7 +7,7 @@ use Rattle.lf_sqlite_pages.specs.Header.{image_is_wal}
 use Rattle.lf_sqlite_pages.specs.PageSize.{IsPageSize, is_page_size}
 use Rattle.std.proofs.lemmas.Bool.Decides.{nat_tests}
 use Rattle.world_laws.specs.Store.{MayBeFound, StoreState}
-use Rattle.txn_log.specs.declared.attempt.Attempt.{Attempt}
+use Rattle.txn_log.specs.declared.entry.Attempt.{Attempt}
 use Rattle.txn_log.specs.declared.entry.Entry.{Entry}
 use Rattle.txn_log.specs.Calls.{RestsAs, Moved, StandsForOne, MayFind}
 use Rattle.txn_log.specs.Store.{image_in, state_in, state_of, failed_of, meant, IsStore}

@@ -1,4 +1,5 @@
 pub mod Causes
+pub mod Encoded
 pub mod Installing
 pub mod Output
 pub mod Bytes

@@ -2,6 +2,7 @@
 #![tactic(auto)]
 
 mod comparing;
+mod encoded;
 mod exporting;
 mod fault;
 mod growing;
@@ -15,6 +16,7 @@ mod reading;
 mod whole;
 mod writing;
 
+pub use encoded::EncodedFile;
 pub use exporting::export;
 pub use fault::{ImportFault, IntoFault};
 pub use importing::import_change;

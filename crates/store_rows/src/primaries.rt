@@ -61,7 +61,7 @@ fn take(rt: HostRuntime, old: &mut MemStore, file: &Ltx) -> io::Result<()>
     } else {
         Taking::Apply
     };
-    match takes_file(old, taking, file) {
+    match takes_file(rt.alloc(), old, taking, file) {
         Went::Done => Ok(()),
         _ => println!(rt; "  not taken"),
     }

@@ -5,8 +5,8 @@ use crate::samples::{Filled, NO_PAGES, Sample, encoding_of, file_of};
 use crate::sources::take_from;
 use lf_base::Pos;
 use lf_disk::Disk;
-use ltx_codec::Ltx;
-use snapshot::install;
+use ltx_codec::{Ltx, encode};
+use snapshot::{EncodedFile, install};
 use std::alloc::Global;
 use txn_log::{FromFault, Store, StoreFault};
 
@@ -94,14 +94,30 @@ fn commits<D: Disk>(
     }
 }
 
+/// Installs a file from its bytes.
+fn installs<D: Disk>(alloc: Global, store: &mut Store<D>, bytes: &[u8]) -> Went {
+    let Ok(file) = EncodedFile::read(alloc, bytes) else {
+        return Went::Refused;
+    };
+    if file.header().min != 1 {
+        return Went::Refused;
+    }
+    outcome_of(install(store, &file))
+}
+
 /// Takes a file.
-pub fn takes_file<D: Disk>(store: &mut Store<D>, taking: Taking, file: &Ltx) -> Went
+pub fn takes_file<D: Disk>(alloc: Global, store: &mut Store<D>, taking: Taking, file: &Ltx) -> Went
     requires { IsFile file.now }
 {
     match taking {
         Taking::Apply => outcome_of(store.apply(file)),
-        Taking::Install if file.header.min == 1 => outcome_of(install(store, file)),
-        Taking::Install => Went::Refused,
+        Taking::Install => {
+            let mut bytes = Vec::new(alloc);
+            match encode(file, &mut bytes) {
+                Ok(()) => installs(alloc, store, bytes.as_slice()),
+                Err(_) => Went::Refused,
+            }
+        }
     }
 }
 
@@ -113,7 +129,7 @@ fn takes_whole<D: Disk>(
 ) -> Went {
     match file_of(alloc, sample) {
         Some(file) => {
-            let went = takes_file(store, taking, &file);
+            let went = takes_file(alloc, store, taking, &file);
             drop(file);
             went
         }

@@ -12,7 +12,7 @@ use Rattle.link_session.specs.Rounds.{Place}
 use Rattle.link_session.specs.Runs.{IsInRun, MadeStep, entries_of}
 use Rattle.link_session.specs.Seats.{HasGoneOn}
 use Rattle.link_session.specs.Stands.{Asker, Stand}
-use Rattle.txn_log.specs.declared.answer.Answer.TheVariants as owed
+use Rattle.txn_log.specs.declared.answering.Answer.TheVariants as owed
 use Rattle.node_core.specs.declared.answer.Answer.{Answer}
 use Rattle.node_core.specs.declared.answer.Answer.TheVariants as answer
 use Rattle.node_core.specs.declared.ask.Ask.{Ask}

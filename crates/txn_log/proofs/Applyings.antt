@@ -7,7 +7,7 @@ use Rattle.ltx_codec.specs.declared.file.Ltx.{Ltx}
 use Rattle.txn_log.specs.declared.entry.Entry.{Entry}
 use Rattle.txn_log.specs.declared.fault.StoreFault.{StoreFault}
 use Rattle.txn_log.specs.declared.fault.StoreFault.TheVariants as fault
-use Rattle.txn_log.specs.Apply.{whole_file, IsTaken, Judges, Completes, Applies}
+use Rattle.txn_log.specs.Apply.{whole_file, IsTaken, Applies}
 use Rattle.txn_log.specs.Causes.{IsDiskOrMemory}
 use Rattle.txn_log.specs.Store.{end_of_entries, IsShaped}
 use Rattle.txn_log.proofs.Drafts.{entries-cases, sum-anew}
@@ -38,28 +38,7 @@ module _ (size commit : ℕ) (entries : List Entry) (dropped : Bool) (sums : Lis
     };
   }
 
--- what is refused before memory and the disk are asked is refused
-pub completes-judged : (T : Type 0) (broken : Bool) (position : Pos) (size commit : ℕ) (sums : List ℕ) (file : Ltx) (why : StoreFault)
-    → Judges {T = T} broken position size commit sums file (Err why) → Completes broken position size commit sums file (Err why)
-completes-judged T broken position size commit sums file fault.Disk judged = absurd judged
-completes-judged T broken position size commit sums file fault.Broken judged = judged
-completes-judged T broken position size commit sums file (fault.NotNext have want) judged = judged
-completes-judged T broken position size commit sums file (fault.SumDiffers want got) judged = judged
-completes-judged T broken position size commit sums file fault.Limit judged = absurd judged
-completes-judged T broken position size commit sums file fault.NoMemory judged = absurd judged
-completes-judged T broken position size commit sums file (fault.PageSize have want) judged = judged
-
-pub applies-completed : (broken : Bool) (position : Pos) (size commit : ℕ) (sums : List ℕ) (file : Ltx) (why : StoreFault)
-    → Completes broken position size commit sums file (Err why) → Applies broken position size commit sums file (Err why)
-applies-completed broken position size commit sums file fault.Disk completes = absurd completes
-applies-completed broken position size commit sums file fault.Broken completes = completes
-applies-completed broken position size commit sums file (fault.NotNext have want) completes = completes
-applies-completed broken position size commit sums file (fault.SumDiffers want got) completes = completes
-applies-completed broken position size commit sums file fault.Limit completes = absurd completes
-applies-completed broken position size commit sums file fault.NoMemory completes = completes
-applies-completed broken position size commit sums file (fault.PageSize have want) completes = completes
-
--- and what neither judged is for want of memory or the disk
+-- what is refused for want of memory or by the disk was taken
 pub applies-published : (broken : Bool) (position : Pos) (size commit : ℕ) (sums : List ℕ) (file : Ltx) (why : StoreFault)
     → broken ≡ false → IsTaken position size commit sums file → IsDiskOrMemory why → Applies broken position size commit sums file (Err why)
 applies-published broken position size commit sums file fault.Disk open_ taken is = (open_, taken)

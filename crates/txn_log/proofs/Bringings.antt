@@ -18,8 +18,8 @@ use Rattle.txn_log.specs.Taking.{StagedIn}
 use Rattle.txn_log.specs.TakingSource.{GaveTaken}
 use Rattle.txn_log.specs.declared.bringing.Ground.{Ground}
 use Rattle.txn_log.specs.declared.outline.Outline.{Outline}
-use Rattle.txn_log.specs.declared.placed.Placed.{Placed}
-use Rattle.txn_log.specs.declared.placed.Placed.TheVariants as placed
+use Rattle.txn_log.specs.declared.publishing.Placed.{Placed}
+use Rattle.txn_log.specs.declared.publishing.Placed.TheVariants as placed
 use Rattle.txn_log.proofs.Octets.{reads_back}
 use Rattle.txn_log.proofs.Placings.{kept_same}
 use Rattle.page_checksum.specs.Sums.{flagged, joined}
@@ -31,7 +31,7 @@ use Rattle.ltx_codec.specs.declared.header.Header.{Header}
 use Rattle.ltx_codec.proofs.FileLemmas.{file_is}
 use Rattle.txn_log.specs.Apply.{sum_behind}
 use Rattle.txn_log.specs.Taking.{TakenIn}
-use Rattle.txn_log.specs.declared.taking_in.Intake.{Intake}
+use Rattle.txn_log.specs.declared.taking_source.Intake.{Intake}
 
 module _ (table sums : List ℕ) (count : ℕ) (wal : Bool) (room : ℕ) (encoding : List ℕ) (file : Ltx) (octets : AreBytes encoding) (is : IsLtx encoding file) where
   -- nothing was taken in of a file that is past the room

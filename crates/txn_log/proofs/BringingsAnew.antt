@@ -25,9 +25,9 @@ use Rattle.txn_log.specs.Taking.{TakenIn, StagedIn}
 use Rattle.txn_log.specs.TakingSource.{GaveTaken}
 use Rattle.txn_log.specs.declared.entry.Entry.{Entry}
 use Rattle.txn_log.specs.declared.outline.Outline.{Outline}
-use Rattle.txn_log.specs.declared.placed.Placed.{Placed}
-use Rattle.txn_log.specs.declared.placed.Placed.TheVariants as placed
-use Rattle.txn_log.specs.declared.taking_in.Intake.{Intake}
+use Rattle.txn_log.specs.declared.publishing.Placed.{Placed}
+use Rattle.txn_log.specs.declared.publishing.Placed.TheVariants as placed
+use Rattle.txn_log.specs.declared.taking_source.Intake.{Intake}
 use Rattle.txn_log.proofs.Bringings.{some_header}
 use Rattle.txn_log.proofs.Installings.{decides-whole}
 use Rattle.txn_log.proofs.Octets.{reads_back}

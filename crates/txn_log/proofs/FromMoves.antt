@@ -16,8 +16,8 @@ use Rattle.txn_log.specs.Calls.{StandsForOne, RestsAs, Moved}
 use Rattle.txn_log.specs.From.{RefusesFrom, WentFrom, BreaksFrom, CountsRefused}
 use Rattle.txn_log.specs.declared.bringing.Brought.TheVariants as brought
 use Rattle.txn_log.specs.declared.fault.StoreFault.TheVariants as fault
-use Rattle.txn_log.specs.declared.from_fault.FromFault.{FromFault}
-use Rattle.txn_log.specs.declared.from_fault.FromFault.TheVariants as from
+use Rattle.txn_log.specs.declared.fault.FromFault.{FromFault}
+use Rattle.txn_log.specs.declared.fault.FromFault.TheVariants as from
 use Rattle.txn_log.specs.Kept.{LogFile, file_of, Kept, IsAtRest, IsAtRestAt}
 use Rattle.txn_log.specs.Publishing.{CanTake}
 use Rattle.txn_log.specs.Store.{image_in, files_in, state_in, end_of_entries, AreEntries, IsStore, IsShaped}

@@ -13,12 +13,12 @@ use Rattle.txn_log.specs.From.{Gave}
 use Rattle.txn_log.specs.FromSnapshot.{GaveSnapshot, RefusesSnapshot, RefusesInstall, WentInstalled}
 use Rattle.txn_log.specs.Installing.{PlacesAnew}
 use Rattle.txn_log.specs.Store.{state_in, state_of, failure_of, entry_of, IsStore, IsShaped}
-use Rattle.txn_log.specs.declared.attempt.Attempt.TheVariants as attempt
+use Rattle.txn_log.specs.declared.entry.Attempt.TheVariants as attempt
 use Rattle.txn_log.specs.declared.entry.Entry.{Entry}
 use Rattle.txn_log.specs.declared.fault.StoreFault.TheVariants as fault
-use Rattle.txn_log.specs.declared.from_fault.FromFault.{FromFault}
-use Rattle.txn_log.specs.declared.from_fault.FromFault.TheVariants as from
-use Rattle.txn_log.specs.declared.placed.Placed.TheVariants as placed
+use Rattle.txn_log.specs.declared.fault.FromFault.{FromFault}
+use Rattle.txn_log.specs.declared.fault.FromFault.TheVariants as from
+use Rattle.txn_log.specs.declared.publishing.Placed.TheVariants as placed
 use Rattle.txn_log.proofs.Installings.{is_done, stands, left_done, went_done, left_in, went_in}
 use Rattle.txn_log.proofs.Moves.{image, files}
 use Rattle.txn_log.proofs.Naming.{no_others_in}

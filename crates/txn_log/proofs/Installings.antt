@@ -19,7 +19,7 @@ use Rattle.ltx_codec.specs.declared.file.Ltx.{Ltx}
 use Rattle.ltx_codec.proofs.ChangedSumLemmas.{image_sum-whole}
 use Rattle.world_laws.specs.Store.{StoreState, Failure, FailedIn, Install, MayBeFound, IsCandidate, end_of, installed}
 use Rattle.txn_log.specs.declared.entry.Entry.{Entry}
-use Rattle.txn_log.specs.declared.attempt.Attempt.TheVariants as attempt
+use Rattle.txn_log.specs.declared.entry.Attempt.TheVariants as attempt
 use Rattle.txn_log.specs.Calls.{StandsForOne, RestsAs, Moved}
 use Rattle.txn_log.specs.Draft.{sums_after}
 use Rattle.txn_log.specs.Durable.{Durable, IsEncoding, IsLog, IsSummed}

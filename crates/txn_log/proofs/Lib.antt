@@ -31,7 +31,6 @@ pub mod PageRuns
 pub mod PagesRead
 pub mod Places
 pub mod Placings
-pub mod PlacingsAnew
 pub mod PlacingsAnewFrom
 pub mod PlacingsFrom
 pub mod Prunings

@@ -13,8 +13,8 @@ use Rattle.ltx_codec.specs.declared.file.Ltx.{Ltx}
 use Rattle.ltx_codec.proofs.SumLaws.{image_sum-table}
 use Rattle.world_laws.specs.Store.{StoreState, StoreCall, Failure, FailedBefore, FailedIn, MayBeFound, IsCandidate, MayLeave, CanDo, end_of, done, with_file, dropped_store}
 use Rattle.txn_log.specs.declared.entry.Entry.{Entry}
-use Rattle.txn_log.specs.declared.attempt.Attempt.{Attempt}
-use Rattle.txn_log.specs.declared.attempt.Attempt.TheVariants as attempt
+use Rattle.txn_log.specs.declared.entry.Attempt.{Attempt}
+use Rattle.txn_log.specs.declared.entry.Attempt.TheVariants as attempt
 use Rattle.txn_log.specs.declared.fault.StoreFault.{StoreFault}
 use Rattle.txn_log.specs.declared.fault.StoreFault.TheVariants as fault
 use Rattle.txn_log.specs.Calls.{StandsForOne, RestsAs, MayFind, Moved, Went}

@@ -3,7 +3,7 @@ use Rattle.std.proofs.Common.{◌≡◌, ℕ, Bool, List, sym, subst}
 use Rattle.lf_disk.specs.History.{History}
 use Rattle.world_laws.specs.Store.{MayBeFound}
 use Rattle.txn_log.specs.declared.entry.Entry.{Entry}
-use Rattle.txn_log.specs.declared.attempt.Attempt.{Attempt}
+use Rattle.txn_log.specs.declared.entry.Attempt.{Attempt}
 use Rattle.txn_log.specs.Calls.{RestsAs}
 use Rattle.txn_log.specs.Store.{IsStore, IsShaped, state_of, failed_of}
 

@@ -21,16 +21,16 @@ use Rattle.txn_log.specs.From.{Gave, RefusesRead, AppliesFrom, WentFrom}
 use Rattle.txn_log.specs.FromFile.{from_answer, IsDecided, IsOfFile}
 use Rattle.txn_log.specs.declared.fault.StoreFault.{StoreFault}
 use Rattle.txn_log.specs.declared.fault.StoreFault.TheVariants as fault
-use Rattle.txn_log.specs.declared.from_fault.FromFault.{FromFault}
-use Rattle.txn_log.specs.declared.from_fault.FromFault.TheVariants as from
+use Rattle.txn_log.specs.declared.fault.FromFault.{FromFault}
+use Rattle.txn_log.specs.declared.fault.FromFault.TheVariants as from
 
 -- what was given up to the end of known bytes is all of them
-all_given : (encoding read : List ℕ) (left_now : Option (List ℕ)) → Consumes (Some encoding) left_now read → IsAtEnd left_now → encoding ≡ read
+pub all_given : (encoding read : List ℕ) (left_now : Option (List ℕ)) → Consumes (Some encoding) left_now read → IsAtEnd left_now → encoding ≡ read
 all_given encoding read None takes at_end = absurd takes
 all_given encoding read (Some rest) takes at_end = takes ∙ ap (λ (l : List ℕ). read ++ l) at_end ∙ append-nil read
 
 -- so the file that was given is the one
-one_given : (encoding : List ℕ) (file other : Ltx) (left_now : Option (List ℕ)) → IsLtx encoding file → Gave (Some encoding) left_now other → other ≡ file
+pub one_given : (encoding : List ℕ) (file other : Ltx) (left_now : Option (List ℕ)) → IsLtx encoding file → Gave (Some encoding) left_now other → other ≡ file
 one_given encoding file other left_now is gave =
     let same : encoding ≡ gave.encoding = all_given encoding gave.encoding left_now gave.read gave.end in
     (one_reading_lem gave.encoding encoding [] [] other file gave.is is (ap (λ (l : List ℕ). l ++ []) (sym same))).1

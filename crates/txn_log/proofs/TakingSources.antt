@@ -21,7 +21,7 @@ use Rattle.txn_log.specs.TakingSource.{Came}
 use Rattle.txn_log.specs.declared.coming.Coming.{Coming}
 use Rattle.txn_log.specs.declared.coming.Part.{Part}
 use Rattle.txn_log.specs.declared.coming.Part.TheVariants as parts
-use Rattle.txn_log.specs.declared.taking_in.Intake.{Intake}
+use Rattle.txn_log.specs.declared.taking_source.Intake.{Intake}
 
 -- the header that is shown is that of the encoding
 pub shown_is : (coming : Coming) (encoding : List ℕ) (change : PageChange) → HasCome coming encoding change → 100 ≤ length encoding → header_shown coming.reader.decoder ≡ header_in encoding

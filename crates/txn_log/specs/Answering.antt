@@ -3,8 +3,8 @@ use Rattle.std.specs.Prelude.{◌≡◌, ◌≢◌, ◌⊎◌, ℕ, Bool, true, 
 use Rattle.lf_base.specs.declared.pos.Pos.{Pos}
 use Rattle.ltx_codec.specs.Positions.{nowhere}
 use Rattle.txn_log.specs.declared.entry.Entry.{Entry}
-use Rattle.txn_log.specs.declared.answer.Answer.{Answer}
-use Rattle.txn_log.specs.declared.answer.Answer.TheVariants as answer
+use Rattle.txn_log.specs.declared.answering.Answer.{Answer}
+use Rattle.txn_log.specs.declared.answering.Answer.TheVariants as answer
 use Rattle.txn_log.specs.Store.{end_of_entries}
 
 -- there is nothing to be owed: the log is empty, or its end is the position

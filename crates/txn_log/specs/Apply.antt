@@ -44,9 +44,3 @@ Judges broken position size commit sums file (Ok _) = (broken ≡ false) × IsTa
 Judges broken position size commit sums file (Err fault.NoMemory) = ⊥
 Judges broken position size commit sums file (Err fault.Disk) = ⊥
 Judges broken position size commit sums file (Err why) = Refuses broken position size commit sums file why
-
--- the whole file, or why it is not taken
-abbrev pub Completes : Bool → Pos → ℕ → ℕ → List ℕ → Ltx → Result Ltx StoreFault → Type 0
-Completes broken position size commit sums file (Ok whole) = (broken ≡ false) × IsTaken position size commit sums file × (whole ≡ whole_file commit file)
-Completes broken position size commit sums file (Err fault.Disk) = ⊥
-Completes broken position size commit sums file (Err why) = Refuses broken position size commit sums file why

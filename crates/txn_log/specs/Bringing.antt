@@ -21,12 +21,12 @@ use Rattle.txn_log.specs.declared.bringing.Brought.{Brought}
 use Rattle.txn_log.specs.declared.bringing.Brought.TheVariants as brought
 use Rattle.txn_log.specs.declared.bringing.Ground.{Ground}
 use Rattle.txn_log.specs.declared.fault.StoreFault.TheVariants as fault
-use Rattle.txn_log.specs.declared.from_fault.FromFault.{FromFault}
-use Rattle.txn_log.specs.declared.from_fault.FromFault.TheVariants as from
+use Rattle.txn_log.specs.declared.fault.FromFault.{FromFault}
+use Rattle.txn_log.specs.declared.fault.FromFault.TheVariants as from
 use Rattle.txn_log.specs.declared.outline.Outline.{Outline}
-use Rattle.txn_log.specs.declared.placed.Placed.{Placed}
-use Rattle.txn_log.specs.declared.placed.Placed.TheVariants as placed
-use Rattle.txn_log.specs.declared.taking_in.Intake.{Intake}
+use Rattle.txn_log.specs.declared.publishing.Placed.{Placed}
+use Rattle.txn_log.specs.declared.publishing.Placed.TheVariants as placed
+use Rattle.txn_log.specs.declared.taking_source.Intake.{Intake}
 
 -- whether a file that was read is taken, with what was taken in of it
 abbrev pub JudgesTaken : Option Intake → ℕ → Pos → ℕ → ℕ → List ℕ → Ltx → Result Intake FromFault → Type 0

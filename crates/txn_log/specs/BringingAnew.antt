@@ -22,12 +22,12 @@ use Rattle.txn_log.specs.declared.bringing.Brought.{Brought}
 use Rattle.txn_log.specs.declared.bringing.Brought.TheVariants as brought
 use Rattle.txn_log.specs.declared.entry.Entry.{Entry}
 use Rattle.txn_log.specs.declared.fault.StoreFault.TheVariants as fault
-use Rattle.txn_log.specs.declared.from_fault.FromFault.{FromFault}
-use Rattle.txn_log.specs.declared.from_fault.FromFault.TheVariants as from
-use Rattle.txn_log.specs.declared.placed.Placed.{Placed}
-use Rattle.txn_log.specs.declared.placed.Placed.TheVariants as placed
+use Rattle.txn_log.specs.declared.fault.FromFault.{FromFault}
+use Rattle.txn_log.specs.declared.fault.FromFault.TheVariants as from
+use Rattle.txn_log.specs.declared.publishing.Placed.{Placed}
+use Rattle.txn_log.specs.declared.publishing.Placed.TheVariants as placed
 use Rattle.txn_log.specs.declared.receiving.Receiving.{Receiving}
-use Rattle.txn_log.specs.declared.taking_in.Intake.{Intake}
+use Rattle.txn_log.specs.declared.taking_source.Intake.{Intake}
 
 -- over a folder at rest a file was received that is this one once it is made complete, and that would decide an image
 pub record IsOverAnewFrom (before : Folder) (image : DatabaseImage) (files : List LogFile) (dropped : Bool) (made : DatabaseImage) (received : Receiving) (sums : List ℕ) (count : ℕ) (entries : List Entry) (post : ℕ) (change : PageChange) (file : Ltx) : Type 0 where

@@ -16,8 +16,8 @@ use Rattle.txn_log.specs.declared.coming.Coming.{Coming}
 use Rattle.txn_log.specs.declared.coming.Part.{Part}
 use Rattle.txn_log.specs.declared.coming.Part.TheVariants as part
 use Rattle.txn_log.specs.declared.outline.Outline.{Outline}
-use Rattle.txn_log.specs.declared.source_fault.SourceFault.{SourceFault}
-use Rattle.txn_log.specs.declared.source_fault.SourceFault.TheVariants as fault
+use Rattle.txn_log.specs.declared.outline.SourceFault.{SourceFault}
+use Rattle.txn_log.specs.declared.outline.SourceFault.TheVariants as fault
 
 -- how many bytes of a piece of this length the decoder took
 abbrev pub used_in : Seen → ℕ → ℕ

@@ -8,8 +8,8 @@ use Rattle.lf_sqlite_pages.specs.Image.{DatabaseImage, empty_image}
 use Rattle.txn_log.specs.declared.entry.Entry.{Entry}
 use Rattle.txn_log.specs.declared.fault.StoreFault.{StoreFault}
 use Rattle.txn_log.specs.declared.fault.StoreFault.TheVariants as fault
-use Rattle.txn_log.specs.declared.placed.Placed.{Placed}
-use Rattle.txn_log.specs.declared.placed.Placed.TheVariants as placed
+use Rattle.txn_log.specs.declared.publishing.Placed.{Placed}
+use Rattle.txn_log.specs.declared.publishing.Placed.TheVariants as placed
 use Rattle.txn_log.specs.Entries.{AreNamed}
 use Rattle.txn_log.specs.Kept.{LogFile, Kept, IsByMark, IsAtRest}
 

@@ -6,10 +6,10 @@ use Rattle.lf_disk.specs.History.{History}
 use Rattle.lf_sqlite_pages.specs.Change.{PageChange}
 use Rattle.ltx_codec.specs.declared.file.Ltx.{Ltx}
 use Rattle.world_laws.specs.Store.{Failure, StoreCall, StoreState}
-use Rattle.txn_log.specs.declared.attempt.Attempt.{Attempt}
+use Rattle.txn_log.specs.declared.entry.Attempt.{Attempt}
 use Rattle.txn_log.specs.declared.entry.Entry.{Entry}
 use Rattle.txn_log.specs.declared.fault.StoreFault.{StoreFault}
-use Rattle.txn_log.specs.declared.from_fault.FromFault.{FromFault}
+use Rattle.txn_log.specs.declared.fault.FromFault.{FromFault}
 use Rattle.txn_log.specs.declared.store.Store.{Store}
 use Rattle.txn_log.specs.Apply.{Applies}
 use Rattle.txn_log.specs.Calls.{Moved, Went, WentPruned}

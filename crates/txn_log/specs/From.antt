@@ -13,8 +13,8 @@ use Rattle.txn_log.specs.Calls.{Moved}
 use Rattle.txn_log.specs.Coming.{ReadsFault}
 use Rattle.txn_log.specs.declared.fault.StoreFault.{StoreFault}
 use Rattle.txn_log.specs.declared.fault.StoreFault.TheVariants as fault
-use Rattle.txn_log.specs.declared.from_fault.FromFault.{FromFault}
-use Rattle.txn_log.specs.declared.from_fault.FromFault.TheVariants as from
+use Rattle.txn_log.specs.declared.fault.FromFault.{FromFault}
+use Rattle.txn_log.specs.declared.fault.FromFault.TheVariants as from
 
 -- the source gave the encoding of this file, and came to its end with it
 pub record Gave (left left_now : Option (List ℕ)) (file : Ltx) : Type 0 where

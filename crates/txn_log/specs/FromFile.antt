@@ -3,8 +3,8 @@ use Rattle.std.specs.Prelude.{◌≡◌, ◌⊎◌, Result, Ok, Err}
 use Rattle.lf_base.specs.declared.pos.Pos.{Pos}
 use Rattle.txn_log.specs.From.{IsJudged}
 use Rattle.txn_log.specs.declared.fault.StoreFault.{StoreFault}
-use Rattle.txn_log.specs.declared.from_fault.FromFault.{FromFault}
-use Rattle.txn_log.specs.declared.from_fault.FromFault.TheVariants as from
+use Rattle.txn_log.specs.declared.fault.FromFault.{FromFault}
+use Rattle.txn_log.specs.declared.fault.FromFault.TheVariants as from
 
 -- the answer for a file as the one for a source
 abbrev pub from_answer : Result Pos StoreFault → Result Pos FromFault

@@ -9,8 +9,8 @@ use Rattle.txn_log.specs.Calls.{Moved}
 use Rattle.txn_log.specs.Coming.{ReadsFault}
 use Rattle.txn_log.specs.From.{Gave, broken_or_past}
 use Rattle.txn_log.specs.declared.fault.StoreFault.TheVariants as fault
-use Rattle.txn_log.specs.declared.from_fault.FromFault.{FromFault}
-use Rattle.txn_log.specs.declared.from_fault.FromFault.TheVariants as from
+use Rattle.txn_log.specs.declared.fault.FromFault.{FromFault}
+use Rattle.txn_log.specs.declared.fault.FromFault.TheVariants as from
 
 -- the source gave this snapshot, and there is room for its pages
 pub record GaveSnapshot (left left_now : Option (List ℕ)) (room : ℕ) (file : Ltx) : Type 0 where

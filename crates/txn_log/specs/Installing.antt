@@ -7,8 +7,8 @@ use Rattle.lf_disk.specs.Publish.{IsStaged}
 use Rattle.lf_sqlite_pages.specs.Image.{DatabaseImage}
 use Rattle.lf_sqlite_pages.specs.Change.{PageChange}
 use Rattle.txn_log.specs.declared.entry.Entry.{Entry}
-use Rattle.txn_log.specs.declared.placed.Placed.{Placed}
-use Rattle.txn_log.specs.declared.placed.Placed.TheVariants as placed
+use Rattle.txn_log.specs.declared.publishing.Placed.{Placed}
+use Rattle.txn_log.specs.declared.publishing.Placed.TheVariants as placed
 use Rattle.txn_log.specs.Kept.{LogFile, encoded_change, Decides, Kept, IsAtRest}
 use Rattle.txn_log.specs.Placing.{IsTried}
 use Rattle.txn_log.specs.Settling.{HasNoOthers, IsInstalled}

@@ -6,8 +6,8 @@ use Rattle.lf_disk.specs.Folder.{Folder, bytes_of}
 use Rattle.lf_disk.specs.History.{History, EachMoment}
 use Rattle.lf_sqlite_pages.specs.Image.{DatabaseImage}
 use Rattle.lf_sqlite_pages.specs.Change.{PageChange, IsChange}
-use Rattle.txn_log.specs.declared.placed.Placed.{Placed}
-use Rattle.txn_log.specs.declared.placed.Placed.TheVariants as placed
+use Rattle.txn_log.specs.declared.publishing.Placed.{Placed}
+use Rattle.txn_log.specs.declared.publishing.Placed.TheVariants as placed
 use Rattle.txn_log.specs.Kept.{LogFile, encoded_change, Kept, IsBySnapshot, IsAtRest, IsComplete}
 
 -- the encoding is that of a complete change over a store at rest

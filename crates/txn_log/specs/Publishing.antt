@@ -5,8 +5,8 @@ use Rattle.ltx_codec.specs.declared.file.Ltx.{Ltx}
 use Rattle.ltx_codec.specs.Format.{IsFile}
 use Rattle.ltx_codec.specs.Positions.{Joins}
 use Rattle.world_laws.specs.Store.{StoreState, StoreCall, Commit, Apply, at}
-use Rattle.txn_log.specs.declared.attempt.Attempt.{Attempt}
-use Rattle.txn_log.specs.declared.attempt.Attempt.TheVariants as attempt
+use Rattle.txn_log.specs.declared.entry.Attempt.{Attempt}
+use Rattle.txn_log.specs.declared.entry.Attempt.TheVariants as attempt
 use Rattle.txn_log.specs.Draft.{sums_after}
 use Rattle.txn_log.specs.Kept.{IsComplete}
 

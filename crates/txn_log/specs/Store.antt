@@ -13,8 +13,8 @@ use Rattle.ltx_codec.specs.Sums.{sum_table}
 use Rattle.ltx_codec.specs.declared.file.Ltx.{Ltx}
 use Rattle.world_laws.specs.Store.{StoreState, Failure, FailedBefore, FailedIn, Commit, Apply, Install, PruneTo, DropAll}
 use Rattle.txn_log.specs.declared.entry.Entry.{Entry}
-use Rattle.txn_log.specs.declared.attempt.Attempt.{Attempt}
-use Rattle.txn_log.specs.declared.attempt.Attempt.TheVariants as attempt
+use Rattle.txn_log.specs.declared.entry.Attempt.{Attempt}
+use Rattle.txn_log.specs.declared.entry.Attempt.TheVariants as attempt
 use Rattle.txn_log.specs.Pages.{page_in}
 use Rattle.txn_log.specs.Kept.{LogFile, file_of, IsAtRestAt}
 use Rattle.txn_log.specs.Durable.{log_of, IsLog}

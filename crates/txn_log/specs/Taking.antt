@@ -9,7 +9,7 @@ use Rattle.ltx_codec.specs.Fields.{stated_commit, header_in}
 use Rattle.txn_log.specs.Draft.{sums_after}
 use Rattle.txn_log.specs.Intake.{HasUpTo, HoldsUpTo}
 use Rattle.txn_log.specs.Modes.{wal_after}
-use Rattle.txn_log.specs.declared.taking_in.Intake.{Intake}
+use Rattle.txn_log.specs.declared.taking_source.Intake.{Intake}
 
 -- the sums of the pages after the change made complete over a count of them
 abbrev pub sums_behind : ℕ → List ℕ → PageChange → List ℕ

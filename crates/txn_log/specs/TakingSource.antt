@@ -13,7 +13,7 @@ use Rattle.txn_log.specs.declared.coming.Coming.{Coming}
 use Rattle.txn_log.specs.declared.coming.Part.{Part}
 use Rattle.txn_log.specs.declared.coming.Part.TheVariants as parts
 use Rattle.txn_log.specs.declared.outline.Outline.{Outline}
-use Rattle.txn_log.specs.declared.taking_in.Intake.{Intake}
+use Rattle.txn_log.specs.declared.taking_source.Intake.{Intake}
 use Rattle.txn_log.specs.declared.taking_source.TakeFault.{TakeFault}
 use Rattle.txn_log.specs.declared.taking_source.TakeFault.TheVariants as fault
 

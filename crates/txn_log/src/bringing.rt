@@ -14,13 +14,11 @@ ghost use Rattle.txn_log.specs.Reserve.{spare_of};
 ghost use Rattle.txn_log.specs.Taking.{TakenIn};
 
 use crate::coming::Coming;
-use crate::fault::StoreFault;
-use crate::from_fault::FromFault;
+use crate::fault::{FromFault, StoreFault};
 use crate::outline::Outline;
-use crate::placed::Placed;
 use crate::placing_from::place_from;
-use crate::taking_in::Intake;
-use crate::taking_source::{TakeFault, take_source};
+use crate::publishing::Placed;
+use crate::taking_source::{Intake, TakeFault, take_source};
 use lf_base::{Pos, Source};
 use lf_disk::Disk;
 use lf_sqlite_pages::lock_page;

@@ -4,10 +4,9 @@ ghost use Rattle.world_laws.specs.Store.{PruneTo};
 ghost use Rattle.txn_log.specs.Fields.{CallBreaks, CallWent, HasShape, PrunesBy};
 ghost use Rattle.txn_log.specs.Store.{end_of_entries};
 
-use crate::attempt::Attempt;
-use crate::entry::Entry;
+use crate::entry::{Attempt, Entry};
 use crate::fault::StoreFault;
-use crate::removing::remove_files;
+use crate::settling::remove_files;
 use crate::store::Store;
 use lf_disk::Disk;
 

@@ -4,11 +4,12 @@ ghost use Rattle.txn_log.specs.Renewing.{spare_in};
 ghost use Rattle.txn_log.specs.Reserve.{spare_of};
 
 use crate::entry::Entry;
-use crate::renewing::renew;
+use crate::reserved::Reserved;
 use crate::store::Store;
 use lf_base::NoMemory;
 use lf_disk::Disk;
 use page_checksum::Sums;
+use std::alloc::Global;
 
 /// Makes room for one more entry, and for the sums of `more` pages more.
 fn take_room(entries: &mut Vec<Entry>, sums: &mut Sums, more: u32) -> Result<(), NoMemory>
@@ -42,5 +43,25 @@ impl<D: Disk> Store<D> {
         take_room(&mut self.entries, &mut self.sums, more)?;
         renew(*self.entries.allocator(), &mut self.decoder, pages)?;
         Ok(())
+    }
+}
+
+/// Sees to it that there is room for so many pages. After want of memory nothing changed.
+pub fn renew(alloc: Global, reserved: &mut Option<Reserved>, pages: u32) -> Result<(), NoMemory>
+    ensures some { OnOk result (IsSome reserved.new) }
+    ensures room { OnOk result (pages ≤ spare_in reserved.new) }
+{
+    match reserved.take() {
+        Some(mut old) => {
+            let grown = old.grow(pages);
+            *reserved = Some(old);
+            grown
+        }
+        None => {
+            let mut new = Reserved::new(alloc)?;
+            new.grow(pages)?;
+            *reserved = Some(new);
+            Ok(())
+        }
     }
 }

@@ -1,13 +1,13 @@
-//! The rest of an install and of a drop, from whatever a stop left of it.
-ghost use Rattle.std.specs.Prelude.{◌≡◌, false, true, [], ◌∷◌, ℕ, List, IsTrue, IsSome, OnOk};
+//! The rest of an install: the files of the old log go, and the pages of the snapshot are written.
+ghost use Rattle.std.specs.Prelude.{◌≡◌, false, true, [], ◌∷◌, ℕ, List, IsTrue, IsSome, OnOk, length, drop};
 ghost use Rattle.lf_base.specs.Faults.{CountsFaults};
 ghost use Rattle.lf_disk.specs.History.{now, EachMoment, IsSettledBut};
 ghost use Rattle.lf_disk.specs.declared.name.FileName.{FileName as Name};
 ghost use Rattle.lf_sqlite_pages.specs.Image.{DatabaseImage, empty_image};
-ghost use Rattle.txn_log.specs.Kept.{IsAtRest, IsByMark};
-ghost use Rattle.txn_log.specs.Settling.{HasNoOthers, IsUnsettled, IsInstalled};
+ghost use Rattle.txn_log.specs.Kept.{IsAtRest, IsByMark, LogFile};
+ghost use Rattle.txn_log.specs.Settling.{HasNoOthers, IsUnsettled, IsInstalled, IsThinned, IsCleared};
+ghost use Rattle.txn_log.specs.Pruning.{AreFirst, AreFirstOfSome, IsPruned};
 
-use crate::clearing::clear;
 use crate::entry::Entry;
 use crate::rewriting::rewrite;
 use lf_base::Failed;
@@ -67,5 +67,46 @@ pub fn empty<D: Disk>(alloc: Global, disk: &mut D, entries: &[Entry]) -> Result<
     clear(disk, entries)?;
     let nothing = no_pages(alloc);
     rewrite(alloc, disk, &nothing)?;
+    Ok(())
+}
+
+/// Removes the transaction files of these entries, of which some may be absent.
+pub fn clear<D: Disk>(disk: &mut D, entries: &[Entry]) -> Result<(), Failed>
+    requires { IsTrue (D.honest disk.old) → IsSettledBut Name.Staged (D.history disk.old) }
+    ensures moments { IsTrue (D.honest disk.old)
+        → EachMoment (D.history disk.old) (D.history disk.new) (IsThinned entries.now (now (D.history disk.old))) }
+    ensures done { IsTrue (D.honest disk.old) → OnOk result (IsCleared entries.now (now (D.history disk.old)) (D.history disk.new)) }
+    ensures honest { D.honest disk.new ≡ D.honest disk.old }
+    ensures cause { CountsFaults (D.faults disk.old) (D.faults disk.new) result }
+{
+    for entry in entries {
+        disk.remove(FileName::Ltx {
+            min: entry.min,
+            max: entry.max,
+        })?;
+    }
+    Ok(())
+}
+
+/// Takes files out of the log, the oldest first. Each becomes the staged file, which the next transaction is
+/// written over: its room on the disk is used again.
+pub fn remove_files<D: Disk>(disk: &mut D, entries: &[Entry]) -> Result<(), Failed>
+    requires { IsTrue (D.honest disk.old) → AreFirstOfSome entries.now (D.history disk.old) }
+    ensures moments { IsTrue (D.honest disk.old) → (image : DatabaseImage) (files : List LogFile)
+        → AreFirst image files entries.now (D.history disk.old)
+        → EachMoment (D.history disk.old) (D.history disk.new) (IsPruned image files (length entries.now)) }
+    ensures done { IsTrue (D.honest disk.old) → OnOk result ((image : DatabaseImage) (files : List LogFile)
+        → AreFirst image files entries.now (D.history disk.old)
+        → IsAtRest image (drop (length entries.now) files) false (D.history disk.new)) }
+    ensures honest { D.honest disk.new ≡ D.honest disk.old }
+    ensures cause { CountsFaults (D.faults disk.old) (D.faults disk.new) result }
+{
+    for entry in entries {
+        let name = FileName::Ltx {
+            min: entry.min,
+            max: entry.max,
+        };
+        disk.rename(name, FileName::Staged)?;
+    }
     Ok(())
 }

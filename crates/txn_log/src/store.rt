@@ -6,8 +6,7 @@ ghost use Rattle.txn_log.specs.Kept.{Ascends-prop};
 ghost use Rattle.txn_log.specs.Store.{IsStore, IsShaped, IsSized, state_of, failed_of};
 ghost use Rattle.world_laws.specs.Store.{MayBeFound};
 
-use crate::attempt::Attempt;
-use crate::entry::Entry;
+use crate::entry::{Attempt, Entry};
 use crate::reserved::Reserved;
 use lf_disk::Disk;
 use page_checksum::Sums;

@@ -1,5 +1,4 @@
-//! The page sums of a database after a change. Only the pages that the change writes are looked at,
-//! and those that come or go.
+//! The table of page sums.
 ghost use Rattle.std.specs.Prelude.{◌≡◌, ◌+◌, ◌<◌, ◌≤◌, ℕ, List, [], length, replicate};
 ghost use Rattle.page_checksum.specs.Sums.{flagged, joined};
 ghost use Rattle.lf_sqlite_pages.specs.Change.{empty_change};
@@ -7,7 +6,6 @@ ghost use Rattle.lf_sqlite_pages.specs.Complete.{completed};
 ghost use Rattle.ltx_codec.specs.steps.ChangedSum.{joined_over};
 ghost use Rattle.txn_log.specs.Draft.{sum_after, sums_after};
 
-use crate::zeros::zeros;
 use lf_sqlite_pages::{Change, lock_page};
 use page_checksum::{Sums, page_sum};
 
@@ -103,11 +101,9 @@ pub fn update(sums: &mut Sums, change: &Change)
     }
 }
 
-/// Makes the table that of the database that a change makes of nothing.
-pub fn fill(sums: &mut Sums, change: &Change)
-    requires { change.now.commit ≤ length sums.old.sums + sums.old.spare }
-    ensures { sums.new.sums ≡ sums_after [] change.now }
+/// As many zeros as SQLite's largest page has bytes.
+pub fn zeros() -> [u8; 65536]
+    ensures { result ≡ replicate 65536 0 }
 {
-    sums.resize(0);
-    update(sums, change);
+    [0; 65536]
 }

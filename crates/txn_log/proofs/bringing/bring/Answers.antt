@@ -1,6 +1,6 @@
 use Rattle.std.proofs.Common.{◌∙◌, sym}
 use Rattle.lf_disk.specs.History.{now}
-use Rattle.txn_log.specs.declared.placed.Placed.TheVariants as placed
+use Rattle.txn_log.specs.declared.publishing.Placed.TheVariants as placed
 use Rattle.txn_log.proofs.Bringings.{it, staged, brought, back, tells, placed_whole}
 use Rattle.txn_log.proofs.bringing.bring.Goals as goal
 

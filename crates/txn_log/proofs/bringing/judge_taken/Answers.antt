@@ -1,6 +1,6 @@
 use Rattle.std.proofs.Common.{rules, ◌≡◌, ◌∙◌, Option, true, refl, sym, subst}
 use Rattle.txn_log.specs.Taking.{TakenIn}
-use Rattle.txn_log.specs.declared.taking_in.Intake.{Intake}
+use Rattle.txn_log.specs.declared.taking_source.Intake.{Intake}
 use Rattle.ltx_codec.specs.declared.file.Ltx.{Ltx}
 use Rattle.txn_log.proofs.Bringings.{none_room, some_room, some_sum}
 use Rattle.txn_log.proofs.bringing.judge_taken.Goals as goal

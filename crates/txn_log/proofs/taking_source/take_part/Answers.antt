@@ -6,7 +6,7 @@ use Rattle.txn_log.specs.Coming.{change_after}
 use Rattle.txn_log.specs.Taking.{TakenIn, StagedIn}
 use Rattle.txn_log.specs.TakingSource.{Came}
 use Rattle.txn_log.specs.declared.coming.Part.{Part}
-use Rattle.txn_log.specs.declared.taking_in.Intake.{Intake}
+use Rattle.txn_log.specs.declared.taking_source.Intake.{Intake}
 use Rattle.txn_log.proofs.TakingSources.{quiet_of, more_taken, header_taken, header_staged, page_valid, page_refused, page_taken, page_staged}
 use Rattle.txn_log.proofs.taking_source.take_part.Goals as goal
 

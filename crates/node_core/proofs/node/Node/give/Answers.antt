@@ -1,6 +1,6 @@
 use Rattle.std.proofs.Common.{refl, subst, sym}
 use Rattle.lf_base.specs.declared.pos.Pos.{Pos}
-use Rattle.txn_log.specs.declared.answer.Answer.TheVariants as owed
+use Rattle.txn_log.specs.declared.answering.Answer.TheVariants as owed
 use Rattle.world_laws.specs.Node as laws
 use Rattle.node_core.specs.Hello.{IsOwed}
 use Rattle.node_core.specs.Nodes.{parts_of, role_in, seen}

@@ -8,7 +8,7 @@ use Rattle.txn_log.specs.Calls.{RestsAs}
 use Rattle.txn_log.specs.From.{RefusesFrom}
 use Rattle.txn_log.specs.Renewing.{spare_in}
 use Rattle.txn_log.specs.Store.{IsStore, end_of_entries, image_in, state_of, failure_of}
-use Rattle.txn_log.specs.declared.attempt.Attempt.TheVariants as attempt
+use Rattle.txn_log.specs.declared.entry.Attempt.TheVariants as attempt
 use Rattle.txn_log.specs.declared.bringing.Brought.{Brought}
 use Rattle.txn_log.specs.declared.bringing.Brought.TheVariants as brought
 use Rattle.txn_log.proofs.FromMoves.{over_ground, made, encoding, valid, is, read, can, still_kept, still_left, still_mode, went_nowhere, refused_went, refused_breaks, not_disk}
