@@ -1,4 +1,5 @@
-use Rattle.std.specs.Prelude.{◌≡◌, ◌≢◌, ℕ, ◌≤◌, Bool, true, ◌&&◌, not, nat_le, List, ◌++◌, Option, Some, None, All, find, map, filter, count_by, is_some, is_none, IsSome, option_and_then, if◌then◌else◌}
+use Rattle.std.specs.Prelude.{◌≡◌, ◌≢◌, ℕ, ◌≤◌, Bool, true, ◌&&◌, not, nat_le, if◌then◌else◌}
+use Rattle.std.specs.Prelude.{List, ◌++◌, All, find, map, filter, count_by, Option, Some, None, is_some, is_none, IsSome, option_and_then}
 use Rattle.std.specs.List.{list_any}
 use Rattle.std.specs.Option.{option_map}
 use Rattle.byte_locks.specs.declared.owner.Owner.{Owner}

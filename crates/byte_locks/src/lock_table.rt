@@ -1,7 +1,8 @@
 ghost use Rattle.std.specs.Prelude.{◌≡◌, ◌≢◌, [], IfSome, IfNone, IsFalse, OnOk, OnErr, IfErr, Some, None, IsSome, ◌↔◌};
 ghost use Rattle.byte_locks.specs.declared.owner.Owner.{Owner};
 ghost use Rattle.byte_locks.specs.LockEntry.{in_set, on_file, of_session};
-ghost use Rattle.byte_locks.specs.LockList.{IsLockList, kind_held, is_held, writer_of, IsFree, StandsAgainst, IsShared, holder_count, opponent, first_contested, conflict, is_full, first_full, MayGrant, HasCause, granted, without, HeldAfter};
+ghost use Rattle.byte_locks.specs.LockList.{IsLockList, kind_held, is_held, writer_of, IsFree, StandsAgainst, IsShared, holder_count, HeldAfter};
+ghost use Rattle.byte_locks.specs.LockList.{opponent, first_contested, conflict, is_full, first_full, MayGrant, HasCause, granted, without};
 
 use crate::grant::{grant, kind_held};
 use crate::lock_bytes::file_of;
@@ -132,8 +133,15 @@ impl LockTable {
         ensures holds { IfSome result (λ owner. kind_held self.now owner lock ≡ Some LockKind.Write) }
         ensures none { IfNone result ((owner : Owner) → kind_held self.now owner lock ≢ Some LockKind.Write) }
     {
-        let _ = &self.entries;
+        self.sound();
         self.find_writer(lock)
+    }
+
+    /// What is always true of the table. It does nothing: a caller's proof takes the fact from here.
+    fn sound(&self)
+        ensures { IsLockList self.now }
+    {
+        let _ = &self.entries;
     }
 
     fn find_writer(&self, lock: LockId) -> Option<Owner>

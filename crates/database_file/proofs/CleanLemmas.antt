@@ -38,7 +38,7 @@ clean-reads file image =
     same-all (as_read (clean file) image) image long (λ n first last. clean-page file image n first (omega (arith, last, long)))
 
 -- a clean file keeps nothing
-clean-is : (file : DatabaseFile) → is_clean file ≡ true → file ≡ clean file
+pub clean-is : (file : DatabaseFile) → is_clean file ≡ true → file ≡ clean file
 clean-is file all =
     let parts = and_parts _ _ all in
     let kept : file.kept ≡ pages.empty = empty_of_len file.kept (eqb-true _ _ parts.0) in

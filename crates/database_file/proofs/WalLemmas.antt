@@ -4,7 +4,7 @@ use Rattle.std.specs.Prelude.{nat_le, if◌then◌else◌}
 use Rattle.std.specs.Option.{option_or}
 use Rattle.std.proofs.lemmas.Bool.{cases_eq, cases_lt}
 use Rattle.std.proofs.lemmas.Bool.Decides.{nat_tests}
-use Rattle.std.proofs.lemmas.List.{take_more, take_all}
+use Rattle.std.proofs.lemmas.List.{take_more}
 use Rattle.std.proofs.lemmas.Option.{slice_get-get_or}
 use Rattle.lf_sqlite_pages.specs.LockPage.{lock_page_of}
 use Rattle.lf_sqlite_pages.specs.Change.{PageChange, IsChange, AscendsAbove, written}
@@ -90,11 +90,10 @@ over-within file news commit n valid test = elim (cases_eq n (lock_page_of news.
       sym (data_page_over file news commit n other test)
 ]
 
-pub within-all : (file : DatabaseFile) (news : PageChange) (at commit : ℕ) (writes : List PageWrite) → IsChange news → length news.pages ≤ at →
-    WritesTo (written (take at news.pages)) commit writes → WritesTo (change_page file news commit) commit writes
-within-all file news at commit writes valid end kept n =
+pub within-all : (file : DatabaseFile) (news : PageChange) (commit : ℕ) (writes : List PageWrite) → IsChange news →
+    WritesTo (written news.pages) commit writes → WritesTo (change_page file news commit) commit writes
+within-all file news commit writes valid kept n =
     kept n
-    ∙ ap (λ (ws : List PageWrite). if nat_le n commit then written ws n else None) (take_all at news.pages end)
     ∙ elim (cases_lt commit n) [
       | inl past ↦ let test : nat_le n commit ≡ false = grind (arith, nat_tests) in rw test refl
       | inr low ↦

@@ -17,7 +17,7 @@ use crate::database_file::DatabaseFile;
 use crate::fault::FileFault;
 use crate::reading::zeros;
 use lf_base::{Failed, NoMemory};
-use lf_sqlite_pages::{Change, PageStore, header_pages};
+use lf_sqlite_pages::{Change, PageStore, header_pages, sound_store};
 use std::alloc::Global;
 
 /// The change, unless it changes nothing of an image of `commit` pages.
@@ -95,7 +95,7 @@ impl DatabaseFile {
         ensures cause { CountsFaults (S.faults base.old) (S.faults base.new) result }
         ensures base { SameBase S.PageStore base.old base.new }
     {
-        let _commit = base.commit();
+        sound_store(base);
         self.read_page(base, 1, first)?;
         Ok(header_pages(first, count))
     }
@@ -126,7 +126,7 @@ impl DatabaseFile {
         for at in 0..numbers.len() {
             self.push_kept(change, numbers[at])?;
         }
-        let _valid = change.pages();
+        change.sound();
         Ok(())
     }
 

@@ -9,7 +9,7 @@ ghost use Rattle.database_file.specs.WritingParts.{counted, HasRooms, ArePut, Ma
 use crate::comparing::{is_committed, page_in};
 use crate::fault::FileFault;
 use lf_base::Failed;
-use lf_sqlite_pages::{Overlay, PageStore, lock_page};
+use lf_sqlite_pages::{Overlay, PageStore, lock_page, sound_store};
 
 /// The number of pages as it is kept: only where it isn't the image's.
 pub(crate) fn counted(count: u32, commit: u32) -> Option<u32>
@@ -166,8 +166,7 @@ fn is_blank<S: PageStore>(
     ensures cause { CountsFaults (S.faults base.old) (S.faults base.new) result }
     ensures base { SameBase S.PageStore base.old base.new }
 {
-    let _page_size = base.page_size();
-    let _commit = base.commit();
+    sound_store(base);
     if n == lock_page(blank.len() as u32) {
         return Ok(true);
     }

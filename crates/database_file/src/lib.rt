@@ -14,6 +14,7 @@ mod laws;
 mod reading;
 mod span;
 mod wal_change;
+mod within;
 mod writing;
 
 pub use database_file::DatabaseFile;
@@ -22,4 +23,5 @@ pub use laws::{
     change_leads_to_the_file, clean_file_is_the_image, difference_leads_to_the_other_image,
     file_reads_as_an_image, log_change_leads_to_the_database_under_the_log,
 };
+pub use within::push_within;
 pub use writing::are_data_pages;

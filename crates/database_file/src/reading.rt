@@ -12,7 +12,7 @@ use crate::database_file::DatabaseFile;
 use crate::fault::FileFault;
 use crate::span::span;
 use lf_base::{Failed, NoMemory};
-use lf_sqlite_pages::PageStore;
+use lf_sqlite_pages::{PageStore, sound_store};
 use std::alloc::Global;
 
 /// A page of zeros.
@@ -91,7 +91,7 @@ impl DatabaseFile {
         ensures cause { CountsFaults (S.faults base.old) (S.faults base.new) result }
         ensures base { SameBase S.PageStore base.old base.new }
     {
-        let _page_size = base.page_size();
+        sound_store(base);
         let commit = base.commit();
         if let Some(page) = self.kept_without(passed, n) {
             out.copy_from_slice(page);

@@ -1,5 +1,5 @@
 //! The change of a commit in the write-ahead log.
-ghost use Rattle.std.specs.Prelude.{◌≡◌, ◌++◌, ◌≤◌, ◌<◌, length, None, Some, [], List, ℕ, IfOk, OnOk, replicate, nat_le, unwrap_or, if◌then◌else◌};
+ghost use Rattle.std.specs.Prelude.{◌≡◌, ◌++◌, ◌≤◌, ◌<◌, length, None, Some, [], List, ℕ, IfOk, OnOk, replicate, unwrap_or};
 ghost use Rattle.std.specs.FinMap as pages;
 ghost use Rattle.lf_sqlite_pages.specs.LockPage.{IsDataPage};
 ghost use Rattle.lf_sqlite_pages.specs.Change.{last_number, written};
@@ -8,25 +8,10 @@ ghost use Rattle.database_file.specs.WalCommit.{change_over, change_page};
 
 use crate::database_file::DatabaseFile;
 use crate::reading::zeros;
+use crate::within::push_within;
 use lf_base::NoMemory;
-use lf_sqlite_pages::{Change, PageWrite, lock_page};
+use lf_sqlite_pages::{Change, lock_page};
 use std::alloc::Global;
-
-/// Adds a page of the log, if it lies within the first `count` pages.
-fn push_within(change: &mut Change, write: &PageWrite, count: u32) -> Result<(), NoMemory>
-    requires ascending { last_number change.old.pages < write.now.number }
-    requires within { write.now.number ≤ change.old.commit }
-    requires holds_data { IsDataPage change.old.page_size write.now.number }
-    requires whole { length write.now.bytes ≡ change.old.page_size }
-    ensures ok { OnOk result (change.new ≡ record change.old { pages = change.old.pages ++ one_write write.now.number (if nat_le write.now.number count then Some write.now.bytes else None) }) }
-    ensures last { OnOk result (last_number change.new.pages ≤ write.now.number) }
-    ensures low { OnOk result (last_number change.old.pages ≤ count → last_number change.new.pages ≤ count) }
-{
-    if write.number > count {
-        return Ok(());
-    }
-    change.push(write.number, write.bytes.as_slice())
-}
 
 impl DatabaseFile {
     /// The change of a commit in the log over an image of `commit` pages. `news` has the newest page
@@ -37,7 +22,7 @@ impl DatabaseFile {
         requires whole { (n : ℕ) → (page : List ℕ) → pages.get self.now.kept n ≡ Some page → length page ≡ news.page_size }
         ensures { IfOk result (λ change. change ≡ change_over self.now news commit) }
     {
-        let _valid = news.pages();
+        news.sound();
         if news.commit() <= commit {
             return Ok(news);
         }
@@ -59,10 +44,8 @@ impl DatabaseFile {
         ensures last { OnOk result (last_number change.new.pages ≤ commit) }
         ensures writes { OnOk result (WritesTo (change_page self.now news.now commit) commit change.new.pages) }
     {
-        let pages = news.pages();
-        for at in 0..pages.len() {
-            push_within(change, &pages[at], commit)?;
-        }
+        news.sound();
+        push_within(news, change, commit)?;
         Ok(())
     }
 
@@ -86,7 +69,7 @@ impl DatabaseFile {
         for before in commit..news.commit() {
             self.push_over(news, change, before + 1, blank)?;
         }
-        let _valid = change.pages();
+        change.sound();
         Ok(())
     }
 
@@ -122,7 +105,7 @@ impl DatabaseFile {
         ensures value { result.now ≡ unwrap_or (written news.now.pages n) (unwrap_or (pages.get self.now.kept n) blank.now) }
         ensures whole { length result.now ≡ length blank.now }
     {
-        let _valid = news.pages();
+        news.sound();
         if let Some(page) = news.page(n) {
             return page;
         }

@@ -10,7 +10,7 @@ use crate::database_file::DatabaseFile;
 use crate::fault::FileFault;
 use crate::keeping::{counted, keep_zeros, put_all};
 use crate::reading::zeros;
-use lf_sqlite_pages::{PageStore, is_page_size, lock_page};
+use lf_sqlite_pages::{PageStore, is_page_size, lock_page, sound_store};
 use std::alloc::Global;
 
 /// Whether some bytes are whole data pages of `page_size` bytes from page `first` on.
@@ -59,7 +59,7 @@ impl DatabaseFile {
         ensures cause { IfErr result (HasCause (S.faults base.old) (S.faults base.new)) }
         ensures base { SameBase S.PageStore base.old base.new }
     {
-        let _page_size = base.page_size();
+        sound_store(base);
         let commit = base.commit();
         let count = self.count_over(commit);
         let blank = zeros(alloc, page_size as usize)?;
@@ -105,7 +105,7 @@ impl DatabaseFile {
         ensures cause { IfErr result (HasCause (S.faults base.old) (S.faults base.new)) }
         ensures base { SameBase S.PageStore base.old base.new }
     {
-        let _page_size = base.page_size();
+        sound_store(base);
         let commit = base.commit();
         let count = self.count_over(commit);
         let blank = zeros(alloc, page_size as usize)?;

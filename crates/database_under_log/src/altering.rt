@@ -9,7 +9,7 @@ ghost use Rattle.database_file.specs.WritingParts.{TellsSame};
 use crate::news::zeros;
 use database_file::FileFault;
 use lf_base::Failed;
-use lf_sqlite_pages::{Change, PageStore};
+use lf_sqlite_pages::{Change, PageStore, sound_store};
 use std::alloc::Global;
 
 /// Whether page `n` of the image has these bytes. It is read into a buffer of its size.
@@ -45,8 +45,7 @@ fn writes_the_same<S: PageStore>(
     ensures cause { CountsFaults (S.faults base.old) (S.faults base.new) result }
     ensures base { SameBase S.PageStore base.old base.new }
 {
-    let _page_size = base.page_size();
-    let _commit = base.commit();
+    sound_store(base);
     let pages = change.pages();
     for at in 0..pages.len() {
         let write = &pages[at];

@@ -9,7 +9,7 @@ ghost use Rattle.database_under_log.specs.Over.{AreFrames};
 use wal_watch::WalFile;
 
 /// Whether a committed frame of page `n` holds page `at` of some bytes, counted from 0.
-fn holds_page(log: &WalFile, size: usize, n: u32, bytes: &[u8], at: usize) -> bool
+pub fn holds_page(log: &WalFile, size: usize, n: u32, bytes: &[u8], at: usize) -> bool
     requires some { 0 < size }
     requires within { at < length bytes.now / size }
     ensures { IsTrue result ↔ HoldsFrame (contents_of log.now) n (page_in bytes.now size at) }

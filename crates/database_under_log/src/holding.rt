@@ -12,7 +12,7 @@ ghost use Rattle.database_under_log.specs.HoldingParts.{is_left, IsNoted, IsBack
 
 use database_file::{DatabaseFile, FileFault};
 use lf_base::NoMemory;
-use lf_sqlite_pages::{Change, PageStore, lock_page};
+use lf_sqlite_pages::{Change, PageStore, lock_page, sound_store};
 use std::alloc::Global;
 
 /// The numbers of the pages that were kept for a commit, and of those kept before that the image has
@@ -125,7 +125,7 @@ pub(crate) fn hold_pages<S: PageStore>(
     ensures cause { IfErr result (HasCause (S.faults base.old) (S.faults base.new)) }
     ensures base { SameBase S.PageStore base.old base.new }
 {
-    let _page_size = base.page_size();
+    sound_store(base);
     let commit = base.commit();
     let count = file.count_over(commit);
     let lock_page = lock_page(change.page_size());

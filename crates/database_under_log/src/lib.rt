@@ -13,7 +13,7 @@ mod waiting;
 mod writing;
 
 pub use altering::leaves_image;
-pub use checkpoint::are_frames;
+pub use checkpoint::{are_frames, holds_page};
 pub use fault::LogWriteFault;
 pub use laws::{
     clean_file_keeps_the_database, commit_leads_to_the_database_under_the_log,

@@ -1,6 +1,5 @@
 //! What the log writes over an image, past the image's end by older frames too.
-ghost use Rattle.std.specs.Prelude.{◌≡◌, ◌≢◌, ◌+◌, ◌++◌, ◌≤◌, ◌<◌, length, None, Some, [], List, ℕ, IfOk, OnOk, replicate, nat_le, if◌then◌else◌};
-ghost use Rattle.lf_sqlite_pages.specs.LockPage.{IsDataPage};
+ghost use Rattle.std.specs.Prelude.{◌≡◌, ◌≢◌, ◌+◌, ◌++◌, ◌≤◌, ◌<◌, length, None, Some, [], List, ℕ, IfOk, OnOk, replicate};
 ghost use Rattle.lf_sqlite_pages.specs.Change.{last_number, written};
 ghost use Rattle.database_file.specs.CommitParts.{WritesTo, one_write};
 ghost use Rattle.std.specs.FinMap as pages;
@@ -12,9 +11,9 @@ ghost use Rattle.lf_sqlite_pages.specs.declared.page_write.PageWrite.{PageWrite}
 ghost use Rattle.database_under_log.specs.LogChange.{log_news};
 ghost use Rattle.database_under_log.specs.LogChangeParts.{joined};
 
-use database_file::DatabaseFile;
+use database_file::{DatabaseFile, push_within};
 use lf_base::NoMemory;
-use lf_sqlite_pages::{Change, PageWrite, lock_page};
+use lf_sqlite_pages::{Change, lock_page};
 use std::alloc::Global;
 use wal_watch::WalFile;
 
@@ -41,7 +40,7 @@ pub(crate) fn with_older(
     ensures news { IfOk result (λ change. (first : ℕ) → news ≡ change_of (contents_of log.now) first (committed_count (contents_of log.now)) → change ≡ log_news (contents_of log.now) first commit) }
     ensures size { IfOk result (λ change. change.page_size ≡ news.page_size) }
 {
-    let _valid = news.pages();
+    news.sound();
     if news.commit() <= commit {
         return Ok(news);
     }
@@ -51,39 +50,6 @@ pub(crate) fn with_older(
     push_within(&news, &mut change, commit)?;
     push_past(log, &mut change, commit, page.as_mut_slice())?;
     Ok(change)
-}
-
-/// Adds the pages of the news within the first `count` pages.
-fn push_within(news: &Change, change: &mut Change, count: u32) -> Result<(), NoMemory>
-    requires empty { change.old.pages ≡ [] }
-    requires size { change.old.page_size ≡ news.now.page_size }
-    requires commit { change.old.commit ≡ news.now.commit }
-    ensures size { OnOk result (change.new.page_size ≡ change.old.page_size) }
-    ensures commit { OnOk result (change.new.commit ≡ change.old.commit) }
-    ensures last { OnOk result (last_number change.new.pages ≤ count) }
-    ensures writes { OnOk result (WritesTo (written news.now.pages) count change.new.pages) }
-{
-    let pages = news.pages();
-    for at in 0..pages.len() {
-        push_one(change, &pages[at], count)?;
-    }
-    Ok(())
-}
-
-/// Adds a page, if it lies within the first `count` pages.
-fn push_one(change: &mut Change, write: &PageWrite, count: u32) -> Result<(), NoMemory>
-    requires ascending { last_number change.old.pages < write.now.number }
-    requires within { write.now.number ≤ change.old.commit }
-    requires holds_data { IsDataPage change.old.page_size write.now.number }
-    requires whole { length write.now.bytes ≡ change.old.page_size }
-    ensures ok { OnOk result (change.new ≡ record change.old { pages = change.old.pages ++ one_write write.now.number (if nat_le write.now.number count then Some write.now.bytes else None) }) }
-    ensures last { OnOk result (last_number change.new.pages ≤ write.now.number) }
-    ensures low { OnOk result (last_number change.old.pages ≤ count → last_number change.new.pages ≤ count) }
-{
-    if write.number > count {
-        return Ok(());
-    }
-    change.push(write.number, write.bytes.as_slice())
 }
 
 /// Adds the latest frame of each data page past the first `count` pages. Frames are read into a
@@ -104,7 +70,7 @@ fn push_past(
     for before in count..change.commit() {
         push_latest(log, change, before + 1, page)?;
     }
-    let _valid = change.pages();
+    change.sound();
     Ok(())
 }
 

@@ -73,7 +73,7 @@ fn hold_commit<S: PageStore>(
     ensures faults { OnOk result (S.faults base.new ≡ S.faults base.old) }
 {
     let before = base.commit();
-    let _valid = news.page_size();
+    news.sound();
     let change = log_change(alloc, file, log, news, before)?;
     let bytes = Bytes::of(Vec::from_slice(alloc, bytes).map_err(NoMemory::from)?);
     let mut page = zeros(alloc, change.page_size() as usize)?;

@@ -30,10 +30,15 @@ lease_data lease = object (member (codes "ID") (number (unsigned lease)) no_memb
 abbrev pub none_such : List ℕ → Data
 none_such key = object (member (codes "create_revision") (string (codes "0")) (member (codes "key") (string key) (member (codes "target") (string (codes "CREATE")) no_members)))
 
+-- what is put, under which lease
+abbrev pub put_members : List ℕ → ℕ → List ℕ → Data
+put_members key lease value =
+    object (member (codes "key") (string key) (member (codes "lease") (number (unsigned lease)) (member (codes "value") (string (coded value)) no_members)))
+
 -- the put
 abbrev pub put_data : List ℕ → ℕ → List ℕ → Data
 put_data key lease value =
-    object (member (codes "request_put") (object (member (codes "key") (string key) (member (codes "lease") (number (unsigned lease)) (member (codes "value") (string (coded value)) no_members)))) no_members)
+    object (member (codes "request_put") (put_members key lease value) no_members)
 
 -- the put, where there is no such key
 abbrev pub txn_data : List ℕ → ℕ → List ℕ → Data

@@ -6,7 +6,6 @@
 
 mod bodies;
 mod call;
-mod numbers;
 mod reading;
 mod said;
 

@@ -1,42 +1,26 @@
 //! Replies read.
-ghost use Rattle.std.specs.Prelude.{◌≡◌, Option, Some, None, codes, IfErr, IfOk, option_map};
-ghost use Rattle.lease_core.specs.Bodies.{IsAny, IsJson, BreaksBody};
+ghost use Rattle.std.specs.Prelude.{◌≡◌, Option, Some, None, codes, IfOk, option_map};
 ghost use Rattle.serde_json.specs.Data.{Data};
 ghost use Rattle.serde_json.specs.Find.{get};
 ghost use Rattle.serde_json.specs.View.{view};
 ghost use Rattle.etcd_wire.specs.Replies.{Reads, key_in, keys_in, lasts_in, lease_in, number_in, number_or_zero_of, reply_in, said_in, text_or_empty_of, told_in};
 
 use crate::call::Call;
-use crate::numbers::decimal;
 use crate::said::{KeyValue, Said};
-use lease_core::BodyFault;
+use lease_core::{BodyFault, read_json};
 use lf_base::{NoMemory, Text};
 use serde_json::Value;
 use std::alloc::Global;
+use stream_wire::decimal;
 
 /// What the body of a reply to this call says; nothing where it is no whole answer.
 pub fn read_said(alloc: Global, call: &Call, body: &[u8]) -> Result<Option<Said>, NoMemory>
     ensures { IfOk result (Reads call.now body.now) }
 {
-    match value_of(alloc, body) {
+    match read_json(alloc, body) {
         Ok(value) => said(alloc, call, &value),
         Err(BodyFault::NoMemory) => Err(NoMemory),
         Err(BodyFault::Syntax | BodyFault::Shape) => Ok(None),
-    }
-}
-
-/// The JSON that the bytes are.
-fn value_of(alloc: Global, bytes: &[u8]) -> Result<Value, BodyFault>
-    ensures ok { IfOk result (λ value. IsJson bytes.now (view value)) }
-    ensures fault { IfErr result (BreaksBody IsAny bytes.now) }
-{
-    let Ok(text) = str::from_utf8(bytes) else {
-        return Err(BodyFault::Syntax);
-    };
-    match Value::from_str(alloc, text) {
-        Ok(value) => Ok(value),
-        Err(error) if error.is_memory() => Err(BodyFault::NoMemory),
-        Err(_error) => Err(BodyFault::Syntax),
     }
 }
 

@@ -71,7 +71,7 @@ impl Handles {
     pub fn close(&mut self, session: u64, number: u64)
         ensures { self.new ≡ closed self.old session number }
     {
-        let _closed = self.inside.remove(&(session, number));
+        self.inside.remove(&(session, number));
     }
 
     /// Closes all handles of the session.

@@ -1,10 +1,7 @@
 -- The log cut or removed: what the rules leave.
-use Rattle.std.proofs.Common.{◌≡◌, ◌≢◌, ℕ, ◌-◌, ◌<◌, ◌≤◌, true, false, ◌&&◌, not, length, List, [], inl, inr, Option, Some, None, refl, arith}
-use Rattle.std.specs.Prelude.{◌==◌, nat_lt, nat_le, is_none}
-use Rattle.std.specs.Ordering.{nat_cmp}
-use Rattle.std.specs.FinMap as pages
-use Rattle.std.specs.FinMap.{empty_of_len}
-use Rattle.std.proofs.lemmas.Bool.{cases_Bool, cases_eq, cases_lt, and_parts, eqb-true, cond-false}
+use Rattle.std.proofs.Common.{◌≡◌, ◌≢◌, ℕ, ◌-◌, ◌<◌, ◌≤◌, true, false, ◌&&◌, not, length, List, [], inl, inr, Some, None, refl, arith}
+use Rattle.std.specs.Prelude.{◌==◌, nat_lt, nat_le}
+use Rattle.std.proofs.lemmas.Bool.{cases_Bool, cases_eq, cases_lt, cond-false}
 use Rattle.std.proofs.lemmas.Bool.Decides.{nat_tests}
 use Rattle.lf_base.specs.FileBytes.{resized}
 use Rattle.lf_sqlite_pages.specs.Blocks.{ByteRoom, IsWithin}
@@ -13,7 +10,8 @@ use Rattle.wal_watch.specs.Refusals.{IsSoundCut, CutsCommitted}
 use Rattle.wal_watch.proofs.CommitLemmas.{has_committed}
 use Rattle.wal_watch.proofs.LawLemmas.{keeps_count}
 use Rattle.wal_watch.proofs.StayLemmas.{take-resized}
-use Rattle.database_file.specs.DatabaseFile.{DatabaseFile, clean, is_clean}
+use Rattle.database_file.specs.DatabaseFile.{clean, is_clean}
+use Rattle.database_file.proofs.CleanLemmas.{clean-is}
 use Rattle.file_view.specs.declared.scene.Scene.{Scene}
 use Rattle.file_view.specs.DatabaseState.{HeldWrite}
 use Rattle.file_view.specs.LogRules.{log_cut_rows, log_unlink_rows}
@@ -21,20 +19,6 @@ use Rattle.file_view.specs.Refusal.{first_refusal}
 use Rattle.file_view.specs.Served.{Served, log_contents, has_committed_frames}
 use Rattle.file_view.specs.Sound.{IsSound}
 use Rattle.file_view.proofs.RowLemmas.{none-holds, nothing-held}
-
--- a file that is clean keeps nothing
-pub clean-is : (file : DatabaseFile) → is_clean file ≡ true → file ≡ clean file
-clean-is file all =
-    let parts = and_parts _ _ all in
-    let kept : file.kept ≡ pages.empty = empty_of_len file.kept (eqb-true _ _ parts.0) in
-    by_parts file.kept file.count kept (no_count file.count parts.1) where
-      by_parts : (kept : pages.FinMap nat_cmp (List ℕ)) (count : Option ℕ) → kept ≡ pages.empty → count ≡ None →
-          record { kept = kept; page_size = file.page_size; count = count } ≡ clean file
-      by_parts kept count a b = rw (a, b) refl
-
-      no_count : (o : Option ℕ) → is_none o ≡ true → o ≡ None
-      no_count None h = refl
-      no_count (Some n) h = absurd cc
 
 -- the end of no frames
 no-end : (contents : List ℕ) → committed_count contents ≡ 0 → committed_end contents ≡ 0

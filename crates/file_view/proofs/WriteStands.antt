@@ -30,7 +30,7 @@ use Rattle.file_view.specs.Served.{Served, log_contents, has_committed_frames}
 use Rattle.file_view.specs.Sound.{IsSound}
 use Rattle.file_view.proofs.DatabaseLemmas.{opposite, two-fail, three-fail, write-parts, write-pages, writer-there, checkpoint-framed, resize-idle}
 use Rattle.file_view.proofs.FrameLemmas.{all-less, holds-is}
-use Rattle.file_view.proofs.LogLemmas.{clean-is}
+use Rattle.database_file.proofs.CleanLemmas.{clean-is}
 use Rattle.file_view.proofs.RowLemmas.{none-holds}
 use Rattle.file_view.proofs.StandLemmas.{clean-agrees-too}
 

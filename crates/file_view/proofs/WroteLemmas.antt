@@ -30,7 +30,7 @@ use Rattle.file_view.specs.LogRules.{FollowsImage, LogCommits, LogKeeps, LogDone
 use Rattle.file_view.specs.Served.{Served, log_contents, waits}
 use Rattle.file_view.specs.ServedParts.{served_of, IsKept}
 use Rattle.file_view.specs.Sound.{IsSound}
-use Rattle.file_view.proofs.LogLemmas.{clean-is}
+use Rattle.database_file.proofs.CleanLemmas.{clean-is}
 
 -- a file that keeps nothing is clean
 len_none : (file : DatabaseFile) → pages.len (clean file).kept ≡ 0

@@ -92,7 +92,8 @@ fn salts_of(log: &WalFile) -> [u8; 8]
 {
     committed_frames_say();
     let mut salts = [0u8; 8];
-    let _all = log.read(16, &mut salts);
+    // All eight are there.
+    log.read(16, &mut salts);
     salts
 }
 

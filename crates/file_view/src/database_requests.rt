@@ -1,14 +1,14 @@
 //! WRITE and SETATTR of a size of the database file.
-ghost use Rattle.std.specs.Prelude.{◌≡◌, ◌+◌, ◌/◌, ◌<◌, ◌^◌, Some, IfSome, IfOk, IfErr, OnOk, OnErr, length, ℕ, IsTrue, ◌↔◌};
+ghost use Rattle.std.specs.Prelude.{◌≡◌, ◌+◌, ◌/◌, ◌<◌, ◌^◌, Some, IfSome, IfOk, IfErr, OnOk, OnErr, length, ℕ};
 ghost use Rattle.database_file.specs.DatabaseFile.{FitsShape};
 ghost use Rattle.database_file.specs.Fault.{SameBase};
 ghost use Rattle.database_file.specs.Writing.{TakesPages, page_in};
-ghost use Rattle.file_view.specs.DatabaseRules.{write_size, are_pages, most_pages, kept_at_most, is_past_uncommitted, states_other, may_checkpoint, holds_frame, hold_frames, uncommitted_rows, checkpoint_rows, sized_write_rows, database_write_rows, writer_after, IsDatabaseWritten};
+ghost use Rattle.file_view.specs.DatabaseRules.{write_size, are_pages, most_pages, kept_at_most, is_past_uncommitted, states_other, may_checkpoint, holds_frame, hold_frames};
+ghost use Rattle.file_view.specs.DatabaseRules.{uncommitted_rows, checkpoint_rows, sized_write_rows, database_write_rows, writer_after, IsDatabaseWritten};
 ghost use Rattle.file_view.specs.DatabaseParts.{MayWrite};
 ghost use Rattle.file_view.specs.Needs as needs;
 ghost use Rattle.file_view.specs.Refusal.{first_refusal, IsAllowed, HasCause, HasReadCause};
 ghost use Rattle.wal_watch.specs.File.{contents_of};
-ghost use Rattle.wal_watch.specs.News.{HoldsFrame};
 ghost use Rattle.lf_sqlite_pages.specs.PageSize.{IsPageSize};
 
 use crate::acting::writes;
@@ -18,8 +18,9 @@ use crate::fault::ViewFault;
 use crate::scene::Scene;
 use crate::view::View;
 use byte_locks::{LockId, Owner};
+use database_under_log::holds_page;
 use lf_base::Errno;
-use lf_sqlite_pages::{PageStore, lock_page, page_size_of};
+use lf_sqlite_pages::{PageStore, lock_page, page_size_of, sound_store};
 use std::alloc::Global;
 use wal_watch::WalFile;
 
@@ -74,18 +75,7 @@ fn states_other(size: u32, at: u64, bytes: &[u8]) -> bool
     }
 }
 
-/// Whether a committed frame of page `n` holds page `at` of some bytes, counted from 0.
-fn holds_page(log: &WalFile, size: usize, n: u32, bytes: &[u8], at: usize) -> bool
-    requires some { 0 < size }
-    requires within { at < length bytes.now / size }
-    ensures { IsTrue result ↔ HoldsFrame (contents_of log.now) n (page_in bytes.now size at) }
-{
-    let (_, rest) = bytes.split_at(at * size);
-    let (page, _) = rest.split_at(size);
-    log.has_frame(n, page)
-}
-
-/// The same, as the rules test it.
+/// Whether a committed frame of page `n` holds page `at` of some bytes, as the rules test it.
 fn holds_frame(log: &WalFile, size: usize, n: u32, bytes: &[u8], at: usize) -> bool
     requires some { 0 < size }
     requires within { at < length bytes.now / size }
@@ -288,7 +278,7 @@ impl View {
         ensures err { OnErr result (self.new ≡ self.old) }
         ensures base { SameBase S.PageStore base.old base.new }
     {
-        let _commit = base.commit();
+        sound_store(base);
         let size = self.write_allowed(scene, given, at, bytes)?;
         let first = (at / u64::from(size)) as u32 + 1;
         let writer = self.writer_after();

@@ -16,7 +16,7 @@ use crate::scene::Scene;
 use crate::view::View;
 use database_file::FileFault;
 use lf_base::Errno;
-use lf_sqlite_pages::PageStore;
+use lf_sqlite_pages::{PageStore, sound_store};
 use std::alloc::Global;
 use wal_watch::WalFile;
 
@@ -185,7 +185,7 @@ impl View {
         ensures err { OnErr result (self.new ≡ self.old) }
         ensures base { SameBase S.PageStore base.old base.new }
     {
-        let _commit = base.commit();
+        sound_store(base);
         match self.size_allowed(scene, given, len)? {
             Some(size) => self.resize_pages(alloc, scene, base, len, size)?,
             None => {}

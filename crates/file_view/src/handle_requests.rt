@@ -102,7 +102,7 @@ impl View {
         ensures allowed { OnOk result (IsAllowed (lock_handle_rows self.now scene.now node fh)) }
         ensures cause { IfErr result (HasCause needs.Nothing (lock_handle_rows self.now scene.now node fh)) }
     {
-        let _file = self.served(scene, node)?;
+        self.served(scene, node)?;
         match self.open_at(scene, node, fh) {
             Some(file) => Ok(file),
             None => Err(ViewFault::Errno(EBADF)),
@@ -150,7 +150,7 @@ impl View {
         ensures allowed { OnOk result (IsAllowed (handle_rows self.now scene.now node fh)) }
         ensures cause { IfErr result (HasCause needs.Nothing (handle_rows self.now scene.now node fh)) }
     {
-        let _file = self.handle(scene, node, fh)?;
+        self.handle(scene, node, fh)?;
         Ok(())
     }
 
@@ -176,7 +176,7 @@ impl View {
         ensures cause { IfErr result (HasCause needs.Nothing (closing_rows self.old scene.now node fh)) }
         ensures err { OnErr result (self.new ≡ self.old) }
     {
-        let _file = self.closing_handle(scene, node, fh)?;
+        self.closing_handle(scene, node, fh)?;
         self.handles.close(scene.session, fh);
         Ok(())
     }

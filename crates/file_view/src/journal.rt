@@ -86,16 +86,10 @@ fn perform(file: &mut JournalFile, call: &JournalCall)
     ensures { file.new.file ≡ after_call file.old.file call.now }
 {
     match call {
-        JournalCall::Unlink => {
-            let _finished = file.remove();
-        }
-        JournalCall::Cut { len } => {
-            let _finished = file.cut_within(*len);
-        }
-        JournalCall::Write { at, bytes } => {
-            let _finished = file.write_within(*at, bytes.as_slice());
-        }
-    }
+        JournalCall::Unlink => file.remove(),
+        JournalCall::Cut { len } => file.cut_within(*len),
+        JournalCall::Write { at, bytes } => file.write_within(*at, bytes.as_slice()),
+    };
 }
 
 /// The number where a journal's header has its page size.
@@ -104,7 +98,8 @@ fn stated_size(file: &JournalFile) -> u32
     ensures { result ≡ be32_at 24 (bytes_of file.now.file) }
 {
     let mut field = [0u8; 4];
-    let _all = file.read(24, &mut field);
+    // All four are there: the journal is active.
+    file.read(24, &mut field);
     u32::from_be_bytes(field)
 }
 
@@ -228,7 +223,7 @@ impl Journal {
         ensures { self.new ≡ record { file = option_map (λ _. []) self.old.file; waiting = self.old.waiting } }
     {
         if self.file.len().is_some() {
-            let _finished = self.file.cut_within(0);
+            self.file.cut_within(0);
         }
     }
 }

@@ -115,7 +115,7 @@ impl View {
         ensures cause { IfErr result (HasCause (lock_needs wish) (setlk_rows self.old scene.now node fh owner locks wish)) }
         ensures err { OnErr result (self.new ≡ self.old) }
     {
-        let _file = self.lock_handle(scene, node, fh)?;
+        self.lock_handle(scene, node, fh)?;
         match wish {
             LockWish::Read => self.grant(scene, owner, locks, LockKind::Read),
             LockWish::Write => self.grant(scene, owner, locks, LockKind::Write),
@@ -166,7 +166,7 @@ impl View {
         ensures allowed { OnOk result (IsAllowed (lock_handle_rows self.now scene.now node fh)) }
         ensures cause { IfErr result (HasCause needs.Nothing (lock_handle_rows self.now scene.now node fh)) }
     {
-        let _file = self.lock_handle(scene, node, fh)?;
+        self.lock_handle(scene, node, fh)?;
         let locks = locks_at(node, start, end);
         Ok(match wish {
             LockWish::Read => self.conflict_reply(owner, locks, LockKind::Read, start, end),

@@ -18,7 +18,7 @@ use database_file::{DatabaseFile, FileFault};
 use database_under_log::{
     LogCommit, LogWrite, LogWriteFault, forget_log_write, leaves_image, prepare_log_write,
 };
-use lf_sqlite_pages::{Change, PageStore};
+use lf_sqlite_pages::{Change, PageStore, sound_store};
 use std::alloc::Global;
 use wal_watch::WalFile;
 
@@ -77,7 +77,7 @@ fn write_or_prepare<S: PageStore>(
     ensures cause { IfErr result (HasWriteCause (contents_of log.old) (wanted_size (S.page_size base.old) (S.commit base.old)) at bytes.now (S.faults base.old) (S.faults base.new)) }
     ensures base { SameBase S.PageStore base.old base.new }
 {
-    let _commit = base.commit();
+    sound_store(base);
     match prepare_log_write(alloc, file, log, base, at, bytes)? {
         LogWrite::Stored => Ok(None),
         LogWrite::Waiting(commit) => {

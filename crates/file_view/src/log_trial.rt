@@ -20,7 +20,7 @@ fn reserve_beside(log: &mut WalFile, held: (u64, u64), at: u64, count: u64) -> R
     ensures held { IsWithin log.new.room held.0 held.1 }
     ensures room { OnOk result (IsWithin log.new.room at count) }
 {
-    let _limited = log.has_room(held.0, held.1);
+    log.sound_room(held.0, held.1);
     let from = at.min(held.0);
     let to = (at + count).max(held.0 + held.1);
     match log.reserve(from, to - from) {

@@ -35,7 +35,7 @@ fn read_journal(alloc: Global, file: &Journal, at: u64, size: u32) -> Result<Vec
     ensures { IfOk result (λ bytes. bytes.items ≡ part (bytes_of file.now.file) at size) }
 {
     let mut bytes = room_for(alloc, file.len().unwrap_or(0), at, size)?;
-    let _all = file.read(at, bytes.as_mut_slice());
+    file.read(at, bytes.as_mut_slice());
     Ok(bytes)
 }
 
@@ -43,7 +43,7 @@ fn read_log(alloc: Global, file: &WalFile, at: u64, size: u32) -> Result<Vec<u8>
     ensures { IfOk result (λ bytes. bytes.items ≡ part (contents_of file.now) at size) }
 {
     let mut bytes = room_for(alloc, file.len().unwrap_or(0), at, size)?;
-    let _all = file.read(at, bytes.as_mut_slice());
+    file.read(at, bytes.as_mut_slice());
     Ok(bytes)
 }
 
@@ -51,7 +51,7 @@ fn read_shared(alloc: Global, file: &SharedMemory, at: u64, size: u32) -> Result
     ensures { IfOk result (λ bytes. bytes.items ≡ part (shared_bytes file.now) at size) }
 {
     let mut bytes = room_for(alloc, file.len().unwrap_or(0), at, size)?;
-    let _all = file.read(at, bytes.as_mut_slice());
+    file.read(at, bytes.as_mut_slice());
     Ok(bytes)
 }
 

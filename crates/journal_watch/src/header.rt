@@ -24,7 +24,8 @@ fn front_of(file: &Blocks) -> [u8; 8]
     ensures { result ≡ take 8 file.now.bytes }
 {
     let mut front = [0u8; 8];
-    let _all = file.read(0, &mut front);
+    // All eight are there.
+    file.read(0, &mut front);
     front
 }
 

@@ -2,7 +2,8 @@ ghost use Rattle.std.specs.Prelude.{◌≡◌, ◌^◌, ◌≤◌, [], None, IfO
 ghost use Rattle.std.specs.Option.{option_copied};
 ghost use Rattle.std.specs.Borrow.{sem};
 ghost use denote.Follow.{follows_so};
-ghost use Rattle.lease_core.specs.Leases.{IsLeases, at_moment, live_grant, grant_of, next_term, granted_to, with_grant, end_of_grant, term_refusal, acquire_refusal, renew_refusal, release_refusal, IsRefusal, ChangesEnd};
+ghost use Rattle.lease_core.specs.Leases.{IsLeases, at_moment, live_grant, grant_of, next_term, granted_to, with_grant, end_of_grant, ChangesEnd};
+ghost use Rattle.lease_core.specs.Leases.{term_refusal, acquire_refusal, renew_refusal, release_refusal, IsRefusal};
 
 use crate::{Grant, LeaseFault};
 use lf_base::{NoMemory, Text};

@@ -7,6 +7,7 @@
 mod belief;
 mod body_fault;
 mod grant;
+mod json;
 mod laws;
 mod lease_ask;
 mod lease_fault;
@@ -21,6 +22,7 @@ mod writing;
 pub use belief::Belief;
 pub use body_fault::BodyFault;
 pub use grant::Grant;
+pub use json::read_json;
 pub use laws::{belief_ends_first, holder_believes, one_live_lease, one_reading};
 pub use lease_ask::LeaseAsk;
 pub use lease_fault::LeaseFault;

@@ -3,9 +3,10 @@
 ghost use Rattle.std.specs.Prelude.{◌≡◌, ℕ, ◌^◌, ◌<◌, List, IfSome, IfNone, IfOk, IfErr, string_bytes, ◌↔◌, IsTrue};
 ghost use Rattle.serde_json.specs.Data.{Data, string, number, unsigned, object, Members, member, no_members};
 ghost use Rattle.serde_json.specs.View.{view, members_view};
-ghost use Rattle.lease_core.specs.Bodies.{IsJson, IsAny, IsObject, BreaksBody, node_text};
+ghost use Rattle.lease_core.specs.Bodies.{IsJson, IsObject, BreaksBody, node_text};
 
 use crate::BodyFault;
+use crate::json::read_json;
 use lf_base::read_hex16;
 use serde_json::{Map, Value};
 use std::alloc::Global;
@@ -15,24 +16,9 @@ pub(crate) fn members_of(alloc: Global, bytes: &[u8]) -> Result<Map<String, Valu
     ensures ok { IfOk result (λ members. IsJson bytes.now (object (members_view members.entries))) }
     ensures fault { IfErr result (BreaksBody IsObject bytes.now) }
 {
-    match value_of(alloc, bytes)? {
+    match read_json(alloc, bytes)? {
         Value::Object(members) => Ok(members),
         _other => Err(BodyFault::Shape),
-    }
-}
-
-/// The JSON that the bytes are.
-fn value_of(alloc: Global, bytes: &[u8]) -> Result<Value, BodyFault>
-    ensures ok { IfOk result (λ value. IsJson bytes.now (view value)) }
-    ensures fault { IfErr result (BreaksBody IsAny bytes.now) }
-{
-    let Ok(text) = str::from_utf8(bytes) else {
-        return Err(BodyFault::Syntax);
-    };
-    match Value::from_str(alloc, text) {
-        Ok(value) => Ok(value),
-        Err(error) if error.is_memory() => Err(BodyFault::NoMemory),
-        Err(_error) => Err(BodyFault::Syntax),
     }
 }
 

@@ -3,6 +3,8 @@ pub mod Folders
 mod Histories
 pub mod Moments
 mod NameList
+mod NamedOnce
+pub mod Listings
 pub mod Publishing
 mod Records
 mod SlotLemmas

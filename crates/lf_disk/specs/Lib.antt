@@ -5,6 +5,7 @@ pub mod History
 pub mod Kept
 pub mod Laws
 pub mod ListFault
+pub mod Listing
 pub mod MemDisk
 pub mod Names
 pub mod Plan

@@ -159,7 +159,8 @@ impl<R: Files<File = File> + AllocGlobal + Copy> Disk for DirDisk<R> {
             Ok(names) => Ok(names),
             Err(error) if error.kind() == ErrorKind::OutOfMemory => Err(ListFault::NoMemory),
             Err(error) => {
-                let _ = self.fail(number_of(&error));
+                // It is counted here; the list names it in its own words.
+                self.fail(number_of(&error));
                 Err(ListFault::Failed)
             }
         }

@@ -127,7 +127,8 @@ impl MemDisk {
         ensures cause { CountsFaults self.old.plan.faults self.new.plan.faults result }
         ensures fault { IsErr result → FailsFor self.old self.new }
     {
-        let _ = self.schedule.begin();
+        // Whether it was planned to fail or not, there is no memory.
+        self.schedule.begin();
         Err(self.schedule.lack())
     }
 }

@@ -115,7 +115,8 @@ pub fn remove(slots: &mut Vec<Slot>, name: FileName)
     ensures folder { Same (with_file name None (folder_of slots.old.items)) (folder_of slots.new.items) }
     ensures orderly { IsOrderly slots.old.items → IsOrderly slots.new.items }
 {
-    let _ = take(slots, name);
+    // What it held is dropped.
+    take(slots, name);
 }
 
 /// Puts the file of one folder into another.

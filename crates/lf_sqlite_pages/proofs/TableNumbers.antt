@@ -57,7 +57,8 @@ Ascends-entries (e ∷ es) sorted =
     let rest : IsTrue (below_all nat_cmp e.0 es) × IsTrue (is_sorted nat_cmp es) = both_true _ _ sorted in
     (omega arith, Ascends-above_key e.0 es rest.0 rest.1)
 
-Ascends-keys : (m : map.FinMap nat_cmp (List ℕ)) → Ascends 0 (map.keys m)
+-- the keys of a finite map ascend
+pub Ascends-keys : (m : map.FinMap nat_cmp (List ℕ)) → Ascends 0 (map.keys m)
 Ascends-keys m = Ascends-entries (map.entries m) (holds _ (entries_sorted m))
 
 -- numbers in strictly ascending order

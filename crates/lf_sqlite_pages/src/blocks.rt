@@ -1,6 +1,6 @@
 //! A list of bytes kept in blocks of 4,096. A block in which nothing was written isn't kept, and reads
 //! as zeros.
-ghost use Rattle.std.specs.Prelude.{◌≡◌, ◌+◌, ◌≤◌, ◌<◌, ◌↔◌, Some, length, take, drop, IsTrue, IsSome, IsOk, OnOk, OnErr};
+ghost use Rattle.std.specs.Prelude.{ℕ, ◌≡◌, ◌+◌, ◌≤◌, ◌<◌, ◌↔◌, Some, length, take, drop, IsTrue, IsSome, IsOk, OnOk, OnErr};
 ghost use Rattle.lf_base.specs.FileBytes.{Reads};
 ghost use Rattle.lf_sqlite_pages.specs.BlockTable.{blocks_in};
 ghost use Rattle.lf_sqlite_pages.specs.Blocks.{no_blocks, is_within, room_with, IsWithin, IsWritten, IsUndone, IsResized};
@@ -76,6 +76,16 @@ impl Blocks {
         self.len as u64
     }
 
+    /// What is always true of a list in blocks. It does nothing: a caller's proof takes the facts from
+    /// here.
+    pub fn sound(&self)
+        ensures short { length self.now.bytes ≤ BLOCKS_LIMIT }
+        ensures room { (at count : ℕ) → IsWithin self.now.room at count → at + count ≤ BLOCKS_LIMIT }
+    {
+        let _ = &self.to;
+        self.len();
+    }
+
     /// How many blocks are kept for them.
     pub fn held(&self) -> u64
         ensures value { result ≡ self.now.held }
@@ -103,7 +113,6 @@ impl Blocks {
         requires { at + length piece.now ≤ length self.now.bytes }
         ensures { IsTrue result ↔ (take (length piece.now) (drop at self.now.bytes) ≡ piece.now) }
     {
-        let _limit = self.len;
         table::holds(self.blocks.as_slice(), at as usize, piece)
     }
 

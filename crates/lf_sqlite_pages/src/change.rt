@@ -148,6 +148,13 @@ impl Change {
         self.pages.as_slice()
     }
 
+    /// What is always true of a change. It does nothing: a caller's proof takes the fact from here.
+    pub fn sound(&self)
+        ensures { IsChange self.now }
+    {
+        self.pages();
+    }
+
     /// The same pages, taken out of the change.
     pub fn into_pages(self) -> Vec<PageWrite>
         ensures value { result.items ≡ self.pages }

@@ -31,5 +31,5 @@ pub use image_laws::{
 pub use limits::{is_within_limit, lock_page};
 pub use overlay::Overlay;
 pub use page_size::is_page_size;
-pub use page_store::PageStore;
+pub use page_store::{PageStore, sound_store};
 pub use page_write::PageWrite;

@@ -61,6 +61,17 @@ pub trait PageStore {
         ensures same_state { is_broken self.new ≡ is_broken self.old };
 }
 
+/// What is always true of a store. It does nothing: a caller's proof takes the facts from here.
+pub fn sound_store<S: PageStore>(store: &S)
+    ensures page_size { IfSome (S.image store.now) (λ i. S.page_size store.now ≡ i.page_size) }
+    ensures commit { IfSome (S.image store.now) (λ i. S.commit store.now ≡ length i.pages) }
+    ensures sized { 0 < S.commit store.now → IsPageSize (S.page_size store.now) }
+    ensures valid { IfSome (S.image store.now) IsImage }
+{
+    store.page_size();
+    store.commit();
+}
+
 /// An image in memory is never broken. Its count of faults stays 0, so no read of it fails.
 impl PageStore for Image {
     ghost image = { λ i. Some i };

@@ -56,8 +56,9 @@ pub fn put(table: &mut Table, n: u32, page: Page)
     ensures pages { map_of table.new.entries ≡ map.insert (map_of table.old.entries) n page }
     ensures spare { spare table.old ≤ spare table.new + 1 }
 {
+    // There is room, so it is never refused. What stood there is dropped.
     let put: Result<_, _> = table.insert(n, page);
-    let _replaced = put.unwrap();
+    put.unwrap();
 }
 
 /// Drops the page at `n`, where there is one.
@@ -65,7 +66,7 @@ pub fn remove(table: &mut Table, n: u32)
     ensures pages { map_of table.new.entries ≡ map.remove (map_of table.old.entries) n }
     ensures spare { spare table.old ≤ spare table.new }
 {
-    let _removed = table.remove(&n);
+    table.remove(&n);
 }
 
 /// The numbers of the pages, in ascending order.

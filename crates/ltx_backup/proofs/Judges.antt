@@ -8,15 +8,16 @@ use Rattle.lf_disk.specs.declared.name.FileName.TheVariants.{Ltx as LtxName}
 use Rattle.lf_disk.specs.Folder.{Folder}
 use Rattle.ltx_codec.specs.Positions.{before, after}
 use Rattle.ltx_codec.specs.declared.file.Ltx.{Ltx}
-use Rattle.ltx_backup.specs.Entries.{entry_of, entries_of, Lists}
+use Rattle.lf_disk.proofs.Listings.{order_by_first, once_back}
+use Rattle.ltx_backup.specs.Entries.{entry_of, entries_of, numbers_of, Lists}
 use Rattle.ltx_backup.specs.Judging.{HasNumbers, IsNext, Judging, IsJudged, IsBroken, IsRefusedPast}
 use Rattle.ltx_backup.specs.Levels.{LeadOn, end_of, Stands, AllStand, Has, HasPast}
-use Rattle.ltx_backup.specs.Listing.{same_numbers, AreInOrder, AreOnce, AreListed}
+use Rattle.ltx_backup.specs.Listing.{AreListed}
 use Rattle.ltx_backup.specs.declared.entry.Entry.{Entry}
 use Rattle.ltx_backup.specs.declared.fault.BackupFault.{BackupFault}
 use Rattle.ltx_backup.specs.declared.fault.BackupFault.TheVariants as fault
 use Rattle.ltx_backup.proofs.Holding.{begins_past, lead_past, lead_join, end_join}
-use Rattle.ltx_backup.proofs.Listings.{lists_old, lists_new, lists_cases, lists_get}
+use Rattle.ltx_backup.proofs.Listings.{same_numbers, AreInOrder, AreOnce, lists_old, lists_new, lists_cases, lists_get}
 use Rattle.ltx_backup.proofs.Lists.{no_entry}
 use Rattle.ltx_backup.proofs.Unique.{stands_some, has_past, has_within, end_after, front}
 
@@ -167,7 +168,7 @@ module _ (f : Folder) (here : Pos) (names : List Entry) (i : ℕ) (entries : Lis
       let some : IsSome (f (LtxName (get_or names i no_entry).min (get_or names i no_entry).max)) = listed.there _ _ (lists_get names i no_entry more) in
       let in_files : Has files (get_or names i no_entry).min (get_or names i no_entry).max = has.only _ _ past some in
       elim (has_cases so_far.files it.rest _ _ (subst (λ (l : List Ltx). Has l (get_or names i no_entry).min (get_or names i no_entry).max) it.same in_files)) [
-        | inl old ↦ not_before names i listed.once more (so_far.sound _ _ old)
+        | inl old ↦ not_before names i (once_back numbers_of names listed.once) more (so_far.sound _ _ old)
         | inr new ↦ in_rest it.rest it.has it.lead new
       ]
     where
@@ -180,7 +181,7 @@ module _ (f : Folder) (here : Pos) (names : List Entry) (i : ℕ) (entries : Lis
           let less : r.header.min < (get_or names i no_entry).min = omega (arith, beyond, has.stand.0.valid.header.max) in
           let r_past = begins_past f (end_of here so_far.files) r has.stand.0 lead.0 in
           let listed_r : Lists names r.header.min r.header.max = listed.whole _ _ (stands_some f r has.stand.0) in
-          let first : Lists (take i names) r.header.min r.header.max = before_it names i r.header.min r.header.max listed.order more listed_r less in
+          let first : Lists (take i names) r.header.min r.header.max = before_it names i r.header.min r.header.max (order_by_first numbers_of names listed.order listed.narrow) more listed_r less in
           let above : here.txid < r.header.min = omega (arith, r_past, end_after f here so_far.files so_far.stand so_far.lead) in
           let within = has_within f here so_far.files r.header.min r.header.max so_far.stand so_far.lead (so_far.covers _ _ above first) in
           absurd (omega (arith, within, r_past))

@@ -17,7 +17,6 @@ pub mod Loops
 pub mod Makings
 pub mod Merges
 pub mod Nths
-pub mod Once
 pub mod Opens
 pub mod Refusals
 pub mod Restores

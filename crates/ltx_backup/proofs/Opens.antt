@@ -278,6 +278,7 @@ list_alike entries f g same listed = record {
   there = λ x y lists. subst (λ (o : Option (List ℕ)). IsSome o) (sym (same (LtxName x y))) (listed.there x y lists);
   whole = λ x y some. listed.whole x y (subst (λ (o : Option (List ℕ)). IsSome o) (same (LtxName x y)) some);
   order = listed.order;
+  narrow = listed.narrow;
   once = listed.once;
 }
 

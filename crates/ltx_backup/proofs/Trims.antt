@@ -11,9 +11,9 @@ use Rattle.lf_disk.specs.Names.{same_name-one}
 use Rattle.lf_disk.specs.Change.{Step, Perhaps, SetsFile}
 use Rattle.lf_disk.specs.History.{History, now, may_leave, Ticks, Moves, EachMoment, IsSettledBut}
 use Rattle.lf_disk.proofs.Moments.{started, goes_on}
-use Rattle.ltx_backup.specs.Entries.{Lists}
 use Rattle.ltx_backup.specs.Trimming.{IsTrimmed, HasTrimmed}
 use Rattle.ltx_backup.specs.declared.entry.Entry.{Entry}
+use Rattle.ltx_backup.proofs.Listings.{lists_cases}
 
 -- a folder that is the same but for what is staged is trimmed as the other
 pub trimmed_same : (number : ℕ) (before f c : Folder) → IsTrimmed number before f → SameBut Staged f c → IsTrimmed number before c
@@ -36,12 +36,6 @@ begins number h settled = record {
   fewer = λ a b none. none;
   settled = settled;
 }
-
-lists_cases : (es : List Entry) (e : Entry) (a b : ℕ) → Lists (es ++ e ∷ []) a b → Lists es a b ⊎ ((e.min ≡ a) × (e.max ≡ b))
-lists_cases [] e a b (inl is) = inr is
-lists_cases [] e a b (inr lists) = absurd lists
-lists_cases (x ∷ es) e a b (inl is) = inl (inl is)
-lists_cases (x ∷ es) e a b (inr lists) = elim (lists_cases es e a b lists) [ inl old ↦ inl (inr old) | inr new ↦ inr new ]
 
 module _ (number : ℕ) (before : Folder) (es : List Entry) (e : Entry) (mid new : History) (so_far : HasTrimmed number es before mid) where
   -- an entry that is past the number is passed over

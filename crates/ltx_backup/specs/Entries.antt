@@ -1,6 +1,8 @@
 -- What is kept in memory of the files on the disks.
-use Rattle.std.specs.Prelude.{◌≡◌, ◌⊎◌, ℕ, List, [], ◌∷◌, map, None}
+use Rattle.std.specs.Prelude.{◌≡◌, ℕ, List, map, None}
 use Rattle.lf_disk.specs.declared.name.FileName.TheVariants.{Snapshot, Staged}
+use Rattle.lf_disk.specs.declared.listing.Numbers.{Numbers}
+use Rattle.lf_disk.specs.Listing as listing
 use Rattle.lf_disk.specs.History.{History, now, IsSettledBut}
 use Rattle.ltx_codec.specs.Positions.{nowhere}
 use Rattle.ltx_codec.specs.declared.file.Ltx.{Ltx}
@@ -15,10 +17,13 @@ entry_of file = record { min = file.header.min; max = file.header.max; page_size
 abbrev pub entries_of : List Ltx → List Entry
 entries_of files = map entry_of files
 
+-- the numbers in the name of an entry's file
+abbrev pub numbers_of : Entry → Numbers
+numbers_of e = record { min = e.min; max = e.max }
+
 -- an entry of these numbers is there
 abbrev pub Lists : List Entry → ℕ → ℕ → Type 0
-Lists [] a b = ⊥
-Lists (e ∷ es) a b = ((e.min ≡ a) × (e.max ≡ b)) ⊎ Lists es a b
+Lists entries a b = listing.Has (map numbers_of entries) a b
 
 -- a level between two calls: these files and no others, and nothing is pending but on the staged file
 pub record IsLevel (entries : List Entry) (files : List Ltx) (h : History) : Type 0 where

@@ -64,8 +64,7 @@ fn change_in(
 {
     let mut change = Change::new(alloc, page_size, commit);
     add_pages(&mut change, slots.as_mut_slice(), commit)?;
-    // Its pages ascend and are whole, as those of every change.
-    let _ = change.pages();
+    change.sound();
     Ok(change)
 }
 

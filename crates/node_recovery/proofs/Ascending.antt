@@ -13,8 +13,9 @@ use Rattle.txn_log.specs.Kept.{LogFile, file_of, encoding_of, Ascends}
 use Rattle.txn_log.specs.Durable.{IsEncoding, IsLog}
 use Rattle.txn_log.specs.Store.{files_in}
 use Rattle.txn_log.proofs.Stores.{encoding_from}
-use Rattle.node_recovery.specs.Listing.{Has, place_of, same_numbers, AreInOrder, AreOnce, AreListed}
-use Rattle.node_recovery.proofs.Listings.{Found, found}
+use Rattle.lf_disk.proofs.Listings.{order_back, once_back}
+use Rattle.node_recovery.specs.Listing.{numbers_of, AreListed}
+use Rattle.node_recovery.proofs.Listings.{Found, found, Has, place_of, same_numbers, AreInOrder, AreOnce}
 
 -- a file with these numbers is there
 abbrev IsIn : List LogFile → ℕ → ℕ → Type 0
@@ -98,4 +99,4 @@ ascends_listed names f files listed sound log =
       | inl none ↦ absurd (false≢true none)
       | inr there ↦ (there, (bounds 0 files a b sound.ascends there).0)
     ])
-    listed.order listed.once
+    (order_back numbers_of names listed.order) (once_back numbers_of names listed.once)

@@ -59,20 +59,21 @@ pub record Judged (names : List Entry) (f : Folder) (i : ℕ) (entries : List En
   pub are : AreEntries entries (take i (files_in names f))
   pub read : ReadAt names f i last
 
-pub begins : (names : List Entry) (f : Folder) (entries : List Entry) → entries ≡ [] → Judged names f 0 entries None
-begins names f entries none = record {
-  are = record {
-    log = record {
-      ascends = tt;
-      encodings = λ k d within. absurd (omega (arith, within));
-      min = λ k d within. absurd (omega (arith, within));
-      max = λ k d within. absurd (omega (arith, within));
-      follow = λ k d within. absurd (omega (arith, within));
-    };
-    same = sym none;
+-- no entries are those of no files
+pub no_entries : (entries : List Entry) → entries ≡ [] → AreEntries entries []
+no_entries entries none = record {
+  log = record {
+    ascends = tt;
+    encodings = λ k d within. absurd (omega (arith, within));
+    min = λ k d within. absurd (omega (arith, within));
+    max = λ k d within. absurd (omega (arith, within));
+    follow = λ k d within. absurd (omega (arith, within));
   };
-  read = refl;
+  same = sym none;
 }
+
+pub begins : (names : List Entry) (f : Folder) (entries : List Entry) → entries ≡ [] → Judged names f 0 entries None
+begins names f entries none = record { are = no_entries entries none; read = refl }
 
 no_last : (found : Ltx) (files : List LogFile) → fold (λ (_ : Option Ltx) (g : LogFile). Some (file_of g.encoding)) (Some found) files ≡ None → ⊥
 no_last found [] none = absurd (cc)

@@ -8,7 +8,6 @@ mod Judgings
 mod Lasts
 mod Listed
 mod Listings
-mod Once
 mod Openings
 mod Readings
 mod Reopenings

@@ -11,7 +11,8 @@ use Rattle.txn_log.specs.Store.{files_in}
 use Rattle.txn_log.proofs.Naming.{without-none}
 use Rattle.txn_log.proofs.Stores.{encoding_from}
 use Rattle.txn_log.proofs.Puttings.{cases_option}
-use Rattle.node_recovery.specs.Listing.{Has, AreListed}
+use Rattle.node_recovery.specs.Listing.{AreListed}
+use Rattle.node_recovery.proofs.Listings.{Has}
 
 module _ (f : Folder) (a b : ℕ) where
   matches : (e : Entry) → (a == e.min && b == e.max) ≡ true → (e.min ≡ a) × (e.max ≡ b)

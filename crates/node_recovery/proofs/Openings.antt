@@ -31,6 +31,7 @@ use Rattle.node_recovery.specs.Listing.{AreListed}
 use Rattle.node_recovery.specs.Outline.{encoding_under, IsOutlineIn}
 use Rattle.node_recovery.specs.Summing.{restored, restored_image}
 use Rattle.node_recovery.proofs.Finishings.{by_log, by_snapshot, by_mark, one, last, tells_last, encoding_is, log_file}
+use Rattle.node_recovery.proofs.Judgings.{no_entries}
 use Rattle.node_recovery.proofs.Restored.{count}
 
 -- the fields fit together, over any disk
@@ -120,16 +121,7 @@ module _ (encoding : List ℕ) (outline : Outline) (read : IsOutlineIn encoding 
 module _ (names : List Entry) (f : Folder) (entries : List Entry) (tally : Tally) (listed : AreListed names f) where
   tells_none : entries ≡ [] → tally.sums.sums ≡ [] → Tells empty_image [] 0 0 entries tally.sums.sums
   tells_none none no_sums =
-      let are : AreEntries entries [] = record {
-        log = record {
-          ascends = tt;
-          encodings = λ k d within. absurd (omega (arith, within));
-          min = λ k d within. absurd (omega (arith, within));
-          max = λ k d within. absurd (omega (arith, within));
-          follow = λ k d within. absurd (omega (arith, within));
-        };
-        same = sym none;
-      } in
+      let are : AreEntries entries [] = no_entries entries none in
       record { size_is = refl; commit_is = refl; log = are; named = are_named entries [] are; count = long_entries entries [] are; table = no_sums }
 
   -- the fields tell what is left

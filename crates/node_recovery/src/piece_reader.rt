@@ -47,7 +47,9 @@ impl PieceReader {
     ghost use Rattle.node_recovery.specs.Reading.{to_come, IsIn, IsFilled, HasCome, IsOpen, Comes, Ends};
 
     /// Room for files of any page size. No later call takes memory.
-    pub fn new(alloc: Global) -> Result<PieceReader, NoMemory> {
+    pub fn new(alloc: Global) -> Result<PieceReader, NoMemory>
+        ensures { IfOk result (λ reader. reader.buffer.items ≡ []) }
+    {
         Ok(PieceReader {
             decoder: Decoder::new(alloc, LARGEST_PAGE)?,
             buffer: Vec::with_capacity(alloc, LARGEST_PAGE as usize)?,

@@ -8,7 +8,8 @@ use Rattle.node_settings.specs.declared.settings.LeaseSettings.{LeaseSettings}
 use Rattle.node_settings.specs.declared.settings.MountSettings.{MountSettings}
 use Rattle.node_settings.specs.declared.settings.ProxySettings.{ProxySettings}
 use Rattle.node_settings.specs.declared.settings.LeaseType.TheVariants as lease_type
-use Rattle.node_settings.specs.Values.{Holds, HoldsOr, HasOnly, section, IsText, IsPath, IsNameText, IsAddressText, IsTargetText, IsUrlText, IsUrls, IsKeyText, IsSomeOf, IsFlag, IsOff, IsSwitch, IsNumber, IsLeaseType, HasService, HasEtcd, HasTtl}
+use Rattle.node_settings.specs.Values.{Holds, HoldsOr, HasOnly, section, HasService, HasEtcd, HasTtl}
+use Rattle.node_settings.specs.Values.{IsText, IsPath, IsNameText, IsAddressText, IsTargetText, IsUrlText, IsUrls, IsKeyText, IsSomeOf, IsFlag, IsOff, IsSwitch, IsNumber, IsLeaseType}
 
 abbrev pub fuse_keys : List (List ℕ)
 fuse_keys = codes "listen" ∷ codes "dir" ∷ codes "program" ∷ []

@@ -9,7 +9,8 @@ use Rattle.node_settings.specs.declared.place.Place.TheVariants as place
 use Rattle.node_settings.specs.declared.rule.Rule.{Rule}
 use Rattle.node_settings.specs.declared.rule.Rule.TheVariants as rule
 use Rattle.node_settings.specs.Configuration.{etcd_keys, fuse_keys, lease_keys, proxy_keys, root_keys}
-use Rattle.node_settings.specs.Values.{HasOnly, is_among, section, IsText, IsPath, IsNameText, IsAddressText, IsTargetText, IsUrlText, IsUrls, IsKeyText, IsFlag, IsOff, IsSwitch, IsNumber, IsLeaseType}
+use Rattle.node_settings.specs.Values.{HasOnly, is_among, section}
+use Rattle.node_settings.specs.Values.{IsText, IsPath, IsNameText, IsAddressText, IsTargetText, IsUrlText, IsUrls, IsKeyText, IsFlag, IsOff, IsSwitch, IsNumber, IsLeaseType}
 
 -- ---- tables and keys
 

@@ -41,6 +41,7 @@ pub fn read_service_settings(
 fn service_settings(alloc: Global, root: &Table) -> Result<ServiceSettings, SettingsFault>
     ensures { Reads (IsServiceRoot (table_view root.now)) result }
 {
+    // Of what is not kept, the rules alone are asked, in the order in which they stand.
     check_root_keys(root)?;
     let _database = some_database(alloc, root)?;
     let log = log(root)?;
@@ -72,6 +73,7 @@ fn lease_time(alloc: Global, root: &Table) -> Result<u64, SettingsFault>
 fn time_of(alloc: Global, table: Option<&Table>) -> Result<u64, SettingsFault>
     ensures { Reads (IsServiceLease (members_at table.entry)) result }
 {
+    // Of what is not kept, the rules alone are asked, in the order in which they stand.
     check_lease_keys(table)?;
     let _type = kind(table)?;
     let _candidate = candidate(table)?;

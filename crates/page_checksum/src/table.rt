@@ -59,6 +59,7 @@ impl Sums {
         ensures { self.new ≡ with_pages self.old pages }
     {
         let joined = self.joined_to(pages);
+        // There is room, so it is never refused.
         let _ = self.sums.resize(pages as usize, 0);
         self.joined = joined;
     }

@@ -54,7 +54,8 @@ fn close_handle<L: Link>(link: &mut L, closing: &Closing, room: &mut u64)
     ensures { Wrote (closing.now.release ++ closing.now.destroy) (place L.Link link.old room.old) (place L.Link link.new room.new) }
 {
     if say(link, closing.release.as_slice(), room) {
-        let _ = say(link, closing.destroy.as_slice(), room);
+        // It is the last: nothing waits for it.
+        say(link, closing.destroy.as_slice(), room);
     }
 }
 
@@ -70,6 +71,7 @@ fn say<L: Link>(link: &mut L, message: &[u8], room: &mut u64) -> bool
         return false;
     }
     let mut reply = [0u8; HEADER];
+    // Whatever the reply is, or isn't.
     let _ = fill(link, &mut reply, room);
     true
 }

@@ -28,7 +28,8 @@ fn number_at(file: &Blocks, place: u64) -> u32
     ensures { result ≡ le32_at place file.now.bytes }
 {
     let mut field = [0u8; 4];
-    let _all = file.read(place, &mut field);
+    // All four are there.
+    file.read(place, &mut field);
     u32::from_le_bytes(field)
 }
 

@@ -58,7 +58,7 @@ fn joined(before: Option<u64>, len: Option<u64>) -> Option<u64>
 }
 
 /// The number that decimal digits say.
-fn decimal(bytes: &[u8]) -> Option<u64>
+pub fn decimal(bytes: &[u8]) -> Option<u64>
     ensures { result ≡ decimal_of bytes.now }
 {
     if bytes.is_empty() {

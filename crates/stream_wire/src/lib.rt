@@ -30,6 +30,7 @@ pub use call::Call;
 pub use encoding::{encode_frame, encode_ltx_front};
 pub use feed::{Fed, FrameFeed};
 pub use frame::Frame;
+pub use framing::decimal;
 pub use head_reading::{read_request, read_response};
 pub use head_writing::{write_head, write_request, write_typed_head};
 pub use last_file::{LastFile, read_last_file, write_last_file};

@@ -39,7 +39,8 @@ pub record HasStepped {M Q A : Type 0} (steps : M → ℕ → Q → A → M → 
 
 -- some history, which begins with what was seen and has of the seat's number just its own calls, leads to this state
 abbrev pub EndsRun : {M Q A : Type 0} → (M → ℕ → Q → A → M → Type 0) → M → SeatView M Q A → M → Type 0
-EndsRun {M} {Q} {A} steps opened v state = (history : List (Entry Q A)) × Run steps opened history state × StartsWith history v.seen × ((number : ℕ) → v.number ≡ Some number → calls_by number history ≡ v.mine)
+EndsRun {M} {Q} {A} steps opened v state =
+    (history : List (Entry Q A)) × Run steps opened history state × StartsWith history v.seen × ((number : ℕ) → v.number ≡ Some number → calls_by number history ≡ v.mine)
 
 -- the last step had this ask and this answer
 abbrev pub IsLast : {Q A : Type 0} → Option (LastStep Q A) → Q → A → Type 0

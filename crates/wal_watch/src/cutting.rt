@@ -19,7 +19,6 @@ fn marks_within(contents: &Blocks, marks: Option<Marks>, len: usize) -> Option<M
     requires { IsMarked contents.now.bytes marks }
     ensures { IfSome result (AreMarks (resized len contents.now.bytes)) }
 {
-    let _contents = contents;
     let Some(marks) = marks else {
         return None;
     };

@@ -109,6 +109,13 @@ impl WalFile {
         self.contents.has_room(at, count)
     }
 
+    /// What is always true of the room. It does nothing: a caller's proof takes the fact from here.
+    pub fn sound_room(&self, at: u64, count: u64)
+        ensures { IsWithin self.now.room at count → at + count ≤ wal_limit }
+    {
+        self.has_room(at, count);
+    }
+
     /// Sees to it that a write of `count` bytes at a place takes no memory: it takes the blocks of that
     /// range alone, and what taking the write back needs. Where the room doesn't hold the write, it is
     /// given up for room for this write.
@@ -145,7 +152,7 @@ impl WalFile {
         requires { count ≤ wal_limit }
         ensures { self.new ≡ self.old }
     {
-        let _limit = self.contents.len();
+        self.contents.sound();
         let committed = self.committed();
         let lacking = valid_in(self.marks).saturating_sub(self.index.len());
         self.index
@@ -177,7 +184,7 @@ impl WalFile {
         requires { IsSome self.old.before }
         ensures { self.new ≡ undone self.old }
     {
-        let _limit = self.contents.len();
+        self.contents.sound();
         let page_size = page_size_of(self.marks);
         self.index.truncate(&self.contents, page_size, self.shared);
         self.contents.undo();

@@ -13,7 +13,6 @@ pub fn place_of(contents: &Blocks, page_size: u32, frame: usize) -> usize
     requires short { length contents.now.bytes < 2 ^ 62 }
     ensures { result ≡ frame_place contents.now.bytes frame }
 {
-    let _contents = contents;
     HEADER_LENGTH + frame * (24 + page_size as usize)
 }
 

@@ -108,7 +108,7 @@ impl FrameIndex {
         };
         match earlier {
             None => {
-                let _last = self.latest.remove(&page);
+                self.latest.remove(&page);
             }
             Some(frame) => {
                 if let Some(latest) = self.latest.get_mut(&page) {

@@ -30,9 +30,7 @@ pub fn committed_frames_say()
 pub fn scans_go_on(marks: &Marks)
     ensures stay { (old new : List ℕ) → AreMarks old marks.now → take marks.now.last.place new ≡ take marks.now.last.place old → marks.now.last.place ≤ length new → AreMarks new marks.now }
     ensures count { (contents : List ℕ) → AreFinal contents marks.now → marks.now.committed.frames ≡ committed_count contents }
-{
-    let _marks = marks;
-}
+{}
 
 /// A scan that begins behind valid frames of the contents of a log, with the sums there, finds how many frames are
 /// committed in any contents that agrees with it up to there.

@@ -11,7 +11,8 @@ pub fn fill(blocks: &Blocks, place: usize, out: &mut [u8])
     ensures { (len : ℕ) → place + length out.old ≤ len → out.new ≡ take (length out.old) (drop place (resized len blocks.now.bytes)) }
 {
     out.fill(0);
-    let _count = blocks.read(place as u64, out);
+    // However many are there: zeros stand for the others.
+    blocks.read(place as u64, out);
 }
 
 /// The big-endian number of the four bytes from a place on.

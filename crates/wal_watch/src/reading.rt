@@ -63,7 +63,7 @@ impl WalFile {
         ensures { result ≡ last_size (contents_of self.now) }
     {
         let count = self.committed();
-        let _limit = self.contents.len();
+        self.contents.sound();
         if count == 0 {
             0
         } else {
@@ -75,7 +75,7 @@ impl WalFile {
     pub fn has_size(&self, pages: u32) -> bool
         ensures { IsTrue result ↔ (HasSize (contents_of self.now) pages) }
     {
-        let _limit = self.contents.len();
+        self.contents.sound();
         holds_size(&self.contents, self.page_size(), self.committed(), pages)
     }
 
@@ -83,7 +83,7 @@ impl WalFile {
     pub fn has_frame(&self, n: u32, page: &[u8]) -> bool
         ensures { IsTrue result ↔ (HoldsFrame (contents_of self.now) n page.now) }
     {
-        let _limit = self.contents.len();
+        self.contents.sound();
         let page_size = self.page_size();
         if page.len() != page_size as usize {
             return false;
@@ -103,7 +103,7 @@ impl WalFile {
         ensures latest { result ≡ latest_frame (contents_of self.now) n 0 (committed_count (contents_of self.now)) }
         ensures there { IfSome result (λ frame. frame_place (contents_of self.now) (frame + 1) ≤ length (contents_of self.now)) }
     {
-        let _limit = self.contents.len();
+        self.contents.sound();
         let page_size = self.page_size();
         latest_frame(&self.contents, &self.index, page_size, n, self.committed())
     }
@@ -116,7 +116,7 @@ impl WalFile {
         ensures page { IfSome (latest_page (contents_of self.now) n) (λ page. out.new ≡ page) }
         ensures none { IfNone (latest_page (contents_of self.now) n) (out.new ≡ out.old) }
     {
-        let _limit = self.contents.len();
+        self.contents.sound();
         match self.latest_frame(n) {
             None => false,
             Some(frame) => {

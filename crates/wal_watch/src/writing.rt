@@ -56,7 +56,7 @@ impl WalFile {
     fn news(&self, alloc: Global, first: usize) -> Result<WalNews, NoMemory>
         ensures { IfOk result (λ news. news_change news ≡ change_from first (contents_of self.now)) }
     {
-        let _limit = self.contents.len();
+        self.contents.sound();
         news_from(
             alloc,
             &self.contents,

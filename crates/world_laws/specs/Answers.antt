@@ -17,7 +17,8 @@ use Rattle.lf_sqlite_pages.specs.Writes.{data_writes}
 use Rattle.world_laws.specs.declared.last_file.LastFile.{LastFile}
 use Rattle.world_laws.specs.declared.last_file.LastFile.TheVariants as last_file
 use Rattle.world_laws.specs.Lineage.{whole_file}
-use Rattle.world_laws.specs.Node.{Answer, Applied, Ask, BadFile, Broken, Disk, Done, Drop, File, Forward, Forwarded, Frame, Gone, Halted, Held, Hello, Item, Level, Limit, NoMemory, NodeState, NotNext, NotPrimary, NotReplica, PageSize, Primary, Refusal, Refused, Role, Send, SumDiffers}
+use Rattle.world_laws.specs.Node.{NodeState, Role, Primary, Item, File, Frame, Level, Ask, Hello, Drop, Forward, Answer, Done, Applied, Forwarded, Send, Held, Gone, Halted}
+use Rattle.world_laws.specs.Node.{Refusal, Refused, BadFile, Broken, Disk, Limit, NoMemory, NotNext, NotPrimary, NotReplica, PageSize, SumDiffers}
 use Rattle.world_laws.specs.Served.{HoldsBack}
 use Rattle.world_laws.specs.Store.{Apply, Commit, DropAll, Failure, Install, StoreCall, StoreState, at}
 

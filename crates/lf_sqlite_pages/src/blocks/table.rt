@@ -1,6 +1,7 @@
 //! Blocks in a row, seen as one run of bytes: a byte of a block that isn't kept is 0.
 ghost use Rattle.std.specs.Prelude.{◌≡◌, ◌+◌, ◌-◌, ◌%◌, ◌<◌, ◌≤◌, ◌^◌, ℕ, length, max, slice_index, vec_len, vec_capacity, ◌⊎◌, ◌↔◌, IsTrue, IfOk};
-ghost use Rattle.lf_sqlite_pages.specs.BlockTable.{block_size, blocks_in, block_at, byte_in, kept_in, AreKept, IsPut, IsReady, IsWhole, IsBlank, IsFilled, IsGivenBack, IsReleased, IsRead, IsSaved, IsTable, IsCut, HoldsAll};
+ghost use Rattle.lf_sqlite_pages.specs.BlockTable.{block_size, blocks_in, block_at, byte_in, kept_in};
+ghost use Rattle.lf_sqlite_pages.specs.BlockTable.{AreKept, IsPut, IsReady, IsWhole, IsBlank, IsFilled, IsGivenBack, IsReleased, IsRead, IsSaved, IsTable, IsCut, HoldsAll};
 
 use crate::blocks::block::{BLOCK_SIZE, Block, is_blank};
 use lf_base::NoMemory;

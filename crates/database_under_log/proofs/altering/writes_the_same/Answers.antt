@@ -49,6 +49,6 @@ loop-at-preserved g c =
 
 pub returns-clause-told : goal.returns-clause-told
 returns-clause-told g c =
-    told-same (g.S.PageStore.image c.args.base.now) c.args.change.now (g.S.PageStore.page_size c.args.base.now) (g.S.PageStore.commit c.args.base.now) c.loop-at.at c.commit-commit.ensures.valid
-    (rw (← c.page_size-page_size.ensures.value) c.page_size-page_size.ensures.told) (rw (← c.commit-commit.ensures.value) c.commit-commit.ensures.told) c.requires.count c.requires.sized
+    told-same (g.S.PageStore.image c.args.base.now) c.args.change.now (g.S.PageStore.page_size c.args.base.now) (g.S.PageStore.commit c.args.base.now) c.loop-at.at c.sound_store.ensures.valid
+    c.sound_store.ensures.page_size c.sound_store.ensures.commit c.requires.count c.requires.sized
     (rw (← c.pages-pages.ensures.value) c.loop-at-test.false) c.loop-at.invariant.there

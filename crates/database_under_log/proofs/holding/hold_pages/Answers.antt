@@ -37,7 +37,7 @@ loop-at-init g c = record {
   low = λ k d low inside. none-below c.args.held.now.same.items _ c.requires.same;
   few = none-below c.args.held.now.same.items _ c.requires.same;
   told = told-start (g.S.PageStore.image c.args.base.now) c.args.file.now c.args.held.now.same.items c.args.change.now (g.S.PageStore.page_size c.args.base.now) (g.S.PageStore.commit c.args.base.now)
-      c.requires.same c.requires.fits (rw (← c.page_size-page_size.ensures.value) c.page_size-page_size.ensures.told) (rw (← c.commit-commit.ensures.value) c.commit-commit.ensures.told)
+      c.requires.same c.requires.fits (c.sound_store.ensures.page_size) (rw (← c.commit-commit.ensures.value) c.commit-commit.ensures.told)
       c.commit-commit.ensures.valid c.requires.sized c.requires.complete;
 }
 
@@ -138,7 +138,7 @@ loop-before-preserved g c =
     let many : count_over c.loop-before.file (g.S.PageStore.commit c.args.base.now) ≡ count_over c.args.file.now (g.S.PageStore.commit c.args.base.now) =
     ap (λ (o : Option ℕ). unwrap_or o (g.S.PageStore.commit c.args.base.now)) c.loop-before.invariant.count_is in
     let lock : c.lock_page-lock_page.result ≡ lock_page_of c.args.change.now.page_size = search rules in
-    let told1 : IfSome (g.S.PageStore.image c.args.base.now) (λ (i : DatabaseImage). g.S.PageStore.page_size c.args.base.now ≡ i.page_size) = rw (← c.page_size-page_size.ensures.value) c.page_size-page_size.ensures.told in
+    let told1 : IfSome (g.S.PageStore.image c.args.base.now) (λ (i : DatabaseImage). g.S.PageStore.page_size c.args.base.now ≡ i.page_size) = c.sound_store.ensures.page_size in
     let told2 : IfSome (g.S.PageStore.image c.args.base.now) (λ (i : DatabaseImage). g.S.PageStore.commit c.args.base.now ≡ length i.pages) = rw (← c.commit-commit.ensures.value) c.commit-commit.ensures.told in
     elim c.if-before-lock_page.branch [
       | then-before-lock_page+in_ok-hold-2 w ↦
@@ -181,7 +181,7 @@ loop-before-preserved g c =
 
 pub returns-clause-told : goal.returns-clause-told
 returns-clause-told g c =
-    let told1 : IfSome (g.S.PageStore.image c.args.base.now) (λ (i : DatabaseImage). g.S.PageStore.page_size c.args.base.now ≡ i.page_size) = rw (← c.page_size-page_size.ensures.value) c.page_size-page_size.ensures.told in
+    let told1 : IfSome (g.S.PageStore.image c.args.base.now) (λ (i : DatabaseImage). g.S.PageStore.page_size c.args.base.now ≡ i.page_size) = c.sound_store.ensures.page_size in
     let told2 : IfSome (g.S.PageStore.image c.args.base.now) (λ (i : DatabaseImage). g.S.PageStore.commit c.args.base.now ≡ length i.pages) = rw (← c.commit-commit.ensures.value) c.commit-commit.ensures.told in
     told-end (g.S.PageStore.image c.args.base.now) c.args.file.now c.loop-before.file c.loop-before.held.same.items c.args.change.now c.loop-before.before
     (g.S.PageStore.page_size c.args.base.now) (g.S.PageStore.commit c.args.base.now) told1 told2 c.loop-before.invariant.page_size c.requires.sized c.loop-before.invariant.few c.loop-before.invariant.from

@@ -37,5 +37,5 @@ loop-before-preserved c =
 pub returns : goal.returns
 returns c = λ ws writes.
     over-all (joined_page ws (contents_of c.args.log.now) c.args.count) (joined ws (contents_of c.args.log.now) c.args.count) c.loop-before.change c.loop-before.before
-    (c.loop-before.invariant.size ∙ c.requires.size) (c.loop-before.invariant.commit ∙ c.requires.commit) c.pages-valid.ensures.valid
+    (c.loop-before.invariant.size ∙ c.requires.size) (c.loop-before.invariant.commit ∙ c.requires.commit) c.sound.ensures
     (c.loop-before.invariant.writes ws writes) (search rules)

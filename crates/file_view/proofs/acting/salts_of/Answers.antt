@@ -12,4 +12,4 @@ returns c =
     (λ less. absurd (let none = c.committed_frames_say.ensures.short (contents_of c.args.log.now) less in omega (arith, none, c.requires)))
     (λ more. more)
     (cases_lt (length (contents_of c.args.log.now)) 32) in
-    salts_read _ _ _ _ refl long c.read-all.ensures
+    salts_read _ _ _ _ refl long c.read.ensures

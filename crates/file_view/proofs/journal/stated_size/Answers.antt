@@ -7,4 +7,4 @@ use Rattle.file_view.proofs.journal.stated_size.Goals as goal
 
 pub returns : goal.returns
 unfolding be32_at
-returns c = c.from_be_bytes.ensures ∙ ap (from_be_bytes w32) (size_read c.args.file.now.file _ _ _ refl c.requires c.read-all.ensures)
+returns c = c.from_be_bytes.ensures ∙ ap (from_be_bytes w32) (size_read c.args.file.now.file _ _ _ refl c.requires c.read.ensures)

@@ -3,7 +3,6 @@ use Rattle.std.proofs.Common.{◌<◌, ◌∙◌, sym, ap, subst, ℕ, Option, a
 use Rattle.lf_base.specs.FileBytes.{written}
 use Rattle.lf_sqlite_pages.specs.Change.{PageChange}
 use Rattle.lf_sqlite_pages.specs.Image.{DatabaseImage}
-use Rattle.lf_sqlite_pages.specs.PageSize.{IsPageSize}
 use Rattle.wal_watch.specs.File.{contents_of}
 use Rattle.wal_watch.specs.Frames.{committed_count}
 use Rattle.file_view.specs.HeldParts.{IsSettled}
@@ -16,7 +15,7 @@ settle_commit-requires-clause-sized g c = λ many.
     let base = c.in_ok-prepare_log_write.ensures.base in
     let some : 0 < committed_count (written c.args.at c.args.bytes.now (contents_of c.args.log.now)) = omega (arith, ready.more) in
     let size = step-sized (contents_of c.args.log.now) c.args.bytes.now (g.S.PageStore.page_size c.args.base.now) (g.S.PageStore.commit c.args.base.now) c.args.at c.requires.sound
-    (subst (λ (n : ℕ). 0 < n → IsPageSize (g.S.PageStore.page_size c.args.base.now)) c.commit-commit.ensures.value c.commit-commit.ensures.sized) some (omega (arith, many, base.commit)) in
+    c.sound_store.ensures.sized some (omega (arith, many, base.commit)) in
     base.page_size ∙ sym size ∙ sym (ap (λ (x : PageChange). x.page_size) ready.change)
 
 pub returns-in-Stored-clause-done : goal.returns-in-Stored-clause-done
@@ -38,4 +37,4 @@ returns-in_ok-settled-in-Waiting-clause-done g c =
     settled (g.S.PageStore.image c.args.base.now) (g.S.PageStore.page_size c.args.base.now) (g.S.PageStore.commit c.args.base.now) c.args.at c.args.bytes.now
     c.args.file.now c.prepare_log_write.new.file c.settle_commit.new.file c.args.log.now c.prepare_log_write.new.log c.settle_commit.new.log c.in-Waiting.commit c.in_ok-settled-in-Waiting.settled
     ready.0 ready.1 c.requires.header c.requires.sound
-    (subst (λ (n : ℕ). 0 < n → IsPageSize (g.S.PageStore.page_size c.args.base.now)) c.commit-commit.ensures.value c.commit-commit.ensures.sized) told two
+    c.sound_store.ensures.sized told two

@@ -3,4 +3,4 @@ use Rattle.lf_sqlite_pages.proofs.Tables.{map_of-remove}
 use Rattle.lf_sqlite_pages.proofs.table.remove.Goals as goal
 
 pub returns-clause-pages : goal.returns-clause-pages
-returns-clause-pages c = map_of-remove c.args.table.now.entries c.remove-removed.new.self.entries c.args.n c.remove-removed.ensures.updates.0
+returns-clause-pages c = map_of-remove c.args.table.now.entries c.remove.new.self.entries c.args.n c.remove.ensures.updates.0

@@ -2,7 +2,8 @@
 use Rattle.std.proofs.Common.{◌<◌, get_or, arith, refl, ap, ◌∙◌}
 use Rattle.lf_sqlite_pages.specs.Change.{PageChange}
 use Rattle.lf_sqlite_pages.proofs.Numbers.{Ascends}
-use Rattle.database_file.proofs.KeyLemmas.{Ascends-keys, Ascends-later}
+use Rattle.lf_sqlite_pages.proofs.TableNumbers.{Ascends-keys}
+use Rattle.database_file.proofs.KeyLemmas.{Ascends-later}
 use Rattle.database_file.proofs.KeptLemmas.{writes-none, writes-next, writes-all, first-key, same_change}
 use Rattle.database_file.proofs.database_file.DatabaseFile.push_all.Goals as goal
 
@@ -32,4 +33,4 @@ pub returns : goal.returns
 returns c =
     same_change c.loop-at.change c.args.change.now.page_size c.args.change.now.commit _ c.loop-at.invariant.size c.loop-at.invariant.commit
     (writes-all c.args.self.now c.args.change.now.commit c.loop-at.at c.args.numbers.now c.loop-at.change c.requires.numbers c.loop-at-test.false
-    c.loop-at.invariant.writes c.pages-valid.ensures.valid c.loop-at.invariant.commit)
+    c.loop-at.invariant.writes c.sound.ensures c.loop-at.invariant.commit)

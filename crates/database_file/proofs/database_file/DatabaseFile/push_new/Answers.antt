@@ -19,5 +19,5 @@ loop-before-preserved c =
 pub returns : goal.returns
 returns c =
     over-all (change_page c.args.self.now c.args.news.now c.args.commit) c.args.news.now c.loop-before.change c.loop-before.before
-    (c.loop-before.invariant.size ∙ c.requires.size) (c.loop-before.invariant.commit ∙ c.requires.count) c.pages-valid.ensures.valid
+    (c.loop-before.invariant.size ∙ c.requires.size) (c.loop-before.invariant.commit ∙ c.requires.count) c.sound.ensures
     c.loop-before.invariant.writes (search rules)

@@ -1,41 +1,7 @@
--- One page of the log more.
-use Rattle.std.proofs.Common.{◌≡◌, ◌<◌, take, get_or, rules, arith, refl, ap, ◌∙◌}
-use Rattle.lf_sqlite_pages.specs.Change.{PageChange, AscendsAbove, written}
-use Rattle.database_file.specs.CommitParts.{WritesTo}
-use Rattle.database_file.proofs.WalLemmas.{within-none, within-next, within-all, numbers-later, above-none, element-same}
+-- Within the image the change writes what the log does.
+use Rattle.database_file.proofs.WalLemmas.{within-all}
 use Rattle.database_file.proofs.database_file.DatabaseFile.push_old.Goals as goal
-
-pub loop-at-init : goal.loop-at-init
-loop-at-init c = record {
-  size = refl;
-  commit = refl;
-  last = rw c.requires.empty (omega arith);
-  below = λ k d low inside. rw c.requires.empty
-      (rw c.pages-pages.ensures.value (above-none c.args.news.now k d c.pages-pages.ensures.valid (rw c.pages-pages.ensures.value at inside)));
-  writes = rw c.requires.empty (within-none c.args.commit);
-}
-
-pub loop-at-preserved : goal.loop-at-preserved
-loop-at-preserved c =
-    let rises : AscendsAbove 0 c.pages-pages.result.now = rw c.pages-pages.ensures.value c.pages-pages.ensures.valid.ascending in
-    let w : c.index-pages-at.result ≡ get_or c.pages-pages.result.now c.loop-at.at c.index-pages-at.result = search rules in
-    record {
-      size = ap (λ (x : PageChange). x.page_size) c.in_ok-push_within.ensures.ok ∙ c.loop-at.invariant.size;
-      commit = ap (λ (x : PageChange). x.commit) c.in_ok-push_within.ensures.ok ∙ c.loop-at.invariant.commit;
-      last = c.in_ok-push_within.ensures.low c.loop-at.invariant.last;
-      below = λ k d low inside.
-          let up : (get_or c.pages-pages.result.now c.loop-at.at d).number < (get_or c.pages-pages.result.now k d).number =
-          numbers-later 0 c.pages-pages.result.now rises c.loop-at.at k d (omega (arith, low)) inside in
-          let here : (get_or c.pages-pages.result.now c.loop-at.at d).number ≡ c.index-pages-at.result.number =
-          element-same c.pages-pages.result.now c.loop-at.at d c.index-pages-at.result c.loop-at-test.true w in
-          omega (arith, up, here, c.in_ok-push_within.ensures.last);
-      writes = within-next c.pages-pages.result.now c.loop-at.at c.args.commit c.loop-at.change c.push_within.new.change c.index-pages-at.result c.loop-at-test.true
-          c.loop-at.invariant.writes (rw (← w) c.in_ok-push_within.ensures.ok);
-    }
 
 pub returns-clause-writes : goal.returns-clause-writes
 returns-clause-writes c =
-    let writes : WritesTo (written (take c.loop-at.at c.args.news.now.pages)) c.args.commit c.loop-at.change.pages =
-    rw (← c.pages-pages.ensures.value) c.loop-at.invariant.writes in
-    within-all c.args.self.now c.args.news.now c.loop-at.at c.args.commit c.loop-at.change.pages c.pages-pages.ensures.valid
-    (rw (← c.pages-pages.ensures.value) c.loop-at-test.false) writes
+    within-all c.args.self.now c.args.news.now c.args.commit c.push_within.new.change.pages c.sound.ensures c.in_ok-push_within.ensures.writes

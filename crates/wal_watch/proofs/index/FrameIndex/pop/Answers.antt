@@ -5,7 +5,7 @@ use Rattle.wal_watch.proofs.index.FrameIndex.pop.Goals as goal
 pub returns-in-None-clause-index : goal.returns-in-None-clause-index
 returns-in-None-clause-index c = λ contents h is.
     let e = c.in-Some.ensures in
-    index-less contents c.args.self.now _ c.args.page None h is e.len (rw c.in-None.is at (e.value None c.requires)) e.rest c.remove-last.ensures.updates
+    index-less contents c.args.self.now _ c.args.page None h is e.len (rw c.in-None.is at (e.value None c.requires)) e.rest c.remove.ensures.updates
 
 pub returns-in-Some-get_mut-clause-index : goal.returns-in-Some-get_mut-clause-index
 returns-in-Some-get_mut-clause-index c = λ contents h is.

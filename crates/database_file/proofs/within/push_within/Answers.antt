@@ -1,4 +1,4 @@
--- One page of the news more.
+-- One page of the change more.
 use Rattle.std.proofs.Common.{◌≡◌, ◌<◌, take, get_or, rules, arith, refl, ap, ◌∙◌, List, None}
 use Rattle.std.specs.Prelude.{nat_le, if◌then◌else◌}
 use Rattle.std.proofs.lemmas.List.{take_all}
@@ -6,7 +6,7 @@ use Rattle.lf_sqlite_pages.specs.Change.{PageChange, AscendsAbove, written}
 use Rattle.lf_sqlite_pages.specs.declared.page_write.PageWrite.{PageWrite}
 use Rattle.database_file.specs.CommitParts.{WritesTo}
 use Rattle.database_file.proofs.WalLemmas.{within-none, within-next, numbers-later, above-none, element-same}
-use Rattle.database_under_log.proofs.news.push_within.Goals as goal
+use Rattle.database_file.proofs.within.push_within.Goals as goal
 
 pub loop-at-init : goal.loop-at-init
 loop-at-init c = record {
