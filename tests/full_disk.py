@@ -5,7 +5,10 @@ full is what the application is told, but where SQLite removes the journal at th
 
 At most: 1200 seconds.
 Seen to fail: a node that takes a write without room for done: it doesn't end; one that takes links once its store broke: neither."""
+import contextlib
+import os
 import sqlite3
+import tempfile
 from re import fullmatch
 
 from support import Node, connect, count, fill, holds, in_each_mode, in_mode, insert, run, same, seen_by, small_disk
@@ -45,9 +48,17 @@ def broken(options, mode, breaks, mends):
     same(told, TOLD[mode], 'what the application is told')
 
 
+@contextlib.contextmanager
+def said_elsewhere(folder):
+    """What a node in the folder writes to standard error goes to another disk: on its own there may be no room left for its first line."""
+    with tempfile.NamedTemporaryFile(prefix='litefs-test-') as file:
+        os.symlink(file.name, os.path.join(folder, 'errors'))
+        yield
+
+
 def once_broken(options, mode, breaks, mends):
     """What the application is told."""
-    with small_disk(options) as disk, Node(folder=disk.folder) as node:
+    with small_disk(options) as disk, said_elsewhere(disk.folder), Node(folder=disk.folder) as node:
         made = in_mode(node.socket, mode)
         fill(made, range(-3, 0))
         breaks(disk)

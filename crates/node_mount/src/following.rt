@@ -2,10 +2,11 @@
 ghost use Rattle.lf_base.specs.Faults.{CountsFaults};
 ghost use Rattle.node_mount.specs.Places.{HasSeenNone};
 ghost use Rattle.node_mount.specs.Serving.{CountsStarts};
+ghost use Rattle.turn_desk.specs.Seats.{IsOf};
 
 use crate::frame_notes::{FrameNotes, Replica};
 use crate::hall::{Links, two_holds};
-use crate::hearing::{HeardSeat, follow_heard};
+use crate::hearing::{Hear, Heard, HeardSeat, follow_heard};
 use crate::means::Means;
 use crate::mount_fault::MountFault;
 use crate::notes::Notes;
@@ -18,9 +19,9 @@ use lf_base::{
 };
 use link_session::{Session, Turns};
 use node_core::{Answer, Ask};
-use replica_apply::Doubt;
+use replica_apply::{Doubt, FollowEnd};
 use std::alloc::Global;
-use turn_desk::{Machine, Rest};
+use turn_desk::{Desk, Machine, Rest, Seat};
 
 /// For how many milliseconds a frame that a lock holds back rests at most. The end of the last such lock ends its rest.
 const HELD_MS: u64 = 50;
@@ -195,32 +196,65 @@ fn follow_next<
     streams: &Streams<L>,
     doubt: Doubt,
 ) -> Option<Doubt> {
-    let Some(mut link) = streams.links.take(&means.rt) else {
+    let Some(link) = streams.links.take(&means.rt) else {
         return None;
     };
-    let mut hears = FrameNotes {
-        rt: means.rt,
-        alloc: means.alloc,
-        notes: &streams.notes,
-        replica: Replica::new(),
+    let mut heard = Heard {
+        link,
+        pause: Rest::new(means.rt, &*place.desk, HELD_MS),
+        hears: FrameNotes {
+            rt: means.rt,
+            alloc: means.alloc,
+            notes: &streams.notes,
+            replica: Replica::new(),
+        },
     };
-    let mut rest = Rest::new(means.rt, &*place.desk, HELD_MS);
+    let end = follow_lent(
+        means,
+        &*place.desk,
+        &mut place.seat,
+        &mut heard,
+        &streams.name,
+        doubt.is_unknown(),
+    );
+    streams.notes.ended(&means.rt, end);
+    streams.links.give_back(&means.rt, heard.link);
+    Some(doubt.after(end))
+}
+
+/// Follows the stream on a link to its end, by the seat.
+fn follow_lent<
+    R: Handles + Copy,
+    K: Machine<Ask = Ask, Answer = Answer>,
+    L: Link,
+    C: Clock,
+    P: Pause,
+    W: Pause,
+    H: Hear,
+>(
+    means: &mut Means<R, C, P>,
+    desk: &Desk<K>,
+    seat: &mut Seat<K>,
+    heard: &mut Heard<L, W, H>,
+    name: &Name,
+    unknown: bool,
+) -> FollowEnd
+    requires { IsOf seat.old desk.now }
+    ensures { IsOf seat.new desk.now }
+{
     let rt = means.rt;
     let mut session = Session {
         alloc: means.alloc,
-        link: &mut link,
+        link: &mut heard.link,
         clock: &mut means.clock,
-        pause: &mut rest,
+        pause: &mut heard.pause,
         turns: Turns::new(BUDGET),
     };
     let mut at = HeardSeat {
         rt: &rt,
-        desk: &*place.desk,
-        seat: &mut place.seat,
-        hears: &mut hears,
+        desk,
+        seat,
+        hears: &mut heard.hears,
     };
-    let end = follow_heard(&mut session, &mut at, &streams.name, doubt.is_unknown());
-    streams.notes.ended(&means.rt, end);
-    streams.links.give_back(&means.rt, link);
-    Some(doubt.after(end))
+    follow_heard(&mut session, &mut at, name, unknown)
 }

@@ -1,6 +1,7 @@
 //! One that asks steps, and is heard.
 ghost use Rattle.std.specs.Prelude.{◌≡◌};
 ghost use Rattle.link_session.specs.Seats.{FoundWorn, Gives, HasGoneOn, HasSeen};
+ghost use Rattle.link_session.specs.Sessions.{Borrows};
 ghost use Rattle.link_session.specs.Stands.{stand};
 ghost use Rattle.lf_base.specs.declared.session_end.SessionEnd.TheVariants as session_ends;
 ghost use Rattle.replica_apply.specs.Following.{Follows};
@@ -21,6 +22,12 @@ pub trait Hear {
     fn hear(&mut self, ask: &Ask, answer: &Answer);
 }
 
+/// Which seat, at which desk, and by whom it is heard. It exists in contracts alone.
+pub struct HeardPlace<D> {
+    pub place: SeatPlace<D>,
+    pub hears: u64,
+}
+
 /// A seat at its desk, as one that asks steps. Each ask that is answered is heard.
 #[derive(Drop)]
 pub struct HeardSeat<'r, 'a, 'h, M: Machine, R, H> {
@@ -37,13 +44,13 @@ impl<M: Machine<Ask = Ask, Answer = Answer>, R: Wait + Copy, H: Hear> Steps
 
     type Answer = Answer;
 
-    type Outside = SeatPlace<Desk<M>>;
+    type Outside = HeardPlace<Desk<M>>;
 
     ghost entries = { λ s. (view s.seat.now).mine };
 
     ghost number = { λ s. number_of s.seat.now };
 
-    ghost of = { λ s. record { seat = s.seat.ghost_name; desk = s.desk.now } };
+    ghost of = { λ s. record { place = record { seat = s.seat.ghost_name; desk = s.desk.now }; hears = s.hears.ghost_name } };
 
     ghost goes_on = { λ s. HasSeen M.steps (opened_on s.desk.now) (view s.seat.now).seen };
 
@@ -56,6 +63,14 @@ impl<M: Machine<Ask = Ask, Answer = Answer>, R: Wait + Copy, H: Hear> Steps
         tell(self.hears, ask, &answered);
         answered
     }
+}
+
+/// A link whose session is heard, and the pause of that session.
+#[derive(Drop)]
+pub struct Heard<L, P, H> {
+    pub link: L,
+    pub pause: P,
+    pub hears: H,
 }
 
 /// Lets an ask be heard that was answered.
@@ -85,6 +100,7 @@ pub fn follow_heard<
     ensures history { HasGoneOn M.steps (opened_on at.old.desk.now) (number_of at.new.seat.now) (view at.old.seat.now) (view at.new.seat.now) }
     ensures seat { (at.new.desk.now ≡ at.old.desk.now) × (at.new.seat.ghost_name ≡ at.old.seat.ghost_name)
         × (number_of at.new.seat.now ≡ number_of at.old.seat.now) }
+    ensures borrows { Borrows session.old session.new × (at.new.hears.ghost_name ≡ at.old.hears.ghost_name) }
 {
     // A look at the desk tells that what the seat has seen is the machine's history.
     at.desk.edition(at.seat);
@@ -107,6 +123,7 @@ pub fn serve_heard<
     ensures history { HasGoneOn M.steps (opened_on at.old.desk.now) (number_of at.new.seat.now) (view at.old.seat.now) (view at.new.seat.now) }
     ensures seat { (at.new.desk.now ≡ at.old.desk.now) × (at.new.seat.ghost_name ≡ at.old.seat.ghost_name)
         × (number_of at.new.seat.now ≡ number_of at.old.seat.now) }
+    ensures borrows { Borrows session.old session.new × (at.new.hears.ghost_name ≡ at.old.hears.ghost_name) }
 {
     at.desk.edition(at.seat);
     serve_link(session, at, about)

@@ -1,10 +1,11 @@
 //! HTTP links are accepted by one job, and served by a fixed number of others.
 ghost use Rattle.node_mount.specs.Places.{HasSeenNone};
 ghost use Rattle.node_mount.specs.Serving.{CountsStarts};
+ghost use Rattle.turn_desk.specs.Seats.{IsOf};
 
 use crate::follower_notes::FollowerNotes;
 use crate::hall::{Links, two_holds};
-use crate::hearing::{HeardSeat, serve_heard};
+use crate::hearing::{Hear, Heard, HeardSeat, serve_heard};
 use crate::line::Line;
 use crate::means::Means;
 use crate::mount_fault::MountFault;
@@ -23,7 +24,7 @@ use node_core::{Answer, Ask};
 use std::alloc::Global;
 use std::cell::Cell;
 use stream_primary::{About, Gauge};
-use turn_desk::{Machine, Rest};
+use turn_desk::{Desk, Machine, Rest, Seat};
 
 /// How many HTTP links are served at a time, each stream to a follower among them.
 const JOBS: u32 = 256;
@@ -228,32 +229,57 @@ fn serve_caller<
     C: Clock,
     P: Pause + Copy,
 >(means: &mut Means<R, C, P>, place: &mut Place<K>, about: &About<G>, notes: &Notes, link: L) {
-    let mut link = link;
     let who = peer_line(means.alloc, &link);
     let watches = Cell::new(false);
-    let mut hears = FollowerNotes::new(means.rt, means.alloc, notes, who, &watches);
-    let mut pause = CallPause {
-        rest: Rest::new(means.rt, &*place.desk, LEVEL_MS),
-        nap: means.pause,
-        watches: &watches,
-        tally: &notes.tally,
+    let mut heard = Heard {
+        link,
+        pause: CallPause {
+            rest: Rest::new(means.rt, &*place.desk, LEVEL_MS),
+            nap: means.pause,
+            watches: &watches,
+            tally: &notes.tally,
+        },
+        hears: FollowerNotes::new(means.rt, means.alloc, notes, who, &watches),
     };
+    serve_lent(means, &*place.desk, &mut place.seat, &mut heard, about);
+    heard.hears.end();
+}
+
+/// Serves the one request of a link, by the seat.
+fn serve_lent<
+    R: Handles + Copy,
+    K: Machine<Ask = Ask, Answer = Answer>,
+    G: Gauge,
+    L: Link,
+    C: Clock,
+    P: Pause,
+    W: Pause,
+    H: Hear,
+>(
+    means: &mut Means<R, C, P>,
+    desk: &Desk<K>,
+    seat: &mut Seat<K>,
+    heard: &mut Heard<L, W, H>,
+    about: &About<G>,
+)
+    requires { IsOf seat.old desk.now }
+    ensures { IsOf seat.new desk.now }
+{
     let rt = means.rt;
     let mut session = Session {
         alloc: means.alloc,
-        link: &mut link,
+        link: &mut heard.link,
         clock: &mut means.clock,
-        pause: &mut pause,
+        pause: &mut heard.pause,
         turns: Turns::new(BUDGET),
     };
     let mut at = HeardSeat {
         rt: &rt,
-        desk: &*place.desk,
-        seat: &mut place.seat,
-        hears: &mut hears,
+        desk,
+        seat,
+        hears: &mut heard.hears,
     };
     serve_heard(&mut session, &mut at, about);
-    hears.end();
 }
 
 /// The pause of a session: a commit ends the rest of a follower, and a watcher of events naps by time, so that

@@ -2,6 +2,7 @@
 ghost use Rattle.std.specs.Prelude.{◌≡◌, IfOk};
 ghost use Rattle.lf_base.specs.Faults.{CountsFaults};
 ghost use Rattle.node_mount.specs.Places.{HasSeenNone};
+ghost use Rattle.turn_desk.specs.Seats.{IsOf};
 
 use crate::counted_link::CountedLink;
 use crate::means::Means;
@@ -13,7 +14,7 @@ use file_session::serve_files;
 use lf_base::{Clock, Dialer, Failed, Handles, Link, Name, NoMemory, Pause, Spawner};
 use link_session::{AtSeat, Session, Turns};
 use node_core::{Answer, Ask};
-use turn_desk::{Machine, Rest};
+use turn_desk::{Desk, Machine, Rest, Seat};
 
 /// The turns of a session.
 pub const BUDGET: u64 = 1 << 62;
@@ -96,36 +97,80 @@ impl<L: Link + Drop, U: Link + Drop, T: Dialer<L = U> + Drop> Work for Client<L,
         C: Clock + Copy,
         P: Pause + Copy,
     >(self, means: Means<R, C, P>, place: Place<K>) {
+        let (mut means, mut place) = (means, place);
         let Client { link, writer } = self;
-        let Writer {
-            name,
-            node,
-            mut dialer,
-            tally,
-        } = writer;
-        let mut link = CountedLink::new(link, tally);
-        let (mut seat, mut clock) = (place.seat, means.clock);
-        let mut rest = Rest::new(means.rt, &*place.desk, BUSY_MS);
-        let mut between = Rest::new(means.rt, &*place.desk, BUSY_MS);
-        let mut session = Session {
-            alloc: means.alloc,
-            link: &mut link,
-            clock: &mut clock,
-            pause: &mut rest,
-            turns: Turns::new(BUDGET),
-        };
-        let mut at = AtSeat {
-            rt: &means.rt,
-            desk: &*place.desk,
-            seat: &mut seat,
-        };
-        serve_files(
-            &mut session,
-            &mut at,
-            &name,
-            node,
-            &mut dialer,
-            &mut between,
-        );
+        serve_counted(&mut means, &mut place, link, writer);
     }
+}
+
+/// Serves the files on a link, whose faults are counted.
+fn serve_counted<
+    R: Handles + Copy,
+    K: Machine<Ask = Ask, Answer = Answer>,
+    L: Link + Drop,
+    U: Link + Drop,
+    T: Dialer<L = U> + Drop,
+    C: Clock,
+    P: Pause,
+>(means: &mut Means<R, C, P>, place: &mut Place<K>, link: L, writer: Writer<T>) {
+    let desk = &*place.desk;
+    let mut served = Served {
+        link: CountedLink::new(link, writer.tally),
+        rest: Rest::new(means.rt, desk, BUSY_MS),
+        between: Rest::new(means.rt, desk, BUSY_MS),
+        name: writer.name,
+        node: writer.node,
+        dialer: writer.dialer,
+    };
+    serve_client(means, desk, &mut place.seat, &mut served);
+}
+
+/// A link whose files are served: the pauses of its session, for a lock and between exchanges with the
+/// primary, and as whom it asks that.
+#[derive(Drop)]
+struct Served<L, W, N, T> {
+    link: L,
+    rest: W,
+    between: N,
+    name: Name,
+    node: u64,
+    dialer: ToPrimary<T>,
+}
+
+/// Serves the files on a link by the seat, to the end of the session.
+fn serve_client<
+    R: Handles + Copy,
+    K: Machine<Ask = Ask, Answer = Answer>,
+    L: Link,
+    U: Link + Drop,
+    T: Dialer<L = U>,
+    C: Clock,
+    P: Pause,
+    W: Pause,
+    N: Pause,
+>(means: &mut Means<R, C, P>, desk: &Desk<K>, seat: &mut Seat<K>, served: &mut Served<L, W, N, T>)
+    requires { IsOf seat.old desk.now }
+    ensures { IsOf seat.new desk.now }
+{
+    let rt = means.rt;
+    let mut session = Session {
+        alloc: means.alloc,
+        link: &mut served.link,
+        clock: &mut means.clock,
+        pause: &mut served.rest,
+        turns: Turns::new(BUDGET),
+    };
+    let mut at = AtSeat {
+        rt: &rt,
+        desk,
+        seat,
+    };
+    serve_files(
+        &mut session,
+        &mut at,
+        &served.name,
+        served.node,
+        &mut served.dialer,
+        &mut served.between,
+    );
 }

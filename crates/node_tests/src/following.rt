@@ -170,7 +170,8 @@ fn followed<R: Wait + Copy + Abort>(
     unknown: bool,
 ) -> (FollowEnd, Scripted) {
     let pos = Pos { txid: 0, sum: 0 };
-    let machine = Scripted::new(alloc, Whereabouts { pos, last }, row.script);
+    let script = Vec::from_slice(alloc, row.script).expect(&rt, "memory");
+    let machine = Scripted::new(alloc, Whereabouts { pos, last }, script);
     let (desk, mut seat) = Desk::open(alloc, machine).ok().expect(&rt, "a desk");
     let name = Name::read(alloc, b"app").expect(&rt, "a name");
     let mut session = Session {

@@ -337,7 +337,8 @@ fn served<R: Wait + Copy + Abort>(
     link: &mut MemLink,
     row: &Row,
 ) -> (SessionEnd, Scripted) {
-    let machine = Scripted::new(alloc, file(rt, alloc), row.script);
+    let script = Vec::from_slice(alloc, row.script).expect(&rt, "memory");
+    let machine = Scripted::new(alloc, file(rt, alloc), script);
     let (desk, mut seat) = Desk::open(alloc, machine).ok().expect(&rt, "a desk");
     let about = about(rt, alloc);
     let mut session = Session {

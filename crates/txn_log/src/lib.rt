@@ -2,7 +2,7 @@
 //!
 //! `Durable` in the specifications says which store the files of a folder stand for, `Store` what a
 //! store's fields and its disk stand for, and `Calls` what a call did to it and what a crash leaves
-//! at each moment. Above those, no clause speaks of bytes. `placing` publishes one file and writes
+//! at each moment. Above those, no clause speaks of bytes. `publishing` publishes one file and writes
 //! its change; below it nothing knows a store.
 #![tactic(auto)]
 

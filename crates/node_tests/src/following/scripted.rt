@@ -18,14 +18,14 @@ pub enum Word {
 #[derive(Drop)]
 pub struct Scripted {
     here: Whereabouts,
-    script: &'static [Word],
+    script: Vec<Word>,
     at: usize,
     /// The number of bytes of each file that it was asked, 1 for Where and 0 for a drop.
     pub asked: Vec<u64>,
 }
 
 impl Scripted {
-    pub fn new(alloc: Global, here: Whereabouts, script: &'static [Word]) -> Scripted {
+    pub fn new(alloc: Global, here: Whereabouts, script: Vec<Word>) -> Scripted {
         Scripted {
             here,
             script,
@@ -35,7 +35,7 @@ impl Scripted {
     }
 
     fn next_word(&mut self) -> Answer {
-        let word = self.script.get(self.at);
+        let word = self.script.as_slice().get(self.at);
         self.at = self.at.wrapping_add(1);
         match word {
             Some(Word::Same) => Answer::Same(self.here.pos),

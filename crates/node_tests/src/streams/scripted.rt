@@ -25,12 +25,12 @@ pub enum Word {
 pub struct Scripted {
     alloc: Global,
     file: Vec<u8>,
-    script: &'static [Word],
+    script: Vec<Word>,
     pub asked: Vec<u64>,
 }
 
 impl Scripted {
-    pub fn new(alloc: Global, file: Vec<u8>, script: &'static [Word]) -> Scripted {
+    pub fn new(alloc: Global, file: Vec<u8>, script: Vec<Word>) -> Scripted {
         Scripted {
             alloc,
             file,
@@ -55,7 +55,7 @@ impl Scripted {
     fn hello(&mut self, pos: Pos) -> Answer {
         let at = self.asked.len();
         let _ = self.asked.push(pos.txid);
-        match self.script.get(at) {
+        match self.script.as_slice().get(at) {
             Some(Word::File) => self.next_file(pos),
             Some(Word::Level) => Answer::Level(pos),
             Some(Word::Gone) => Answer::Gone,
