@@ -17,8 +17,9 @@ use crate::sessions::{BUDGET, LINKS};
 use crate::wish::term_after;
 use crate::work::{Work, start_work};
 use lease_core::Grant;
-use lease_link::{KeepEnd, give_up_lease, keep_lease};
+use lease_link::{KeepEnd, Round, give_up_lease, keep_lease};
 use lf_base::{Clock, Closing, Dialer, Handles, Link, Pause, Spawner};
+use link_session::{AtSeat, Turns};
 use node_core::{Answer, Ask, Refusal};
 use std::alloc::Global;
 use std::sync::Wait;
@@ -149,20 +150,22 @@ fn keep<
     keeper: &mut Keeper<T, Q>,
     board: &Board,
 ) -> KeepEnd {
-    let end = keep_lease(
-        means.rt,
-        means.alloc,
-        &*place.desk,
-        &mut place.seat,
-        &ToNode,
-        &mut keeper.dialer,
-        &mut keeper.source,
-        &keeper.own,
-        keeper.wish.asks_to_be(),
-        &mut means.clock,
-        &mut means.pause,
-        BUDGET,
-    );
+    let candidate = keeper.wish.asks_to_be();
+    let rt = means.rt;
+    let mut at = AtSeat {
+        rt: &rt,
+        desk: &*place.desk,
+        seat: &mut place.seat,
+    };
+    let mut round = Round {
+        alloc: means.alloc,
+        dialer: &mut keeper.dialer,
+        service: &mut keeper.source,
+        clock: &mut means.clock,
+        pause: &mut means.pause,
+        turns: Turns::new(BUDGET),
+    };
+    let end = keep_lease(&mut at, &mut round, &ToNode, &keeper.own, candidate);
     post(&means.rt, means.alloc, board, &keeper.own, &end);
     keeper.wish = keeper.wish.after(keeper.own.term, &end);
     keeper.own.term = term_after(keeper.own.term, &end);
@@ -187,18 +190,21 @@ fn give_up<
     C: Clock,
     P: Pause,
 >(means: &mut Means<R, C, P>, place: &mut Place<K>, keeper: &mut Keeper<T, Q>) {
-    let _ = give_up_lease(
-        means.rt,
-        means.alloc,
-        &*place.desk,
-        &mut place.seat,
-        &ToNode,
-        &mut keeper.dialer,
-        &mut keeper.source,
-        &keeper.own,
-        &mut means.clock,
-        BUDGET,
-    );
+    let rt = means.rt;
+    let mut at = AtSeat {
+        rt: &rt,
+        desk: &*place.desk,
+        seat: &mut place.seat,
+    };
+    let mut round = Round {
+        alloc: means.alloc,
+        dialer: &mut keeper.dialer,
+        service: &mut keeper.source,
+        clock: &mut means.clock,
+        pause: &mut means.pause,
+        turns: Turns::new(BUDGET),
+    };
+    let _ = give_up_lease(&mut at, &mut round, &ToNode, &keeper.own);
 }
 
 /// Prunes the log to its newest files. Answers whether the store is broken.
