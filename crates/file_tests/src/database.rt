@@ -2,12 +2,12 @@
 ghost use Rattle.std.specs.Prelude.{◌≡◌, vec_len, None, false, true};
 ghost use Rattle.database_file.specs.DatabaseFile.{FitsShape};
 
-use crate::same::same;
 use database_file::{DatabaseFile, FileFault, are_data_pages};
 use lf_base::Failed;
 use lf_sqlite_pages::{Change, Image, PageStore};
 use std::alloc::Global;
 use std::process::Abort;
+use test_base::same;
 
 /// A page of 512 bytes that repeats a byte.
 fn page_of<R: Copy + Abort>(rt: R, alloc: Global, byte: u8) -> Vec<u8>

@@ -1,6 +1,5 @@
 //! Handles by number, the names of files, and texts.
 
-use crate::same::same;
 use byte_locks::FileKind;
 use file_handles::{
     Handles, ROOT, copied_from, file_at, file_named, node_of, position_line, with_newline,
@@ -8,6 +7,7 @@ use file_handles::{
 use lf_base::{Name, Pos};
 use std::alloc::Global;
 use std::process::Abort;
+use test_base::same;
 
 /// Handles of a session in which each number is open on a journal.
 fn filled<R: Copy + Abort>(rt: R, alloc: Global) -> Handles {

@@ -1,8 +1,8 @@
 //! The header of an index, byte by byte but for its sums, and short files.
 
-use crate::same::same;
 use shm_index::SharedMemory;
 use std::process::Abort;
+use test_base::same;
 
 /// The four bytes at a place.
 fn field(shared: &SharedMemory, at: u64) -> [u8; 4] {

@@ -1,10 +1,10 @@
 //! Journals that SQLite wrote, and what finishes them.
 ghost use Rattle.std.specs.Prelude.{IsSome};
 
-use crate::same::same;
 use journal_watch::{JOURNAL_LIMIT, JournalFault, JournalFile};
 use std::alloc::Global;
 use std::process::Abort;
+use test_base::same;
 
 /// First bytes of journals that SQLite 3.40.1 wrote for a database of 512-byte pages:
 /// `PRAGMA synchronous=FULL` after its first sync, `OFF`, `FULL` before its first sync, and

@@ -17,6 +17,4 @@ mod log;
 #[cfg(test)]
 mod messages;
 #[cfg(test)]
-mod same;
-#[cfg(test)]
 mod under_log;

@@ -1,8 +1,8 @@
 //! Which locks a range of bytes touches, and who is granted what.
 
-use crate::same::same;
 use byte_locks::{FileKind, LockId, LockKind, LockSet, LockTable, Owner, SetFault, locks_of};
 use std::process::Abort;
+use test_base::same;
 
 const ORDER: [LockId; 13] = [
     LockId::Pending,

@@ -9,9 +9,9 @@ mod rows;
 
 use crate::log::logs::{LOGS, Log};
 use crate::log::pages::{first_page, second_page};
-use crate::same::same;
 use std::alloc::Global;
 use std::process::Abort;
+use test_base::same;
 use wal_watch::{WalFault, WalFile, WalNews};
 
 /// A file without bytes.

@@ -3,12 +3,12 @@
 ghost use Rattle.std.specs.Prelude.{IsSome, length};
 ghost use Rattle.lf_sqlite_pages.specs.Blocks.{IsWithin};
 
-use crate::same::same;
 use database_file::DatabaseFile;
 use database_under_log::{LogCommit, LogWrite, LogWriteFault, finish_log_write, prepare_log_write};
 use lf_sqlite_pages::Image;
 use std::alloc::Global;
 use std::process::Abort;
+use test_base::same;
 use wal_watch::WalFile;
 
 /// The header, page size 4,096, and the head of a frame of page 1 that commits 1 page of zeros.

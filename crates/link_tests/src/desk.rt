@@ -6,12 +6,12 @@ ghost use Rattle.turn_desk.specs.Seats.{view, number_of, opened_on, IsOf};
 
 mod busy;
 
-use crate::same::{holds, same};
 use std::alloc::Global;
 use std::process::Abort;
 use std::sync::{Arc, Wait};
 use std::thread;
 use std::thread::Threads;
+use test_base::{holds, same};
 use turn_desk::{Desk, Machine, Seat};
 
 // A part of the machine that is a parameter, as a disk is of a node.

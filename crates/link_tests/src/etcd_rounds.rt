@@ -11,7 +11,6 @@ mod renewing;
 
 use crate::etcd_texts::{KEY, with_header, with_result};
 use crate::exchange::link_of;
-use crate::same::same;
 use etcd_lease::{EtcdService, EtcdSettings, Held, Noting};
 use lease_core::LeaseAsk;
 use lease_link::{Learned, Service, Unlearned};
@@ -19,6 +18,7 @@ use lf_base::{Clock, Handles, MemDialer, MemLink, Text, Watch};
 use link_session::Turns;
 use std::alloc::Global;
 use std::process::Abort;
+use test_base::same;
 
 /// The moment before each round.
 const NOW: u64 = 1_000_000;

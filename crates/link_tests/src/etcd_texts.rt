@@ -1,11 +1,11 @@
 //! Texts between a node and etcd: the bodies of calls, and what replies say.
 //!
 //! The texts of replies are those that Debian's etcd 3.4.23 wrote to curl.
-use crate::same::same;
 use etcd_wire::{Call, Said, body_of, coded, read_said};
 use lf_base::{Bytes, Text};
 use std::alloc::Global;
 use std::process::Abort;
+use test_base::same;
 
 /// `litefs/db/primary`, by Python's `base64`.
 pub const KEY: &str = "bGl0ZWZzL2RiL3ByaW1hcnk=";

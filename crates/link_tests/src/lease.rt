@@ -1,11 +1,11 @@
 //! Leases granted and believed, and the texts between the service and a node.
-use crate::same::same;
 use lease_core::{
     Belief, BodyFault, LeaseFault, LeaseTable, read_body, read_reply, write_ask, write_body,
 };
 use lf_base::Text;
 use std::alloc::Global;
 use std::process::Abort;
+use test_base::same;
 
 /// The term and the end that a node is granted.
 fn acquired(

@@ -1,8 +1,8 @@
 //! The wait of a lease service, by a clock that goes on with each nap.
-use crate::same::same;
 use lease_link::Waited;
 use lf_base::{Clock, Pause};
 use std::sync::atomic::{AtomicU64, Ordering};
+use test_base::same;
 
 /// A clock that says what the naps have come to.
 #[derive(Drop)]

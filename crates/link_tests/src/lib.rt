@@ -20,8 +20,6 @@ mod lease_rounds;
 #[cfg(test)]
 mod lease_waits;
 #[cfg(test)]
-mod same;
-#[cfg(test)]
 mod session;
 #[cfg(test)]
 mod settings;

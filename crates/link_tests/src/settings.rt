@@ -1,11 +1,11 @@
 //! Texts of configurations, with what they say or that they are refused.
-use crate::same::{holds, same};
 use node_settings::{
     Complaint, LeaseType, ServiceSettings, Settings, SettingsRefusal, read_service_settings,
     read_settings, read_static_settings,
 };
 use std::alloc::Global;
 use std::process::Abort;
+use test_base::{holds, same};
 
 /// The keys that are required.
 const REQUIRED: &str =

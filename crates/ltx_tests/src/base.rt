@@ -1,7 +1,6 @@
 mod fakes;
 mod outside;
 
-use crate::same::same;
 use lf_base::{
     Bytes, Name, NameFault, Pos, Sink, SliceSource, Source, Status, Text, VecSink, be16_at,
     be32_at, be64_at, hex16, le16_at, le16_bytes, le32_at, le32_bytes, le64_at, le64_bytes,
@@ -9,6 +8,7 @@ use lf_base::{
 };
 use std::alloc::Global;
 use std::process::Abort;
+use test_base::same;
 
 const AT_ONE: &[u8; 33] = b"0000000000000001/efb1f44fecd99000";
 

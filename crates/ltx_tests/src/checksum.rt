@@ -1,5 +1,5 @@
-use crate::same::same;
 use page_checksum::{Sums, crc64, page_sum};
+use test_base::same;
 
 /// The check values of CRC-64/GO-ISO that its catalogue and Go's tests give.
 #[test]

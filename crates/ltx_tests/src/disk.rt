@@ -2,13 +2,13 @@ mod crashes;
 mod handles;
 mod parts;
 
-use crate::same::same;
 use lf_base::Failed;
 use lf_disk::{DirDisk, Disk, FileName, MemDisk};
 use std::alloc::Global;
 use std::fs::{self, File};
 use std::process::Abort;
 use std::rt::Files;
+use test_base::same;
 
 const DATABASE: FileName = FileName::Database;
 

@@ -19,6 +19,4 @@ mod forward;
 #[cfg(test)]
 mod pages;
 #[cfg(test)]
-mod same;
-#[cfg(test)]
 mod sample;

@@ -2,7 +2,6 @@ ghost use Rattle.std.specs.Prelude.{◌≡◌};
 
 mod blocks;
 
-use crate::same::{same, same_at};
 use lf_base::Bytes;
 use lf_sqlite_pages::{
     Change, Image, Overlay, PageStore, header_pages, is_page_size, is_wal, is_within_limit,
@@ -10,6 +9,7 @@ use lf_sqlite_pages::{
 };
 use std::alloc::Global;
 use std::process::Abort;
+use test_base::{same, same_at};
 
 fn page(byte: u8) -> [u8; 512] {
     [byte; 512]

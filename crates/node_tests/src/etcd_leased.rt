@@ -1,7 +1,6 @@
 //! A node with a lease by etcd, of which a thread plays the one endpoint that answers over the system's sockets.
 
 use crate::leased::{remove_socket, request_on};
-use crate::same::same;
 use lf_base::{Closing, Handles, SliceSource};
 use node_mount::{SystemMaker, mount};
 use std::alloc::Global;
@@ -9,6 +8,7 @@ use std::io::Write;
 use std::net::{TcpListener, TcpStream};
 use std::process::Abort;
 use std::thread;
+use test_base::same;
 
 /// The paths of calls, and a letter for each.
 const CALLS: [(&str, u8); 5] = [

@@ -1,6 +1,5 @@
 //! Nodes with a lease service, which a thread plays over the system's sockets: what they ask it, and whom they dial.
 
-use crate::same::same;
 use lf_base::{Closing, Handles, SliceSource};
 use node_mount::{System, SystemMaker, mount};
 use std::alloc::Global;
@@ -8,6 +7,7 @@ use std::io::{Read, Write};
 use std::net::{TcpListener, TcpStream};
 use std::process::Abort;
 use std::{fs, thread};
+use test_base::same;
 
 /// The words that tell requests to the service apart, and a letter for each.
 const ASKS: [(&str, u8); 4] = [

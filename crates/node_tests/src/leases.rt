@@ -5,11 +5,11 @@ pub mod client;
 pub mod node;
 pub mod session;
 
-use crate::same::same;
 use client::{Deed, Told, ask_of, told_of};
 use node::{close, open};
 use std::alloc::Global;
 use std::process::Abort;
+use test_base::same;
 use turn_desk::Machine;
 
 /// What is asked at a moment, and the answer.

@@ -2,13 +2,13 @@ ghost use Rattle.std.specs.Prelude.{All};
 ghost use Rattle.node_mount.specs.MemMaker.{IsNewDisk, IsNewDoor};
 
 use crate::asking::asked_at;
-use crate::same::same;
 use lf_base::{FixedClock, ListAcceptor, Name, Text};
 use lf_disk::MemDisk;
 use node_mount::{Maker, MemMaker, MemParts, Returned};
 use std::alloc::Global;
 use std::net::{TcpListener, TcpStream};
 use std::process::Abort;
+use test_base::same;
 
 #[tactic(auto, using(node_mount::proofs::DiskLemmas::rests))]
 fn one_disk(rt: impl Copy + Abort, alloc: Global) -> Vec<MemDisk>

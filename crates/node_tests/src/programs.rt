@@ -1,12 +1,12 @@
 //! A node over memory whose files are mounted by a program.
 use crate::asking::asked_at;
 use crate::mounted::{PRIMARY, STARTED, empty_disk, no_links, one_spawner};
-use crate::same::same;
 use lf_base::{Errno, FixedClock, SliceSource};
 use node_mount::{MemMaker, MemParts, MemProgram, ProgramEnd, mount};
 use std::alloc::Global;
 use std::net::{TcpListener, TcpStream};
 use std::process::Abort;
+use test_base::same;
 
 /// What stands in front of a primary's configuration, what becomes of its program at the one look that is made, and
 /// what is told of it.

@@ -1,10 +1,10 @@
-use crate::same::same;
 use lf_base::{Closing, Name, Text};
 use node_mount::{Maker, System, SystemMaker};
 use std::fs;
 use std::net::{TcpListener, TcpStream};
 use std::os::unix::net::UnixListener;
 use std::process::{Abort, ChildStderr, ChildStdin, ChildStdout, SystemProcess};
+use test_base::same;
 
 fn maker<R: System + Abort>(rt: R) -> SystemMaker<R> {
     let closing = Closing::new(rt.alloc()).expect(&rt, "memory");

@@ -7,9 +7,9 @@ use crate::log::frames::{
     SMALL_HEADER, THIRD, ZEROS,
 };
 use crate::log::{empty, write};
-use crate::same::same;
 use std::alloc::Global;
 use std::process::Abort;
+use test_base::same;
 use wal_watch::{WalFault, WalFile};
 
 /// What a write writes.

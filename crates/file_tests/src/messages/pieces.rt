@@ -4,10 +4,10 @@ ghost use Rattle.std.specs.Prelude.{◌≡◌, false};
 ghost use Rattle.fuse_msgs.specs.Feed.{is_whole};
 
 use crate::messages::{hex, put, read_request};
-use crate::same::same;
 use fuse_msgs::{BadMessage, Fed, MessageFeed};
 use std::alloc::Global;
 use std::process::Abort;
+use test_base::same;
 
 /// READ, DESTROY and the first ten bytes of READ.
 fn stream<R: Copy + Abort>(rt: R, alloc: Global) -> Vec<u8> {

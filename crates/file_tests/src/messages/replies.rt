@@ -5,9 +5,9 @@ ghost use Rattle.std.specs.Prelude.{◌<◌};
 ghost use Rattle.fuse_msgs.specs.Reply.{IsReply};
 
 use crate::messages::{hex, put};
-use crate::same::same;
 use fuse_msgs::{LockWish, Reply, encode};
 use lf_base::Errno;
+use test_base::same;
 
 const UNIQUE: u64 = 0x1122_3344_5566_7788;
 

@@ -5,9 +5,9 @@
 ghost use Rattle.std.specs.Prelude.{◌<◌};
 
 use crate::messages::{hex, printed, with_len};
-use crate::same::same;
 use std::alloc::Global;
 use std::process::Abort;
+use test_base::same;
 
 /// A message, and how what is read of it prints; the same with a byte more and with a byte less.
 #[derive(Clone, Copy)]

@@ -2,13 +2,13 @@
 ghost use Rattle.turn_desk.specs.Seats.{IsOf};
 
 use super::{Counter, Device};
-use crate::same::same;
 use lf_base::{Closing, Pause, SleepPause};
 use std::alloc::Global;
 use std::process::Abort;
 use std::sync::Wait;
 use std::thread::{self, Threads};
 use std::time::Clock;
+use test_base::same;
 use turn_desk::{Desk, Seat, Tried};
 
 // How often one that waits looks again, after a nap of a millisecond.

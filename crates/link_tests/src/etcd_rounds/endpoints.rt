@@ -3,11 +3,11 @@ use super::{
     FIRST, GRANTED, HELD, Heard, IDLE, Meets, OTHER_KEY, OWN_KEY, RANGE, Row, Sent, are_rounds,
     is_round, told_by,
 };
-use crate::same::same;
 use lf_base::Handles;
 use std::alloc::Global;
 use std::net::{TcpListener, TcpStream};
 use std::process::Abort;
+use test_base::same;
 
 /// What an endpoint meets that gives no answer, and whether the call is written on a link.
 const NO_ANSWERS: &[(Meets, bool)] = &[

@@ -1,11 +1,11 @@
 //! Replies written at the answering end.
 use super::link_of;
-use crate::same::same;
 use http_exchange::write_reply;
 use lf_base::SessionEnd;
 use link_session::Turns;
 use std::alloc::Global;
 use std::process::Abort;
+use test_base::same;
 
 /// Writes a reply over a link with this room and these turns.
 fn replied(

@@ -2,13 +2,13 @@
 ghost use Rattle.link_tests.specs.Wanted.{wanted_of};
 
 use super::{front, link_of};
-use crate::same::same;
 use http_exchange::{Body, Called, Kept, Wants, read_call};
 use lf_base::SessionEnd;
 use link_session::Turns;
 use std::alloc::Global;
 use std::process::Abort;
 use stream_wire::Call;
+use test_base::same;
 
 /// Of /tx all is kept, of /stream a line, of the rest nothing.
 struct Wanted;

@@ -1,11 +1,11 @@
 //! Exchanges that end by a fault, or without a turn.
 use super::{Taken, ask, dialer_of, link_of};
-use crate::same::same;
 use http_exchange::Untold;
 use lf_base::{Handles, MemDialer};
 use std::alloc::Global;
 use std::net::{TcpListener, TcpStream};
 use std::process::Abort;
+use test_base::same;
 
 const REPLY: &[u8] = b"HTTP/1.1 200 OK\r\nContent-Length: 5\r\n\r\nhello";
 

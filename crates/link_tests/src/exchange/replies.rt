@@ -1,11 +1,11 @@
 //! Replies of each shape, whole and cut at each byte.
 use super::{REQUEST, Taken, ask, dialer_of, front, link_of};
-use crate::same::same;
 use http_exchange::Untold;
 use lf_base::Handles;
 use std::alloc::Global;
 use std::net::{TcpListener, TcpStream};
 use std::process::Abort;
+use test_base::same;
 
 /// The reply, whether it must say its length, the most bytes of its body; the status or why there is
 /// none, and the body.

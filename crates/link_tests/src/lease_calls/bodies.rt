@@ -1,11 +1,11 @@
 //! Requests that ask nothing of the service, or end early, and bodies at their limit.
 use super::{Served, TURNS, at, reply, request, serve};
 use crate::exchange::front;
-use crate::same::same;
 use lease_core::LeaseTable;
 use lf_base::SessionEnd;
 use std::alloc::Global;
 use std::process::Abort;
+use test_base::same;
 
 /// An input, and the status and the body of the one reply to it.
 type Row = (&'static str, &'static str, &'static str);

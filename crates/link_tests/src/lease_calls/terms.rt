@@ -1,10 +1,10 @@
 //! Terms granted, renewed, given back and refused.
 use super::{Served, at, reply, request, serve};
-use crate::same::same;
 use lease_core::LeaseTable;
 use lf_base::SessionEnd;
 use std::alloc::Global;
 use std::process::Abort;
+use test_base::same;
 
 /// A moment, a request's body, and the status and the body of the reply.
 type Call = (u64, &'static str, &'static str, &'static str);

@@ -4,13 +4,13 @@ ghost use Rattle.lf_base.specs.Doors.{IsUnused};
 use super::listener::{Account, Bring, Heard, SILENCE, closed, opened};
 use super::{CANDIDATE, End, HOLDER, NOW, TURNS, Who, grant_of, round, service_of};
 use crate::exchange::{dialer_of, link_of};
-use crate::same::same;
 use lease_link::{Round, give_up_lease};
 use lf_base::{FixedClock, Handles, MemDialer, MemLink, NoPause};
 use link_session::{AtSeat, Turns};
 use std::alloc::Global;
 use std::net::{TcpListener, TcpStream};
 use std::process::Abort;
+use test_base::same;
 
 const RENEWED: &[u8] = b"HTTP/1.1 200 OK\r\nContent-Length: 13\r\n\r\n{\"ttl\":10000}";
 

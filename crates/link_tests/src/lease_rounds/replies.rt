@@ -2,11 +2,11 @@
 use super::listener::{Account, Heard, SILENCE};
 use super::{CANDIDATE, End, FOLLOWER, HOLDER, NOW, Who, round_of};
 use crate::exchange::front;
-use crate::same::same;
 use lf_base::Handles;
 use std::alloc::Global;
 use std::net::{TcpListener, TcpStream};
 use std::process::Abort;
+use test_base::same;
 
 /// Who asks, the reply, what the machine hears of it, the term then, and whether the url is the second
 /// node's, if one is told.

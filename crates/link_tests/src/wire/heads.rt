@@ -1,11 +1,11 @@
 //! Heads of requests and replies: written, read, named, refused, and not whole.
-use crate::same::{holds, same};
 use lf_base::Text;
 use std::alloc::Global;
 use std::process::Abort;
 use stream_wire::{
     Call, Heard, Told, WireFault, read_request, read_response, write_head, write_request,
 };
+use test_base::{holds, same};
 
 /// A request and the reply to it, byte by byte.
 #[test]

@@ -1,6 +1,5 @@
 //! Eight files become one, on two levels.
 use super::{byte_at, filled, page_of};
-use crate::same::same;
 use lf_base::Pos;
 use lf_disk::{Disk, FileName, MemDisk};
 use lf_sqlite_pages::Image;
@@ -8,6 +7,7 @@ use ltx_backup::BackupFault;
 use ltx_codec::decode;
 use std::alloc::Global;
 use std::process::Abort;
+use test_base::same;
 
 /// How many files a disk has.
 fn count(rt: &impl Abort, disk: &mut MemDisk) -> usize {

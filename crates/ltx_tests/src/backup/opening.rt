@@ -7,7 +7,6 @@ ghost use Rattle.lf_disk.specs.MemDisk.{history_of};
 ghost use Rattle.ltx_codec.specs.Format.{IsFile};
 
 use super::{FLAG, crashed, empty, filled, page_of};
-use crate::same::{same, same_at};
 use crate::sample::header;
 use lf_disk::{Disk, FileName, MemDisk};
 use lf_sqlite_pages::Image;
@@ -17,6 +16,7 @@ use ltx_codec::{Encoder, Ltx, decode};
 use page_checksum::page_sum;
 use std::alloc::Global;
 use std::process::Abort;
+use test_base::{same, same_at};
 
 type Disks = (MemDisk, MemDisk, MemDisk);
 

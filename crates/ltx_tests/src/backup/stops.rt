@@ -4,11 +4,11 @@ ghost use Rattle.lf_disk.specs.History.{IsSettledBut};
 ghost use Rattle.lf_disk.specs.MemDisk.{history_of};
 
 use super::{blank, byte_at, crashed, encoded, file, filled, opened, sum_of};
-use crate::same::same_at;
 use lf_disk::{FileName, MemDisk, publish};
 use ltx_backup::{Backup, BackupFault};
 use std::alloc::Global;
 use std::process::Abort;
+use test_base::same_at;
 
 /// What is left of the calls that were pending: none of each, a half, all.
 const CHOICES: [u64; 4] = [0, u64::MAX / 3, u64::MAX / 3 * 2, u64::MAX];

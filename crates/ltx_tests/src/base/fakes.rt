@@ -3,7 +3,6 @@
 ghost use Rattle.lf_base.specs.Doors.{IsUnused};
 
 use super::failing_call;
-use crate::same::same;
 use lf_base::{
     Acceptor, CallSpawner, Clock, Dialer, Failed, FixedClock, Handles, Job, Link, ListAcceptor,
     MemDialer, MemLink, NoPause, Pause, Spawner, Text, start,
@@ -13,6 +12,7 @@ use std::net::{TcpListener, TcpStream};
 use std::process::Abort;
 use std::sync::Arc;
 use std::sync::atomic::{AtomicU64, Ordering};
+use test_base::same;
 
 /// A link of two bytes that fails its first call.
 fn failing_link(rt: &impl Abort, alloc: Global) -> MemLink

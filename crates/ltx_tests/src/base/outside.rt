@@ -1,7 +1,6 @@
 //! The real things, each once: a reader and a writer in threads of their own, over loopback and over
 //! a Unix socket. A test that passes the runtime on names its types of sockets, as the check wants.
 use super::fakes::{Count, accepts, fails, held_again, no_jobs};
-use crate::same::same;
 use lf_base::{
     Acceptor, Clock, Closing, Dialer, Failed, Handles, Job, Link, Pause, SleepPause, Spawner,
     StreamLink, SystemClock, TcpAccept, TcpDial, TcpLink, Text, ThreadSpawner, UnixAccept, start,
@@ -13,6 +12,7 @@ use std::os::unix::net::{UnixListener, UnixStream};
 use std::process::Abort;
 use std::sync::Arc;
 use std::sync::atomic::{AtomicU64, Ordering};
+use test_base::same;
 
 /// Sends back what it reads, to the end of input.
 #[derive(Drop)]

@@ -1,8 +1,8 @@
 //! What a disk in memory has after a crash.
-use crate::same::same_at;
 use lf_base::Failed;
 use lf_disk::{Disk, FileName, MemDisk, publish_two};
 use std::alloc::Global;
+use test_base::same_at;
 
 const DATABASE: FileName = FileName::Database;
 

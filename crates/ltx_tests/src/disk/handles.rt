@@ -1,10 +1,10 @@
 //! A folder whose files stay open while their names are given and taken away.
 use super::file_holds;
-use crate::same::same;
 use lf_base::Failed;
 use lf_disk::{DirDisk, Disk, FileName, publish};
 use std::fs::{self, File};
 use std::rt::Files;
+use test_base::same;
 
 const DATABASE: FileName = FileName::Database;
 

@@ -1,9 +1,9 @@
 //! A file of the system of which each call moves a part.
-use crate::same::same;
 use lf_disk::{read_from, write_to};
 use std::fs::{self, File, OpenOptions};
 use std::io;
 use std::os::unix::fs::FileExt;
+use test_base::same;
 
 /// A file of which each call reads or writes three bytes at most.
 #[derive(Drop)]

@@ -1,6 +1,6 @@
-use crate::same::same;
 use lf_sqlite_pages::{BLOCKS_LIMIT, Blocks};
 use std::test::Fail;
+use test_base::same;
 
 /// The bytes of a list, and its blocks that are kept.
 fn sizes(blocks: &Blocks) -> (u64, u64) {

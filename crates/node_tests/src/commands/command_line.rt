@@ -1,9 +1,9 @@
 //! The words of the command line: a command's name, and of two the options behind it, to the letter.
-use crate::same::same;
 use lf_base::Text;
 use litefs_tool::{Command, Remote, Task, read_arguments};
 use std::alloc::{AllocError, Global};
 use std::process::Abort;
+use test_base::same;
 
 /// Words, and the command that they are: its name, and what its words say.
 const NAMED: &[(&[&str], &str)] = &[

@@ -3,11 +3,11 @@ use super::pieces::append_all;
 use super::primary::{Asked, Replied, asked_in, reply_of};
 use super::sessions::{has_asked, plays};
 use super::{NOT_SENT, REFUSED, Row, SENT};
-use crate::same::same;
 use lf_base::Handles;
 use std::alloc::Global;
 use std::net::{TcpListener, TcpStream};
 use std::process::Abort;
+use test_base::same;
 
 /// The bytes before a place.
 fn front<R: Copy + Abort>(rt: R, text: &[u8], at: usize) -> &[u8] {
@@ -63,11 +63,11 @@ fn replies<R: Copy + Abort>(rt: R, alloc: Global, held: usize) -> Vec<&'static [
 /// A permit is asked for, the commit is sent 100 times, and the permit is given back.
 fn requests<R: Copy + Abort>(rt: R, alloc: Global) -> Vec<u8> {
     let mut bytes = Vec::new(alloc);
-    append_all(rt, alloc, &mut bytes, asked_in(Asked::Asks));
+    append_all(rt, &mut bytes, asked_in(Asked::Asks));
     for _ in 0..100u64 {
-        append_all(rt, alloc, &mut bytes, asked_in(Asked::Sends));
+        append_all(rt, &mut bytes, asked_in(Asked::Sends));
     }
-    append_all(rt, alloc, &mut bytes, asked_in(Asked::GivesBack));
+    append_all(rt, &mut bytes, asked_in(Asked::GivesBack));
     bytes
 }
 

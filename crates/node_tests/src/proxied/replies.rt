@@ -2,11 +2,11 @@
 use super::session::{has_session, plays};
 use super::texts::*;
 use super::{READ, Row, WRITE};
-use crate::same::same;
 use lf_base::{Handles, SessionEnd};
 use std::alloc::Global;
 use std::net::{TcpListener, TcpStream};
 use std::process::Abort;
+use test_base::same;
 
 /// A reply without a body, to HEAD, and where there is none.
 const HEAD_REPLY: &[u8] = b"HTTP/1.1 200 OK\r\nContent-Length: 2\r\n\r\n";

@@ -1,11 +1,11 @@
 //! Files that are gone, cut or changed, or that say another sum; and a snapshot that waits for its name.
 use super::{Disks, Opening, Seen, all_opened, files_on, on_all_levels, settled, tried};
 use crate::backup::{FLAG, encoded, sum_of};
-use crate::same::same;
 use lf_disk::{Disk, FileName, MemDisk};
 use ltx_backup::BackupFault::{Damaged, NoSuchTxid, SumDiffers};
 use std::alloc::Global;
 use std::process::Abort;
+use test_base::same;
 
 /// What happens to a file.
 #[derive(Clone, Copy)]

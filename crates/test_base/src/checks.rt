@@ -1,4 +1,6 @@
-//! Comparisons as calls: a test is proved faster by each `assert_eq!` that does not stand in it.
+//! Checks that end a test. They are functions, since a test that calls them is proved in a fraction of the time that
+//! the macros take in its own body. A failed one names its line here, and the two values.
+
 use std::fmt::Debug;
 use std::process::Abort;
 
@@ -15,4 +17,9 @@ pub fn same_at<R: Copy + Abort, D: Debug + Drop, T: PartialEq + Debug + Drop>(
     wanted: T,
 ) {
     assert_eq!(rt; got, wanted, "{row:?}");
+}
+
+/// Ends the test where a condition does not hold.
+pub fn holds<R: Copy + Abort>(rt: R, condition: bool, what: &str) {
+    assert!(rt; condition, "{what}");
 }
