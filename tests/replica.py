@@ -1,7 +1,7 @@
 #!/usr/bin/python3
 """A primary and replicas under real SQLite: a replica comes to stand where the primary does with the same pages, takes no
-write, shows a reader one position, and comes back from kills of either or both, from a log that was pruned, and from a
-primary that went back to an older copy of its directory.
+write, shows a reader one position, and comes back from kills of either or both, from far behind, from a log that was pruned, and
+from a primary that went back to an older copy of its directory.
 
 At most: 1200 seconds.
 Seen to fail: nodes whose writes of the file `database` change one bit: SQLite takes the replica's schema for malformed."""
@@ -10,8 +10,8 @@ import shutil
 import sqlite3
 import time
 
-from support import (Client, Node, connect, count, fill, holds, in_each_mode, in_mode, insert, length, refuses, run, same,
-                     seen_by, until)
+from support import (Client, Node, connect, count, fill, holds, in_each_mode, in_mode, insert, length, level_pair, refuses, run,
+                     same, seen_by, until)
 
 ENDLESS = '''
 import itertools
@@ -124,6 +124,34 @@ def older_primary(mode):
             replica.sound(seen_by(made))
 
 
+def transactions(path):
+    """The first and the last transaction of a file of a log, by its name."""
+    return tuple(int(it, 16) for it in os.path.basename(path).removesuffix('.ltx').split('-'))
+
+
+def far_behind(mode):
+    """A replica that was away gets many transactions as one file, but for the last 64, each alone, and starts with that in its log."""
+    with level_pair(mode) as (primary, replica, made):
+        replica.kill()
+        behind = transactions(replica.log()[-1])[1]
+        fill(made, range(1000, 1150))
+        replica.start()
+        primary.level(replica)
+        files = [it for it in map(transactions, replica.log()) if it[0] > behind]
+        last = primary.position().txid
+        same(files[-64:], [(it, it) for it in range(last - 63, last + 1)], 'the last 64 transactions')
+        holds(len(files) < 70, f'few files for those before: {files[:-64]}')
+        same((files[0][0], files[-65][1]), (behind + 1, last - 64), 'the transactions before')
+        same(count(connect(replica.socket)), 160, 'rows at the replica')
+        fill(made, range(2000, 2010))
+        primary.level(replica)
+        seen = seen_by(made)
+        made.close()
+        primary.level(replica)
+        replica.sound(seen)
+        primary.sound(seen)
+
+
 def late(mode):
     """A replica that comes when the log was pruned gets one snapshot."""
     with Node(keep=10) as primary:
@@ -138,4 +166,5 @@ def late(mode):
             replica.sound(seen_by(made))
 
 
-run(in_each_mode(('delete', 'wal'), follow=follow, steady=steady, killed=killed, older_primary=older_primary, late=late))
+run(in_each_mode(('delete', 'wal'), follow=follow, steady=steady, killed=killed, older_primary=older_primary, far_behind=far_behind,
+                 late=late))

@@ -25,6 +25,7 @@ pub mod Leaving
 pub mod Answering
 pub mod Committed
 pub mod Owing
+pub mod Gathered
 pub mod Locks
 pub mod Asking
 pub mod Framed

@@ -23,9 +23,10 @@ use Rattle.world_laws.specs.Served.{ShareForReading}
 use Rattle.world_laws.specs.Store.{StoreState}
 use Rattle.node_core.specs.declared.answer.Answer.{Answer}
 use Rattle.node_core.specs.declared.answer.Answer.TheVariants as answers
-use Rattle.node_core.specs.Hello.{AnswersHello, IsFirstFile, IsLookedInto, IsOwed, IsWholeDatabase, TellsFollower}
+use Rattle.node_core.specs.Hello.{AnswersHello, IsFirstFile, IsLookedInto, IsOwed, IsRunOfFiles, IsWholeDatabase, TellsFollower}
 use Rattle.node_core.specs.Nodes.{NodeParts, role_in, seen, served_over}
 use Rattle.node_core.specs.Roles.{law_role}
+use Rattle.node_core.specs.Running.{IsEncodingOfAll, files_at}
 use Rattle.node_core.specs.Safely.{StepsSafely}
 use Rattle.node_core.specs.Stores.{StoreFields, failed, state}
 use Rattle.node_core.specs.Waiting.{file_sent}
@@ -42,6 +43,15 @@ looked-at-nothing h s = record {
   faults = omega arith;
   state = λ honest. refl;
   failed = λ honest. refl;
+}
+
+-- it was looked into twice
+pub looked-on : (start mid end : History) (old between new : StoreFields) → IsLookedInto start old mid between → IsLookedInto mid between end new → IsLookedInto start old end new
+looked-on start mid end old between new first second = record {
+  same = second.same ∙ ap (λ (s : StoreFields). record s { faults = new.faults }) first.same;
+  faults = omega (arith, first.faults, second.faults);
+  state = λ honest. second.state (ap (λ (s : StoreFields). s.honest) first.same ∙ honest) ∙ first.state honest;
+  failed = λ honest. second.failed (ap (λ (s : StoreFields). s.honest) first.same ∙ honest) ∙ first.failed honest;
 }
 
 -- nothing is changed where the count of faults is as before
@@ -74,6 +84,21 @@ module _ (start mid : History) (old : NodeParts) (looked : IsLookedAt start old.
     encoding = λ honest. subst (λ (s : StoreState). IsEncodingAt s.log is.first ltx) (looked.state honest) (is.encoding honest);
   }
 
+  run-since : (ltx : List ℕ) (to : Pos) → IsRunOfFiles mid old.store from last ltx to → IsRunOfFiles start old.store from last ltx to
+  run-since ltx to is = record {
+    first = is.first;
+    owed = owed-since (owed.Files is.first) is.owed;
+    run = record {
+      count = is.run.count;
+      several = is.run.several;
+      at_most = is.run.at_most;
+      before_last = is.run.before_last;
+      later = is.run.later;
+      leads = is.run.leads;
+      encoding = λ honest. subst (λ (s : StoreState). IsEncodingOfAll (files_at s.log is.first is.run.count) ltx) (looked.state honest) (is.run.encoding honest);
+    };
+  }
+
   whole-since : (ltx : List ℕ) (to : Pos) → IsWholeDatabase mid old.store from last ltx to → IsWholeDatabase start old.store from last ltx to
   whole-since ltx to is = record {
     owed = owed-since owed.Snapshot is.owed;
@@ -85,7 +110,8 @@ module _ (start mid : History) (old : NodeParts) (looked : IsLookedAt start old.
   tells-since : (answer : Answer) (new : StoreFields) → TellsFollower mid old from last answer new → TellsFollower start old from last answer new
   tells-since (answers.Level here) new tells = (tells.0, tells.1, owed-since owed.Level tells.2)
   tells-since (answers.Item ltx to) new (primary, inl is) = (primary, inl (file-since ltx to is))
-  tells-since (answers.Item ltx to) new (primary, inr is) = (primary, inr (whole-since ltx to is))
+  tells-since (answers.Item ltx to) new (primary, inr (inl is)) = (primary, inr (inl (run-since ltx to is)))
+  tells-since (answers.Item ltx to) new (primary, inr (inr is)) = (primary, inr (inr (whole-since ltx to is)))
   tells-since answers.Gone new tells = (tells.0, owed-since owed.Gone tells.1)
   tells-since (answers.Refused why) new tells = tells
   tells-since (answers.Done reply) new tells = tells

@@ -1,9 +1,10 @@
 -- What a follower is owed, as the laws say it.
-use Rattle.std.proofs.Common.{◌≡◌, ◌≢◌, ◌⊎◌, ◌∙◌, ℕ, ◌<◌, ◌≤◌, List, [], ◌∷◌, Bool, true, false, Option, Some, None, length, get_or, map, inl, inr, refl, sym, ap, subst, arith}
+use Rattle.std.proofs.Common.{◌≡◌, ◌≢◌, ◌⊎◌, ◌∙◌, ℕ, ◌+◌, ◌-◌, ◌<◌, ◌≤◌, List, [], ◌∷◌, ◌++◌, Bool, true, false, IsTrue, Option, Some, None, length, take, drop, get_or, map, inl, inr, refl, sym, ap, subst, append_assoc, arith}
 use Rattle.std.proofs.Math.Logic.{∥∥₁_elim}
 use Rattle.std.proofs.Props.{props}
 use Rattle.std.proofs.lemmas.Bool.{cases_Bool, cases_eq}
-use Rattle.std.proofs.lemmas.List.{get_or_default, get_or-map, length-map}
+use Rattle.std.proofs.lemmas.List.{get_or_default, get_or-drop, get_or-map, get_or-take, length-map, take-append-drop}
+use Rattle.std.proofs.lemmas.Option.{get_or_from_slice_get}
 use Rattle.lf_base.specs.declared.pos.Pos.{Pos}
 use Rattle.lf_disk.specs.Folder.{Folder}
 use Rattle.lf_disk.specs.History.{History}
@@ -12,6 +13,8 @@ use Rattle.ltx_codec.specs.FileIn.{file_in}
 use Rattle.ltx_codec.specs.Format.{IsFile, IsLtx, file_encoding, no_meaning}
 use Rattle.ltx_codec.specs.Positions.{before, nowhere}
 use Rattle.ltx_codec.specs.declared.file.Ltx.{Ltx}
+use Rattle.ltx_codec.specs.declared.header.Header.{Header}
+use Rattle.ltx_compact.specs.Compaction.{Compacts}
 use Rattle.txn_log.specs.declared.answering.Answer.TheVariants as owed
 use Rattle.txn_log.specs.declared.entry.Entry.{Entry}
 use Rattle.txn_log.specs.Answering.{Answers, AnswersBy, IsFirstBehind}
@@ -24,12 +27,13 @@ use Rattle.txn_log.proofs.Entries.{end-empty, end-log}
 use Rattle.txn_log.proofs.Stores.{length-files_in, no_entry}
 use Rattle.world_laws.specs.declared.last_file.LastFile.{LastFile}
 use Rattle.world_laws.specs.declared.last_file.LastFile.TheVariants as last_file
-use Rattle.world_laws.specs.Answers.{AnswersHello, IsBlank, IsRelied, Knows, MayDoubt, Owes, by_doubt, by_file, by_snapshot, snapshot_of}
+use Rattle.world_laws.specs.Answers.{AnswersHello, IsBlank, IsRelied, IsRunOf, Knows, MayDoubt, Owes, by_doubt, by_file, by_run, by_snapshot, snapshot_of}
 use Rattle.world_laws.specs.Node as laws
 use Rattle.world_laws.specs.Node.{NodeState}
 use Rattle.world_laws.specs.Store.{at, end_of}
 use Rattle.world_laws.proofs.Stores.{end_of-none}
-use Rattle.node_core.specs.Hello.{IsOwed, WantsFile}
+use Rattle.node_core.specs.Hello.{IsFirstFile, IsOwed, IsRunOfFiles, IsWholeDatabase, WantsFile}
+use Rattle.node_core.specs.Running.{IsEncodingOfAll, IsNext, IsRun, files_at}
 use Rattle.node_core.specs.Stores.{StoreFields, position, state}
 use Rattle.node_core.specs.Waiting.{IsFile-prop}
 
@@ -79,6 +83,34 @@ behind-owed start s from last first owes = go owes.doubted owes.answers where
   go true answers = absurd answers
   go false answers = answers.2
 
+-- what comes next is a file of the log, or a run
+pub next-is : (start : History) (s : StoreFields) (from : Pos) (last : Option LastFile) (first : ℕ) → IsOwed start s from last (owed.Files first) → (ltx : List ℕ) (to : Pos)
+    → IsNext s.entries first s.honest (state start s).log ltx to → IsFirstFile start s from last ltx to ⊎ IsRunOfFiles start s from last ltx to ⊎ IsWholeDatabase start s from last ltx to
+next-is start s from last first owes ltx to (inl one) = inl record { first = first; owed = owes; leads = one.leads; encoding = one.encoding }
+next-is start s from last first owes ltx to (inr run) = inr (inl record { first = first; owed = owes; run = run })
+
+-- where a file of this header begins
+abbrev start_of : Header → Pos
+start_of h = record { txid = h.min - 1; sum = h.pre }
+
+-- what files of a log become begins where the first of them does
+begins-at : (log : List Ltx) (first count : ℕ) (file d : Ltx) → 1 ≤ count → Compacts (files_at log first count) file → before file ≡ before (get_or log first d)
+begins-at log first count file d some is =
+    let here : get_or (files_at log first count) 0 d ≡ is.first = get_or_from_slice_get (files_at log first count) 0 is.first d is.is_first in
+    let there : get_or (files_at log first count) 0 d ≡ get_or log (first + 0) d = get_or-take count (drop first log) 0 d (omega (arith, some)) ∙ get_or-drop first log 0 d in
+    let place : first + 0 ≡ first = omega arith in
+    ap start_of is.header ∙ ap before (sym here ∙ there ∙ ap (λ (k : ℕ). get_or log k d) place)
+
+-- they stand one behind another
+are-run : (log : List Ltx) (first count : ℕ) → IsRunOf log (files_at log first count)
+are-run log first count = record {
+  front = take first log;
+  behind = drop count (drop first log);
+  is =
+      sym (take-append-drop first log) ∙ ap (λ (back : List Ltx). take first log ++ back) (sym (take-append-drop count (drop first log)))
+      ∙ sym (append_assoc (take first log) (take count (drop first log)) (drop count (drop first log)));
+}
+
 abbrev no_file : LogFile
 no_file = record { min = 0; max = 0; encoding = [] }
 
@@ -102,7 +134,7 @@ module _ (h : History) (s : StoreFields) (is : IsStore h s.page_size s.commit s.
       get_or-map (λ (f : LogFile). entry_of (file_of f.encoding)) files k no_file e there in
       ap entry_of in_log ∙ sym in_entries ∙ ap (λ (es : List Entry). get_or es k e) is.log.same
 
-  length-log : length (state h s).log ≡ length s.entries
+  pub length-log : length (state h s).log ≡ length s.entries
   length-log = length-map files (λ (f : LogFile). file_of f.encoding) ∙ count
 
   empty-log : s.entries ≡ [] → (state h s).log ≡ []
@@ -173,8 +205,12 @@ module _ (h : History) (s : StoreFields) (is : IsStore h s.page_size s.commit s.
         let none : s.entries ≡ [] = shaped.marked is.0 in
         (primary, ap (λ t. t.dropped) same ∙ is.0, (λ here. is.1 (here ∙ ap (λ t. at t) same ∙ at-position ∙ ap end_of_entries none ∙ end-empty)))
 
+    counts : (first : ℕ) (start : History) (doubted : Bool) → Doubts s.honest (start.seen start.moment) s.entries last doubted → AnswersBy doubted s.entries s.dropped from (owed.Files first) → IsRelied (state h s) last
+    counts first start true doubts answers = absurd answers
+    counts first start false doubts answers = relied (start.seen start.moment) last doubts
+
     -- the file of the log
-    pub tells-file : (octets-law : (bytes : List ℕ) (file : Ltx) → AreBytes bytes → IsLtx bytes file → file_in bytes ≡ file) (first : ℕ) (ltx : List ℕ) → AreBytes ltx
+    tells-file : (octets-law : (bytes : List ℕ) (file : Ltx) → AreBytes bytes → IsLtx bytes file → file_in bytes ≡ file) (first : ℕ) (ltx : List ℕ) → AreBytes ltx
         → (start : History) → IsOwed start s from last (owed.Files first) → IsEncodingAt (state h s).log first ltx → Owes (state h s) from last (file_in ltx) × IsFile (file_in ltx)
     tells-file law first ltx octets start owes encoding =
         let file : Ltx = file_in ltx in
@@ -184,10 +220,27 @@ module _ (h : History) (s : StoreFields) (is : IsStore h s.page_size s.commit s.
         let within : first < length (state h s).log = omega (arith, length-log, behind.there) in
         let leads : before file ≡ from =
         ap before (sym same) ∙ ap (λ (e : Entry). e.pre) (entry-at first file no_entry behind.there) ∙ behind.follows no_entry in
-        (by_file (first, within, same) leads (counts owes.doubted owes.doubts owes.answers), valid) where
-          counts : (doubted : Bool) → Doubts s.honest (start.seen start.moment) s.entries last doubted → AnswersBy doubted s.entries s.dropped from (owed.Files first) → IsRelied (state h s) last
-          counts true doubts answers = absurd answers
-          counts false doubts answers = relied (start.seen start.moment) last doubts
+        (by_file (first, within, same) leads (counts first start owes.doubted owes.doubts owes.answers), valid)
+
+    -- a run of files of the log
+    tells-run : (octets-law : (bytes : List ℕ) (file : Ltx) → AreBytes bytes → IsLtx bytes file → file_in bytes ≡ file) (first : ℕ) (ltx : List ℕ) → AreBytes ltx
+        → (start : History) → IsOwed start s from last (owed.Files first) → (to : Pos) → IsRun s.entries first s.honest (state h s).log ltx to → IsTrue s.honest → Owes (state h s) from last (file_in ltx) × IsFile (file_in ltx)
+    tells-run law first ltx octets start owes to run honest =
+        let log : List Ltx = (state h s).log in
+        let behind : IsFirstBehind s.entries from first = behind-owed start s from last first owes in
+        let all : IsEncodingOfAll (files_at log first run.count) ltx = run.encoding honest in
+        let same : file_in ltx ≡ all.file = law ltx all.file octets record { valid = all.valid; reserved = no_meaning; room = refl; encoding = all.encoding } in
+        let leads : before all.file ≡ from =
+        begins-at log first run.count all.file all.file (omega (arith, run.several)) all.compacts ∙ ap (λ (e : Entry). e.pre) (entry-at first all.file no_entry behind.there) ∙ behind.follows no_entry in (
+          subst (λ (f : Ltx). Owes (state h s) from last f) (sym same) (by_run (are-run log first run.count) all.join all.compacts leads (counts first start owes.doubted owes.doubts owes.answers)),
+          subst IsFile (sym same) all.valid,
+        )
+
+    -- either
+    pub tells-next : (octets-law : (bytes : List ℕ) (file : Ltx) → AreBytes bytes → IsLtx bytes file → file_in bytes ≡ file) (first : ℕ) (ltx : List ℕ) → AreBytes ltx
+        → (start : History) → IsOwed start s from last (owed.Files first) → (to : Pos) → IsNext s.entries first s.honest (state h s).log ltx to → IsTrue s.honest → Owes (state h s) from last (file_in ltx) × IsFile (file_in ltx)
+    tells-next law first ltx octets start owes to (inl one) honest = tells-file law first ltx octets start owes (one.encoding honest)
+    tells-next law first ltx octets start owes to (inr run) honest = tells-run law first ltx octets start owes to run honest
 
     -- the log does not know the position
     unknown : 1 ≤ (position s).txid → Answers s.entries s.dropped from owed.Snapshot → Knows (state h s) from last → ⊥

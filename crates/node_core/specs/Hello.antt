@@ -21,6 +21,7 @@ use Rattle.node_core.specs.declared.answer.Answer.TheVariants as answers
 use Rattle.node_core.specs.declared.refusal.Refusal.{Refusal}
 use Rattle.node_core.specs.declared.refusal.Refusal.TheVariants as refusals
 use Rattle.node_core.specs.Nodes.{NodeParts, role_in}
+use Rattle.node_core.specs.Running.{IsRun}
 use Rattle.node_core.specs.Stores.{StoreFields, failed, position, state}
 
 -- files of the store were read, and nothing else was done: only its disk's count of faults may have risen
@@ -42,6 +43,12 @@ pub record IsFirstFile (start : History) (store : StoreFields) (from : Pos) (las
   pub owed : IsOwed start store from last (owed.Files first)
   pub leads : (d : Entry) → to ≡ (get_or store.entries first d).post
   pub encoding : IsTrue store.honest → IsEncodingAt (state start store).log first ltx
+
+-- a run of files of the log, from the first that leads on from the position
+pub record IsRunOfFiles (start : History) (store : StoreFields) (from : Pos) (last : Option LastFile) (ltx : List ℕ) (to : Pos) : Type 0 where
+  pub first : ℕ
+  pub owed : IsOwed start store from last (owed.Files first)
+  pub run : IsRun store.entries first store.honest (state start store).log ltx to
 
 -- the snapshot of a database that was written, where the log does not know the position, or it counts as unknown
 pub record IsWholeDatabase (start : History) (store : StoreFields) (from : Pos) (last : Option LastFile) (ltx : List ℕ) (to : Pos) : Type 0 where
@@ -75,7 +82,8 @@ abbrev pub TellsFollower : History → NodeParts → Pos → Option LastFile →
 TellsFollower start old from last (answers.Level here) new =
     (role_in old ≡ role.Primary) × (here ≡ position old.store) × IsOwed start old.store from last owed.Level
 TellsFollower start old from last (answers.Item ltx to) new =
-    (role_in old ≡ role.Primary) × (IsFirstFile start old.store from last ltx to ⊎ IsWholeDatabase start old.store from last ltx to)
+    (role_in old ≡ role.Primary)
+    × (IsFirstFile start old.store from last ltx to ⊎ IsRunOfFiles start old.store from last ltx to ⊎ IsWholeDatabase start old.store from last ltx to)
 TellsFollower start old from last answers.Gone new = (role_in old ≡ role.Primary) × IsOwed start old.store from last owed.Gone
 TellsFollower start old from last (answers.Refused why) new = RefusesHello old from last why new
 TellsFollower start old from last answer new = ⊥

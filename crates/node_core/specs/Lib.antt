@@ -14,6 +14,7 @@ pub mod Unlinking
 pub mod Committing
 pub mod Sending
 pub mod Serving
+pub mod Running
 pub mod Hello
 pub mod Pruning
 pub mod Dropping

@@ -15,6 +15,7 @@ use crate::ask::Ask;
 use crate::node::Node;
 use crate::octets::are_bytes;
 use crate::refusal::{Refusal, refusal_of};
+use crate::running::next_from;
 use lf_base::{Bytes, Pos};
 use lf_disk::Disk;
 use ltx_codec::file_is_read;
@@ -23,7 +24,7 @@ use txn_log::{Answer as Owed, LastFile};
 use world_laws::moment_is_of_step;
 
 impl<D: Disk> Node<D> {
-    /// Gives the file at a place of the log.
+    /// Gives the file at a place of the log, or a run from there on.
     fn give_file(&mut self, from: Pos, last: Option<LastFile>, first: usize) -> Answer
         requires primary { role_in (parts_of self.old) ≡ role.Primary }
         requires owed { IsOwed (history self.old) (parts_of self.old).store from last (owed.Files first) }
@@ -34,14 +35,12 @@ impl<D: Disk> Node<D> {
         ensures honest { D.honest self.new.store.disk ≡ D.honest self.old.store.disk }
     {
         file_is_read();
-        let after = self.store.entries[first].post;
-        let mut bytes = Vec::new(self.alloc);
-        match self.store.file(first, &mut bytes) {
-            Ok(()) => {
-                are_bytes(bytes.as_slice());
+        match next_from(self.alloc, &mut self.store, first) {
+            Ok(next) => {
+                are_bytes(next.ltx.as_slice());
                 Answer::Item {
-                    ltx: Bytes::of(bytes),
-                    after,
+                    ltx: next.ltx,
+                    after: next.after,
                 }
             }
             Err(fault) => Answer::Refused(refusal_of(fault)),

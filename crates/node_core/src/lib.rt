@@ -32,6 +32,7 @@ mod pruning;
 mod received;
 mod refusal;
 mod replying;
+mod running;
 mod sending;
 mod sent;
 mod serving;

@@ -79,6 +79,26 @@ const LOG: &[Turn] = &[
     Turn::Ask(Who::Primary, NOWHERE),
 ];
 
+/// A replica gets files of the log as one, where 64 more stand behind them, and is restarted with such a
+/// file in its own log.
+const RUN: &[Turn] = &[
+    Turn::Title("a replica is far behind"),
+    PRIMARY,
+    REPLICA,
+    FIRST,
+    Turn::Follow,
+    Turn::CommitEach(Who::Primary, 66),
+    Turn::Owe,
+    Turn::Take(Who::Replica),
+    Turn::Owe,
+    Turn::Restart(Who::Replica, Part::Replica),
+    Turn::Owe,
+    Turn::CommitEach(Who::Primary, 10),
+    Turn::Owe,
+    Turn::Take(Who::Replica),
+    Turn::Level,
+];
+
 /// A database in WAL mode: byte 18 of its first page is 2. A file is held back while a reader has its
 /// lock, and applied afterwards.
 const READER: &[Turn] = &[
@@ -234,7 +254,7 @@ const UNDER: &[Turn] = &[
 ];
 
 const SCENES: &[&[Turn]] = &[
-    FOLLOWING, PRIMARIES, LOG, READER, WAITS, DROP, HELD_DROP, REFUSALS, STRANGE, UNDER, FORK,
+    FOLLOWING, PRIMARIES, LOG, RUN, READER, WAITS, DROP, HELD_DROP, REFUSALS, STRANGE, UNDER, FORK,
 ];
 
 fn play_scenes(rt: HostRuntime, pair: &mut Pair<'_>) -> Result<(), Fault> {

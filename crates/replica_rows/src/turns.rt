@@ -2,7 +2,8 @@
 
 use crate::clients::{FOLDER, Filled, bytes, commit, creates, does};
 use crate::fault::Fault;
-use crate::levels::{asked_by, keep};
+use crate::levels::{asked_by, gets_level, keep};
+use crate::likeness::is_as;
 use crate::nodes::{
     MemNode, NOW, Part, ask, ask_once, is_applied, owed_at, renew, restart, whereabouts,
 };
@@ -43,8 +44,12 @@ pub enum Turn {
     Restart(Who, Part),
     /// A client commits these pages.
     Commit(Who, &'static [Filled]),
+    /// A client commits page 2 full of 1, then of 2, and so on to this byte.
+    CommitEach(Who, u8),
     /// The replica is given what it is owed, until it is owed nothing or doesn't take it.
     Follow,
+    /// The same, of which nothing is printed but whether the replica is as the primary then.
+    Level,
     /// The node is asked what it owes at a position.
     Ask(Who, Pos),
     /// The primary is asked what it owes the replica.
@@ -116,6 +121,19 @@ fn asks(rt: HostRuntime, who: &str, node: &mut MemNode, asked: Ask) -> Result<()
 fn commits(rt: HostRuntime, node: &mut MemNode, pages: &[Filled]) -> Result<(), Fault> {
     tells(rt, "commit", commit(rt.alloc(), node, pages)?)?;
     asks(rt, "primary", node, Ask::Where)
+}
+
+fn commits_each(rt: HostRuntime, node: &mut MemNode, last: u8) -> Result<(), Fault> {
+    for byte in 1..=last {
+        drop(commit(rt.alloc(), node, &[(2, byte)])?);
+    }
+    asks(rt, "primary", node, Ask::Where)
+}
+
+fn levels(rt: HostRuntime, pair: &mut Pair<'_>) -> Result<(), Fault> {
+    let is_level = gets_level(pair.primary, pair.replica) && is_as(pair.primary, pair.replica);
+    println!(rt; "  replica is as primary: {is_level}")?;
+    Ok(())
 }
 
 /// What the replica says of its last file.
@@ -213,7 +231,9 @@ fn happens(rt: HostRuntime, pair: &mut Pair<'_>, turn: &Turn) -> Result<(), Faul
         Turn::Begin(who, part) => renew(rt.alloc(), pair.node(who), part),
         Turn::Restart(who, part) => restart(rt.alloc(), pair.node(who), part, 0),
         Turn::Commit(who, pages) => commits(rt, pair.node(who), pages),
+        Turn::CommitEach(who, last) => commits_each(rt, pair.node(who), last),
         Turn::Follow => follows(rt, pair),
+        Turn::Level => levels(rt, pair),
         Turn::Ask(who, pos) => asks_at(rt, pair.node(who), pos),
         Turn::Owe => owes(rt, pair),
         Turn::Take(who) => takes(rt, pair, who),

@@ -18,7 +18,7 @@ use Rattle.node_core.specs.declared.answer.Answer.TheVariants as answer
 use Rattle.node_core.specs.declared.ask.Ask.{Ask}
 use Rattle.node_core.specs.declared.node.Node.{Node}
 use Rattle.node_core.specs.declared.whereabouts.Whereabouts.{Whereabouts}
-use Rattle.node_core.specs.Hello.{IsFirstFile, IsOwed, IsWholeDatabase}
+use Rattle.node_core.specs.Hello.{IsFirstFile, IsOwed, IsRunOfFiles, IsWholeDatabase}
 use Rattle.node_core.specs.Nodes.{history, parts_of}
 use Rattle.node_core.specs.Stores.{StoreFields, position}
 use Rattle.stream_wire.specs.declared.frame.Frame.TheVariants as frame
@@ -29,11 +29,13 @@ use Rattle.stream_primary.specs.Streaming.{AreHellos, IsHello, NodeEntry, Stream
 use Rattle.stream_primary.specs.Telling.{goes_on, next, standing_at, words}
 
 -- WHAT THE LOG OWES a follower that says that it stands here: nothing, where it stands where the store does; word that the database
--- was dropped; the first file that leads on, or the whole database where the log does not know the position, or it counts as unknown
+-- was dropped; the first file that leads on, or a run from it on; or the whole database where the log does not know the position, or it
+-- counts as unknown
 abbrev pub Owes : History → StoreFields → Whereabouts → Answer → Type 0
 Owes start store from (answer.Level here) = (here ≡ position store) × IsOwed start store from.pos from.last owed.Level
 Owes start store from answer.Gone = IsOwed start store from.pos from.last owed.Gone
-Owes start store from (answer.Item ltx to) = IsFirstFile start store from.pos from.last ltx to ⊎ IsWholeDatabase start store from.pos from.last ltx to
+Owes start store from (answer.Item ltx to) =
+    IsFirstFile start store from.pos from.last ltx to ⊎ IsRunOfFiles start store from.pos from.last ltx to ⊎ IsWholeDatabase start store from.pos from.last ltx to
 Owes start store from _ = ⊥
 
 module _ {D : Type 0} {G : Ghosts D} where

@@ -11,12 +11,13 @@ use Rattle.ltx_codec.specs.declared.file.Ltx.{Ltx}
 use Rattle.ltx_codec.specs.Positions.{Joins, after, before, sum_after}
 use Rattle.ltx_codec.specs.Sums.{image_sum}
 use Rattle.world_laws.specs.declared.last_file.LastFile.{LastFile}
-use Rattle.world_laws.specs.Answers.{Owes, by_doubt, by_file, by_snapshot, completed_over, snapshot_of}
+use Rattle.world_laws.specs.Answers.{Owes, by_doubt, by_file, by_run, by_snapshot, completed_over, snapshot_of}
 use Rattle.world_laws.specs.Lineage.{IsAccepted, IsCommitted, IsOfTree, Lineage, Names, Suits, image_of, position_of}
 use Rattle.world_laws.specs.Premises.{OneImagePerPosition}
 use Rattle.world_laws.specs.Safe.{IsAllowed, IsSendable, TakesOfTree}
 use Rattle.world_laws.specs.Store.{Apply, CanDo, CanDoAll, Commit, DropAll, Install, LeadTo, PruneTo, StoreCall, StoreState, all_done, at, done, end_of, installed, with_file, without_front}
 use Rattle.world_laws.specs.World.{Grown, GrowsAlong, GrowsBy}
+use Rattle.world_laws.proofs.Compacted.{run-sendable}
 use Rattle.world_laws.proofs.Images.{IsImage-apply, IsImage-empty, apply-same, suits-of}
 use Rattle.world_laws.proofs.Lineages.{Committed-of_tree, Extends, IsOfTree-more, Names-more, Names-next, Names-snapshot, One-fewer, at_nothing, image_of-nothing, position_of-nothing, position_of-push, txid_of}
 use Rattle.world_laws.proofs.Snapshots.{whole-same, whole-sum}
@@ -246,7 +247,10 @@ snapshot-of_tree tree store never allowed some =
       sum = ap (λ (i : DatabaseImage). sum_after i (snapshot_of store)) image_of-nothing ∙ whole-sum store.image allowed.image ∙ sym (allowed.sum some);
     }
 
-pub owed-sendable : (tree : List Lineage) {store : StoreState} {position : Pos} {last : Option LastFile} {file : Ltx} → Contains tree [] → IsAllowed tree store → IsFile file → Owes store position last file → IsSendable tree file
-owed-sendable tree {file = f} never allowed sound (by_file here joins relied) = allowed.files f here
-owed-sendable tree {store = s} never allowed sound (by_snapshot some lacks) = record { of_tree = snapshot-of_tree tree s never allowed some; sound = sound }
-owed-sendable tree {store = s} never allowed sound (by_doubt some may) = record { of_tree = snapshot-of_tree tree s never allowed some; sound = sound }
+pub owed-sendable : (tree : List Lineage) {store : StoreState} {position : Pos} {last : Option LastFile} {file : Ltx} → OneImagePerPosition tree → Contains tree [] → IsAllowed tree store → IsFile file →
+    Owes store position last file → IsSendable tree file
+owed-sendable tree {file = f} one never allowed sound (by_file here joins relied) = allowed.files f here
+owed-sendable tree {store = s} {file = f} one never allowed sound (by_run {files = files} run joined made leads relied) =
+    run-sendable tree allowed.joined.0 (at s) s.log files f one allowed.files allowed.joined.1 run joined made sound
+owed-sendable tree {store = s} one never allowed sound (by_snapshot some lacks) = record { of_tree = snapshot-of_tree tree s never allowed some; sound = sound }
+owed-sendable tree {store = s} one never allowed sound (by_doubt some may) = record { of_tree = snapshot-of_tree tree s never allowed some; sound = sound }

@@ -9,7 +9,7 @@ use Rattle.ltx_codec.specs.Format.{IsFile}
 use Rattle.ltx_codec.specs.Positions.{Joins, after, before, nowhere}
 use Rattle.ltx_codec.specs.Sums.{image_sum}
 use Rattle.world_laws.specs.declared.last_file.LastFile.{LastFile}
-use Rattle.world_laws.specs.Answers.{AnswersDrop, AnswersFrame, AnswersHello, Knows, LeavesUndone, Owes, by_doubt, by_file, by_snapshot, call_of, completed_over, snapshot_of}
+use Rattle.world_laws.specs.Answers.{AnswersDrop, AnswersFrame, AnswersHello, Knows, LeavesUndone, Owes, by_doubt, by_file, by_run, by_snapshot, call_of, completed_over, snapshot_of}
 use Rattle.world_laws.specs.CatchUpLaw.{AnswersByWhole, DropInstalls, IsFreeRefusal, IsHeldBack, IsWhole, SentFileApplies, SnapshotInstalls}
 use Rattle.world_laws.specs.Lineage.{Lineage, Suits, image_of, position_of}
 use Rattle.world_laws.specs.Node.{Answer, Applied, BadFile, Broken, Disk, Done, Gone, Held, Item, Level, Limit, NoMemory, NodeState, NotNext, NotPrimary, NotReplica, PageSize, Primary, Refused, Role, SumDiffers}
@@ -18,6 +18,7 @@ use Rattle.world_laws.specs.Safe.{IsAllowed, IsSafe, IsSendable}
 use Rattle.world_laws.specs.Served.{HoldsBack}
 use Rattle.world_laws.specs.Store.{Apply, Failure, Install, StoreCall, StoreState, all_done, at, done, dropped_store, installed}
 use Rattle.world_laws.specs.World.{World}
+use Rattle.world_laws.proofs.Compacted.{run-begins}
 use Rattle.world_laws.proofs.Images.{apply-same, fits-of}
 use Rattle.world_laws.proofs.Lineages.{at_nothing, image_of-nothing, position_of-nothing}
 use Rattle.world_laws.proofs.Snapshots.{whole-same}
@@ -26,6 +27,9 @@ use Rattle.world_laws.proofs.Stores.{end_of-none, end_of-one, end_of-push}
 owed-lacking : {store : StoreState} {position : Pos} {last : Option LastFile} {file : Ltx} → (Knows store position last → ⊥) → Owes store position last file
     → (1 ≤ (at store).txid) × (file ≡ snapshot_of store)
 owed-lacking {file = f} lacks (by_file here joins relied) = absurd (lacks (inl (relied, inr (f, here, joins))))
+owed-lacking {store = s} {file = f} lacks (by_run {files = files} run joined made leads relied) =
+    let first = run-begins s.log files f run joined made in
+    absurd (lacks (inl (relied, inr (first.0, first.1, first.2 ∙ leads))))
 owed-lacking lacks (by_snapshot some again) = (some, refl)
 owed-lacking lacks (by_doubt some may) = (some, refl)
 

@@ -1,6 +1,7 @@
 pub mod Lineages
 pub mod Stores
 pub mod Snapshots
+pub mod Compacted
 pub mod Calls
 pub mod Terms
 pub mod Nodes
@@ -17,6 +18,7 @@ pub mod Actors
 pub mod Pages
 pub mod Scenes
 pub mod StoryParts
+pub mod Both
 pub mod Story
 pub mod SnapshotFile
 pub mod Moments

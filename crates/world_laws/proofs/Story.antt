@@ -8,15 +8,16 @@ use Rattle.ltx_codec.specs.declared.file.Ltx.{Ltx}
 use Rattle.ltx_codec.specs.Positions.{after, nowhere}
 use Rattle.lf_sqlite_pages.specs.Change.{PageChange}
 use Rattle.lf_sqlite_pages.proofs.Completing.{completed-whole_change}
-use Rattle.world_laws.specs.Answers.{by_file, by_snapshot, completed_over, snapshot_of}
+use Rattle.world_laws.specs.Answers.{by_file, by_run, by_snapshot, completed_over, snapshot_of}
 use Rattle.world_laws.specs.Events.{Leases, Reopens, ends, goes}
 use Rattle.world_laws.specs.Lineage.{Lineage}
 use Rattle.world_laws.specs.Node.{Applied, Disk, Done, Drop, File, Forward, Forwarded, Frame, Gone, Halted, Hello, Item, NodeState, Permit, Primary, Refused, Replica, Send}
-use Rattle.world_laws.specs.Scenario.{IsTold, SomethingHappens, first_file, second_file, store_of}
+use Rattle.world_laws.specs.Scenario.{IsTold, SomethingHappens, both, first_file, second_file, store_of}
 use Rattle.world_laws.specs.Step.{Makes, accepts, commits, drops, finishes, nothing, takes, unlinks}
 use Rattle.world_laws.specs.Store.{Apply, Commit, DropAll, FailedIn, Install, StoreCall, StoreState, at, dropped_store, empty_store, installed, with_file}
 use Rattle.world_laws.specs.World.{Act, Committed, Departed, DropFrame, FileFrame, Grown, SentFrame, World}
 use Rattle.world_laws.proofs.Actors.{IsFirst, IsSecond, first-is, second-is}
+use Rattle.world_laws.proofs.Both.{BecomeOne, become-one, both-compacts}
 use Rattle.world_laws.proofs.CatchUp.{snapshot-first}
 use Rattle.world_laws.proofs.Lineages.{position_of-nothing}
 use Rattle.world_laws.proofs.Made.{Made}
@@ -46,6 +47,13 @@ sends-snapshot : (here there : Ltx) → IsFirst here → IsFirst there → after
 sends-snapshot here there is other differ =
     made Primary Primary (store_of here) (store_of here) None None (Hello (after there) None) (Item (snapshot_of (store_of here))) [] nothing tt refl
     (refl, by_snapshot (some-first here is) (lacks-other here there is other differ), snapshot-sent here is) tt refl
+
+sends-both : (first file : Ltx) → IsFirst first → BecomeOne first file → let store : StoreState = with_file (store_of first) file in
+    Made (node Primary store None) (node Primary store None) (Hello nowhere None) (Item (both first file)) [] None
+sends-both first file is one =
+    let store : StoreState = with_file (store_of first) file in
+    made Primary Primary store store None None (Hello nowhere None) (Item (both first file)) [] nothing tt refl
+    (refl, by_run {files = first ∷ file ∷ []} (record { front = []; behind = []; is = refl }) one.joined (both-compacts first file) is.joins.next tt, one.sound) tt refl
 
 gets-permit : (store : StoreState) → Made (node Replica store None) (node Halted store None) Permit Done [] None
 gets-permit store = made Replica Halted store store None None Permit Done [] nothing tt refl tt tt tt
@@ -95,8 +103,8 @@ drops-too store some =
     made Halted Halted store dropped_store None None Drop (Applied nowhere) (DropAll ∷ []) (drops halted_primary) (some, tt) refl
     (inl (some, refl), refl, refl) tt refl
 
-told : (lost won next_file : Ltx) → IsFirst lost → IsFirst won → IsSecond won next_file → after lost ≢ after won → IsTold lost won next_file
-told lost won next_file l w n differ =
+told : (lost won next_file : Ltx) → IsFirst lost → IsFirst won → IsSecond won next_file → BecomeOne won next_file → after lost ≢ after won → IsTold lost won next_file
+told lost won next_file l w n becomes differ =
     let back : after won ≢ after lost = λ same. differ (sym same) in
     let a : StoreState = store_of lost in
     let b : StoreState = store_of won in
@@ -111,7 +119,8 @@ told lost won next_file l w n differ =
     let s1 : List SentFrame = FileFrame lost ∷ [] in
     let s2 : List SentFrame = FileFrame lost ∷ FileFrame fa ∷ [] in
     let s3 : List SentFrame = FileFrame lost ∷ FileFrame fa ∷ FileFrame fb ∷ [] in
-    let s4 : List SentFrame = FileFrame lost ∷ FileFrame fa ∷ FileFrame fb ∷ DropFrame ∷ [] in
+    let s4 : List SentFrame = FileFrame lost ∷ FileFrame fa ∷ FileFrame fb ∷ FileFrame (both won next_file) ∷ [] in
+    let s5 : List SentFrame = FileFrame lost ∷ FileFrame fa ∷ FileFrame fb ∷ FileFrame (both won next_file) ∷ DropFrame ∷ [] in
     let g1 : List ℕ = 0 ∷ [] in
     let g2 : List ℕ = 2 ∷ 0 ∷ [] in
     let k1 : List Act = Committed 1 0 lost ∷ [] in
@@ -144,10 +153,11 @@ told lost won next_file l w n differ =
     let w15 : World = world (p a) (node Halted (copy_of won) (Some next_file)) (p c) t3 s3 (next_file ∷ []) g2 (Some 2) k5 in
     let w16 : World = world (p a) (h d) (p c) t3 s3 (next_file ∷ []) g2 (Some 2) k6 in
     let w17 : World = world (p a) (h d) (p c) t3 s3 (next_file ∷ []) g2 (Some 2) k6 in
-    let w18 : World = world (p a) (h d) (p dropped_store) t3 s3 (next_file ∷ []) g2 (Some 2) k7 in
+    let w18 : World = world (p a) (h d) (p c) t3 s4 (next_file ∷ []) g2 (Some 2) k6 in
     let w19 : World = world (p a) (h d) (p dropped_store) t3 s4 (next_file ∷ []) g2 (Some 2) k7 in
-    let w20 : World = world (p a) (h dropped_store) (p dropped_store) t3 s4 (next_file ∷ []) g2 (Some 2) k8 in
-    let w21 : World = world (p a) (h dropped_store) (p dropped_store) t3 s4 (next_file ∷ []) g2 None k8 in
+    let w20 : World = world (p a) (h d) (p dropped_store) t3 s5 (next_file ∷ []) g2 (Some 2) k7 in
+    let w21 : World = world (p a) (h dropped_store) (p dropped_store) t3 s5 (next_file ∷ []) g2 (Some 2) k8 in
+    let w22 : World = world (p a) (h dropped_store) (p dropped_store) t3 s5 (next_file ∷ []) g2 None k8 in
     let grown_b : Grown t1 e won t2 = record { lineage = []; stands = Contains-append_left ([] ∷ []) ((lost.change ∷ []) ∷ []) [] (Contains-push [] []); position_is = position_of-nothing ∙ sym end_of-none; is = refl } in
     let h01 : Leases w00 g1 (Some 0) w01 = leased (p e) (r e) (p e) t0 [] [] [] g1 None (Some 0) [] in
     let h02 : LedTurn w01 0 File Done w02 =
@@ -206,20 +216,22 @@ told lost won next_file l w n differ =
     (goes-apply 1 2 (copy_of won) t3 (Some 2) next_file)
     in
     let h17 : Leases w16 g2 (Some 2) w17 = leased (p a) (h d) (p c) t3 s3 (next_file ∷ []) g2 g2 (Some 2) (Some 2) k6 in
-    let h18 : LedTurn w17 2 File Done w18 =
-    turn-2 (p a) (h d) (p c) (p dropped_store) t3 t3 s3 (next_file ∷ []) g2 (Some 2) k6 File Done (DropAll ∷ []) None (drops-it c (written-second b won next_file n)) tt (goes-drop 2 2 c t3 (Some 2)) in
-    let h19 : LedTurn w18 2 (Hello (after next_file) None) Gone w19 =
-    turn-2 (p a) (h d) (p dropped_store) (p dropped_store) t3 t3 s3 (next_file ∷ []) g2 (Some 2) k7 (Hello (after next_file) None) Gone [] None (says-gone won next_file n) tt
+    let h18 : LedTurn w17 2 (Hello nowhere None) (Item (both won next_file)) w18 =
+    turn-2 (p a) (h d) (p c) (p c) t3 t3 s3 (next_file ∷ []) g2 (Some 2) k6 (Hello nowhere None) (Item (both won next_file)) [] None (sends-both won next_file w becomes) tt (goes-idle 2 2 c t3 (Some 2)) in
+    let h19 : LedTurn w18 2 File Done w19 =
+    turn-2 (p a) (h d) (p c) (p dropped_store) t3 t3 s4 (next_file ∷ []) g2 (Some 2) k6 File Done (DropAll ∷ []) None (drops-it c (written-second b won next_file n)) tt (goes-drop 2 2 c t3 (Some 2)) in
+    let h20 : LedTurn w19 2 (Hello (after next_file) None) Gone w20 =
+    turn-2 (p a) (h d) (p dropped_store) (p dropped_store) t3 t3 s4 (next_file ∷ []) g2 (Some 2) k7 (Hello (after next_file) None) Gone [] None (says-gone won next_file n) tt
     (goes-idle 2 2 dropped_store t3 (Some 2))
     in
-    let h20 : LedTurn w19 1 Drop (Applied nowhere) w20 =
-    turn-1 (p a) (h d) (p dropped_store) (h dropped_store) t3 t3 s4 (next_file ∷ []) g2 (Some 2) k7 Drop (Applied nowhere) (DropAll ∷ []) None
-    (drops-too d (written-second (copy_of won) won next_file n)) (Contains-push s3 DropFrame) (goes-drop 1 2 d t3 (Some 2))
+    let h21 : LedTurn w20 1 Drop (Applied nowhere) w21 =
+    turn-1 (p a) (h d) (p dropped_store) (h dropped_store) t3 t3 s5 (next_file ∷ []) g2 (Some 2) k7 Drop (Applied nowhere) (DropAll ∷ []) None
+    (drops-too d (written-second (copy_of won) won next_file n)) (Contains-push s4 DropFrame) (goes-drop 1 2 d t3 (Some 2))
     in
-    let h21 : Leases w20 g2 None w21 = leased (p a) (h dropped_store) (p dropped_store) t3 s4 (next_file ∷ []) g2 g2 (Some 2) None k8 in
+    let h22 : Leases w21 g2 None w22 = leased (p a) (h dropped_store) (p dropped_store) t3 s5 (next_file ∷ []) g2 g2 (Some 2) None k8 in
     record {
       first = w00;
-      last = w21;
+      last = w22;
       start = record {
         stores = λ k. (empty-at k).0;
         served = λ k. (empty-at k).1;
@@ -231,13 +243,13 @@ told lost won next_file l w n differ =
       runs =
           goes {v = w01} h01 (goes {v = w02} h02.turn (goes {v = w03} h03.turn (goes {v = w04} h04.turn (goes {v = w05} h05 (goes {v = w06} h06.turn (goes {v = w07} h07
           (goes {v = w08} h08.turn (goes {v = w09} h09.turn (goes {v = w10} h10.turn (goes {v = w11} h11.turn (goes {v = w12} h12.turn (goes {v = w13} h13.turn (goes {v = w14} h14.turn
-          (goes {v = w15} h15.turn (goes {v = w16} h16.turn (goes {v = w17} h17 (goes {v = w18} h18.turn (goes {v = w19} h19.turn (goes {v = w20} h20.turn (goes {v = w21} h21 ends))))))))))))))))))));
-      led = (tt, (h02.leads, (h03.leads, (h04.leads, (tt, (h06.leads, (tt, (h08.leads, (h09.leads, (h10.leads, (h11.leads, (h12.leads, (h13.leads, (h14.leads, (h15.leads, (h16.leads, (tt, (h18.leads, (h19.leads, (h20.leads, (tt, tt)))))))))))))))))))));
+          (goes {v = w15} h15.turn (goes {v = w16} h16.turn (goes {v = w17} h17 (goes {v = w18} h18.turn (goes {v = w19} h19.turn (goes {v = w20} h20.turn (goes {v = w21} h21.turn (goes {v = w22} h22 ends)))))))))))))))))))));
+      led = (tt, (h02.leads, (h03.leads, (h04.leads, (tt, (h06.leads, (tt, (h08.leads, (h09.leads, (h10.leads, (h11.leads, (h12.leads, (h13.leads, (h14.leads, (h15.leads, (h16.leads, (tt, (h18.leads, (h19.leads, (h20.leads, (h21.leads, (tt, tt))))))))))))))))))))));
       one_image = one-image lost won next_file l w differ;
       tree = refl;
     }
 
 pub something_happens-of : SomethingHappens
 something_happens-of lost won new l w n differ =
-    told (first_file lost) (first_file won) (second_file won new) (first-is lost l) (first-is won w) (second-is won new w n)
+    told (first_file lost) (first_file won) (second_file won new) (first-is lost l) (first-is won w) (second-is won new w n) (become-one won new n)
     (λ same. differ (ap (λ (p : Pos). p.sum) same))

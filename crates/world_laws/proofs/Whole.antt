@@ -49,17 +49,17 @@ no_file : {T : Type 0} (file : Ltx) → DropFrame ≡ FileFrame file → T
 no_file file same = cc
 
 -- a file that a step sends
-sent_of : (tree : List Lineage) (old new : NodeState) (role : Role) (did : List StoreCall) (failed : Option Failure) → Contains tree [] → IsAllowed tree old.store → (ask : Ask) (answer : Answer) →
-    Answers old role ask did failed answer new → (file : Ltx) → Contains (sent_by ask answer) (FileFrame file) → IsSendable tree file
-sent_of tree old new role did failed never allowed (Hello position last) (Item other) answers file here = elim (Contains-push_cases [] (FileFrame other) (FileFrame file) here) [
+sent_of : (tree : List Lineage) (old new : NodeState) (role : Role) (did : List StoreCall) (failed : Option Failure) → OneImagePerPosition tree → Contains tree [] → IsAllowed tree old.store →
+    (ask : Ask) (answer : Answer) → Answers old role ask did failed answer new → (file : Ltx) → Contains (sent_by ask answer) (FileFrame file) → IsSendable tree file
+sent_of tree old new role did failed one never allowed (Hello position last) (Item other) answers file here = elim (Contains-push_cases [] (FileFrame other) (FileFrame file) here) [
   | inl none_at ↦ absurd (omega (arith, none_at.1))
-  | inr same ↦ subst (λ (f : Ltx). IsSendable tree f) (same_file other file same) (owed-sendable tree never allowed answers.2 answers.1)
+  | inr same ↦ subst (λ (f : Ltx). IsSendable tree f) (same_file other file same) (owed-sendable tree one never allowed answers.2 answers.1)
 ]
-sent_of tree old new role did failed never allowed (Hello position last) Gone answers file here = elim (Contains-push_cases [] DropFrame (FileFrame file) here) [
+sent_of tree old new role did failed one never allowed (Hello position last) Gone answers file here = elim (Contains-push_cases [] DropFrame (FileFrame file) here) [
   | inl none_at ↦ absurd (omega (arith, none_at.1))
   | inr same ↦ no_file file same
 ]
-sent_of tree old new role did failed never allowed ask answer answers file here = absurd (omega (arith, here.1))
+sent_of tree old new role did failed one never allowed ask answer answers file here = absurd (omega (arith, here.1))
 
 one_commit : (tree grown : List Lineage) (store : StoreState) (file : Ltx) (did : List StoreCall) → OneImagePerPosition grown → IsAllowed tree store → CanDoAll store did →
     GrowsAlong tree store did grown → did ≡ Commit (completed_over store file) ∷ [] → IsAccepted grown file
@@ -91,7 +91,7 @@ turn-safe w v k ask answer one safe turn =
       nodes = others-safe w v k extends safe turn.others (turn-node w v k ask answer one safe turn);
       sent = λ file here. Sendable-more w.tree v.tree file extends (elim (Contains-append_cases w.sent (sent_by ask answer) (FileFrame file) (subst (λ (s : List SentFrame). Contains s (FileFrame file)) turn.along.sent here)) [
         | inl before ↦ safe.sent file before
-        | inr now ↦ sent_of w.tree old (v.nodes k) facts.role facts.did facts.failed safe.never_written (safe.nodes k).allowed ask answer facts.answers file now
+        | inr now ↦ sent_of w.tree old (v.nodes k) facts.role facts.did facts.failed (One-fewer w.tree v.tree extends one) safe.never_written (safe.nodes k).allowed ask answer facts.answers file now
       ]);
       accepted = λ file here. elim (Contains-append_cases w.accepted (accepted_by ask answer) file (subst (λ (s : List Ltx). Contains s file) turn.along.accepted here)) [
         | inl before ↦ Accepted-more w.tree v.tree file extends (safe.accepted file before)

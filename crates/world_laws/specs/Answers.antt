@@ -1,11 +1,12 @@
 -- What an answer of a node says of its step: which answers an ask has, and the cause of each refusal.
 --
--- A follower is told that it is level, gets one file, or is told that the database is gone. What it says of its last
+-- A follower is told that it is level, gets one file, or is told that the database is gone. The one file is of the log,
+-- does what several files of it do that stand one behind another, or is the snapshot. What the follower says of its last
 -- file may make its position count as unknown. A frame is applied, held
 -- back by a lock that somebody holds, or refused. A commit of a halted node is sent and kept, and its reply brings the
 -- node to where the file leads, or changes nothing. Of other asks no answer says anything, but that a refusal and Held
 -- leave every call undone.
-use Rattle.std.specs.Prelude.{◌≡◌, ◌≢◌, ◌⊎◌, ◌==◌, ◌≤◌, Bool, true, false, List, [], ◌∷◌, length, Contains, Option, None, Some, IsSome, if◌then◌else◌}
+use Rattle.std.specs.Prelude.{◌≡◌, ◌≢◌, ◌⊎◌, ◌==◌, ◌≤◌, Bool, true, false, List, [], ◌∷◌, ◌++◌, length, Contains, Option, None, Some, IsSome, if◌then◌else◌}
 use Rattle.lf_base.specs.declared.pos.Pos.{Pos}
 use Rattle.lf_base.specs.Faults.{Rose}
 use Rattle.lf_sqlite_pages.specs.LockPage.{IsWithinLimit}
@@ -14,6 +15,8 @@ use Rattle.ltx_codec.specs.declared.file.Ltx.{Ltx}
 use Rattle.ltx_codec.specs.Format.{IsFile}
 use Rattle.ltx_codec.specs.Positions.{after, before, nowhere, sum_after}
 use Rattle.lf_sqlite_pages.specs.Writes.{data_writes}
+use Rattle.ltx_compact.specs.Compaction.{Compacts}
+use Rattle.ltx_compact.specs.Joining.{AllJoin}
 use Rattle.world_laws.specs.declared.last_file.LastFile.{LastFile}
 use Rattle.world_laws.specs.declared.last_file.LastFile.TheVariants as last_file
 use Rattle.world_laws.specs.Lineage.{whole_file}
@@ -67,11 +70,19 @@ abbrev pub Knows : StoreState → Pos → Option LastFile → Type 0
 Knows store position last =
     (IsRelied store last × ((position ≡ at store) ⊎ ((file : Ltx) × Contains store.log file × (before file ≡ position)))) ⊎ IsBlank store
 
--- the file that a store owes a follower at that position: the one of its log that leads on, or the snapshot where the log does not
--- know the position, and where the last file may be another than the log's
+-- files that stand one behind another in a log
+pub record IsRunOf (log files : List Ltx) : Type 0 where
+  pub front : List Ltx
+  pub behind : List Ltx
+  pub is : log ≡ front ++ files ++ behind
+
+-- the file that a store owes a follower at that position: the one of its log that leads on, or one that stands for this file and
+-- some behind it; or the snapshot where the log does not know the position, and where the last file may be another than the log's
 pub data Owes : StoreState → Pos → Option LastFile → Ltx → Type 0 where
   by_file : {store : StoreState} {position : Pos} {last : Option LastFile} {file : Ltx} → Contains store.log file → before file ≡ position → IsRelied store last
       → Owes store position last file
+  by_run : {store : StoreState} {position : Pos} {last : Option LastFile} {files : List Ltx} {file : Ltx} → IsRunOf store.log files → AllJoin files
+      → Compacts files file → before file ≡ position → IsRelied store last → Owes store position last file
   by_snapshot : {store : StoreState} {position : Pos} {last : Option LastFile} → 1 ≤ (at store).txid → (Knows store position last → ⊥)
       → Owes store position last (snapshot_of store)
   by_doubt : {store : StoreState} {position : Pos} {last : Option LastFile} → 1 ≤ (at store).txid → MayDoubt store last

@@ -4,14 +4,16 @@
 -- Then node 2, whose disk is empty, is granted the lease, and its commit of another first file fails from its rename
 -- on; the restart finds it done: a fork. Node 0 still takes itself for the primary. Each of the two answers a position
 -- that it lacks by its snapshot. Node 1 installs the winner's, then the loser's, which comes late, then the winner's
--- again. It gets a write permit, sends a commit to node 2, which accepts it, and is told so. Last, node 2 drops the
--- database, tells a follower so, and node 1 drops it too.
+-- again. It gets a write permit, sends a commit to node 2, which accepts it, and is told so. A follower whose disk is empty gets
+-- one file of node 2 for the two that its log then has. Last, node 2 drops the database, tells a follower so, and node 1 drops it
+-- too.
 use Rattle.std.specs.Prelude.{◌≡◌, ◌≢◌, ℕ, List, [], ◌∷◌, length, None, true}
 use Rattle.lf_sqlite_pages.specs.Change.{PageChange}
 use Rattle.ltx_codec.specs.Fields.{AreBytes}
 use Rattle.ltx_codec.specs.Sums.{sum_of_writes}
 use Rattle.ltx_codec.specs.Positions.{after, nowhere}
 use Rattle.ltx_codec.specs.declared.file.Ltx.{Ltx}
+use Rattle.ltx_compact.specs.Compaction.{change_of, header_of}
 use Rattle.world_laws.specs.Answers.{snapshot_of}
 use Rattle.world_laws.specs.Events.{AreLed, Event, Grants, IsStart, Loses, Opens, Renews, Runs, Steps}
 use Rattle.world_laws.specs.Node.{Applied, Disk, Done, Drop, File, Forward, Forwarded, Frame, Gone, Hello, Item, Permit, Refused, Send}
@@ -59,6 +61,10 @@ first_file page = file_of 1 0 page
 abbrev pub second_file : List ℕ → List ℕ → Ltx
 second_file old page = file_of 2 (sum_of_page old) page
 
+-- the one file that stands for two
+abbrev pub both : Ltx → Ltx → Ltx
+both first second = record { header = header_of first second; change = change_of (first ∷ second ∷ []) second; post = second.post }
+
 abbrev pub store_of : Ltx → StoreState
 store_of file = with_file empty_store file
 
@@ -81,6 +87,7 @@ story lost won next =
     ∷ Steps 2 (Forward next) (Applied (after next))
     ∷ Steps 1 (Forwarded true) Done
     ∷ Renews
+    ∷ Steps 2 (Hello nowhere None) (Item (both won next))
     ∷ Steps 2 File Done
     ∷ Steps 2 (Hello (after next) None) Gone
     ∷ Steps 1 Drop (Applied nowhere)

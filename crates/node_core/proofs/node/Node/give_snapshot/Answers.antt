@@ -34,13 +34,13 @@ returns-in-Ok-clause-does g c =
     record {
       tells = (
         c.requires.primary,
-        inr record {
+        inr (inr record {
           owed = c.requires.owed;
           written = written;
           leads = c.pos-after.ensures.value;
           encoding = λ honest.
               c.of.ensures ∙ c.in-Ok.ensures.bytes honest ∙ ap (λ (l : List ℕ). l ++ file_encoding (snapshot_of (state h (fields_of s))) no_meaning) c.new-bytes.ensures.items;
-        },
+        }),
       );
       read = record {
         same = same;
