@@ -8,6 +8,7 @@ ghost use Rattle.database_file.specs.WritingParts.{counted, HasRooms, ArePut, Ma
 
 use crate::comparing::{is_committed, page_in};
 use crate::fault::FileFault;
+use crate::span::PageSpan;
 use lf_base::Failed;
 use lf_sqlite_pages::{Overlay, PageStore, lock_page, sound_store};
 
@@ -46,37 +47,36 @@ fn put(kept: &mut Overlay, n: u32, page: &[u8], same: bool)
     }
 }
 
-/// Keeps zeros for the pages behind the first `from` up to the first `to`, where the committed image
-/// has other bytes, and reserves room for `more` pages. After a fault nothing changed.
+/// Keeps zeros for the pages of a span where the committed image has other bytes, and reserves room
+/// for `more` pages. After a fault nothing changed.
 pub(crate) fn keep_zeros<S: PageStore>(
     kept: &mut Overlay,
     base: &mut S,
-    from: u32,
-    to: u32,
+    span: PageSpan,
     blank: &[u8],
     standing: &mut [u8],
     more: u32,
 ) -> Result<(), FileFault>
-    requires none { (n : ℕ) → (page : List ℕ) → pages.get kept.old.pages n ≡ Some page → n ≤ from }
-    requires within { to ≤ S.commit base.old }
-    requires size { from < to → length blank.now ≡ S.page_size base.old }
+    requires none { (n : ℕ) → (page : List ℕ) → pages.get kept.old.pages n ≡ Some page → n ≤ span.before }
+    requires within { span.after ≤ S.commit base.old }
+    requires size { span.before < span.after → length blank.now ≡ S.page_size base.old }
     requires some { 0 < length blank.now }
     requires small { length blank.now < 2 ^ 32 }
     requires blank { blank.now ≡ replicate (length blank.now) 0 }
     requires buffer { length standing.old ≡ length blank.now }
     requires few { more < 2 ^ 32 - 1 }
-    ensures zeros { OnOk result (MayKeepZeros kept.old.pages from to (length blank.now) kept.new.pages) }
-    ensures told { OnOk result (IfSome (S.image base.old) (KeepsZeros kept.new.pages from to (length blank.now))) }
+    ensures zeros { OnOk result (MayKeepZeros kept.old.pages span.before span.after (length blank.now) kept.new.pages) }
+    ensures told { OnOk result (IfSome (S.image base.old) (KeepsZeros kept.new.pages span.before span.after (length blank.now))) }
     ensures room { OnOk result (HasRooms kept.new more (length blank.now)) }
     ensures err { OnErr result (kept.new.pages ≡ kept.old.pages) }
     ensures faults { OnOk result (S.faults base.new ≡ S.faults base.old) }
     ensures cause { IfErr result (HasCause (S.faults base.old) (S.faults base.new)) }
     ensures base { SameBase S.PageStore base.old base.new }
 {
-    match fill(kept, base, from, to, blank, standing, more) {
+    match fill(kept, base, span, blank, standing, more) {
         Ok(()) => Ok(()),
         Err(fault) => {
-            kept.cut(from);
+            kept.cut(span.before);
             Err(fault)
         }
     }
@@ -86,29 +86,28 @@ pub(crate) fn keep_zeros<S: PageStore>(
 fn fill<S: PageStore>(
     kept: &mut Overlay,
     base: &mut S,
-    from: u32,
-    to: u32,
+    span: PageSpan,
     blank: &[u8],
     standing: &mut [u8],
     more: u32,
 ) -> Result<(), FileFault>
-    requires within { to ≤ S.commit base.old }
-    requires size { from < to → length blank.now ≡ S.page_size base.old }
+    requires within { span.after ≤ S.commit base.old }
+    requires size { span.before < span.after → length blank.now ≡ S.page_size base.old }
     requires some { 0 < length blank.now }
     requires small { length blank.now < 2 ^ 32 }
     requires blank { blank.now ≡ replicate (length blank.now) 0 }
     requires buffer { length standing.old ≡ length blank.now }
     requires few { more < 2 ^ 32 - 1 }
-    ensures before { (n : ℕ) → n ≤ from → pages.get kept.new.pages n ≡ pages.get kept.old.pages n }
-    ensures zeros { OnOk result (MayKeepZeros kept.old.pages from to (length blank.now) kept.new.pages) }
-    ensures told { OnOk result (IfSome (S.image base.old) (KeepsZeros kept.new.pages from to (length blank.now))) }
+    ensures before { (n : ℕ) → n ≤ span.before → pages.get kept.new.pages n ≡ pages.get kept.old.pages n }
+    ensures zeros { OnOk result (MayKeepZeros kept.old.pages span.before span.after (length blank.now) kept.new.pages) }
+    ensures told { OnOk result (IfSome (S.image base.old) (KeepsZeros kept.new.pages span.before span.after (length blank.now))) }
     ensures room { OnOk result (HasRooms kept.new more (length blank.now)) }
     ensures faults { OnOk result (S.faults base.new ≡ S.faults base.old) }
     ensures cause { IfErr result (HasCause (S.faults base.old) (S.faults base.new)) }
     ensures base { SameBase S.PageStore base.old base.new }
 {
     kept.reserve(more, blank.len() as u32)?;
-    for number in from..to {
+    for number in span.before..span.after {
         keep_blank(kept, base, number + 1, blank, standing, more)?;
     }
     Ok(())

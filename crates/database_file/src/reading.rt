@@ -10,7 +10,7 @@ ghost use Rattle.database_file.specs.Fault.{HasCause, SameBase};
 
 use crate::database_file::DatabaseFile;
 use crate::fault::FileFault;
-use crate::span::span;
+use crate::span::{PageSpan, span};
 use lf_base::{Failed, NoMemory};
 use lf_sqlite_pages::{PageStore, sound_store};
 use std::alloc::Global;
@@ -131,28 +131,27 @@ impl DatabaseFile {
         Ok(())
     }
 
-    /// Puts the pages behind the first `before` pages up to the first `after`, as the file reads without
-    /// what it keeps of some pages, behind an empty text, one after another.
+    /// Puts the pages of a span, as the file reads without what it keeps of some pages, behind an empty
+    /// text, one after another.
     fn append_all<S: PageStore>(
         &self,
         passed: &[u32],
         base: &mut S,
-        before: u32,
-        after: u32,
+        span: PageSpan,
         page_size: u32,
         text: &mut Vec<u8>,
     ) -> Result<(), FileFault>
         requires fits { FitsShape (without_pages self.now passed.now) (S.page_size base.old) (S.commit base.old) }
-        requires order { before ≤ after }
+        requires order { span.before ≤ span.after }
         requires whole { page_size ≡ size_over self.now (S.page_size base.old) (S.commit base.old) }
         requires empty { text.old.items ≡ [] }
-        ensures bytes { OnOk result (IfSome (S.image base.old) (λ i. text.new.items ≡ concat (map (page_of (without_pages self.now passed.now) i) (range_with_len (before + 1) (after - before))))) }
-        ensures length { OnOk result (length text.new.items ≡ (after - before) * page_size) }
+        ensures bytes { OnOk result (IfSome (S.image base.old) (λ i. text.new.items ≡ concat (map (page_of (without_pages self.now passed.now) i) (range_with_len (span.before + 1) (span.after - span.before))))) }
+        ensures length { OnOk result (length text.new.items ≡ (span.after - span.before) * page_size) }
         ensures faults { OnOk result (S.faults base.new ≡ S.faults base.old) }
         ensures cause { IfErr result (HasCause (S.faults base.old) (S.faults base.new)) }
         ensures base { SameBase S.PageStore base.old base.new }
     {
-        for number in before..after {
+        for number in span.before..span.after {
             self.append(passed, base, number + 1, page_size, text)?;
         }
         Ok(())
@@ -204,8 +203,10 @@ impl DatabaseFile {
         self.append_all(
             passed,
             base,
-            before as u32,
-            after as u32,
+            PageSpan {
+                before: before as u32,
+                after: after as u32,
+            },
             page_size,
             &mut text,
         )?;

@@ -10,6 +10,7 @@ use crate::database_file::DatabaseFile;
 use crate::fault::FileFault;
 use crate::keeping::{counted, keep_zeros, put_all};
 use crate::reading::zeros;
+use crate::span::PageSpan;
 use lf_sqlite_pages::{PageStore, is_page_size, lock_page, sound_store};
 use std::alloc::Global;
 
@@ -70,8 +71,10 @@ impl DatabaseFile {
         keep_zeros(
             &mut self.kept,
             base,
-            count,
-            before.min(commit),
+            PageSpan {
+                before: count,
+                after: before.min(commit),
+            },
             blank.as_slice(),
             standing.as_mut_slice(),
             pages,
@@ -113,8 +116,10 @@ impl DatabaseFile {
         keep_zeros(
             &mut self.kept,
             base,
-            count,
-            pages.min(commit),
+            PageSpan {
+                before: count,
+                after: pages.min(commit),
+            },
             blank.as_slice(),
             standing.as_mut_slice(),
             0,

@@ -48,6 +48,13 @@ pub fn forget_log_write(file: &mut DatabaseFile, write: WaitingWrite)
     let_go(file, write.held.added.as_slice());
 }
 
+/// Bytes that a write puts into the log, and their place.
+#[derive(Clone, Copy, Debug)]
+struct LogPiece<'a> {
+    at: u64,
+    bytes: &'a [u8],
+}
+
 /// What a commit in the log needs, and the file with the pages that it keeps for that: the log has the
 /// new contents, and `news` the latest new frames. After a fault the file is as before.
 fn hold_commit<S: PageStore>(
@@ -56,8 +63,7 @@ fn hold_commit<S: PageStore>(
     log: &WalFile,
     base: &mut S,
     news: Change,
-    at: u64,
-    bytes: &[u8],
+    piece: &LogPiece<'_>,
 ) -> Result<LogCommit, FileFault>
     requires fits { FitsShape file.old (S.page_size base.old) (S.commit base.old) }
     requires some { 0 < committed_count (contents_of log.now) }
@@ -65,7 +71,7 @@ fn hold_commit<S: PageStore>(
     requires sized { 0 < count_over file.old (S.commit base.old) → size_over file.old (S.page_size base.old) (S.commit base.old) ≡ page_size_in (contents_of log.now) }
     ensures change { IfOk result (λ c. (first : ℕ) → news ≡ change_of (contents_of log.now) first (committed_count (contents_of log.now))
         → c.change ≡ change_over file.old (log_news (contents_of log.now) first (S.commit base.old)) (S.commit base.old)) }
-    ensures ready { IfOk result (IsHeld file.old file.new (S.page_size base.old) (S.commit base.old) at bytes.now) }
+    ensures ready { IfOk result (IsHeld file.old file.new (S.page_size base.old) (S.commit base.old) piece.now.at piece.now.bytes.now) }
     ensures told { IfOk result (λ c. IfSome (S.image base.old) (λ i. KeepsDifferences file.old i → Stays file.old file.new i c)) }
     ensures err { OnErr result (file.new ≡ file.old) }
     ensures cause { IfErr result (HasCause (S.faults base.old) (S.faults base.new)) }
@@ -75,14 +81,14 @@ fn hold_commit<S: PageStore>(
     let before = base.commit();
     news.sound();
     let change = log_change(alloc, file, log, news, before)?;
-    let bytes = Bytes::of(Vec::from_slice(alloc, bytes).map_err(NoMemory::from)?);
+    let bytes = Bytes::of(Vec::from_slice(alloc, piece.bytes).map_err(NoMemory::from)?);
     let mut page = zeros(alloc, change.page_size() as usize)?;
     let mut held = Held::new(alloc);
     match hold_pages(file, base, &mut held, &change, page.as_mut_slice()) {
         Ok(()) => {
             let commit = change.commit();
             let write = WaitingWrite {
-                at,
+                at: piece.at,
                 bytes,
                 held,
                 before,
@@ -104,8 +110,7 @@ fn limited_commit<S: PageStore>(
     log: &WalFile,
     base: &mut S,
     news: Change,
-    at: u64,
-    bytes: &[u8],
+    piece: &LogPiece<'_>,
 ) -> Result<LogCommit, LogWriteFault>
     requires fits { FitsShape file.old (S.page_size base.old) (S.commit base.old) }
     requires some { 0 < committed_count (contents_of log.now) }
@@ -113,7 +118,7 @@ fn limited_commit<S: PageStore>(
     requires sized { 0 < count_over file.old (S.commit base.old) → size_over file.old (S.page_size base.old) (S.commit base.old) ≡ page_size_in (contents_of log.now) }
     ensures change { IfOk result (λ c. (first : ℕ) → news ≡ change_of (contents_of log.now) first (committed_count (contents_of log.now))
         → c.change ≡ change_over file.old (log_news (contents_of log.now) first (S.commit base.old)) (S.commit base.old)) }
-    ensures ready { IfOk result (IsHeld file.old file.new (S.page_size base.old) (S.commit base.old) at bytes.now) }
+    ensures ready { IfOk result (IsHeld file.old file.new (S.page_size base.old) (S.commit base.old) piece.now.at piece.now.bytes.now) }
     ensures told { IfOk result (λ c. IfSome (S.image base.old) (λ i. KeepsDifferences file.old i → Stays file.old file.new i c)) }
     ensures limit { OnOk result (IsWithinLimit (page_size_in (contents_of log.now)) (last_size (contents_of log.now))) }
     ensures err { OnErr result (file.new ≡ file.old) }
@@ -124,7 +129,7 @@ fn limited_commit<S: PageStore>(
     if !is_within_limit(news.page_size(), news.commit()) {
         return Err(LogWriteFault::TooManyPages);
     }
-    let commit = hold_commit(alloc, file, log, base, news, at, bytes)?;
+    let commit = hold_commit(alloc, file, log, base, news, piece)?;
     Ok(commit)
 }
 
@@ -168,7 +173,8 @@ pub fn prepare_log_write<S: PageStore>(
     match log.write(page_size, at, bytes)? {
         WalNews::Stored => Ok(LogWrite::Stored),
         WalNews::Committed(news) => {
-            let commit = limited_commit(alloc, file, log, base, news, at, bytes);
+            let piece = LogPiece { at, bytes };
+            let commit = limited_commit(alloc, file, log, base, news, &piece);
             log.undo();
             Ok(LogWrite::Waiting(commit?))
         }

@@ -12,7 +12,7 @@ use Rattle.lf_sqlite_pages.specs.Change.{PageChange}
 use Rattle.lf_sqlite_pages.specs.Image.{DatabaseImage, SameImage}
 use Rattle.lf_sqlite_pages.specs.PageSize.{IsPageSize}
 use Rattle.lf_sqlite_pages.proofs.LockPages.{page_size-positive}
-use Rattle.wal_watch.specs.File.{Wal, contents_of}
+use Rattle.wal_watch.specs.File.{Wal, contents_of, after_write}
 use Rattle.wal_watch.specs.Frames.{page_size_in, size_in, is_header, committed_count}
 use Rattle.wal_watch.specs.News.{first_new, last_size, change_of, change_between, HasSameFrames}
 use Rattle.wal_watch.specs.Refusals.{IsSoundWrite, KeepsCommitted}
@@ -132,17 +132,17 @@ same-agrees None old mid log contents c may commits same = tt
 same-agrees (Some i) old mid log contents c may commits same = λ keeps agrees.
     subst (λ (x : DatabaseImage). SameImage x i) (commits may keeps agrees).led.leads same
 
-settled-none : (told : Option DatabaseImage) (page_size commit at : ℕ) (bytes : List ℕ) (old mid new : DatabaseFile) (log room later : Wal) (c : LogCommit) →
+pub settled-none : (told : Option DatabaseImage) (page_size commit at : ℕ) (bytes : List ℕ) (old mid new : DatabaseFile) (log room later : Wal) (c : LogCommit) →
     IsReady old mid (contents_of log) page_size commit at bytes c → HasRoomFor log room at bytes → MayChangeHeader old (contents_of log) (written at bytes (contents_of log)) →
     IsSoundWrite (contents_of log) (wanted_size page_size commit) at bytes → (0 < commit → IsPageSize page_size) →
     IfSome told (λ i. MayChangeHeader old (contents_of log) (written at bytes (contents_of log)) → KeepsDifferences old i → Agrees old i (contents_of log) → WaitsOver old mid i (written at bytes (contents_of log)) c) →
-    IsSettled told commit c mid room at bytes None new later → IsLogStored told page_size commit old log at bytes new later
-settled-none told page_size commit at bytes old mid new log room later c ready has may sound valid commits is =
-    let count : last_size (written at bytes (contents_of log)) ≡ commit = sym (ap (λ (x : PageChange). x.commit) ready.change) ∙ is.2 in
+    IsSettled told commit c mid None new → later ≡ after_write room at bytes → IsLogStored told page_size commit old log at bytes new later
+settled-none told page_size commit at bytes old mid new log room later c ready has may sound valid commits is wrote =
+    let count : last_size (written at bytes (contents_of log)) ≡ commit = sym (ap (λ (x : PageChange). x.commit) ready.change) ∙ is.1 in
     record {
       commits = record {
         nothing = λ off. refl;
-        made = λ on. same-made told c.change _ ready.change is.3;
+        made = λ on. same-made told c.change _ ready.change is.2;
         is = tt;
       };
       keeps = record {
@@ -150,10 +150,10 @@ settled-none told page_size commit at bytes old mid new log room later c ready h
           page_size_is = λ some. step-sized (contents_of log) bytes page_size commit at sound valid some (omega (arith, last_some (written at bytes (contents_of log)) some, count));
           commit_is = λ some. count;
         };
-        agrees = same-agrees told old mid (contents_of log) (written at bytes (contents_of log)) c may commits is.3;
+        agrees = same-agrees told old mid (contents_of log) (written at bytes (contents_of log)) c may commits is.2;
       };
       file = is.0 ∙ ready.back;
-      contents = ap (λ (w : Wal). w.contents) is.1 ∙ ap (λ (t : Option (List ℕ)). Some (written at bytes (unwrap_or t []))) has.contents;
+      contents = ap (λ (w : Wal). w.contents) wrote ∙ ap (λ (t : Option (List ℕ)). Some (written at bytes (unwrap_or t []))) has.contents;
     }
 
 -- one that waits
@@ -166,11 +166,11 @@ leads-on : (told : Option DatabaseImage) (old mid : DatabaseFile) (log : List �
 leads-on None old mid log contents c may commits = tt
 leads-on (Some i) old mid log contents c may commits = λ keeps agrees. (commits may keeps agrees).led
 
-settled-some : (told : Option DatabaseImage) (page_size commit at : ℕ) (bytes : List ℕ) (old mid : DatabaseFile) (log room : Wal) (c : LogCommit) →
+waits-some : (told : Option DatabaseImage) (page_size commit at : ℕ) (bytes : List ℕ) (old mid : DatabaseFile) (log room : Wal) (c : LogCommit) →
     IsReady old mid (contents_of log) page_size commit at bytes c → HasRoomFor log room at bytes → MayChangeHeader old (contents_of log) (written at bytes (contents_of log)) →
     IfSome told (λ i. MayChangeHeader old (contents_of log) (written at bytes (contents_of log)) → KeepsDifferences old i → Agrees old i (contents_of log) → WaitsOver old mid i (written at bytes (contents_of log)) c) →
     IfSome told (λ i. SameImage (apply i c.change) i → ⊥) → IsLogHeld told commit old log at bytes c mid room
-settled-some told page_size commit at bytes old mid log room c ready has may commits other = record {
+waits-some told page_size commit at bytes old mid log room c ready has may commits other = record {
   commits = record {
     nothing = λ off. absurd (let on : nat_lt (first_new (contents_of log) (written at bytes (contents_of log))) (committed_count (written at bytes (contents_of log))) ≡ true =
         grind (arith, nat_tests, ready.more) in cc (on, off));
@@ -187,17 +187,14 @@ settled-some told page_size commit at bytes old mid log room c ready has may com
   room = has;
 }
 
-pub settled : (told : Option DatabaseImage) (page_size commit at : ℕ) (bytes : List ℕ) (old mid new : DatabaseFile) (log room later : Wal) (c : LogCommit) (s : Option LogCommit) →
+pub settled-some : (told : Option DatabaseImage) (page_size commit at : ℕ) (bytes : List ℕ) (old mid new : DatabaseFile) (log room : Wal) (c d : LogCommit) →
     IsReady old mid (contents_of log) page_size commit at bytes c → HasRoomFor log room at bytes → MayChangeHeader old (contents_of log) (written at bytes (contents_of log)) →
-    IsSoundWrite (contents_of log) (wanted_size page_size commit) at bytes → (0 < commit → IsPageSize page_size) →
     IfSome told (λ i. MayChangeHeader old (contents_of log) (written at bytes (contents_of log)) → KeepsDifferences old i → Agrees old i (contents_of log) → WaitsOver old mid i (written at bytes (contents_of log)) c) →
-    IsSettled told commit c mid room at bytes s new later → LogWrites told page_size commit old log at bytes s new later
-settled told page_size commit at bytes old mid new log room later c None ready has may sound valid commits is =
-    settled-none told page_size commit at bytes old mid new log room later c ready has may sound valid commits is
-settled told page_size commit at bytes old mid new log room later c (Some d) ready has may sound valid commits is =
-    subst (λ (x : LogCommit). IsLogHeld told commit old log at bytes x new later) (sym is.0)
-    (subst (λ (f : DatabaseFile). IsLogHeld told commit old log at bytes c f later) (sym is.1)
-    (subst (λ (w : Wal). IsLogHeld told commit old log at bytes c mid w) (sym is.2) (settled-some told page_size commit at bytes old mid log room c ready has may commits is.3)))
+    IsSettled told commit c mid (Some d) new → IsLogHeld told commit old log at bytes d new room
+settled-some told page_size commit at bytes old mid new log room c d ready has may commits is =
+    subst (λ (x : LogCommit). IsLogHeld told commit old log at bytes x new room) (sym is.0)
+    (subst (λ (f : DatabaseFile). IsLogHeld told commit old log at bytes c f room) (sym is.1)
+    (waits-some told page_size commit at bytes old mid log room c ready has may commits is.2))
 
 -- the file with a write in store: a write that is done
 pub stored-state : (told : Option DatabaseImage) (page_size commit at : ℕ) (bytes : List ℕ) (file new : DatabaseFile) (held : Option Held) (s : DatabaseState) (log later : Wal) →

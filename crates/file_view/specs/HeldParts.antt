@@ -11,7 +11,7 @@ use Rattle.lf_base.specs.FileBytes.{written}
 use Rattle.lf_sqlite_pages.specs.Apply.{apply}
 use Rattle.lf_sqlite_pages.specs.Change.{PageChange}
 use Rattle.lf_sqlite_pages.specs.Image.{DatabaseImage, SameImage}
-use Rattle.wal_watch.specs.File.{Wal, contents_of, after_write}
+use Rattle.wal_watch.specs.File.{Wal, contents_of}
 use Rattle.file_view.specs.DatabaseState.{HeldWrite, DatabaseState}
 use Rattle.file_view.specs.LogRules.{LogCommits, LogKeeps, IsHeldFor}
 use Rattle.file_view.specs.declared.database.Held.{Held}
@@ -61,12 +61,10 @@ IsKept d = (h : Held) → d.held ≡ Some h → Remembers d.file h
 abbrev pub held_for : DatabaseFile → WaitingWrite → HeldWrite
 held_for file w = record { at = w.at; bytes = w.bytes; file = finished file w }
 
--- a commit that was prepared is done at once where it leaves the image as it is; else file and log stay for it
-abbrev pub IsSettled : Option DatabaseImage → ℕ → LogCommit → DatabaseFile → Wal → ℕ → List ℕ → Option LogCommit → DatabaseFile → Wal → Type 0
-IsSettled told commit c file log at bytes None new later =
-    (new ≡ forgotten file c.write) × (later ≡ after_write log at bytes) × (c.change.commit ≡ commit) × IfSome told (λ i. SameImage (apply i c.change) i)
-IsSettled told commit c file log at bytes (Some d) new later =
-    (d ≡ c) × (new ≡ file) × (later ≡ log) × IfSome told (λ i. SameImage (apply i c.change) i → ⊥)
+-- a commit that was prepared is forgotten where it leaves the image as it is; else the file stays for it
+abbrev pub IsSettled : Option DatabaseImage → ℕ → LogCommit → DatabaseFile → Option LogCommit → DatabaseFile → Type 0
+IsSettled told commit c file None new = (new ≡ forgotten file c.write) × (c.change.commit ≡ commit) × IfSome told (λ i. SameImage (apply i c.change) i)
+IsSettled told commit c file (Some d) new = (d ≡ c) × (new ≡ file) × IfSome told (λ i. SameImage (apply i c.change) i → ⊥)
 
 -- a write that is done, and the file stays
 pub record IsLogStored (told : Option DatabaseImage) (page_size commit : ℕ) (old : DatabaseFile) (log : Wal) (at : ℕ) (bytes : List ℕ) (new : DatabaseFile) (later : Wal) : Type 0 where

@@ -12,6 +12,7 @@ ghost use Rattle.file_view.specs.Refusal.{IsAllowed, HasReadCause};
 ghost use Rattle.file_view.specs.Requests.{write_rows};
 ghost use Rattle.file_view.specs.Served.{exists};
 
+use crate::asked::{Read, Write};
 use crate::errno::EPERM;
 use crate::fault::ViewFault;
 use crate::plan::Plan;
@@ -40,20 +41,17 @@ impl View {
         alloc: Global,
         scene: &Scene,
         base: &mut S,
-        node: u64,
-        fh: u64,
-        at: u64,
-        size: u32,
+        read: Read,
     ) -> Result<Plan, ViewFault>
         requires over { (scene.now.page_size ≡ S.page_size base.old) × (scene.now.commit ≡ S.commit base.old) }
         requires fits { FitsShape self.now.database (S.page_size base.old) (S.commit base.old) }
-        ensures done { IfOk result (λ plan. IsSomeAnd (file_number node) (λ file. (bytes : List ℕ) × HasRead (S.image base.old) self.now scene.now file at size bytes plan self.now)) }
-        ensures allowed { OnOk result (IsAllowed (handle_rows self.now scene.now node fh)) }
-        ensures cause { IfErr result (HasReadCause (read_needs (file_number node)) (handle_rows self.now scene.now node fh) (S.faults base.old) (S.faults base.new)) }
+        ensures done { IfOk result (λ plan. IsSomeAnd (file_number read.node) (λ file. (bytes : List ℕ) × HasRead (S.image base.old) self.now scene.now file read.at read.size bytes plan self.now)) }
+        ensures allowed { OnOk result (IsAllowed (handle_rows self.now scene.now read.node read.fh)) }
+        ensures cause { IfErr result (HasReadCause (read_needs (file_number read.node)) (handle_rows self.now scene.now read.node read.fh) (S.faults base.old) (S.faults base.new)) }
         ensures base { SameBase S.PageStore base.old base.new }
     {
-        let file = self.handle(scene, node, fh)?;
-        let bytes = self.read_file(alloc, scene, base, file, at, size)?;
+        let file = self.handle(scene, read.node, read.fh)?;
+        let bytes = self.read_file(alloc, scene, base, file, read)?;
         Ok(Plan::Reply(Reply::Bytes { bytes }))
     }
 
@@ -64,35 +62,33 @@ impl View {
         scene: &Scene,
         base: &mut S,
         file: FileKind,
-        given: Option<u64>,
-        at: u64,
-        bytes: &[u8],
+        write: &Write<'_>,
     ) -> Result<Plan, ViewFault>
         requires over { (scene.now.page_size ≡ S.page_size base.old) × (scene.now.commit ≡ S.commit base.old) }
         requires fits { FitsImage self.old (S.page_size base.old) (S.commit base.old) }
         requires there { exists self.old scene.now.role file ≡ true }
-        ensures done { IfOk result (λ plan. IsWritten (S.image base.old) self.old scene.now (Some file) at bytes.now plan self.new) }
-        ensures allowed { OnOk result (IsAllowed (write_rows self.old scene.now (Some file) given at bytes.now)) }
-        ensures cause { IfErr result (HasReadCause (write_needs (Some file)) (write_rows self.old scene.now (Some file) given at bytes.now) (S.faults base.old) (S.faults base.new)) }
+        ensures done { IfOk result (λ plan. IsWritten (S.image base.old) self.old scene.now (Some file) write.now.at write.now.bytes.now plan self.new) }
+        ensures allowed { OnOk result (IsAllowed (write_rows self.old scene.now (Some file) write.now.given write.now.at write.now.bytes.now)) }
+        ensures cause { IfErr result (HasReadCause (write_needs (Some file)) (write_rows self.old scene.now (Some file) write.now.given write.now.at write.now.bytes.now) (S.faults base.old) (S.faults base.new)) }
         ensures err { OnErr result (self.new ≡ self.old) }
         ensures base { SameBase S.PageStore base.old base.new }
     {
         match file {
             FileKind::Database => {
-                self.write_database(alloc, scene, base, given, at, bytes)?;
-                Ok(Plan::Reply(written(bytes)))
+                self.write_database(alloc, scene, base, write)?;
+                Ok(Plan::Reply(written(write.bytes)))
             }
             FileKind::Journal => {
-                let change = self.write_journal(alloc, scene, base, given, at, bytes)?;
-                Ok(Plan::of(written(bytes), change))
+                let change = self.write_journal(alloc, scene, base, write)?;
+                Ok(Plan::of(written(write.bytes), change))
             }
             FileKind::Wal => {
-                let change = self.write_log(alloc, scene, base, given, at, bytes)?;
-                Ok(Plan::of(written(bytes), change))
+                let change = self.write_log(alloc, scene, base, write)?;
+                Ok(Plan::of(written(write.bytes), change))
             }
             FileKind::Shm => {
-                self.write_shared(at, bytes)?;
-                Ok(Plan::Reply(written(bytes)))
+                self.write_shared(write.at, write.bytes)?;
+                Ok(Plan::Reply(written(write.bytes)))
             }
             FileKind::PosFile | FileKind::LockFile | FileKind::Primary => {
                 Err(ViewFault::Errno(EPERM))
@@ -107,22 +103,18 @@ impl View {
         alloc: Global,
         scene: &Scene,
         base: &mut S,
-        node: u64,
-        fh: u64,
-        at: u64,
-        given: Option<u64>,
-        bytes: &[u8],
+        write: &Write<'_>,
     ) -> Result<Plan, ViewFault>
         requires over { (scene.now.page_size ≡ S.page_size base.old) × (scene.now.commit ≡ S.commit base.old) }
         requires fits { FitsImage self.old (S.page_size base.old) (S.commit base.old) }
-        ensures done { IfOk result (λ plan. IsWritten (S.image base.old) self.old scene.now (file_number node) at bytes.now plan self.new) }
-        ensures allowed { OnOk result (IsAllowed (handle_rows self.old scene.now node fh ++ write_rows self.old scene.now (file_number node) given at bytes.now)) }
-        ensures cause { IfErr result (HasReadCause (write_needs (file_number node))
-            (handle_rows self.old scene.now node fh ++ write_rows self.old scene.now (file_number node) given at bytes.now) (S.faults base.old) (S.faults base.new)) }
+        ensures done { IfOk result (λ plan. IsWritten (S.image base.old) self.old scene.now (file_number write.now.node) write.now.at write.now.bytes.now plan self.new) }
+        ensures allowed { OnOk result (IsAllowed (handle_rows self.old scene.now write.now.node write.now.fh ++ write_rows self.old scene.now (file_number write.now.node) write.now.given write.now.at write.now.bytes.now)) }
+        ensures cause { IfErr result (HasReadCause (write_needs (file_number write.now.node))
+            (handle_rows self.old scene.now write.now.node write.now.fh ++ write_rows self.old scene.now (file_number write.now.node) write.now.given write.now.at write.now.bytes.now) (S.faults base.old) (S.faults base.new)) }
         ensures err { OnErr result (self.new ≡ self.old) }
         ensures base { SameBase S.PageStore base.old base.new }
     {
-        let file = self.handle(scene, node, fh)?;
-        self.write_file(alloc, scene, base, file, given, at, bytes)
+        let file = self.handle(scene, write.node, write.fh)?;
+        self.write_file(alloc, scene, base, file, write)
     }
 }

@@ -12,6 +12,7 @@ ghost use Rattle.file_view.specs.Refusal.{IsAllowed, HasCause, HasReadCause};
 ghost use Rattle.file_view.specs.Requests.{size_rows};
 ghost use Rattle.file_view.specs.Served.{exists};
 
+use crate::asked::Resize;
 use crate::errno::EPERM;
 use crate::fault::ViewFault;
 use crate::journal::JournalCall;
@@ -41,20 +42,19 @@ impl View {
         alloc: Global,
         scene: &Scene,
         base: &mut S,
-        node: u64,
         file: FileKind,
-        given: Option<u64>,
-        len: u64,
+        resize: Resize,
     ) -> Result<Plan, ViewFault>
         requires over { (scene.now.page_size ≡ S.page_size base.old) × (scene.now.commit ≡ S.commit base.old) }
         requires fits { FitsShape self.old.database (S.page_size base.old) (S.commit base.old) }
         requires there { exists self.old scene.now.role file ≡ true }
-        ensures done { IfOk result (λ plan. IsSized (S.image base.old) self.old scene.now node (Some file) len plan self.new) }
-        ensures allowed { OnOk result (IsAllowed (size_rows self.old scene.now (Some file) given len)) }
-        ensures cause { IfErr result (HasReadCause (size_needs (Some file)) (size_rows self.old scene.now (Some file) given len) (S.faults base.old) (S.faults base.new)) }
+        ensures done { IfOk result (λ plan. IsSized (S.image base.old) self.old scene.now resize.node (Some file) resize.len plan self.new) }
+        ensures allowed { OnOk result (IsAllowed (size_rows self.old scene.now (Some file) resize.given resize.len)) }
+        ensures cause { IfErr result (HasReadCause (size_needs (Some file)) (size_rows self.old scene.now (Some file) resize.given resize.len) (S.faults base.old) (S.faults base.new)) }
         ensures err { OnErr result (self.new ≡ self.old) }
         ensures base { SameBase S.PageStore base.old base.new }
     {
+        let Resize { node, given, len } = resize;
         match file {
             FileKind::Database => {
                 self.resize_database(alloc, scene, base, given, len)?;
@@ -86,20 +86,18 @@ impl View {
         alloc: Global,
         scene: &Scene,
         base: &mut S,
-        node: u64,
-        given: Option<u64>,
-        len: u64,
+        resize: Resize,
     ) -> Result<Plan, ViewFault>
         requires over { (scene.now.page_size ≡ S.page_size base.old) × (scene.now.commit ≡ S.commit base.old) }
         requires fits { FitsShape self.old.database (S.page_size base.old) (S.commit base.old) }
-        ensures done { IfOk result (λ plan. IsSized (S.image base.old) self.old scene.now node (file_number node) len plan self.new) }
-        ensures allowed { OnOk result (IsAllowed (served_rows self.old scene.now node ++ size_rows self.old scene.now (file_number node) given len)) }
-        ensures cause { IfErr result (HasReadCause (size_needs (file_number node))
-            (served_rows self.old scene.now node ++ size_rows self.old scene.now (file_number node) given len) (S.faults base.old) (S.faults base.new)) }
+        ensures done { IfOk result (λ plan. IsSized (S.image base.old) self.old scene.now resize.node (file_number resize.node) resize.len plan self.new) }
+        ensures allowed { OnOk result (IsAllowed (served_rows self.old scene.now resize.node ++ size_rows self.old scene.now (file_number resize.node) resize.given resize.len)) }
+        ensures cause { IfErr result (HasReadCause (size_needs (file_number resize.node))
+            (served_rows self.old scene.now resize.node ++ size_rows self.old scene.now (file_number resize.node) resize.given resize.len) (S.faults base.old) (S.faults base.new)) }
         ensures err { OnErr result (self.new ≡ self.old) }
         ensures base { SameBase S.PageStore base.old base.new }
     {
-        let file = self.served(scene, node)?;
-        self.size_file(alloc, scene, base, node, file, given, len)
+        let file = self.served(scene, resize.node)?;
+        self.size_file(alloc, scene, base, file, resize)
     }
 }

@@ -12,6 +12,7 @@ ghost use Rattle.wal_watch.specs.File.{contents_of};
 ghost use Rattle.lf_sqlite_pages.specs.PageSize.{IsPageSize};
 
 use crate::acting::writes;
+use crate::asked::Write;
 use crate::database::Database;
 use crate::errno::{EACCES, EAGAIN, EFBIG, EINVAL, EIO, ENOSPC, EPERM, EROFS};
 use crate::fault::ViewFault;
@@ -51,15 +52,27 @@ pub(crate) fn most_pages(size: u32) -> u64
     LARGEST_FILE / (u64::from(size) + 4)
 }
 
-/// Whether more pages may be kept than may be uncommitted, once `more` were written behind the first
-/// `before` ones.
-fn is_full(file: &Database, size: u32, commit: u32, before: u32, more: u32) -> bool
-    requires { 0 < size }
-    ensures { result ≡ is_past_uncommitted size (kept_at_most file.now.file commit before more) }
+/// Pages that are to be uncommitted: of a size, so many more behind the first ones, and whether page 1
+/// among them states another size.
+#[derive(Clone, Copy, Debug)]
+pub(crate) struct Uncommitted {
+    pub(crate) size: u32,
+    pub(crate) before: u32,
+    pub(crate) more: u32,
+    pub(crate) states_other: bool,
+}
+
+/// Whether more pages may be kept than may be uncommitted, once these were written.
+fn is_full(file: &Database, commit: u32, pages: Uncommitted) -> bool
+    requires { 0 < pages.size }
+    ensures { result ≡ is_past_uncommitted pages.size (kept_at_most file.now.file commit pages.before pages.more) }
 {
-    let back = before.min(commit).saturating_sub(file.count_over(commit));
-    let kept = (file.kept_pages() as u64).saturating_add(u64::from(back) + u64::from(more));
-    UNCOMMITTED_LIMIT / u64::from(size) < kept
+    let back = pages
+        .before
+        .min(commit)
+        .saturating_sub(file.count_over(commit));
+    let kept = (file.kept_pages() as u64).saturating_add(u64::from(back) + u64::from(pages.more));
+    UNCOMMITTED_LIMIT / u64::from(pages.size) < kept
 }
 
 /// Whether a write of page 1 states another page size.
@@ -129,18 +142,15 @@ impl View {
             || writes(&self.locks, scene.session, given, LockId::Ckpt)
     }
 
-    /// The rule that refuses uncommitted pages, if one does. `count` is how many may be kept then.
+    /// The rule that refuses uncommitted pages, if one does.
     pub(crate) fn uncommitted_refusal(
         &self,
         scene: &Scene,
         given: Option<u64>,
-        size: u32,
-        before: u32,
-        more: u32,
-        states_other: bool,
+        pages: Uncommitted,
     ) -> Option<Errno>
-        requires { 0 < size }
-        ensures { result ≡ first_refusal (uncommitted_rows self.now scene.now given size (kept_at_most self.now.database scene.now.commit before more) states_other) }
+        requires { 0 < pages.size }
+        ensures { result ≡ first_refusal (uncommitted_rows self.now scene.now given pages.size (kept_at_most self.now.database scene.now.commit pages.before pages.more) pages.states_other) }
     {
         if self.has_committed_frames() && !self.database.is_clean() {
             return Some(EPERM);
@@ -151,10 +161,10 @@ impl View {
         if self.torn.is_some() {
             return Some(EIO);
         }
-        if is_full(&self.database, size, scene.commit, before, more) {
+        if is_full(&self.database, scene.commit, pages) {
             return Some(ENOSPC);
         }
-        if states_other {
+        if pages.states_other {
             return Some(EPERM);
         }
         if self.waits() {
@@ -164,23 +174,16 @@ impl View {
     }
 
     /// The rule that refuses a checkpoint of some pages, if one does.
-    fn checkpoint_refusal(
-        &self,
-        scene: &Scene,
-        given: Option<u64>,
-        size: u32,
-        at: u64,
-        bytes: &[u8],
-    ) -> Option<Errno>
+    fn checkpoint_refusal(&self, scene: &Scene, size: u32, write: &Write<'_>) -> Option<Errno>
         requires some { 0 < size }
-        requires numbered { at / size + length bytes.now / size < 2 ^ 31 }
-        ensures { result ≡ first_refusal (checkpoint_rows self.now scene.now given size at bytes.now) }
+        requires numbered { write.now.at / size + length write.now.bytes.now / size < 2 ^ 31 }
+        ensures { result ≡ first_refusal (checkpoint_rows self.now scene.now write.now.given size write.now.at write.now.bytes.now) }
     {
-        if !self.may_checkpoint(scene, given) {
+        if !self.may_checkpoint(scene, write.given) {
             return Some(EACCES);
         }
-        let first = (at / u64::from(size)) as u32 + 1;
-        if !hold_frames(&self.log, size, first, bytes) {
+        let first = (write.at / u64::from(size)) as u32 + 1;
+        if !hold_frames(&self.log, size, first, write.bytes) {
             return Some(EPERM);
         }
         if self.waits() {
@@ -190,20 +193,13 @@ impl View {
     }
 
     /// The rule that refuses a write of a page size at whole pages, if one does.
-    fn pages_refusal(
-        &self,
-        scene: &Scene,
-        given: Option<u64>,
-        size: u32,
-        at: u64,
-        bytes: &[u8],
-    ) -> Option<Errno>
+    fn pages_refusal(&self, scene: &Scene, size: u32, write: &Write<'_>) -> Option<Errno>
         requires some { 0 < size }
-        ensures { result ≡ first_refusal (sized_write_rows self.now scene.now given at bytes.now (Some size)) }
+        ensures { result ≡ first_refusal (sized_write_rows self.now scene.now write.now.given write.now.at write.now.bytes.now (Some size)) }
     {
-        let before = at / u64::from(size);
-        let count = bytes.len() as u64 / u64::from(size);
-        if !are_pages(size, at, bytes.len() as u64) {
+        let before = write.at / u64::from(size);
+        let count = write.bytes.len() as u64 / u64::from(size);
+        if !are_pages(size, write.at, write.bytes.len() as u64) {
             return Some(EINVAL);
         }
         let most = most_pages(size);
@@ -211,27 +207,26 @@ impl View {
             return Some(EFBIG);
         }
         if self.journal.is_active() {
-            let other = states_other(size, at, bytes);
-            self.uncommitted_refusal(scene, given, size, before as u32, count as u32, other)
+            let pages = Uncommitted {
+                size,
+                before: before as u32,
+                more: count as u32,
+                states_other: states_other(size, write.at, write.bytes),
+            };
+            self.uncommitted_refusal(scene, write.given, pages)
         } else {
-            self.checkpoint_refusal(scene, given, size, at, bytes)
+            self.checkpoint_refusal(scene, size, write)
         }
     }
 
     /// The page size of a write that no rule refuses.
-    fn write_allowed(
-        &self,
-        scene: &Scene,
-        given: Option<u64>,
-        at: u64,
-        bytes: &[u8],
-    ) -> Result<u32, ViewFault>
+    fn write_allowed(&self, scene: &Scene, write: &Write<'_>) -> Result<u32, ViewFault>
         requires fits { FitsShape self.now.database scene.now.page_size scene.now.commit }
         requires sized { 0 < scene.now.commit → IsPageSize scene.now.page_size }
-        ensures size { IfOk result (λ size. write_size self.now scene.now at bytes.now ≡ Some size) }
-        ensures may { IfOk result (MayWrite self.now scene.now at bytes.now) }
-        ensures allowed { OnOk result (IsAllowed (database_write_rows self.now scene.now given at bytes.now)) }
-        ensures cause { IfErr result (HasCause needs.Nothing (database_write_rows self.now scene.now given at bytes.now)) }
+        ensures size { IfOk result (λ size. write_size self.now scene.now write.now.at write.now.bytes.now ≡ Some size) }
+        ensures may { IfOk result (MayWrite self.now scene.now write.now.at write.now.bytes.now) }
+        ensures allowed { OnOk result (IsAllowed (database_write_rows self.now scene.now write.now.given write.now.at write.now.bytes.now)) }
+        ensures cause { IfErr result (HasCause needs.Nothing (database_write_rows self.now scene.now write.now.given write.now.at write.now.bytes.now)) }
     {
         if scene.is_broken {
             return Err(ViewFault::Errno(EIO));
@@ -239,10 +234,10 @@ impl View {
         if scene.role.is_replica() {
             return Err(ViewFault::Errno(EROFS));
         }
-        let Some(size) = self.write_size(scene, at, bytes) else {
+        let Some(size) = self.write_size(scene, write.at, write.bytes) else {
             return Err(ViewFault::Errno(EINVAL));
         };
-        match self.pages_refusal(scene, given, size, at, bytes) {
+        match self.pages_refusal(scene, size, write) {
             Some(errno) => Err(ViewFault::Errno(errno)),
             None => Ok(size),
         }
@@ -266,23 +261,22 @@ impl View {
         alloc: Global,
         scene: &Scene,
         base: &mut S,
-        given: Option<u64>,
-        at: u64,
-        bytes: &[u8],
+        write: &Write<'_>,
     ) -> Result<(), ViewFault>
         requires over { (scene.now.page_size ≡ S.page_size base.old) × (scene.now.commit ≡ S.commit base.old) }
         requires fits { FitsShape self.old.database (S.page_size base.old) (S.commit base.old) }
-        ensures done { OnOk result ((size : ℕ) → write_size self.old scene.now at bytes.now ≡ Some size → IsDatabaseWritten (S.image base.old) self.old scene.now size at bytes.now self.new) }
-        ensures allowed { OnOk result (IsAllowed (database_write_rows self.old scene.now given at bytes.now)) }
-        ensures cause { IfErr result (HasReadCause needs.Pages (database_write_rows self.old scene.now given at bytes.now) (S.faults base.old) (S.faults base.new)) }
+        ensures done { OnOk result ((size : ℕ) → write_size self.old scene.now write.now.at write.now.bytes.now ≡ Some size → IsDatabaseWritten (S.image base.old) self.old scene.now size write.now.at write.now.bytes.now self.new) }
+        ensures allowed { OnOk result (IsAllowed (database_write_rows self.old scene.now write.now.given write.now.at write.now.bytes.now)) }
+        ensures cause { IfErr result (HasReadCause needs.Pages (database_write_rows self.old scene.now write.now.given write.now.at write.now.bytes.now) (S.faults base.old) (S.faults base.new)) }
         ensures err { OnErr result (self.new ≡ self.old) }
         ensures base { SameBase S.PageStore base.old base.new }
     {
         sound_store(base);
-        let size = self.write_allowed(scene, given, at, bytes)?;
-        let first = (at / u64::from(size)) as u32 + 1;
+        let size = self.write_allowed(scene, write)?;
+        let first = (write.at / u64::from(size)) as u32 + 1;
         let writer = self.writer_after();
-        self.database.write_pages(alloc, base, size, first, bytes)?;
+        self.database
+            .write_pages(alloc, base, size, first, write.bytes)?;
         self.writer = writer;
         Ok(())
     }

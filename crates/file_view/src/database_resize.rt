@@ -9,7 +9,7 @@ ghost use Rattle.file_view.specs.Refusal.{first_refusal, IsAllowed, HasCause, Ha
 ghost use Rattle.lf_sqlite_pages.specs.PageSize.{IsPageSize};
 ghost use Rattle.wal_watch.specs.File.{contents_of};
 
-use crate::database_requests::most_pages;
+use crate::database_requests::{Uncommitted, most_pages};
 use crate::errno::{EACCES, EAGAIN, EFBIG, EINVAL, EIO, EPERM, EROFS};
 use crate::fault::ViewFault;
 use crate::scene::Scene;
@@ -75,7 +75,13 @@ impl View {
             return if self.waits() { Some(EAGAIN) } else { None };
         }
         if self.journal.is_active() {
-            self.uncommitted_refusal(scene, given, size, count, 0, false)
+            let pages = Uncommitted {
+                size,
+                before: count,
+                more: 0,
+                states_other: false,
+            };
+            self.uncommitted_refusal(scene, given, pages)
         } else {
             self.checkpoint_resize_refusal(scene, given, count)
         }

@@ -1,19 +1,23 @@
-//! WRITE, SETATTR of a size and UNLINK of the journal, and the commits that they end in.
+//! WRITE, SETATTR of a size and UNLINK of the journal: the rules, the call, and the commit that it ends in.
 ghost use Rattle.std.specs.Prelude.{◌≡◌, ◌≤◌, None, IsSome, IfNone, IfOk, IfErr, OnOk, OnErr};
 ghost use Rattle.database_file.specs.DatabaseFile.{FitsShape};
 ghost use Rattle.database_file.specs.Fault.{SameBase, HasCause as HasFileCause};
 ghost use Rattle.file_view.specs.JournalState.{reach};
 ghost use Rattle.file_view.specs.JournalRules.{may_write_journal, ends_writing, finishing_rows, journal_rows, journal_unlink_rows, after_journal_call, JournalCommits, JournalDone};
-ghost use Rattle.file_view.specs.Refusal.{first_refusal};
+ghost use Rattle.file_view.specs.Refusal.{first_refusal, IsAllowed, HasReadCause};
+ghost use Rattle.file_view.specs.declared.journal.JournalCall.TheVariants as call;
+ghost use Rattle.file_view.specs.Needs as needs;
 
 use crate::acting::writes;
+use crate::asked::Write;
 use crate::errno::{EACCES, EAGAIN, EIO, ENOSPC, EPERM, EROFS};
+use crate::fault::ViewFault;
 use crate::journal::JournalCall;
 use crate::scene::Scene;
 use crate::view::View;
 use byte_locks::{LockId, LockTable};
 use database_file::FileFault;
-use lf_base::{Errno, NoMemory};
+use lf_base::{Bytes, Errno, NoMemory};
 use lf_sqlite_pages::{Change, PageStore};
 use std::alloc::Global;
 
@@ -24,6 +28,14 @@ fn may_write_journal(locks: &LockTable, session: u64, given: Option<u64>) -> boo
     writes(locks, session, given, LockId::Reserved)
         || writes(locks, session, given, LockId::Pending)
         || writes(locks, session, given, LockId::Shared)
+}
+
+/// A copy of some bytes.
+fn copied(alloc: Global, bytes: &[u8]) -> Result<Bytes, NoMemory>
+    ensures { IfOk result (λ copy. copy ≡ bytes.now) }
+{
+    let copy = Vec::from_slice(alloc, bytes)?;
+    Ok(Bytes::of(copy))
 }
 
 impl View {
@@ -175,5 +187,80 @@ impl View {
                 Ok(None)
             }
         }
+    }
+
+    /// A write to the journal, or a change of its size.
+    #[tactic(auto, using(crate::proofs::FaultLemmas::read_cause))]
+    pub(crate) fn change_journal<S: PageStore>(
+        &mut self,
+        alloc: Global,
+        scene: &Scene,
+        base: &mut S,
+        given: Option<u64>,
+        call: JournalCall,
+    ) -> Result<Option<Change>, ViewFault>
+        requires over { (scene.now.page_size ≡ S.page_size base.old) × (scene.now.commit ≡ S.commit base.old) }
+        requires fits { FitsShape self.old.database (S.page_size base.old) (S.commit base.old) }
+        requires there { IsSome self.old.journal.file }
+        ensures done { IfOk result (λ change. JournalDone (S.image base.old) self.old scene.now call change self.new) }
+        ensures allowed { OnOk result (IsAllowed (journal_rows self.old scene.now given call)) }
+        ensures cause { IfErr result (HasReadCause needs.Pages (journal_rows self.old scene.now given call) (S.faults base.old) (S.faults base.new)) }
+        ensures err { OnErr result (self.new ≡ self.old) }
+        ensures base { SameBase S.PageStore base.old base.new }
+    {
+        if let Some(errno) = self.journal_refusal(scene, given, &call) {
+            return Err(ViewFault::Errno(errno));
+        }
+        let change = self.call_journal(alloc, scene, base, call)?;
+        Ok(change)
+    }
+
+    /// WRITE to the journal: the change that it commits, if it commits one.
+    pub(crate) fn write_journal<S: PageStore>(
+        &mut self,
+        alloc: Global,
+        scene: &Scene,
+        base: &mut S,
+        write: &Write<'_>,
+    ) -> Result<Option<Change>, ViewFault>
+        requires over { (scene.now.page_size ≡ S.page_size base.old) × (scene.now.commit ≡ S.commit base.old) }
+        requires fits { FitsShape self.old.database (S.page_size base.old) (S.commit base.old) }
+        requires there { IsSome self.old.journal.file }
+        ensures done { IfOk result (λ change. JournalDone (S.image base.old) self.old scene.now (call.Write write.now.at write.now.bytes.now) change self.new) }
+        ensures allowed { OnOk result (IsAllowed (journal_rows self.old scene.now write.now.given (call.Write write.now.at write.now.bytes.now))) }
+        ensures cause { IfErr result (HasReadCause needs.Pages (journal_rows self.old scene.now write.now.given (call.Write write.now.at write.now.bytes.now)) (S.faults base.old) (S.faults base.new)) }
+        ensures err { OnErr result (self.new ≡ self.old) }
+        ensures base { SameBase S.PageStore base.old base.new }
+    {
+        let bytes = copied(alloc, write.bytes)?;
+        let call = JournalCall::Write {
+            at: write.at,
+            bytes,
+        };
+        self.change_journal(alloc, scene, base, write.given, call)
+    }
+
+    /// UNLINK of the journal: the change that it commits, if it commits one.
+    #[tactic(auto, using(crate::proofs::FaultLemmas::read_cause))]
+    pub(crate) fn unlink_journal<S: PageStore>(
+        &mut self,
+        alloc: Global,
+        scene: &Scene,
+        base: &mut S,
+    ) -> Result<Option<Change>, ViewFault>
+        requires over { (scene.now.page_size ≡ S.page_size base.old) × (scene.now.commit ≡ S.commit base.old) }
+        requires fits { FitsShape self.old.database (S.page_size base.old) (S.commit base.old) }
+        requires there { IsSome self.old.journal.file }
+        ensures done { IfOk result (λ change. JournalDone (S.image base.old) self.old scene.now call.Unlink change self.new) }
+        ensures allowed { OnOk result (IsAllowed (journal_unlink_rows self.old scene.now)) }
+        ensures cause { IfErr result (HasReadCause needs.Pages (journal_unlink_rows self.old scene.now) (S.faults base.old) (S.faults base.new)) }
+        ensures err { OnErr result (self.new ≡ self.old) }
+        ensures base { SameBase S.PageStore base.old base.new }
+    {
+        if let Some(errno) = self.journal_unlink_refusal(scene) {
+            return Err(ViewFault::Errno(errno));
+        }
+        let change = self.call_journal(alloc, scene, base, JournalCall::Unlink)?;
+        Ok(change)
     }
 }

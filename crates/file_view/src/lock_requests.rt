@@ -8,8 +8,10 @@ ghost use Rattle.file_view.specs.LockRules.{locks_at, grant_rows, setlk_rows, af
 ghost use Rattle.file_view.specs.Needs as needs;
 ghost use Rattle.file_view.specs.Needs.{lock_needs};
 ghost use Rattle.file_view.specs.Refusal.{IsAllowed, HasCause};
+ghost use Rattle.file_view.specs.Requests.{owner_of};
 
 use crate::acting::{settle_database, settle_index, settle_torn};
+use crate::asked::Lock;
 use crate::errno::{EAGAIN, ENOLCK, EROFS};
 use crate::fault::ViewFault;
 use crate::scene::Scene;
@@ -101,22 +103,16 @@ impl View {
     }
 
     /// SETLK and SETLKW.
-    pub(crate) fn setlk(
-        &mut self,
-        scene: &Scene,
-        node: u64,
-        fh: u64,
-        owner: Owner,
-        locks: LockSet,
-        wish: LockWish,
-    ) -> Result<(), ViewFault>
-        ensures done { OnOk result (self.new ≡ after_wish self.old owner locks wish) }
-        ensures allowed { OnOk result (IsAllowed (setlk_rows self.old scene.now node fh owner locks wish)) }
-        ensures cause { IfErr result (HasCause (lock_needs wish) (setlk_rows self.old scene.now node fh owner locks wish)) }
+    pub(crate) fn setlk(&mut self, scene: &Scene, lock: Lock) -> Result<(), ViewFault>
+        ensures done { OnOk result (self.new ≡ after_wish self.old (owner_of scene.now lock.owner) (locks_at lock.node lock.start lock.end) lock.wish) }
+        ensures allowed { OnOk result (IsAllowed (setlk_rows self.old scene.now lock.node lock.fh (owner_of scene.now lock.owner) (locks_at lock.node lock.start lock.end) lock.wish)) }
+        ensures cause { IfErr result (HasCause (lock_needs lock.wish) (setlk_rows self.old scene.now lock.node lock.fh (owner_of scene.now lock.owner) (locks_at lock.node lock.start lock.end) lock.wish)) }
         ensures err { OnErr result (self.new ≡ self.old) }
     {
-        self.lock_handle(scene, node, fh)?;
-        match wish {
+        self.lock_handle(scene, lock.node, lock.fh)?;
+        let owner = scene.owner(lock.owner);
+        let locks = locks_at(lock.node, lock.start, lock.end);
+        match lock.wish {
             LockWish::Read => self.grant(scene, owner, locks, LockKind::Read),
             LockWish::Write => self.grant(scene, owner, locks, LockKind::Write),
             LockWish::Unlock => {
@@ -127,55 +123,32 @@ impl View {
     }
 
     /// The lock that is in the way of an owner, or the range where none is.
-    fn conflict_reply(
-        &self,
-        owner: Owner,
-        locks: LockSet,
-        kind: LockKind,
-        start: u64,
-        end: u64,
-    ) -> Reply
-        ensures { result ≡ conflict_reply self.now.locks start end (conflict self.now.locks owner locks kind) }
+    fn conflict_reply(&self, scene: &Scene, lock: Lock, kind: LockKind) -> Reply
+        ensures { result ≡ conflict_reply self.now.locks lock.start lock.end (conflict self.now.locks (owner_of scene.now lock.owner) (locks_at lock.node lock.start lock.end) kind) }
     {
+        let owner = scene.owner(lock.owner);
+        let locks = locks_at(lock.node, lock.start, lock.end);
         match self.locks.first_conflict(owner, locks, kind) {
-            None => Reply::Lock {
-                start,
-                end,
-                kind: LockWish::Unlock,
-            },
-            Some((lock, holder)) => Reply::Lock {
-                start: lock.first_byte(),
-                end: lock.last_byte(),
-                kind: wish_of(self.locks.holds(holder, lock)),
+            None => lock.free(),
+            Some((found, holder)) => Reply::Lock {
+                start: found.first_byte(),
+                end: found.last_byte(),
+                kind: wish_of(self.locks.holds(holder, found)),
             },
         }
     }
 
     /// GETLK.
-    pub(crate) fn getlk(
-        &self,
-        scene: &Scene,
-        node: u64,
-        fh: u64,
-        owner: Owner,
-        start: u64,
-        end: u64,
-        wish: LockWish,
-    ) -> Result<Reply, ViewFault>
-        ensures done { IfOk result (λ reply. reply ≡ getlk_reply self.now owner (locks_at node start end) start end wish) }
-        ensures allowed { OnOk result (IsAllowed (lock_handle_rows self.now scene.now node fh)) }
-        ensures cause { IfErr result (HasCause needs.Nothing (lock_handle_rows self.now scene.now node fh)) }
+    pub(crate) fn getlk(&self, scene: &Scene, lock: Lock) -> Result<Reply, ViewFault>
+        ensures done { IfOk result (λ reply. reply ≡ getlk_reply self.now (owner_of scene.now lock.owner) (locks_at lock.node lock.start lock.end) lock.start lock.end lock.wish) }
+        ensures allowed { OnOk result (IsAllowed (lock_handle_rows self.now scene.now lock.node lock.fh)) }
+        ensures cause { IfErr result (HasCause needs.Nothing (lock_handle_rows self.now scene.now lock.node lock.fh)) }
     {
-        self.lock_handle(scene, node, fh)?;
-        let locks = locks_at(node, start, end);
-        Ok(match wish {
-            LockWish::Read => self.conflict_reply(owner, locks, LockKind::Read, start, end),
-            LockWish::Write => self.conflict_reply(owner, locks, LockKind::Write, start, end),
-            LockWish::Unlock => Reply::Lock {
-                start,
-                end,
-                kind: LockWish::Unlock,
-            },
+        self.lock_handle(scene, lock.node, lock.fh)?;
+        Ok(match lock.wish {
+            LockWish::Read => self.conflict_reply(scene, lock, LockKind::Read),
+            LockWish::Write => self.conflict_reply(scene, lock, LockKind::Write),
+            LockWish::Unlock => lock.free(),
         })
     }
 }

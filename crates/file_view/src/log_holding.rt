@@ -1,7 +1,6 @@
 //! A write to the log, done at once or held until its commit.
 ghost use Rattle.std.specs.Prelude.{◌≡◌, ◌<◌, false, None, IsSome, IfOk, IfErr, OnOk, OnErr, length};
 ghost use Rattle.lf_base.specs.FileBytes.{written};
-ghost use Rattle.lf_sqlite_pages.specs.Blocks.{IsWithin};
 ghost use Rattle.database_file.specs.DatabaseFile.{FitsShape};
 ghost use Rattle.database_file.specs.Fault.{HasCause, SameBase};
 ghost use Rattle.database_under_log.specs.Fault.{HasWriteCause, wanted_size};
@@ -22,22 +21,16 @@ use lf_sqlite_pages::{Change, PageStore, sound_store};
 use std::alloc::Global;
 use wal_watch::WalFile;
 
-/// Does a write at once whose commit leaves the image as it is.
+/// The commit, where it alters the image; else its write is forgotten, as it is after a fault.
 fn settle_commit<S: PageStore>(
     alloc: Global,
     file: &mut DatabaseFile,
-    log: &mut WalFile,
     base: &mut S,
-    at: u64,
-    bytes: &[u8],
     commit: LogCommit,
 ) -> Result<Option<LogCommit>, FileFault>
-    requires there { IsSome log.old.contents }
-    requires room { IsWithin log.old.room at (length bytes.now) }
     requires sized { 0 < S.commit base.old → S.page_size base.old ≡ commit.change.page_size }
-    ensures settled { IfOk result (λ c. IsSettled (S.image base.old) (S.commit base.old) commit file.old log.old at bytes.now c file.new log.new) }
+    ensures settled { IfOk result (λ c. IsSettled (S.image base.old) (S.commit base.old) commit file.old c file.new) }
     ensures err_file { OnErr result (file.new ≡ forgotten file.old commit.write) }
-    ensures err_log { OnErr result (log.new ≡ log.old) }
     ensures cause { IfErr result (HasCause (S.faults base.old) (S.faults base.new)) }
     ensures base { SameBase S.PageStore base.old base.new }
 {
@@ -45,7 +38,6 @@ fn settle_commit<S: PageStore>(
         Ok(false) => Ok(Some(commit)),
         Ok(true) => {
             forget_log_write(file, commit.write);
-            log.write_within(at, bytes);
             Ok(None)
         }
         Err(fault) => {
@@ -80,10 +72,13 @@ fn write_or_prepare<S: PageStore>(
     sound_store(base);
     match prepare_log_write(alloc, file, log, base, at, bytes)? {
         LogWrite::Stored => Ok(None),
-        LogWrite::Waiting(commit) => {
-            let settled = settle_commit(alloc, file, log, base, at, bytes, commit)?;
-            Ok(settled)
-        }
+        LogWrite::Waiting(commit) => match settle_commit(alloc, file, base, commit)? {
+            Some(commit) => Ok(Some(commit)),
+            None => {
+                log.write_within(at, bytes);
+                Ok(None)
+            }
+        },
     }
 }
 

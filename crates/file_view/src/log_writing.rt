@@ -13,6 +13,7 @@ ghost use Rattle.file_view.specs.Refusal.{first_refusal, IsAllowed, HasReadCause
 ghost use Rattle.file_view.specs.Served.{log_contents, waits};
 
 use crate::acting::writes;
+use crate::asked::Write;
 use crate::errno::{EACCES, EAGAIN, EFBIG, EINVAL, EIO, ENOSPC, EPERM, EROFS};
 use crate::fault::ViewFault;
 use crate::log_trial::commits_too_many;
@@ -81,26 +82,20 @@ impl View {
     }
 
     /// The rule that refuses a write before its commit is looked at, if one does.
-    fn log_write_refusal(
-        &self,
-        scene: &Scene,
-        given: Option<u64>,
-        at: u64,
-        bytes: &[u8],
-    ) -> Option<Errno>
-        ensures refused { IfSome result (λ e. first_refusal (log_write_rows self.now scene.now given at bytes.now) ≡ Some e) }
-        ensures passed { IfNone result (first_refusal (log_write_rows self.now scene.now given at bytes.now) ≡ first_refusal (log_commit_rows self.now at bytes.now)) }
-        ensures sound { IfNone result (IsSoundWrite (log_contents self.now) (wanted_size scene.now.page_size scene.now.commit) at bytes.now) }
-        ensures header { IfNone result (MayChangeHeader self.now.database (log_contents self.now) (log_after self.now at bytes.now)) }
+    fn log_write_refusal(&self, scene: &Scene, write: &Write<'_>) -> Option<Errno>
+        ensures refused { IfSome result (λ e. first_refusal (log_write_rows self.now scene.now write.now.given write.now.at write.now.bytes.now) ≡ Some e) }
+        ensures passed { IfNone result (first_refusal (log_write_rows self.now scene.now write.now.given write.now.at write.now.bytes.now) ≡ first_refusal (log_commit_rows self.now write.now.at write.now.bytes.now)) }
+        ensures sound { IfNone result (IsSoundWrite (log_contents self.now) (wanted_size scene.now.page_size scene.now.commit) write.now.at write.now.bytes.now) }
+        ensures header { IfNone result (MayChangeHeader self.now.database (log_contents self.now) (log_after self.now write.now.at write.now.bytes.now)) }
         ensures writer { IfNone result (self.now.writer ≡ None) }
     {
-        if let Some(errno) = self.log_owner_refusal(scene, given) {
+        if let Some(errno) = self.log_owner_refusal(scene, write.given) {
             return Some(errno);
         }
-        if let Some(errno) = own_refusal(&self.log, wanted_size(scene), at, bytes) {
+        if let Some(errno) = own_refusal(&self.log, wanted_size(scene), write.at, write.bytes) {
             return Some(errno);
         }
-        if self.begins_anew(at, bytes) {
+        if self.begins_anew(write.at, write.bytes) {
             return Some(EPERM);
         }
         None
@@ -128,30 +123,28 @@ impl View {
         alloc: Global,
         scene: &Scene,
         base: &mut S,
-        given: Option<u64>,
-        at: u64,
-        bytes: &[u8],
+        write: &Write<'_>,
     ) -> Result<Option<Change>, ViewFault>
         requires over { (scene.now.page_size ≡ S.page_size base.old) × (scene.now.commit ≡ S.commit base.old) }
         requires fits { FitsShape self.old.database (S.page_size base.old) (S.commit base.old) }
         requires follows { FollowsImage (log_contents self.old) (S.page_size base.old) (S.commit base.old) }
         requires there { IsSome self.old.log }
-        ensures done { IfOk result (λ change. LogDone (S.image base.old) self.old scene.now at bytes.now change self.new) }
-        ensures allowed { OnOk result (IsAllowed (log_write_rows self.old scene.now given at bytes.now)) }
-        ensures cause { IfErr result (HasReadCause needs.Pages (log_write_rows self.old scene.now given at bytes.now) (S.faults base.old) (S.faults base.new)) }
+        ensures done { IfOk result (λ change. LogDone (S.image base.old) self.old scene.now write.now.at write.now.bytes.now change self.new) }
+        ensures allowed { OnOk result (IsAllowed (log_write_rows self.old scene.now write.now.given write.now.at write.now.bytes.now)) }
+        ensures cause { IfErr result (HasReadCause needs.Pages (log_write_rows self.old scene.now write.now.given write.now.at write.now.bytes.now) (S.faults base.old) (S.faults base.new)) }
         ensures err { OnErr result (self.new ≡ self.old) }
         ensures base { SameBase S.PageStore base.old base.new }
     {
-        if let Some(errno) = self.log_write_refusal(scene, given, at, bytes) {
+        if let Some(errno) = self.log_write_refusal(scene, write) {
             return Err(ViewFault::Errno(errno));
         }
         if self.waits() {
-            let errno = self.waiting_refusal(scene, at, bytes)?;
+            let errno = self.waiting_refusal(scene, write.at, write.bytes)?;
             return Err(ViewFault::Errno(errno));
         }
         let change = self
             .database
-            .write_log(alloc, &mut self.log, base, at, bytes)?;
+            .write_log(alloc, &mut self.log, base, write.at, write.bytes)?;
         Ok(change)
     }
 }

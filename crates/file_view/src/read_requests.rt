@@ -10,6 +10,7 @@ ghost use Rattle.journal_watch.specs.Journal.{bytes_of};
 ghost use Rattle.wal_watch.specs.File.{contents_of};
 ghost use Rattle.shm_index.specs.Shared.{bytes_of as shared_bytes};
 
+use crate::asked::Read;
 use crate::journal::Journal;
 use crate::scene::Scene;
 use crate::view::View;
@@ -110,29 +111,28 @@ impl View {
         }
     }
 
-    /// Reads as many bytes of a file from `at` on as there are, at most `size`.
+    /// Reads as many bytes of a file as there are of those that are asked for.
     pub(crate) fn read_file<S: PageStore>(
         &self,
         alloc: Global,
         scene: &Scene,
         base: &mut S,
         file: FileKind,
-        at: u64,
-        size: u32,
+        read: Read,
     ) -> Result<Bytes, FileFault>
         requires fits { FitsShape self.now.database (S.page_size base.old) (S.commit base.old) }
-        ensures done { IfOk result (IsReading (S.image base.old) self.now scene.now file at size) }
+        ensures done { IfOk result (IsReading (S.image base.old) self.now scene.now file read.at read.size) }
         ensures cause { IfErr result (HasFileCause (S.faults base.old) (S.faults base.new)) }
         ensures pages { IfErr result (λ e. e ≡ fault.Unread → file ≡ FileKind.Database) }
         ensures base { SameBase S.PageStore base.old base.new }
     {
         match file {
             FileKind::Database => {
-                let bytes = self.database.read(alloc, base, at, size)?;
+                let bytes = self.database.read(alloc, base, read.at, read.size)?;
                 Ok(Bytes::of(bytes))
             }
             _ => {
-                let bytes = self.read_contents(alloc, scene, file, at, size)?;
+                let bytes = self.read_contents(alloc, scene, file, read.at, read.size)?;
                 Ok(Bytes::of(bytes))
             }
         }

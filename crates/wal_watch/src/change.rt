@@ -25,29 +25,35 @@ fn is_before(frame: usize, other: Option<usize>) -> bool
     }
 }
 
-/// The data pages within `commit` that the frames from `first` to `count` hold, each with the latest
-/// frame of it. A frame that the index knows a later one of is passed over.
+/// Frames of a log: those from `first` on, before `count`.
+#[derive(Clone, Copy, Debug)]
+struct FrameRun {
+    first: usize,
+    count: usize,
+}
+
+/// The data pages within `commit` that some frames hold, each with the latest frame of it. A frame
+/// that the index knows a later one of is passed over.
 fn pages_held(
     alloc: Global,
     contents: &Blocks,
     index: &FrameIndex,
-    first: usize,
-    count: usize,
+    frames: FrameRun,
     page_size: u32,
     commit: u32,
 ) -> Result<BTreeMap<u32, usize>, NoMemory>
     requires size { page_size ≡ page_size_in contents.now.bytes }
     requires some { 0 < page_size }
-    requires room { frame_place contents.now.bytes count ≤ length contents.now.bytes }
+    requires room { frame_place contents.now.bytes frames.count ≤ length contents.now.bytes }
     requires short { length contents.now.bytes < 2 ^ 62 }
-    requires order { first ≤ count }
+    requires order { frames.first ≤ frames.count }
     requires index { IsIndex contents.now.bytes index.now }
-    requires few { indexed index.now ≤ count }
-    ensures { IfOk result (HoldsPages contents.now.bytes commit first count) }
+    requires few { indexed index.now ≤ frames.count }
+    ensures { IfOk result (HoldsPages contents.now.bytes commit frames.first frames.count) }
 {
     let lock = lock_page(page_size);
     let mut pages = BTreeMap::new(alloc);
-    for frame in first..count {
+    for frame in frames.first..frames.count {
         let page = number_in(contents, page_size, frame);
         let latest = index.latest(page);
         if page <= commit && page != lock && !is_before(frame, latest) {
@@ -57,28 +63,27 @@ fn pages_held(
     Ok(pages)
 }
 
-/// The change that the frames from `first` to `count` make. `page` is a buffer of one page.
+/// The change that some frames make. `page` is a buffer of one page.
 fn change_by(
     alloc: Global,
     contents: &Blocks,
     index: &FrameIndex,
-    first: usize,
-    count: usize,
+    frames: FrameRun,
     mut change: Change,
     page: &mut [u8],
 ) -> Result<Change, NoMemory>
-    requires committed { HasCommitted contents.now.bytes count }
+    requires committed { HasCommitted contents.now.bytes frames.count }
     requires short { length contents.now.bytes < 2 ^ 62 }
-    requires order { first ≤ count }
-    requires empty { change ≡ empty_change (page_size_in contents.now.bytes) (size_in contents.now.bytes (count - 1)) }
+    requires order { frames.first ≤ frames.count }
+    requires empty { change ≡ empty_change (page_size_in contents.now.bytes) (size_in contents.now.bytes (frames.count - 1)) }
     requires buffer { length page.old ≡ page_size_in contents.now.bytes }
     requires index { IsIndex contents.now.bytes index.now }
-    requires few { indexed index.now ≤ count }
-    ensures { IfOk result (λ change. change ≡ change_of contents.now.bytes first count) }
+    requires few { indexed index.now ≤ frames.count }
+    ensures { IfOk result (λ change. change ≡ change_of contents.now.bytes frames.first frames.count) }
 {
     let page_size = change.page_size();
     let commit = change.commit();
-    let mut pages = pages_held(alloc, contents, index, first, count, page_size, commit)?;
+    let mut pages = pages_held(alloc, contents, index, frames, page_size, commit)?;
     while let Some((number, frame)) = pages.pop_first() {
         fill_page(contents, page_size, frame, page);
         change.push(number, page)?;
@@ -112,8 +117,7 @@ pub fn news_from(
         alloc,
         contents,
         index,
-        first,
-        count,
+        FrameRun { first, count },
         change,
         page.as_mut_slice(),
     )?;

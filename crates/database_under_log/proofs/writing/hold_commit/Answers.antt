@@ -25,9 +25,9 @@ returns-in-Ok-clause-ready g c =
     record {
       at_is = refl;
       bytes_are = search rules;
-      back = went-back c.args.file.now c.hold_pages.new.file (record { at = c.args.at; bytes = c.of-bytes.result; added = c.hold_pages.new.held.added.items; same = c.hold_pages.new.held.same.items; before = c.commit-before.result; commit = c.commit-commit.result }) c.in-Ok.ensures.back c.in-Ok.ensures.shape.0 c.in-Ok.ensures.shape.1;
+      back = went-back c.args.file.now c.hold_pages.new.file (record { at = c.args.piece.now.at; bytes = c.of-bytes.result; added = c.hold_pages.new.held.added.items; same = c.hold_pages.new.held.same.items; before = c.commit-before.result; commit = c.commit-commit.result }) c.in-Ok.ensures.back c.in-Ok.ensures.shape.0 c.in-Ok.ensures.shape.1;
       fits = c.in-Ok.ensures.fits;
-      later = rw (← c.commit-commit.ensures) (fits-later c.hold_pages.new.file (record { at = c.args.at; bytes = c.of-bytes.result; added = c.hold_pages.new.held.added.items; same = c.hold_pages.new.held.same.items; before = c.commit-before.result; commit = c.commit-commit.result }) (g.S.PageStore.page_size c.args.base.now) (g.S.PageStore.commit c.args.base.now) c.in_ok-change.change.page_size c.in-Ok.ensures.fits
+      later = rw (← c.commit-commit.ensures) (fits-later c.hold_pages.new.file (record { at = c.args.piece.now.at; bytes = c.of-bytes.result; added = c.hold_pages.new.held.added.items; same = c.hold_pages.new.held.same.items; before = c.commit-before.result; commit = c.commit-commit.result }) (g.S.PageStore.page_size c.args.base.now) (g.S.PageStore.commit c.args.base.now) c.in_ok-change.change.page_size c.in-Ok.ensures.fits
           c.commit-before.ensures.value some (subst IsPageSize c.page_size.ensures.value c.page_size.ensures.sqlite)
           (same-sized c.args.file.now c.hold_pages.new.file (g.S.PageStore.page_size c.args.base.now) (g.S.PageStore.commit c.args.base.now) c.in_ok-change.change.page_size c.in-Ok.ensures.shape.0 c.in-Ok.ensures.shape.1
           (λ many. c.requires.sized many ∙ sym size)));
@@ -38,7 +38,7 @@ returns-in-Ok-clause-told g c =
     let is : c.in_ok-change.change ≡ change_over c.args.file.now (log_news (contents_of c.args.log.now) c.requires.news.0 c.commit-before.result) c.commit-before.result =
     c.in_ok-change.ensures c.requires.news.0 c.requires.news.1 in
     let some : 0 < c.in_ok-change.change.commit = omega (arith, ap (λ (x : PageChange). x.commit) is, last_some (contents_of c.args.log.now) c.requires.some) in
-    told-ready (g.S.PageStore.image c.args.base.now) c.args.file.now c.hold_pages.new.file (record { at = c.args.at; bytes = c.of-bytes.result; added = c.hold_pages.new.held.added.items; same = c.hold_pages.new.held.same.items; before = c.commit-before.result; commit = c.commit-commit.result }) c.in_ok-change.change (g.S.PageStore.page_size c.args.base.now) (g.S.PageStore.commit c.args.base.now)
+    told-ready (g.S.PageStore.image c.args.base.now) c.args.file.now c.hold_pages.new.file (record { at = c.args.piece.now.at; bytes = c.of-bytes.result; added = c.hold_pages.new.held.added.items; same = c.hold_pages.new.held.same.items; before = c.commit-before.result; commit = c.commit-commit.result }) c.in_ok-change.change (g.S.PageStore.page_size c.args.base.now) (g.S.PageStore.commit c.args.base.now)
     (rw (← c.commit-before.ensures.value) c.commit-before.ensures.told) c.commit-before.ensures.value c.commit-commit.ensures some c.in-Ok.ensures.shape.0 c.in-Ok.ensures.shape.1 c.in-Ok.ensures.fits
     c.in-Ok.ensures.told
 

@@ -7,7 +7,7 @@ use Rattle.wal_watch.proofs.change.change_by.Given as goal
 -- the change has the pages so far
 abbrev pub invariant-loop-number : goal.invariant-loop-number
 invariant-loop-number l = record {
-  taken : AreTaken l.contents.bytes l.commit l.first l.count l.pages l.change;
+  taken : AreTaken l.contents.bytes l.commit l.fn.frames.first l.fn.frames.count l.pages l.change;
   buffer : length l.page ≡ page_size_in l.contents.bytes;
 }
 

@@ -6,7 +6,7 @@ use Rattle.database_file.proofs.database_file.DatabaseFile.append_all.Goals as g
 
 pub loop-number-preserved : goal.loop-number-preserved
 loop-number-preserved g c =
-    let order : c.args.before ≤ c.loop-number.number = omega arith in
+    let order : c.args.span.before ≤ c.loop-number.number = omega arith in
     record {
       base = SameBase-trans c.loop-number.invariant.base c.in_ok-append.ensures.base;
       bytes = told_on _ _ (page_of (without_pages c.args.self.now c.args.passed.now)) _ _ _ _ order c.loop-number.invariant.base.image c.loop-number.invariant.bytes c.in_ok-append.ensures.bytes;

@@ -11,7 +11,7 @@ abbrev pub invariant-loop-number : goal.invariant-loop-number
 invariant-loop-number g l = record {
   base : SameBase g.S.PageStore l.fn.base l.base;
   bytes : IfSome (g.S.PageStore.image l.fn.base)
-      (λ (i : DatabaseImage). l.text.items ≡ concat (map (page_of (without_pages l.self l.passed) i) (range_with_len (l.before + 1) (l.number - l.before))));
+      (λ (i : DatabaseImage). l.text.items ≡ concat (map (page_of (without_pages l.self l.passed) i) (range_with_len (l.fn.span.before + 1) (l.number - l.fn.span.before))));
   faults : g.S.PageStore.faults l.base ≡ g.S.PageStore.faults l.fn.base;
-  size : length l.text.items ≡ (l.number - l.before) * l.page_size;
+  size : length l.text.items ≡ (l.number - l.fn.span.before) * l.page_size;
 }

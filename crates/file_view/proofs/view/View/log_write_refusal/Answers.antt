@@ -22,26 +22,26 @@ as-served o s scene contents size at bytes one two is =
 
 pub returns-in-Some-clause-refused : goal.returns-in-Some-clause-refused
 returns-in-Some-clause-refused c =
-    owner-refuses c.args.self.now c.args.scene.now c.args.given c.args.at c.args.bytes.now c.in-Some.errno c.in-Some.ensures.value
+    owner-refuses c.args.self.now c.args.scene.now c.args.write.now.given c.args.write.now.at c.args.write.now.bytes.now c.in-Some.errno c.in-Some.ensures.value
 
 pub returns-in-Some-own_refusal-clause-refused : goal.returns-in-Some-own_refusal-clause-refused
 returns-in-Some-own_refusal-clause-refused c =
-    own-refuses c.args.self.now c.args.scene.now c.args.given c.args.at c.args.bytes.now c.in-Some-own_refusal.errno c.in_default.ensures.value
-    (as-served _ c.args.self.now c.args.scene.now (contents_of c.self.inside.log) c.wanted_size.result c.args.at c.args.bytes.now (ap log_contents c.self.view_is) c.wanted_size.ensures
+    own-refuses c.args.self.now c.args.scene.now c.args.write.now.given c.args.write.now.at c.args.write.now.bytes.now c.in-Some-own_refusal.errno c.in_default.ensures.value
+    (as-served _ c.args.self.now c.args.scene.now (contents_of c.self.inside.log) c.wanted_size.result c.args.write.now.at c.args.write.now.bytes.now (ap log_contents c.self.view_is) c.wanted_size.ensures
     c.in-Some-own_refusal.ensures.value)
 
 pub returns-then-begins_anew-clause-refused : goal.returns-then-begins_anew-clause-refused
 returns-then-begins_anew-clause-refused c =
-    own-passes c.args.self.now c.args.scene.now c.args.given c.args.at c.args.bytes.now c.in_default.ensures.value
-    (as-served _ c.args.self.now c.args.scene.now (contents_of c.self.inside.log) c.wanted_size.result c.args.at c.args.bytes.now (ap log_contents c.self.view_is) c.wanted_size.ensures
+    own-passes c.args.self.now c.args.scene.now c.args.write.now.given c.args.write.now.at c.args.write.now.bytes.now c.in_default.ensures.value
+    (as-served _ c.args.self.now c.args.scene.now (contents_of c.self.inside.log) c.wanted_size.result c.args.write.now.at c.args.write.now.bytes.now (ap log_contents c.self.view_is) c.wanted_size.ensures
     c.in_default-own_refusal.ensures.value)
-    ∙ cond-true (begins_anew c.args.self.now c.args.at c.args.bytes.now) (Some EPERM) (first_refusal (log_commit_rows c.args.self.now c.args.at c.args.bytes.now))
+    ∙ cond-true (begins_anew c.args.self.now c.args.write.now.at c.args.write.now.bytes.now) (Some EPERM) (first_refusal (log_commit_rows c.args.self.now c.args.write.now.at c.args.write.now.bytes.now))
     (sym c.begins_anew.ensures.value ∙ c.if-begins_anew.true)
 
 pub returns-clause-passed : goal.returns-clause-passed
 returns-clause-passed c =
-    own-passes c.args.self.now c.args.scene.now c.args.given c.args.at c.args.bytes.now c.in_default.ensures.value
-    (as-served _ c.args.self.now c.args.scene.now (contents_of c.self.inside.log) c.wanted_size.result c.args.at c.args.bytes.now (ap log_contents c.self.view_is) c.wanted_size.ensures
+    own-passes c.args.self.now c.args.scene.now c.args.write.now.given c.args.write.now.at c.args.write.now.bytes.now c.in_default.ensures.value
+    (as-served _ c.args.self.now c.args.scene.now (contents_of c.self.inside.log) c.wanted_size.result c.args.write.now.at c.args.write.now.bytes.now (ap log_contents c.self.view_is) c.wanted_size.ensures
     c.in_default-own_refusal.ensures.value)
-    ∙ cond-false (begins_anew c.args.self.now c.args.at c.args.bytes.now) (Some EPERM) (first_refusal (log_commit_rows c.args.self.now c.args.at c.args.bytes.now))
+    ∙ cond-false (begins_anew c.args.self.now c.args.write.now.at c.args.write.now.bytes.now) (Some EPERM) (first_refusal (log_commit_rows c.args.self.now c.args.write.now.at c.args.write.now.bytes.now))
     (sym c.begins_anew.ensures.value ∙ c.if-begins_anew.false)

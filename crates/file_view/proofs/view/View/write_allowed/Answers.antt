@@ -9,6 +9,6 @@ pages_refusal-requires c = record { some = size-some c.in-Some.size c.in-Some.en
 pub returns-in-None-clause-may : goal.returns-in-None-clause-may
 returns-in-None-clause-may c = record {
   takes = c.in-Some.ensures.takes;
-  pages = write-pages c.args.self.now c.args.scene.now c.args.given c.args.at c.args.bytes.now c.in-Some.size (sym c.in-None.ensures);
-  owned = write-owned c.args.self.now c.args.scene.now c.args.given c.args.at c.args.bytes.now c.in-Some.size (sym c.in-None.ensures);
+  pages = write-pages c.args.self.now c.args.scene.now c.args.write.now.given c.args.write.now.at c.args.write.now.bytes.now c.in-Some.size (sym c.in-None.ensures);
+  owned = write-owned c.args.self.now c.args.scene.now c.args.write.now.given c.args.write.now.at c.args.write.now.bytes.now c.in-Some.size (sym c.in-None.ensures);
 }

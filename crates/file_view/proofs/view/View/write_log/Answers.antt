@@ -14,7 +14,7 @@ pub invariant_of-self-2 : goal.invariant_of-self-2
 invariant_of-self-2 g c =
     let free : waits c.args.self.now ≡ false = sym c.waits.ensures ∙ c.if-waits.false in
     wrote-kept (g.S.PageStore.image c.args.base.now) (g.S.PageStore.page_size c.args.base.now) (g.S.PageStore.commit c.args.base.now) c.args.scene.now c.self.inside
-    c.write_log.new.self c.write_log.new.log c.args.at c.args.bytes.now c.in_ok-change.change (rw (← c.self.view_is) at c.in_default.ensures.sound)
+    c.write_log.new.self c.write_log.new.log c.args.write.now.at c.args.write.now.bytes.now c.in_ok-change.change (rw (← c.self.view_is) at c.in_default.ensures.sound)
     (rw (← c.self.view_is) at c.in_default.ensures.header) (rw (← c.self.view_is) at c.in_default.ensures.writer) (rw (← c.self.view_is) at free) (rw (← c.self.view_is) at c.requires.there)
     c.in_ok-change.ensures.done c.self.invariant
 
@@ -22,4 +22,4 @@ pub returns-clause-done : goal.returns-clause-done
 returns-clause-done g c =
     rw (← c.self.view_is)
     (wrote-done (g.S.PageStore.image c.args.base.now) (g.S.PageStore.page_size c.args.base.now) (g.S.PageStore.commit c.args.base.now) c.args.scene.now c.self.inside
-    c.write_log.new.self c.write_log.new.log c.args.at c.args.bytes.now c.in_ok-change.change c.requires.over.0 c.requires.over.1 c.in_ok-change.ensures.done)
+    c.write_log.new.self c.write_log.new.log c.args.write.now.at c.args.write.now.bytes.now c.in_ok-change.change c.requires.over.0 c.requires.over.1 c.in_ok-change.ensures.done)
