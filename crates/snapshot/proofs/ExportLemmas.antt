@@ -8,8 +8,6 @@ use Rattle.std.specs.Io.{StartsWith}
 use Rattle.std.specs.List.{concat, slice_get}
 use Rattle.lf_disk.specs.History.{History, Rests}
 use Rattle.lf_sqlite_pages.specs.Image.{DatabaseImage, image_bytes}
-use Rattle.lf_sqlite_pages.proofs.PageNumbers.{page_at-next}
-use Rattle.snapshot.specs.Pages.{AppendsPage}
 
 -- two reads in a row
 pub rests_twice : (a b c : History) → Rests a b → Rests b c → Rests a c
@@ -49,22 +47,13 @@ drop-page pages k page found =
     rw (add-one, drop-cons pages k page within, here) refl
 
 -- the bytes of the pages up to one and with it
-concat-take : (pages : List (List ℕ)) (k : ℕ) (page : List ℕ) → slice_get pages k ≡ Some page →
+pub concat-take : (pages : List (List ℕ)) (k : ℕ) (page : List ℕ) → slice_get pages k ≡ Some page →
     concat (take (k + 1) pages) ≡ concat (take k pages) ++ page
 concat-take pages k page found =
     let next : take 1 (drop k pages) ≡ page ∷ [] = ap (take 1) (drop-page pages k page found) in
     ap concat (take-add k 1 pages ∙ ap (λ ps. take k pages ++ ps) next)
     ∙ concat-append (take k pages) (page ∷ [])
     ∙ ap (λ l. concat (take k pages) ++ l) (append-nil page)
-
--- one page more of an image
-pub page_more : (image : DatabaseImage) (k : ℕ) (start old new : List ℕ) → old ≡ start ++ concat (take k image.pages) → AppendsPage image (k + 1) old new →
-    new ≡ start ++ concat (take (k + 1) image.pages)
-page_more image k start old new so_far step =
-    let page = step.0 in
-    let found : slice_get image.pages k ≡ Some page = sym (page_at-next image k) ∙ step.1 in
-    step.2 ∙ ap (λ (l : List ℕ). l ++ page) so_far ∙ append_assoc start (concat (take k image.pages)) page
-    ∙ ap (λ (l : List ℕ). start ++ l) (sym (concat-take image.pages k page found))
 
 -- all of its pages
 pub pages_all : (image : DatabaseImage) (k : ℕ) → k ≡ length image.pages → concat (take k image.pages) ≡ image_bytes image

@@ -2,6 +2,7 @@ mod FileBytes
 mod InstallLemmas
 mod PageLemmas
 mod ExportLemmas
+mod BlankLemmas
 mod OutputLemmas
 mod StoreLemmas
 mod WriteLemmas

@@ -12,10 +12,6 @@ use Rattle.snapshot.specs.Output.{AppendsPrefix}
 abbrev pub HasPages : ℕ → ℕ → Folder → Type 0
 HasPages size commit f = length (bytes_of (f Database)) ≡ commit * size
 
--- page n of an image is appended
-abbrev pub AppendsPage : DatabaseImage → ℕ → List ℕ → List ℕ → Type 0
-AppendsPage image n old new = (page : List ℕ) × (page_at image n ≡ Some page) × (new ≡ old ++ page)
-
 -- page n of an image was written behind its number, or after a fault a prefix of that; and the checksum's register after it
 abbrev pub WritesPage : {E : Type 0} → DatabaseImage → ℕ → ℕ → Option (List ℕ) → Option (List ℕ) → Result ℕ E → Type 0
 WritesPage image n register taken taken_now (Ok after) =

@@ -34,7 +34,7 @@ pub fn read_page<D: Disk>(disk: &mut D, n: u32, out: &mut [u8]) -> Result<(), Fa
 }
 
 /// Makes every byte 0.
-fn zero(out: &mut [u8])
+pub fn zero(out: &mut [u8])
     ensures { out.new ≡ replicate (length out.old) 0 }
 {
     out.fill(0);

@@ -7,6 +7,9 @@ use Rattle.std.specs.Option.{option_map}
 use Rattle.std.proofs.lemmas.List.{take_all, take_more, length-set, get_or-set_other}
 use Rattle.std.proofs.lemmas.List.FromFn.{length-map-range_with_len, get_or-map-range_with_len}
 use Rattle.std.proofs.lemmas.Grind.{same_number_lists, get_or-set_at}
+use lib.ListN.{get_or-append, length-append}
+use lib.Seq.{get_or-append_seam}
+use Rattle.std.proofs.lemmas.List.{get_or_default}
 use Rattle.std.proofs.lemmas.Bool.{cases_eq, cases_lt}
 use Rattle.std.proofs.lemmas.Bool.Decides.{nat_tests}
 use Rattle.page_checksum.specs.Sums.{joined, page_sum_of}
@@ -23,7 +26,7 @@ use Rattle.lf_sqlite_pages.proofs.LockPages.{lock_page-first}
 use Rattle.lf_sqlite_pages.proofs.Writes.{option_cases, written-writes_of}
 use Rattle.ltx_codec.specs.steps.ChangedSum.{joined_over}
 use Rattle.ltx_codec.proofs.SumLemmas.{joined_over-changed, map-same}
-use Rattle.txn_log.specs.Draft.{sum_after}
+use Rattle.txn_log.specs.Draft.{AreSums, sum_after}
 use Rattle.txn_log.specs.Receiving.{sum_with}
 use Rattle.txn_log.proofs.Growths.{written-push-other, written-push-here}
 use Rattle.txn_log.proofs.Receivings.{sum-lock, sum-some, sum-none}
@@ -239,6 +242,30 @@ behind-alike sums change count stay within last =
             | inr (page, some) ↦ sum-some change.page_size sums (written change.pages) n page other some ∙ sym (behind-some sums change count n first (omega (arith, to, last)) other page some)
           ]
     ]
+
+-- a sum that is known at a place is that of the write there
+pub known-at : (known : List ℕ) (change : PageChange) (items : List PageWrite) (i : ℕ) (w : PageWrite) → AreSums known change.pages → items ≡ change.pages → w ≡ get_or items i w → i < length known
+    → slice_index known i ≡ page_sum_of w.number w.bytes
+known-at known change items i w are same is within =
+    are i w within ∙ ap (λ (v : PageWrite). page_sum_of v.number v.bytes) (sym (is ∙ ap (λ (ws : List PageWrite). get_or ws i w) same))
+
+-- also where the place is counted beside
+pub known_here : (known : List ℕ) (change : PageChange) (items : List PageWrite) (at i : ℕ) (w : PageWrite) → AreSums known change.pages → items ≡ change.pages → at ≡ i → w ≡ get_or items i w → at < length known
+    → slice_index known at ≡ page_sum_of w.number w.bytes
+known_here known change items at i w are same at_is is within =
+    known-at known change items at w are same (is ∙ ap (λ (n : ℕ). get_or items n w) (sym at_is)) within
+
+-- one sum more
+pub known-more : (known : List ℕ) (change : PageChange) (items : List PageWrite) (i : ℕ) (w : PageWrite) (new : ℕ) → AreSums known change.pages → length known ≡ i → items ≡ change.pages → i < length items → w ≡ get_or items i w
+    → new ≡ page_sum_of w.number w.bytes → AreSums (known ++ new ∷ []) change.pages
+known-more known change items i w new are long same inside is new_is k d within = elim (cases_lt k (length known)) [
+  | inl below ↦ get_or-append known (new ∷ []) 0 k below ∙ are k d below
+  | inr above ↦
+      let last : length known ≡ k = omega (arith, above, within, length-append known (new ∷ [])) in
+      let here : get_or change.pages k d ≡ w =
+      ap (λ (n : ℕ). get_or change.pages n d) (sym last ∙ long) ∙ ap (λ (ws : List PageWrite). get_or ws i d) (sym same) ∙ get_or_default items i d w inside ∙ sym is in
+      ap (slice_index (known ++ new ∷ [])) (sym last) ∙ get_or-append_seam known new [] 0 ∙ new_is ∙ ap (λ (v : PageWrite). page_sum_of v.number v.bytes) (sym here)
+]
 
 -- all writes were gone through
 pub taken-all : (items : List PageWrite) (i : ℕ) → length items ≤ i → take i items ≡ items

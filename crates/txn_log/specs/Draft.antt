@@ -1,5 +1,5 @@
 -- The file that a commit publishes, and the table of page sums after it.
-use Rattle.std.specs.Prelude.{◌≡◌, ℕ, ◌+◌, ◌-◌, ◌≤◌, Bool, true, false, ◌==◌, List, map, slice_index, unwrap_or, Result, Ok, Err, if◌then◌else◌}
+use Rattle.std.specs.Prelude.{◌≡◌, ℕ, ◌+◌, ◌-◌, ◌<◌, ◌≤◌, Bool, true, false, ◌==◌, List, get_or, length, map, slice_index, unwrap_or, Result, Ok, Err, if◌then◌else◌}
 use Rattle.std.specs.List.{range_with_len}
 use Rattle.std.specs.Option.{option_map}
 use Rattle.page_checksum.specs.Sums.{flagged, joined, page_sum_of}
@@ -7,6 +7,7 @@ use Rattle.lf_base.specs.declared.pos.Pos.{Pos}
 use Rattle.lf_sqlite_pages.specs.LockPage.{lock_page_of, IsWithinLimit}
 use Rattle.lf_sqlite_pages.specs.Change.{PageChange, FitsOver, written}
 use Rattle.lf_sqlite_pages.specs.Complete.{completed}
+use Rattle.lf_sqlite_pages.specs.declared.page_write.PageWrite.{PageWrite}
 use Rattle.ltx_codec.specs.Positions.{after}
 use Rattle.ltx_codec.specs.declared.file.Ltx.{Ltx}
 use Rattle.txn_log.specs.declared.fault.StoreFault.{StoreFault}
@@ -20,6 +21,10 @@ sum_after sums change n =
 -- the sums of all pages after a change
 abbrev pub sums_after : List ℕ → PageChange → List ℕ
 sums_after sums change = map (sum_after sums change) (range_with_len 1 change.commit)
+
+-- these are the sums of the first of these pages
+abbrev pub AreSums : List ℕ → List PageWrite → Type 0
+AreSums sums pages = (k : ℕ) (d : PageWrite) → k < length sums → slice_index sums k ≡ page_sum_of (get_or pages k d).number (get_or pages k d).bytes
 
 -- the file of a complete change: the next number, from one position to the one with the sum after the change
 abbrev pub file_with : Pos → List ℕ → PageChange → ℕ → ℕ → Ltx

@@ -89,10 +89,10 @@ impl<D: Disk> Store<D> {
         ensures honest { D.honest self.new.disk ≡ D.honest self.old.disk }
     {
         if is_complete(&file.change, self.commit) {
-            return publish(self, file, attempt);
+            return publish(self, file, &[], attempt);
         }
         match whole_of(*self.entries.allocator(), file, self.commit) {
-            Ok(whole) => publish(self, &whole, attempt),
+            Ok(whole) => publish(self, &whole, &[], attempt),
             Err(_) => Err(StoreFault::NoMemory),
         }
     }

@@ -1,17 +1,17 @@
 //! A change is committed: its file is drafted, published, and the log then pruned.
-ghost use Rattle.std.specs.Prelude.{◌≡◌, IsTrue, IfOk, OnOk, OnErr, ◌↔◌, ◌<◌, ◌^◌, ◌≤◌};
+ghost use Rattle.std.specs.Prelude.{◌≡◌, IsTrue, IfErr, IfOk, Err, Ok, OnOk, OnErr, ◌↔◌, ◌<◌, ◌^◌, ◌≤◌};
 ghost use Rattle.world_laws.specs.Store.{Commit};
 ghost use Rattle.txn_log.specs.Fields.{CallBreaks, CallWent, CommitsBy, HasSameFiles, HasShape, drafted_by, CallBreaksPruned, CallWentPruned};
 ghost use Rattle.txn_log.specs.Store.{end_of_entries};
 ghost use Rattle.lf_sqlite_pages.specs.Change.{IsChange};
 ghost use Rattle.ltx_codec.specs.Format.{IsFile, FitsWidths};
-ghost use Rattle.txn_log.specs.Draft.{file_with, IsWithin, Drafts};
+ghost use Rattle.txn_log.specs.Draft.{file_with, AreSums, IsWithin, Drafts};
 
 use crate::entry::Attempt;
 use crate::fault::StoreFault;
 use crate::publishing::publish;
 use crate::store::Store;
-use crate::sums::total_after;
+use crate::sums::{sums_of, total_after};
 use lf_base::Pos;
 use lf_disk::Disk;
 use lf_sqlite_pages::{Change, is_within_limit};
@@ -33,8 +33,8 @@ impl<D: Disk> Store<D> {
             → CallWent self.old (Commit (drafted_by self.old change stamp node)) result self.new }
         ensures honest { D.honest self.new.disk ≡ D.honest self.old.disk }
     {
-        match self.draft(change, stamp, node) {
-            Ok(file) => publish(self, &file, Attempt::Commit),
+        match self.draft_summed(change, stamp, node) {
+            Ok((file, known)) => publish(self, &file, known.as_slice(), Attempt::Commit),
             Err(fault) => Err(fault),
         }
     }
@@ -50,13 +50,21 @@ fn is_within(position: Pos, change: &Change) -> bool
 }
 
 /// The file of a complete change behind a position.
-fn file_behind(position: Pos, sums: &Sums, change: Change, stamp: u64, node: u64) -> Ltx
-    requires { IsWithin position change }
+fn file_behind(
+    position: Pos,
+    sums: &Sums,
+    change: Change,
+    known: &[u64],
+    stamp: u64,
+    node: u64,
+) -> Ltx
+    requires within { IsWithin position change }
+    requires known { AreSums known.now change.pages }
     ensures value { result ≡ file_with position sums.now.sums change stamp node }
     ensures widths { FitsWidths result.header × (result.post < 2 ^ 64) }
 {
     let next = position.txid + 1;
-    let post = total_after(sums, &change);
+    let post = total_after(sums, &change, known);
     let header = Header {
         page_size: change.page_size(),
         commit: change.commit(),
@@ -87,6 +95,27 @@ impl<D: Disk> Store<D> {
         ensures valid { IfOk result IsFile }
         ensures change { OnOk result (IsChange change) }
     {
+        match self.draft_summed(change, stamp, node) {
+            Ok((file, _)) => Ok(file),
+            Err(fault) => Err(fault),
+        }
+    }
+
+    /// The same, with the sums of its pages.
+    fn draft_summed(
+        &self,
+        change: Change,
+        stamp: u64,
+        node: u64,
+    ) -> Result<(Ltx, Vec<u64>), StoreFault>
+        ensures ok { IfOk result (λ drafted. Drafts self.now.broken (end_of_entries self.now.entries.items) self.now.page_size self.now.commit
+            self.now.sums.sums change stamp node (Ok drafted.0)) }
+        ensures err { IfErr result (λ fault. Drafts self.now.broken (end_of_entries self.now.entries.items) self.now.page_size self.now.commit
+            self.now.sums.sums change stamp node (Err fault)) }
+        ensures valid { IfOk result (λ drafted. IsFile drafted.0) }
+        ensures sums { IfOk result (λ drafted. AreSums drafted.1.items drafted.0.change.pages) }
+        ensures change { OnOk result (IsChange change) }
+    {
         if self.broken {
             return Err(StoreFault::Broken);
         }
@@ -102,9 +131,13 @@ impl<D: Disk> Store<D> {
         }
         let mut complete = change;
         match complete.complete(self.commit) {
-            Ok(()) => Ok(file_behind(position, &self.sums, complete, stamp, node)),
-            Err(_) => Err(StoreFault::NoMemory),
+            Ok(()) => {}
+            Err(_) => return Err(StoreFault::NoMemory),
         }
+        let known = sums_of(*self.entries.allocator(), &complete);
+        let sums = known.as_slice();
+        let file = file_behind(position, &self.sums, complete, sums, stamp, node);
+        Ok((file, known))
     }
 }
 

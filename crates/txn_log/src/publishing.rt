@@ -3,6 +3,7 @@ ghost use Rattle.std.specs.Prelude.{◌≡◌, ◌∷◌, false, IsTrue, IfOk, I
 ghost use Rattle.ltx_codec.specs.Format.{IsFile, file_encoding, no_meaning};
 ghost use Rattle.ltx_codec.specs.Positions.{after};
 ghost use Rattle.txn_log.specs.Causes.{IsDiskOrMemory};
+ghost use Rattle.txn_log.specs.Draft.{AreSums};
 ghost use Rattle.txn_log.specs.Fields.{CallBreaks, CallWent, HasSameFiles, HasShape, state_now};
 ghost use Rattle.txn_log.specs.Publishing.{Publishes, call_of, CanTake, IsSummedBy};
 ghost use Rattle.txn_log.specs.Store.{end_of_entries, entry_of as entry};
@@ -46,16 +47,19 @@ pub fn entry_of(file: &Ltx) -> Entry
     }
 }
 
-/// Publishes a file that follows the store, and writes its change over the database file.
+/// Publishes a file that follows the store, and writes its change over the database file. Of its pages
+/// these sums are known.
 pub fn publish<D: Disk>(
     store: &mut Store<D>,
     file: &Ltx,
+    known: &[u64],
     attempt: Attempt,
 ) -> Result<Pos, StoreFault>
     requires open_ { store.old.broken ≡ false }
     requires publishes { Publishes attempt file.now }
     requires valid { IsFile file.now }
     requires sum { IsSummedBy store.old.sums.sums file.now }
+    requires known { AreSums known.now file.now.change.pages }
     requires can { IsTrue (D.honest store.old.disk) → CanTake (state_now store.old) file.now }
     ensures went { IsTrue (D.honest store.old.disk) → CallWent store.old (call_of attempt file.now) result store.new }
     ensures told { IfOk result (λ position. position ≡ after file.now) }
@@ -84,7 +88,7 @@ pub fn publish<D: Disk>(
             store.wal = wal_after(store.wal, &file.change);
             store.dropped = false;
             store.entries.push_reserved(entry_of(file));
-            update(&mut store.sums, &file.change);
+            update(&mut store.sums, &file.change, known);
             Ok(file.after())
         }
         Placed::Unpublished => {

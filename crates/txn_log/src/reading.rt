@@ -11,9 +11,10 @@ ghost use Rattle.lf_sqlite_pages.specs.Image.{page_at};
 
 use crate::fault::StoreFault;
 use crate::store::Store;
-use lf_base::{Failed, be64_at};
+use lf_base::{Failed, NoMemory, be64_at};
 use lf_disk::{Disk, FileName};
 use lf_sqlite_pages::{PageStore, lock_page};
+use std::alloc::Global;
 
 /// Makes every byte 0.
 pub fn zero(out: &mut [u8])
@@ -36,6 +37,13 @@ pub fn read_at<D: Disk>(disk: &mut D, name: FileName, at: u64, out: &mut [u8]) -
     Ok(())
 }
 
+/// So many zeros.
+fn zeros_of(alloc: Global, count: usize) -> Result<Vec<u8>, NoMemory>
+    ensures { IfOk result (λ zeros. length zeros.items ≡ count) }
+{
+    Ok(vec![in alloc; 0; count]?)
+}
+
 /// Makes `out` the bytes of a file, of which an absent one has none.
 pub fn read_file<D: Disk>(disk: &mut D, name: FileName, out: &mut Vec<u8>) -> Result<(), StoreFault>
     ensures bytes { IsTrue (D.honest disk.old) → OnOk result (out.new.items ≡ bytes_of (now (D.history disk.old) name)) }
@@ -47,9 +55,9 @@ pub fn read_file<D: Disk>(disk: &mut D, name: FileName, out: &mut Vec<u8>) -> Re
         Ok(size) => size.unwrap_or(0),
         Err(_) => return Err(StoreFault::Disk),
     };
-    out.clear();
-    if out.resize(size as usize, 0).is_err() {
-        return Err(StoreFault::NoMemory);
+    match zeros_of(*out.allocator(), size as usize) {
+        Ok(zeros) => *out = zeros,
+        Err(_) => return Err(StoreFault::NoMemory),
     }
     match read_at(disk, name, 0, out.as_mut_slice()) {
         Ok(()) => Ok(()),

@@ -1,13 +1,14 @@
 //! The table of page sums.
-ghost use Rattle.std.specs.Prelude.{◌≡◌, ◌+◌, ◌<◌, ◌≤◌, ℕ, List, [], length, replicate};
-ghost use Rattle.page_checksum.specs.Sums.{flagged, joined};
+ghost use Rattle.std.specs.Prelude.{◌≡◌, ◌+◌, ◌<◌, ◌≤◌, ℕ, List, [], length, replicate, slice_index};
+ghost use Rattle.page_checksum.specs.Sums.{flagged, joined, page_sum_of};
 ghost use Rattle.lf_sqlite_pages.specs.Change.{empty_change};
 ghost use Rattle.lf_sqlite_pages.specs.Complete.{completed};
 ghost use Rattle.ltx_codec.specs.steps.ChangedSum.{joined_over};
-ghost use Rattle.txn_log.specs.Draft.{sum_after, sums_after};
+ghost use Rattle.txn_log.specs.Draft.{AreSums, sum_after, sums_after};
 
-use lf_sqlite_pages::{Change, lock_page};
+use lf_sqlite_pages::{Change, PageWrite, lock_page};
 use page_checksum::{Sums, page_sum};
+use std::alloc::Global;
 
 /// Bit 63, which every sum carries.
 const FLAG: u64 = 1 << 63;
@@ -26,15 +27,46 @@ fn total_before(sums: &Sums, page_size: u32, count: u32) -> u64
     total
 }
 
+/// The sums of the pages of a change, one after another, as far as there is memory for them.
+pub fn sums_of(alloc: Global, change: &Change) -> Vec<u64>
+    ensures { AreSums result.items change.now.pages }
+{
+    let mut sums = Vec::new(alloc);
+    if sums.reserve(change.pages().len()).is_err() {
+        return sums;
+    }
+    for page in change.pages() {
+        match sums.push(page_sum(page.number, page.bytes.as_slice())) {
+            Ok(()) => {}
+            Err(_) => return sums,
+        }
+    }
+    sums
+}
+
+/// The sum of a page, which may be known at its place.
+fn sum_of(known: &[u64], at: usize, page: &PageWrite) -> u64
+    requires { at < length known.now → slice_index known.now at ≡ page_sum_of page.now.number page.now.bytes }
+    ensures { result ≡ page_sum_of page.now.number page.now.bytes }
+{
+    match known.get(at) {
+        Some(sum) => *sum,
+        None => page_sum(page.number, page.bytes.as_slice()),
+    }
+}
+
 /// The sums of the first `count` pages after a change, taken together.
-fn total_to(sums: &Sums, change: &Change, count: u32) -> u64
+fn total_to(sums: &Sums, change: &Change, known: &[u64], count: u32) -> u64
+    requires { AreSums known.now change.now.pages }
     ensures { result ≡ joined_over (sum_after sums.now.sums change.now) 1 count }
 {
     let mut total = total_before(sums, change.page_size(), count);
+    let mut at = 0;
     for page in change.pages() {
         if page.number <= count {
-            total ^= sums.get(page.number) ^ page_sum(page.number, page.bytes.as_slice());
+            total ^= sums.get(page.number) ^ sum_of(known, at, page);
         }
+        at += 1;
     }
     total
 }
@@ -63,18 +95,19 @@ pub fn total_behind(sums: &Sums, change: &Change, count: u32) -> u64
     let zeros = zeros();
     let (zeros, _) = zeros.split_at(change.page_size() as usize);
     let stay = count.min(change.commit());
-    let mut total = total_to(sums, change, stay);
+    let mut total = total_to(sums, change, &[], stay);
     for page in stay..change.commit() {
         total ^= sum_past(change, zeros, count, page + 1);
     }
     total | FLAG
 }
 
-/// The sum of the database after a change.
-pub fn total_after(sums: &Sums, change: &Change) -> u64
+/// The sum of the database after a change, of whose pages these sums are known.
+pub fn total_after(sums: &Sums, change: &Change, known: &[u64]) -> u64
+    requires { AreSums known.now change.now.pages }
     ensures { result ≡ flagged (joined (sums_after sums.now.sums change.now)) }
 {
-    total_to(sums, change, change.commit()) | FLAG
+    total_to(sums, change, known, change.commit()) | FLAG
 }
 
 /// Gives the table so many pages, where the page size is this one: its lock page has no sum.
@@ -90,14 +123,17 @@ fn resize(sums: &mut Sums, page_size: u32, count: u32)
     }
 }
 
-/// Makes the table that of the database after a change.
-pub fn update(sums: &mut Sums, change: &Change)
-    requires { change.now.commit ≤ length sums.old.sums + sums.old.spare }
+/// Makes the table that of the database after a change, of whose pages these sums are known.
+pub fn update(sums: &mut Sums, change: &Change, known: &[u64])
+    requires room { change.now.commit ≤ length sums.old.sums + sums.old.spare }
+    requires known { AreSums known.now change.now.pages }
     ensures { sums.new.sums ≡ sums_after sums.old.sums change.now }
 {
     resize(sums, change.page_size(), change.commit());
+    let mut at = 0;
     for page in change.pages() {
-        sums.set(page.number, page_sum(page.number, page.bytes.as_slice()));
+        sums.set(page.number, sum_of(known, at, page));
+        at += 1;
     }
 }
 

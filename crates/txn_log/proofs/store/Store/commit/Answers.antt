@@ -15,7 +15,7 @@ pub publish-requires-clause-can : goal.publish-requires-clause-can
 publish-requires-clause-can g c honest =
     let s = c.args.self.now in
     let h = g.D.Disk.history s.disk in
-    let drafts = c.in-Ok.ensures.drafts in
+    let drafts = c.in-Ok.ensures.ok in
     let file : Ltx = drafted (end_of_entries s.entries.items) s.commit s.sums.sums c.args.change c.args.stamp c.args.node in
     let kept : IsStore h s.page_size s.commit s.entries.items s.dropped s.sums.sums false s.whole s.tried =
     subst (λ (b : Bool). IsStore h s.page_size s.commit s.entries.items s.dropped s.sums.sums b s.whole s.tried) drafts.0 (s.kept honest) in
@@ -29,5 +29,5 @@ pub returns-in-Err-clause-went : goal.returns-in-Err-clause-went
 returns-in-Err-clause-went g c honest =
     let s = c.args.self.now in
     went-none Pos _ _ _ _ c.in-Err.fault
-    (λ same. subst (λ (w : StoreFault). Drafts s.broken (end_of_entries s.entries.items) s.page_size s.commit s.sums.sums c.args.change c.args.stamp c.args.node (Err w)) same c.in-Err.ensures.drafts)
+    (λ same. subst (λ (w : StoreFault). Drafts s.broken (end_of_entries s.entries.items) s.page_size s.commit s.sums.sums c.args.change c.args.stamp c.args.node (Err w)) same c.in-Err.ensures.err)
     (s.left honest)
