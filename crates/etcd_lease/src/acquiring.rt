@@ -12,20 +12,19 @@ ghost use Rattle.etcd_lease.specs.Turns.{TurnsOf};
 
 use crate::etcd_service::EtcdService;
 use crate::held::Held;
+use crate::means::Means;
 use crate::noting::Noting;
 use crate::renewing::belief_of;
 use etcd_wire::{Call, Said};
 use lease_link::{Learned, Unlearned};
 use lf_base::{Bytes, Clock, Dialer, Handles};
 use link_session::Turns;
-use std::alloc::Global;
 
 impl<C: Clock, N: Noting> EtcdService<C, N> {
     /// Puts the key with this value, where there is none.
     pub(crate) fn put<R: Handles, T: Dialer>(
         &mut self,
-        rt: &R,
-        alloc: Global,
+        means: &Means<'_, R>,
         dialer: &mut T,
         value: Bytes,
         turns: &mut Turns,
@@ -37,16 +36,15 @@ impl<C: Clock, N: Noting> EtcdService<C, N> {
         ensures same { (self.new.settings ≡ self.old.settings) × (C.may_give self.new.clock ≡ C.may_give self.old.clock) }
         ensures turns { TurnsOf turns.old turns.new result }
     {
-        match self.post(rt, alloc, dialer, &Call::Grant, turns) {
-            Ok(said) => self.put_behind(rt, alloc, dialer, value, said, turns),
+        match self.post(means, dialer, &Call::Grant, turns) {
+            Ok(said) => self.put_behind(means, dialer, value, said, turns),
             Err(why) => Err(why),
         }
     }
 
     fn put_behind<R: Handles, T: Dialer>(
         &mut self,
-        rt: &R,
-        alloc: Global,
+        means: &Means<'_, R>,
         dialer: &mut T,
         value: Bytes,
         said: Option<Said>,
@@ -65,8 +63,8 @@ impl<C: Clock, N: Noting> EtcdService<C, N> {
         match said {
             Said::Lease { lease, ttl } => {
                 let put = Call::Put { lease, value };
-                match self.post(rt, alloc, dialer, &put, turns) {
-                    Ok(_) => self.look_behind(rt, alloc, dialer, Lease { lease, ttl }, turns),
+                match self.post(means, dialer, &put, turns) {
+                    Ok(_) => self.look_behind(means, dialer, Lease { lease, ttl }, turns),
                     Err(why) => Err(why),
                 }
             }
@@ -77,8 +75,7 @@ impl<C: Clock, N: Noting> EtcdService<C, N> {
     /// Looks whether the key has this lease.
     fn look_behind<R: Handles, T: Dialer>(
         &mut self,
-        rt: &R,
-        alloc: Global,
+        means: &Means<'_, R>,
         dialer: &mut T,
         lease: Lease,
         turns: &mut Turns,
@@ -90,8 +87,8 @@ impl<C: Clock, N: Noting> EtcdService<C, N> {
         ensures same { (self.new.settings ≡ self.old.settings) × (C.may_give self.new.clock ≡ C.may_give self.old.clock) }
         ensures turns { TurnsOf turns.old turns.new result }
     {
-        match self.post(rt, alloc, dialer, &Call::Range, turns) {
-            Ok(said) => self.take(rt, alloc, dialer, lease, said, turns),
+        match self.post(means, dialer, &Call::Range, turns) {
+            Ok(said) => self.take(means, dialer, lease, said, turns),
             Err(why) => Err(why),
         }
     }
@@ -99,8 +96,7 @@ impl<C: Clock, N: Noting> EtcdService<C, N> {
     /// Holds the key where it has this lease. Else the lease is of no use.
     fn take<R: Handles, T: Dialer>(
         &mut self,
-        rt: &R,
-        alloc: Global,
+        means: &Means<'_, R>,
         dialer: &mut T,
         lease: Lease,
         said: Option<Said>,
@@ -123,15 +119,14 @@ impl<C: Clock, N: Noting> EtcdService<C, N> {
                 });
                 Ok(Learned::Nothing)
             }
-            None => self.revoke(rt, alloc, dialer, lease.lease, turns),
+            None => self.revoke(means, dialer, lease.lease, turns),
         }
     }
 
     /// Ends a lease. How that ends is of no account.
     fn revoke<R: Handles, T: Dialer>(
         &mut self,
-        rt: &R,
-        alloc: Global,
+        means: &Means<'_, R>,
         dialer: &mut T,
         lease: u64,
         turns: &mut Turns,
@@ -143,7 +138,7 @@ impl<C: Clock, N: Noting> EtcdService<C, N> {
         ensures same { (self.new.settings ≡ self.old.settings) × (C.may_give self.new.clock ≡ C.may_give self.old.clock) }
         ensures turns { TurnsOf turns.old turns.new result }
     {
-        match self.post(rt, alloc, dialer, &Call::Revoke { lease }, turns) {
+        match self.post(means, dialer, &Call::Revoke { lease }, turns) {
             Ok(_) => Ok(Learned::Nothing),
             Err(why) => Err(why),
         }

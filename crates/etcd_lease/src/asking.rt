@@ -7,6 +7,7 @@ ghost use Rattle.etcd_wire.specs.Calls.{path_of};
 ghost use Rattle.etcd_lease.specs.Turns.{TurnsOf};
 
 use crate::found::Found;
+use crate::means::Means;
 use etcd_wire::{Call, Said, read_said};
 use http_exchange::{Letter, Told, Untold, exchange_text};
 use lease_link::Unlearned;
@@ -29,8 +30,7 @@ pub(crate) struct Asking<'a> {
 
 /// Asks these endpoints in turn, until one answers. None where none does.
 pub(crate) fn ask_each<R: Handles, T: Dialer>(
-    rt: &R,
-    alloc: Global,
+    means: &Means<'_, R>,
     dialer: &mut T,
     endpoints: &[Text],
     asking: Asking<'_>,
@@ -44,8 +44,8 @@ pub(crate) fn ask_each<R: Handles, T: Dialer>(
     let [first, rest @ ..] = endpoints else {
         return Ok(None);
     };
-    match ask_at(rt, alloc, dialer, first, asking, turns) {
-        Ok(None) => match ask_each(rt, alloc, dialer, rest, asking, turns) {
+    match ask_at(means, dialer, first, asking, turns) {
+        Ok(None) => match ask_each(means, dialer, rest, asking, turns) {
             Ok(Some(found)) => Ok(Some(Found {
                 said: found.said,
                 before: found.before + 1,
@@ -60,8 +60,7 @@ pub(crate) fn ask_each<R: Handles, T: Dialer>(
 
 /// Asks one endpoint, by one dial. None where it gives no whole answer.
 fn ask_at<R: Handles, T: Dialer>(
-    rt: &R,
-    alloc: Global,
+    means: &Means<'_, R>,
     dialer: &mut T,
     address: &Text,
     asking: Asking<'_>,
@@ -71,14 +70,13 @@ fn ask_at<R: Handles, T: Dialer>(
         (dial_stand (T.dials dialer.new) (T.faults dialer.new)) result }
     ensures turns { TurnsOf turns.old turns.new result }
 {
-    let told = post(rt, alloc, dialer, address, asking, turns);
-    hear(alloc, asking.call, told)
+    let told = post(means, dialer, address, asking, turns);
+    hear(means.alloc, asking.call, told)
 }
 
 /// The exchange.
 fn post<R: Handles, T: Dialer>(
-    rt: &R,
-    alloc: Global,
+    means: &Means<'_, R>,
     dialer: &mut T,
     address: &Text,
     asking: Asking<'_>,
@@ -94,7 +92,7 @@ fn post<R: Handles, T: Dialer>(
         body: asking.body,
         limit: REPLY_MAX,
     };
-    exchange_text(rt, alloc, dialer, address, letter, turns)
+    exchange_text(means.rt, means.alloc, dialer, address, letter, turns)
 }
 
 /// What is heard of an exchange.

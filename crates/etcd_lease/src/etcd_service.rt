@@ -8,6 +8,7 @@ ghost use Rattle.etcd_lease.specs.Rounds.{belief_of, place};
 ghost use Rattle.etcd_lease.specs.Turns.{TurnsOf};
 
 use crate::held::Held;
+use crate::means::Means;
 use crate::noting::Noting;
 use crate::renewing::belief_of;
 use crate::settings::EtcdSettings;
@@ -42,13 +43,14 @@ impl<C: Clock, N: Noting> Service for EtcdService<C, N> {
         asked: &LeaseAsk,
         turns: &mut Turns,
     ) -> Result<Learned, Unlearned> {
+        let means = Means { rt, alloc };
         match asked {
             LeaseAsk::Acquire { url, host, .. } => {
-                self.acquire(rt, alloc, dialer, (url, host), turns)
+                self.acquire(&means, dialer, (url, host), turns)
             }
-            LeaseAsk::Renew { term, .. } => self.renew(rt, alloc, dialer, *term, turns),
-            LeaseAsk::Release { term, .. } => self.release(rt, alloc, dialer, *term, turns),
-            LeaseAsk::Info => self.inform(rt, alloc, dialer, turns),
+            LeaseAsk::Renew { term, .. } => self.renew(&means, dialer, *term, turns),
+            LeaseAsk::Release { term, .. } => self.release(&means, dialer, *term, turns),
+            LeaseAsk::Info => self.inform(&means, dialer, turns),
         }
     }
 }
@@ -56,8 +58,7 @@ impl<C: Clock, N: Noting> Service for EtcdService<C, N> {
 impl<C: Clock, N: Noting> EtcdService<C, N> {
     fn acquire<R: Handles, T: Dialer>(
         &mut self,
-        rt: &R,
-        alloc: Global,
+        means: &Means<'_, R>,
         dialer: &mut T,
         own: (&Text, &Text),
         turns: &mut Turns,
@@ -70,9 +71,9 @@ impl<C: Clock, N: Noting> EtcdService<C, N> {
         ensures turns { TurnsOf turns.old turns.new result }
     {
         match self.held {
-            Some(held) => self.wait(rt, alloc, dialer, held, turns),
-            None => match own_value(alloc, self.settings.ttl, own.0, own.1) {
-                Ok(value) => self.put(rt, alloc, dialer, value, turns),
+            Some(held) => self.wait(means, dialer, held, turns),
+            None => match own_value(means.alloc, self.settings.ttl, own.0, own.1) {
+                Ok(value) => self.put(means, dialer, value, turns),
                 Err(_) => Err(Unlearned::NoMemory),
             },
         }

@@ -9,6 +9,7 @@ ghost use Rattle.etcd_lease.specs.Turns.{TurnsOf};
 
 use crate::etcd_service::EtcdService;
 use crate::held::Held;
+use crate::means::Means;
 use crate::noting::Noting;
 use crate::rounds::is_held;
 use base64::DecodeAllocError;
@@ -27,8 +28,7 @@ impl<C: Clock, N: Noting> EtcdService<C, N> {
     /// Asks who is primary.
     pub(crate) fn inform<R: Handles, T: Dialer>(
         &mut self,
-        rt: &R,
-        alloc: Global,
+        means: &Means<'_, R>,
         dialer: &mut T,
         turns: &mut Turns,
     ) -> Result<Learned, Unlearned>
@@ -39,8 +39,8 @@ impl<C: Clock, N: Noting> EtcdService<C, N> {
         ensures same { (self.new.settings ≡ self.old.settings) × (self.new.clock ≡ self.old.clock) }
         ensures turns { TurnsOf turns.old turns.new result }
     {
-        match self.post(rt, alloc, dialer, &Call::Range, turns) {
-            Ok(said) => match informed(alloc, self.held, &said) {
+        match self.post(means, dialer, &Call::Range, turns) {
+            Ok(said) => match informed(means.alloc, self.held, &said) {
                 Ok(learned) => Ok(learned),
                 Err(_) => Err(Unlearned::NoMemory),
             },

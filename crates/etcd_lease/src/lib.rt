@@ -11,6 +11,7 @@ mod found;
 mod held;
 mod informing;
 mod kept;
+mod means;
 mod noting;
 mod renewing;
 mod rounds;

@@ -11,12 +11,12 @@ ghost use Rattle.etcd_lease.specs.Turns.{TurnsOf};
 use crate::etcd_service::EtcdService;
 use crate::held::Held;
 use crate::kept::Kept;
+use crate::means::Means;
 use crate::noting::Noting;
 use etcd_wire::Call;
 use lease_link::{Learned, Unlearned};
 use lf_base::{Clock, Dialer, Handles};
 use link_session::Turns;
-use std::alloc::Global;
 
 /// The longest time of a lease that is reckoned with, in seconds.
 const TTL_MAX: u64 = 1_000_000_000;
@@ -24,8 +24,7 @@ const TTL_MAX: u64 = 1_000_000_000;
 impl<C: Clock, N: Noting> EtcdService<C, N> {
     pub(crate) fn renew<R: Handles, T: Dialer>(
         &mut self,
-        rt: &R,
-        alloc: Global,
+        means: &Means<'_, R>,
         dialer: &mut T,
         term: u64,
         turns: &mut Turns,
@@ -40,7 +39,7 @@ impl<C: Clock, N: Noting> EtcdService<C, N> {
         match self.held {
             Some(held) => {
                 if held.term == term {
-                    self.renew_held(rt, alloc, dialer, held, turns)
+                    self.renew_held(means, dialer, held, turns)
                 } else {
                     Ok(Learned::Lost)
                 }
@@ -51,8 +50,7 @@ impl<C: Clock, N: Noting> EtcdService<C, N> {
 
     fn renew_held<R: Handles, T: Dialer>(
         &mut self,
-        rt: &R,
-        alloc: Global,
+        means: &Means<'_, R>,
         dialer: &mut T,
         held: Held,
         turns: &mut Turns,
@@ -64,7 +62,7 @@ impl<C: Clock, N: Noting> EtcdService<C, N> {
         ensures same { (self.new.settings ≡ self.old.settings) × (self.new.clock ≡ self.old.clock) }
         ensures turns { TurnsOf turns.old turns.new result }
     {
-        match self.keep(rt, alloc, dialer, held, turns) {
+        match self.keep(means, dialer, held, turns) {
             Ok(kept) => Ok(self.renewed(held, kept)),
             Err(why) => Err(why),
         }
@@ -92,8 +90,7 @@ impl<C: Clock, N: Noting> EtcdService<C, N> {
 
     pub(crate) fn release<R: Handles, T: Dialer>(
         &mut self,
-        rt: &R,
-        alloc: Global,
+        means: &Means<'_, R>,
         dialer: &mut T,
         term: u64,
         turns: &mut Turns,
@@ -108,7 +105,7 @@ impl<C: Clock, N: Noting> EtcdService<C, N> {
         match self.held {
             Some(held) => {
                 if held.term == term {
-                    self.release_held(rt, alloc, dialer, held.lease, turns)
+                    self.release_held(means, dialer, held.lease, turns)
                 } else {
                     Ok(Learned::Nothing)
                 }
@@ -119,8 +116,7 @@ impl<C: Clock, N: Noting> EtcdService<C, N> {
 
     fn release_held<R: Handles, T: Dialer>(
         &mut self,
-        rt: &R,
-        alloc: Global,
+        means: &Means<'_, R>,
         dialer: &mut T,
         lease: u64,
         turns: &mut Turns,
@@ -132,7 +128,7 @@ impl<C: Clock, N: Noting> EtcdService<C, N> {
         ensures same { (self.new.settings ≡ self.old.settings) × (self.new.clock ≡ self.old.clock) }
         ensures turns { TurnsOf turns.old turns.new result }
     {
-        match self.post(rt, alloc, dialer, &Call::Revoke { lease }, turns) {
+        match self.post(means, dialer, &Call::Revoke { lease }, turns) {
             Ok(_) => {
                 self.held = None;
                 Ok(Learned::Nothing)

@@ -10,19 +10,18 @@ use crate::asking::{Asking, ask_each};
 use crate::etcd_service::EtcdService;
 use crate::held::Held;
 use crate::kept::Kept;
+use crate::means::Means;
 use crate::noting::Noting;
 use etcd_wire::{Call, KeyValue, Said, body_of};
 use lease_link::Unlearned;
 use lf_base::{Clock, Dialer, Handles, Text};
 use link_session::Turns;
-use std::alloc::Global;
 
 impl<C: Clock, N: Noting> EtcdService<C, N> {
     /// One call. None where no endpoint answers it.
     pub(crate) fn post<R: Handles, T: Dialer>(
         &mut self,
-        rt: &R,
-        alloc: Global,
+        means: &Means<'_, R>,
         dialer: &mut T,
         call: &Call,
         turns: &mut Turns,
@@ -33,22 +32,27 @@ impl<C: Clock, N: Noting> EtcdService<C, N> {
         ensures same { (self.new.settings ≡ self.old.settings) × (self.new.clock ≡ self.old.clock) }
         ensures turns { TurnsOf turns.old turns.new result }
     {
-        let Ok(body) = body_of(alloc, &self.settings.key, self.settings.ttl, call) else {
+        let Ok(body) = body_of(means.alloc, &self.settings.key, self.settings.ttl, call) else {
             return Err(Unlearned::NoMemory);
         };
         let asking = Asking {
             call,
             body: body.as_slice(),
         };
-        match ask_each(rt, alloc, dialer, self.endpoints.as_slice(), asking, turns) {
+        match ask_each(means, dialer, self.endpoints.as_slice(), asking, turns) {
             Ok(Some(found)) => {
-                note_each(rt, &mut self.notes, self.endpoints.as_slice(), found.before);
+                note_each(
+                    means.rt,
+                    &mut self.notes,
+                    self.endpoints.as_slice(),
+                    found.before,
+                );
                 self.endpoints.as_mut_slice().rotate_left(found.before);
                 Ok(Some(found.said))
             }
             Ok(None) => {
                 let count = self.endpoints.len();
-                note_each(rt, &mut self.notes, self.endpoints.as_slice(), count);
+                note_each(means.rt, &mut self.notes, self.endpoints.as_slice(), count);
                 Ok(None)
             }
             Err(why) => Err(why),
@@ -58,8 +62,7 @@ impl<C: Clock, N: Noting> EtcdService<C, N> {
     /// Asks that the lease of a key last on, and then whether the key is still this one.
     pub(crate) fn keep<R: Handles, T: Dialer>(
         &mut self,
-        rt: &R,
-        alloc: Global,
+        means: &Means<'_, R>,
         dialer: &mut T,
         held: Held,
         turns: &mut Turns,
@@ -71,16 +74,15 @@ impl<C: Clock, N: Noting> EtcdService<C, N> {
         ensures turns { TurnsOf turns.old turns.new result }
     {
         let call = Call::KeepAlive { lease: held.lease };
-        match self.post(rt, alloc, dialer, &call, turns) {
-            Ok(said) => self.keep_behind(rt, alloc, dialer, held, &said, turns),
+        match self.post(means, dialer, &call, turns) {
+            Ok(said) => self.keep_behind(means, dialer, held, &said, turns),
             Err(why) => Err(why),
         }
     }
 
     fn keep_behind<R: Handles, T: Dialer>(
         &mut self,
-        rt: &R,
-        alloc: Global,
+        means: &Means<'_, R>,
         dialer: &mut T,
         held: Held,
         said: &Option<Said>,
@@ -94,7 +96,7 @@ impl<C: Clock, N: Noting> EtcdService<C, N> {
     {
         match said {
             Some(Said::Lasts { ttl: 0 }) => Ok(Kept::Gone),
-            Some(Said::Lasts { ttl }) => self.look(rt, alloc, dialer, held, *ttl, turns),
+            Some(Said::Lasts { ttl }) => self.look(means, dialer, held, *ttl, turns),
             _ => Ok(Kept::Unknown),
         }
     }
@@ -102,8 +104,7 @@ impl<C: Clock, N: Noting> EtcdService<C, N> {
     /// Asks whether the key is still this one, whose lease lasts for so many seconds.
     fn look<R: Handles, T: Dialer>(
         &mut self,
-        rt: &R,
-        alloc: Global,
+        means: &Means<'_, R>,
         dialer: &mut T,
         held: Held,
         ttl: u64,
@@ -115,7 +116,7 @@ impl<C: Clock, N: Noting> EtcdService<C, N> {
         ensures same { (self.new.settings ≡ self.old.settings) × (self.new.clock ≡ self.old.clock) }
         ensures turns { TurnsOf turns.old turns.new result }
     {
-        match self.post(rt, alloc, dialer, &Call::Range, turns) {
+        match self.post(means, dialer, &Call::Range, turns) {
             Ok(said) => Ok(kept_by(held, ttl, &said)),
             Err(why) => Err(why),
         }

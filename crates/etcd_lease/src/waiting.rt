@@ -10,19 +10,18 @@ ghost use Rattle.etcd_lease.specs.Turns.{TurnsOf};
 use crate::etcd_service::EtcdService;
 use crate::held::Held;
 use crate::kept::Kept;
+use crate::means::Means;
 use crate::noting::Noting;
 use crate::renewing::belief_of;
 use lease_link::{Learned, Unlearned};
 use lf_base::{Clock, Dialer, Handles};
 use link_session::Turns;
-use std::alloc::Global;
 
 impl<C: Clock, N: Noting> EtcdService<C, N> {
     /// Keeps the key, and learns of its term where the time has come.
     pub(crate) fn wait<R: Handles, T: Dialer>(
         &mut self,
-        rt: &R,
-        alloc: Global,
+        means: &Means<'_, R>,
         dialer: &mut T,
         held: Held,
         turns: &mut Turns,
@@ -34,7 +33,7 @@ impl<C: Clock, N: Noting> EtcdService<C, N> {
         ensures same { (self.new.settings ≡ self.old.settings) × (C.may_give self.new.clock ≡ C.may_give self.old.clock) }
         ensures turns { TurnsOf turns.old turns.new result }
     {
-        match self.keep(rt, alloc, dialer, held, turns) {
+        match self.keep(means, dialer, held, turns) {
             Ok(kept) => Ok(self.waited(held, kept)),
             Err(why) => Err(why),
         }

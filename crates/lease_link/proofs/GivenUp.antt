@@ -1,12 +1,11 @@
 -- A lease given up, put together of what its calls did.
-use Rattle.std.proofs.Common.{◌≡◌, ◌≢◌, ℕ, Bool, List, ◌++◌, ap, subst}
+use Rattle.std.proofs.Common.{◌≡◌, ◌≢◌, ℕ, List, ◌++◌, ap}
 use Rattle.turn_desk.specs.declared.history.Entry.{Entry}
 use Rattle.link_session.specs.Stands.{Asker}
 use Rattle.lease_core.specs.declared.grant.Grant.{Grant}
 use Rattle.lease_link.specs.declared.bringing.Bringing.{Ghosts as BringingGhosts}
 use Rattle.lease_link.specs.declared.service.Service.{Ghosts as ServiceGhosts}
-use Rattle.lease_link.specs.Asking.{DialStand}
-use Rattle.lease_link.specs.Keeping.{AreNews, GivesUp, KeepStand, Releases, keep_stand, lost, released}
+use Rattle.lease_link.specs.Keeping.{AreNews, GivesUp, KeepStand, Releases, lost, released}
 
 -- behind the loss the service was asked to end the term
 pub given_back : {B Q A V : Type 0} (b : BringingGhosts B Q) (s : ServiceGhosts V) (who : Asker) (tell : Type 0) (own : Grant) (budget : ℕ) (worn : Type 0)
@@ -20,12 +19,3 @@ pub given_lost : {B Q A V : Type 0} (b : BringingGhosts B Q) (s : ServiceGhosts 
     → GivesUp b s who tell own budget worn old (record old { entries = entries }) starves
 given_lost {Q = Q} {A = A} b s who tell own budget worn old entries news starves are none more =
     lost news are none (ap (λ (l : List (Entry Q A)). record old { entries = l }) more)
-
--- the same by a seat, of which a look at its desk changed neither its number nor its entries
-pub given_by_seat : {B Q A V : Type 0} (b : BringingGhosts B Q) (s : ServiceGhosts V) (caller looked : ℕ) (may : ℕ → Bool) (tell : Type 0) (own : Grant) (budget : ℕ) (worn : Type 0)
-    (mine seen : List (Entry Q A)) (dialed : DialStand) (service : V) (new : KeepStand (Entry Q A) V) (starves : Type 0) → looked ≡ caller → seen ≡ mine
-    → GivesUp b s (record { caller = looked; may = may }) tell own budget worn (keep_stand seen dialed service) new starves
-    → GivesUp b s (record { caller = caller; may = may }) tell own budget worn (keep_stand mine dialed service) new starves
-given_by_seat {Q = Q} {A = A} b s caller looked may tell own budget worn mine seen dialed service new starves number entries given =
-    subst (λ (n : ℕ). GivesUp b s (record { caller = n; may = may }) tell own budget worn (keep_stand mine dialed service) new starves) number
-    (subst (λ (m : List (Entry Q A)). GivesUp b s (record { caller = looked; may = may }) tell own budget worn (keep_stand m dialed service) new starves) entries given)

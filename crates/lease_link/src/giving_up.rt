@@ -1,19 +1,18 @@
 //! A lease given up over one that asks steps.
 
-ghost use Rattle.std.specs.Prelude.{IsErr};
+ghost use Rattle.std.specs.Prelude.{◌≡◌, IsErr};
 ghost use Rattle.http_exchange.specs.Exchange.{LinksTell};
-ghost use Rattle.link_session.specs.Stands.{asker, AsksOn};
-ghost use Rattle.lease_link.specs.Asking.{dial_stand};
-ghost use Rattle.lease_link.specs.Keeping.{GivesUp, Releases, keep_stand};
+ghost use Rattle.lease_link.specs.Keeping.{GivesUp, Releases};
+ghost use Rattle.lease_link.specs.Rounds.{Borrows, RoundGoesOn, asker_of, dialed_by, round_stand};
 
 use crate::bringing::Bringing;
 use crate::keeping::tell;
+use crate::round::Round;
 use crate::service::Service;
 use crate::unlearned::Unlearned;
 use lease_core::{Grant, LeaseAsk};
 use lf_base::{Clock, Dialer, Handles, NoMemory};
-use link_session::{Steps, Turns};
-use std::alloc::Global;
+use link_session::Steps;
 
 /// Tells the machine that its lease is lost, and then gives the term back, where it has one. How that
 /// ends is of no account.
@@ -26,51 +25,48 @@ pub(crate) fn give_up<
     V: Service,
     T: Dialer,
     C: Clock,
+    P,
 >(
     rt: &R,
-    alloc: Global,
     steps: &mut S,
+    round: &mut Round<T, V, C, P>,
     bring: &B,
-    dialer: &mut T,
-    service: &mut V,
     own: &Grant,
-    clock: &mut C,
-    budget: u64,
 ) -> Result<(), NoMemory>
-    ensures given { GivesUp B.Bringing V.Service (asker S.Steps C.Clock steps.old clock.old) (LinksTell T.L.given T.L.taken) own.now budget (S.is_worn steps.new)
-        (keep_stand (S.entries steps.old) (dial_stand (T.dials dialer.old) (T.faults dialer.old)) service.old)
-        (keep_stand (S.entries steps.new) (dial_stand (T.dials dialer.new) (T.faults dialer.new)) service.new) (IsErr result) }
-    ensures same { AsksOn S.Steps C.Clock steps.old steps.new clock.old clock.new }
+    ensures given { GivesUp B.Bringing V.Service (asker_of S.Steps C.Clock round.old steps.old) (LinksTell T.L.given T.L.taken) own.now round.old.turns (S.is_worn steps.new)
+        (round_stand T.Dialer (S.entries steps.old) round.old) (round_stand T.Dialer (S.entries steps.new) round.new) (IsErr result) }
+    ensures same { RoundGoesOn S.Steps C.Clock round.old round.new steps.old steps.new }
 {
-    let mut turns = Turns::new(budget);
-    let news = bring.lost(clock.now_ms());
-    match tell(steps, news, &mut turns) {
+    let news = bring.lost(round.clock.now_ms());
+    match tell(steps, news, &mut round.turns) {
         Ok(()) => {}
         Err(_) => return Ok(()),
     }
     if own.term == 0 {
         return Ok(());
     }
-    release(rt, alloc, dialer, service, own, &mut turns)
+    release(rt, round, own)
 }
 
 /// Gives the term back, once.
-fn release<R: Handles, V: Service, T: Dialer>(
+fn release<R: Handles, V: Service, T: Dialer, C, P>(
     rt: &R,
-    alloc: Global,
-    dialer: &mut T,
-    service: &mut V,
+    round: &mut Round<T, V, C, P>,
     own: &Grant,
-    turns: &mut Turns,
 ) -> Result<(), NoMemory>
-    ensures { Releases V.Service (LinksTell T.L.given T.L.taken) own.now (dial_stand (T.dials dialer.old) (T.faults dialer.old))
-        (dial_stand (T.dials dialer.new) (T.faults dialer.new)) service.old service.new (IsErr result) }
+    ensures releases { Releases V.Service (LinksTell T.L.given T.L.taken) own.now (dialed_by T.Dialer round.old) (dialed_by T.Dialer round.new)
+        round.old.service.now round.new.service.now (IsErr result) }
+    ensures borrows { Borrows round.old round.new }
+    ensures clock { round.new.clock ≡ round.old.clock }
 {
     let asked = LeaseAsk::Release {
         node: own.node,
         term: own.term,
     };
-    match service.ask(rt, alloc, dialer, &asked, turns) {
+    match round
+        .service
+        .ask(rt, round.alloc, round.dialer, &asked, &mut round.turns)
+    {
         Ok(_) | Err(Unlearned::Turns) => Ok(()),
         Err(Unlearned::NoMemory) => Err(NoMemory),
     }

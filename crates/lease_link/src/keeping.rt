@@ -2,22 +2,22 @@
 
 ghost use Rattle.std.specs.Prelude.{◌≡◌, IfErr, OnErr, OnOk};
 ghost use Rattle.http_exchange.specs.Exchange.{LinksTell};
-ghost use Rattle.link_session.specs.Stands.{asker, AsksOn, GoesOn};
+ghost use Rattle.link_session.specs.Stands.{GoesOn};
 ghost use Rattle.lease_link.specs.declared.keep_end.KeepEnd.TheVariants as ends;
-ghost use Rattle.lease_link.specs.Asking.{dial_stand};
-ghost use Rattle.lease_link.specs.Keeping.{Asks, Concludes, EndsTell, IsRound, end_untold, ended_by, keep_stand};
+ghost use Rattle.lease_link.specs.Keeping.{Asks, Concludes, EndsTell, IsRound, end_untold, ended_by};
 ghost use Rattle.lease_link.specs.Learning.{round_ask};
+ghost use Rattle.lease_link.specs.Rounds.{RoundGoesOn, asker_of, round_stand};
 
 use crate::bringing::Bringing;
 use crate::keep_end::KeepEnd;
 use crate::learned::Learned;
 use crate::learning::round_ask;
+use crate::round::Round;
 use crate::service::Service;
 use crate::unlearned::Unlearned;
 use lease_core::Grant;
 use lf_base::{Clock, Dialer, Handles, Pause, Text};
 use link_session::{Steps, Turns};
-use std::alloc::Global;
 
 /// One round, by one that asks steps.
 pub(crate) fn keep<
@@ -32,34 +32,31 @@ pub(crate) fn keep<
     P: Pause,
 >(
     rt: &R,
-    alloc: Global,
     steps: &mut S,
+    round: &mut Round<T, V, C, P>,
     bring: &B,
-    dialer: &mut T,
-    service: &mut V,
     own: &Grant,
     candidate: bool,
-    clock: &mut C,
-    pause: &mut P,
-    budget: u64,
 ) -> KeepEnd
-    ensures round { IsRound B.Bringing V.Service (asker S.Steps C.Clock steps.old clock.old) (LinksTell T.L.given T.L.taken)
-        (round_ask own.now candidate) own.now budget (keep_stand (S.entries steps.old) (dial_stand (T.dials dialer.old) (T.faults dialer.old)) service.old)
-        (keep_stand (S.entries steps.new) (dial_stand (T.dials dialer.new) (T.faults dialer.new)) service.new) result }
-    ensures same { AsksOn S.Steps C.Clock steps.old steps.new clock.old clock.new }
+    ensures round { IsRound B.Bringing V.Service (asker_of S.Steps C.Clock round.old steps.old) (LinksTell T.L.given T.L.taken)
+        (round_ask own.now candidate) own.now round.old.turns (round_stand T.Dialer (S.entries steps.old) round.old)
+        (round_stand T.Dialer (S.entries steps.new) round.new) result }
+    ensures same { RoundGoesOn S.Steps C.Clock round.old round.new steps.old steps.new }
     ensures worn { result ≡ ends.Worn → S.is_worn steps.new }
 {
-    let mut turns = Turns::new(budget);
     let Ok(asked) = round_ask(own, candidate) else {
         return KeepEnd::NoMemory;
     };
-    let first = bring.asking(clock.now_ms());
-    match tell(steps, first, &mut turns) {
+    let first = bring.asking(round.clock.now_ms());
+    match tell(steps, first, &mut round.turns) {
         Ok(()) => {}
         Err(end) => return end,
     }
-    match service.ask(rt, alloc, dialer, &asked, &mut turns) {
-        Ok(learned) => conclude(steps, bring, own, learned, clock, pause, &mut turns),
+    match round
+        .service
+        .ask(rt, round.alloc, round.dialer, &asked, &mut round.turns)
+    {
+        Ok(learned) => conclude(steps, round, bring, own, learned),
         Err(why) => end_untold(why),
     }
 }
@@ -101,36 +98,31 @@ fn conclude<
     A: Drop,
     S: Steps<Ask = Q, Answer = A>,
     B: Bringing<Ask = Q>,
+    V,
+    T,
     C: Clock,
     P: Pause,
->(
-    steps: &mut S,
-    bring: &B,
-    own: &Grant,
-    learned: Learned,
-    clock: &mut C,
-    pause: &mut P,
-    turns: &mut Turns,
-) -> KeepEnd
-    ensures concludes { Concludes B.Bringing (asker S.Steps C.Clock steps.old clock.old) own.now learned (S.entries steps.old) (S.entries steps.new) result }
-    ensures same { AsksOn S.Steps C.Clock steps.old steps.new clock.old clock.new }
+>(steps: &mut S, round: &mut Round<T, V, C, P>, bring: &B, own: &Grant, learned: Learned) -> KeepEnd
+    ensures concludes { Concludes B.Bringing (asker_of S.Steps C.Clock round.old steps.old) own.now learned (S.entries steps.old) (S.entries steps.new) result }
+    ensures same { RoundGoesOn S.Steps C.Clock round.old round.new steps.old steps.new }
+    ensures still { (round.new.dialer ≡ round.old.dialer) × (round.new.service ≡ round.old.service) }
     ensures worn { result ≡ ends.Worn → S.is_worn steps.new }
 {
-    let now = clock.now_ms();
+    let now = round.clock.now_ms();
     match learned {
         Learned::Granted { term, ttl } => {
-            let told = tell(steps, bring.granted(now, term, ttl), turns);
-            ended(told, term, None, pause)
+            let told = tell(steps, bring.granted(now, term, ttl), &mut round.turns);
+            ended(told, term, None, round.pause)
         }
         Learned::Lost => {
-            let told = tell(steps, bring.lost(now), turns);
-            ended(told, 0, None, pause)
+            let told = tell(steps, bring.lost(now), &mut round.turns);
+            ended(told, 0, None, round.pause)
         }
         Learned::Primary { host, url } => {
-            let told = tell(steps, bring.primary(now, host), turns);
-            ended(told, own.term, Some(url), pause)
+            let told = tell(steps, bring.primary(now, host), &mut round.turns);
+            ended(told, own.term, Some(url), round.pause)
         }
-        Learned::Nothing => ended(Ok(()), own.term, None, pause),
+        Learned::Nothing => ended(Ok(()), own.term, None, round.pause),
     }
 }
 

@@ -3,22 +3,22 @@
 ghost use Rattle.std.specs.Prelude.{◌≡◌, IsErr};
 ghost use Rattle.http_exchange.specs.Exchange.{LinksTell};
 ghost use Rattle.link_session.specs.Seats.{FoundWorn, HasGoneOn};
-ghost use Rattle.turn_desk.specs.Seats.{view, number_of, opened_on, IsOf};
+ghost use Rattle.turn_desk.specs.Seats.{view, number_of, opened_on};
 ghost use Rattle.lease_link.specs.declared.keep_end.KeepEnd.TheVariants as ends;
-ghost use Rattle.lease_link.specs.Asking.{dial_stand};
-ghost use Rattle.lease_link.specs.Keeping.{GivesUp, IsRound, keep_stand};
+ghost use Rattle.lease_link.specs.Keeping.{GivesUp, IsRound};
 ghost use Rattle.lease_link.specs.Learning.{round_ask};
+ghost use Rattle.lease_link.specs.Rounds.{Borrows, round_stand};
 
 use crate::bringing::Bringing;
 use crate::giving_up::give_up;
 use crate::keep_end::KeepEnd;
 use crate::keeping::keep;
+use crate::round::Round;
 use crate::service::Service;
 use lease_core::Grant;
 use lf_base::{Clock, Dialer, Handles, NoMemory, Pause};
 use link_session::AtSeat;
-use std::alloc::Global;
-use turn_desk::{Desk, Machine, Seat};
+use turn_desk::Machine;
 
 /// One round of a node with its lease.
 ///
@@ -30,47 +30,35 @@ use turn_desk::{Desk, Machine, Seat};
 /// `own` is this node's, with the term that it has, 0 for none.
 pub fn keep_lease<
     R: Handles + Copy,
-    Q: Drop,
-    A: Drop,
-    M: Machine<Ask = Q, Answer = A>,
-    B: Bringing<Ask = Q>,
+    M: Machine,
+    B: Bringing<Ask = M::Ask>,
     V: Service,
     T: Dialer,
     C: Clock,
     P: Pause,
 >(
-    rt: R,
-    alloc: Global,
-    desk: &Desk<M>,
-    seat: &mut Seat<M>,
+    at: &mut AtSeat<M, R>,
+    round: &mut Round<T, V, C, P>,
     bring: &B,
-    dialer: &mut T,
-    service: &mut V,
     own: &Grant,
     candidate: bool,
-    clock: &mut C,
-    pause: &mut P,
-    budget: u64,
 ) -> KeepEnd
-    requires { IsOf seat.old desk.now }
-    ensures round { IsRound B.Bringing V.Service (record { caller = number_of seat.old; may = C.may_give clock.old }) (LinksTell T.L.given T.L.taken)
-        (round_ask own.now candidate) own.now budget (keep_stand (view seat.old).mine (dial_stand (T.dials dialer.old) (T.faults dialer.old)) service.old)
-        (keep_stand (view seat.new).mine (dial_stand (T.dials dialer.new) (T.faults dialer.new)) service.new) result }
-    ensures worn { result ≡ ends.Worn → FoundWorn seat.new }
-    ensures history { HasGoneOn M.steps (opened_on desk.now) (number_of seat.new) (view seat.old) (view seat.new) }
-    ensures seat { IsOf seat.new desk.now × (number_of seat.new ≡ number_of seat.old) }
-    ensures clock { C.may_give clock.new ≡ C.may_give clock.old }
+where
+    M::Ask: Drop,
+    M::Answer: Drop,
+    ensures round { IsRound B.Bringing V.Service (record { caller = number_of at.old.seat.now; may = C.may_give round.old.clock.now }) (LinksTell T.L.given T.L.taken)
+        (round_ask own.now candidate) own.now round.old.turns (round_stand T.Dialer (view at.old.seat.now).mine round.old)
+        (round_stand T.Dialer (view at.new.seat.now).mine round.new) result }
+    ensures worn { result ≡ ends.Worn → FoundWorn at.new.seat.now }
+    ensures history { HasGoneOn M.steps (opened_on at.old.desk.now) (number_of at.new.seat.now) (view at.old.seat.now) (view at.new.seat.now) }
+    ensures seat { (at.new.desk.now ≡ at.old.desk.now) × (at.new.seat.ghost_name ≡ at.old.seat.ghost_name)
+        × (number_of at.new.seat.now ≡ number_of at.old.seat.now) }
+    ensures clock { C.may_give round.new.clock.now ≡ C.may_give round.old.clock.now }
+    ensures borrows { Borrows round.old round.new }
 {
     // A look at the desk tells that what the seat has seen is the machine's history.
-    desk.edition(seat);
-    let mut steps = AtSeat {
-        rt: &rt,
-        desk,
-        seat,
-    };
-    keep(
-        &rt, alloc, &mut steps, bring, dialer, service, own, candidate, clock, pause, budget,
-    )
+    at.look();
+    keep(at.rt, at, round, bring, own, candidate)
 }
 
 /// Gives a node's lease up: the machine is told that it is lost, and then the service is asked to end its
@@ -79,40 +67,30 @@ pub fn keep_lease<
 /// The loss comes first: no other node gets the term while this one believes in it.
 pub fn give_up_lease<
     R: Handles + Copy,
-    Q: Drop,
-    A: Drop,
-    M: Machine<Ask = Q, Answer = A>,
-    B: Bringing<Ask = Q>,
+    M: Machine,
+    B: Bringing<Ask = M::Ask>,
     V: Service,
     T: Dialer,
     C: Clock,
+    P,
 >(
-    rt: R,
-    alloc: Global,
-    desk: &Desk<M>,
-    seat: &mut Seat<M>,
+    at: &mut AtSeat<M, R>,
+    round: &mut Round<T, V, C, P>,
     bring: &B,
-    dialer: &mut T,
-    service: &mut V,
     own: &Grant,
-    clock: &mut C,
-    budget: u64,
 ) -> Result<(), NoMemory>
-    requires { IsOf seat.old desk.now }
-    ensures given { GivesUp B.Bringing V.Service (record { caller = number_of seat.old; may = C.may_give clock.old }) (LinksTell T.L.given T.L.taken) own.now budget
-        (FoundWorn seat.new) (keep_stand (view seat.old).mine (dial_stand (T.dials dialer.old) (T.faults dialer.old)) service.old)
-        (keep_stand (view seat.new).mine (dial_stand (T.dials dialer.new) (T.faults dialer.new)) service.new) (IsErr result) }
-    ensures history { HasGoneOn M.steps (opened_on desk.now) (number_of seat.new) (view seat.old) (view seat.new) }
-    ensures seat { IsOf seat.new desk.now × (number_of seat.new ≡ number_of seat.old) }
-    ensures clock { C.may_give clock.new ≡ C.may_give clock.old }
+where
+    M::Ask: Drop,
+    M::Answer: Drop,
+    ensures given { GivesUp B.Bringing V.Service (record { caller = number_of at.old.seat.now; may = C.may_give round.old.clock.now }) (LinksTell T.L.given T.L.taken) own.now round.old.turns
+        (FoundWorn at.new.seat.now) (round_stand T.Dialer (view at.old.seat.now).mine round.old)
+        (round_stand T.Dialer (view at.new.seat.now).mine round.new) (IsErr result) }
+    ensures history { HasGoneOn M.steps (opened_on at.old.desk.now) (number_of at.new.seat.now) (view at.old.seat.now) (view at.new.seat.now) }
+    ensures seat { (at.new.desk.now ≡ at.old.desk.now) × (at.new.seat.ghost_name ≡ at.old.seat.ghost_name)
+        × (number_of at.new.seat.now ≡ number_of at.old.seat.now) }
+    ensures clock { C.may_give round.new.clock.now ≡ C.may_give round.old.clock.now }
+    ensures borrows { Borrows round.old round.new }
 {
-    desk.edition(seat);
-    let mut steps = AtSeat {
-        rt: &rt,
-        desk,
-        seat,
-    };
-    give_up(
-        &rt, alloc, &mut steps, bring, dialer, service, own, clock, budget,
-    )
+    at.look();
+    give_up(at.rt, at, round, bring, own)
 }

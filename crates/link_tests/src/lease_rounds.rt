@@ -7,8 +7,9 @@ mod replies;
 
 use crate::exchange::{dialer_of, link_of};
 use lease_core::Grant;
-use lease_link::{KeepEnd, OwnService, keep_lease};
+use lease_link::{KeepEnd, OwnService, Round, keep_lease};
 use lf_base::{FixedClock, Handles, MemDialer, NoPause, Text};
+use link_session::{AtSeat, Turns};
 use listener::{Account, Bring, News, closed, opened};
 use std::alloc::Global;
 use std::process::Abort;
@@ -91,20 +92,20 @@ fn round<R: Handles + Abort + Copy>(
     let own = grant_of(&rt, alloc, who.term);
     let mut service = service_of(&rt, alloc);
     let (mut clock, mut pause) = (FixedClock::new(NOW), NoPause::new());
-    let end = keep_lease(
-        rt,
+    let mut at = AtSeat {
+        rt: &rt,
+        desk: &desk,
+        seat: &mut seat,
+    };
+    let mut round = Round {
         alloc,
-        &desk,
-        &mut seat,
-        &Bring,
         dialer,
-        &mut service,
-        &own,
-        who.candidate,
-        &mut clock,
-        &mut pause,
-        budget,
-    );
+        service: &mut service,
+        clock: &mut clock,
+        pause: &mut pause,
+        turns: Turns::new(budget),
+    };
+    let end = keep_lease(&mut at, &mut round, &Bring, &own, who.candidate);
     (closed(rt, desk, seat), end_of(end))
 }
 

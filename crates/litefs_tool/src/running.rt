@@ -10,7 +10,7 @@ use crate::failure::Failure;
 use crate::task::Task;
 use lf_base::{Dialer, Failed, Handles};
 use node_mount::Maker;
-use run_child::{ChildEnd, ReadyStarter, run_child};
+use run_child::{ChildEnd, ReadyStarter, Run, run_child};
 use std::alloc::Global;
 use std::process::Processes;
 
@@ -68,7 +68,12 @@ fn run_dialed<R: Handles + Processes, T: Dialer, S: ReadyStarter>(
         Err(failed) => return Err(failed),
     };
     let words = task.words.as_slice();
-    let end = run_child(alloc, rt, &mut link, &task.name, child, words, BYTE_LIMIT);
+    let run = Run {
+        name: &task.name,
+        words,
+        budget: BYTE_LIMIT,
+    };
+    let end = run_child(alloc, rt, &mut link, child, run);
     dialer.hang_up(link);
     Ok(end)
 }

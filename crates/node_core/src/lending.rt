@@ -85,14 +85,20 @@ impl<D: Disk, K: Before> PageStore for Lent<'_, D, K> {
     }
 }
 
+/// A request, by whom it comes, and what the node is then.
+#[derive(Clone, Copy)]
+struct Asked<'a> {
+    caller: u64,
+    role: Role,
+    request: &'a Request,
+}
+
 /// Prepares a request over a store that is as it was when it was lent, and gives the store back.
 fn prepare_lent<'a, K: Before, D: Disk>(
     store: &'a mut Store<D>,
     view: &mut View,
     alloc: Global,
-    caller: u64,
-    role: Role,
-    request: &Request,
+    asked: Asked<'_>,
     planned: &mut Result<Plan, ViewFault>,
 ) -> &'a mut Store<D>
     requires named { store.ghost_name ≡ K.name }
@@ -102,9 +108,9 @@ fn prepare_lent<'a, K: Before, D: Disk>(
     ensures same_reference { result.ghost_name ≡ store.entry.ghost_name }
     ensures read { IsRead K.history K.fields (history_of result.now) (fields_of result.now) }
     ensures done { IfOk planned.new (λ plan. IsDone (told (history_of store.old) (fields_of store.old)) view.old
-        (scene_of caller role store.old.page_size store.old.commit store.old.broken) request.now plan view.new) }
-    ensures allowed { OnOk planned.new (IsAllowed (rows_of view.old (scene_of caller role store.old.page_size store.old.commit store.old.broken) request.now)) }
-    ensures cause { IfErr planned.new (RefusesBy (needs_of view.old request.now) (rows_of view.old (scene_of caller role store.old.page_size store.old.commit store.old.broken) request.now)
+        (scene_of asked.entry.caller asked.entry.role store.old.page_size store.old.commit store.old.broken) asked.entry.request.now plan view.new) }
+    ensures allowed { OnOk planned.new (IsAllowed (rows_of view.old (scene_of asked.entry.caller asked.entry.role store.old.page_size store.old.commit store.old.broken) asked.entry.request.now)) }
+    ensures cause { IfErr planned.new (RefusesBy (needs_of view.old asked.entry.request.now) (rows_of view.old (scene_of asked.entry.caller asked.entry.role store.old.page_size store.old.commit store.old.broken) asked.entry.request.now)
         K.fields (fields_of result.now)) }
     ensures err { OnErr planned.new (view.new ≡ view.old) }
     ensures name { view.new.name ≡ view.old.name }
@@ -115,7 +121,7 @@ fn prepare_lent<'a, K: Before, D: Disk>(
         store,
         of: PhantomData::<K>,
     };
-    *planned = view.prepare(alloc, caller, role, request, &mut lent);
+    *planned = view.prepare(alloc, asked.caller, asked.role, asked.request, &mut lent);
     let Lent { store, .. } = lent;
     store
 }
@@ -142,8 +148,12 @@ pub fn prepare<D: Disk>(
     ensures stands { StandsOver (told (history_of store.old) (fields_of store.old)) store.old.page_size store.old.commit view.new }
     ensures awaits { IfOk result (AwaitsOver (told (history_of store.old) (fields_of store.old)) view.new) }
 {
-    let role = standing.role();
+    let asked = Asked {
+        caller,
+        role: standing.role(),
+        request,
+    };
     let mut planned = Err(ViewFault::NoMemory);
-    prepare_lent::<Brand, D>(store, view, alloc, caller, role, request, &mut planned);
+    prepare_lent::<Brand, D>(store, view, alloc, asked, &mut planned);
     planned
 }

@@ -27,6 +27,16 @@ pub struct Duties<T, C> {
     pub rounds: Rounds<T, C>,
 }
 
+/// Of what a keeper is made beside its settings: the node's number, what dials who grants the lease, where that is
+/// granted, the time there, and where it is noted how.
+#[derive(Drop)]
+pub struct KeeperParts<'a, T, C> {
+    pub node: u64,
+    pub dialer: Option<T>,
+    pub clock: C,
+    pub notes: &'a Notes,
+}
+
 /// Whether a node is primary from the start.
 pub fn stands_as_primary(lease: &LeaseSettings) -> bool
     ensures { result ≡ stands lease.now.lease_type lease.now.candidate }
@@ -37,25 +47,23 @@ pub fn stands_as_primary(lease: &LeaseSettings) -> bool
     }
 }
 
-/// What a node of this number does. It follows by dialers of this one's kind, and notes there how;
-/// `asking` dials who grants its lease, where that is granted, and `clock` is of use there.
+/// What a node does whose keeper is made of these parts. It follows by dialers of this one's kind, and notes how
+/// where its keeper does.
 pub fn duties_of<T: Dialer + Drop, C: Copy>(
     alloc: Global,
     settings: &Settings,
-    node: u64,
     dialer: &T,
-    asking: Option<T>,
-    clock: C,
-    notes: &Notes,
+    parts: KeeperParts<'_, T, C>,
 ) -> Result<Option<Duties<T, C>>, NoMemory>
-    ensures { IfOk result (AreDuties settings.now node asking) }
+    ensures { IfOk result (AreDuties settings.now parts.entry.node parts.entry.dialer) }
 {
     if stands_as_primary(&settings.lease) {
         return Ok(None);
     }
     let board = Board::new(alloc, first_address(&settings.lease)?)?;
     let theirs = board.another()?;
-    let rounds = rounds_of(alloc, settings, node, asking, clock, notes, theirs)?;
+    let notes = parts.notes;
+    let rounds = rounds_of(alloc, settings, parts, theirs)?;
     let primary = Primary {
         name: settings.database.copy()?,
         dialer: ToPrimary::new(dialer.another(), board),
@@ -110,15 +118,12 @@ fn first_address(lease: &LeaseSettings) -> Result<Option<Text>, NoMemory>
 fn rounds_of<T: Drop, C: Copy>(
     alloc: Global,
     settings: &Settings,
-    node: u64,
-    asking: Option<T>,
-    clock: C,
-    notes: &Notes,
+    parts: KeeperParts<'_, T, C>,
     board: Board,
 ) -> Result<Rounds<T, C>, NoMemory>
-    ensures { IfOk result (AreRounds settings.now node asking) }
+    ensures { IfOk result (AreRounds settings.now parts.entry.node parts.entry.dialer) }
 {
-    let keeper = keeper_of(alloc, settings, node, asking, clock, notes)?;
+    let keeper = keeper_of(alloc, settings, parts)?;
     Ok(Rounds {
         keeper,
         board,
@@ -140,14 +145,17 @@ fn round_naps(lease: &LeaseSettings) -> u64
 fn keeper_of<T: Drop, C: Copy>(
     alloc: Global,
     settings: &Settings,
-    node: u64,
-    asking: Option<T>,
-    clock: C,
-    notes: &Notes,
+    parts: KeeperParts<'_, T, C>,
 ) -> Result<Option<Keeper<T, C>>, NoMemory>
-    ensures { IfOk result (IsKept settings.now node asking) }
+    ensures { IfOk result (IsKept settings.now parts.entry.node parts.entry.dialer) }
 {
-    let Some(dialer) = asking else {
+    let KeeperParts {
+        node,
+        dialer,
+        clock,
+        notes,
+    } = parts;
+    let Some(dialer) = dialer else {
         return Ok(None);
     };
     let Some(source) = source_of(alloc, settings, clock, notes)? else {

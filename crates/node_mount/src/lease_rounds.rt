@@ -3,6 +3,7 @@ ghost use Rattle.std.specs.Prelude.{◌≡◌, ◌↔◌, IsTrue};
 ghost use Rattle.node_core.specs.declared.answer.Answer.TheVariants as answers;
 ghost use Rattle.node_core.specs.declared.refusal.Refusal.TheVariants as refusals;
 ghost use Rattle.txn_log.specs.declared.fault.StoreFault.TheVariants as faults;
+ghost use Rattle.turn_desk.specs.Seats.{IsOf};
 ghost use Rattle.node_mount.specs.Places.{HasSeenNone};
 ghost use Rattle.node_mount.specs.Serving.{CountsStarts};
 
@@ -17,12 +18,13 @@ use crate::sessions::{BUDGET, LINKS};
 use crate::wish::term_after;
 use crate::work::{Work, start_work};
 use lease_core::Grant;
-use lease_link::{KeepEnd, give_up_lease, keep_lease};
+use lease_link::{KeepEnd, Round, give_up_lease, keep_lease};
 use lf_base::{Clock, Closing, Dialer, Handles, Link, Pause, Spawner};
+use link_session::{AtSeat, Turns};
 use node_core::{Answer, Ask, Refusal};
 use std::alloc::Global;
 use std::sync::Wait;
-use turn_desk::Machine;
+use turn_desk::{Desk, Machine, Seat};
 use txn_log::StoreFault;
 
 /// The rounds of a node.
@@ -149,24 +151,46 @@ fn keep<
     keeper: &mut Keeper<T, Q>,
     board: &Board,
 ) -> KeepEnd {
-    let end = keep_lease(
-        means.rt,
-        means.alloc,
-        &*place.desk,
-        &mut place.seat,
-        &ToNode,
-        &mut keeper.dialer,
-        &mut keeper.source,
-        &keeper.own,
-        keeper.wish.asks_to_be(),
-        &mut means.clock,
-        &mut means.pause,
-        BUDGET,
-    );
+    let end = keep_by_seat(means, &*place.desk, &mut place.seat, keeper);
     post(&means.rt, means.alloc, board, &keeper.own, &end);
     keeper.wish = keeper.wish.after(keeper.own.term, &end);
     keeper.own.term = term_after(keeper.own.term, &end);
     end
+}
+
+/// The same by a seat of a desk.
+fn keep_by_seat<
+    R: Handles + Copy,
+    K: Machine<Ask = Ask, Answer = Answer>,
+    T: Dialer,
+    Q: Clock,
+    C: Clock,
+    P: Pause,
+>(
+    means: &mut Means<R, C, P>,
+    desk: &Desk<K>,
+    seat: &mut Seat<K>,
+    keeper: &mut Keeper<T, Q>,
+) -> KeepEnd
+    requires { IsOf seat.old desk.now }
+    ensures { IsOf seat.new desk.now }
+{
+    let candidate = keeper.wish.asks_to_be();
+    let rt = means.rt;
+    let mut at = AtSeat {
+        rt: &rt,
+        desk,
+        seat,
+    };
+    let mut round = Round {
+        alloc: means.alloc,
+        dialer: &mut keeper.dialer,
+        service: &mut keeper.source,
+        clock: &mut means.clock,
+        pause: &mut means.pause,
+        turns: Turns::new(BUDGET),
+    };
+    keep_lease(&mut at, &mut round, &ToNode, &keeper.own, candidate)
 }
 
 /// Writes on the board what a round tells. Where memory runs out it stays.
@@ -187,18 +211,36 @@ fn give_up<
     C: Clock,
     P: Pause,
 >(means: &mut Means<R, C, P>, place: &mut Place<K>, keeper: &mut Keeper<T, Q>) {
-    let _ = give_up_lease(
-        means.rt,
-        means.alloc,
-        &*place.desk,
-        &mut place.seat,
-        &ToNode,
-        &mut keeper.dialer,
-        &mut keeper.source,
-        &keeper.own,
-        &mut means.clock,
-        BUDGET,
-    );
+    give_up_by_seat(means, &*place.desk, &mut place.seat, keeper);
+}
+
+/// The same by a seat of a desk.
+fn give_up_by_seat<
+    R: Handles + Copy,
+    K: Machine<Ask = Ask, Answer = Answer>,
+    T: Dialer,
+    Q: Clock,
+    C: Clock,
+    P: Pause,
+>(means: &mut Means<R, C, P>, desk: &Desk<K>, seat: &mut Seat<K>, keeper: &mut Keeper<T, Q>)
+    requires { IsOf seat.old desk.now }
+    ensures { IsOf seat.new desk.now }
+{
+    let rt = means.rt;
+    let mut at = AtSeat {
+        rt: &rt,
+        desk,
+        seat,
+    };
+    let mut round = Round {
+        alloc: means.alloc,
+        dialer: &mut keeper.dialer,
+        service: &mut keeper.source,
+        clock: &mut means.clock,
+        pause: &mut means.pause,
+        turns: Turns::new(BUDGET),
+    };
+    let _ = give_up_lease(&mut at, &mut round, &ToNode, &keeper.own);
 }
 
 /// Prunes the log to its newest files. Answers whether the store is broken.

@@ -82,7 +82,7 @@ pub use keeping::Keeping;
 pub use lease_service::serve_leases;
 pub use line::Line;
 pub use maker::Maker;
-pub use mem_maker::{MemMaker, MemReturned};
+pub use mem_maker::{MemMaker, MemParts, MemReturned};
 pub use mem_mounter::{MemMounter, MemProgram};
 pub use mem_spawn::MemSpawn;
 pub use mount_call::MountCall;

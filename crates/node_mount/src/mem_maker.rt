@@ -95,42 +95,56 @@ impl Model for MemMaker {
     ghost invariant = { λ m. All IsNewDisk m.disks.items × All IsNewDoor m.files.items × All IsNewDoor m.http.items × All IsNewPhone m.dialers.items × All IsNewSpawner m.spawners.items };
 }
 
+/// Of what a maker in memory is made: the objects that it gives, those of each kind in order, and what it tells.
+#[derive(Drop)]
+pub struct MemParts {
+    pub disks: Vec<MemDisk>,
+    pub files: Vec<ListAcceptor>,
+    pub http: Vec<ListAcceptor>,
+    pub dialers: Vec<MemDialer>,
+    pub spawners: Vec<MemSpawn>,
+    pub clock: FixedClock,
+    pub node: u64,
+    /// How many places it has for what comes back, and as many for what it is asked for.
+    pub places: usize,
+    /// The calls of `disk`, `files` and `http` of these numbers fail, counted together from 0.
+    pub failing: Vec<u64>,
+}
+
 impl MemMaker {
-    /// A maker of these objects. Its calls of `disk`, `files` and `http` of the numbers `failing` fail,
-    /// counted together from 0. It has `places` places for what comes back, and as many for what it is
-    /// asked for.
-    pub fn new(
-        alloc: Global,
-        disks: Vec<MemDisk>,
-        files: Vec<ListAcceptor>,
-        http: Vec<ListAcceptor>,
-        dialers: Vec<MemDialer>,
-        spawners: Vec<MemSpawn>,
-        clock: FixedClock,
-        node: u64,
-        places: usize,
-        failing: Vec<u64>,
-    ) -> Result<MemMaker, NoMemory>
-        requires disks { All IsNewDisk disks.items }
-        requires files { All IsNewDoor files.items }
-        requires http { All IsNewDoor http.items }
-        requires dialers { All IsNewPhone dialers.items }
-        requires spawners { All IsNewSpawner spawners.items }
+    /// A maker of these parts.
+    pub fn new(alloc: Global, parts: MemParts) -> Result<MemMaker, NoMemory>
+        requires disks { All IsNewDisk parts.disks.items }
+        requires files { All IsNewDoor parts.files.items }
+        requires http { All IsNewDoor parts.http.items }
+        requires dialers { All IsNewPhone parts.dialers.items }
+        requires spawners { All IsNewSpawner parts.spawners.items }
         ensures { IfOk result (λ m. m ≡ record {
-          disks = disks.items;
-          files = files.items;
-          http = http.items;
-          dialers = dialers.items;
-          spawners = spawners.items;
-          clock = clock;
-          node = node;
-          failing = failing.items;
+          disks = parts.disks.items;
+          files = parts.files.items;
+          http = parts.http.items;
+          dialers = parts.dialers.items;
+          spawners = parts.spawners.items;
+          clock = parts.clock;
+          node = parts.node;
+          failing = parts.failing.items;
           calls = 0;
           counts = no_faults;
-          asked = record { values = []; places = places; lost = false };
-          back = record { values = []; places = places; lost = false };
+          asked = record { values = []; places = parts.places; lost = false };
+          back = record { values = []; places = parts.places; lost = false };
         }) }
     {
+        let MemParts {
+            disks,
+            files,
+            http,
+            dialers,
+            spawners,
+            clock,
+            node,
+            places,
+            failing,
+        } = parts;
         let aside = Aside::new(alloc)?;
         let asked = Keeping::new(alloc, places)?;
         let back = Keeping::new(alloc, places)?;

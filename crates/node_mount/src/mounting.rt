@@ -29,7 +29,7 @@ use crate::obstacle::tell_obstacle;
 use crate::opening::{OpenFault, config_of, open_place, open_recovered};
 use crate::patience::following_patience;
 use crate::place::Place;
-use crate::serving::serve_links;
+use crate::serving::{Serving, serve_links};
 use crate::tasks::{dialer_of_service, mount_of, tasks_of};
 use crate::tell::Lines;
 use lf_base::{Handles, Source};
@@ -204,7 +204,8 @@ fn serve_made<R: Handles + Copy + Send + 'static, M: Maker>(
         return Err(MountFault::NoMemory);
     };
     let mut spawner = make.spawner();
-    let served = serve_links(means, place, &mut files, calls, read, tasks, &mut spawner);
+    let serving = Serving { read, calls, tasks };
+    let served = serve_links(means, place, &mut files, serving, &mut spawner);
     make.back_files(files);
     make.back_dial(dialer);
     make.back_spawn(spawner);

@@ -29,6 +29,15 @@ use lf_base::{Acceptor, Clock, Closing, Dialer, Handles, Link, Pause, Spawner};
 use node_core::{Answer, Ask};
 use turn_desk::Machine;
 
+/// By what a node is served beside the links to its files: its configuration, where its other links come from, and
+/// its tasks.
+#[derive(Drop)]
+pub struct Serving<'a, B, T, E, N, C> {
+    pub read: &'a Configuration,
+    pub calls: Calls<B, T>,
+    pub tasks: Tasks<T, E, N, C>,
+}
+
 /// Starts the jobs of a node that nobody has asked anything, with the duties of its settings, and serves
 /// file links until no more come. Then the jobs are told to end: after `Closed` all have ended, and after
 /// `Broken`, as the node says of its store, its rounds, unless they took too long.
@@ -48,15 +57,13 @@ pub fn serve_links<
     means: Means<R, C, P>,
     place: Place<K>,
     files: &mut A,
-    calls: Calls<B, T>,
-    read: &Configuration,
-    tasks: Tasks<T, E, N, C>,
+    serving: Serving<'_, B, T, E, N, C>,
     spawner: &mut S,
 ) -> Result<End, MountFault>
     requires unused { IsUnused place.seat (arc_value place.desk) }
-    requires duties { AreDutiesBy read.now.settings tasks.duties }
-    requires passes { PassesOn read.now.settings.proxy calls.proxy }
-    requires mounts { Mounts read.now.settings.mount tasks.watching.mount }
+    requires duties { AreDutiesBy serving.read.now.settings serving.tasks.duties }
+    requires passes { PassesOn serving.read.now.settings.proxy serving.calls.proxy }
+    requires mounts { Mounts serving.read.now.settings.mount serving.tasks.watching.mount }
     requires new { A.given files.old ≡ 0 }
     ensures ended { OnOk result (A.ended files.new ≡ true) }
     ensures limit { GivesLimit (A.given files.new) result }
@@ -69,13 +76,11 @@ pub fn serve_links<
     };
     let (Ok(closing), Ok(rounds)) = (
         Closing::new(means.alloc),
-        rounds_word(means.alloc, &tasks.duties),
+        rounds_word(means.alloc, &serving.tasks.duties),
     ) else {
         return Err(MountFault::NoMemory);
     };
-    let served = serve_all(
-        means, &mut place, files, calls, read, tasks, &closing, spawner,
-    );
+    let served = serve_all(means, &mut place, files, serving, &closing, spawner);
     closing.close();
     match served {
         Ok(()) => Ok(end_serving(&mut means, &mut last, &rounds, spawner)),
@@ -100,21 +105,20 @@ fn serve_all<
     means: Means<R, C, P>,
     place: &mut Place<K>,
     files: &mut A,
-    calls: Calls<B, T>,
-    read: &Configuration,
-    tasks: Tasks<T, E, N, C>,
+    serving: Serving<'_, B, T, E, N, C>,
     closing: &Closing,
     spawner: &mut S,
 ) -> Result<(), MountFault>
     requires unused { HasSeenNone place.old.seat }
-    requires duties { AreDutiesBy read.now.settings tasks.duties }
-    requires passes { PassesOn read.now.settings.proxy calls.proxy }
-    requires mounts { Mounts read.now.settings.mount tasks.watching.mount }
+    requires duties { AreDutiesBy serving.read.now.settings serving.tasks.duties }
+    requires passes { PassesOn serving.read.now.settings.proxy serving.calls.proxy }
+    requires mounts { Mounts serving.read.now.settings.mount serving.tasks.watching.mount }
     requires new { A.given files.old ≡ 0 }
     ensures ended { OnOk result (A.ended files.new ≡ true) }
     ensures limit { GivesLimit (A.given files.new) result }
     ensures cause { CountsServing (A.faults files.old) (A.faults files.new) (S.faults spawner.old) (S.faults spawner.new) result }
 {
+    let Serving { read, calls, tasks } = serving;
     let Ok(calling) = Calling::of(
         &read.settings.database,
         &tasks.watching.notes,

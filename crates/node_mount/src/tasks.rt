@@ -4,7 +4,7 @@ ghost use Rattle.node_mount.specs.Asking.{AsksMount};
 ghost use Rattle.node_mount.specs.Duties.{AreDuties, HasDialer};
 ghost use Rattle.node_mount.specs.Mounters.{Mounts};
 
-use crate::duties::{Duties, board_of, duties_of, to_primary};
+use crate::duties::{Duties, KeeperParts, board_of, duties_of, to_primary};
 use crate::maker::Maker;
 use crate::mount_keeper::MountKeeper;
 use crate::node_gauge::Meters;
@@ -48,7 +48,13 @@ pub fn tasks_of<M: Maker>(
     let notes = Notes::new(alloc, tally.another()?)?;
     let mut clock = make.clock();
     let node = make.node_id();
-    let duties = duties_of(alloc, settings, node, dialer, asking, clock, &notes)?;
+    let parts = KeeperParts {
+        node,
+        dialer: asking,
+        clock,
+        notes: &notes,
+    };
+    let duties = duties_of(alloc, settings, dialer, parts)?;
     let watching = watching_of(alloc, settings, lines, notes, mount, ending)?;
     let writer = Writer {
         name: settings.database.copy()?,

@@ -10,7 +10,7 @@ use lf_base::{
     CallSpawner, FixedClock, Handles, ListAcceptor, MemLink, SliceSource, ThreadSpawner,
 };
 use lf_disk::MemDisk;
-use node_mount::{Maker, MemMaker, MemSpawn, mount};
+use node_mount::{Maker, MemMaker, MemParts, MemSpawn, mount};
 use std::alloc::Global;
 
 /// Where the jobs of a node run.
@@ -69,19 +69,18 @@ pub fn maker_of(
     let files = acceptor(alloc, links)?;
     let http = acceptor(alloc, Vec::new(alloc))?;
     let spawners = spawners(alloc, jobs)?;
-    let clock = FixedClock::new(NOW);
-    Ok(MemMaker::new(
-        alloc,
+    let parts = MemParts {
         disks,
         files,
         http,
-        Vec::new(alloc),
+        dialers: Vec::new(alloc),
         spawners,
-        clock,
-        3,
-        8,
-        Vec::new(alloc),
-    )?)
+        clock: FixedClock::new(NOW),
+        node: 3,
+        places: 8,
+        failing: Vec::new(alloc),
+    };
+    Ok(MemMaker::new(alloc, parts)?)
 }
 
 /// Runs a node to its end, and says how it ended, if not well.

@@ -7,7 +7,7 @@ use crate::mounted::{PRIMARY, empty_disk, no_links, one, one_spawner};
 use crate::same::same;
 use lf_base::{FixedClock, ListAcceptor, MemLink, SliceSource, ThreadSpawner, Watch};
 use lf_disk::{Disk, FileName, MemDisk};
-use node_mount::{MemMaker, MemSpawn, MountFault, mount};
+use node_mount::{MemMaker, MemParts, MemSpawn, MountFault, mount};
 use std::alloc::Global;
 use std::net::{TcpListener, TcpStream};
 use std::process::Abort;
@@ -72,19 +72,18 @@ fn primary_over(
     requires http { All IsNewDoor http.items }
     requires spawners { All IsNewSpawner spawners.items }
 {
-    let (none, clock) = (Vec::new(alloc), FixedClock::new(7));
-    let made = MemMaker::new(
-        alloc,
+    let parts = MemParts {
         disks,
         files,
         http,
-        none,
+        dialers: Vec::new(alloc),
         spawners,
-        clock,
-        9,
-        8,
-        Vec::new(alloc),
-    );
+        clock: FixedClock::new(7),
+        node: 9,
+        places: 8,
+        failing: Vec::new(alloc),
+    };
+    let made = MemMaker::new(alloc, parts);
     made.expect(&rt, "a maker")
 }
 

@@ -5,7 +5,7 @@ use crate::asking::asked_at;
 use crate::same::same;
 use lf_base::{FixedClock, ListAcceptor, Name, Text};
 use lf_disk::MemDisk;
-use node_mount::{Maker, MemMaker, Returned};
+use node_mount::{Maker, MemMaker, MemParts, Returned};
 use std::alloc::Global;
 use std::net::{TcpListener, TcpStream};
 use std::process::Abort;
@@ -35,12 +35,18 @@ fn maker(rt: impl Copy + Abort, alloc: Global) -> MemMaker {
     let files = one_acceptor(rt, alloc);
     let http = one_acceptor(rt, alloc);
     let failing = vec![in alloc; 1u64].expect(&rt, "memory");
-    let none = Vec::new(alloc);
-    let no_spawner = Vec::new(alloc);
-    let clock = FixedClock::new(7);
-    let made = MemMaker::new(
-        alloc, disks, files, http, none, no_spawner, clock, 9, 2, failing,
-    );
+    let parts = MemParts {
+        disks,
+        files,
+        http,
+        dialers: Vec::new(alloc),
+        spawners: Vec::new(alloc),
+        clock: FixedClock::new(7),
+        node: 9,
+        places: 2,
+        failing,
+    };
+    let made = MemMaker::new(alloc, parts);
     made.expect(&rt, "a maker")
 }
 

@@ -10,7 +10,7 @@ use lf_base::{
     Watch,
 };
 use lf_disk::MemDisk;
-use node_mount::{Maker, MemMaker, MemSpawn, System, SystemMaker, mount};
+use node_mount::{Maker, MemMaker, MemParts, MemSpawn, System, SystemMaker, mount};
 use std::alloc::Global;
 use std::net::{TcpListener, TcpStream};
 use std::process::Abort;
@@ -171,18 +171,18 @@ fn http_goes_on_after_a_failed_accept(rt: HostRuntime) {
     let _named: Option<(TcpListener, TcpStream)> = None;
     let alloc = rt.alloc();
     let (http, watch) = door_that_fails_first(rt, alloc);
-    let made = MemMaker::new(
-        alloc,
-        empty_disk(rt, alloc),
-        no_links(rt, alloc),
+    let parts = MemParts {
+        disks: empty_disk(rt, alloc),
+        files: no_links(rt, alloc),
         http,
-        Vec::new(alloc),
-        one_spawner(rt, alloc),
-        FixedClock::new(7),
-        9,
-        8,
-        Vec::new(alloc),
-    );
+        dialers: Vec::new(alloc),
+        spawners: one_spawner(rt, alloc),
+        clock: FixedClock::new(7),
+        node: 9,
+        places: 8,
+        failing: Vec::new(alloc),
+    };
+    let made = MemMaker::new(alloc, parts);
     let mut maker = made.expect(&rt, "a maker");
     let mut config = SliceSource::new(PRIMARY, Vec::new(alloc)).expect(&rt, "a source");
     same(rt, mount(rt, alloc, &mut config, &mut maker), Ok(()));

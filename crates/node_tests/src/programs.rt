@@ -3,7 +3,7 @@ use crate::asking::asked_at;
 use crate::mounted::{PRIMARY, STARTED, empty_disk, no_links, one_spawner};
 use crate::same::same;
 use lf_base::{Errno, FixedClock, SliceSource};
-use node_mount::{MemMaker, MemProgram, ProgramEnd, mount};
+use node_mount::{MemMaker, MemParts, MemProgram, ProgramEnd, mount};
 use std::alloc::Global;
 use std::net::{TcpListener, TcpStream};
 use std::process::Abort;
@@ -35,18 +35,18 @@ const ROWS: &[(&str, MemProgram, &str)] = &[
 ];
 
 fn maker(rt: impl Copy + Abort, alloc: Global) -> MemMaker {
-    let made = MemMaker::new(
-        alloc,
-        empty_disk(rt, alloc),
-        no_links(rt, alloc),
-        no_links(rt, alloc),
-        Vec::new(alloc),
-        one_spawner(rt, alloc),
-        FixedClock::new(7),
-        9,
-        8,
-        Vec::new(alloc),
-    );
+    let parts = MemParts {
+        disks: empty_disk(rt, alloc),
+        files: no_links(rt, alloc),
+        http: no_links(rt, alloc),
+        dialers: Vec::new(alloc),
+        spawners: one_spawner(rt, alloc),
+        clock: FixedClock::new(7),
+        node: 9,
+        places: 8,
+        failing: Vec::new(alloc),
+    };
+    let made = MemMaker::new(alloc, parts);
     made.expect(&rt, "a maker")
 }
 

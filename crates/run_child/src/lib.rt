@@ -29,5 +29,5 @@ pub use laws::{replies_read, seven_messages};
 pub use list_starter::{ListStarter, Told};
 pub use process_starter::ProcessStarter;
 pub use replies::{BadReply, decode_reply};
-pub use running::run_child;
+pub use running::{Run, run_child};
 pub use starter::{ReadyStarter, Starter};

@@ -13,29 +13,35 @@ use lf_base::{Link, Name, Text};
 use std::alloc::Global;
 use std::process::Processes;
 
-/// Starts the program of these words while it holds the HALT lock of the database at the node behind
-/// the link, and reads at most `budget` bytes of it.
+/// What is run: the program of these words, under the lock of this database. At most `budget` bytes of the link are
+/// read.
+#[derive(Clone, Copy)]
+pub struct Run<'a> {
+    pub name: &'a Name,
+    pub words: &'a [Text],
+    pub budget: u64,
+}
+
+/// Starts the program while it holds the HALT lock of the database at the node behind the link.
 pub fn run_child<R: Processes, L: Link, S: Starter>(
     alloc: Global,
     rt: &R,
     link: &mut L,
-    name: &Name,
     starter: &mut S,
-    words: &[Text],
-    budget: u64,
+    run: Run<'_>,
 ) -> ChildEnd
     // The starter may be asked where the lock is granted, and is asked nowhere else.
-    requires { StartsUnder name.now (place L.Link link.old budget) (S.may_start starter.old) }
+    requires { StartsUnder run.name.now (place L.Link link.old run.budget) (S.may_start starter.old) }
     // The program is started once at most, with these words, and only behind the grant of the lock; each end
     // has its cause.
-    ensures ends { (room : ℕ) × Ends name.now words.now (place L.Link link.old budget) (place L.Link link.new room) (book S.Starter starter.old) (book S.Starter starter.new) result }
+    ensures ends { (room : ℕ) × Ends run.entry.name.now run.entry.words.now (place L.Link link.old run.entry.budget) (place L.Link link.new room) (book S.Starter starter.old) (book S.Starter starter.new) result }
 {
-    let mut room = budget;
-    let closing = match take_halt(alloc, link, name, &mut room) {
+    let mut room = run.budget;
+    let closing = match take_halt(alloc, link, run.name, &mut room) {
         Ok(closing) => closing,
         Err(end) => return end,
     };
-    let end = start(rt, &*link, starter, words);
+    let end = start(rt, &*link, starter, run.words);
     close(link, &closing, &mut room);
     end
 }

@@ -10,7 +10,7 @@ use crate::playing::{ends, print_watched};
 use crate::running::{MemHost, host_with};
 use lf_base::{Bytes, FixedClock, Handles, MemDialer, Name, Pos, SliceSource, VecSink, Watch};
 use lf_disk::{Disk, FileName, MemDisk};
-use node_mount::{Maker, MemMaker};
+use node_mount::{Maker, MemMaker, MemParts};
 use std::alloc::Global;
 use std::fs;
 use std::io::Print;
@@ -155,18 +155,18 @@ fn maker_of<R: Files + AllocGlobal>(
 ) -> Result<(MemMaker, Vec<Watch>), Fault> {
     let alloc = rt.alloc();
     let (dialers, watches) = dialer_of(rt, row)?;
-    let make = MemMaker::new(
-        alloc,
-        disks_of(rt, row)?,
-        Vec::new(alloc),
-        Vec::new(alloc),
+    let parts = MemParts {
+        disks: disks_of(rt, row)?,
+        files: Vec::new(alloc),
+        http: Vec::new(alloc),
         dialers,
-        Vec::new(alloc),
-        FixedClock::new(0),
-        1,
-        8,
-        Vec::new(alloc),
-    )?;
+        spawners: Vec::new(alloc),
+        clock: FixedClock::new(0),
+        node: 1,
+        places: 8,
+        failing: Vec::new(alloc),
+    };
+    let make = MemMaker::new(alloc, parts)?;
     Ok((make, watches))
 }
 

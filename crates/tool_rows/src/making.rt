@@ -9,7 +9,7 @@ use crate::leases::LeaseRow;
 use crate::nodes::{NEVER, NodeRow, ROOM};
 use lf_base::{CallSpawner, FixedClock, ListAcceptor, MemDialer, MemLink, NoMemory, Watch};
 use lf_disk::{Disk, FileName, MemDisk};
-use node_mount::{MemMaker, MemSpawn};
+use node_mount::{MemMaker, MemParts, MemSpawn};
 use std::alloc::Global;
 
 /// OPEN of the position file, and READ of it.
@@ -113,10 +113,18 @@ fn maker_over(
 {
     let spawners = spawners(alloc, row.refused)?;
     let failing = one(alloc, row.made)?;
-    let (none, clock) = (Vec::new(alloc), FixedClock::new(7));
-    Ok(MemMaker::new(
-        alloc, disks, files, http, none, spawners, clock, 9, 8, failing,
-    )?)
+    let parts = MemParts {
+        disks,
+        files,
+        http,
+        dialers: Vec::new(alloc),
+        spawners,
+        clock: FixedClock::new(7),
+        node: 9,
+        places: 8,
+        failing,
+    };
+    Ok(MemMaker::new(alloc, parts)?)
 }
 
 /// What a row's node is made of, over a disk with this file.
@@ -146,35 +154,35 @@ fn links_of(alloc: Global, inputs: &[&[u8]]) -> Result<(Vec<MemLink>, Vec<Watch>
 pub fn service_of(alloc: Global, row: &LeaseRow) -> Result<(MemMaker, Vec<Watch>), Fault> {
     let (links, watches) = links_of(alloc, row.links)?;
     let http = acceptor(alloc, links, row.accepted)?;
-    let make = MemMaker::new(
-        alloc,
-        Vec::new(alloc),
-        Vec::new(alloc),
+    let parts = MemParts {
+        disks: Vec::new(alloc),
+        files: Vec::new(alloc),
         http,
-        Vec::new(alloc),
-        Vec::new(alloc),
-        FixedClock::new(1_000),
-        9,
-        8,
-        one(alloc, row.made)?,
-    )?;
+        dialers: Vec::new(alloc),
+        spawners: Vec::new(alloc),
+        clock: FixedClock::new(1_000),
+        node: 9,
+        places: 8,
+        failing: one(alloc, row.made)?,
+    };
+    let make = MemMaker::new(alloc, parts)?;
     Ok((make, watches))
 }
 
 /// What a run has that mounts nothing.
 pub fn empty_maker(alloc: Global) -> Result<MemMaker, Fault> {
-    Ok(MemMaker::new(
-        alloc,
-        Vec::new(alloc),
-        Vec::new(alloc),
-        Vec::new(alloc),
-        Vec::new(alloc),
-        Vec::new(alloc),
-        FixedClock::new(0),
-        1,
-        8,
-        Vec::new(alloc),
-    )?)
+    let parts = MemParts {
+        disks: Vec::new(alloc),
+        files: Vec::new(alloc),
+        http: Vec::new(alloc),
+        dialers: Vec::new(alloc),
+        spawners: Vec::new(alloc),
+        clock: FixedClock::new(0),
+        node: 1,
+        places: 8,
+        failing: Vec::new(alloc),
+    };
+    Ok(MemMaker::new(alloc, parts)?)
 }
 
 /// The link that a row dials, if it dials one, and what shows what it took.
@@ -208,16 +216,16 @@ pub fn dialing_maker(alloc: Global, links: Vec<MemLink>) -> Result<MemMaker, Fau
     requires { All IsUnused links.items }
 {
     let dialers = dialers(alloc, links)?;
-    Ok(MemMaker::new(
-        alloc,
-        Vec::new(alloc),
-        Vec::new(alloc),
-        Vec::new(alloc),
+    let parts = MemParts {
+        disks: Vec::new(alloc),
+        files: Vec::new(alloc),
+        http: Vec::new(alloc),
         dialers,
-        Vec::new(alloc),
-        FixedClock::new(0),
-        1,
-        8,
-        Vec::new(alloc),
-    )?)
+        spawners: Vec::new(alloc),
+        clock: FixedClock::new(0),
+        node: 1,
+        places: 8,
+        failing: Vec::new(alloc),
+    };
+    Ok(MemMaker::new(alloc, parts)?)
 }

@@ -8,7 +8,7 @@ use crate::making::{ASKED, disk_with, one};
 use crate::nodes::{REQUEST, ROOM};
 use lf_base::{CallSpawner, FixedClock, ListAcceptor, MemDialer, MemLink, Watch};
 use lf_disk::MemDisk;
-use node_mount::{MemMaker, MemSpawn};
+use node_mount::{MemMaker, MemParts, MemSpawn};
 use std::alloc::Global;
 
 /// What fails.
@@ -109,18 +109,18 @@ fn dialers_on(alloc: Global, link: MemLink, failing: u64) -> Result<Vec<MemDiale
 pub fn asker_on(alloc: Global, reply: &[u8], calls: Calls) -> Result<(MemMaker, Watch), Fault> {
     let (link, watch) = link_on(alloc, reply, calls.link)?;
     let dialers = dialers_on(alloc, link, calls.dialer)?;
-    let make = MemMaker::new(
-        alloc,
-        Vec::new(alloc),
-        Vec::new(alloc),
-        Vec::new(alloc),
+    let parts = MemParts {
+        disks: Vec::new(alloc),
+        files: Vec::new(alloc),
+        http: Vec::new(alloc),
         dialers,
-        Vec::new(alloc),
-        FixedClock::new(0),
-        1,
-        8,
-        Vec::new(alloc),
-    )?;
+        spawners: Vec::new(alloc),
+        clock: FixedClock::new(0),
+        node: 1,
+        places: 8,
+        failing: Vec::new(alloc),
+    };
+    let make = MemMaker::new(alloc, parts)?;
     Ok((make, watch))
 }
 
@@ -165,17 +165,17 @@ pub fn node_on(
     let (files, file_link) = door_on(alloc, ASKED, calls.file_acceptor, calls.file_link)?;
     let (http, http_link) = door_on(alloc, REQUEST, calls.http_acceptor, calls.http_link)?;
     let spawners = spawners_on(alloc, calls.spawner)?;
-    let make = MemMaker::new(
-        alloc,
+    let parts = MemParts {
         disks,
         files,
         http,
-        Vec::new(alloc),
+        dialers: Vec::new(alloc),
         spawners,
-        FixedClock::new(7),
-        9,
-        8,
-        one(alloc, calls.maker)?,
-    )?;
+        clock: FixedClock::new(7),
+        node: 9,
+        places: 8,
+        failing: one(alloc, calls.maker)?,
+    };
+    let make = MemMaker::new(alloc, parts)?;
     Ok((make, file_link, http_link))
 }

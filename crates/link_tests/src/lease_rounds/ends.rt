@@ -5,8 +5,9 @@ use super::listener::{Account, Bring, Heard, SILENCE, closed, opened};
 use super::{CANDIDATE, End, HOLDER, NOW, TURNS, Who, grant_of, round, service_of};
 use crate::exchange::{dialer_of, link_of};
 use crate::same::same;
-use lease_link::give_up_lease;
-use lf_base::{FixedClock, Handles, MemDialer, MemLink};
+use lease_link::{Round, give_up_lease};
+use lf_base::{FixedClock, Handles, MemDialer, MemLink, NoPause};
+use link_session::{AtSeat, Turns};
 use std::alloc::Global;
 use std::net::{TcpListener, TcpStream};
 use std::process::Abort;
@@ -95,19 +96,21 @@ fn given_up<R: Handles + Abort + Copy>(
     let mut dialer = dialer_of(&rt, alloc, link);
     let mut service = service_of(&rt, alloc);
     let own = grant_of(&rt, alloc, term);
-    let mut clock = FixedClock::new(NOW);
-    let ended = give_up_lease(
-        rt,
+    let (mut clock, mut pause) = (FixedClock::new(NOW), NoPause::new());
+    let mut at = AtSeat {
+        rt: &rt,
+        desk: &desk,
+        seat: &mut seat,
+    };
+    let mut round = Round {
         alloc,
-        &desk,
-        &mut seat,
-        &Bring,
-        &mut dialer,
-        &mut service,
-        &own,
-        &mut clock,
-        TURNS,
-    );
+        dialer: &mut dialer,
+        service: &mut service,
+        clock: &mut clock,
+        pause: &mut pause,
+        turns: Turns::new(TURNS),
+    };
+    let ended = give_up_lease(&mut at, &mut round, &Bring, &own);
     same(rt, ended.is_ok(), true);
     let written = watch.bytes().expect(&rt, "memory");
     (closed(rt, desk, seat), written)
