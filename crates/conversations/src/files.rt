@@ -7,11 +7,10 @@ ghost use Rattle.file_view.specs.Needs.{needs_of};
 ghost use Rattle.file_view.specs.Refusal.{HasCause};
 ghost use Rattle.file_view.specs.Requests.{rows_of};
 ghost use Rattle.file_view.specs.Views.{new_view};
-ghost use Rattle.conversations.specs.declared.fault.Fault.TheVariants as fault;
+ghost use Rattle.test_base.specs.declared.fault.Fault.TheVariants as fault;
 ghost use Rattle.conversations.specs.Standing.{Stand, Await, AwaitWhere, scene_over};
 ghost use Rattle.std.proofs.Props.{props};
 
-use crate::fault::Fault;
 use file_view::{
     Plan, Role, View, ViewFault, applied_view_stands, endings_keep_the_image, new_view_stands,
 };
@@ -19,6 +18,7 @@ use fuse_msgs::Request;
 use lf_base::{Name, NoMemory, Pos};
 use lf_sqlite_pages::{Change, Image};
 use std::alloc::Global;
+use test_base::Fault;
 
 /// The served files of a database, over the image that is committed.
 #[derive(Drop)]
@@ -110,12 +110,12 @@ impl Files {
         ensures image { OnOk result (self.new.image ≡ apply self.old.image change.now) }
         ensures view { OnOk result (self.new.view ≡ committed self.old.view) }
         ensures fits { OnOk result (Fits self.old.image change.now) }
-        ensures record_fault { result ≡ Err fault.Record → ¬ Fits self.old.image change.now }
+        ensures record_fault { result ≡ Err fault.Row → ¬ Fits self.old.image change.now }
         ensures fault { IfErr result (λ why. why ≢ fault.Io) }
         ensures err { OnErr result (self.new ≡ self.old) }
     {
         if !self.image.fits(change) {
-            return Err(Fault::Record);
+            return Err(Fault::Row);
         }
         self.image.apply(change)?;
         self.view.commit_done();

@@ -3,16 +3,15 @@
 #![tactic(auto)]
 
 mod difference;
-mod fault;
 mod files;
 mod outcome;
 mod replay;
 mod tally;
 mod turn;
 
-use fault::Fault;
 use std::fs;
 use tally::Tally;
+use test_base::Fault;
 
 /// One conversation for each journal mode, worked rows, and rows of which some were changed.
 const RECORDED: [&str; 6] = ["delete", "truncate", "persist", "wal", "rows", "changed"];

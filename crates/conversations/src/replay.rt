@@ -6,10 +6,9 @@ ghost use Rattle.lf_sqlite_pages.specs.Image.{empty_image};
 ghost use Rattle.file_view.specs.Endings.{applied, committed};
 ghost use Rattle.conversations.specs.Replaying.{Heard, IsAnswered, IsNew, IsOver, Taken, one_more, position_at, zero_image};
 ghost use Rattle.conversations.specs.Standing.{Await};
-ghost use Rattle.conversations.specs.declared.fault.Fault.TheVariants as fault;
+ghost use Rattle.test_base.specs.declared.fault.Fault.TheVariants as fault;
 
 use crate::difference::{Difference, outcome_differs};
-use crate::fault::Fault;
 use crate::files::Files;
 use crate::outcome::Outcome;
 use crate::turn::{Message, Start, Turn};
@@ -20,6 +19,7 @@ use lf_sqlite_pages::{Change, Image, is_page_size};
 use page_checksum::page_sum;
 use std::alloc::Global;
 use std::mem;
+use test_base::Fault;
 
 /// Bit 63, which every sum carries.
 const FLAG: u64 = 1 << 63;

@@ -3,11 +3,11 @@ ghost use Rattle.std.specs.Prelude.{◌≡◌, IfOk, OnErr, IsSome};
 ghost use Rattle.conversations.specs.Replaying.{one_more};
 
 use crate::difference::Difference;
-use crate::fault::Fault;
 use crate::replay::Replay;
 use crate::turn::Turn;
 use lf_base::NoMemory;
 use std::alloc::Global;
+use test_base::Fault;
 
 /// A conversation, how many of its lines were taken, and how many of these differ.
 #[derive(Drop)]

@@ -1,9 +1,9 @@
 //! One line of a recorded conversation.
 
-use crate::fault::Fault;
 use file_view::Role;
 use serde_json::Value;
 use std::alloc::Global;
+use test_base::{Fault, copied, decoded, number, read_line, text};
 
 /// A database of pages of zeros.
 #[derive(Clone, Copy)]
@@ -48,21 +48,14 @@ pub enum Turn {
     End { link: u64 },
 }
 
-fn number(value: &Value, name: &str) -> u64 {
-    value.get(name).and_then(Value::as_u64).unwrap_or(0)
+/// A number, 0 where there is none.
+fn count(value: &Value, name: &str) -> u64 {
+    number(value, name).unwrap_or(0)
 }
 
 /// A number of 32 bits.
 fn small_number(value: &Value, name: &str) -> u32 {
-    u32::try_from(number(value, name)).unwrap_or(0)
-}
-
-fn text<'a>(value: &'a Value, name: &str) -> Option<&'a str> {
-    value.get(name).and_then(Value::as_str)
-}
-
-fn copy(alloc: Global, value: &Value, name: &str) -> Result<String, Fault> {
-    Ok(String::from_str(alloc, text(value, name).unwrap_or(""))?)
+    u32::try_from(count(value, name)).unwrap_or(0)
 }
 
 fn numbers_of(alloc: Global, commit: &Value) -> Result<Vec<u64>, Fault> {
@@ -80,11 +73,11 @@ fn commit_of(alloc: Global, value: &Value) -> Result<Option<Commit>, Fault> {
         return Ok(None);
     };
     Ok(Some(Commit {
-        page_size: number(commit, "page_size"),
-        pages: number(commit, "commit"),
+        page_size: count(commit, "page_size"),
+        pages: count(commit, "commit"),
         numbers: numbers_of(alloc, commit)?,
-        digest: copy(alloc, commit, "sha256")?,
-        position: copy(alloc, value, "position")?,
+        digest: copied(alloc, commit, "sha256")?,
+        position: copied(alloc, value, "position")?,
     }))
 }
 
@@ -92,7 +85,7 @@ fn start_of(value: &Value) -> Start {
     Start {
         page_size: small_number(value, "page_size"),
         pages: small_number(value, "pages"),
-        transactions: number(value, "transactions"),
+        transactions: count(value, "transactions"),
     }
 }
 
@@ -106,7 +99,7 @@ fn role_of(value: &Value) -> Role {
 
 impl Turn {
     pub fn read(alloc: Global, line: &str) -> Result<Turn, Fault> {
-        let value = Value::from_str(alloc, line)?;
+        let value = read_line(alloc, line)?;
         if value.get("start").is_some() {
             return Ok(Turn::Start(start_of(&value)));
         }
@@ -116,15 +109,15 @@ impl Turn {
         if value.get("lost").is_some() {
             return Ok(Turn::Lost);
         }
-        let link = number(&value, "link");
-        let Some(request) = text(&value, "request") else {
+        let link = count(&value, "link");
+        if text(&value, "request").is_none() {
             return Ok(Turn::End { link });
-        };
+        }
         Ok(Turn::Message(Message {
             link,
             role: role_of(&value),
-            request: hex::decode(alloc, request)?,
-            reply: copy(alloc, &value, "reply")?,
+            request: decoded(alloc, &value, "request")?,
+            reply: copied(alloc, &value, "reply")?,
             commit: commit_of(alloc, &value)?,
         }))
     }

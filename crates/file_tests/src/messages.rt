@@ -9,6 +9,7 @@ use fuse_msgs::{BadMessage, Op, Reply, Request, decode, encode};
 use lf_base::Bytes;
 use std::alloc::Global;
 use std::process::Abort;
+use test_base::hex_bytes;
 
 /// Adds bytes.
 fn put<R: Copy + Abort>(rt: R, message: &mut Vec<u8>, bytes: &[u8]) {
@@ -22,23 +23,7 @@ fn fill<R: Copy + Abort>(rt: R, message: &mut Vec<u8>, size: usize, byte: u8) {
 
 /// The bytes that a text of hexadecimal digits and blanks stands for.
 fn hex<R: Copy + Abort>(rt: R, alloc: Global, text: &[u8]) -> Vec<u8> {
-    let mut bytes = Vec::new(alloc);
-    let mut high = None;
-    for b in text {
-        let digit = match *b {
-            b'0'..=b'9' => *b - b'0',
-            b'a'..=b'f' => *b - b'a' + 10,
-            _ => continue,
-        };
-        match high {
-            None => high = Some(digit),
-            Some(first) => {
-                bytes.push(first << 4 | digit).expect(&rt, "memory");
-                high = None;
-            }
-        }
-    }
-    bytes
+    hex_bytes(alloc, &[text]).expect(&rt, "memory")
 }
 
 /// The first `size` bytes of a message, filled up with ones, with this length field.

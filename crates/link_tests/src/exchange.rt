@@ -12,6 +12,7 @@ use link_session::Turns;
 use std::alloc::Global;
 use std::process::Abort;
 use stream_wire::Call;
+use test_base::{link_in_pieces, one};
 
 /// The request of each exchange here, whose body stands in two parts.
 const REQUEST: &[u8] = b"POST /tx HTTP/1.1\r\nHost: a:1\r\nContent-Length: 9\r\n\r\nfrontback";
@@ -33,19 +34,14 @@ pub fn link_of(
 ) -> MemLink
     ensures { IsUnused result }
 {
-    let input = Vec::from_slice(alloc, input).expect(rt, "memory");
-    let failing = vec![in alloc; failing].expect(rt, "memory");
-    let mut link = MemLink::new(alloc, input, room, failing).expect(rt, "a link");
-    link.cut_into(size.max(1));
-    link
+    link_in_pieces(alloc, input, room, failing, size).expect(rt, "a link")
 }
 
 /// A dialer of one link.
 pub fn dialer_of(rt: &impl Abort, alloc: Global, link: MemLink) -> MemDialer
     requires { IsUnused link }
 {
-    let mut links = Vec::new(alloc);
-    assert!(rt; links.push(link).is_ok());
+    let links = one(alloc, link).expect(rt, "memory");
     MemDialer::new(alloc, links, 1, Vec::new(alloc)).expect(rt, "a dialer")
 }
 

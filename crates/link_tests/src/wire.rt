@@ -7,6 +7,7 @@ use lf_base::{Bytes, Name, Pos};
 use std::alloc::Global;
 use std::process::Abort;
 use stream_wire::{Fed, Frame, FrameFeed, WireFault, encode_frame};
+use test_base::database;
 
 const A: Pos = Pos {
     txid: 1,
@@ -30,7 +31,7 @@ const LTX_FRONT: [u8; 19] = [
 const END: [u8; 16] = [0, 0, 0, 3, 0, 0, 0, 0, 0, 0, 0, 0, 0, 0, 0, 0];
 
 fn app(rt: impl Copy + Abort, alloc: Global) -> Name {
-    Name::read(alloc, b"app").expect(&rt, "a name")
+    database(alloc).expect(&rt, "a name")
 }
 
 fn file(rt: impl Copy + Abort, alloc: Global) -> Bytes {

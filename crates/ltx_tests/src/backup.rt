@@ -10,7 +10,7 @@ ghost use Rattle.lf_disk.specs.MemDisk.{history_of};
 ghost use Rattle.ltx_codec.specs.Format.{IsFile};
 
 use crate::same::same;
-use crate::sample::{DELTA, SNAPSHOT, SUM_1, SUM_2, encoding, header};
+use crate::sample::header;
 use lf_base::Pos;
 use lf_disk::MemDisk;
 use lf_sqlite_pages::Image;
@@ -19,6 +19,7 @@ use ltx_codec::{Encoder, Header, Ltx, decode};
 use page_checksum::page_sum;
 use std::alloc::Global;
 use std::process::Abort;
+use test_base::{DELTA, ONE_PAGE, SNAPSHOT, TWO_PAGES, encoding};
 
 const FLAG: u64 = 1 << 63;
 
@@ -155,7 +156,7 @@ fn a_file_that_does_not_join(rt: HostRuntime) {
     let have = Pos { txid: 0, sum: 0 };
     let want = Pos {
         txid: 1,
-        sum: SUM_1,
+        sum: ONE_PAGE,
     };
     same(
         &rt,
@@ -168,7 +169,7 @@ fn a_file_that_does_not_join(rt: HostRuntime) {
         backup.add(alloc, &second),
         Ok(Pos {
             txid: 2,
-            sum: SUM_2,
+            sum: TWO_PAGES,
         }),
     );
     let image = backup.restore(alloc, 2).expect(&rt, "a database");

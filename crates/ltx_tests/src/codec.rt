@@ -3,10 +3,11 @@ mod lock_pages;
 mod parts;
 
 use crate::same::{same, same_at};
-use crate::sample::{DELTA, EMPTY, FILE_SUM_1, Fields, SNAPSHOT, changed, encoding};
+use crate::sample::changed;
 use ltx_codec::{LtxFault, decode, decode_first, encode};
 use std::alloc::Global;
 use std::process::Abort;
+use test_base::{DELTA, EMPTY, FILE_SUM_1, Fields, SNAPSHOT, encoding};
 
 /// WAL fields and node that are not 0, and the file sum of the snapshot with them.
 const STAMPED: [u8; 32] = [

@@ -4,12 +4,13 @@ ghost use Rattle.std.specs.Prelude.{All, IfOk};
 ghost use Rattle.ltx_codec.specs.Format.{IsFile};
 
 use crate::same::same;
-use crate::sample::{SUM_1, SUM_2, header};
+use crate::sample::header;
 use lf_base::NoMemory;
 use ltx_codec::{Encoder, Header, Ltx, decode};
 use ltx_compact::{CompactFault, compact, compact_owned};
 use std::alloc::Global;
 use std::process::Abort;
+use test_base::{ONE_PAGE, TWO_PAGES};
 
 /// The sum of a database without pages. Files that are no snapshots may say it of any database.
 const NO_PAGES: u64 = 1 << 63;
@@ -39,7 +40,7 @@ const SNAPSHOT: Sample = Sample {
     txid: 1,
     pre: 0,
     pages: [(1, 0), NONE, NONE],
-    post: SUM_1,
+    post: ONE_PAGE,
     stamp: 0,
 };
 
@@ -47,9 +48,9 @@ const DELTA: Sample = Sample {
     page_size: 512,
     commit: 2,
     txid: 2,
-    pre: SUM_1,
+    pre: ONE_PAGE,
     pages: [(2, 0), NONE, NONE],
-    post: SUM_2,
+    post: TWO_PAGES,
     stamp: 0,
 };
 
@@ -174,7 +175,7 @@ fn written(rt: &impl Abort, alloc: Global, file: &Ltx) -> (usize, Option<[u8; 8]
 #[test]
 fn a_snapshot_and_a_delta_become_a_snapshot(rt: HostRuntime) {
     let file = one_of(&rt, rt.alloc(), &[SNAPSHOT, DELTA]).expect(&rt, "one file");
-    same(rt, (file.header.pre, file.post), (0, SUM_2));
+    same(rt, (file.header.pre, file.post), (0, TWO_PAGES));
     assert!(rt; holds(&file, &[(1, 0), (2, 0)]));
     let sum = FILE_SUM.to_be_bytes();
     same(rt, written(&rt, rt.alloc(), &file), (1152, Some(sum)));

@@ -1,20 +1,21 @@
 use crate::same::same;
-use crate::sample::{SUM_1, SUM_2, header};
+use crate::sample::header;
 use halt_forward::{HaltFault, HaltPass, HaltTable};
 use lf_base::Pos;
 use lf_sqlite_pages::Change;
 use ltx_codec::{Header, Ltx};
 use std::alloc::Global;
 use std::process::Abort;
+use test_base::{ONE_PAGE, TWO_PAGES};
 
 const A: Pos = Pos {
     txid: 1,
-    sum: SUM_1,
+    sum: ONE_PAGE,
 };
 
 const B: Pos = Pos {
     txid: 2,
-    sum: SUM_2,
+    sum: TWO_PAGES,
 };
 
 /// The file that leads from A to B; its pages do not matter here.

@@ -3,7 +3,7 @@ use Rattle.std.specs.Prelude.{◌≡◌, ◌≢◌, ℕ, ◌<◌, ◌≤◌, Con
 use Rattle.std.specs.Option.{option_map}
 use Rattle.std.specs.declared.alloc.Global.{Global}
 use Rattle.lf_base.specs.declared.session_end.SessionEnd.{SessionEnd}
-use Rattle.lf_base.specs.declared.session_end.SessionEnd.TheVariants as end
+use Rattle.test_base.specs.Ends.{end_name}
 use Rattle.node_rows.specs.declared.comparing.Served.{Served}
 use Rattle.node_rows.specs.declared.difference.Difference.{Difference}
 use Rattle.node_rows.specs.declared.difference.Difference.TheVariants as difference
@@ -22,16 +22,6 @@ pub record IsFirstDifference (found wanted : List ℕ) (at : ℕ) : Type 0 where
 -- a client was sent what its session was to be sent
 abbrev pub SameReplies : List ℕ → Session → Type 0
 SameReplies found session = found ≡ session.replies.items
-
--- an end by its name
-abbrev pub end_name : SessionEnd → List ℕ
-end_name end.Closed = codes "Closed"
-end_name end.ReadFault = codes "ReadFault"
-end_name end.WriteFault = codes "WriteFault"
-end_name end.BadMessage = codes "BadMessage"
-end_name end.Turns = codes "Turns"
-end_name end.Worn = codes "Worn"
-end_name end.NoMemory = codes "NoMemory"
 
 -- a session ended as it was to
 abbrev pub SameEnd : SessionEnd → Session → Type 0

@@ -4,9 +4,9 @@ ghost use Rattle.node_rows.specs.AsWanted.{SameBelow, SentAsWanted, SentDiffers,
 
 use crate::comparing::{position_differs, replies_differ};
 use crate::difference::Difference;
-use crate::fault::Fault;
 use crate::scene::{Scene, Session};
 use std::alloc::Global;
+use test_base::Fault;
 
 /// A primary that keeps three files of its log.
 pub const CONFIG: &[u8] = b"database = \"app\"\n\

@@ -1,11 +1,12 @@
 //! What came out of a scene is compared with what was wanted.
 ghost use Rattle.std.specs.Prelude.{◌≡◌, ◌↔◌, IfSome};
 ghost use Rattle.node_rows.specs.declared.difference.Difference.TheVariants as difference;
-ghost use Rattle.node_rows.specs.AsWanted.{AsWanted, IsFirstDifference, RepliesDiffer, SameEnd, SameReplies, SessionDiffers, end_name};
+ghost use Rattle.node_rows.specs.AsWanted.{AsWanted, IsFirstDifference, RepliesDiffer, SameEnd, SameReplies, SessionDiffers};
 
 use crate::difference::Difference;
 use crate::scene::Session;
 use lf_base::SessionEnd;
+use test_base::end_name;
 
 /// What became of a session: the replies, how often the node was asked, and how it ended.
 #[derive(Drop)]
@@ -63,21 +64,6 @@ pub fn end_differs(ended: SessionEnd, number: usize, session: &Session) -> Optio
 {
     let same = end_name(ended) == session.ending.end.as_str();
     (!same).then_some(Difference::End { session: number })
-}
-
-/// An end by its name.
-fn end_name(ended: SessionEnd) -> &'static str
-    ensures { result.now ≡ end_name ended }
-{
-    match ended {
-        SessionEnd::Closed => "Closed",
-        SessionEnd::ReadFault => "ReadFault",
-        SessionEnd::WriteFault => "WriteFault",
-        SessionEnd::BadMessage => "BadMessage",
-        SessionEnd::Turns => "Turns",
-        SessionEnd::Worn => "Worn",
-        SessionEnd::NoMemory => "NoMemory",
-    }
 }
 
 /// How the text of a position differs.

@@ -1,22 +1,19 @@
 //! One scene is played once more for each call of its link that fails, and for each call at which its disk stops; another
 //! one with each front of its requests.
 
-use crate::fault::Fault;
 use crate::opening::open_node;
-use crate::playing::ROOM;
+use crate::playing::room_of;
 use crate::scene::{Scene, Session, Start};
 use crate::stage::Stage;
 use lf_base::{Handles, MemLink, SessionEnd};
 use std::alloc::Global;
 use std::io::Print;
+use test_base::{Fault, NEVER, link_failing};
 
 /// The name of the scene, and of one whose requests end early.
 const NAME: &str = "rollback unlink";
 
 const CUT: &str = "the position file";
-
-/// A number that no call has.
-const NEVER: u64 = u64::MAX;
 
 /// More calls than its link or its disk has.
 const MOST: u64 = 200;
@@ -93,20 +90,6 @@ impl Counts {
     }
 }
 
-/// A link that gives these requests of a session, of which a call fails.
-fn link_on(
-    alloc: Global,
-    session: &Session,
-    requests: &[u8],
-    failing: u64,
-) -> Result<MemLink, Fault> {
-    let requests = Vec::from_slice(alloc, requests)?;
-    let room = session.replies.len().saturating_add(ROOM);
-    let mut numbers = Vec::new(alloc);
-    numbers.push(failing)?;
-    Ok(MemLink::new(alloc, requests, room, numbers)?)
-}
-
 fn serve<R: Handles + Copy>(
     rt: R,
     alloc: Global,
@@ -122,17 +105,18 @@ fn serve<R: Handles + Copy>(
     })
 }
 
-/// Plays a session with the node of a start.
+/// Plays a session with the node of a start, over a link that gives these requests, of which a call fails.
 fn play<R: Handles + Copy>(
     rt: R,
     alloc: Global,
     start: Start,
-    budget: u64,
-    link: MemLink,
+    session: &Session,
+    requests: &[u8],
+    failing: u64,
 ) -> Result<Played, Fault> {
-    let mut link = link;
+    let mut link = link_failing(alloc, requests, room_of(session), failing)?;
     let mut stage = Stage::new(alloc, open_node(alloc, start)?)?;
-    let played = serve(rt, alloc, &mut stage, &mut link, budget);
+    let played = serve(rt, alloc, &mut stage, &mut link, session.ending.budget);
     drop(stage);
     played
 }
@@ -146,8 +130,7 @@ fn fail_link<R: Handles + Copy>(
 ) -> Result<Counts, Fault> {
     let mut counts = NONE;
     for call in 0..MOST {
-        let link = link_on(alloc, session, &session.requests, call)?;
-        let played = play(rt, alloc, start, session.ending.budget, link)?;
+        let played = play(rt, alloc, start, session, &session.requests, call)?;
         if played.ended == SessionEnd::Closed {
             break;
         }
@@ -169,8 +152,7 @@ fn stop_disk<R: Handles + Copy>(
             stop: Some(call),
             ..start
         };
-        let link = link_on(alloc, session, &session.requests, NEVER)?;
-        let played = play(rt, alloc, start, session.ending.budget, link)?;
+        let played = play(rt, alloc, start, session, &session.requests, NEVER)?;
         if played.replies.as_slice() == session.replies.as_slice() {
             break;
         }
@@ -189,8 +171,7 @@ fn cut_requests<R: Handles + Copy>(
     let mut counts = NONE;
     for count in 0..=session.requests.len() {
         let front = session.requests.get(..count).unwrap_or(&[]);
-        let link = link_on(alloc, session, front, NEVER)?;
-        let played = play(rt, alloc, start, session.ending.budget, link)?;
+        let played = play(rt, alloc, start, session, front, NEVER)?;
         counts.add(&played, session, start.transactions);
     }
     Ok(counts)

@@ -7,12 +7,12 @@ ghost use Rattle.sha2.specs.Sha256.{sha256};
 ghost use Rattle.node_rows.specs.AsWanted.{FilesDiffer, IsAmong, SameFiles};
 
 use crate::difference::Difference;
-use crate::fault::Fault;
 use crate::scene::KeptFile;
 use lf_base::Text;
 use lf_disk::{Disk, FileName, MemDisk};
 use sha2::{Digest, Sha256};
 use std::alloc::Global;
+use test_base::Fault;
 
 /// The path of a file in the folder of a database.
 fn path_of(alloc: Global, name: FileName) -> Result<Text, Fault> {
@@ -73,7 +73,9 @@ pub fn folder_differs(
 
 /// What is compared of the files on a disk.
 fn files_on(alloc: Global, disk: &mut MemDisk) -> Result<Vec<KeptFile>, Fault> {
-    let names = disk.list()?;
+    let Ok(names) = disk.list() else {
+        return Err(Fault::Left);
+    };
     let mut found = Vec::new(alloc);
     for name in &names {
         found.push(file_on(alloc, disk, *name)?)?;

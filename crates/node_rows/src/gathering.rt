@@ -1,10 +1,10 @@
 //! Scenes from the lines of the record.
 
-use crate::fault::Fault;
 use crate::line::Line;
 use crate::scene::{Ending, Left, Scene, Session, Start};
 use std::alloc::Global;
 use std::mem;
+use test_base::Fault;
 
 /// What was read of a scene so far.
 #[derive(Drop)]
@@ -79,7 +79,7 @@ impl Gathering {
     fn end(&mut self, left: Left, scenes: &mut Vec<Scene>) -> Result<(), Fault> {
         let Some(start) = self.start.take() else {
             drop(left);
-            return Err(Fault::Record);
+            return Err(Fault::Row);
         };
         let name = mem::replace(&mut self.name, String::new(self.alloc));
         let sessions = mem::replace(&mut self.sessions, Vec::new(self.alloc));

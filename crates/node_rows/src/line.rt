@@ -1,10 +1,10 @@
 //! One line of the record.
 
-use crate::fault::Fault;
 use crate::scene::{Ending, KeptFile, Left, Start};
 use lf_base::Text;
 use serde_json::Value;
 use std::alloc::Global;
+use test_base::{Fault, copied, decoded, number, read_line, text};
 
 /// The turns of a session where none are said.
 const TURNS: u64 = 1_000;
@@ -21,22 +21,6 @@ pub enum Line {
     Left(Left),
 }
 
-fn number(value: &Value, name: &str) -> Option<u64> {
-    value.get(name).and_then(Value::as_u64)
-}
-
-fn text<'a>(value: &'a Value, name: &str) -> Option<&'a str> {
-    value.get(name).and_then(Value::as_str)
-}
-
-fn copy(alloc: Global, value: &Value, name: &str) -> Result<String, Fault> {
-    Ok(String::from_str(alloc, text(value, name).unwrap_or(""))?)
-}
-
-fn bytes(alloc: Global, value: &Value, name: &str) -> Result<Vec<u8>, Fault> {
-    Ok(hex::decode(alloc, text(value, name).unwrap_or(""))?)
-}
-
 fn start_of(value: &Value) -> Start {
     Start {
         page_size: number(value, "page_size").unwrap_or(0),
@@ -50,21 +34,21 @@ fn start_of(value: &Value) -> Start {
 
 fn scene_of(alloc: Global, value: &Value) -> Result<Line, Fault> {
     Ok(Line::Start {
-        name: copy(alloc, value, "start")?,
+        name: copied(alloc, value, "start")?,
         start: start_of(value),
     })
 }
 
 fn message_of(alloc: Global, value: &Value) -> Result<Line, Fault> {
     Ok(Line::Message {
-        request: bytes(alloc, value, "request")?,
-        reply: bytes(alloc, value, "reply")?,
+        request: decoded(alloc, value, "request")?,
+        reply: decoded(alloc, value, "reply")?,
     })
 }
 
 fn ending_of(alloc: Global, value: &Value) -> Result<Line, Fault> {
     Ok(Line::End(Ending {
-        end: copy(alloc, value, "end")?,
+        end: copied(alloc, value, "end")?,
         asked: number(value, "asked").unwrap_or(0),
         budget: number(value, "budget").unwrap_or(TURNS),
     }))
@@ -90,14 +74,14 @@ fn files_of(alloc: Global, value: &Value) -> Result<Vec<KeptFile>, Fault> {
 
 fn left_of(alloc: Global, value: &Value) -> Result<Line, Fault> {
     Ok(Line::Left(Left {
-        position: copy(alloc, value, "position")?,
+        position: copied(alloc, value, "position")?,
         files: files_of(alloc, value)?,
     }))
 }
 
 impl Line {
     pub fn read(alloc: Global, line: &str) -> Result<Line, Fault> {
-        let value = Value::from_str(alloc, line)?;
+        let value = read_line(alloc, line)?;
         line_of(alloc, &value)
     }
 }

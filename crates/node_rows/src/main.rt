@@ -7,7 +7,6 @@ mod clients;
 mod comparing;
 mod difference;
 mod failing;
-mod fault;
 mod flag;
 mod folder;
 mod gathering;
@@ -28,13 +27,13 @@ mod way;
 
 use difference::Difference;
 use failing::play_failing;
-use fault::Fault;
 use gathering::scenes_in;
 use node_mount::System;
 use scene::Scene;
 use std::fs::{self, File};
 use std::net::{TcpListener, TcpStream};
 use std::process::Child;
+use test_base::Fault;
 use way::{WAYS, Way};
 
 /// Scenes, and short ones of which each was changed in one respect.

@@ -4,7 +4,6 @@ ghost use Rattle.node_mount.specs.MemMaker.{IsNewDisk, IsNewDoor, IsNewSpawner};
 
 use crate::clients::CONFIG;
 use crate::difference::Difference;
-use crate::fault::Fault;
 use crate::stage::NOW;
 use lf_base::{
     CallSpawner, FixedClock, Handles, ListAcceptor, MemLink, SliceSource, ThreadSpawner,
@@ -12,6 +11,7 @@ use lf_base::{
 use lf_disk::MemDisk;
 use node_mount::{Maker, MemMaker, MemParts, MemSpawn, mount};
 use std::alloc::Global;
+use test_base::Fault;
 
 /// Where the jobs of a node run.
 #[derive(Clone, Copy)]

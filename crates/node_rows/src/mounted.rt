@@ -3,12 +3,12 @@
 
 use crate::clients::{POSITION_ASKED, requests_of, sent_differs};
 use crate::difference::Difference;
-use crate::fault::Fault;
 use crate::making::{Jobs, maker_of, run};
 use crate::opening::stored_disk;
 use crate::scene::{Scene, Start};
 use lf_base::{Handles, MemLink, Watch};
 use std::alloc::Global;
+use test_base::{Fault, link_of};
 
 /// For how many bytes a link has room.
 const ROOM: usize = 65_536;
@@ -44,7 +44,7 @@ fn links_of(alloc: Global, scene: &Scene) -> Result<(Vec<MemLink>, Vec<Watch>), 
     let mut links = unfit_links(alloc)?;
     let mut watches = Vec::new(alloc);
     for requests in requests_of(alloc, scene)? {
-        let link = MemLink::new(alloc, requests, ROOM, Vec::new(alloc))?;
+        let link = link_of(alloc, &requests, ROOM)?;
         watches.push(link.watch())?;
         links.push(link)?;
     }

@@ -3,13 +3,13 @@ ghost use Rattle.std.specs.Prelude.{IfOk, IsTrue};
 ghost use Rattle.node_mount.specs.MemMaker.{IsNewDisk};
 ghost use Rattle.txn_log.specs.Opening.{IsBlank};
 
-use crate::fault::Fault;
 use crate::scene::Start;
-use lf_base::{Name, Text};
+use lf_base::Text;
 use lf_disk::{Disk, MemDisk};
 use lf_sqlite_pages::{Change, is_page_size};
 use node_core::{Node, NodeConfig};
 use std::alloc::Global;
+use test_base::{Fault, database};
 use txn_log::Store;
 
 /// The number of the node, which its files carry.
@@ -19,12 +19,9 @@ const NODE: u64 = 3;
 const RETENTION: u64 = 3;
 
 fn config(alloc: Global, start: Start) -> Result<NodeConfig, Fault> {
-    let Ok(name) = Name::read(alloc, b"app") else {
-        return Err(Fault::NoMemory);
-    };
     let host = if start.is_primary { "" } else { "db1" };
     Ok(NodeConfig {
-        name,
+        name: database(alloc)?,
         node: NODE,
         candidate: start.is_primary,
         primary_host: Text::of(alloc, host)?,
@@ -43,11 +40,13 @@ fn commit_next<D: Disk>(
     let page_size = u32::try_from(start.page_size).unwrap_or(0);
     let pages = u32::try_from(start.pages).unwrap_or(0);
     if !is_page_size(page_size) {
-        return Err(Fault::Record);
+        return Err(Fault::Row);
     }
     let change = Change::new(alloc, page_size, pages);
-    store.commit(change, txid.saturating_mul(1_000), NODE)?;
-    Ok(())
+    match store.commit(change, txid.saturating_mul(1_000), NODE) {
+        Ok(_) => Ok(()),
+        Err(_) => Err(Fault::Start),
+    }
 }
 
 fn commit_all<D: Disk>(alloc: Global, store: &mut Store<D>, start: Start) -> Result<(), Fault> {

@@ -2,21 +2,17 @@
 
 use crate::comparing::{Served, position_differs, session_differs};
 use crate::difference::Difference;
-use crate::fault::Fault;
 use crate::folder::folder_differs;
 use crate::opening::open_node;
 use crate::scene::{Scene, Session};
 use crate::stage::Stage;
 use lf_base::{Handles, MemLink, pos_text};
 use std::alloc::Global;
+use test_base::{Fault, link_of};
 
-/// For how many bytes more than the wanted replies a link has room.
-pub const ROOM: usize = 4_096;
-
-fn link_of(alloc: Global, session: &Session) -> Result<MemLink, Fault> {
-    let requests = Vec::from_slice(alloc, &session.requests)?;
-    let room = session.replies.len().saturating_add(ROOM);
-    Ok(MemLink::new(alloc, requests, room, Vec::new(alloc))?)
+/// For how many bytes a link has room: for more than the wanted replies.
+pub fn room_of(session: &Session) -> usize {
+    session.replies.len().saturating_add(4_096)
 }
 
 /// Plays one session, and says what differs.
@@ -27,7 +23,7 @@ fn play_session<R: Handles + Copy>(
     number: usize,
     session: &Session,
 ) -> Result<Option<Difference>, Fault> {
-    let mut link = link_of(alloc, session)?;
+    let mut link = link_of(alloc, &session.requests, room_of(session))?;
     let served = serve(rt, alloc, stage, &mut link, session.ending.budget);
     drop(link);
     Ok(session_differs(&served?, number, session))

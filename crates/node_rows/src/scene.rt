@@ -2,6 +2,7 @@
 ghost use Rattle.std.specs.Prelude.{◌≡◌, ◌↔◌, IsTrue};
 
 use lf_base::Text;
+use test_base::Fault;
 
 /// The node that a scene begins with. Its database has pages of zeros, all made by the first of its transactions.
 #[derive(Clone, Copy)]
@@ -80,6 +81,14 @@ impl Scene {
             }
         }
         true
+    }
+
+    /// Its sessions, where it has two.
+    pub fn two_sessions(&self) -> Result<(&Session, &Session), Fault> {
+        match self.sessions.as_slice() {
+            [first, second] => Ok((first, second)),
+            _ => Err(Fault::Row),
+        }
     }
 
     /// How many messages its clients send.

@@ -1,7 +1,6 @@
 //! A client's end of a link through the node's socket.
 
 use crate::clients::SOCKET;
-use crate::fault::Fault;
 use lf_base::Handles;
 use std::alloc::Global;
 use std::io::{Read, Write};
@@ -9,6 +8,7 @@ use std::net::Shutdown;
 use std::os::unix::net::UnixStream;
 use std::thread;
 use std::time::Duration;
+use test_base::Fault;
 
 /// How often a client looks for the socket, with a sleep of a millisecond between two looks.
 const LOOKS: u32 = 10_000;

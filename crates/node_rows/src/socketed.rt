@@ -3,7 +3,6 @@
 
 use crate::clients::{SOCKET, requests_of, sent_differs};
 use crate::difference::Difference;
-use crate::fault::Fault;
 use crate::making::{Jobs, maker_of, run};
 use crate::opening::stored_disk;
 use crate::scene::{Scene, Start};
@@ -15,6 +14,7 @@ use node_mount::System;
 use std::alloc::Global;
 use std::io::Write;
 use std::{fs, thread};
+use test_base::Fault;
 
 /// A client sends all that it has to send, and reads to the end.
 fn replies_to<R: Handles>(rt: &R, alloc: Global, requests: &[u8]) -> Result<Vec<u8>, Fault> {

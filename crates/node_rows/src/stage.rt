@@ -1,14 +1,14 @@
 //! A node at its desk, and the seat of which each client's is split.
 ghost use Rattle.turn_desk.specs.Seats.{IsOf};
 
-use crate::fault::Fault;
-use file_session::serve_files;
-use lf_base::{FixedClock, Handles, MemDialer, MemLink, Name, NoPause, Pos, SessionEnd};
+use lf_base::{FixedClock, Handles, MemLink, Pos, SessionEnd};
 use lf_disk::MemDisk;
-use link_session::{AtSeat, Session, Turns};
+use link_session::AtSeat;
 use node_core::{Answer, Ask, Node};
 use std::alloc::Global;
 use std::sync::Wait;
+use test_base::{Fault, nobody};
+use test_nodes::serve_client;
 use turn_desk::{Desk, Seat};
 
 /// The moment at which everything is asked.
@@ -63,15 +63,6 @@ impl Stage {
     }
 }
 
-/// The name of the database, and a dialer that reaches nobody.
-pub fn alone(alloc: Global) -> Result<(Name, MemDialer), Fault> {
-    let Ok(name) = Name::read(alloc, b"app") else {
-        return Err(Fault::NoMemory);
-    };
-    let dialer = MemDialer::new(alloc, Vec::new(alloc), 0, Vec::new(alloc))?;
-    Ok((name, dialer))
-}
-
 /// Serves the client of a link by a seat at a desk.
 fn serve_seat<R: Handles + Copy>(
     rt: R,
@@ -83,25 +74,11 @@ fn serve_seat<R: Handles + Copy>(
 ) -> Result<SessionEnd, Fault>
     requires { IsOf seat.old desk.now }
 {
-    let (name, mut dialer) = alone(alloc)?;
-    let mut session = Session {
-        alloc,
-        link,
-        clock: &mut FixedClock::new(NOW),
-        pause: &mut NoPause::new(),
-        turns: Turns::new(budget),
-    };
     let mut at = AtSeat {
         rt: &rt,
         desk,
         seat,
     };
-    Ok(serve_files(
-        &mut session,
-        &mut at,
-        &name,
-        3,
-        &mut dialer,
-        &mut NoPause::new(),
-    ))
+    let (mut clock, mut dialer) = (FixedClock::new(NOW), nobody(alloc)?);
+    Ok(serve_client(&mut at, alloc, link, &mut clock, budget, &mut dialer)?)
 }

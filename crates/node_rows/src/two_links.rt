@@ -6,7 +6,6 @@ ghost use Rattle.node_rows.specs.AsWanted.{ClientAsWanted, RepliesDiffer};
 
 use crate::comparing::replies_differ;
 use crate::difference::Difference;
-use crate::fault::Fault;
 use crate::flag::Flag;
 use crate::scene::{Scene, Session};
 use crate::socket_client::{connect, read_replies, read_to_end};
@@ -16,6 +15,7 @@ use std::alloc::Global;
 use std::io::Write;
 use std::thread;
 use std::time::Duration;
+use test_base::Fault;
 
 /// How many bytes the replies to the first two messages have.
 const FIRST_REPLIES: usize = 48;
@@ -116,9 +116,7 @@ pub fn play_two_clients<R: Handles + Copy + Send>(
     alloc: Global,
     scene: &Scene,
 ) -> Result<Option<Difference>, Fault> {
-    let [holding, waiting] = scene.sessions.as_slice() else {
-        return Err(Fault::Record);
-    };
+    let (holding, waiting) = scene.two_sessions()?;
     let words = Words {
         held: Flag::new(),
         asked: Flag::new(),

@@ -4,19 +4,19 @@ ghost use Rattle.turn_desk.specs.Seats.{IsOf};
 
 use crate::comparing::{end_differs, replies_differ};
 use crate::difference::Difference;
-use crate::fault::Fault;
 use crate::flag::Flag;
 use crate::held_link::HeldLink;
 use crate::opening::open_node;
 use crate::scene::{Scene, Session};
-use crate::stage::{NOW, alone};
+use crate::stage::NOW;
 use file_session::serve_files;
-use lf_base::{FixedClock, Handles, Link, MemLink, NoPause, Pause, SessionEnd, SleepPause, Watch};
+use lf_base::{FixedClock, Handles, Link, NoPause, Pause, SessionEnd, SleepPause, Watch};
 use link_session::{AtSeat, Turns};
 use node_core::{Answer, Ask};
 use std::alloc::Global;
 use std::thread;
 use std::time::Clock;
+use test_base::{Fault, database, link_of, nobody};
 use turn_desk::{Desk, Machine, Seat};
 
 /// The turns of each session.
@@ -69,7 +69,8 @@ fn serve_client<R: Handles + Copy, K: Machine<Ask = Ask, Answer = Answer>, P: Pa
 ) -> Result<SessionEnd, Fault>
     requires { IsOf seat.old desk.now }
 {
-    let (name, mut dialer) = alone(alloc)?;
+    let name = database(alloc)?;
+    let mut dialer = nobody(alloc)?;
     let mut session = link_session::Session {
         alloc,
         link,
@@ -123,7 +124,7 @@ fn play_waiter<R: Handles + Copy, K: Machine<Ask = Ask, Answer = Answer>>(
     requires { IsOf seat.old desk.now }
 {
     words.has_lock.wait(&rt);
-    let mut link = link_of(alloc, &session.requests)?;
+    let mut link = link_of(alloc, &session.requests, ROOM)?;
     let sleep = SleepPause::new(rt, 1);
     let mut pause = Refused { sleep, words };
     let ended = serve_client(rt, alloc, desk, seat, &mut link, &mut pause);
@@ -179,11 +180,6 @@ fn session_differs(
     Ok(differs.or(end_differs(ended?, number, session)))
 }
 
-fn link_of(alloc: Global, requests: &[u8]) -> Result<MemLink, Fault> {
-    let requests = Vec::from_slice(alloc, requests)?;
-    Ok(MemLink::new(alloc, requests, ROOM, Vec::new(alloc))?)
-}
-
 /// The link of the client that has the lock first.
 fn held_link<'a, R: Clock + Copy>(
     rt: R,
@@ -192,8 +188,8 @@ fn held_link<'a, R: Clock + Copy>(
     words: &'a Words,
 ) -> Result<HeldLink<'a, R>, Fault> {
     let (first, rest) = first_two(requests);
-    let first = link_of(alloc, first)?;
-    let rest = link_of(alloc, rest)?;
+    let first = link_of(alloc, first, ROOM)?;
+    let rest = link_of(alloc, rest, ROOM)?;
     Ok(HeldLink::new(rt, first, rest, &words.has_lock, &words.go_on))
 }
 
@@ -203,9 +199,7 @@ pub fn play_waiting<R: Handles + Copy + Send>(
     alloc: Global,
     scene: &Scene,
 ) -> Result<Option<Difference>, Fault> {
-    let [holding, waiting] = scene.sessions.as_slice() else {
-        return Err(Fault::Record);
-    };
+    let (holding, waiting) = scene.two_sessions()?;
     let node = open_node(alloc, scene.start)?;
     play_at_desk(rt, alloc, node, holding, waiting)
 }

@@ -1,7 +1,6 @@
 //! The ways in which a scene is played.
 
 use crate::difference::Difference;
-use crate::fault::Fault;
 use crate::mounted::play_mounted;
 use crate::playing::play;
 use crate::scene::Scene;
@@ -9,6 +8,7 @@ use crate::socketed::play_over_socket;
 use crate::waiting::play_waiting;
 use node_mount::System;
 use std::alloc::Global;
+use test_base::Fault;
 
 #[derive(Clone, Copy)]
 pub enum Way {

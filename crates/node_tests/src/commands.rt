@@ -1,4 +1,3 @@
 //! The commands: their words, and what the call behind `apply` makes of files.
 mod apply;
 mod command_line;
-pub mod files;

@@ -2,15 +2,16 @@
 ghost use Rattle.std.specs.Prelude.{All, IfOk};
 ghost use Rattle.node_mount.specs.MemMaker.{IsNewDisk, IsNewDoor, IsNewSpawner};
 
-use crate::commands::files::{SNAPSHOT, encode_all};
-use crate::mounted::{PRIMARY, empty_disk, no_links, one, one_spawner};
+use crate::mounted::{PRIMARY, empty_disk, no_links, one_spawner};
+use crate::replies::NOT_PRIMARY;
 use crate::same::same;
-use lf_base::{FixedClock, ListAcceptor, MemLink, SliceSource, ThreadSpawner, Watch};
+use lf_base::{FixedClock, ListAcceptor, SliceSource, ThreadSpawner, Watch};
 use lf_disk::{Disk, FileName, MemDisk};
 use node_mount::{MemMaker, MemParts, MemSpawn, MountFault, mount};
 use std::alloc::Global;
 use std::net::{TcpListener, TcpStream};
 use std::process::Abort;
+use test_base::{SNAPSHOT, encoding, link_of, one};
 
 const STREAM: &[u8] = b"POST /stream HTTP/1.1\r\nHost: localhost\r\nContent-Length: 38\r\n\r\n\
     app 0000000000000000/0000000000000000\n";
@@ -19,10 +20,6 @@ const STREAM: &[u8] = b"POST /stream HTTP/1.1\r\nHost: localhost\r\nContent-Leng
 const STREAMED: &[u8] = b"HTTP/1.1 200 OK\r\nConnection: close\r\n\r\n\
     \0\0\0\x02\0\0\0\x03\0\0\0\0\0\0\0\x10app\0\0\0\0\0\0\0\0\0\0\0\0\0\0\0\0\
     \0\0\0\x03\0\0\0\0\0\0\0\0\0\0\0\0";
-
-/// Of a node that is not primary any longer.
-const UNAVAILABLE: &[u8] =
-    b"HTTP/1.1 503 Service Unavailable\r\nContent-Length: 11\r\nConnection: close\r\n\r\nNotPrimary\n";
 
 /// UNLINK of the database `app`, 3; that it failed (EIO, 5), and that it is done.
 const UNLINK: &[u8] = b"\x2c\0\0\0\x0a\0\0\0\x03\0\0\0\0\0\0\0\x01\0\0\0\0\0\0\0\
@@ -42,8 +39,7 @@ const BROKEN: &str = "litefs: store broken\n";
 fn door_of(rt: impl Copy + Abort, alloc: Global, input: &[u8]) -> (Vec<ListAcceptor>, Watch)
     ensures { All IsNewDoor result.0.items }
 {
-    let input = Vec::from_slice(alloc, input).expect(&rt, "memory");
-    let link = MemLink::new(alloc, input, 4096, Vec::new(alloc)).expect(&rt, "a link");
+    let link = link_of(alloc, input, 4096).expect(&rt, "a link");
     let watch = link.watch();
     let links = one(alloc, link).expect(&rt, "memory");
     let accept = ListAcceptor::new(links, Vec::new(alloc)).unwrap();
@@ -106,7 +102,7 @@ fn a_level_stream_ends(rt: HostRuntime) {
     let written = watch.bytes().expect(&rt, "memory");
     let written = written.as_slice();
     // A link that comes behind the end is let go.
-    let is_ended = written == STREAMED || written == UNAVAILABLE || written.is_empty();
+    let is_ended = written == STREAMED || written == NOT_PRIMARY || written.is_empty();
     same(rt, is_ended, true);
 }
 
@@ -164,7 +160,7 @@ fn stage_of<R: Copy + Abort>(
 fn a_store_that_breaks_ends_its_node(rt: HostRuntime) {
     let _named: Option<(TcpListener, TcpStream)> = None;
     let alloc = rt.alloc();
-    let file = encode_all(alloc, &[SNAPSHOT]).expect(&rt, "memory");
+    let file = encoding(alloc, &SNAPSHOT).expect(&rt, "memory");
     let mut last = Stage::NotOpened;
     let mut broke = 0u64;
     for calls in 0..64u64 {

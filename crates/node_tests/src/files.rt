@@ -1,16 +1,16 @@
 //! A table of sessions on the served files: what came, what was written, how it ended and what was asked.
 mod scripted;
 
-use crate::links::{link_of, name_of, nobody};
+use crate::links::link_of;
 use crate::same::same;
-use file_session::serve_files;
-use lf_base::{FixedClock, Handles, MemLink, NoPause, SessionEnd};
-use link_session::{AtSeat, Session, Turns};
+use lf_base::{FixedClock, Handles, MemLink, SessionEnd};
+use link_session::AtSeat;
 use scripted::Scripted;
 use std::alloc::Global;
 use std::net::{TcpListener, TcpStream};
 use std::process::Abort;
-use turn_desk::Desk;
+use test_base::{hex_bytes, nobody};
+use test_nodes::{Answering, desk_of, serve_client};
 
 // READ of the position file, 7.
 const READ: &[u8] =
@@ -69,130 +69,89 @@ struct Row {
     steps: u64,
 }
 
+/// A read, where a row says nothing else.
+const ONE_READ: Row = Row {
+    input: &[READ],
+    size: 99_999,
+    failing: NEVER,
+    budget: 100,
+    written: &[POSITION],
+    end: SessionEnd::Closed,
+    asked: &[7, 0],
+    steps: 2,
+};
+
 const ROWS: &[Row] = &[
     Row {
         input: &[READ, FORGET, LOOKUP, READLINK, DESTROY],
-        size: 99_999,
-        failing: NEVER,
-        budget: 100,
         written: &[POSITION, NO_NAME, NOT_SERVED, DONE],
-        end: SessionEnd::Closed,
         asked: &[7, 2, 3, 6, 0],
         steps: 5,
+        ..ONE_READ
     },
     Row {
         input: &[READ, FORGET, LOOKUP, READLINK, DESTROY],
         size: 1,
-        failing: NEVER,
         budget: 1_000,
         written: &[POSITION, NO_NAME, NOT_SERVED, DONE],
-        end: SessionEnd::Closed,
         asked: &[7, 2, 3, 6, 0],
         steps: 5,
+        ..ONE_READ
     },
     // A lock that is never granted.
     Row {
         input: &[SETLKW],
-        size: 99_999,
-        failing: NEVER,
         budget: 50,
         written: &[],
         end: SessionEnd::Turns,
         asked: &[5, 0],
         steps: 50,
+        ..ONE_READ
     },
     // The input ends inside a message.
     Row {
         input: &[READ, b"2c000000 01000000"],
         size: 7,
-        failing: NEVER,
-        budget: 100,
-        written: &[POSITION],
         end: SessionEnd::BadMessage,
-        asked: &[7, 0],
-        steps: 2,
+        ..ONE_READ
     },
     // A message without its body.
     Row {
         input: &[READ, GETATTR, LOOKUP],
-        size: 99_999,
-        failing: NEVER,
-        budget: 100,
-        written: &[POSITION],
         end: SessionEnd::BadMessage,
-        asked: &[7, 0],
-        steps: 2,
+        ..ONE_READ
     },
     // The third call is the second write.
     Row {
         input: &[READ, LOOKUP],
-        size: 99_999,
         failing: 2,
-        budget: 100,
-        written: &[POSITION],
         end: SessionEnd::WriteFault,
         asked: &[7, 3, 0],
         steps: 3,
+        ..ONE_READ
     },
     // The third call is the second read.
     Row {
-        input: &[READ],
-        size: 99_999,
         failing: 2,
-        budget: 100,
-        written: &[POSITION],
         end: SessionEnd::ReadFault,
-        asked: &[7, 0],
-        steps: 2,
+        ..ONE_READ
     },
     Row {
-        input: &[READ],
-        size: 99_999,
-        failing: NEVER,
         budget: 0,
         written: &[],
         end: SessionEnd::Turns,
         asked: &[0],
         steps: 1,
+        ..ONE_READ
     },
     Row {
         input: &[],
-        size: 99_999,
-        failing: NEVER,
-        budget: 100,
         written: &[],
-        end: SessionEnd::Closed,
         asked: &[0],
         steps: 1,
+        ..ONE_READ
     },
 ];
-
-/// The bytes that a text of hexadecimal digits and blanks stands for, appended.
-fn append_hex(rt: impl Copy + Abort, bytes: &mut Vec<u8>, text: &[u8]) {
-    let mut high = None;
-    for b in text {
-        let digit = match *b {
-            b'0'..=b'9' => *b - b'0',
-            b'a'..=b'f' => *b - b'a' + 10,
-            _ => continue,
-        };
-        match high {
-            None => high = Some(digit),
-            Some(first) => {
-                bytes.push(first << 4 | digit).expect(&rt, "memory");
-                high = None;
-            }
-        }
-    }
-}
-
-pub fn all_hex(rt: impl Copy + Abort, alloc: Global, texts: &[&[u8]]) -> Vec<u8> {
-    let mut bytes = Vec::new(alloc);
-    for text in texts {
-        append_hex(rt, &mut bytes, text);
-    }
-    bytes
-}
 
 /// The end of the row's session, and the machine afterwards.
 fn served<R: Handles + Copy + Abort>(
@@ -201,32 +160,17 @@ fn served<R: Handles + Copy + Abort>(
     link: &mut MemLink,
     budget: u64,
 ) -> (SessionEnd, Scripted) {
-    let (desk, mut seat) = Desk::open(alloc, Scripted::new(alloc))
-        .ok()
-        .expect(&rt, "a desk");
-    let mut session = Session {
-        alloc,
-        link,
-        clock: &mut FixedClock::new(5),
-        pause: &mut NoPause::new(),
-        turns: Turns::new(budget),
-    };
+    let by = Scripted::new(alloc);
+    let (desk, mut seat) = desk_of(alloc, Answering { by }).expect(&rt, "a desk");
     let mut at = AtSeat {
         rt: &rt,
         desk: &desk,
         seat: &mut seat,
     };
-    let name = name_of(rt, alloc);
-    let mut dialer = nobody(rt, alloc);
-    let end = serve_files(
-        &mut session,
-        &mut at,
-        &name,
-        3,
-        &mut dialer,
-        &mut NoPause::new(),
-    );
-    (end, desk.close(rt, seat))
+    let mut clock = FixedClock::new(5);
+    let mut dialer = nobody(alloc).expect(&rt, "a dialer");
+    let end = serve_client(&mut at, alloc, link, &mut clock, budget, &mut dialer);
+    (end.expect(&rt, "memory"), desk.close(rt, seat).by)
 }
 
 #[test]
@@ -238,12 +182,12 @@ fn sessions(rt: HostRuntime) {
 }
 
 fn has_session<R: Handles + Copy + Abort>(rt: R, alloc: Global, row: &Row) {
-    let input = all_hex(rt, alloc, row.input);
-    let mut link = link_of(rt, alloc, input, row.size, row.failing);
+    let input = hex_bytes(alloc, row.input).expect(&rt, "memory");
+    let mut link = link_of(rt, alloc, &input, row.size, row.failing);
     let watch = link.watch();
     let (end, machine) = served(rt, alloc, &mut link, row.budget);
     let written = watch.bytes().expect(&rt, "memory");
-    let wanted = all_hex(rt, alloc, row.written);
+    let wanted = hex_bytes(alloc, row.written).expect(&rt, "memory");
     same(rt, written.as_slice(), wanted.as_slice());
     same(
         rt,

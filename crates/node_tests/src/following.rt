@@ -2,16 +2,17 @@
 mod scripted;
 
 use crate::links::link_of;
+use crate::replies::NOT_PRIMARY;
 use crate::same::same;
-use lf_base::{FixedClock, MemLink, Name, NoPause, Pos};
-use link_session::{AtSeat, Session, Turns};
+use lf_base::{FixedClock, MemLink, Pos};
+use link_session::AtSeat;
 use node_core::{Refusal, Whereabouts};
-use replica_apply::{Doubt, FollowEnd, follow};
+use replica_apply::{Doubt, FollowEnd};
 use scripted::{Scripted, Word};
 use std::alloc::Global;
 use std::process::Abort;
 use std::sync::Wait;
-use turn_desk::Desk;
+use test_nodes::{Answering, desk_of, follow_stream};
 use txn_log::{LastFile, StoreFault};
 
 /// The request, from nothing on.
@@ -19,9 +20,6 @@ const REQUEST: &[u8] = b"POST /stream HTTP/1.1\r\nHost: localhost\r\nContent-Len
     app 0000000000000000/0000000000000000\n";
 
 const HEAD: &[u8] = b"HTTP/1.1 200 OK\r\nConnection: close\r\n\r\n";
-
-const UNAVAILABLE: &[u8] =
-    b"HTTP/1.1 503 Service Unavailable\r\nContent-Length: 11\r\nConnection: close\r\n\r\nNotPrimary\n";
 
 /// The frame of a file of five bytes.
 const FILE: &[u8] = b"\0\0\0\x01\0\0\0\x03\0\0\0\0\0\0\0\x05appfive.";
@@ -71,7 +69,7 @@ const ROWS: &[Row] = &[
     WORKED,
     Row { size: 1, ..WORKED },
     Row {
-        input: &[UNAVAILABLE],
+        input: &[NOT_PRIMARY],
         end: FollowEnd::Status(503),
         asked: &[1],
         ..CUT
@@ -152,14 +150,6 @@ const ROWS: &[Row] = &[
     },
 ];
 
-fn joined(rt: impl Copy + Abort, alloc: Global, texts: &[&[u8]]) -> Vec<u8> {
-    let mut bytes = Vec::new(alloc);
-    for text in texts {
-        bytes.extend_from_slice(text).expect(&rt, "memory");
-    }
-    bytes
-}
-
 /// How the row's stream ended, and the machine afterwards.
 fn followed<R: Wait + Copy + Abort>(
     rt: R,
@@ -171,23 +161,16 @@ fn followed<R: Wait + Copy + Abort>(
 ) -> (FollowEnd, Scripted) {
     let pos = Pos { txid: 0, sum: 0 };
     let script = Vec::from_slice(alloc, row.script).expect(&rt, "memory");
-    let machine = Scripted::new(alloc, Whereabouts { pos, last }, script);
-    let (desk, mut seat) = Desk::open(alloc, machine).ok().expect(&rt, "a desk");
-    let name = Name::read(alloc, b"app").expect(&rt, "a name");
-    let mut session = Session {
-        alloc,
-        link,
-        clock: &mut FixedClock::new(5),
-        pause: &mut NoPause::new(),
-        turns: Turns::new(row.budget),
-    };
+    let by = Scripted::new(alloc, Whereabouts { pos, last }, script);
+    let (desk, mut seat) = desk_of(alloc, Answering { by }).expect(&rt, "a desk");
     let mut at = AtSeat {
         rt: &rt,
         desk: &desk,
         seat: &mut seat,
     };
-    let end = follow(&mut session, &mut at, &name, unknown);
-    (end, desk.close(rt, seat))
+    let mut clock = FixedClock::new(5);
+    let end = follow_stream(&mut at, alloc, link, &mut clock, row.budget, unknown);
+    (end.expect(&rt, "memory"), desk.close(rt, seat).by)
 }
 
 #[test]
@@ -198,8 +181,8 @@ fn streams(rt: HostRuntime) {
 }
 
 fn has_stream<R: Wait + Copy + Abort>(rt: R, alloc: Global, row: &Row) {
-    let input = joined(rt, alloc, row.input);
-    let mut link = link_of(rt, alloc, input, row.size, row.failing);
+    let input = row.input.concat(alloc).expect(&rt, "memory");
+    let mut link = link_of(rt, alloc, &input, row.size, row.failing);
     let watch = link.watch();
     let (end, machine) = followed(rt, alloc, &mut link, row, None, false);
     let written = watch.bytes().expect(&rt, "memory");
@@ -245,7 +228,7 @@ fn has_said<R: Wait + Copy + Abort>(
     unknown: bool,
     request: &[u8],
 ) {
-    let mut link = link_of(rt, alloc, Vec::new(alloc), 99_999, NEVER);
+    let mut link = link_of(rt, alloc, b"", 99_999, NEVER);
     let watch = link.watch();
     followed(rt, alloc, &mut link, &CUT, last, unknown);
     let written = watch.bytes().expect(&rt, "memory");

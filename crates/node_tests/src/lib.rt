@@ -13,8 +13,6 @@ mod ended;
 #[cfg(test)]
 mod etcd_leased;
 #[cfg(test)]
-mod figures;
-#[cfg(test)]
 mod files;
 #[cfg(test)]
 mod following;
@@ -41,7 +39,11 @@ mod programs;
 #[cfg(test)]
 mod proxied;
 #[cfg(test)]
+mod replies;
+#[cfg(test)]
 mod same;
+#[cfg(test)]
+mod sessions;
 #[cfg(test)]
 mod streams;
 #[cfg(test)]

@@ -1,14 +1,11 @@
 //! Nodes that are mounted: a replica over the system's sockets, and HTTP links in memory.
-ghost use Rattle.std.specs.Prelude.{◌≡◌, ◌∷◌, [], All, IfOk};
+ghost use Rattle.std.specs.Prelude.{All};
 ghost use Rattle.node_mount.specs.MemMaker.{IsNewDisk, IsNewDoor, IsNewSpawner};
 
 use crate::asking::asked_at;
-use crate::commands::files::{SNAPSHOT, encode_all};
+use crate::replies::NOT_FOUND;
 use crate::same::same;
-use lf_base::{
-    CallSpawner, Closing, FixedClock, Handles, ListAcceptor, MemLink, Name, NoMemory, SliceSource,
-    Watch,
-};
+use lf_base::{CallSpawner, Closing, FixedClock, Handles, ListAcceptor, Name, SliceSource, Watch};
 use lf_disk::MemDisk;
 use node_mount::{Maker, MemMaker, MemParts, MemSpawn, System, SystemMaker, mount};
 use std::alloc::Global;
@@ -16,14 +13,12 @@ use std::net::{TcpListener, TcpStream};
 use std::process::Abort;
 use std::time::Duration;
 use std::{fs, thread};
+use test_base::{SNAPSHOT, encoding, link_of, one};
 
 pub(crate) const PRIMARY: &[u8] = b"database = \"app\"\n[lease]\ncandidate = true\n\
     advertise-url = \"http://localhost:20202\"\nhostname = \"localhost\"\n";
 
 const REQUEST: &[u8] = b"GET /none HTTP/1.1\r\n\r\n";
-
-const NOT_FOUND: &[u8] =
-    b"HTTP/1.1 404 Not Found\r\nContent-Length: 0\r\nConnection: close\r\n\r\n";
 
 /// What the primary tells.
 pub(crate) const STARTED: &[u8] = b"litefs: start 0.1.0: database app, role primary at \
@@ -107,7 +102,7 @@ fn keep_database<R: System + Copy + Abort + Send + 'static>(rt: R, database: &st
 #[test]
 fn a_start_keeps_the_database(rt: HostRuntime) {
     let _named: Option<(TcpListener, TcpStream)> = None;
-    let file = encode_all(rt.alloc(), &[SNAPSHOT]).expect(&rt, "memory");
+    let file = encoding(rt.alloc(), &SNAPSHOT).expect(&rt, "memory");
     keep_database(rt, "kept", file.as_slice());
     let closing = Closing::new(rt.alloc()).expect(&rt, "memory");
     closing.close();
@@ -121,21 +116,11 @@ fn a_start_keeps_the_database(rt: HostRuntime) {
     fs::remove_file(&rt, "node_mount_kept_socket").expect(&rt, "removed");
 }
 
-/// A list of one item.
-pub(crate) fn one<T: Drop>(alloc: Global, item: T) -> Result<Vec<T>, NoMemory>
-    ensures { IfOk result (λ list. list.items ≡ item ∷ []) }
-{
-    let mut list = Vec::new(alloc);
-    list.push(item)?;
-    Ok(list)
-}
-
 /// An acceptor whose first call fails, and the next gives a link, and what shows what is written on it.
 fn door_that_fails_first(rt: impl Copy + Abort, alloc: Global) -> (Vec<ListAcceptor>, Watch)
     ensures { All IsNewDoor result.0.items }
 {
-    let input = Vec::from_slice(alloc, REQUEST).expect(&rt, "memory");
-    let link = MemLink::new(alloc, input, 4096, Vec::new(alloc)).expect(&rt, "a link");
+    let link = link_of(alloc, REQUEST, 4096).expect(&rt, "a link");
     let watch = link.watch();
     let links = one(alloc, link).expect(&rt, "memory");
     let failing = one(alloc, 0).expect(&rt, "memory");

@@ -2,22 +2,10 @@
 //! the node was asked from.
 mod scripted;
 
-use crate::figures::about;
-use crate::links::link_of;
-use crate::same::same;
-use lf_base::{FixedClock, MemLink, NoPause, SessionEnd};
-use link_session::{AtSeat, Session, Turns};
+use crate::replies::{BAD, DISK, FULL, NOT_FOUND, NOT_PRIMARY};
+use crate::sessions::{Row, has_session};
+use lf_base::SessionEnd;
 use scripted::{Scripted, Word};
-use std::alloc::Global;
-use std::process::Abort;
-use std::sync::Wait;
-use stream_primary::serve_http;
-use turn_desk::Desk;
-
-const NOT_FOUND: &[u8] =
-    b"HTTP/1.1 404 Not Found\r\nContent-Length: 0\r\nConnection: close\r\n\r\n";
-
-const BAD: &[u8] = b"HTTP/1.1 400 Bad Request\r\nContent-Length: 0\r\nConnection: close\r\n\r\n";
 
 const GET: &[u8] = b"GET / HTTP/1.1\r\nHost: a\r\n\r\n";
 
@@ -49,68 +37,41 @@ const DROP: &[u8] = b"\0\0\0\x04\0\0\0\x03\0\0\0\0\0\0\0\0app";
 
 const END: &[u8] = b"\0\0\0\x03\0\0\0\0\0\0\0\0\0\0\0\0";
 
-const UNAVAILABLE: &[u8] =
-    b"HTTP/1.1 503 Service Unavailable\r\nContent-Length: 11\r\nConnection: close\r\n\r\nNotPrimary\n";
-
-const FAILED: &[u8] =
-    b"HTTP/1.1 500 Internal Server Error\r\nContent-Length: 5\r\nConnection: close\r\n\r\nDisk\n";
-
-const FULL: &[u8] =
-    b"HTTP/1.1 507 Insufficient Storage\r\nContent-Length: 9\r\nConnection: close\r\n\r\nNoMemory\n";
-
-/// The first and the last bytes of a file of one page of 512 zeros, the database's first transaction.
-const FRONT: &[u8] = b"LTX1\0\0\0\0\0\0\x02\0\0\0\0\x01\0\0\0\0\0\0\0\x01\0\0\0\0\0\0\0\x01";
-
-const BACK: &[u8] = b"\xef\xb1\xf4\x4f\xec\xd9\x90\0\xb8\xdc\xe5\x86\x69\x77\x8c\x30";
-
 const NEVER: u64 = 999;
 
-#[derive(Clone, Copy)]
-struct Row {
-    input: &'static [u8],
-    /// The most bytes of a read, the call of the link that fails, and the budget.
-    size: usize,
-    failing: u64,
-    budget: u64,
-    script: &'static [Word],
-    written: &'static [&'static [u8]],
-    end: SessionEnd,
-    asked: &'static [u64],
-}
-
 /// What a row is where it says nothing else.
-const CLOSED: Row = Row {
+const CLOSED: Row<&[Word]> = Row {
     input: b"",
     size: 99_999,
     failing: NEVER,
     budget: 1_000,
-    script: &[],
+    answers: &[],
     written: &[],
     end: SessionEnd::Closed,
     asked: &[],
 };
 
 /// The same without an answer, and with few turns.
-const SILENT: Row = Row {
+const SILENT: Row<&[Word]> = Row {
     budget: 9,
     ..CLOSED
 };
 
-const WORKED: Row = Row {
+const WORKED: Row<&[Word]> = Row {
     input: STREAM,
-    script: &[Word::File, Word::Level, Word::NotPrimary],
+    answers: &[Word::File, Word::Level, Word::NotPrimary],
     written: &[BEGUN, FILE, READY, END],
     asked: &[0, 1, 1],
     ..CLOSED
 };
 
-const ROWS: &[Row] = &[
+const ROWS: &[Row<&[Word]>] = &[
     WORKED,
     Row { size: 1, ..WORKED },
     // A level is sent once, and a fault ends the stream without a word.
     Row {
         input: STREAM,
-        script: &[Word::File, Word::Level, Word::Level, Word::Disk],
+        answers: &[Word::File, Word::Level, Word::Level, Word::Disk],
         written: &[BEGUN, FILE, READY],
         asked: &[0, 1, 1, 1],
         ..CLOSED
@@ -118,28 +79,28 @@ const ROWS: &[Row] = &[
     // Behind a drop it begins anew.
     Row {
         input: STREAM_AT_9,
-        script: &[Word::Gone, Word::File, Word::File, Word::NotPrimary],
+        answers: &[Word::Gone, Word::File, Word::File, Word::NotPrimary],
         written: &[BEGUN, DROP, FILE, FILE, END],
         asked: &[9, 0, 1, 2],
         ..CLOSED
     },
     Row {
         input: STREAM,
-        script: &[Word::NotPrimary],
-        written: &[UNAVAILABLE],
+        answers: &[Word::NotPrimary],
+        written: &[NOT_PRIMARY],
         asked: &[0],
         ..CLOSED
     },
     Row {
         input: STREAM,
-        script: &[Word::Disk],
-        written: &[FAILED],
+        answers: &[Word::Disk],
+        written: &[DISK],
         asked: &[0],
         ..CLOSED
     },
     Row {
         input: STREAM,
-        script: &[Word::NoMemory],
+        answers: &[Word::NoMemory],
         written: &[FULL],
         asked: &[0],
         ..CLOSED
@@ -154,7 +115,7 @@ const ROWS: &[Row] = &[
     },
     // A follower that stays level: three Hellos, a read and three writes.
     Row {
-        script: &[],
+        answers: &[],
         input: STREAM_AT_9,
         budget: 7,
         end: SessionEnd::Turns,
@@ -167,7 +128,7 @@ const ROWS: &[Row] = &[
     },
     // One that was level and is gone is found so before the next Hello, by the third call of its link.
     Row {
-        script: &[],
+        answers: &[],
         input: STREAM_AT_9,
         failing: 2,
         end: SessionEnd::WriteFault,
@@ -298,79 +259,11 @@ const ROWS: &[Row] = &[
     },
 ];
 
-/// The bytes of the file.
-fn file(rt: impl Copy + Abort, alloc: Global) -> Vec<u8> {
-    let mut bytes = Vec::from_slice(alloc, FRONT).expect(&rt, "memory");
-    append_zeros(rt, &mut bytes, 71);
-    bytes.push(1).expect(&rt, "memory");
-    append_zeros(rt, &mut bytes, 516);
-    bytes.extend_from_slice(BACK).expect(&rt, "memory");
-    bytes
-}
-
-fn append_zeros(rt: impl Copy + Abort, bytes: &mut Vec<u8>, count: usize) {
-    for _ in 0..count {
-        bytes.push(0).expect(&rt, "memory");
-    }
-}
-
-/// The texts, one behind another; a star at the end of one stands for the file.
-fn joined(rt: impl Copy + Abort, alloc: Global, texts: &[&[u8]]) -> Vec<u8> {
-    let file = file(rt, alloc);
-    let mut bytes = Vec::new(alloc);
-    for text in texts {
-        bytes.extend_from_slice(text).expect(&rt, "memory");
-        if bytes.last() == Some(&b'*') {
-            bytes.pop();
-            bytes
-                .extend_from_slice(file.as_slice())
-                .expect(&rt, "memory");
-        }
-    }
-    bytes
-}
-
-/// The end of the row's session, and the machine afterwards.
-fn served<R: Wait + Copy + Abort>(
-    rt: R,
-    alloc: Global,
-    link: &mut MemLink,
-    row: &Row,
-) -> (SessionEnd, Scripted) {
-    let script = Vec::from_slice(alloc, row.script).expect(&rt, "memory");
-    let machine = Scripted::new(alloc, file(rt, alloc), script);
-    let (desk, mut seat) = Desk::open(alloc, machine).ok().expect(&rt, "a desk");
-    let about = about(rt, alloc);
-    let mut session = Session {
-        alloc,
-        link,
-        clock: &mut FixedClock::new(5),
-        pause: &mut NoPause::new(),
-        turns: Turns::new(row.budget),
-    };
-    let mut at = AtSeat {
-        rt: &rt,
-        desk: &desk,
-        seat: &mut seat,
-    };
-    let end = serve_http(&mut session, &mut at, &about);
-    (end, desk.close(rt, seat))
-}
-
 #[test]
 fn sessions(rt: HostRuntime) {
     for row in ROWS {
-        has_session(rt, rt.alloc(), row);
+        let alloc = rt.alloc();
+        let script = Vec::from_slice(alloc, row.answers).expect(&rt, "memory");
+        has_session(rt, alloc, row, Scripted::new(alloc, script));
     }
-}
-
-fn has_session<R: Wait + Copy + Abort>(rt: R, alloc: Global, row: &Row) {
-    let input = Vec::from_slice(alloc, row.input).expect(&rt, "memory");
-    let mut link = link_of(rt, alloc, input, row.size, row.failing);
-    let watch = link.watch();
-    let (end, machine) = served(rt, alloc, &mut link, row);
-    let written = watch.bytes().expect(&rt, "memory");
-    let wanted = joined(rt, alloc, row.written);
-    same(rt, written.as_slice(), wanted.as_slice());
-    same(rt, (end, machine.asked.as_slice()), (row.end, row.asked));
 }

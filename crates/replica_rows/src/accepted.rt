@@ -4,17 +4,15 @@
 
 use crate::clients::{commit, commit_and_stay};
 use crate::cluster::{Cluster, Who};
-use crate::fault::Fault;
 use crate::levels::gets_level;
 use crate::likeness::is_as;
-use crate::nodes::{
-    Failing, MemNode, NEVER, Part, ask_once, calls_of, is_applied, is_broken, renew, renew_on,
-};
+use crate::nodes::{MemNode, Part, ask_once, calls_of, is_applied, is_broken, renew, renew_on};
 use crate::permits::{forward_of, gets_permit};
 use crate::tally::{CHOICES, NONE, Tally, count_if};
 use lf_base::Errno;
 use node_core::{Answer, Ask};
 use std::alloc::Global;
+use test_base::{Failing, Fault, NEVER};
 
 /// The number of the node that gets the permit.
 const NUMBER: u64 = 7;
@@ -32,7 +30,7 @@ fn sends(alloc: Global, primary: &mut MemNode, replica: &mut MemNode) -> Result<
     drop(gets_permit(primary, replica, NUMBER));
     match forward_of(commit_and_stay(alloc, replica, &[(1, 4)])?) {
         Some(asked) => is_accepted(primary, asked),
-        None => Err(Fault::Owed),
+        None => Err(Fault::Answer),
     }
 }
 
@@ -40,7 +38,7 @@ fn is_accepted(primary: &mut MemNode, asked: Ask) -> Result<(), Fault> {
     if is_applied(ask_once(primary, 0, asked)) {
         Ok(())
     } else {
-        Err(Fault::Owed)
+        Err(Fault::Answer)
     }
 }
 

@@ -2,16 +2,16 @@
 //! makes of its disk for it fails in turn. Then its disk is crashed, it is restarted, and where it is as
 //! before it is asked once more. Two other primaries are as before, and as after.
 
-use crate::fault::Fault;
 use crate::likeness::is_as;
 use crate::log_clients::{begins_log, ends_log};
 use crate::nodes::{
-    Failing, MemNode, NEVER, NOW, Part, ask_once, calls_of, is_broken, position, renew_on, restart,
+    MemNode, NOW, Part, ask_once, calls_of, is_broken, position, renew_on, restart,
 };
 use crate::tally::{CHOICES, count_if};
 use lf_base::{Bytes, Errno};
 use node_core::{Answer, Ask, Refusal};
 use std::alloc::Global;
+use test_base::{Failing, Fault, NEVER};
 use txn_log::StoreFault;
 
 /// What comes.

@@ -1,11 +1,11 @@
 //! Clients of a node: what they ask of its files. Each page that is written is full of one byte.
 
-use crate::fault::Fault;
 use crate::nodes::{MemNode, NOW, ask, ask_once};
 use fuse_msgs::{LockWish, Op, Reply, Request};
 use lf_base::Bytes;
 use node_core::{Answer, Ask};
 use std::alloc::Global;
+use test_base::Fault;
 
 /// A page: its number, and the byte that it is full of.
 pub type Filled = (u32, u8);

@@ -1,11 +1,11 @@
 //! A primary and two replicas.
 
-use crate::fault::Fault;
 use crate::levels::gets_level;
 use crate::likeness::{image, is_as};
 use crate::lineage::Lineage;
 use crate::nodes::{MemNode, Part, position, renew, restart};
 use std::alloc::Global;
+use test_base::Fault;
 
 /// One of the nodes.
 #[derive(Clone, Copy)]

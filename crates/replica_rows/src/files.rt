@@ -1,12 +1,12 @@
 //! What two primaries send to a replica.
 
 use crate::clients::commit;
-use crate::fault::Fault;
 use crate::levels::asked_by;
 use crate::nodes::{MemNode, Part, owed_at, position, renew};
 use lf_base::Pos;
 use node_core::Ask;
 use std::alloc::Global;
+use test_base::Fault;
 
 /// A position that no log has.
 const UNKNOWN: Pos = Pos { txid: 99, sum: 1 };
@@ -34,7 +34,7 @@ fn goes_on(alloc: Global, primary: &mut MemNode, from: u8, count: u8) -> Result<
 fn file_at(primary: &mut MemNode, pos: Pos) -> Result<Ask, Fault> {
     match asked_by(owed_at(primary, pos)) {
         Some(frame) => Ok(frame),
-        None => Err(Fault::Owed),
+        None => Err(Fault::Answer),
     }
 }
 

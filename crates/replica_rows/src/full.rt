@@ -1,10 +1,10 @@
 //! A client drops the database of a primary whose disk has no more room.
 
 use crate::clients::{commit, unlinks};
-use crate::fault::Fault;
-use crate::nodes::{MemNode, NEVER, calls_of, renew_full};
+use crate::nodes::{MemNode, calls_of, renew_full};
 use crate::turns::tells;
 use std::alloc::Global;
+use test_base::{Fault, NEVER};
 
 /// The node becomes a primary with one page, on a disk that has no room from a call on.
 fn begins(alloc: Global, node: &mut MemNode, call: u64) -> Result<(), Fault> {

@@ -2,7 +2,6 @@
 
 use crate::clients::{Filled, commit, commit_and_stay, creates, leaves, unlinks, unlocks};
 use crate::cluster::{Cluster, Who};
-use crate::fault::Fault;
 use crate::levels::{asked_by, keep};
 use crate::likeness::is_as;
 use crate::nodes::{MemNode, NOW, ask, ask_once, owed_at, position};
@@ -11,6 +10,7 @@ use crate::turns::{says, tells};
 use lf_base::Bytes;
 use node_core::{Answer, Ask};
 use std::alloc::Global;
+use test_base::Fault;
 
 #[derive(Clone, Copy)]
 pub enum Event {

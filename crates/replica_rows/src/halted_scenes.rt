@@ -2,9 +2,9 @@
 
 use crate::cluster::Cluster;
 use crate::cluster::Who::{Left, Primary, Right};
-use crate::fault::Fault;
 use crate::halted::{Event, play};
 use node_core::Ask;
+use test_base::Fault;
 
 /// A title, and what happens.
 type Scene = (&'static str, &'static [&'static [Event]]);

@@ -2,11 +2,11 @@
 //! are made of the pages here, and no node is asked.
 
 use crate::clients::Filled;
-use crate::fault::Fault;
 use crate::nodes::NOWHERE;
 use lf_base::{Bytes, Pos};
 use page_checksum::page_sum;
 use std::alloc::Global;
+use test_base::Fault;
 
 /// The most pages of a database.
 pub const PAGES: u32 = 4;

@@ -3,12 +3,12 @@
 use crate::clients::{
     DATABASE, SHARED_MEMORY, WRITER, bytes, creates, does, locks, page_of, writes,
 };
-use crate::fault::Fault;
 use crate::nodes::MemNode;
 use fuse_msgs::{LockWish, Op};
 use lf_base::Bytes;
 use node_core::Answer;
 use std::alloc::Global;
+use test_base::Fault;
 
 /// The node of the log.
 const LOG: u64 = 4;

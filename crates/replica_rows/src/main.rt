@@ -7,7 +7,6 @@ mod chance;
 mod changes;
 mod clients;
 mod cluster;
-mod fault;
 mod files;
 mod full;
 mod halted;
@@ -30,8 +29,8 @@ mod turns;
 mod waits;
 
 use cluster::Cluster;
-use fault::Fault;
 use nodes::{MemNode, Part, new_node, stop};
+use test_base::Fault;
 
 /// All scenes.
 fn play_all(

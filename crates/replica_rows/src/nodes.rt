@@ -1,13 +1,13 @@
 //! Nodes over disks in memory: opened, asked and opened again.
 ghost use Rattle.std.specs.Prelude.{◌≡◌, [], IfOk};
 
-use crate::fault::Fault;
-use lf_base::{Name, Pos, Text};
+use lf_base::{Pos, Text};
 use lf_disk::MemDisk;
 use node_core::{Answer, Ask, Node, NodeConfig, Whereabouts};
 use node_recovery::recover;
 use std::alloc::Global;
 use std::mem;
+use test_base::{Failing, Fault, NEVER, blank, database};
 use turn_desk::Machine;
 use txn_log::Store;
 
@@ -29,48 +29,15 @@ pub enum Part {
     Replica,
 }
 
-/// How a disk fails.
-#[derive(Clone, Copy)]
-pub enum Failing {
-    /// At the call of a number alone.
-    At,
-    /// From there on.
-    From,
-}
-
-/// The number of a call that no disk comes to.
-pub const NEVER: u64 = u64::MAX;
-
 fn config(alloc: Global, part: Part) -> Result<NodeConfig, Fault> {
-    let Ok(name) = Name::read(alloc, b"app") else {
-        return Err(Fault::NoMemory);
-    };
     Ok(NodeConfig {
-        name,
+        name: database(alloc)?,
         node: 3,
         candidate: matches!(part, Part::Primary),
         primary_host: Text::of(alloc, "")?,
         halt_ttl: 1_000,
         retention: RETENTION,
     })
-}
-
-/// A disk without files, which fails at a call.
-fn blank(alloc: Global, failing: Failing, call: u64) -> Result<MemDisk, Fault>
-    ensures { IfOk result (λ disk. disk.calls ≡ []) }
-{
-    let mut numbers = Vec::new(alloc);
-    let stop = match failing {
-        Failing::At => None,
-        Failing::From => Some(call),
-    };
-    if stop.is_none() {
-        numbers.push(call)?;
-    }
-    match MemDisk::new(alloc, numbers, stop) {
-        Ok(disk) => Ok(disk),
-        Err(_) => Err(Fault::NoMemory),
-    }
 }
 
 /// The store of a disk on which nothing was called.
@@ -81,7 +48,7 @@ fn store_of(alloc: Global, disk: MemDisk) -> Result<Store<MemDisk>, Fault>
         Ok(store) => Ok(store),
         Err(why) => {
             drop(why);
-            Err(Fault::Recovery)
+            Err(Fault::Start)
         }
     }
 }

@@ -1,10 +1,10 @@
 //! A transaction of another node comes to the primary under a write permit, and replicas get permits.
 
-use crate::fault::Fault;
 use crate::levels::keep;
 use crate::nodes::{MemNode, NOW, ask, ask_once, owed_at, position};
 use crate::turns::{Pair, says, tells};
 use node_core::{Answer, Ask};
+use test_base::Fault;
 
 /// What is asked of a primary with its write permits.
 #[derive(Clone, Copy)]

@@ -1,11 +1,11 @@
 //! A reader at a replica, and a file that would change what it reads.
 
 use crate::clients::{DATABASE, SHARED_MEMORY, creates, does, locks, reads};
-use crate::fault::Fault;
 use crate::likeness::is_same;
 use crate::nodes::MemNode;
 use crate::turns::{Pair, Who, takes, tells};
 use fuse_msgs::{LockWish, Op};
+use test_base::Fault;
 
 /// The caller that reads.
 const READER: u64 = 7;

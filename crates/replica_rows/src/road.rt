@@ -2,10 +2,10 @@
 
 use crate::chance::Chance;
 use crate::cluster::Who;
-use crate::fault::Fault;
 use crate::lineage::Lineage;
 use node_core::Ask;
 use std::alloc::Global;
+use test_base::Fault;
 
 /// A file that was sent to a replica.
 #[derive(Drop)]

@@ -1,6 +1,5 @@
 //! The scenes of a primary and its replica.
 
-use crate::fault::Fault;
 use crate::nodes::{MemNode, NOWHERE, Part};
 use crate::permits::Asked;
 use crate::strange::{ALL, CUT, OTHER_SIZE, OTHER_SUM};
@@ -8,6 +7,7 @@ use crate::turns::{Pair, Said, Turn, Who, play};
 use crate::waits::{LEAVES, ROLLBACK, WAL};
 use fuse_msgs::LockWish;
 use lf_base::Pos;
+use test_base::Fault;
 
 /// Both become ones of a database that was never written.
 const PRIMARY: Turn = Turn::Begin(Who::Primary, Part::Primary);

@@ -2,7 +2,6 @@
 
 use crate::clients::{Filled, commit};
 use crate::cluster::{Cluster, Who};
-use crate::fault::Fault;
 use crate::levels::asked_by;
 use crate::lineage::PAGES;
 use crate::nodes::{ask, ask_once, is_applied, owed_at, position};
@@ -10,6 +9,7 @@ use crate::road::{Road, Sent, count};
 use lf_base::Pos;
 use node_core::{Answer, Ask};
 use std::alloc::Global;
+use test_base::Fault;
 
 const SEEDS: u64 = 12;
 

@@ -1,14 +1,14 @@
 //! A replica at transaction 9 installs a snapshot of the transactions 1 to 6, and each call that it
 //! makes of its disk for it fails in turn. Then its disk is crashed, and it is restarted.
 
-use crate::fault::Fault;
 use crate::files::{Files, files_of};
 use crate::levels::gets_level;
 use crate::likeness::is_as;
-use crate::nodes::{Failing, MemNode, NEVER, Part, ask, calls_of, renew_on, restart};
+use crate::nodes::{MemNode, Part, ask, calls_of, renew_on, restart};
 use crate::tally::{CHOICES, NONE, Tally, count_if};
 use node_core::{Answer, Refusal};
 use std::alloc::Global;
+use test_base::{Failing, Fault, NEVER};
 use txn_log::StoreFault;
 
 /// Two primaries, at transaction 9 and at transaction 6, what they sent, and a replica.

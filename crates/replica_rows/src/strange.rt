@@ -1,10 +1,6 @@
 //! Bytes that a replica is given, and that are no file for it.
 
-use crate::fault::Fault;
-use std::alloc::Global;
-
-/// Pieces of a file, and how many zeros follow each.
-pub type Pieces = &'static [(&'static [u8], usize)];
+use test_base::Pieces;
 
 /// A front of an LTX file.
 pub const CUT: Pieces = &[(b"LTX1", 6)];
@@ -44,20 +40,3 @@ pub const ALL: Pieces = &[
         0,
     ),
 ];
-
-fn append_zeros(bytes: &mut Vec<u8>, count: usize) -> Result<(), Fault> {
-    for _ in 0..count {
-        bytes.push(0)?;
-    }
-    Ok(())
-}
-
-/// The bytes.
-pub fn joined(alloc: Global, pieces: Pieces) -> Result<Vec<u8>, Fault> {
-    let mut bytes = Vec::new(alloc);
-    for (piece, zeros) in pieces {
-        bytes.extend_from_slice(piece)?;
-        append_zeros(&mut bytes, *zeros)?;
-    }
-    Ok(bytes)
-}

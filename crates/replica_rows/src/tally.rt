@@ -1,6 +1,6 @@
 //! How often each outcome came where a replica's disk failed and was crashed.
 
-use crate::fault::Fault;
+use test_base::Fault;
 
 /// What is left of each call that is pending: nothing, a part, a part and all in turns, all.
 pub const CHOICES: [u64; 4] = [0, u64::MAX / 3, 0x6666_6666_6666_6666, u64::MAX];

@@ -1,7 +1,6 @@
 //! What happens to a primary and its replica, one turn after another. Each answer is printed.
 
 use crate::clients::{FOLDER, Filled, bytes, commit, creates, does};
-use crate::fault::Fault;
 use crate::levels::{asked_by, gets_level, keep};
 use crate::likeness::is_as;
 use crate::nodes::{
@@ -9,12 +8,12 @@ use crate::nodes::{
 };
 use crate::permits::{Asked, makes, permits};
 use crate::readers::{opens, reads_around, wishes};
-use crate::strange::{Pieces, joined};
 use crate::told::told_by;
 use crate::waits::{Moment, asks_by};
 use fuse_msgs::{LockWish, Op};
 use lf_base::{Bytes, Pos};
 use node_core::{Answer, Ask, Whereabouts};
+use test_base::{Fault, Pieces, padded};
 use txn_log::LastFile;
 
 /// More files than a replica here is owed.
@@ -216,7 +215,7 @@ fn asks_at(rt: HostRuntime, node: &mut MemNode, pos: Pos) -> Result<(), Fault> {
 
 /// The replica is given bytes as a file.
 fn is_given(rt: HostRuntime, replica: &mut MemNode, pieces: Pieces) -> Result<(), Fault> {
-    let bytes = Bytes::of(joined(rt.alloc(), pieces)?);
+    let bytes = Bytes::of(padded(rt.alloc(), pieces)?);
     asks(rt, "replica", replica, Ask::Frame { now: NOW, bytes })
 }
 

@@ -1,12 +1,12 @@
 //! Readers at a replica while a file is held back, moment by moment.
 
 use crate::clients::{DATABASE, SHARED_MEMORY, creates, does};
-use crate::fault::Fault;
 use crate::nodes::{MemNode, NOW, ask, ask_once};
 use crate::told::told_by;
 use crate::turns::Pair;
 use fuse_msgs::{LockWish, Op, Request};
 use node_core::{Answer, Ask};
+use test_base::Fault;
 
 /// The reader that is inside, and one that comes.
 const INSIDE: u64 = 7;

@@ -1,9 +1,10 @@
 //! What followers at some positions are owed.
-use crate::samples::{B, ONE_PAGE, TWO_PAGES};
+use crate::samples::B;
 use crate::steps::{Step, Way};
 use crate::stores::{MemStore, made};
 use lf_base::Pos;
 use std::io;
+use test_base::{ONE_PAGE, TWO_PAGES};
 use txn_log::LastFile;
 
 /// A first commit of a page of zeros.

@@ -2,12 +2,13 @@
 ghost use Rattle.std.specs.Prelude.{◌≡◌, [], IfSome};
 
 use crate::copies::write_file;
-use crate::samples::{A, B, Sample, TWO_PAGES, encoding_of};
+use crate::samples::{A, B, Sample, encoding_of};
 use crate::stores::crashed;
 use lf_disk::{Disk, FileName, ListFault, MemDisk};
 use node_recovery::{RecoverFault, recover};
 use std::alloc::Global;
 use std::io;
+use test_base::TWO_PAGES;
 
 /// A file of the log: the numbers of its name, what it has, and how many bytes it lacks at its end.
 type Kept = (u64, u64, Sample, usize);

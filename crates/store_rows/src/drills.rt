@@ -1,9 +1,9 @@
 //! The script on disks that stop, or fail once, at each of their calls.
 use crate::script::{STAGES, STEPS};
 use crate::steps::Way;
-use crate::stores::Failing;
 use crate::trials::{Script, trial};
 use std::io;
+use test_base::Failing;
 
 /// What is left of each call that is pending: nothing, a part, a part and all in turns, all.
 const CHOICES: [u64; 4] = [0, u64::MAX / 3, 0x6666_6666_6666_6666, u64::MAX];

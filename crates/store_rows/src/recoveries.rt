@@ -6,11 +6,12 @@ use crate::copies::copied;
 use crate::drills::ENOUGH;
 use crate::script::{STAGES, STEPS};
 use crate::steps::Way;
-use crate::stores::{Failing, MemStore, blank, crashed, opened, recovered};
+use crate::stores::{MemStore, crashed, opened, recovered};
 use crate::trials::{Script, place_at, played};
 use lf_disk::MemDisk;
 use std::alloc::Global;
 use std::io;
+use test_base::{Failing, blank};
 
 const SCRIPT: Script = Script {
     way: Way::Whole,
@@ -101,7 +102,7 @@ fn count_each(alloc: Global, disk: &mut MemDisk, left: Left, counts: &mut Counts
 
 /// The same, of the disk that a stop of the script leaves.
 fn count_behind(alloc: Global, call: u64, choice: u64, counts: &mut Counts) -> Option<()> {
-    let disk = blank(alloc, Failing::From, call)?;
+    let disk = blank(alloc, Failing::From, call).ok()?;
     let (disk, done) = played(alloc, disk, &SCRIPT)?;
     let mut disk = crashed(disk, choice)?;
     count_each(alloc, &mut disk, Left { done, choice }, counts);

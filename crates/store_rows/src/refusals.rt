@@ -1,7 +1,7 @@
 //! What a store refuses: files that don't fit its pages or say another sum, and commits past a limit.
 ghost use Rattle.ltx_codec.specs.Format.{IsFile};
 
-use crate::samples::{A, B, ONE_AND_TWO, ONE_PAGE, Sample, encoding_of, file_of};
+use crate::samples::{A, B, ONE_AND_TWO, Sample, encoding_of, file_of};
 use crate::sources::take_from;
 use crate::steps::{Step, Taking, Way};
 use crate::stores::{MemStore, made};
@@ -10,6 +10,7 @@ use lf_sqlite_pages::{Change, is_page_size};
 use ltx_codec::Ltx;
 use std::alloc::Global;
 use std::io;
+use test_base::ONE_PAGE;
 use txn_log::{FromFault, StoreFault};
 
 /// What comes behind a file of one page of zeros: one that holds no page of its other size, and one that

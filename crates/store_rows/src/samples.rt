@@ -6,6 +6,7 @@ ghost use Rattle.ltx_codec.specs.Format.{IsFile};
 use lf_base::NoMemory;
 use ltx_codec::{Encoder, Header, Ltx, decode};
 use std::alloc::Global;
+use test_base::{ONE_PAGE, TWO_PAGES};
 
 /// A page that a file holds: its number, and the byte that it is full of.
 pub type Filled = (u32, u8);
@@ -22,13 +23,7 @@ pub struct Sample {
     pub post: u64,
 }
 
-/// The sum of a database without pages, of one page of zeros and of two, and of pages of 1 and 2.
-pub const NO_PAGES: u64 = 0x8000_0000_0000_0000;
-
-pub const ONE_PAGE: u64 = 0xefb1_f44f_ecd9_9000;
-
-pub const TWO_PAGES: u64 = 0x80d2_1cd0_0000_0000;
-
+/// The sum of pages of 1 and 2.
 pub const ONE_AND_TWO: u64 = 0xad2d_ffe3_3333_3333;
 
 /// One page of zeros.

@@ -1,11 +1,12 @@
 //! Scripts that are stopped at each call of their last step.
-use crate::samples::{FILLED_TO_6, ONE_AND_TWO, Sample, TWO_PAGES, ZEROS_TO_8};
+use crate::samples::{FILLED_TO_6, ONE_AND_TWO, Sample, ZEROS_TO_8};
 use crate::stages::{NEVER_WRITTEN, Stage};
 use crate::steps::{Step, Way};
-use crate::stores::{Failing, calls_of};
+use crate::stores::calls_of;
 use crate::trials::{Script, trial};
 use std::alloc::Global;
 use std::io;
+use test_base::{Failing, TWO_PAGES};
 
 #[derive(Clone, Copy)]
 struct Scene {

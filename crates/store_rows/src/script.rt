@@ -1,7 +1,8 @@
 //! A script of calls, and what a store is between them. The sums were computed by another program.
-use crate::samples::{FILLED_TO_6, NO_PAGES, ONE_AND_TWO, Sample};
+use crate::samples::{FILLED_TO_6, ONE_AND_TWO, Sample};
 use crate::stages::{NEVER_WRITTEN, Stage};
 use crate::steps::Step;
+use test_base::NO_PAGES;
 
 /// A first commit, one that grows, one that keeps the size, one that shrinks, one to no pages, one
 /// that grows again, a prune to two files, a drop, a commit on the dropped store, a file of another,

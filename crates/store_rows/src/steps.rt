@@ -1,13 +1,14 @@
 //! One call on a store.
 ghost use Rattle.ltx_codec.specs.Format.{IsFile};
 
-use crate::samples::{Filled, NO_PAGES, Sample, encoding_of, file_of};
+use crate::samples::{Filled, Sample, encoding_of, file_of};
 use crate::sources::take_from;
 use lf_base::Pos;
 use lf_disk::Disk;
 use ltx_codec::{Ltx, encode};
 use snapshot::{EncodedFile, install};
 use std::alloc::Global;
+use test_base::NO_PAGES;
 use txn_log::{FromFault, Store, StoreFault};
 
 /// A call on a store.

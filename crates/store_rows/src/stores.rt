@@ -5,39 +5,10 @@ use crate::steps::{Step, Way, run};
 use lf_disk::{Disk, MemDisk};
 use node_recovery::recover;
 use std::alloc::Global;
+use test_base::{Failing, NEVER, blank};
 use txn_log::Store;
 
 pub type MemStore = Store<MemDisk>;
-
-/// How a disk fails.
-#[derive(Clone, Copy)]
-pub enum Failing {
-    /// At the call of a number alone.
-    At,
-    /// From there on.
-    From,
-}
-
-/// The number of a call that no disk comes to.
-const NEVER: u64 = u64::MAX;
-
-/// A disk without files, which fails at a call.
-pub fn blank(alloc: Global, failing: Failing, call: u64) -> Option<MemDisk>
-    ensures { IfSome result (λ disk. disk.calls ≡ []) }
-{
-    let mut numbers = Vec::new(alloc);
-    let stop = match failing {
-        Failing::At => None,
-        Failing::From => Some(call),
-    };
-    if stop.is_none() && numbers.push(call).is_err() {
-        return None;
-    }
-    match MemDisk::new(alloc, numbers, stop) {
-        Ok(disk) => Some(disk),
-        Err(_) => None,
-    }
-}
 
 /// The store of a disk on which nothing was called, or the disk where it is not recovered.
 pub fn opened(alloc: Global, disk: MemDisk) -> Result<MemStore, MemDisk>
@@ -72,7 +43,7 @@ pub fn stopped(
     steps: &[Step],
     count: usize,
 ) -> Option<MemStore> {
-    let mut store = opened(alloc, blank(alloc, Failing::From, call)?).ok()?;
+    let mut store = opened(alloc, blank(alloc, Failing::From, call).ok()?).ok()?;
     let (done, _) = run(alloc, &mut store, way, steps);
     if done == count {
         return Some(store);

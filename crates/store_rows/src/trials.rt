@@ -3,9 +3,10 @@ ghost use Rattle.std.specs.Prelude.{◌≡◌, []};
 
 use crate::stages::{Stage, place_of};
 use crate::steps::{Step, Way, Went, prunes, run};
-use crate::stores::{Failing, MemStore, blank, opened, recovered};
+use crate::stores::{MemStore, opened, recovered};
 use lf_disk::MemDisk;
 use std::alloc::Global;
+use test_base::{Failing, blank};
 
 /// Calls on a store, and what it is before each of them and after the last.
 #[derive(Clone, Copy)]
@@ -70,7 +71,7 @@ pub fn trial(
     call: u64,
     choice: u64,
 ) -> Option<(usize, &'static str)> {
-    let (disk, done) = played(alloc, blank(alloc, failing, call)?, script)?;
+    let (disk, done) = played(alloc, blank(alloc, failing, call).ok()?, script)?;
     match recovered(alloc, disk, choice) {
         Some(mut store) => {
             let place = place_at(&mut store, script, done);

@@ -1,7 +1,6 @@
 //! Replicas that lack what their primary has: each gets it by one stream, from where it stands on.
 
 use crate::clients::commit;
-use crate::fault::Fault;
 use crate::lines::ends;
 use crate::links::catches_up;
 use crate::nodes::Part;
@@ -9,6 +8,7 @@ use crate::stage::{Stage, renew};
 use crate::wishes::{Filled, Wish};
 use std::io::Print;
 use std::sync::Wait;
+use test_base::Fault;
 
 /// A turn of the scene.
 #[derive(Clone, Copy)]

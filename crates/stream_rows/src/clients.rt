@@ -1,12 +1,12 @@
 //! Clients of a node: what they ask of its files.
 
-use crate::fault::Fault;
 use crate::stage::Stage;
 use crate::wishes::{Filled, NO_READ1, READ1, SHARED, Wish};
 use fuse_msgs::Reply;
 use lf_base::Bytes;
 use node_core::Answer;
 use std::sync::Wait;
+use test_base::Fault;
 
 /// A session locks the database file and begins a journal, before it writes pages.
 const BEGINS: &[Wish] = &[

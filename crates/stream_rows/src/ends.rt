@@ -1,23 +1,9 @@
 //! How often each end came.
 
-use crate::fault::Fault;
-use lf_base::SessionEnd;
 use replica_apply::FollowEnd;
 use std::alloc::Global;
 use std::io::Print;
-
-/// How a session ends.
-pub fn session_word(end: SessionEnd) -> &'static str {
-    match end {
-        SessionEnd::Closed => "Closed",
-        SessionEnd::ReadFault => "ReadFault",
-        SessionEnd::WriteFault => "WriteFault",
-        SessionEnd::BadMessage => "BadMessage",
-        SessionEnd::Turns => "Turns",
-        SessionEnd::Worn => "Worn",
-        SessionEnd::NoMemory => "NoMemory",
-    }
-}
+use test_base::Fault;
 
 /// How a follower ends.
 pub fn follow_word(end: FollowEnd) -> &'static str {

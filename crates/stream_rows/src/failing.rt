@@ -1,16 +1,15 @@
 //! The worked stream is served and followed, and each call of a link or of a disk fails in turn.
 
 use crate::clients::commit;
-use crate::ends::{Ends, follow_word, session_word};
-use crate::fault::Fault;
-use crate::lines::shows;
-use crate::links::{link_on, serves, taken};
-use crate::nodes::{NEVER, Part};
+use crate::ends::{Ends, follow_word};
+use crate::links::{ROOM, serves, taken};
+use crate::nodes::Part;
 use crate::stage::{Stage, position, renew_on, take_disk};
 use crate::worked::{REQUEST, reply};
 use lf_base::MemLink;
 use std::io::Print;
 use std::sync::Wait;
+use test_base::{Fault, NEVER, end_name, link_failing, print_shown};
 
 /// What fails.
 #[derive(Clone, Copy)]
@@ -90,7 +89,7 @@ fn goes<R: Wait + Copy>(
     link: &mut MemLink,
 ) -> Result<&'static str, Fault> {
     match object {
-        Object::PrimaryLink | Object::PrimaryDisk => Ok(session_word(stage.serve(rt, link)?)),
+        Object::PrimaryLink | Object::PrimaryDisk => Ok(end_name(stage.serve(rt, link)?)),
         Object::ReplicaLink | Object::ReplicaDisk => Ok(follow_word(stage.follow(rt, link)?)),
     }
 }
@@ -113,7 +112,7 @@ fn run_session<R: Wait + Copy>(
 ) -> Result<Session, Fault> {
     let (link, disk) = calls_of(object, call);
     prepare(rt, stage, object, disk)?;
-    let mut link = link_on(stage.alloc, input, link)?;
+    let mut link = link_failing(stage.alloc, input, ROOM, link)?;
     let word = goes(rt, stage, object, &mut link)?;
     session_of(rt, stage, &link, word)
 }
@@ -201,7 +200,7 @@ fn print_broken<R: Wait + Print + Copy>(rt: R, primary: &mut Stage) -> Result<()
     commit(rt, primary, &[(1, 1)])?;
     let (written, end) = serves(rt, primary, REQUEST)?;
     println!(&rt; "  a broken primary: {end:?}")?;
-    shows(&rt, "it refuses", written.as_slice() == BROKEN)
+    print_shown(&rt, "it refuses", written.as_slice() == BROKEN)
 }
 
 pub fn play<R: Wait + Print + Copy>(

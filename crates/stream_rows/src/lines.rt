@@ -1,20 +1,8 @@
 //! What is printed.
 
-use crate::fault::Fault;
 use crate::links::Followed;
 use std::io::Print;
-
-/// One line.
-pub fn line(rt: &impl Print, text: &str) -> Result<(), Fault> {
-    println!(rt; "{text}")?;
-    Ok(())
-}
-
-/// Whether something is so.
-pub fn shows(rt: &impl Print, what: &str, so: bool) -> Result<(), Fault> {
-    println!(rt; "  {what}: {so}")?;
-    Ok(())
-}
+use test_base::Fault;
 
 /// How a replica ends, and where it stands.
 pub fn ends(rt: &impl Print, followed: Followed) -> Result<(), Fault> {

@@ -1,15 +1,13 @@
 //! What is written on links in memory.
 
-use crate::fault::Fault;
-use crate::nodes::NEVER;
 use crate::stage::{Stage, position};
 use lf_base::{MemLink, Pos, SessionEnd};
 use replica_apply::FollowEnd;
-use std::alloc::Global;
 use std::sync::Wait;
+use test_base::{Fault, link_of};
 
 /// How many bytes a link takes.
-const ROOM: usize = 4_096;
+pub const ROOM: usize = 4_096;
 
 /// How a replica ends that was given so many bytes, and where it stands then.
 #[derive(Clone, Copy)]
@@ -17,18 +15,6 @@ pub struct Followed {
     pub given: usize,
     pub end: FollowEnd,
     pub at: Pos,
-}
-
-fn link_of(alloc: Global, input: &[u8]) -> Result<MemLink, Fault> {
-    link_on(alloc, input, NEVER)
-}
-
-/// A link of which this call fails.
-pub fn link_on(alloc: Global, input: &[u8], failing: u64) -> Result<MemLink, Fault> {
-    let input = Vec::from_slice(alloc, input)?;
-    let mut numbers = Vec::new(alloc);
-    numbers.push(failing)?;
-    Ok(MemLink::new(alloc, input, ROOM, numbers)?)
 }
 
 /// The bytes that a link took.
@@ -42,14 +28,14 @@ pub fn serves<R: Wait + Copy>(
     primary: &mut Stage,
     request: &[u8],
 ) -> Result<(Vec<u8>, SessionEnd), Fault> {
-    let mut link = link_of(primary.alloc, request)?;
+    let mut link = link_of(primary.alloc, request, ROOM)?;
     let end = primary.serve(rt, &mut link)?;
     Ok((taken(&link)?, end))
 }
 
 /// The request that a replica writes where it stands.
 fn request_by<R: Wait + Copy>(rt: R, replica: &mut Stage) -> Result<Vec<u8>, Fault> {
-    let mut link = link_of(replica.alloc, &[])?;
+    let mut link = link_of(replica.alloc, &[], ROOM)?;
     replica.follow(rt, &mut link)?;
     taken(&link)
 }
@@ -67,7 +53,7 @@ pub fn reply_to<R: Wait + Copy>(
 
 /// How a replica ends that is given a reply.
 fn ends_by<R: Wait + Copy>(rt: R, replica: &mut Stage, reply: &[u8]) -> Result<FollowEnd, Fault> {
-    let mut link = link_of(replica.alloc, reply)?;
+    let mut link = link_of(replica.alloc, reply, ROOM)?;
     replica.follow(rt, &mut link)
 }
 

@@ -6,8 +6,6 @@ mod behind;
 mod clients;
 mod ends;
 mod failing;
-mod fault;
-mod figures;
 mod lines;
 mod links;
 mod nodes;
@@ -18,12 +16,11 @@ mod stage;
 mod wishes;
 mod worked;
 
-use fault::Fault;
-use lines::line;
 use nodes::Part;
 use stage::{Stage, renew_both};
 use std::io::Print;
 use std::sync::Wait;
+use test_base::{Fault, print_line};
 
 /// A scene. Each begins with nodes of databases that were never written.
 #[derive(Clone, Copy)]
@@ -74,7 +71,7 @@ fn play<R: Wait + Print + Copy>(
     replica: &mut Stage,
 ) -> Result<(), Fault> {
     for (scene, title) in SCENES {
-        line(&rt, title)?;
+        print_line(&rt, title)?;
         renew_both(primary, replica)?;
         play_scene(rt, *scene, primary, replica)?;
     }

@@ -1,17 +1,14 @@
 //! Nodes over disks in memory.
 
-use crate::fault::Fault;
-use lf_base::{Name, Text};
+use lf_base::Text;
 use lf_disk::{Disk, MemDisk};
 use node_core::{Node, NodeConfig};
 use node_recovery::recover;
 use std::alloc::Global;
+use test_base::{Failing, Fault, blank, database};
 use txn_log::Store;
 
 pub type MemNode = Node<MemDisk>;
-
-/// A number that no call has.
-pub const NEVER: u64 = u64::MAX;
 
 /// What a node is in its cluster.
 #[derive(Clone, Copy)]
@@ -20,18 +17,10 @@ pub enum Part {
     Replica,
 }
 
-/// The name of the database.
-pub fn name(alloc: Global) -> Result<Name, Fault> {
-    match Name::read(alloc, b"app") {
-        Ok(name) => Ok(name),
-        Err(_) => Err(Fault::NoMemory),
-    }
-}
-
 /// The nodes here have number 0.
 fn config(alloc: Global, part: Part) -> Result<NodeConfig, Fault> {
     Ok(NodeConfig {
-        name: name(alloc)?,
+        name: database(alloc)?,
         node: 0,
         candidate: matches!(part, Part::Primary),
         primary_host: Text::of(alloc, "")?,
@@ -42,12 +31,10 @@ fn config(alloc: Global, part: Part) -> Result<NodeConfig, Fault> {
 
 /// The store of a disk without files, of which this call fails.
 fn blank_store(alloc: Global, failing: u64) -> Result<Store<MemDisk>, Fault> {
-    let mut numbers = Vec::new(alloc);
-    numbers.push(failing)?;
-    let disk = MemDisk::new(alloc, numbers, None).unwrap();
+    let disk = blank(alloc, Failing::At, failing)?;
     match recover(alloc, disk) {
         Ok(store) => Ok(store),
-        Err(_) => Err(Fault::Recovery),
+        Err(_) => Err(Fault::Start),
     }
 }
 

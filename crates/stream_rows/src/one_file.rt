@@ -1,9 +1,8 @@
 //! A primary with one file, and a replica that has nothing. The stream is cut at each byte.
 
 use crate::clients::commit;
-use crate::ends::{Ends, session_word};
-use crate::fault::Fault;
-use crate::lines::{ends, shows};
+use crate::ends::Ends;
+use crate::lines::ends;
 use crate::links::{Followed, follows, serves};
 use crate::nodes::Part;
 use crate::stage::{Stage, position, renew};
@@ -12,6 +11,7 @@ use replica_apply::FollowEnd;
 use std::alloc::Global;
 use std::io::Print;
 use std::sync::Wait;
+use test_base::{Fault, end_name, print_shown};
 
 /// How a replica that has nothing follows these bytes.
 fn given<R: Wait + Copy>(rt: R, replica: &mut Stage, bytes: &[u8]) -> Result<Followed, Fault> {
@@ -83,7 +83,7 @@ fn print_ended<R: Wait + Print + Copy>(
 /// Whether the stream is the worked one.
 fn print_worked(rt: &impl Print, alloc: Global, stream: &[u8]) -> Result<(), Fault> {
     let wanted = reply(alloc)?;
-    shows(rt, "the worked bytes", stream == wanted.as_slice())
+    print_shown(rt, "the worked bytes", stream == wanted.as_slice())
 }
 
 /// The stream is the worked one, whole and cut.
@@ -103,7 +103,7 @@ fn print_requests<R: Wait + Print + Copy>(rt: R, primary: &mut Stage) -> Result<
     for count in 0..=REQUEST.len() {
         let front = REQUEST.get(..count).unwrap_or(&[]);
         let (_, end) = serves(rt, primary, front)?;
-        ends.count(session_word(end))?;
+        ends.count(end_name(end))?;
     }
     println!(&rt; "  the fronts of the request")?;
     ends.print(&rt)?;

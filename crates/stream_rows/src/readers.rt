@@ -1,12 +1,12 @@
 //! A reader at a replica holds a stream back.
 
 use crate::clients::{ENTERS, LEAVES, commit, reads};
-use crate::fault::Fault;
-use crate::lines::{ends, shows};
+use crate::lines::ends;
 use crate::links::{catches_up, follows, reply_to};
 use crate::stage::Stage;
 use std::io::Print;
 use std::sync::Wait;
+use test_base::{Fault, print_shown};
 
 /// The replica follows a stream between two reads.
 fn follows_between<R: Wait + Print + Copy>(
@@ -17,7 +17,7 @@ fn follows_between<R: Wait + Print + Copy>(
     let before = reads(rt, replica)?;
     ends(&rt, follows(rt, replica, reply)?)?;
     let after = reads(rt, replica)?;
-    shows(
+    print_shown(
         &rt,
         "the reader reads the same",
         before.as_slice() == after.as_slice(),

@@ -1,14 +1,14 @@
 //! Two sessions and a follower at one desk.
 
 use crate::clients::{COMMITS, bytes_of, commit, reads};
-use crate::fault::Fault;
-use crate::lines::{ends, shows};
+use crate::lines::ends;
 use crate::links::catches_up;
 use crate::stage::Stage;
 use crate::wishes::Wish;
 use lf_base::Bytes;
 use std::io::Print;
 use std::sync::Wait;
+use test_base::{Fault, print_shown};
 
 /// The page that the first session commits.
 const COMMITTED: &[u8] = &[7; 512];
@@ -38,13 +38,13 @@ pub fn play<R: Wait + Print + Copy>(
 ) -> Result<(), Fault> {
     commit(rt, primary, &[(1, 1)])?;
     let read = reads_after(rt, primary)?;
-    shows(
+    print_shown(
         &rt,
         "the second session reads what was committed",
         read.as_slice() == COMMITTED,
     )?;
     let there = follower_reads(rt, primary, replica)?;
-    shows(
+    print_shown(
         &rt,
         "the follower reads the same",
         read.as_slice() == there.as_slice(),

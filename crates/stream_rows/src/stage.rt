@@ -1,20 +1,18 @@
 //! A node at its desk, with a seat of which others are split.
-ghost use Rattle.std.specs.Prelude.{IfOk};
 ghost use Rattle.turn_desk.specs.Seats.{IsOf};
 
-use crate::fault::Fault;
-use crate::figures::NoFigures;
-use crate::nodes::{MemNode, NEVER, Part, name, new_node};
+use crate::nodes::{MemNode, Part, new_node};
 use crate::wishes::{NOW, Wish, ask_of};
-use lf_base::{FixedClock, Link, Name, NoPause, Pos, SessionEnd};
+use lf_base::{FixedClock, Link, NoMemory, Pos, SessionEnd};
 use lf_disk::{Disk, MemDisk};
-use link_session::{AtSeat, Session, Turns};
+use link_session::AtSeat;
 use node_core::{Answer, Node};
-use replica_apply::{FollowEnd, follow};
+use replica_apply::FollowEnd;
 use std::alloc::Global;
 use std::mem;
 use std::sync::Wait;
-use stream_primary::{About, serve_http};
+use test_base::{Fault, NEVER};
+use test_nodes::{desk_of, follow_stream, serve_request};
 use turn_desk::{Desk, Machine, Seat};
 
 /// How many turns a session has.
@@ -25,7 +23,6 @@ pub struct Stage {
     pub alloc: Global,
     desk: Desk<MemNode>,
     seat: Seat<MemNode>,
-    name: Name,
     ghost of: { IsOf seat desk },
 }
 
@@ -37,15 +34,9 @@ impl Stage {
 
     /// The same, where this call of the node's disk fails.
     pub fn on(alloc: Global, part: Part, failing: u64) -> Result<Stage, Fault> {
-        let name = name(alloc)?;
         let node = new_node(alloc, part, failing)?;
         let (desk, seat) = desk_of(alloc, node)?;
-        Ok(Stage {
-            alloc,
-            desk,
-            seat,
-            name,
-        })
+        Ok(Stage { alloc, desk, seat })
     }
 
     /// One step of the node.
@@ -67,7 +58,7 @@ impl Stage {
         let Ok(mut seat) = self.desk.split(rt, &mut self.seat) else {
             return Err(Fault::Worn);
         };
-        Ok(serve_by(rt, self.alloc, &self.desk, &mut seat, &self.name, link))
+        Ok(serve_by(rt, self.alloc, &self.desk, &mut seat, link)?)
     }
 
     /// Follows the stream of a link, by a seat of its own.
@@ -79,18 +70,12 @@ impl Stage {
         let Ok(mut seat) = self.desk.split(rt, &mut self.seat) else {
             return Err(Fault::Worn);
         };
-        Ok(follow_by(rt, self.alloc, &self.desk, &mut seat, &self.name, link))
+        Ok(follow_by(rt, self.alloc, &self.desk, &mut seat, link)?)
     }
 
     /// The disk of the node, after its last step.
     fn close<R: Wait + Copy>(self, rt: R) -> MemDisk {
-        let Stage {
-            desk,
-            seat,
-            name,
-            ..
-        } = self;
-        drop(name);
+        let Stage { desk, seat, .. } = self;
         desk.close(rt, seat).into_store().disk
     }
 
@@ -117,19 +102,6 @@ impl Stage {
 pub fn take_disk<R: Wait + Copy>(rt: R, stage: &mut Stage) -> Result<MemDisk, Fault> {
     let spare = Stage::new(stage.alloc, Part::Replica)?;
     Ok(mem::replace(stage, spare).close(rt))
-}
-
-/// The desk of a machine, and its first seat.
-fn desk_of<M: Machine + Drop>(alloc: Global, machine: M) -> Result<(Desk<M>, Seat<M>), Fault>
-where
-    M::Ask: Drop,
-    M::Answer: Drop,
-    ensures { IfOk result (λ made. IsOf made.1 made.0) }
-{
-    match Desk::open(alloc, machine) {
-        Ok(made) => Ok(made),
-        Err(_) => Err(Fault::NoMemory),
-    }
 }
 
 /// The node becomes one of a database that was never written, on a disk of which this call fails.
@@ -163,31 +135,16 @@ fn serve_by<R: Wait + Copy, D: Disk, L: Link>(
     alloc: Global,
     desk: &Desk<Node<D>>,
     seat: &mut Seat<Node<D>>,
-    name: &Name,
     link: &mut L,
-) -> SessionEnd
+) -> Result<SessionEnd, NoMemory>
     requires { IsOf seat.old desk.now }
 {
-    let Ok(name) = name.copy() else {
-        return SessionEnd::NoMemory;
-    };
-    let about = About {
-        name,
-        gauge: NoFigures,
-    };
-    let mut session = Session {
-        alloc,
-        link,
-        clock: &mut FixedClock::new(NOW),
-        pause: &mut NoPause::new(),
-        turns: Turns::new(TURNS),
-    };
     let mut at = AtSeat {
         rt: &rt,
         desk,
         seat,
     };
-    serve_http(&mut session, &mut at, &about)
+    serve_request(&mut at, alloc, link, &mut FixedClock::new(NOW), TURNS)
 }
 
 fn follow_by<R: Wait + Copy, D: Disk, L: Link>(
@@ -195,24 +152,23 @@ fn follow_by<R: Wait + Copy, D: Disk, L: Link>(
     alloc: Global,
     desk: &Desk<Node<D>>,
     seat: &mut Seat<Node<D>>,
-    name: &Name,
     link: &mut L,
-) -> FollowEnd
+) -> Result<FollowEnd, NoMemory>
     requires { IsOf seat.old desk.now }
 {
-    let mut session = Session {
-        alloc,
-        link,
-        clock: &mut FixedClock::new(NOW),
-        pause: &mut NoPause::new(),
-        turns: Turns::new(TURNS),
-    };
     let mut at = AtSeat {
         rt: &rt,
         desk,
         seat,
     };
-    follow(&mut session, &mut at, name, false)
+    follow_stream(
+        &mut at,
+        alloc,
+        link,
+        &mut FixedClock::new(NOW),
+        TURNS,
+        false,
+    )
 }
 
 /// One step of a machine.

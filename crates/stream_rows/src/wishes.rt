@@ -1,10 +1,10 @@
 //! What is asked of a node. Each page that is written is full of one byte.
 
-use crate::fault::Fault;
 use fuse_msgs::{LockWish, Op, Request};
 use lf_base::Bytes;
 use node_core::Ask;
 use std::alloc::Global;
+use test_base::Fault;
 
 /// The moment at which everything is asked.
 pub const NOW: u64 = 0;

@@ -1,7 +1,7 @@
 //! The stream of one file, byte by byte.
 
-use crate::fault::Fault;
 use std::alloc::Global;
+use test_base::{Fault, Pieces, padded};
 
 /// A request for the stream from the beginning on.
 pub const REQUEST: &[u8] =
@@ -24,15 +24,8 @@ const READY: &[u8] =
 /// The frame by which a primary ends a stream.
 pub const END: &[u8] = b"\0\0\0\x03\0\0\0\0\0\0\0\0\0\0\0\0";
 
-fn append_zeros(bytes: &mut Vec<u8>, count: usize) -> Result<(), Fault> {
-    for _ in 0..count {
-        bytes.push(0)?;
-    }
-    Ok(())
-}
-
 /// The reply: its head, the file, and that the follower is level. Each piece, and how many zeros follow it.
-const REPLY: &[(&[u8], usize)] = &[
+const REPLY: Pieces = &[
     (HEAD, 0),
     (FRONT, 0),
     (FIRST, 71),
@@ -43,10 +36,5 @@ const REPLY: &[(&[u8], usize)] = &[
 
 /// The bytes of the reply.
 pub fn reply(alloc: Global) -> Result<Vec<u8>, Fault> {
-    let mut bytes = Vec::new(alloc);
-    for (piece, zeros) in REPLY {
-        bytes.extend_from_slice(piece)?;
-        append_zeros(&mut bytes, *zeros)?;
-    }
-    Ok(bytes)
+    Ok(padded(alloc, REPLY)?)
 }

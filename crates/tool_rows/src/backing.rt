@@ -3,20 +3,19 @@ ghost use Rattle.std.specs.Prelude.{All, IfOk};
 ghost use Rattle.node_mount.specs.MemMaker.{IsNewDisk, IsNewPhone};
 
 use crate::backups::{BACKUPS, BackupRow, Last, Stream};
-use crate::fault::Fault;
-use crate::lines::print_output;
-use crate::making::{dialers, link_of, one};
-use crate::playing::{ends, print_watched};
-use crate::running::{MemHost, host_with};
-use lf_base::{Bytes, FixedClock, Handles, MemDialer, Name, Pos, SliceSource, VecSink, Watch};
-use lf_disk::{Disk, FileName, MemDisk};
-use node_mount::{Maker, MemMaker, MemParts};
+use crate::making::{asking_maker, dialers, watched_link, write_file};
+use crate::playing::{print_watched, run_named};
+use crate::running::host_with;
+use lf_base::{Bytes, Handles, MemDialer, Name, Pos, SliceSource, VecSink, Watch};
+use lf_disk::MemDisk;
+use node_mount::{Maker, MemMaker};
 use std::alloc::Global;
 use std::fs;
 use std::io::Print;
 use std::process::Processes;
 use std::rt::Files;
 use stream_wire::{Frame, encode_frame};
+use test_base::{Fault, NEVER, one};
 
 /// A name, which is one.
 fn name_of(alloc: Global, name: &str) -> Result<Name, Fault> {
@@ -59,18 +58,6 @@ fn reply_of<R: Files + AllocGlobal>(rt: &R, stream: &Stream) -> Result<Vec<u8>, 
     }
     put_last(alloc, stream, &mut out)?;
     Ok(out)
-}
-
-/// Writes a file of one transaction on a disk.
-fn write_file(disk: &mut MemDisk, txid: u64, file: &[u8]) -> Result<(), Fault> {
-    let name = FileName::Ltx {
-        min: txid,
-        max: txid,
-    };
-    if disk.write(name, 0, file).is_err() || disk.sync(name).is_err() {
-        return Err(Fault::Row);
-    }
-    Ok(())
 }
 
 /// A disk with these files, as it is found after a stop.
@@ -141,11 +128,11 @@ fn dialer_of<R: Files + AllocGlobal>(
     let alloc = rt.alloc();
     let (mut links, mut watches) = (Vec::new(alloc), Vec::new(alloc));
     if let Some(stream) = &row.reply {
-        let (link, watch) = link_of(alloc, &reply_of(rt, stream)?, 4_096)?;
+        let (link, watch) = watched_link(alloc, &reply_of(rt, stream)?, 4_096, NEVER)?;
         links.push(link)?;
         watches.push(watch)?;
     }
-    Ok((dialers(alloc, links)?, watches))
+    Ok((dialers(alloc, links, NEVER)?, watches))
 }
 
 /// What a row's command is made of.
@@ -155,31 +142,7 @@ fn maker_of<R: Files + AllocGlobal>(
 ) -> Result<(MemMaker, Vec<Watch>), Fault> {
     let alloc = rt.alloc();
     let (dialers, watches) = dialer_of(rt, row)?;
-    let parts = MemParts {
-        disks: disks_of(rt, row)?,
-        files: Vec::new(alloc),
-        http: Vec::new(alloc),
-        dialers,
-        spawners: Vec::new(alloc),
-        clock: FixedClock::new(0),
-        node: 1,
-        places: 8,
-        failing: Vec::new(alloc),
-    };
-    let make = MemMaker::new(alloc, parts)?;
-    Ok((make, watches))
-}
-
-/// Runs a row, and prints how it ends and what it wrote.
-fn run_backup<R: Handles + Processes + Print + Copy + Send + 'static, M: Maker>(
-    rt: R,
-    alloc: Global,
-    row: &BackupRow,
-    host: &mut MemHost<'_, M>,
-) -> Result<(), Fault> {
-    print!(&rt; "{}, {}", row.line, row.name)?;
-    ends(rt, alloc, row.line, host)?;
-    print_output(&rt, alloc, host.output.taken())
+    Ok((asking_maker(alloc, disks_of(rt, row)?, dialers)?, watches))
 }
 
 /// A row over its output.
@@ -192,7 +155,7 @@ fn play_over<R: Handles + Processes + Print + Copy + Send + 'static, M: Maker + 
     let input = SliceSource::new(b"left alone", Vec::new(alloc)).unwrap();
     let output = VecSink::new(alloc, row.output, Vec::new(alloc))?;
     let mut host = host_with(alloc, input, output, make)?;
-    run_backup(rt, alloc, row, &mut host)
+    run_named(rt, alloc, row.line, row.name, &mut host)
 }
 
 /// The runs of `backup` and `restore`.

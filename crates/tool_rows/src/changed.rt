@@ -1,6 +1,5 @@
 //! LTX files of which one byte was changed are applied.
 
-use crate::fault::Fault;
 use crate::making::empty_maker;
 use crate::playing::ends;
 use crate::running::host_over;
@@ -11,6 +10,7 @@ use std::fs;
 use std::io::Print;
 use std::process::Processes;
 use std::rt::Files;
+use test_base::Fault;
 
 /// A file, and the place and the value of the byte that was changed.
 type Changed = (&'static str, usize, u8);

@@ -3,12 +3,12 @@
 ghost use Rattle.std.specs.Prelude.{◌≡◌};
 ghost use Rattle.cluster_drill.specs.Nodes.{place};
 
-use crate::fault::Fault;
 use crate::lines::text_of;
 use cluster_drill::{Drill, Follower, MemNode};
 use node_core::{Answer, Ask};
 use std::alloc::Global;
 use std::io::Print;
+use test_base::Fault;
 use turn_desk::Machine;
 
 const NUMBERS: [u64; 11] = [0, 1, 2, 3, 4, 5, 6, 7, 8, 9, u64::MAX];

@@ -1,8 +1,6 @@
 //! Each call of each object of a run fails in turn, up to the first run of which none fails.
 
 use crate::asks::{EXPORT, IMPORT, IMPORTED, PAGES};
-use crate::fault::Fault;
-use crate::making::one;
 use crate::nodes::{CONFIG, ROOM};
 use crate::objects::{Calls, NONE, Object, asker_on, node_on};
 use crate::running::{host_failing, run_line};
@@ -13,6 +11,7 @@ use std::fs;
 use std::io::Print;
 use std::process::Processes;
 use std::rt::Files;
+use test_base::{Fault, one};
 
 /// What runs.
 #[derive(Clone, Copy)]

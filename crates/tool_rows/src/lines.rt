@@ -1,10 +1,10 @@
 //! What is printed of a run.
 
 use crate::commands::{ALL, CommandRow};
-use crate::fault::Fault;
 use lf_base::Status;
 use std::alloc::Global;
 use std::io::Print;
+use test_base::Fault;
 
 /// The command line of a row and its input.
 pub fn print_line(rt: &impl Print, row: &CommandRow) -> Result<(), Fault> {

@@ -9,7 +9,6 @@ mod changed;
 mod commands;
 mod drills;
 mod failing;
-mod fault;
 mod leases;
 mod lines;
 mod making;
@@ -21,8 +20,8 @@ mod running;
 mod runs;
 mod starting;
 
-use fault::Fault;
 use std::net::{TcpListener, TcpStream};
+use test_base::Fault;
 
 fn main(rt: HostRuntime) -> Result<(), Fault> {
     let _named: Option<(TcpListener, TcpStream)> = None;

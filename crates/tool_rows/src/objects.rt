@@ -1,15 +1,14 @@
 //! What a run is made of whose objects fail at stated calls.
-ghost use Rattle.std.specs.Prelude.{◌≡◌, ◌∷◌, [], All, IfOk};
-ghost use Rattle.lf_base.specs.Doors.{IsUnused};
-ghost use Rattle.node_mount.specs.MemMaker.{IsNewDisk, IsNewDoor, IsNewPhone, IsNewSpawner};
+ghost use Rattle.std.specs.Prelude.{All, IfOk};
+ghost use Rattle.node_mount.specs.MemMaker.{IsNewDisk};
 
-use crate::fault::Fault;
-use crate::making::{ASKED, disk_with, one};
+use crate::making::{ASKED, dialing_maker, disk_with, door, node_maker, spawners, watched_link};
 use crate::nodes::{REQUEST, ROOM};
-use lf_base::{CallSpawner, FixedClock, ListAcceptor, MemDialer, MemLink, Watch};
+use lf_base::Watch;
 use lf_disk::MemDisk;
-use node_mount::{MemMaker, MemParts, MemSpawn};
+use node_mount::MemMaker;
 use std::alloc::Global;
+use test_base::{Fault, NEVER, one};
 
 /// What fails.
 #[derive(Clone, Copy)]
@@ -44,9 +43,6 @@ pub struct Calls {
     pub http_link: u64,
     pub spawner: u64,
 }
-
-/// No call has this number.
-const NEVER: u64 = u64::MAX;
 
 /// No call fails.
 pub const NONE: Calls = Calls {
@@ -86,56 +82,11 @@ impl Object {
     }
 }
 
-/// A link that gives these bytes, of which a call fails, and what shows what is written on it.
-fn link_on(alloc: Global, input: &[u8], failing: u64) -> Result<(MemLink, Watch), Fault>
-    ensures { IfOk result (λ made. IsUnused made.0) }
-{
-    let input = Vec::from_slice(alloc, input)?;
-    let link = MemLink::new(alloc, input, ROOM, one(alloc, failing)?)?;
-    let watch = link.watch();
-    Ok((link, watch))
-}
-
-/// A list of one dialer of this link.
-fn dialers_on(alloc: Global, link: MemLink, failing: u64) -> Result<Vec<MemDialer>, Fault>
-    requires { IsUnused link }
-    ensures { IfOk result (λ made. All IsNewPhone made.items) }
-{
-    let dialer = MemDialer::new(alloc, one(alloc, link)?, 4, one(alloc, failing)?)?;
-    Ok(one(alloc, dialer)?)
-}
-
 /// A maker of a dialer whose link gives a reply, and what shows what the link took.
 pub fn asker_on(alloc: Global, reply: &[u8], calls: Calls) -> Result<(MemMaker, Watch), Fault> {
-    let (link, watch) = link_on(alloc, reply, calls.link)?;
-    let dialers = dialers_on(alloc, link, calls.dialer)?;
-    let parts = MemParts {
-        disks: Vec::new(alloc),
-        files: Vec::new(alloc),
-        http: Vec::new(alloc),
-        dialers,
-        spawners: Vec::new(alloc),
-        clock: FixedClock::new(0),
-        node: 1,
-        places: 8,
-        failing: Vec::new(alloc),
-    };
-    let make = MemMaker::new(alloc, parts)?;
+    let (link, watch) = watched_link(alloc, reply, ROOM, calls.link)?;
+    let make = dialing_maker(alloc, one(alloc, link)?, calls.dialer)?;
     Ok((make, watch))
-}
-
-/// An acceptor of one link, and what shows what is written on that.
-fn door_on(
-    alloc: Global,
-    input: &[u8],
-    accept: u64,
-    call: u64,
-) -> Result<(Vec<ListAcceptor>, Watch), Fault>
-    ensures { IfOk result (λ made. All IsNewDoor made.0.items) }
-{
-    let (link, watch) = link_on(alloc, input, call)?;
-    let acceptor = ListAcceptor::new(one(alloc, link)?, one(alloc, accept)?).unwrap();
-    Ok((one(alloc, acceptor)?, watch))
 }
 
 /// A list of a disk with a file that stops at a call.
@@ -147,14 +98,6 @@ fn disks_on(alloc: Global, file: &[u8], stop: u64) -> Result<Vec<MemDisk>, Fault
     Ok(one(alloc, disk)?)
 }
 
-/// A list of a spawner that runs each job in place, but for one.
-fn spawners_on(alloc: Global, failing: u64) -> Result<Vec<MemSpawn>, Fault>
-    ensures { IfOk result (λ made. All IsNewSpawner made.items) }
-{
-    let spawner = CallSpawner::new(one(alloc, failing)?).unwrap();
-    Ok(one(alloc, MemSpawn::Call(spawner))?)
-}
-
 /// What a node is made of, and what shows what its two links took.
 pub fn node_on(
     alloc: Global,
@@ -162,20 +105,11 @@ pub fn node_on(
     calls: Calls,
 ) -> Result<(MemMaker, Watch, Watch), Fault> {
     let disks = disks_on(alloc, file, calls.disk)?;
-    let (files, file_link) = door_on(alloc, ASKED, calls.file_acceptor, calls.file_link)?;
-    let (http, http_link) = door_on(alloc, REQUEST, calls.http_acceptor, calls.http_link)?;
-    let spawners = spawners_on(alloc, calls.spawner)?;
-    let parts = MemParts {
-        disks,
-        files,
-        http,
-        dialers: Vec::new(alloc),
-        spawners,
-        clock: FixedClock::new(7),
-        node: 9,
-        places: 8,
-        failing: one(alloc, calls.maker)?,
-    };
-    let make = MemMaker::new(alloc, parts)?;
+    let (accept, link) = (calls.file_acceptor, calls.file_link);
+    let (files, file_link) = door(alloc, ASKED, ROOM, accept, link)?;
+    let (accept, link) = (calls.http_acceptor, calls.http_link);
+    let (http, http_link) = door(alloc, REQUEST, ROOM, accept, link)?;
+    let spawners = spawners(alloc, calls.spawner)?;
+    let make = node_maker(alloc, disks, files, http, spawners, calls.maker)?;
     Ok((make, file_link, http_link))
 }

@@ -1,10 +1,9 @@
 //! Each row is played: it is run, and what it comes to is printed.
 
 use crate::commands::{COMMANDS, CommandRow};
-use crate::fault::Fault;
 use crate::leases::{LEASES, LeaseRow};
 use crate::lines::{print_end, print_line, print_output, print_taken};
-use crate::making::{Links, empty_maker, maker_of, one, service_of};
+use crate::making::{Links, empty_maker, maker_of, service_of};
 use crate::nodes::{NODES, NodeRow};
 use crate::running::{MemHost, host_over, run_line};
 use lf_base::{Handles, SliceSource, Watch};
@@ -14,6 +13,7 @@ use std::fs;
 use std::io::Print;
 use std::process::Processes;
 use std::rt::Files;
+use test_base::{Fault, one};
 
 /// The input of a row.
 fn input_of<R: Files + AllocGlobal>(rt: &R, row: &CommandRow) -> Result<Vec<u8>, Fault> {
@@ -35,6 +35,19 @@ pub fn ends<R: Handles + Processes + Print + Copy + Send + 'static, M: Maker>(
 ) -> Result<(), Fault> {
     let status = run_line(rt, alloc, line, host)?;
     print_end(&rt, status, host.errors.taken())
+}
+
+/// Runs a command line of this name, and prints how it ends and what it wrote.
+pub fn run_named<R: Handles + Processes + Print + Copy + Send + 'static, M: Maker>(
+    rt: R,
+    alloc: Global,
+    line: &str,
+    name: &str,
+    host: &mut MemHost<'_, M>,
+) -> Result<(), Fault> {
+    print!(&rt; "{line}, {name}")?;
+    ends(rt, alloc, line, host)?;
+    print_output(&rt, alloc, host.output.taken())
 }
 
 /// Runs a row, and prints how it ends and what it wrote.

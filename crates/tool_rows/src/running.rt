@@ -1,13 +1,12 @@
 //! A run over memory.
 
-use crate::fault::Fault;
-use crate::making::one;
 use lf_base::{Handles, Sink, SliceSource, Source, Status, Text, VecSink};
 use litefs_tool::{Host, run};
 use node_mount::Maker;
 use run_child::{ListStarter, ReadyStarter};
 use std::alloc::Global;
 use std::process::Processes;
+use test_base::{Fault, one};
 
 /// What a run reads from, writes to, and says its failure on.
 pub type MemHost<'a, M> = Host<SliceSource<'a>, VecSink, VecSink, SliceSource<'a>, M, ListStarter>;
@@ -49,15 +48,9 @@ pub fn host_over<'a, M: Drop>(
     config: SliceSource<'a>,
     make: M,
 ) -> Result<MemHost<'a, M>, Fault> {
-    let (output, errors) = sinks(alloc)?;
-    Ok(Host {
-        input: SliceSource::new(input, Vec::new(alloc)).unwrap(),
-        output,
-        errors,
-        config,
-        make,
-        child: starter(alloc, b"", u64::MAX)?,
-    })
+    let input = SliceSource::new(input, Vec::new(alloc)).unwrap();
+    let output = VecSink::new(alloc, 4_096, Vec::new(alloc))?;
+    host_failing(alloc, input, config, output, make)
 }
 
 /// What starts programs: they give these statuses, and the start of this number fails.
@@ -73,14 +66,8 @@ pub fn host_with<'a, M: Drop>(
     output: VecSink,
     make: M,
 ) -> Result<MemHost<'a, M>, Fault> {
-    Ok(Host {
-        input,
-        output,
-        errors: VecSink::new(alloc, 256, Vec::new(alloc))?,
-        config: SliceSource::new(b"", Vec::new(alloc)).unwrap(),
-        make,
-        child: starter(alloc, b"", u64::MAX)?,
-    })
+    let config = SliceSource::new(b"", Vec::new(alloc)).unwrap();
+    host_failing(alloc, input, config, output, make)
 }
 
 /// A host over these streams and this maker.

@@ -2,8 +2,7 @@
 ghost use Rattle.std.specs.Prelude.{All, IfOk};
 ghost use Rattle.lf_base.specs.Doors.{IsUnused};
 
-use crate::fault::Fault;
-use crate::making::{dialing_maker, one};
+use crate::making::{dialing_maker, watched_link};
 use crate::playing::{ends, print_watched};
 use crate::replies::REPLIES;
 use crate::running::{MemHost, host_starting, starter};
@@ -14,6 +13,7 @@ use run_child::Told;
 use std::alloc::Global;
 use std::io::Print;
 use std::process::Processes;
+use test_base::{Fault, NEVER, one};
 
 /// So many of the seven replies, and others behind them.
 fn input_of(alloc: Global, count: usize, odd: &[u8]) -> Result<Vec<u8>, Fault> {
@@ -33,8 +33,7 @@ fn dialed(alloc: Global, row: &RunRow) -> Result<(Vec<MemLink>, Vec<Watch>), Fau
         return Ok((Vec::new(alloc), Vec::new(alloc)));
     };
     let input = input_of(alloc, count, row.odd)?;
-    let link = MemLink::new(alloc, input, row.room, one(alloc, row.call)?)?;
-    let watch = link.watch();
+    let (link, watch) = watched_link(alloc, &input, row.room, row.call)?;
     Ok((one(alloc, link)?, one(alloc, watch)?))
 }
 
@@ -68,7 +67,7 @@ fn play_run<R: Handles + Processes + Print + Copy + Send + 'static>(
     row: &RunRow,
 ) -> Result<(), Fault> {
     let (links, watches) = dialed(alloc, row)?;
-    let make = dialing_maker(alloc, links)?;
+    let make = dialing_maker(alloc, links, NEVER)?;
     let child = starter(alloc, row.gives, row.start)?;
     let mut host = host_starting(alloc, make, child)?;
     run_row(rt, alloc, row, &mut host)?;

@@ -8,6 +8,7 @@ use lf_base::{MemLink, SessionEnd};
 use link_session::{Inbox, Turns};
 use std::alloc::Global;
 use std::process::Abort;
+use test_base::link_in_pieces;
 
 /// Bytes that begin with this length field.
 fn message(rt: impl Copy + Abort, alloc: Global, len: u32) -> Vec<u8> {
@@ -57,20 +58,6 @@ fn read_three(
     read_next(inbox, link, turns, bytes)
 }
 
-/// A link with this input, in pieces of this size, whose call of this number fails.
-fn link_in_pieces(
-    rt: impl Copy + Abort,
-    alloc: Global,
-    input: Vec<u8>,
-    size: usize,
-    failing: u64,
-) -> MemLink {
-    let failing = vec![in alloc; failing].expect(&rt, "memory");
-    let mut link = MemLink::new(alloc, input, 0, failing).expect(&rt, "a link");
-    link.cut_into(size.max(1));
-    link
-}
-
 /// The messages, how reading ended, and the turns that are left.
 fn read_all(
     rt: impl Copy + Abort,
@@ -112,7 +99,8 @@ fn messages_in_pieces(rt: HostRuntime) {
         (40, 3, 7, 999, 100, 0, SessionEnd::BadMessage, 98),
         (39, 81, 1, 999, 100, 0, SessionEnd::BadMessage, 96),
     ] {
-        let link = link_in_pieces(rt, alloc, stream(rt, alloc, len, count), size, failing);
+        let input = stream(rt, alloc, len, count);
+        let link = link_in_pieces(alloc, &input, 0, failing, size).expect(&rt, "a link");
         let (messages, ended, turns) = read_all(rt, alloc, link, budget);
         let row = (len, count, size, failing, budget);
         same(rt, (row, ended, turns), (row, Err(end), left));

@@ -1,12 +1,13 @@
 //! Texts written over a link in memory.
 use crate::same::same;
-use lf_base::{MemLink, SessionEnd};
+use lf_base::SessionEnd;
 use link_session::{Turns, write_whole};
+use test_base::link_of;
 
 #[test]
 fn a_text_past_the_room_is_a_fault(rt: HostRuntime) {
     let alloc = rt.alloc();
-    let mut link = MemLink::new(alloc, Vec::new(alloc), 4, Vec::new(alloc)).expect(&rt, "a link");
+    let mut link = link_of(alloc, b"", 4).expect(&rt, "a link");
     let mut turns = Turns::new(50);
     let watch = link.watch();
     same(rt, write_whole(&mut link, b"", &mut turns), Ok(()));

@@ -1,10 +1,11 @@
 //! What a request for a stream says of the last file of a log, and the lines of write permits.
 use crate::same::{holds, same};
-use lf_base::{Name, Pos, Text};
+use lf_base::{Pos, Text};
 use stream_wire::{
     Call, Heard, LastFile, PassLine, last_file_in, read_named_number, read_pass_line, read_request,
     write_named_number, write_pass_line, write_request_head, write_stream_head,
 };
+use test_base::database;
 
 /// A request for a stream that says the last file, byte by byte, and what is said without a body.
 #[test]
@@ -76,7 +77,7 @@ fn last_files_are_read(rt: HostRuntime) {
 #[test]
 fn permits_are_written_and_read(rt: HostRuntime) {
     let alloc = rt.alloc();
-    let name = Name::read(alloc, b"app").expect(&rt, "a name");
+    let name = database(alloc).expect(&rt, "a name");
     let mut out = Vec::new(alloc);
     write_named_number(&name, 31, &mut out).expect(&rt, "memory");
     same(rt, out.as_slice(), b"app 000000000000001f\n".as_slice());

@@ -3,7 +3,7 @@ ghost use Rattle.std.specs.Prelude.{IfOk};
 ghost use Rattle.ltx_codec.specs.Format.{IsFile};
 
 use crate::same::{same, same_at};
-use crate::sample::{DELTA, Fields, SNAPSHOT, SUM_1, SUM_2, encoding, header_of};
+use crate::sample::header_of;
 use lf_base::Pos;
 use lf_sqlite_pages::Image;
 use ltx_codec::{
@@ -12,6 +12,7 @@ use ltx_codec::{
 };
 use std::alloc::Global;
 use std::process::Abort;
+use test_base::{DELTA, Fields, ONE_PAGE, SNAPSHOT, TWO_PAGES, encoding};
 
 /// A delta of pages of 4,096 bytes from one sum of no pages to another, with one page or none.
 fn wide_delta(commit: u32, page: Option<u32>, sum: u64) -> Fields {
@@ -62,10 +63,10 @@ fn sums_of_images(rt: HostRuntime) {
     same(rt, snapshot.after(), delta.before());
     let image = Image::empty(rt.alloc());
     let after = sum_after(rt.alloc(), 0, &image, &snapshot);
-    same(rt, after.ok(), Some(SUM_1));
+    same(rt, after.ok(), Some(ONE_PAGE));
     let after = changed_sum(rt.alloc(), 0, &image, &delta.change);
-    same(rt, after.ok(), Some(SUM_2));
-    same(rt, sum_of_writes(snapshot.change.pages()), SUM_1);
+    same(rt, after.ok(), Some(TWO_PAGES));
+    same(rt, sum_of_writes(snapshot.change.pages()), ONE_PAGE);
 }
 
 /// The two ends of a file, and the number of a fault.

@@ -1,9 +1,10 @@
 //! Files that come and go part by part.
 use crate::same::{same, same_at};
-use crate::sample::{DELTA, EMPTY, Fields, PAGE, SNAPSHOT, SUM_1, encoding, header_of};
+use crate::sample::{PAGE, header_of};
 use ltx_codec::{Decoder, Encoder, FileReader, Ltx, LtxFault, Seen};
 use std::alloc::Global;
 use std::process::Abort;
+use test_base::{DELTA, EMPTY, Fields, ONE_PAGE, SNAPSHOT, encoding};
 
 /// A file as an encoder writes it, part by part.
 fn written(rt: &impl Abort, alloc: Global, fields: &Fields) -> Vec<u8> {
@@ -46,7 +47,7 @@ fn a_file_comes_byte_by_byte(rt: HostRuntime) {
             same(rt, decoder.page(), PAGE.as_slice());
         }
     }
-    same(rt, decoder.post(), SUM_1);
+    same(rt, decoder.post(), ONE_PAGE);
     same(rt, decoder.header().commit, 1);
     same(rt, decoder.finish(), Ok(()));
 }

@@ -1,10 +1,11 @@
 //! What the named call makes of files, and says of those that make no database.
-use crate::commands::files::{DELTA, Fields, ONE_PAGE, SNAPSHOT, TWO_PAGES, encode_all};
+
 use crate::same::same;
 use lf_base::Pos;
 use litefs_tool::{Refusal, apply_files};
 use std::alloc::Global;
 use std::process::Abort;
+use test_base::{DELTA, Fields, ONE_PAGE, SNAPSHOT, TWO_PAGES, encode_all};
 
 const START: Pos = Pos { txid: 0, sum: 0 };
 
@@ -30,7 +31,11 @@ fn makes_a_database(rt: HostRuntime) {
 fn names_what_does_not_join(rt: HostRuntime) {
     let alloc = rt.alloc();
     let sum = ONE_PAGE ^ 1;
-    let changed = Fields { pre: sum, ..DELTA };
+    let changed = Fields {
+        pre: sum,
+        sum: 0xf462_8c1f_6d71_0c9f,
+        ..DELTA
+    };
     let found = refused(rt, alloc, &[SNAPSHOT, changed]);
     same(rt, found, not_next(FIRST, Pos { txid: 1, sum }));
     let found = refused(rt, alloc, &[DELTA]);
@@ -48,6 +53,7 @@ fn names_what_does_not_fit(rt: HostRuntime) {
     let alloc = rt.alloc();
     let larger = Fields {
         page_size: 1024,
+        sum: 0x8287_7a46_5abf_0d22,
         ..DELTA
     };
     let found = refused(rt, alloc, &[SNAPSHOT, larger]);
@@ -56,6 +62,7 @@ fn names_what_does_not_fit(rt: HostRuntime) {
     let got = TWO_PAGES;
     let other = Fields {
         post: want,
+        sum: 0xe499_06ba_6d3f_4924,
         ..DELTA
     };
     let found = refused(rt, alloc, &[SNAPSHOT, other]);

@@ -1,10 +1,11 @@
 //! A machine that answers each export and each import by a word, and keeps what it was asked.
+use crate::sessions::Keeps;
 use byte_locks::LockId;
 use lf_base::{Bytes, Failed, Pos};
 use node_core::{Answer, Ask, Refusal};
 use snapshot::ImportFault;
 use std::alloc::Global;
-use turn_desk::Machine;
+use test_nodes::Answers;
 
 /// Where the database stands then.
 const AT: Pos = Pos {
@@ -35,7 +36,7 @@ pub enum Word {
 pub struct Stored {
     alloc: Global,
     word: Word,
-    pub asked: Vec<u8>,
+    asked: Vec<u8>,
 }
 
 impl Stored {
@@ -54,7 +55,7 @@ impl Stored {
         }
     }
 
-    fn answer(&self) -> Answer {
+    fn by_word(&self) -> Answer {
         match self.word {
             Word::Pages => self.bytes(b"pages"),
             Word::NoPages => self.bytes(b""),
@@ -84,28 +85,24 @@ impl Stored {
     }
 }
 
-impl Machine for Stored {
-    type Ask = Ask;
-
-    type Answer = Answer;
-
-    ghost steps = { λ before caller ask answer after. Unit {0} };
-
-    fn step(&mut self, _caller: u64, ask: &Ask) -> Answer {
+impl Answers for Stored {
+    fn answer(&mut self, ask: &Ask) -> Answer {
         match ask {
             Ask::Export => {
                 self.keep(b"export");
-                self.answer()
+                self.by_word()
             }
             Ask::Import { now, bytes } => {
                 self.keep_import(*now, bytes.as_slice());
-                self.answer()
+                self.by_word()
             }
             _ => Answer::Quiet,
         }
     }
+}
 
-    fn news(&self) -> u64 {
-        0
+impl Keeps for Stored {
+    fn asked(&self) -> &[u8] {
+        &self.asked
     }
 }

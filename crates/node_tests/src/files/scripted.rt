@@ -3,7 +3,7 @@ use fuse_msgs::{Op, Reply};
 use lf_base::{Bytes, Errno};
 use node_core::{Answer, Ask};
 use std::alloc::Global;
-use turn_desk::Machine;
+use test_nodes::Answers;
 
 /// What a READ reads.
 const POSITION: &[u8; 34] = b"0000000000000001/efb1f44fecd99000\n";
@@ -42,7 +42,7 @@ impl Scripted {
         }
     }
 
-    fn answer(&self, op: &Op) -> Answer {
+    fn answer_to(&self, op: &Op) -> Answer {
         match op {
             Op::Read { .. } => self.read(),
             Op::Lookup { .. } => Answer::Refuse(Errno(2)),
@@ -53,18 +53,12 @@ impl Scripted {
     }
 }
 
-impl Machine for Scripted {
-    type Ask = Ask;
-
-    type Answer = Answer;
-
-    ghost steps = { λ before caller ask answer after. Unit {0} };
-
-    fn step(&mut self, _caller: u64, ask: &Ask) -> Answer {
+impl Answers for Scripted {
+    fn answer(&mut self, ask: &Ask) -> Answer {
         match ask {
             Ask::File { now: _, request } => {
                 self.note(request.unique);
-                self.answer(&request.op)
+                self.answer_to(&request.op)
             }
             Ask::EndSession
             | Ask::Where
@@ -87,9 +81,5 @@ impl Machine for Scripted {
                 Answer::Quiet
             }
         }
-    }
-
-    fn news(&self) -> u64 {
-        0
     }
 }

@@ -3,7 +3,7 @@
 use byte_locks::LockId;
 use node_core::{Answer, Ask, Refusal, Whereabouts};
 use std::alloc::Global;
-use turn_desk::Machine;
+use test_nodes::Answers;
 use txn_log::StoreFault;
 
 /// What it answers.
@@ -46,14 +46,8 @@ impl Scripted {
     }
 }
 
-impl Machine for Scripted {
-    type Ask = Ask;
-
-    type Answer = Answer;
-
-    ghost steps = { λ before caller ask answer after. Unit {0} };
-
-    fn step(&mut self, _caller: u64, ask: &Ask) -> Answer {
+impl Answers for Scripted {
+    fn answer(&mut self, ask: &Ask) -> Answer {
         match ask {
             Ask::Where => {
                 let _ = self.asked.push(1);
@@ -69,9 +63,5 @@ impl Machine for Scripted {
             }
             _ => Answer::Quiet,
         }
-    }
-
-    fn news(&self) -> u64 {
-        0
     }
 }

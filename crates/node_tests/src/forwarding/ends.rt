@@ -63,11 +63,11 @@ fn replies<R: Copy + Abort>(rt: R, alloc: Global, held: usize) -> Vec<&'static [
 /// A permit is asked for, the commit is sent 100 times, and the permit is given back.
 fn requests<R: Copy + Abort>(rt: R, alloc: Global) -> Vec<u8> {
     let mut bytes = Vec::new(alloc);
-    append_all(rt, alloc, &mut bytes, asked_in(Asked::Asks));
+    append_all(rt, &mut bytes, asked_in(Asked::Asks));
     for _ in 0..100u64 {
-        append_all(rt, alloc, &mut bytes, asked_in(Asked::Sends));
+        append_all(rt, &mut bytes, asked_in(Asked::Sends));
     }
-    append_all(rt, alloc, &mut bytes, asked_in(Asked::GivesBack));
+    append_all(rt, &mut bytes, asked_in(Asked::GivesBack));
     bytes
 }
 

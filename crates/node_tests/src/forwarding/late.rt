@@ -1,18 +1,17 @@
 //! A permit whose position the node reaches later.
 use super::messages::{Heard, Said, heard_in, said_in};
-use super::pieces::{Piece, append_all};
+use super::pieces::bytes_of;
 use super::primary::dialer_of;
-use crate::links::{link_of, name_of};
+use crate::links::link_of;
 use crate::same::same;
-use file_session::serve_files;
 use fuse_msgs::{Op, Reply, Request};
-use lf_base::{Errno, FixedClock, Handles, MemDialer, MemLink, NoPause, Pos};
-use link_session::{AtSeat, Session, Turns};
+use lf_base::{Errno, FixedClock, Handles, MemDialer, MemLink, Pos};
+use link_session::AtSeat;
 use node_core::{Answer, Ask, Whereabouts};
 use std::alloc::Global;
 use std::net::{TcpListener, TcpStream};
 use std::process::Abort;
-use turn_desk::{Desk, Machine};
+use test_nodes::{Answering, Answers, desk_of, serve_client};
 
 /// A machine that is one transaction on each time it is asked where it stands.
 #[derive(Drop)]
@@ -23,7 +22,7 @@ struct Moving {
 
 impl Moving {
     /// The lock file is opened by the handle 1, and a lock is granted once there is a permit.
-    fn answer(&self, request: &Request) -> Answer {
+    fn answer_to(&self, request: &Request) -> Answer {
         match request.op {
             Op::Open => Answer::Done(Reply::Opened { fh: 1 }),
             _ if self.halted => Answer::Done(Reply::Empty),
@@ -41,16 +40,10 @@ impl Moving {
     }
 }
 
-impl Machine for Moving {
-    type Ask = Ask;
-
-    type Answer = Answer;
-
-    ghost steps = { λ before caller ask answer after. Unit {0} };
-
-    fn step(&mut self, _caller: u64, ask: &Ask) -> Answer {
+impl Answers for Moving {
+    fn answer(&mut self, ask: &Ask) -> Answer {
         match ask {
-            Ask::File { request, .. } => self.answer(request),
+            Ask::File { request, .. } => self.answer_to(request),
             Ask::Where => self.place(),
             Ask::HaltGot { .. } => {
                 self.halted = true;
@@ -58,10 +51,6 @@ impl Machine for Moving {
             }
             _ => Answer::Quiet,
         }
-    }
-
-    fn news(&self) -> u64 {
-        0
     }
 }
 
@@ -92,33 +81,20 @@ fn served<R: Handles + Copy + Abort>(
     link: &mut MemLink,
     dialer: &mut MemDialer,
 ) -> u64 {
-    let machine = Moving {
+    let by = Moving {
         asks: 0,
         halted: false,
     };
-    let (desk, mut seat) = Desk::open(alloc, machine).ok().expect(&rt, "a desk");
-    let mut session = Session {
-        alloc,
-        link,
-        clock: &mut FixedClock::new(5),
-        pause: &mut NoPause::new(),
-        turns: Turns::new(1_000),
-    };
+    let (desk, mut seat) = desk_of(alloc, Answering { by }).expect(&rt, "a desk");
     let mut at = AtSeat {
         rt: &rt,
         desk: &desk,
         seat: &mut seat,
     };
-    let name = name_of(rt, alloc);
-    serve_files(&mut session, &mut at, &name, 3, dialer, &mut NoPause::new());
-    let Moving { asks, halted: _ } = desk.close(rt, seat);
+    let mut clock = FixedClock::new(5);
+    drop(serve_client(&mut at, alloc, link, &mut clock, 1_000, dialer));
+    let Moving { asks, halted: _ } = desk.close(rt, seat).by;
     asks
-}
-
-fn bytes_of<R: Copy + Abort>(rt: R, alloc: Global, pieces: &[Piece]) -> Vec<u8> {
-    let mut bytes = Vec::new(alloc);
-    append_all(rt, alloc, &mut bytes, pieces);
-    bytes
 }
 
 fn is_waited_for<R: Handles + Copy + Abort>(
@@ -129,7 +105,7 @@ fn is_waited_for<R: Handles + Copy + Abort>(
     heard: Heard,
 ) {
     let input = bytes_of(rt, alloc, said_in(Said::Lock));
-    let mut link = link_of(rt, alloc, input, 99_999, 999);
+    let mut link = link_of(rt, alloc, &input, 99_999, 999);
     let watch = link.watch();
     let (mut dialer, _) = dialer_of(rt, alloc, &[permit, b""], 999);
     same(rt, served(rt, alloc, &mut link, &mut dialer), asks);

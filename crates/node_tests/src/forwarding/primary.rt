@@ -3,9 +3,11 @@ ghost use Rattle.std.specs.Prelude.{All};
 ghost use Rattle.lf_base.specs.Doors.{IsUnused};
 
 use super::pieces::Piece::{self, Full, Hex, Text};
+use crate::replies::{BEHIND, EMPTY, HALT_HELD, HELD, NOT_PRIMARY};
 use lf_base::{MemDialer, MemLink, Watch};
 use std::alloc::Global;
 use std::process::Abort;
+use test_base::{link_of, one};
 
 /// What the primary replies.
 #[derive(Clone, Copy)]
@@ -54,20 +56,6 @@ const NO_LINE: &[u8] = b"HTTP/1.1 200 OK\r\nContent-Length: 68\r\nConnection: cl
 /// A permit that is cut off before its last byte.
 const CUT: &[u8] = b"HTTP/1.1 200 OK\r\nContent-Length: 68\r\nConnection: close\r\n\r\n\
     0000000000000007 00000000000003ed 0000000000000000/0000000000000000";
-
-const EMPTY: &[u8] = b"HTTP/1.1 200 OK\r\nContent-Length: 0\r\nConnection: close\r\n\r\n";
-
-const HALT_HELD: &[u8] =
-    b"HTTP/1.1 409 Conflict\r\nContent-Length: 9\r\nConnection: close\r\n\r\nHaltHeld\n";
-
-const HELD_BACK: &[u8] =
-    b"HTTP/1.1 409 Conflict\r\nContent-Length: 5\r\nConnection: close\r\n\r\nHeld\n";
-
-const BEHIND: &[u8] =
-    b"HTTP/1.1 409 Conflict\r\nContent-Length: 7\r\nConnection: close\r\n\r\nBehind\n";
-
-const NOT_PRIMARY: &[u8] =
-    b"HTTP/1.1 503 Service Unavailable\r\nContent-Length: 11\r\nConnection: close\r\n\r\nNotPrimary\n";
 
 /// The commit is accepted, and leads to this position.
 const ACCEPTED: &[u8] = b"HTTP/1.1 200 OK\r\nContent-Length: 34\r\nConnection: close\r\n\r\n\
@@ -139,7 +127,7 @@ pub fn reply_of(replied: Replied) -> &'static [u8] {
         Replied::Cut => CUT,
         Replied::Empty => EMPTY,
         Replied::HaltHeld => HALT_HELD,
-        Replied::HeldBack => HELD_BACK,
+        Replied::HeldBack => HELD,
         Replied::Behind => BEHIND,
         Replied::NotPrimary => NOT_PRIMARY,
         Replied::Accepted => ACCEPTED,
@@ -171,8 +159,7 @@ fn add<R: Copy + Abort>(rt: R, alloc: Global, lines: &mut Lines, reply: &[u8])
     requires { All IsUnused lines.old.links.items }
     ensures { All IsUnused lines.new.links.items }
 {
-    let reply = Vec::from_slice(alloc, reply).expect(&rt, "memory");
-    let link = MemLink::new(alloc, reply, 8192, Vec::new(alloc)).expect(&rt, "a link");
+    let link = link_of(alloc, reply, 8192).expect(&rt, "a link");
     lines.watches.push(link.watch()).expect(&rt, "memory");
     assert!(rt; lines.links.push(link).is_ok());
 }
@@ -199,7 +186,7 @@ pub fn dialer_of<R: Copy + Abort>(
     failing: u64,
 ) -> (MemDialer, Vec<Watch>) {
     let Lines { links, watches } = lines_of(rt, alloc, replies);
-    let failing = vec![in alloc; failing].expect(&rt, "memory");
+    let failing = one(alloc, failing).expect(&rt, "memory");
     let dialer = MemDialer::new(alloc, links, 200, failing).expect(&rt, "a dialer");
     (dialer, watches)
 }

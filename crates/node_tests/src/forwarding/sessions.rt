@@ -8,15 +8,15 @@ use super::primary::{all_taken, asked_in, dialer_of, reply_of};
 use crate::leases::client::{Deed, Told, ask_of, told_of};
 use crate::leases::node::close;
 use crate::leases::session::{Counting, opened};
-use crate::links::{link_of, name_of};
+use crate::links::link_of;
 use crate::same::same;
-use file_session::serve_files;
-use lf_base::{Handles, MemDialer, MemLink, NoPause, SessionEnd};
-use link_session::{AtSeat, Session, Turns};
+use lf_base::{Handles, MemDialer, MemLink, SessionEnd};
+use link_session::AtSeat;
 use node_core::{Answer, Ask};
 use std::alloc::Global;
 use std::process::Abort;
 use std::sync::Wait;
+use test_nodes::serve_client;
 use turn_desk::{Desk, Machine, Seat};
 
 /// How a session ended, how many steps the node made, where it is, and what it says to a client that unlinks its
@@ -47,32 +47,24 @@ fn served<R: Handles + Copy + Abort>(
     clock: &mut Counting,
 ) -> Left {
     let (desk, mut seat) = opened(rt, alloc);
-    let mut session = Session {
-        alloc,
-        link,
-        clock,
-        pause: &mut NoPause::new(),
-        turns: Turns::new(1_000),
-    };
     let mut at = AtSeat {
         rt: &rt,
         desk: &desk,
         seat: &mut seat,
     };
-    let name = name_of(rt, alloc);
-    let end = serve_files(&mut session, &mut at, &name, 3, dialer, &mut NoPause::new());
+    let end = serve_client(&mut at, alloc, link, clock, 1_000, dialer);
     let steps = desk.edition(&mut seat);
     let place = says(rt, alloc, &desk, &mut seat, Deed::Where);
     let part = says(rt, alloc, &desk, &mut seat, Deed::UnlinkDatabase);
     close(desk.close(rt, seat));
-    (end, (steps, place, part))
+    (end.expect(&rt, "memory"), (steps, place, part))
 }
 
 /// What the client of the row sends.
 fn input<R: Copy + Abort>(rt: R, alloc: Global, row: &Row) -> Vec<u8> {
     let mut bytes = Vec::new(alloc);
     for said in row.input {
-        append_all(rt, alloc, &mut bytes, said_in(*said));
+        append_all(rt, &mut bytes, said_in(*said));
     }
     bytes
 }
@@ -81,7 +73,7 @@ fn input<R: Copy + Abort>(rt: R, alloc: Global, row: &Row) -> Vec<u8> {
 fn wanted<R: Copy + Abort>(rt: R, alloc: Global, row: &Row) -> Vec<u8> {
     let mut bytes = Vec::new(alloc);
     for heard in row.written {
-        append_all(rt, alloc, &mut bytes, heard_in(*heard));
+        append_all(rt, &mut bytes, heard_in(*heard));
     }
     bytes
 }
@@ -90,7 +82,7 @@ fn wanted<R: Copy + Abort>(rt: R, alloc: Global, row: &Row) -> Vec<u8> {
 fn requests<R: Copy + Abort>(rt: R, alloc: Global, row: &Row) -> Vec<u8> {
     let mut bytes = Vec::new(alloc);
     for asked in row.asked {
-        append_all(rt, alloc, &mut bytes, asked_in(*asked));
+        append_all(rt, &mut bytes, asked_in(*asked));
     }
     bytes
 }
@@ -102,7 +94,7 @@ pub fn plays<R: Handles + Copy + Abort>(
     row: &Row,
     replies: &[&[u8]],
 ) -> Vec<u8> {
-    let mut link = link_of(rt, alloc, input(rt, alloc, row), 99_999, 999);
+    let mut link = link_of(rt, alloc, &input(rt, alloc, row), 99_999, 999);
     let watch = link.watch();
     let (mut dialer, watches) = dialer_of(rt, alloc, replies, row.failing);
     let mut clock = Counting::new(row.first, row.later);

@@ -1,11 +1,12 @@
 //! A machine that answers each ask for a permit, each that is given back, and each commit under one by a word, and keeps what it was asked.
+use crate::sessions::Keeps;
 use byte_locks::LockId;
 use halt_forward::{HaltFault, HaltPass};
 use lf_base::Pos;
 use ltx_codec::LtxFault;
 use node_core::{Answer, Ask, Refusal, Whereabouts};
 use std::alloc::Global;
-use turn_desk::Machine;
+use test_nodes::Answers;
 use txn_log::StoreFault;
 
 /// Where it stands.
@@ -42,7 +43,7 @@ pub enum Word {
 #[derive(Drop)]
 pub struct Permitting {
     word: Word,
-    pub asked: Vec<u8>,
+    asked: Vec<u8>,
 }
 
 impl Permitting {
@@ -53,7 +54,7 @@ impl Permitting {
         }
     }
 
-    fn answer(&self) -> Answer {
+    fn by_word(&self) -> Answer {
         match self.word {
             Word::Pass => Answer::Pass(PASS),
             Word::Quiet => Answer::Quiet,
@@ -92,27 +93,21 @@ impl Permitting {
     }
 }
 
-impl Machine for Permitting {
-    type Ask = Ask;
-
-    type Answer = Answer;
-
-    ghost steps = { λ before caller ask answer after. Unit {0} };
-
-    fn step(&mut self, _caller: u64, ask: &Ask) -> Answer {
+impl Answers for Permitting {
+    fn answer(&mut self, ask: &Ask) -> Answer {
         match ask {
             Ask::HaltAsk { now, node } => {
                 self.keep_ask(b"node ", *node, *now);
-                self.answer()
+                self.by_word()
             }
             Ask::HaltBack { now, number } => {
                 self.keep_ask(b"back ", *number, *now);
-                self.answer()
+                self.by_word()
             }
             Ask::Forward { now, number, bytes } => {
                 self.keep_ask(b"file of ", *number, *now);
                 self.keep(bytes.as_slice());
-                self.answer()
+                self.by_word()
             }
             Ask::Where => {
                 self.keep(b"where, ");
@@ -124,8 +119,10 @@ impl Machine for Permitting {
             _ => Answer::Quiet,
         }
     }
+}
 
-    fn news(&self) -> u64 {
-        0
+impl Keeps for Permitting {
+    fn asked(&self) -> &[u8] {
+        &self.asked
     }
 }

@@ -1,20 +1,20 @@
 //! A session on the files of a node whose lease ends between two messages.
 ghost use Rattle.turn_desk.specs.Seats.{IsOf};
 
-use crate::files::all_hex;
 use crate::leases::client::ask_of;
 use crate::leases::node::{close, open};
 use crate::leases::{GRANTED, Turn};
-use crate::links::{link_of, name_of, nobody};
+use crate::links::link_of;
 use crate::same::same;
-use file_session::serve_files;
-use lf_base::{Clock, Handles, MemLink, NoPause, SessionEnd};
-use link_session::{AtSeat, Session, Turns};
+use lf_base::{Clock, Handles, MemLink, SessionEnd};
+use link_session::AtSeat;
 use node_core::{Ask, Node};
 use std::alloc::Global;
 use std::net::{TcpListener, TcpStream};
 use std::process::Abort;
 use std::sync::Wait;
+use test_base::{append_hex, hex_bytes, nobody};
+use test_nodes::serve_client;
 use turn_desk::{Desk, Seat};
 
 pub type MemNode = Node<lf_disk::MemDisk>;
@@ -78,11 +78,9 @@ const ROWS: &[(u64, &[&[u8]])] = &[
 
 /// The two messages, each with a page.
 fn input<R: Copy + Abort>(rt: R, alloc: Global) -> Vec<u8> {
-    let mut bytes = all_hex(rt, alloc, &[WRITE_8]);
+    let mut bytes = hex_bytes(alloc, &[WRITE_8]).expect(&rt, "memory");
     bytes.resize(592, 7).expect(&rt, "memory");
-    for byte in all_hex(rt, alloc, &[WRITE_9]) {
-        bytes.push(byte).expect(&rt, "memory");
-    }
+    append_hex(&mut bytes, WRITE_9).expect(&rt, "memory");
     bytes.resize(1_184, 8).expect(&rt, "memory");
     bytes
 }
@@ -124,30 +122,15 @@ fn served<R: Handles + Copy + Abort>(
     let (desk, mut seat) = opened(rt, alloc);
     begin(rt, alloc, &desk, &mut seat, GRANTED);
     let mut clock = Counting::new(first, 1);
-    let mut session = Session {
-        alloc,
-        link,
-        clock: &mut clock,
-        pause: &mut NoPause::new(),
-        turns: Turns::new(100),
-    };
     let mut at = AtSeat {
         rt: &rt,
         desk: &desk,
         seat: &mut seat,
     };
-    let name = name_of(rt, alloc);
-    let mut dialer = nobody(rt, alloc);
-    let end = serve_files(
-        &mut session,
-        &mut at,
-        &name,
-        3,
-        &mut dialer,
-        &mut NoPause::new(),
-    );
+    let mut dialer = nobody(alloc).expect(&rt, "a dialer");
+    let end = serve_client(&mut at, alloc, link, &mut clock, 100, &mut dialer);
     close(desk.close(rt, seat));
-    end
+    end.expect(&rt, "memory")
 }
 
 #[test]
@@ -159,10 +142,10 @@ fn a_lease_ends_between_two_messages(rt: HostRuntime) {
 }
 
 fn has_replies<R: Handles + Copy + Abort>(rt: R, alloc: Global, first: u64, written: &[&[u8]]) {
-    let mut link = link_of(rt, alloc, input(rt, alloc), 99_999, 999);
+    let mut link = link_of(rt, alloc, &input(rt, alloc), 99_999, 999);
     let watch = link.watch();
     same(rt, served(rt, alloc, &mut link, first), SessionEnd::Closed);
     let bytes = watch.bytes().expect(&rt, "memory");
-    let wanted = all_hex(rt, alloc, written);
+    let wanted = hex_bytes(alloc, written).expect(&rt, "memory");
     same(rt, bytes.as_slice(), wanted.as_slice());
 }

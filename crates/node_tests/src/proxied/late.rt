@@ -8,7 +8,7 @@ use node_core::{Answer, Ask, Whereabouts};
 use std::alloc::Global;
 use std::net::{TcpListener, TcpStream};
 use std::process::Abort;
-use turn_desk::{Desk, Machine};
+use test_nodes::{Answering, Answers, desk_of};
 use txid_proxy::pass_seat;
 
 /// A machine that takes writes, and is one transaction on each time it is asked where it stands. It may keep it for itself.
@@ -33,30 +33,20 @@ impl Moving {
 }
 
 /// A request of a size is refused as one of a wrong size, and there is no file.
-fn answer(request: &Request) -> Answer {
+fn answer_to(request: &Request) -> Answer {
     match request.op {
         Op::Setattr { .. } => Answer::Refuse(Errno(22)),
         _ => Answer::Refuse(Errno(2)),
     }
 }
 
-impl Machine for Moving {
-    type Ask = Ask;
-
-    type Answer = Answer;
-
-    ghost steps = { λ before caller ask answer after. Unit {0} };
-
-    fn step(&mut self, _caller: u64, ask: &Ask) -> Answer {
+impl Answers for Moving {
+    fn answer(&mut self, ask: &Ask) -> Answer {
         match ask {
-            Ask::File { request, .. } => answer(request),
+            Ask::File { request, .. } => answer_to(request),
             Ask::Where => self.place(),
             _ => Answer::Quiet,
         }
-    }
-
-    fn news(&self) -> u64 {
-        0
     }
 }
 
@@ -140,8 +130,8 @@ fn served<R: Handles + Copy + Abort>(
     stage: &mut Stage,
     says: bool,
 ) -> (SessionEnd, u64) {
-    let machine = Moving { asks: 0, says };
-    let (desk, mut seat) = Desk::open(alloc, machine).ok().expect(&rt, "a desk");
+    let by = Moving { asks: 0, says };
+    let (desk, mut seat) = desk_of(alloc, Answering { by }).expect(&rt, "a desk");
     let end = pass_seat(
         rt,
         alloc,
@@ -150,7 +140,7 @@ fn served<R: Handles + Copy + Abort>(
         &mut stage.link,
         &mut stage.passage,
     );
-    let Moving { asks, says: _ } = desk.close(rt, seat);
+    let Moving { asks, says: _ } = desk.close(rt, seat).by;
     (end, asks)
 }
 

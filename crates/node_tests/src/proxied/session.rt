@@ -9,6 +9,7 @@ use crate::same::same;
 use lf_base::{FixedClock, Handles, MemDialer, MemLink, NoPause, SessionEnd, Text, Watch};
 use std::alloc::Global;
 use std::process::Abort;
+use test_base::{link_in_pieces, one};
 use txid_proxy::{Passage, pass_on};
 
 /// How many bytes each link takes.
@@ -25,23 +26,6 @@ pub struct Stage {
     second: Watch,
 }
 
-/// A link from which these bytes come, at most `size` a read. The call of the number `failing` fails.
-fn link_of<R: Copy + Abort>(
-    rt: R,
-    alloc: Global,
-    input: &[u8],
-    size: usize,
-    failing: u64,
-) -> MemLink
-    ensures { IsUnused result }
-{
-    let input = Vec::from_slice(alloc, input).expect(&rt, "memory");
-    let failing = vec![in alloc; failing].expect(&rt, "memory");
-    let mut link = MemLink::new(alloc, input, ROOM, failing).expect(&rt, "a link");
-    link.cut_into(size.max(1));
-    link
-}
-
 /// A dialer that gives two links.
 fn dialer_of<R: Copy + Abort>(
     rt: R,
@@ -56,7 +40,7 @@ fn dialer_of<R: Copy + Abort>(
     let mut links = Vec::new(alloc);
     assert!(rt; links.push(first).is_ok());
     assert!(rt; links.push(second).is_ok());
-    let failing = vec![in alloc; failing].expect(&rt, "memory");
+    let failing = one(alloc, failing).expect(&rt, "memory");
     MemDialer::new(alloc, links, 9, failing).expect(&rt, "a dialer")
 }
 
@@ -73,9 +57,9 @@ pub fn stage_of<R: Copy + Abort>(
         target,
         dial,
     } = row.fails;
-    let link = link_of(rt, alloc, row.input, size, client);
-    let first = link_of(rt, alloc, reply, size, target);
-    let second = link_of(rt, alloc, b"", size, 0);
+    let link = link_in_pieces(alloc, row.input, ROOM, client, size).expect(&rt, "a link");
+    let first = link_in_pieces(alloc, reply, ROOM, target, size).expect(&rt, "a link");
+    let second = link_in_pieces(alloc, b"", ROOM, 0, size).expect(&rt, "a link");
     Stage {
         client: link.watch(),
         target: first.watch(),

@@ -1,13 +1,12 @@
 //! A machine that answers each Hello by the next word of a script, and keeps at which transactions it
 //! was asked.
+use crate::sessions::Keeps;
 use lf_base::{Bytes, Pos};
 use node_core::{Answer, Ask, Refusal};
 use std::alloc::Global;
-use turn_desk::Machine;
+use test_base::{ONE_PAGE, SNAPSHOT, encoding};
+use test_nodes::Answers;
 use txn_log::StoreFault;
-
-/// The sum of a page of 512 zeros.
-const SUM: u64 = 0xefb1_f44f_ecd9_9000;
 
 /// What it answers.
 #[derive(Clone, Copy, PartialEq, Eq)]
@@ -24,28 +23,26 @@ pub enum Word {
 #[derive(Drop)]
 pub struct Scripted {
     alloc: Global,
-    file: Vec<u8>,
     script: Vec<Word>,
-    pub asked: Vec<u64>,
+    asked: Vec<u8>,
 }
 
 impl Scripted {
-    pub fn new(alloc: Global, file: Vec<u8>, script: Vec<Word>) -> Scripted {
+    pub fn new(alloc: Global, script: Vec<Word>) -> Scripted {
         Scripted {
             alloc,
-            file,
             script,
             asked: Vec::new(alloc),
         }
     }
 
     fn next_file(&self, pos: Pos) -> Answer {
-        match Vec::from_slice(self.alloc, self.file.as_slice()) {
+        match encoding(self.alloc, &SNAPSHOT) {
             Ok(ltx) => Answer::Item {
                 ltx: Bytes::of(ltx),
                 after: Pos {
                     txid: pos.txid.wrapping_add(1),
-                    sum: SUM,
+                    sum: ONE_PAGE,
                 },
             },
             Err(_) => Answer::Quiet,
@@ -54,7 +51,7 @@ impl Scripted {
 
     fn hello(&mut self, pos: Pos) -> Answer {
         let at = self.asked.len();
-        let _ = self.asked.push(pos.txid);
+        let _ = self.asked.push(u8::try_from(pos.txid).unwrap_or(u8::MAX));
         match self.script.as_slice().get(at) {
             Some(Word::File) => self.next_file(pos),
             Some(Word::Level) => Answer::Level(pos),
@@ -67,21 +64,17 @@ impl Scripted {
     }
 }
 
-impl Machine for Scripted {
-    type Ask = Ask;
-
-    type Answer = Answer;
-
-    ghost steps = { λ before caller ask answer after. Unit {0} };
-
-    fn step(&mut self, _caller: u64, ask: &Ask) -> Answer {
+impl Answers for Scripted {
+    fn answer(&mut self, ask: &Ask) -> Answer {
         match ask {
             Ask::Hello { pos, .. } => self.hello(*pos),
             _ => Answer::Quiet,
         }
     }
+}
 
-    fn news(&self) -> u64 {
-        0
+impl Keeps for Scripted {
+    fn asked(&self) -> &[u8] {
+        &self.asked
     }
 }

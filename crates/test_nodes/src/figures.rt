@@ -1,7 +1,10 @@
-//! A node without figures.
+//! A database without figures.
+ghost use Rattle.std.specs.Prelude.{◌≡◌, IfOk, codes};
+
 use lf_base::NoMemory;
 use std::alloc::Global;
-use stream_primary::{Counts, Figures, Gauge, Histogram};
+use stream_primary::{About, Counts, Figures, Gauge, Histogram};
+use test_base::database;
 
 /// A gauge whose figures are all 0.
 #[derive(Drop)]
@@ -33,4 +36,14 @@ impl Gauge for NoFigures {
             counts,
         })
     }
+}
+
+/// What a session of a node of the database `app` serves.
+pub fn about(alloc: Global) -> Result<About<NoFigures>, NoMemory>
+    ensures { IfOk result (λ about. about.name ≡ codes "app") }
+{
+    Ok(About {
+        name: database(alloc)?,
+        gauge: NoFigures,
+    })
 }
