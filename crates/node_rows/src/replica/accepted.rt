@@ -1,0 +1,153 @@
+//! A replica under a write permit sends the third transaction, and the primary commits it. Each call
+//! that the replica then makes of its disk to apply it fails in turn. Then its disk is crashed, and it
+//! is restarted. Another replica stands where it stood before.
+
+use crate::replica::clients::{commit, commit_and_stay};
+use crate::replica::cluster::{Cluster, Who};
+use crate::replica::levels::gets_level;
+use crate::replica::likeness::is_as;
+use crate::replica::nodes::{
+    MemNode, Part, ask_once, calls_of, is_applied, is_broken, renew, renew_on,
+};
+use crate::replica::permits::{forward_of, gets_permit};
+use crate::replica::tally::{CHOICES, NONE, Tally, count_if};
+use lf_base::Errno;
+use node_core::{Answer, Ask};
+use std::alloc::Global;
+use test_base::{Failing, Fault, NEVER};
+
+/// The number of the node that gets the permit.
+const NUMBER: u64 = 7;
+
+/// A node becomes a primary after two transactions.
+fn begins(alloc: Global, primary: &mut MemNode) -> Result<(), Fault> {
+    renew(alloc, primary, Part::Primary)?;
+    drop(commit(alloc, primary, &[(1, 1)])?);
+    drop(commit(alloc, primary, &[(2, 2)])?);
+    Ok(())
+}
+
+/// A client of the replica commits a page, and the primary accepts it.
+fn sends(alloc: Global, primary: &mut MemNode, replica: &mut MemNode) -> Result<(), Fault> {
+    drop(gets_permit(primary, replica, NUMBER));
+    match forward_of(commit_and_stay(alloc, replica, &[(1, 4)])?) {
+        Some(asked) => is_accepted(primary, asked),
+        None => Err(Fault::Answer),
+    }
+}
+
+fn is_accepted(primary: &mut MemNode, asked: Ask) -> Result<(), Fault> {
+    if is_applied(ask_once(primary, 0, asked)) {
+        Ok(())
+    } else {
+        Err(Fault::Answer)
+    }
+}
+
+/// The replica, on a disk that fails at a call, awaits the reply to a commit that the primary accepted.
+fn prepare(
+    alloc: Global,
+    cluster: &mut Cluster<'_>,
+    failing: Failing,
+    call: u64,
+) -> Result<(), Fault> {
+    begins(alloc, cluster.primary)?;
+    renew_on(alloc, cluster.left, Part::Replica, failing, call)?;
+    gets_level(cluster.primary, cluster.left);
+    sends(alloc, cluster.primary, cluster.left)
+}
+
+/// The reply comes.
+fn replies(replica: &mut MemNode) -> Answer {
+    ask_once(replica, 0, Ask::Forwarded { ok: true })
+}
+
+/// How many calls of the disk there are before the reply, and with it.
+fn counts(alloc: Global, cluster: &mut Cluster<'_>) -> Result<(u64, u64), Fault> {
+    prepare(alloc, cluster, Failing::From, NEVER)?;
+    let before = calls_of(alloc, cluster.left)?;
+    prepare(alloc, cluster, Failing::From, NEVER)?;
+    drop(replies(cluster.left));
+    Ok((before, calls_of(alloc, cluster.left)?))
+}
+
+/// Whether the client is answered 5, and its replica's store is broken.
+fn refuses(replica: &mut MemNode) -> bool {
+    let answer = replies(replica);
+    let refused = matches!(&answer, Answer::Refuse(Errno(5)));
+    drop(answer);
+    refused && is_broken(replica)
+}
+
+/// Where the replica is after its restart, and whether it is level after what it is owed there.
+fn judge(cluster: &mut Cluster<'_>, tally: &mut Tally) {
+    count_if(&mut tally.before, is_as(cluster.left, cluster.right));
+    count_if(&mut tally.after, is_as(cluster.left, cluster.primary));
+    let is_level = gets_level(cluster.primary, cluster.left)
+        && is_as(cluster.left, cluster.primary);
+    count_if(&mut tally.level, is_level);
+}
+
+/// One run: the call that fails, and what the crash leaves.
+fn run(
+    alloc: Global,
+    cluster: &mut Cluster<'_>,
+    failing: Failing,
+    call: u64,
+    choice: u64,
+    tally: &mut Tally,
+) -> Result<(), Fault> {
+    prepare(alloc, cluster, failing, call)?;
+    count_if(&mut tally.runs, true);
+    count_if(&mut tally.refused, refuses(cluster.left));
+    cluster.restart(alloc, Who::Left, choice)?;
+    judge(cluster, tally);
+    Ok(())
+}
+
+/// All runs.
+fn runs(alloc: Global, cluster: &mut Cluster<'_>, failing: Failing) -> Result<Tally, Fault> {
+    let (before, end) = counts(alloc, cluster)?;
+    let mut tally = NONE;
+    for call in before..end {
+        for choice in CHOICES {
+            run(alloc, cluster, failing, call, choice, &mut tally)?;
+        }
+    }
+    Ok(tally)
+}
+
+/// A node becomes one that stands where the replica stands before it applies the commit.
+fn stays(alloc: Global, cluster: &mut Cluster<'_>) -> Result<(), Fault> {
+    cluster.renew(alloc)?;
+    begins(alloc, cluster.primary)?;
+    gets_level(cluster.primary, cluster.right);
+    Ok(())
+}
+
+fn print_failing(
+    rt: HostRuntime,
+    title: &str,
+    cluster: &mut Cluster<'_>,
+    failing: Failing,
+) -> Result<(), Fault> {
+    let tally = runs(rt.alloc(), cluster, failing)?;
+    tally.print(rt, title, 2, 3)
+}
+
+/// A stop at each call, and a fault of each call alone.
+pub fn print_accepted(rt: HostRuntime, cluster: &mut Cluster<'_>) -> Result<(), Fault> {
+    stays(rt.alloc(), cluster)?;
+    print_failing(
+        rt,
+        "a replica stops at each call of its disk while it applies a commit of its own that was accepted",
+        cluster,
+        Failing::From,
+    )?;
+    print_failing(
+        rt,
+        "one call of its disk fails meanwhile",
+        cluster,
+        Failing::At,
+    )
+}

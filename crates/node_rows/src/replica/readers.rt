@@ -1,0 +1,35 @@
+//! A reader at a replica, and a file that would change what it reads.
+
+use crate::replica::clients::{DATABASE, SHARED_MEMORY, creates, does, locks, reads};
+use crate::replica::likeness::is_same;
+use crate::replica::nodes::MemNode;
+use crate::replica::turns::{Pair, Who, takes, tells};
+use fuse_msgs::{LockWish, Op};
+use test_base::{Fault, print_shown};
+
+/// The caller that reads.
+const READER: u64 = 7;
+
+/// The byte of the lock READ1.
+const READ1: (u64, u64) = (124, 124);
+
+/// The reader opens the database file, and the shared memory by its second handle.
+pub fn opens(rt: HostRuntime, replica: &mut MemNode) -> Result<(), Fault> {
+    drop(does(replica, READER, DATABASE, Op::Open));
+    drop(creates(rt.alloc(), replica, READER, b"app-shm")?);
+    Ok(())
+}
+
+/// The reader takes its lock, or lets it go.
+pub fn wishes(rt: HostRuntime, replica: &mut MemNode, kind: LockWish) -> Result<(), Fault> {
+    let answer = locks(replica, READER, SHARED_MEMORY, 2, READ1, kind);
+    tells(rt, "reader", answer)
+}
+
+/// The replica is given what it was owed between two reads.
+pub fn reads_around(rt: HostRuntime, pair: &mut Pair<'_>) -> Result<(), Fault> {
+    let before = reads(pair.replica, READER);
+    takes(rt, pair, Who::Replica)?;
+    let after = reads(pair.replica, READER);
+    print_shown(&rt, "the reader reads the same", is_same(&before, &after))
+}
