@@ -72,8 +72,9 @@ def tried(node, start):
 
 
 def ordinary_user():
-    if not shutil.which('fusermount3'):
-        raise Skipped('no fusermount3 here')
+    helper = shutil.which('fusermount3')
+    if not helper or not os.stat(helper).st_mode & stat.S_ISUID:
+        raise Skipped('no fusermount3 here, or none that is set-user-ID root')
     with Node() as node:
         same(tried(node, []), WELL, 'a mount of an ordinary user')
 

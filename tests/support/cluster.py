@@ -1,5 +1,6 @@
 """A lease service and three nodes that ask it which of them is primary."""
 import contextlib
+import gc
 import itertools
 import signal
 import socket
@@ -169,7 +170,9 @@ class Writer:
 
 @contextlib.contextmanager
 def standing_still(node):
-    """The node's process is stopped meanwhile."""
+    """The node's process is stopped meanwhile. What this script has left of connections is closed before: SQLite closes such a one when
+    its last cursor goes, which would wait for a node that stands still, and so for itself."""
+    gc.collect()
     node.process.send_signal(signal.SIGSTOP)
     try:
         yield

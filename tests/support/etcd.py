@@ -49,10 +49,10 @@ class Etcd:
         return asked('--endpoints', ','.join(it.address for it in self.members), '--command-timeout', '3s', *words)
 
     def leader(self):
-        """The member that leads, None where none is known."""
+        """The member that leads, None where none is known. During an election a member's status has no leader."""
         for it in self.members:
             status = it.status()
-            if status and status['leader'] == status['header']['member_id']:
+            if status and status.get('leader') == status['header']['member_id']:
                 return it
         return None
 

@@ -1,26 +1,46 @@
 """The program running at one of its words, in a folder of its own with a `litefs.toml`."""
+import contextlib
+import functools
+import itertools
 import os
 import random
 import shutil
 import socket
 import subprocess
 import tempfile
+import threading
 
 from . import places
 from .outcomes import Wrong
 from .waiting import until
 
 
+# Blocks of ports below those that the system gives to who dials: a replica whose primary is down might get just its port.
+FIRST, BLOCK, BLOCKS = 12000, 500, 40
+claiming = threading.Lock()
+
+
+@functools.cache
+def own_ports():
+    """The ports of a block, round and round, which no other script is given meanwhile: the name of a socket that ends with this
+    process claims it."""
+    for block in random.sample(range(BLOCKS), BLOCKS):
+        claim = socket.socket(socket.AF_UNIX)
+        with contextlib.suppress(OSError):
+            claim.bind(f'\0litefs-ports-{block}')
+            return claim, itertools.cycle(range(FIRST + block * BLOCK, FIRST + (block + 1) * BLOCK))
+        claim.close()
+    raise Wrong('other scripts have all blocks of ports')
+
+
 def free_port():
-    """A port that is free, below those that the system gives to who dials: a replica whose primary is down might get just that one."""
-    while True:
-        port = random.randrange(12000, 32000)
-        with socket.socket() as tried:
-            try:
-                tried.bind(('127.0.0.1', port))
-                return port
-            except OSError:
-                pass
+    """A port that is free, and that this script wasn't given lately."""
+    with claiming:
+        _, ports = own_ports()
+    for port in ports:
+        with socket.socket() as tried, contextlib.suppress(OSError):
+            tried.bind(('127.0.0.1', port))
+            return port
 
 
 class Running:
