@@ -170,8 +170,9 @@ class Writer:
 
 @contextlib.contextmanager
 def standing_still(node):
-    """The node's process is stopped meanwhile. What this script has left of connections is closed before: SQLite closes such a one when
-    its last cursor goes, which would wait for a node that stands still, and so for itself."""
+    """The node's process is stopped meanwhile. What this script has left of connections is closed before: to close one asks the node, and
+    whoever waits here for an answer of it waits for itself. (Seen once: a case hung in SQLite's close of such a connection. Why it came
+    then, perhaps with its last cursor, was not seen.)"""
     gc.collect()
     node.process.send_signal(signal.SIGSTOP)
     try:
